@@ -1,0 +1,88 @@
+-- The condition that a stretch of groups names, and the first of them that misses its shape.
+use Rattle.std.specs.Prelude.{ℕ, ◌+◌, nat_le, ◌&&◌, ◌==◌, min, Bool, if◌then◌else◌, true, false, List, [], ◌∷◌, Option, None, Some, Result, Ok, Err}
+use Rattle.std.specs.List.{list_any}
+use Rattle.codes.specs.declared.shapes.Named.{Named}
+use Rattle.codes.specs.declared.shapes.Named.TheVariants.{Value, Unmeasured, Nothing, Bad}
+use Rattle.codes.specs.declared.cond.Cond.{Cond}
+use Rattle.codes.specs.declared.fault.Why.{Why}
+use Rattle.codes.specs.declared.fault.Why.TheVariants.{BadVisibility, BadSky, BadPeriod}
+use Rattle.codes.specs.declared.fault.BadReport.{BadReport}
+use Rattle.codes.specs.declared.fault.Form.{Form}
+use Rattle.codes.specs.declared.fault.Form.TheVariants.{Report, Forecast}
+use Rattle.codes.specs.Shapes.{visibility, visibility_after, sky, are_digits}
+
+-- the lesser of two values, where both are there
+abbrev pub lesser : Option ℕ → Option ℕ → Option ℕ
+lesser None b = b
+lesser (Some x) None = Some x
+lesser (Some x) (Some y) = Some (min x y)
+
+abbrev pub value_of : Named → Option ℕ
+value_of (Value n) = Some n
+value_of Unmeasured = None
+value_of Nothing = None
+value_of Bad = None
+
+-- The least value that a stretch names, where `f` says what a group names after the one before it.
+abbrev pub least : (List ℕ → List ℕ → Named) → List ℕ → List (List ℕ) → Option ℕ
+least f before [] = None
+least f before (g ∷ gs) = lesser (value_of (f before g)) (least f g gs)
+
+abbrev pub sky_after : List ℕ → List ℕ → Named
+sky_after before g = sky g
+
+abbrev pub is_unmeasured_name : Named → Bool
+is_unmeasured_name (Value n) = false
+is_unmeasured_name Unmeasured = true
+is_unmeasured_name Nothing = false
+is_unmeasured_name Bad = false
+
+-- a layer whose height wasn't measured
+abbrev pub is_unmeasured : List ℕ → Bool
+is_unmeasured g = is_unmeasured_name (sky g)
+
+-- An unmeasured layer hides a ceiling unless a value below 100,000 is named.
+abbrev pub ceiling_of : Option ℕ → Bool → Option ℕ
+ceiling_of None unmeasured = None
+ceiling_of (Some n) unmeasured = if unmeasured && nat_le 100_000 n then None else Some n
+
+-- what a stretch of groups names: the least visibility and the least ceiling
+unfoldable pub named_cond : List (List ℕ) → Cond
+named_cond gs = record { ceiling = ceiling_of (least sky_after [] gs) (list_any is_unmeasured gs); vis = least visibility_after [] gs }
+
+abbrev pub is_bad : Named → Bool
+is_bad (Value n) = false
+is_bad Unmeasured = false
+is_bad Nothing = false
+is_bad Bad = true
+
+-- four digits, / and four digits, which a forecast has as a period
+abbrev pub is_period : List ℕ → Bool
+is_period (a ∷ b ∷ c ∷ d ∷ s ∷ e ∷ f ∷ g ∷ h ∷ []) = (s == 47) && are_digits (a ∷ b ∷ c ∷ d ∷ []) && are_digits (e ∷ f ∷ g ∷ h ∷ [])
+is_period _ = false
+
+-- A report's body has no period: one shows a forecast without its word.
+abbrev pub period_fault : Form → List ℕ → Option Why
+period_fault Report g = if is_period g then Some BadPeriod else None
+period_fault Forecast g = None
+
+-- why a group misses its shape
+unfoldable pub shape_fault : Form → List ℕ → Option Why
+shape_fault form g = if is_bad (visibility g) then Some BadVisibility else (if is_bad (sky g) then Some BadSky else period_fault form g)
+
+abbrev pub fault_or : Option Why → ℕ → Option BadReport → Option BadReport
+fault_or None n later = later
+fault_or (Some why) n later = Some (record { group = n; why = why })
+
+-- the first group of a stretch that misses its shape, where the stretch begins at number n
+abbrev pub first_fault : Form → ℕ → List (List ℕ) → Option BadReport
+first_fault form n [] = None
+first_fault form n (g ∷ gs) = fault_or (shape_fault form g) n (first_fault form (n + 1) gs)
+
+abbrev pub cond_unless : Option BadReport → List (List ℕ) → Result Cond BadReport
+cond_unless None gs = Ok (named_cond gs)
+cond_unless (Some bad) gs = Err bad
+
+-- the condition of a stretch that begins at number n, or its first fault
+unfoldable pub cond_of : Form → ℕ → List (List ℕ) → Result Cond BadReport
+cond_of form n gs = cond_unless (first_fault form n gs) gs

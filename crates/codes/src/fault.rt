@@ -1,0 +1,61 @@
+ghost use Rattle.std.specs.Prelude.{◌≡◌};
+ghost use Rattle.codes.specs.declared.fault.ReportFault.TheVariants.{OutOfMemory as ReportMemory};
+
+use desk_io::OutOfMemory;
+
+/// Why a report has no reading.
+#[derive(Clone, Copy, Debug, PartialEq, Eq)]
+pub enum Why {
+    /// The text has more than 2,048 bytes.
+    TooLong,
+    /// A group that must be there isn't.
+    Missing,
+    /// A group isn't a station.
+    NotStation,
+    /// A group isn't a time, or names none.
+    NotTime,
+    /// A day lies in none of the five days in reach.
+    DayOutOfReach,
+    /// A group ends as a visibility and has the shape of none.
+    BadVisibility,
+    /// A group begins as a layer of clouds and has the shape of none.
+    BadSky,
+    /// A group isn't a period of a forecast, or is one where none may stand.
+    BadPeriod,
+}
+
+/// The first group of a report that doesn't read.
+#[derive(Clone, Copy, Debug, PartialEq, Eq)]
+pub struct BadReport {
+    /// Its number from 1: one more than the number of groups where one is missing, and 0 for a text
+    /// that is too long.
+    pub group: u32,
+    /// The reason.
+    pub why: Why,
+}
+
+/// Why a reader gave no reading.
+#[derive(Clone, Copy, Debug, PartialEq, Eq)]
+pub enum ReportFault {
+    /// There is no reading.
+    Bad(BadReport),
+    /// Memory ran out.
+    OutOfMemory,
+}
+
+impl From<OutOfMemory> for ReportFault {
+    ghost from_gives = { λ _ e. e ≡ ReportMemory };
+
+    fn from(_: OutOfMemory) -> Self {
+        ReportFault::OutOfMemory
+    }
+}
+
+/// Which kind of text the groups stand in.
+#[derive(Clone, Copy, Debug, PartialEq, Eq)]
+pub enum Form {
+    /// A METAR or SPECI, whose body has no period.
+    Report,
+    /// A TAF.
+    Forecast,
+}

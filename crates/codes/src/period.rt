@@ -1,0 +1,70 @@
+ghost use Rattle.std.specs.Prelude.{◌≡◌, ◌≤◌, ◌<◌, ◌+◌, ◌-◌, Ok, IfOk, length, drop};
+ghost use Rattle.codes.specs.Period as spec;
+
+use crate::fault::{BadReport, Why};
+use crate::groups::Groups;
+use crate::moment::{moment_or, written_moment};
+use desk_time::{FIRST, LAST, Minute};
+
+/// The moment at which a period begins or ends, of two digits each of a day, an hour and a minute,
+/// in the five days from the first. Where there is none, `DayOutOfReach` or `BadPeriod` says why.
+pub fn end_of(digits: [u8; 6], first_day: u64) -> Result<Minute, Why>
+    requires low { 10_000 ≤ first_day }
+    requires high { first_day ≤ 48_000 }
+    ensures value { result ≡ spec.end_of digits first_day }
+    ensures range { IfOk result (λ m. (FIRST ≤ m) × (m ≤ LAST)) }
+{
+    moment_or(Why::BadPeriod, written_moment(digits, first_day))
+}
+
+#[tactic(auto, unfolding(crate::specs::Period::period_of))]
+fn period_of(group: &[u8], first_day: u64) -> Result<(Minute, Minute), Why>
+    requires low { 10_000 ≤ first_day }
+    requires high { first_day ≤ 48_000 }
+    ensures value { result ≡ spec.period_of group.now first_day }
+    ensures range { IfOk result (λ p. (FIRST ≤ p.0) × (p.0 < p.1) × (p.1 ≤ LAST)) }
+{
+    let [a, b, c, d, b'/', e, f, g, h] = group else {
+        return Err(Why::BadPeriod);
+    };
+    let from = end_of([*a, *b, *c, *d, b'0', b'0'], first_day)?;
+    let to = end_of([*e, *f, *g, *h, b'0', b'0'], first_day)?;
+    if from < to {
+        Ok((from, to))
+    } else {
+        Err(Why::BadPeriod)
+    }
+}
+
+fn numbered(
+    group: u32,
+    period: Result<(Minute, Minute), Why>,
+) -> Result<(Minute, Minute), BadReport>
+    ensures { result ≡ spec.numbered group period }
+{
+    match period {
+        Ok(ends) => Ok(ends),
+        Err(why) => Err(BadReport { group, why }),
+    }
+}
+
+/// The period `DDHH/DDHH` at the group of that number, its ends in the five days from the first
+/// (WMO FM 51, 51.1.3). `Missing` comes where no group is left, `DayOutOfReach` for a day out of
+/// reach, and `BadPeriod` for any other miss.
+pub fn period_at(groups: &Groups, n: usize, first_day: u64) -> Result<(Minute, Minute), BadReport>
+    requires low { 1 ≤ n }
+    requires high { n ≤ length groups.now + 1 }
+    requires count { length groups.now ≤ 4_294_967_294 }
+    requires first_low { 10_000 ≤ first_day }
+    requires first_high { first_day ≤ 48_000 }
+    ensures value { result ≡ spec.period_due n (drop (n - 1) groups.now) first_day }
+    ensures range { IfOk result (λ p. (FIRST ≤ p.0) × (p.0 < p.1) × (p.1 ≤ LAST)) }
+{
+    match &groups.as_slice()[n - 1..] {
+        [] => Err(BadReport {
+            group: n as u32,
+            why: Why::Missing,
+        }),
+        [group, ..] => numbered(n as u32, period_of(group.bytes(), first_day)),
+    }
+}

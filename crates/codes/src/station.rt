@@ -1,0 +1,50 @@
+ghost use Rattle.std.specs.Prelude.{◌≡◌};
+ghost use Rattle.codes.specs.Station as spec;
+
+/// An airport, by the four characters of its ICAO location indicator.
+#[derive(Clone, Copy, Debug, PartialEq, Eq)]
+pub struct Station {
+    /// The characters, as `read` takes them.
+    pub bytes: [u8; 4],
+}
+
+fn is_capital(b: u8) -> bool
+    ensures { result ≡ spec.is_capital b }
+{
+    b'A' <= b && b <= b'Z'
+}
+
+fn is_capital_or_digit(b: u8) -> bool
+    ensures { result ≡ spec.is_capital_or_digit b }
+{
+    is_capital(b) || b'0' <= b && b <= b'9'
+}
+
+impl Station {
+    /// The station of four bytes: a capital letter, and then capital letters or digits.
+    pub fn read(bytes: &[u8]) -> Option<Station>
+        ensures { result ≡ spec.station_of bytes.now }
+    {
+        let [a, b, c, d] = bytes else {
+            return None;
+        };
+        if is_capital(*a)
+            && is_capital_or_digit(*b)
+            && is_capital_or_digit(*c)
+            && is_capital_or_digit(*d)
+        {
+            Some(Station {
+                bytes: [*a, *b, *c, *d],
+            })
+        } else {
+            None
+        }
+    }
+
+    /// Its four characters.
+    pub fn bytes(self) -> [u8; 4]
+        ensures { result ≡ self.bytes }
+    {
+        self.bytes
+    }
+}

@@ -1,0 +1,4 @@
+pub mod Told
+pub mod Causes
+pub mod Whole
+pub mod Runs

@@ -1,0 +1,77 @@
+ghost use Rattle.std.specs.Prelude.{◌≡◌};
+ghost use Rattle.desk_io.specs.declared.faults.PutFault.TheVariants.{OutOfMemory as PutMemory};
+ghost use Rattle.desk_io.specs.declared.faults.WholeFault.TheVariants.{OutOfMemory as WholeMemory, ReadFault as WholeRead};
+
+use std::alloc::{AllocError, AllocFailed};
+
+/// Memory ran out. The call that answers it has changed nothing.
+#[derive(Clone, Copy, Debug, PartialEq, Eq)]
+pub struct OutOfMemory;
+
+/// An object of the outside failed, and counted it.
+#[derive(Clone, Copy, Debug, PartialEq, Eq)]
+pub struct Failed;
+
+/// Why bytes weren't written.
+#[derive(Clone, Copy, Debug, PartialEq, Eq)]
+pub enum PutFault {
+    /// The object failed after some front of the bytes, and counted it.
+    Failed,
+    /// Memory ran out, and nothing was written.
+    OutOfMemory,
+}
+
+/// Why a source wasn't read to its end.
+#[derive(Clone, Copy, Debug, PartialEq, Eq)]
+pub enum WholeFault {
+    /// The shelf failed, and counted it.
+    ReadFault,
+    /// The source has more bytes than `SOURCE_LIMIT`.
+    TooLong,
+    /// Memory ran out.
+    OutOfMemory,
+}
+
+impl From<AllocError> for OutOfMemory {
+    fn from(_: AllocError) -> Self {
+        OutOfMemory
+    }
+}
+
+impl<T: Drop> From<AllocFailed<T>> for OutOfMemory {
+    fn from(_: AllocFailed<T>) -> Self {
+        OutOfMemory
+    }
+}
+
+impl From<AllocError> for PutFault {
+    ghost from_gives = { λ _ e. e ≡ PutMemory };
+
+    fn from(_: AllocError) -> Self {
+        PutFault::OutOfMemory
+    }
+}
+
+impl From<OutOfMemory> for WholeFault {
+    ghost from_gives = { λ _ e. e ≡ WholeMemory };
+
+    fn from(_: OutOfMemory) -> Self {
+        WholeFault::OutOfMemory
+    }
+}
+
+impl From<AllocError> for WholeFault {
+    ghost from_gives = { λ _ e. e ≡ WholeMemory };
+
+    fn from(_: AllocError) -> Self {
+        WholeFault::OutOfMemory
+    }
+}
+
+impl From<Failed> for WholeFault {
+    ghost from_gives = { λ _ e. e ≡ WholeRead };
+
+    fn from(_: Failed) -> Self {
+        WholeFault::ReadFault
+    }
+}

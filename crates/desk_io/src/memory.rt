@@ -1,0 +1,134 @@
+ghost use Rattle.std.specs.Prelude.{◌≡◌, ◌<◌, [], Some, OnSome};
+ghost use Rattle.std.specs.Option.{option_copied};
+ghost use Rattle.desk_io.specs.Told.{source_named};
+
+use crate::{Failed, PutFault, Shelf, Sink, Text};
+use std::alloc::Global;
+
+/// Sources in memory. Its calls of `next` are numbered from 0, and those in `fail` fail. With an
+/// empty `fail` it is sound.
+#[derive(Drop)]
+pub struct MemoryShelf {
+    sources: Vec<(Text, Text)>,
+    fail: Vec<u64>,
+    calls: u64,
+    faults: u64,
+}
+
+impl MemoryShelf {
+    /// A shelf of named sources; of two with one name the first counts. It takes no memory.
+    pub fn new(sources: Vec<(Text, Text)>, fail: Vec<u64>) -> Self
+        ensures sources { result.sources.items ≡ sources.items }
+        ensures fail { result.fail.items ≡ fail.items }
+        ensures faults { result.faults ≡ 0 }
+    {
+        MemoryShelf {
+            sources,
+            fail,
+            calls: 0,
+            faults: 0,
+        }
+    }
+}
+
+// The first source of that name.
+fn source<'a>(sources: &'a [(Text, Text)], name: &[u8]) -> Option<&'a Text>
+    ensures { option_copied result ≡ source_named sources.now name.now }
+{
+    for s in sources {
+        if s.0.bytes() == name {
+            return Some(&s.1);
+        }
+    }
+    None
+}
+
+impl Shelf for MemoryShelf {
+    ghost sources = { λ s. Some (source_named s.sources.items) };
+
+    ghost fault_count = { λ s. s.faults };
+
+    ghost sound = { λ s. s.fail.items ≡ [] };
+
+    fn next(&mut self, name: &str, place: u64, into: &mut [u8]) -> Result<usize, Failed> {
+        let call = self.calls;
+        self.calls = call.saturating_add(1);
+        let failing = self.fail.contains(&call);
+        let Some(bytes) = source(&self.sources, name.as_bytes()) else {
+            self.faults = self.faults.saturating_add(1);
+            return Err(Failed);
+        };
+        if failing {
+            self.faults = self.faults.saturating_add(1);
+            return Err(Failed);
+        }
+        let bytes = bytes.bytes();
+        if place >= bytes.len() as u64 {
+            return Ok(0);
+        }
+        let rest = &bytes[place as usize..];
+        let count = rest.len().min(into.len());
+        into[..count].copy_from_slice(&rest[..count]);
+        Ok(count)
+    }
+
+    fn faults(&self) -> u64 {
+        self.faults
+    }
+}
+
+/// A sink in memory. Its calls of `write` are numbered from 0, and those in `fail` fail with nothing
+/// appended. With an empty `fail` it is sound.
+#[derive(Drop)]
+pub struct MemorySink {
+    written: Vec<u8>,
+    fail: Vec<u64>,
+    calls: u64,
+    faults: u64,
+}
+
+impl MemorySink {
+    /// A sink that holds nothing yet. It takes no memory.
+    pub fn new(alloc: Global, fail: Vec<u64>) -> Self
+        ensures empty { result.written.items ≡ [] }
+        ensures fail { result.fail.items ≡ fail.items }
+        ensures faults { result.faults ≡ 0 }
+    {
+        MemorySink {
+            written: Vec::new(alloc),
+            fail,
+            calls: 0,
+            faults: 0,
+        }
+    }
+
+    /// All that was appended.
+    pub fn written(&self) -> &[u8]
+        ensures { result.now ≡ self.now.written.items }
+    {
+        &self.written
+    }
+}
+
+impl Sink for MemorySink {
+    ghost content = { λ s. Some s.written.items };
+
+    ghost fault_count = { λ s. s.faults };
+
+    ghost sound = { λ s. s.fail.items ≡ [] };
+
+    fn write(&mut self, bytes: &[u8]) -> Result<(), PutFault> {
+        let call = self.calls;
+        self.calls = call.saturating_add(1);
+        if self.fail.contains(&call) {
+            self.faults = self.faults.saturating_add(1);
+            return Err(PutFault::Failed);
+        }
+        self.written.extend_from_slice(bytes)?;
+        Ok(())
+    }
+
+    fn faults(&self) -> u64 {
+        self.faults
+    }
+}

@@ -1,0 +1,9 @@
+//! Moments, in minutes since 1970-01-01 00:00 UTC, and the days of the calendar.
+#![tactic(auto)]
+
+mod calendar;
+mod digits;
+mod moments;
+
+pub use digits::{digit, pair};
+pub use moments::{BadDay, FIRST, LAST, Minute, SHOWN_LAST, read_minute, resolve, show};

@@ -1,0 +1,87 @@
+-- The tables as lists of rows, and what is looked up in them.
+use Rattle.std.specs.Prelude.{ℕ, Bool, ◌&&◌, ◌||◌, List, Option, None, Some, find, filter}
+use Rattle.std.specs.List.{list_any}
+use Rattle.std.specs.Option.{option_map}
+use Rattle.std.specs.Str.{bytes_eq}
+use Rattle.codes.specs.declared.station.Station.{Station}
+use Rattle.ops_tables.specs.declared.rows.Settings.{Settings}
+use Rattle.ops_tables.specs.declared.rows.Airport.{Airport}
+use Rattle.ops_tables.specs.declared.rows.Approach.{Approach}
+use Rattle.ops_tables.specs.declared.rows.AlternateRow.{AlternateRow}
+use Rattle.ops_tables.specs.declared.rows.TypeRow.{TypeRow}
+use Rattle.ops_tables.specs.declared.rows.Tail.{Tail}
+use Rattle.ops_tables.specs.declared.rows.Use.{Use}
+use Rattle.ops_tables.specs.declared.rows.Distance.{Distance}
+use Rattle.ops_tables.specs.declared.rows.Route.{Route}
+use Rattle.ops_tables.specs.declared.rows.MelRow.{MelRow}
+use Rattle.ops_tables.specs.declared.rows.ItemPair.{ItemPair}
+use Rattle.ops_tables.specs.declared.rows.Actor.{Actor}
+
+-- the twelve tables, each as its rows in the order of the file
+pub record TableRows : Type 0 where
+  pub settings : Settings
+  pub airports : List Airport
+  pub approaches : List Approach
+  pub alternates : List AlternateRow
+  pub types : List TypeRow
+  pub tails : List Tail
+  pub uses : List Use
+  pub distances : List Distance
+  pub routes : List Route
+  pub mel : List MelRow
+  pub pairs : List ItemPair
+  pub actors : List Actor
+
+abbrev pub is_station : Station → Station → Bool
+is_station a b = bytes_eq a.bytes b.bytes
+
+-- the airport of a station
+abbrev pub airport_of : TableRows → Station → Option Airport
+airport_of t s = find (λ a. is_station a.station s) t.airports
+
+-- the type of that name
+abbrev pub type_named : TableRows → List ℕ → Option TypeRow
+type_named t kind = find (λ r. bytes_eq r.kind kind) t.types
+
+abbrev pub type_of_tail : TableRows → Option Tail → Option TypeRow
+type_of_tail t None = None
+type_of_tail t (Some tail) = type_named t tail.kind
+
+-- the type of an aircraft
+abbrev pub type_of : TableRows → List ℕ → Option TypeRow
+type_of t tail = type_of_tail t (find (λ r. bytes_eq r.tail tail) t.tails)
+
+-- whether a type may use an airport
+abbrev pub may_use : TableRows → List ℕ → Station → Bool
+may_use t kind s = list_any (λ u. bytes_eq u.kind kind && is_station u.station s) t.uses
+
+-- the miles from one airport to another
+abbrev pub miles_of : TableRows → Station → Station → Option ℕ
+miles_of t from to = option_map (λ d. d.miles) (find (λ d. is_station d.from from && is_station d.to to) t.distances)
+
+-- whether a flag flight on the route may do without an alternate
+abbrev pub route_free : TableRows → Station → Station → Bool
+route_free t from to = list_any (λ r. is_station r.from from && is_station r.to to) t.routes
+
+-- an item of a type's minimum equipment list
+abbrev pub item_of : TableRows → List ℕ → List ℕ → Option MelRow
+item_of t kind item = find (λ r. bytes_eq r.kind kind && bytes_eq r.item item) t.mel
+
+abbrev pub is_pair : ItemPair → List ℕ → List ℕ → List ℕ → Bool
+is_pair p kind one two = bytes_eq p.kind kind && bytes_eq p.item one && bytes_eq p.other two
+
+-- whether two items of a type may not be deferred together, which holds both ways
+abbrev pub are_paired : TableRows → List ℕ → List ℕ → List ℕ → Bool
+are_paired t kind one two = list_any (λ p. is_pair p kind one two || is_pair p kind two one) t.pairs
+
+-- the person of that name
+abbrev pub actor_of : TableRows → List ℕ → Option Actor
+actor_of t name = find (λ a. bytes_eq a.name name) t.actors
+
+-- the approaches of a station, in the order of the file
+abbrev pub approaches_of : TableRows → Station → List Approach
+approaches_of t s = filter (λ a. is_station a.station s) t.approaches
+
+-- the alternate minima of a station, in the order of the file
+abbrev pub alternates_of : TableRows → Station → List AlternateRow
+alternates_of t s = filter (λ a. is_station a.station s) t.alternates
