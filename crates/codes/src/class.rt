@@ -264,7 +264,8 @@ fn is_unread(class: Class) -> bool
 
 /// How many of the groups are in no class that is read.
 pub fn unread_count(groups: &[Text]) -> usize
-    ensures { result ≡ spec.unread_count groups.now }
+    ensures count { result ≡ spec.unread_count groups.now }
+    ensures within { result ≤ length groups.now }
 {
     let mut count = 0;
     let mut rest = groups;
