@@ -1,0 +1,12 @@
+//! The dispatch release desk: what its commands say of the sources that they name.
+#![tactic(auto)]
+
+mod answer;
+mod run;
+mod state;
+mod step;
+mod top;
+mod weather;
+mod words;
+
+pub use top::desk_main;

@@ -1,0 +1,38 @@
+ghost use Rattle.std.specs.Prelude.{◌≢◌, map, string_bytes, IfSome};
+ghost use Rattle.desk_io.specs.Causes.{Rose};
+ghost use Rattle.desk_io.specs.Told.{HoldsName};
+ghost use Rattle.desk.specs.Words.{command_of};
+ghost use Rattle.desk.specs.Answers.{Says, Ends};
+
+use crate::answer::answer_to;
+use desk_io::{PutFault, Shelf, Sink};
+use std::alloc::Global;
+
+/// Does what the words ask, and answers the status of the program.
+///
+/// - 0: the script was read to its end, and the text of its run was written.
+/// - 2: exactly where the words form no command; `error 2 Usage` is written.
+/// - 3: only where the shelf's count of faults rose; `error 3 ReadFault NAME`.
+/// - 4: only where the sink's count of faults rose; it gained a front of the text.
+/// - 8: want of memory; the sink gained nothing.
+/// - 10: exactly where the source has more than 64 MiB; `error 10 InputTooLong NAME`.
+pub fn desk_main<S: Shelf, O: Sink>(
+    alloc: Global,
+    words: &[String],
+    shelf: &mut S,
+    out: &mut O,
+) -> u8
+    ensures complete { S.sound shelf.old → O.sound out.old → IfSome (command_of (map string_bytes words.now)) (HoldsName (S.sources shelf.old))
+        → (result ≢ 3) × (result ≢ 4) }
+    ensures ends { Ends (Says (S.sources shelf.old) (Rose (S.fault_count shelf.old) (S.fault_count shelf.new)) (command_of (map string_bytes words.now)))
+        (Rose (O.fault_count out.old) (O.fault_count out.new)) (O.content out.old) (O.content out.new) result }
+{
+    match answer_to(alloc, words, shelf) {
+        Err(_) => 8,
+        Ok(answer) => match out.write(&answer.text) {
+            Ok(()) => answer.status,
+            Err(PutFault::Failed) => 4,
+            Err(PutFault::OutOfMemory) => 8,
+        },
+    }
+}

@@ -1,0 +1,43 @@
+-- The calls that the lines of a script make.
+-- A line is an object of the keys actor, ask, at, key and number, and no other.
+use Rattle.std.specs.Prelude.{ℕ, Bool, ◌&&◌, if◌then◌else◌, List, [], ◌∷◌, Option, None, Some, codes}
+use Rattle.std.specs.Str.{bytes_eq}
+use Rattle.serde_json.specs.Data.{Data}
+use Rattle.serde_json.specs.Find.{get}
+use Rattle.desk_time.specs.Digits.{◌>>=◌}
+use Rattle.desk_time.specs.Moments.{minute_of}
+use Rattle.asks.specs.declared.call.Call.{Call}
+use Rattle.asks.specs.declared.call.Ask.{Ask}
+use Rattle.asks.specs.declared.call.Ask.TheVariants.{Admit}
+use Rattle.desk_json.specs.Fields.{data_of, text_at, number_at, short_at, has_members}
+
+-- to admit a text, which may be any
+abbrev pub admit_of : Data → Option Ask
+admit_of d = text_at (codes "text") d >>= λ text. if has_members 2 d then Some (Admit text) else None
+
+abbrev pub ask_named : List ℕ → Data → Option Ask
+ask_named name d = if bytes_eq name (codes "admit") then admit_of d else None
+
+-- an object of do, which names the ask, and the keys of that ask
+abbrev pub ask_of : Data → Option Ask
+ask_of d = text_at (codes "do") d >>= λ name. ask_named name d
+
+-- who asks, with which key and number
+abbrev pub asked_by : Data → Ask → Option Call
+asked_by d ask =
+    short_at (codes "actor") d >>= λ actor. short_at (codes "key") d >>= λ key. number_at (codes "number") 1_000_000_000_000 d >>= λ number.
+    Some (record { actor = actor; key = key; number = number; ask = ask })
+
+abbrev pub call_in : Data → Option Call
+call_in d = get (codes "ask") d >>= λ ask. ask_of ask >>= λ asked. asked_by d asked
+
+abbrev pub at_of : Data → Option ℕ
+at_of d = text_at (codes "at") d >>= λ at. minute_of at
+
+-- the moment and the call of an object
+abbrev pub line_in : Data → Option (ℕ × Call)
+line_in d = at_of d >>= λ at. call_in d >>= λ call. if has_members 5 d then Some (at, call) else None
+
+-- the moment and the call of a line, where it has no fault
+unfoldable pub line_of : List ℕ → Option (ℕ × Call)
+line_of line = data_of line >>= λ d. line_in d

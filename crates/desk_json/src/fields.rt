@@ -1,0 +1,79 @@
+ghost use Rattle.std.specs.Prelude.{◌≡◌, ◌≤◌, IfOk, IfSome, option_and_then};
+ghost use Rattle.std.specs.Option.{option_map};
+ghost use Rattle.serde_json.specs.View.{view};
+ghost use Rattle.serde_json.specs.Find.{get, as_number, as_u64};
+ghost use Rattle.desk_json.specs.Fields as spec;
+
+use desk_io::OutOfMemory;
+use serde_json::Value;
+use std::alloc::Global;
+use std::str;
+
+/// The data of a line, where it is UTF-8 and JSON.
+pub(crate) fn data_of(alloc: Global, line: &[u8]) -> Result<Option<Value>, OutOfMemory>
+    ensures { IfOk result (λ v. option_map view v ≡ spec.data_of line.now) }
+{
+    let Ok(text) = str::from_utf8(line) else {
+        return Ok(None);
+    };
+    match Value::from_str(alloc, text) {
+        Ok(value) => Ok(Some(value)),
+        Err(error) => {
+            if error.is_memory() {
+                Err(OutOfMemory)
+            } else {
+                Ok(None)
+            }
+        }
+    }
+}
+
+/// The text at a key.
+pub(crate) fn text_at<'a>(key: &str, value: &'a Value) -> Option<&'a str>
+    ensures { option_map (λ t. t.now) result ≡ spec.text_at key.now (view value.now) }
+{
+    match value.get(key) {
+        Some(found) => found.as_str(),
+        None => None,
+    }
+}
+
+fn whole_number_at(key: &str, value: &Value) -> Option<u64>
+    ensures { result ≡ option_and_then as_u64 (option_and_then as_number (get key.now (view value.now))) }
+{
+    match value.get(key) {
+        Some(found) => found.as_u64(),
+        None => None,
+    }
+}
+
+/// The whole number at a key, at most the limit.
+pub(crate) fn number_at(key: &str, limit: u64, value: &Value) -> Option<u64>
+    ensures value { result ≡ spec.number_at key.now limit (view value.now) }
+    ensures bound { IfSome result (λ n. n ≤ limit) }
+{
+    match whole_number_at(key, value) {
+        Some(number) if number <= limit => Some(number),
+        _ => None,
+    }
+}
+
+/// The text at a key, of at most 64 bytes.
+pub(crate) fn short_at<'a>(key: &str, value: &'a Value) -> Option<&'a str>
+    ensures { option_map (λ t. t.now) result ≡ spec.short_at key.now (view value.now) }
+{
+    match text_at(key, value) {
+        Some(text) if text.len() <= 64 => Some(text),
+        _ => None,
+    }
+}
+
+/// Whether a value is an object of so many members.
+pub(crate) fn has_members(count: usize, value: &Value) -> bool
+    ensures { result ≡ spec.has_members count (view value.now) }
+{
+    match value.as_object() {
+        Some(map) => map.len() == count,
+        None => false,
+    }
+}
