@@ -1,5 +1,5 @@
 ghost use Rattle.std.specs.Prelude.{◌≡◌};
-ghost use Rattle.codes.specs.declared.fault.ReportFault.TheVariants.{OutOfMemory as ReportMemory};
+ghost use Rattle.codes.specs.declared.fault.ReportFault.TheVariants.{OutOfMemory as ReportMemory, Bad as ReportBad};
 
 use desk_io::OutOfMemory;
 
@@ -48,6 +48,14 @@ impl From<OutOfMemory> for ReportFault {
 
     fn from(_: OutOfMemory) -> Self {
         ReportFault::OutOfMemory
+    }
+}
+
+impl From<BadReport> for ReportFault {
+    ghost from_gives = { λ bad e. e ≡ ReportBad bad };
+
+    fn from(bad: BadReport) -> Self {
+        ReportFault::Bad(bad)
     }
 }
 

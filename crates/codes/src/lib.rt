@@ -16,6 +16,6 @@ pub use cond::{Cond, cond_in, cond_of, is_period};
 pub use fault::{BadReport, Form, ReportFault, Why};
 pub use groups::{Groups, first_of};
 pub use moment::{moment_or, time_of, written_moment};
-pub use period::{end_of, period_at};
+pub use period::{end_of, period_at, period_in};
 pub use shapes::{Named, sky, visibility};
 pub use station::Station;

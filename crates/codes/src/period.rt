@@ -4,6 +4,7 @@ ghost use Rattle.codes.specs.Period as spec;
 use crate::fault::{BadReport, Why};
 use crate::groups::Groups;
 use crate::moment::{moment_or, written_moment};
+use desk_io::Text;
 use desk_time::{FIRST, LAST, Minute};
 
 /// The moment at which a period begins or ends, of two digits each of a day, an hour and a minute,
@@ -48,9 +49,29 @@ fn numbered(
     }
 }
 
-/// The period `DDHH/DDHH` at the group of that number, its ends in the five days from the first
-/// (WMO FM 51, 51.1.3). `Missing` comes where no group is left, `DayOutOfReach` for a day out of
-/// reach, and `BadPeriod` for any other miss.
+/// The period `DDHH/DDHH` at the front of the groups that are left, the first of which has that
+/// number (WMO FM 51, 51.1.3). `Missing` comes where no group is left, `DayOutOfReach` for a day out
+/// of reach of the five from the first, and `BadPeriod` for any other miss.
+pub fn period_in(
+    number: u32,
+    groups: &[Text],
+    first_day: u64,
+) -> Result<(Minute, Minute), BadReport>
+    requires low { 10_000 ≤ first_day }
+    requires high { first_day ≤ 48_000 }
+    ensures value { result ≡ spec.period_due number groups.now first_day }
+    ensures range { IfOk result (λ p. (FIRST ≤ p.0) × (p.0 < p.1) × (p.1 ≤ LAST)) }
+{
+    match groups {
+        [] => Err(BadReport {
+            group: number,
+            why: Why::Missing,
+        }),
+        [group, ..] => numbered(number, period_of(group.bytes(), first_day)),
+    }
+}
+
+/// The period at the group of that number, as `period_in` reads it.
 pub fn period_at(groups: &Groups, n: usize, first_day: u64) -> Result<(Minute, Minute), BadReport>
     requires low { 1 ≤ n }
     requires high { n ≤ length groups.now + 1 }
@@ -60,11 +81,5 @@ pub fn period_at(groups: &Groups, n: usize, first_day: u64) -> Result<(Minute, M
     ensures value { result ≡ spec.period_due n (drop (n - 1) groups.now) first_day }
     ensures range { IfOk result (λ p. (FIRST ≤ p.0) × (p.0 < p.1) × (p.1 ≤ LAST)) }
 {
-    match &groups.as_slice()[n - 1..] {
-        [] => Err(BadReport {
-            group: n as u32,
-            why: Why::Missing,
-        }),
-        [group, ..] => numbered(n as u32, period_of(group.bytes(), first_day)),
-    }
+    period_in(n as u32, &groups.as_slice()[n - 1..], first_day)
 }
