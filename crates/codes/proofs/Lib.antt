@@ -1,2 +1,3 @@
+pub mod CanonicalLaws
 pub mod GroupLaws
-pub mod LeastLaws
+pub mod LengthLaws

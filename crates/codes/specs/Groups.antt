@@ -1,10 +1,15 @@
 -- The groups of a report's text (FMH-1, chapter 12; WMO FM 15 and FM 51).
-use Rattle.std.specs.Prelude.{ℕ, ◌-◌, ◌==◌, if◌then◌else◌, List, [], ◌∷◌, ◌++◌, length, take, slice_index}
-use Rattle.desk_io.specs.Runs.{runs_between}
+use Rattle.std.specs.Prelude.{◌≡◌, ℕ, ◌-◌, ◌==◌, true, false, if◌then◌else◌, List, [], ◌∷◌, ◌++◌, length, take, slice_index, All}
+use Rattle.desk_io.specs.Runs.{is_among, has_bytes, runs_between}
 
 -- space, tab, carriage return and line feed
 abbrev pub blanks : List ℕ
 blanks = 32 ∷ 9 ∷ 13 ∷ 10 ∷ []
+
+-- a group has bytes, and none of them is blank
+pub record IsGroup (g : List ℕ) : Type 0 where
+  pub full : has_bytes g ≡ true
+  pub plain : All (λ b. is_among blanks b ≡ false) g
 
 -- a run without one = at its end
 abbrev pub unmarked : List ℕ → List ℕ

@@ -1,5 +1,5 @@
 -- The periods of forecasts (WMO FM 51, 51.1.3): DDHH/DDHH.
-use Rattle.std.specs.Prelude.{ℕ, nat_lt, ◌==◌, if◌then◌else◌, List, [], ◌∷◌, Option, None, Some, Result, Ok, Err}
+use Rattle.std.specs.Prelude.{ℕ, nat_lt, ◌==◌, if◌then◌else◌, List, [], ◌∷◌, Result, Ok, Err}
 use Rattle.codes.specs.declared.fault.Why.{Why}
 use Rattle.codes.specs.declared.fault.Why.TheVariants.{Missing, BadPeriod}
 use Rattle.codes.specs.declared.fault.BadReport.{BadReport}

@@ -1,7 +1,7 @@
 -- The shapes of visibility and sky groups, and the values that they name: millimetres and feet.
 -- FMH-1, 12.6.6 and 12.6.9; WMO FM 15, 15.6 and 15.9.
 use Rattle.std.specs.Prelude.{ℕ, ◌+◌, ◌-◌, ◌*◌, ◌/◌, nat_lt, nat_le, Bool, ◌&&◌, ◌||◌, ◌==◌, if◌then◌else◌, List, [], ◌∷◌, length, take, slice_index, Option, None, Some}
-use Rattle.std.specs.Prelude.{codes, true, false, is_some}
+use Rattle.std.specs.Prelude.{codes, is_some}
 use Rattle.std.specs.Str.{bytes_eq}
 use Rattle.std.specs.List.{list_all}
 use Rattle.desk_time.specs.Digits.{digit, pair, ◌>>=◌, or_else}

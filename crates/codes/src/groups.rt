@@ -1,22 +1,34 @@
-ghost use Rattle.std.specs.Prelude.{◌≡◌, ◌==◌, ◌≤◌, ◌+◌, ◌-◌, ◌++◌, [], map, IfOk, OnOk, length, slice_index, slice_index_or};
-ghost use Rattle.codes.specs.Groups.{blanks, unmarked, last_unmarked, groups_of, first_of, spaced, joined, canonical};
+ghost use Rattle.std.specs.Prelude.{◌≡◌, ◌==◌, ◌≤◌, ◌+◌, ◌-◌, ◌++◌, [], map, IfOk, OnOk, List, ℕ, length, slice_index, slice_index_or};
+ghost use Rattle.codes.specs.Groups.{
+  blanks,
+  unmarked,
+  last_unmarked,
+  groups_of,
+  first_of,
+  spaced,
+  joined,
+  canonical,
+};
 
 use desk_io::{OutOfMemory, Text, runs_between};
 use std::alloc::{AllocError, Global};
 use std::marker::Model;
 
-/// The groups of a report's text, numbered from 1.
+/// The groups of a report's text, numbered from 1. Each has bytes, and none of them is blank.
 #[derive(Debug, Drop)]
 pub struct Groups {
     items: Vec<Text>,
 }
 
 impl Model for Groups {
-    ghost use Rattle.std.specs.Prelude.{List, ℕ};
+    ghost use Rattle.std.specs.Prelude.{List, ℕ, All};
+    ghost use Rattle.codes.specs.Groups.{IsGroup};
 
     ghost Value = { List (List ℕ) };
 
     ghost view = { λ g. g.items.items };
+
+    ghost invariant = { λ g. All IsGroup g.items.items };
 }
 
 // The run without one = at its end.
@@ -52,6 +64,7 @@ fn copies(alloc: Global, runs: &[&[u8]]) -> Result<Vec<Text>, OutOfMemory>
     Ok(items)
 }
 
+// The groups of a text.
 #[tactic(auto, unfolding(crate::specs::Groups::groups_of))]
 fn items_of(alloc: Global, text: &[u8]) -> Result<Vec<Text>, OutOfMemory>
     ensures { IfOk result (λ v. v.items ≡ groups_of text.now) }
@@ -80,6 +93,17 @@ fn joined(alloc: Global, groups: &[Text]) -> Result<Vec<u8>, OutOfMemory>
         push_spaced(&mut text, rest)?;
     }
     Ok(text)
+}
+
+#[tactic(auto, unfolding(crate::specs::Groups::canonical))]
+fn canonical_text(alloc: Global, groups: &[Text]) -> Result<Text, OutOfMemory>
+    ensures { IfOk result (λ t. t ≡ canonical groups.now) }
+{
+    let mut text = joined(alloc, groups)?;
+    if ends_in_mark(&text) {
+        text.push(b'=')?;
+    }
+    Ok(Text::from_vec(text))
 }
 
 fn ends_in_mark(text: &[u8]) -> bool
@@ -113,15 +137,14 @@ impl Groups {
 
     /// The canonical text of the groups: they are joined by one blank. Where the last ends in `=`,
     /// one more follows, so that the text has these groups.
-    #[tactic(auto, unfolding(crate::specs::Groups::canonical))]
+    #[tactic(auto, using(crate::proofs::CanonicalLaws::groups_of_canonical, crate::proofs::LengthLaws::no_text_is_shorter))]
     pub fn canonical(&self, alloc: Global) -> Result<Text, OutOfMemory>
-        ensures { IfOk result (λ t. t ≡ canonical self.now) }
+        ensures text { IfOk result (λ t. t ≡ canonical self.now) }
+        ensures again { IfOk result (λ t. groups_of t ≡ self.now) }
+        // No text with these groups is shorter.
+        ensures shortest { IfOk result (λ t. (text : List ℕ) → groups_of text ≡ self.now → length t ≤ length text) }
     {
-        let mut text = joined(alloc, &self.items)?;
-        if ends_in_mark(&text) {
-            text.push(b'=')?;
-        }
-        Ok(Text::from_vec(text))
+        canonical_text(alloc, &self.items)
     }
 
     /// How many there are.

@@ -10,6 +10,8 @@ mod moment;
 mod period;
 mod shapes;
 mod station;
+#[cfg(test)]
+mod tests;
 
 pub use class::{Class, class_at, unread_count};
 pub use cond::{Cond, cond_in, cond_of, is_period};

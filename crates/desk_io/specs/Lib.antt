@@ -2,3 +2,4 @@ pub mod Told
 pub mod Causes
 pub mod Whole
 pub mod Runs
+pub mod Planned

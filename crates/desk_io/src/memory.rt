@@ -1,6 +1,9 @@
-ghost use Rattle.std.specs.Prelude.{◌≡◌, ◌<◌, [], Some, OnSome};
+ghost use Rattle.std.specs.Prelude.{◌≡◌, ◌<◌, ◌≤◌, [], Some, length, IfOk, IsOk, IsErrOf, OnErr, is_ok};
 ghost use Rattle.std.specs.Option.{option_copied};
-ghost use Rattle.desk_io.specs.Told.{source_named};
+ghost use Rattle.desk_io.specs.Told.{source_named, NextOf, OnSource, HoldsName, Puts};
+ghost use Rattle.desk_io.specs.Causes.{HasCause};
+ghost use Rattle.desk_io.specs.Planned.{is_planned, after, gives, Fails};
+ghost use Rattle.desk_io.specs.declared.faults.PutFault.TheVariants.{Failed as PutFailed};
 
 use crate::{Failed, PutFault, Shelf, Sink, Text};
 use std::alloc::Global;
@@ -20,6 +23,7 @@ impl MemoryShelf {
     pub fn new(sources: Vec<(Text, Text)>, fail: Vec<u64>) -> Self
         ensures sources { result.sources.items ≡ sources.items }
         ensures fail { result.fail.items ≡ fail.items }
+        ensures calls { result.calls ≡ 0 }
         ensures faults { result.faults ≡ 0 }
     {
         MemoryShelf {
@@ -50,7 +54,21 @@ impl Shelf for MemoryShelf {
 
     ghost sound = { λ s. s.fail.items ≡ [] };
 
-    fn next(&mut self, name: &str, place: u64, into: &mut [u8]) -> Result<usize, Failed> {
+    fn next(&mut self, name: &str, place: u64, into: &mut [u8]) -> Result<usize, Failed>
+        requires { 0 < length into.old }
+        ensures bound { IfOk result (λ n. n ≤ length into.old) }
+        ensures given { IfOk result (λ n. OnSource (Some (source_named self.old.sources.items)) name.now
+            (λ bytes. NextOf bytes place n into.new)) }
+        ensures same { self.new.sources.items ≡ self.old.sources.items }
+        ensures cause { HasCause (record {}) self.old.faults self.new.faults result }
+        ensures sound { self.old.fail.items ≡ [] → (self.new.fail.items ≡ []) ×
+            (HoldsName (Some (source_named self.old.sources.items)) name.now → IsOk result) }
+        // It gives bytes exactly where it holds the name and the call isn't among those that fail.
+        ensures planned { is_ok result ≡ gives (source_named self.old.sources.items name.now)
+            (is_planned self.old.fail.items self.old.calls) }
+        ensures fail { self.new.fail.items ≡ self.old.fail.items }
+        ensures calls { self.new.calls ≡ after self.old.calls }
+    {
         let call = self.calls;
         self.calls = call.saturating_add(1);
         let failing = self.fail.contains(&call);
@@ -92,6 +110,7 @@ impl MemorySink {
     pub fn new(alloc: Global, fail: Vec<u64>) -> Self
         ensures empty { result.written.items ≡ [] }
         ensures fail { result.fail.items ≡ fail.items }
+        ensures calls { result.calls ≡ 0 }
         ensures faults { result.faults ≡ 0 }
     {
         MemorySink {
@@ -117,7 +136,15 @@ impl Sink for MemorySink {
 
     ghost sound = { λ s. s.fail.items ≡ [] };
 
-    fn write(&mut self, bytes: &[u8]) -> Result<(), PutFault> {
+    fn write(&mut self, bytes: &[u8]) -> Result<(), PutFault>
+        ensures appends { Puts (Some self.old.written.items) (Some self.new.written.items) bytes.now result }
+        ensures cause { HasCause PutFailed self.old.faults self.new.faults result }
+        ensures sound { self.old.fail.items ≡ [] → (self.new.fail.items ≡ []) × (IsErrOf result PutFailed → ⊥) }
+        ensures planned { Fails (is_planned self.old.fail.items self.old.calls) result }
+        ensures err { OnErr result (self.new.written.items ≡ self.old.written.items) }
+        ensures fail { self.new.fail.items ≡ self.old.fail.items }
+        ensures calls { self.new.calls ≡ after self.old.calls }
+    {
         let call = self.calls;
         self.calls = call.saturating_add(1);
         if self.fail.contains(&call) {

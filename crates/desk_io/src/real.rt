@@ -1,4 +1,4 @@
-ghost use Rattle.std.specs.Prelude.{◌≤◌, length, None, IfOk};
+ghost use Rattle.std.specs.Prelude.{◌≡◌, ◌≤◌, length, None, IfOk};
 
 use crate::{Failed, PutFault, Shelf, Sink};
 use std::fs::File;
@@ -15,7 +15,9 @@ pub struct FileShelf<R: Files + Drop> {
 
 impl<R: Files + Drop> FileShelf<R> {
     /// A shelf over the folder that the process works in. It opens nothing yet.
-    pub fn new(files: R) -> Self {
+    pub fn new(files: R) -> Self
+        ensures { result.faults ≡ 0 }
+    {
         FileShelf { files, faults: 0 }
     }
 }
@@ -59,7 +61,9 @@ pub struct StdoutSink<R: Print + Drop> {
 
 impl<R: Print + Drop> StdoutSink<R> {
     /// A sink over standard output.
-    pub fn new(out: R) -> Self {
+    pub fn new(out: R) -> Self
+        ensures { result.faults ≡ 0 }
+    {
         StdoutSink { out, faults: 0 }
     }
 }

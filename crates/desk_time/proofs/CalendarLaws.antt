@@ -1,14 +1,14 @@
 -- The date of a day is the one that the calendar counts to that day.
-use Rattle.std.proofs.Common.{◌≡◌, ℕ, zero, suc, ◌+◌, ◌-◌, ◌*◌, ◌<◌, ◌≤◌, nat_lt, Bool, true, false, cond, ℤ, pos, ◌+ℤ◌, ◌-ℤ◌, neg_ℤ, ◌≤ℤ◌, refl, sym, ◌∙◌, ap, subst, arith}
+use Rattle.std.proofs.Common.{◌≡◌, ℕ, zero, suc, ◌+◌, ◌-◌, ◌*◌, ◌<◌, ◌≤◌, nat_lt, true, false, cond, ℤ, pos, ◌+ℤ◌, refl, sym, ◌∙◌, ap, subst, arith}
 use Rattle.std.proofs.lemmas.Bool.{ltb-true, ltb-false}
 use Rattle.jiff_core.proofs.SignedLemmas.{signed_arith}
-use Rattle.jiff_core.specs.Calendar.{days_in_year, days_in_month, day_count, days_of_months, IsCivilDate, IsYear}
-use Rattle.jiff_core.proofs.CalendarLemmas.{day_of_year_bound, days_in_year_bounds, days_in_month_bounds, day_count-next_year, day_count-next_month, day_count-day, days_of_months_all, days_of_months_more, day_count-epoch, days_of_months-zero, day_count-day_of_year}
+use Rattle.jiff_core.specs.Calendar.{days_in_year, days_in_month, day_count, days_of_months, IsCivilDate}
+use Rattle.jiff_core.proofs.CalendarLemmas.{day_of_year_bound, days_in_year_bounds, day_count-next_year, day_count-next_month, day_count-day, days_of_months_all, days_of_months_more, day_count-epoch, days_of_months-zero, day_count-day_of_year}
 use Rattle.jiff_core.specs.Calendar.{days_from_civil, day_of_year}
 use Rattle.jiff_core.specs.Date.{epoch_day}
 use Rattle.jiff_core.specs.declared.civil.date.Date.{Date}
 use Rattle.jiff_core.proofs.DateLemmas.{epoch_day_injective}
-use Rattle.desk_time.specs.Calendar.{in_years, in_months, in_year, Civil, civil_of, days_of_years, day_number}
+use Rattle.desk_time.specs.Calendar.{in_years, in_months, Civil, civil_of, days_of_years, day_number}
 
 -- what is known of a year and the days of it that have passed
 pub record InYear (count low high : ℕ) (a : ℕ × ℕ) : Type 0 where
@@ -128,7 +128,7 @@ unfolding days_of_years
 days_of_years-bound zero = omega arith
 days_of_years-bound (suc n) = let ih = days_of_years-bound n in let b = days_in_year_bounds (pos (1970 + n)) in omega (arith, ih, b.0)
 
-years_30 : days_of_years 30 ≡ 10_957
+pub years_30 : days_of_years 30 ≡ 10_957
 unfolding days_of_years
 years_30 = refl
 

@@ -1,21 +1,13 @@
 -- A moment that is shown is read again.
-use Rattle.std.proofs.Common.{◌≡◌, ℕ, zero, suc, ◌+◌, ◌-◌, ◌*◌, ◌/◌, ◌%◌, ◌<◌, ◌≤◌, nat_lt, nat_le, ◌&&◌, Bool, true, false, cond, pos, ◌<ℤ◌, Option, Some, None, List, [], ◌∷◌, refl, sym, ◌∙◌, ap, subst, arith}
+use Rattle.std.proofs.Common.{◌≡◌, ℕ, ◌+◌, ◌-◌, ◌*◌, ◌/◌, ◌%◌, ◌<◌, ◌≤◌, pos, Some, [], ◌∷◌, refl, ◌∙◌, ap, arith}
 use Rattle.std.proofs.lemmas.Bool.{le-leb, lt-ltb}
 use Rattle.jiff_core.proofs.SignedLemmas.{signed_arith}
-use Rattle.jiff_core.specs.Calendar.{day_count, days_in_month, days_of_months}
+use Rattle.jiff_core.specs.Calendar.{days_in_month, days_of_months}
 use Rattle.jiff_core.proofs.CalendarLemmas.{day_count-lt_year, days_in_month_bounds}
-use Rattle.desk_time.specs.Calendar.{Civil, civil_of, days_of_years, is_date, day_number, day_at}
+use Rattle.desk_time.specs.Calendar.{civil_of, days_of_years, day_number, day_at}
 use Rattle.desk_time.specs.Digits.{digit, pair}
-use Rattle.desk_time.specs.Moments.{two, date_text, shown, minute_of, time_of, date_at, time_at}
-use Rattle.desk_time.proofs.CalendarLaws.{IsDateOf, civil_of-law, days_of_years-law, day_number-count}
-
-years_30 : days_of_years 30 ≡ 10_957
-unfolding days_of_years
-years_30 = refl
-
-years_130 : days_of_years 130 ≡ 47_482
-unfolding days_of_years
-years_130 = refl
+use Rattle.desk_time.specs.Moments.{shown, minute_of, date_at, time_at}
+use Rattle.desk_time.proofs.CalendarLaws.{IsDateOf, civil_of-law, days_of_years-law, day_number-count, years_30}
 
 last_of_2099 : day_number 2099 12 31 ≡ 47_481
 unfolding day_number days_of_years days_of_months
@@ -57,11 +49,6 @@ date_is_again : (y m d day : ℕ) → IsDateOf day (record { year = y; month = m
 unfolding day_at
 date_is_again y m d day law low high =
     rw (le-leb 2000 y low, le-leb y 2099 high, le-leb 1 m law.civil.1.0, le-leb m 12 law.civil.1.1, le-leb 1 d law.civil.2.0, le-leb d (days_in_month (pos y) m) law.civil.2.1, number_again y m d day law low) refl
-
-pub date_again : (day : ℕ) → 10_957 ≤ day → day < 47_482 → day_at (civil_of day).year (civil_of day).month (civil_of day).day ≡ Some day
-date_again day low high =
-    let r = year_range day low high in
-    date_is_again _ _ _ day (civil_of-law day (omega arith)) r.0 r.1
 
 date_text_again : (y m d day : ℕ) → IsDateOf day (record { year = y; month = m; day = d }) → 2000 ≤ y → y ≤ 2099
     → date_at ((48 + y / 100 / 10) ∷ (48 + y / 100 % 10) ∷ (48 + y % 100 / 10) ∷ (48 + y % 100 % 10) ∷ (48 + m / 10) ∷ (48 + m % 10) ∷ (48 + d / 10) ∷ (48 + d % 10) ∷ []) ≡ Some day

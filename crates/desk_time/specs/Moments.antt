@@ -1,6 +1,5 @@
 -- Moments, in minutes since 1970-01-01 00:00.
-use Rattle.std.specs.Prelude.{Bool, ℕ, zero, suc, ◌+◌, ◌-◌, ◌*◌, ◌/◌, ◌%◌, ◌≤◌, nat_lt, nat_le, ◌==◌, ◌&&◌, ◌||◌, not, if◌then◌else◌, List, [], ◌∷◌, ◌++◌, Option, None, Some, slice_index, length, Result, Ok, Err}
-use Rattle.std.specs.Option.{option_and_then}
+use Rattle.std.specs.Prelude.{Bool, ℕ, zero, suc, ◌+◌, ◌*◌, ◌/◌, ◌%◌, nat_lt, nat_le, ◌==◌, ◌&&◌, ◌||◌, if◌then◌else◌, List, [], ◌∷◌, ◌++◌, Option, None, Some, Result, Ok, Err}
 use Rattle.desk_time.specs.Digits.{pair, ◌>>=◌}
 use Rattle.desk_time.specs.Calendar.{Civil, civil_of, day_of_month, day_at}
 use Rattle.desk_time.specs.declared.moments.BadDay.{BadDay}

@@ -4,6 +4,10 @@
 mod calendar;
 mod digits;
 mod moments;
+#[cfg(test)]
+mod tests;
 
 pub use digits::{digit, pair};
-pub use moments::{BadDay, FIRST, LAST, Minute, SHOWN_LAST, read_minute, resolve, show};
+pub use moments::{
+    BadDay, FIRST, LAST, Minute, PLAN_FIRST, PLAN_LAST, SHOWN_LAST, read_minute, resolve, show,
+};

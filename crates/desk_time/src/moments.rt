@@ -1,6 +1,7 @@
-ghost use Rattle.std.specs.Prelude.{ℕ, Some, ◌≡◌, ◌+◌, ◌<◌, ◌≤◌, pos, IfSome, IfOk};
+ghost use Rattle.std.specs.Prelude.{ℕ, Some, ◌≡◌, ◌+◌, ◌*◌, ◌<◌, ◌≤◌, pos, IfSome, IfOk};
 ghost use Rattle.desk_time.specs.Moments as spec;
 ghost use Rattle.desk_time.specs.Moments.{resolved, shown, minute_of};
+ghost use Rattle.desk_time.specs.Calendar.{day_of_month};
 
 use crate::calendar::{day_at, day_of_month, parts_of};
 use crate::digits::pair;
@@ -16,6 +17,12 @@ pub const LAST: u64 = 68_374_079;
 
 /// The last moment that is shown: some way past `LAST`, since a due time may lie there.
 pub const SHOWN_LAST: u64 = 69_000_000;
+
+/// The first moment at which a leg may be planned: a day after `FIRST`.
+pub const PLAN_FIRST: u64 = 15_779_520;
+
+/// The last moment at which a leg may be planned: a day before `LAST`.
+pub const PLAN_LAST: u64 = 68_372_639;
 
 /// Why a day and a time name no moment.
 #[derive(Clone, Copy, Debug, PartialEq, Eq)]
@@ -34,6 +41,8 @@ pub fn resolve(first_day: u64, day: u8, hour: u8, minute: u8) -> Result<Minute, 
     requires high { first_day ≤ 48_000 }
     ensures value { result ≡ resolved first_day day hour minute }
     ensures range { IfOk result (λ m. (FIRST ≤ m) × (m ≤ LAST)) }
+    // No other day of the five has that day of the month.
+    ensures only { (d : ℕ) → first_day ≤ d → d < first_day + 5 → day_of_month d ≡ day → IfOk result (λ m. m ≡ 1440 * d + 60 * hour + minute) }
 {
     if !is_time(day, hour, minute) {
         return Err(BadDay::BadTime);
@@ -179,19 +188,4 @@ pub fn read_minute(text: &[u8]) -> Option<Minute>
     ensures again { (m : ℕ) → FIRST ≤ m → m ≤ LAST → text.now ≡ shown m → result ≡ Some m }
 {
     minute_in(text)
-}
-
-#[cfg(test)]
-mod tests {
-    use super::*;
-
-    #[test]
-    fn moments_are_read_and_shown(rt: HostRuntime) {
-        assert_eq!(rt; show(FIRST).as_slice(), b"2000-01-01T00:00Z".as_slice());
-        assert_eq!(rt; show(LAST).as_slice(), b"2099-12-31T23:59Z".as_slice());
-        assert_eq!(rt; resolve(20_156, 12, 16, 51), Ok(29_029_971));
-        assert_eq!(rt; read_minute(b"2025-03-12T16:51Z"), Some(29_029_971));
-        assert_eq!(rt; read_minute(b"2025-02-29T16:51Z"), None);
-        assert_eq!(rt; read_minute(b"2100-01-01T00:00Z"), None);
-    }
 }

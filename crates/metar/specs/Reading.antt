@@ -1,5 +1,5 @@
 -- What a METAR or SPECI says, by the list of its groups (FMH-1, chapter 12; WMO FM 15).
-use Rattle.std.specs.Prelude.{◌≡◌, ℕ, ◌-◌, ◌/◌, ◌+◌, nat_lt, Bool, ◌||◌, ◌==◌, if◌then◌else◌, true, false, List, [], ◌∷◌, length, take, Option, None, Some, Result, Ok, Err, codes}
+use Rattle.std.specs.Prelude.{◌≡◌, ℕ, ◌-◌, ◌/◌, ◌+◌, nat_lt, Bool, ◌||◌, if◌then◌else◌, true, false, List, [], ◌∷◌, length, take, Option, None, Some, Result, Ok, Err, codes}
 use Rattle.std.specs.Str.{bytes_eq}
 use Rattle.std.specs.List.{list_any}
 use Rattle.codes.specs.Station.{station_of}

@@ -2,5 +2,7 @@
 #![tactic(auto)]
 
 mod metar;
+#[cfg(test)]
+mod tests;
 
 pub use metar::{Metar, REPORT_LIMIT, read_metar};

@@ -8,3 +8,6 @@ mod reader;
 
 pub use forecast::{Part, PartKind, Parts, Taf, TafState};
 pub use reader::read_taf;
+
+#[cfg(test)]
+mod tests;

@@ -1,4 +1,4 @@
-use Rattle.std.proofs.Common.{◌≡◌, ◌++◌, map, append-nil, refl, sym, ◌∙◌, ap, arith}
+use Rattle.std.proofs.Common.{append-nil, refl, sym}
 use Rattle.std.proofs.lemmas.List.{map_push}
 use Rattle.codes.proofs.GroupLaws.{last_unmarked_map, kept_full, kept_none}
 use Rattle.codes.proofs.groups.unmark_last.Goals as goal

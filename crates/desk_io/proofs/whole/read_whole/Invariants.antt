@@ -1,4 +1,4 @@
-use Rattle.std.proofs.Common.{◌≡◌, ◌+◌, ◌-◌, ◌≤◌, length}
+use Rattle.std.proofs.Common.{◌≡◌, ◌-◌, ◌≤◌, length}
 use Rattle.desk_io.proofs.Fronts.{Agrees}
 use Rattle.desk_io.proofs.whole.read_whole.Given as goal
 

@@ -1,0 +1,5 @@
+pub mod Same
+pub mod Reading
+pub mod Reports
+pub mod Latest
+pub mod Lines

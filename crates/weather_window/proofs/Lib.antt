@@ -1,0 +1,3 @@
+pub mod LeastLaws
+pub mod PartsLaws
+pub mod WindowLaws

@@ -1,0 +1,62 @@
+-- One pass over the parts of a forecast, and over the minutes of a window.
+use Rattle.std.specs.Prelude.{ℕ, ◌+◌, ◌||◌, min, if◌then◌else◌, List, [], ◌∷◌, map, Option, None, Some}
+use Rattle.desk_time.specs.Digits.{or_else}
+use Rattle.codes.specs.Cond.{lesser}
+use Rattle.metar.specs.declared.metar.Metar.{Metar}
+use Rattle.taf.specs.declared.forecast.Part.{Part}
+use Rattle.taf.specs.declared.forecast.Taf.{Taf}
+use Rattle.weather_window.specs.declared.parts.Role.{Role}
+use Rattle.weather_window.specs.declared.parts.Role.TheVariants.{Replaces, Lasts, Passes, Silent}
+use Rattle.weather_window.specs.declared.parts.Holding.{Holding}
+use Rattle.weather_window.specs.Values.{Element, has_replaced, has_become, is_changing, may_hold}
+use Rattle.weather_window.specs.Window.{value_at, minutes}
+
+-- what a part does at a moment
+abbrev pub role_of : ℕ → Part → Role
+role_of m p =
+    if has_replaced m p then Replaces else (if has_become m p then Lasts else (if is_changing m p || may_hold m p then Passes else Silent))
+
+-- what holds once a part of that role names a value
+abbrev pub and_value : Holding → Role → Option ℕ → Holding
+and_value held Replaces value = record { lasting = value; passing = None }
+and_value held Lasts value = record { lasting = or_else value held.lasting; passing = held.passing }
+and_value held Passes value = record { lasting = held.lasting; passing = lesser held.passing value }
+and_value held Silent value = held
+
+-- what holds after some more parts
+abbrev pub held_after : Element → ℕ → Holding → List Part → Holding
+held_after element m held [] = held
+held_after element m held (p ∷ ps) = held_after element m (and_value held (role_of m p) (element p.cond)) ps
+
+-- the least of what holds
+abbrev pub least_held : Holding → Option ℕ
+least_held held = lesser held.lasting held.passing
+
+-- the value of the first part, before any other is seen
+abbrev pub only : Option ℕ → Holding
+only value = record { lasting = value; passing = None }
+
+-- the least that a part and some more name
+abbrev pub least_after : Element → ℕ → Part → List Part → Option ℕ
+least_after element m first after = least_held (held_after element m (only (element first.cond)) after)
+
+-- the least that the parts name, in one pass
+unfoldable pub least_at : Element → ℕ → List Part → Option ℕ
+least_at element m [] = None
+least_at element m (first ∷ after) = least_after element m first after
+
+-- the worse of two values: an unknown one is the worst
+abbrev pub worse : Option ℕ → Option ℕ → Option ℕ
+worse None b = None
+worse (Some x) None = None
+worse (Some x) (Some y) = Some (min x y)
+
+-- the worst of a value and some more
+abbrev pub worst_after : Option ℕ → List (Option ℕ) → Option ℕ
+worst_after value [] = value
+worst_after value (next ∷ later) = worst_after (worse value next) later
+
+-- the worst of every minute, the first of them by itself
+unfoldable pub worst_since : Element → Option Taf → Option Metar → ℕ → ℕ → ℕ → Option ℕ
+worst_since element taf metar hold from to =
+    worst_after (value_at element taf metar hold from) (map (value_at element taf metar hold) (minutes (from + 1) to))

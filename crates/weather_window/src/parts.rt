@@ -1,0 +1,128 @@
+ghost use Rattle.std.specs.Prelude.{◌≡◌, drop};
+ghost use Rattle.desk_time.specs.Digits.{or_else};
+ghost use Rattle.codes.specs.Cond.{lesser};
+ghost use Rattle.weather_window.specs.Running as spec;
+ghost use Rattle.weather_window.specs.Values.{Element, ceiling as ceiling_element, visibility};
+
+use codes::Cond;
+use desk_time::Minute;
+use taf::{Part, PartKind};
+
+// What a part of a forecast does at a moment.
+#[derive(Clone, Copy)]
+enum Role {
+    // It has replaced all before it.
+    Replaces,
+    // What it names holds for good.
+    Lasts,
+    // What it names may hold.
+    Passes,
+    // It does nothing then.
+    Silent,
+}
+
+// What the parts so far name of one element.
+#[derive(Clone, Copy)]
+struct Holding {
+    // The value that holds for good.
+    lasting: Option<u32>,
+    // The least of those that may hold.
+    passing: Option<u32>,
+}
+
+fn role_of(part: &Part, minute: Minute) -> Role
+    ensures { result ≡ spec.role_of minute part.now }
+{
+    match part.kind {
+        PartKind::Base | PartKind::From if part.from <= minute => Role::Replaces,
+        PartKind::Becoming if part.to <= minute => Role::Lasts,
+        PartKind::Becoming if part.from <= minute => Role::Passes,
+        PartKind::Tempo | PartKind::Prob if part.from <= minute && minute <= part.to =>
+            Role::Passes,
+        _ => Role::Silent,
+    }
+}
+
+/// The lesser of two values, where both are there.
+pub(crate) fn lesser(a: Option<u32>, b: Option<u32>) -> Option<u32>
+    ensures { result ≡ lesser a b }
+{
+    match (a, b) {
+        (Some(x), Some(y)) => Some(x.min(y)),
+        (Some(_), None) => a,
+        (None, _) => b,
+    }
+}
+
+fn or_else(first: Option<u32>, second: Option<u32>) -> Option<u32>
+    ensures { result ≡ or_else first second }
+{
+    match first {
+        Some(_) => first,
+        None => second,
+    }
+}
+
+fn and_value(held: Holding, role: Role, value: Option<u32>) -> Holding
+    ensures { result ≡ spec.and_value held role value }
+{
+    match role {
+        Role::Replaces => Holding {
+            lasting: value,
+            passing: None,
+        },
+        Role::Lasts => Holding {
+            lasting: or_else(value, held.lasting),
+            passing: held.passing,
+        },
+        Role::Passes => Holding {
+            lasting: held.lasting,
+            passing: lesser(held.passing, value),
+        },
+        Role::Silent => held,
+    }
+}
+
+fn only(value: Option<u32>) -> Holding
+    ensures { result ≡ spec.only value }
+{
+    Holding {
+        lasting: value,
+        passing: None,
+    }
+}
+
+fn least_held(held: Holding) -> Option<u32>
+    ensures { result ≡ spec.least_held held }
+{
+    lesser(held.lasting, held.passing)
+}
+
+fn after_first(first: &Part, after: &[Part], minute: Minute) -> Cond
+    ensures ceiling { result.ceiling ≡ spec.least_after ceiling_element minute first.now after.now }
+    ensures vis { result.vis ≡ spec.least_after visibility minute first.now after.now }
+{
+    let mut ceiling = only(first.cond.ceiling);
+    let mut vis = only(first.cond.vis);
+    for part in after {
+        let role = role_of(part, minute);
+        ceiling = and_value(ceiling, role, part.cond.ceiling);
+        vis = and_value(vis, role, part.cond.vis);
+    }
+    Cond {
+        ceiling: least_held(ceiling),
+        vis: least_held(vis),
+    }
+}
+
+/// What the parts of a forecast name at a moment.
+#[tactic(auto, unfolding(crate::specs::Running::least_at))]
+pub(crate) fn parts_at(parts: &[Part], minute: Minute) -> Cond
+    ensures ceiling { result.ceiling ≡ spec.least_at ceiling_element minute parts.now }
+    ensures vis { result.vis ≡ spec.least_at visibility minute parts.now }
+{
+    match parts {
+        [] => Cond::UNKNOWN,
+        [first, after @ ..] => after_first(first, after, minute),
+    }
+}
