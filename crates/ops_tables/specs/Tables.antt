@@ -47,9 +47,13 @@ abbrev pub type_of_tail : TableRows → Option Tail → Option TypeRow
 type_of_tail t None = None
 type_of_tail t (Some tail) = type_named t tail.kind
 
+-- the aircraft of that name
+abbrev pub tail_named : TableRows → List ℕ → Option Tail
+tail_named t tail = find (λ r. bytes_eq r.tail tail) t.tails
+
 -- the type of an aircraft
 abbrev pub type_of : TableRows → List ℕ → Option TypeRow
-type_of t tail = type_of_tail t (find (λ r. bytes_eq r.tail tail) t.tails)
+type_of t tail = type_of_tail t (tail_named t tail)
 
 -- whether a type may use an airport
 abbrev pub may_use : TableRows → List ℕ → Station → Bool

@@ -1,6 +1,14 @@
-//! The plans of flights that a dispatcher files.
+//! The plans of flights that a dispatcher files, their releases, and the rules that they fail.
 #![tactic(auto)]
 
+mod check;
+mod findings;
 mod flights;
+mod release;
+mod texts;
 
+pub use check::{BadPlan, PlanWhy, check_plan};
+pub use findings::{Finding, Findings, Rule, is_before, is_same};
 pub use flights::{Alternate, Alternates, Kind, Leg, Legs, Plan, TakeoffAlternate};
+pub use release::{Phase, Release, Revision, Signature};
+pub use texts::{finding_text, phase_text};

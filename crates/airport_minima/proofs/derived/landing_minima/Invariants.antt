@@ -1,0 +1,10 @@
+use Rattle.std.proofs.Common.{◌≡◌, ◌++◌, drop}
+use Rattle.std.specs.Prelude.{map}
+use Rattle.airport_minima.specs.Pair.{AreWithin}
+use Rattle.airport_minima.specs.Minima.{minima_of}
+use Rattle.airport_minima.proofs.derived.landing_minima.Given as goal
+
+abbrev pub invariant-loop-approach : goal.invariant-loop-approach
+invariant-loop-approach l =
+    (l.pairs.items ++ map (λ a. minima_of a) (map (λ a. a.now) (drop l.approach-index l.usable)) ≡ map (λ a. minima_of a) (map (λ a. a.now) l.usable))
+    × AreWithin 20_000 16_093_440 l.pairs.items

@@ -1,0 +1,10 @@
+use Rattle.std.proofs.Common.{◌≡◌, ◌++◌, drop}
+use Rattle.std.specs.Prelude.{map}
+use Rattle.airport_minima.specs.Pair.{AreWithin}
+use Rattle.airport_minima.specs.Minima.{single}
+use Rattle.airport_minima.proofs.derived.singles.Given as goal
+
+abbrev pub invariant-loop-approach : goal.invariant-loop-approach
+invariant-loop-approach l =
+    (l.pairs.items ++ map (λ a. single l.addend a) (map (λ a. a.now) (drop l.approach-index l.usable)) ≡ map (λ a. single l.addend a) (map (λ a. a.now) l.usable))
+    × AreWithin 40_000 32_186_880 l.pairs.items

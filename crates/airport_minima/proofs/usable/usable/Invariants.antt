@@ -1,0 +1,10 @@
+use Rattle.std.proofs.Common.{◌≡◌, ◌++◌, drop}
+use Rattle.std.specs.Prelude.{map, filter, All}
+use Rattle.ops_tables.specs.Limits.{FitsApproach}
+use Rattle.airport_minima.specs.Minima.{is_usable}
+use Rattle.airport_minima.proofs.usable.usable.Given as goal
+
+abbrev pub invariant-loop-approach : goal.invariant-loop-approach
+invariant-loop-approach l =
+    (map (λ a. a.now) l.usable.items ++ filter (λ a. is_usable l.kind l.lost a) (drop l.approach-index l.approaches) ≡ filter (λ a. is_usable l.kind l.lost a) l.approaches)
+    × All (λ a. FitsApproach a.now) l.usable.items

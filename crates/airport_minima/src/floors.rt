@@ -1,0 +1,92 @@
+ghost use Rattle.std.specs.Prelude.{◌≡◌, ◌≤◌, filter, All, IfSome};
+ghost use Rattle.ops_tables.specs.Limits.{FitsApproach};
+ghost use Rattle.airport_minima.specs.Minima.{is_usable};
+ghost use Rattle.airport_minima.specs.Floor as spec;
+ghost use Rattle.airport_minima.specs.Floor.{flag_floor};
+
+use crate::pair::{MILE, Pair};
+use crate::usable::{is_usable, millimetres};
+use codes::Station;
+use ops_tables::{Approach, Lost, Tables, TypeRow};
+
+/// The least height in feet and the least visibility in sixteenths of a statute mile of some
+/// approaches.
+#[derive(Clone, Copy, Debug)]
+struct Lowest {
+    height: u32,
+    vis16: u32,
+}
+
+fn lower(lowest: Option<Lowest>, approach: &Approach) -> Lowest
+    ensures { result ≡ spec.lower approach.now lowest }
+{
+    match lowest {
+        None => Lowest {
+            height: approach.height,
+            vis16: approach.vis16,
+        },
+        Some(lowest) => Lowest {
+            height: approach.height.min(lowest.height),
+            vis16: approach.vis16.min(lowest.vis16),
+        },
+    }
+}
+
+fn lowest_usable(approaches: &[Approach], kind: &TypeRow, lost: &Lost) -> Option<Lowest>
+    requires { All FitsApproach approaches.now }
+    ensures value { result ≡ spec.lowest_of (filter (λ a. is_usable kind.now lost.now a) approaches.now) }
+    ensures within { IfSome result (λ l. (l.height ≤ 20_000) × (l.vis16 ≤ 160)) }
+{
+    let mut lowest = None;
+    for approach in approaches {
+        if is_usable(kind, lost, approach) {
+            lowest = Some(lower(lowest, approach));
+        }
+    }
+    lowest
+}
+
+fn circle_of(tables: &Tables, station: Station) -> u32
+    ensures value { result ≡ spec.circle_of tables.now station }
+    ensures within { result ≤ 20_000 }
+{
+    match tables.airport(station) {
+        None => 0,
+        Some(airport) => airport.circle,
+    }
+}
+
+fn floor_ceiling(circle: u32, height: u32) -> u32
+    requires circle { circle ≤ 20_000 }
+    requires height { height ≤ 20_000 }
+    ensures { result ≡ spec.floor_ceiling circle height }
+{
+    if circle > 0 {
+        circle + 1_500
+    } else {
+        (height + 1_500).max(2_000)
+    }
+}
+
+fn floor_vis(vis16: u32) -> u32
+    requires { vis16 ≤ 160 }
+    ensures { result ≡ spec.floor_vis vis16 }
+{
+    (millimetres(vis16) + 2 * MILE).max(3 * MILE)
+}
+
+/// The weather at the destination at or above which a flag flight needs no alternate (14 CFR
+/// 121.621(a)(1)); none exactly where there is no approach that the type can fly. The ceiling is
+/// 1,500 feet above the circling minimum. Where the airport has none, it is 2,000 feet or 1,500 above
+/// the lowest height, whichever is greater. The visibility is 3 statute miles, or 2 more than the
+/// lowest visibility, whichever is greater. It takes no memory.
+#[tactic(auto, unfolding(crate::specs::Floor::flag_floor))]
+pub fn flag_floor(tables: &Tables, kind: &TypeRow, station: Station, lost: &Lost) -> Option<Pair>
+    ensures { result ≡ flag_floor tables.now kind.now station lost.now }
+{
+    let lowest = lowest_usable(tables.approaches(station), kind, lost)?;
+    Some(Pair {
+        ceiling: floor_ceiling(circle_of(tables, station), lowest.height),
+        vis: floor_vis(lowest.vis16),
+    })
+}

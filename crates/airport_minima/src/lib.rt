@@ -1,0 +1,11 @@
+//! Weather minima of airports for landing and for alternates (14 CFR 121.613, 121.621, 121.625).
+#![tactic(auto)]
+
+mod derived;
+mod floors;
+mod pair;
+mod usable;
+
+pub use derived::{alternate_pairs, landing};
+pub use floors::flag_floor;
+pub use pair::{MILE, Pair, Pairs, meets};

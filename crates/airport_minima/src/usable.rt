@@ -1,0 +1,60 @@
+ghost use Rattle.std.specs.Prelude.{◌≡◌, ◌≤◌, map, filter, All, IfOk};
+ghost use Rattle.ops_tables.specs.Limits.{FitsApproach};
+ghost use Rattle.airport_minima.specs.Minima as spec;
+
+use crate::pair::Pair;
+use desk_io::OutOfMemory;
+use ops_tables::{Approach, Lost, TypeRow, has_name};
+use std::alloc::Global;
+
+/// Millimetres in a sixteenth of a statute mile.
+const SIXTEENTH: u32 = 100_584;
+
+// Sixteenths of a statute mile in millimetres.
+pub(crate) fn millimetres(sixteenths: u32) -> u32
+    requires { sixteenths ≤ 160 }
+    ensures { result ≡ spec.millimetres sixteenths }
+{
+    sixteenths * SIXTEENTH
+}
+
+// Whether a type can fly an approach: it has the capability, and hasn't lost it.
+pub(crate) fn is_usable(kind: &TypeRow, lost: &Lost, approach: &Approach) -> bool
+    ensures { result ≡ spec.is_usable kind.now lost.now approach.now }
+{
+    let capability = approach.capability.bytes();
+    has_name(&kind.capabilities, capability) && !has_name(lost, capability)
+}
+
+// The landing minima of an approach.
+pub(crate) fn minima_of(approach: &Approach) -> Pair
+    requires { FitsApproach approach.now }
+    ensures value { result ≡ spec.minima_of approach.now }
+    ensures ceiling { result.ceiling ≤ 20_000 }
+    ensures vis { result.vis ≤ 16_093_440 }
+{
+    Pair {
+        ceiling: approach.ceiling,
+        vis: millimetres(approach.vis16),
+    }
+}
+
+// Those of the approaches that a type can fly.
+pub(crate) fn usable<'a>(
+    alloc: Global,
+    approaches: &'a [Approach],
+    kind: &TypeRow,
+    lost: &Lost,
+) -> Result<Vec<&'a Approach>, OutOfMemory>
+    requires { All FitsApproach approaches.now }
+    ensures value { IfOk result (λ v. map (λ a. a.now) v.items ≡ filter (λ a. spec.is_usable kind.now lost.now a) approaches.now) }
+    ensures within { IfOk result (λ v. All (λ a. FitsApproach a.now) v.items) }
+{
+    let mut usable = Vec::new(alloc);
+    for approach in approaches {
+        if is_usable(kind, lost, approach) {
+            usable.push(approach)?;
+        }
+    }
+    Ok(usable)
+}

@@ -1,0 +1,106 @@
+ghost use Rattle.std.specs.Prelude.{◌≡◌, ◌≤◌, ◌+◌};
+ghost use Rattle.airport_minima.specs.Pair.{is_met, raised, reaches};
+ghost use Rattle.alternates.specs.Needs as spec;
+
+use airport_minima::{MILE, Pair, meets};
+use codes::Cond;
+use plan::{Kind, Leg};
+
+/// The weather with which a domestic flight needs no alternate: 2,000 feet and 3 statute miles
+/// (14 CFR 121.619(a)).
+const DOMESTIC_FLOOR: Pair = Pair {
+    ceiling: 2_000,
+    vis: 3 * MILE,
+};
+
+/// The longest scheduled flight, in minutes, that may do without an alternate for its weather (14
+/// CFR 121.621(a)(1)).
+const LONGEST_WITHOUT: u64 = 360;
+
+/// Whether a takeoff alternate is needed: the weather at the airport of departure is below all its
+/// landing minima (14 CFR 121.617(a)). It takes no memory.
+#[tactic(auto, unfolding(crate::specs::Needs::needs_takeoff))]
+pub fn needs_takeoff(cond: Cond, landing: &[Pair]) -> bool
+    ensures { result ≡ spec.needs_takeoff cond landing.now }
+{
+    !meets(cond, landing)
+}
+
+fn range(engines: u8, knots: u32) -> u32
+    requires { knots ≤ 1_000 }
+    ensures { result ≡ spec.range engines knots }
+{
+    if engines >= 3 { 2 * knots } else { knots }
+}
+
+/// Whether a takeoff alternate is near enough: at most one hour away for an aircraft with two
+/// engines, and two hours for one with three or more, at its speed with one engine inoperative (14
+/// CFR 121.617(a)). The miles are nautical, and a distance that isn't known isn't in range. It takes
+/// no memory.
+#[tactic(auto, unfolding(crate::specs::Needs::in_range))]
+pub fn in_range(engines: u8, knots: u32, miles: Option<u32>) -> bool
+    requires { knots ≤ 1_000 }
+    ensures { result ≡ spec.in_range engines knots miles }
+{
+    match miles {
+        None => false,
+        Some(miles) => miles <= range(engines, knots),
+    }
+}
+
+fn misses(window: Cond, floor: Option<Pair>) -> bool
+    ensures { result ≡ spec.misses window floor }
+{
+    match floor {
+        None => true,
+        Some(floor) => !floor.is_met(window),
+    }
+}
+
+/// Whether an alternate of the destination is needed, where `window` is the worst weather there
+/// from one hour before to one hour after the estimated time of arrival. A domestic flight needs one
+/// where that is below 2,000 feet or 3 statute miles (14 CFR 121.619(a)). A flag flight needs one
+/// where it is scheduled for more than six hours, or there is no floor or the weather is below it (14
+/// CFR 121.621(a)(1)). It takes no memory.
+#[tactic(auto, unfolding(crate::specs::Needs::needs_destination))]
+pub fn needs_destination(leg: &Leg, kind: Kind, window: Cond, floor: Option<Pair>) -> bool
+    ensures { result ≡ spec.needs_destination leg.now kind window floor }
+{
+    match kind {
+        Kind::Domestic => !DOMESTIC_FLOOR.is_met(window),
+        Kind::Flag => leg.eta.saturating_sub(leg.etd) > LONGEST_WITHOUT || misses(window, floor),
+    }
+}
+
+// Whether an element of the weather is at or above its minimum raised by a margin.
+fn reaches_raised(value: Option<u32>, least: u32, margin: u32) -> bool
+    ensures { result ≡ reaches value (least + margin) }
+{
+    let raised = u64::from(least) + u64::from(margin);
+    match value {
+        None => raised == 0,
+        Some(known) => raised <= u64::from(known),
+    }
+}
+
+fn is_met_raised(cond: Cond, margin: Pair, pair: Pair) -> bool
+    ensures { result ≡ is_met cond (raised margin pair) }
+{
+    reaches_raised(cond.ceiling, pair.ceiling, margin.ceiling)
+        && reaches_raised(cond.vis, pair.vis, margin.vis)
+}
+
+fn meets_raised(cond: Cond, pairs: &[Pair], margin: Pair) -> bool
+    ensures { result ≡ spec.meets_raised cond pairs.now margin }
+{
+    pairs.iter().any(|pair| is_met_raised(cond, margin, *pair))
+}
+
+/// Whether the weather is marginal: it is below all these minima raised by the margin (14 CFR
+/// 121.619(a)). It takes no memory.
+#[tactic(auto, unfolding(crate::specs::Needs::is_marginal))]
+pub fn is_marginal(cond: Cond, pairs: &[Pair], margin: Pair) -> bool
+    ensures { result ≡ spec.is_marginal cond pairs.now margin }
+{
+    !meets_raised(cond, pairs, margin)
+}

@@ -1,0 +1,55 @@
+ghost use Rattle.std.specs.Prelude.{◌≡◌, ◌≤◌, ◌<◌, ◌^◌};
+ghost use Rattle.deferrals.specs.Due as spec;
+
+use desk_io::{Copied, OutOfMemory, Text};
+use desk_time::{LAST, Minute, SHOWN_LAST};
+use ops_tables::{Category, MelRow};
+use std::alloc::Global;
+
+/// An inoperative item of an aircraft, found and not yet repaired.
+#[derive(Debug, Drop)]
+pub struct Deferral {
+    /// The number under which it is kept.
+    pub id: u64,
+    /// The registration of the aircraft.
+    pub tail: Text,
+    /// The item of the minimum equipment list.
+    pub item: Text,
+    /// When it was found.
+    pub found: Minute,
+}
+
+impl Copied for Deferral {
+    fn copy(&self, alloc: Global) -> Result<Deferral, OutOfMemory> {
+        Ok(Deferral {
+            id: self.id,
+            tail: self.tail.copy(alloc)?,
+            item: self.item.copy(alloc)?,
+            found: self.found,
+        })
+    }
+}
+
+// The days that a category leaves for the repair.
+fn days_allowed(row: &MelRow) -> u64
+    ensures value { result ≡ spec.days_allowed row.now.category row.now.days }
+    ensures bound { result < 2 ^ 32 }
+{
+    match row.category {
+        Category::A => u64::from(row.days),
+        Category::B => 3,
+        Category::C => 10,
+        Category::D => 120,
+    }
+}
+
+/// When a deferred item has to be repaired: the start of the day after the last allowed one, where
+/// the days of its category are counted from the day after it was found. It takes no memory.
+pub fn due(row: &MelRow, found: Minute) -> Minute
+    requires { found ≤ LAST }
+    ensures value { result ≡ spec.due row.now found }
+    ensures later { found < result }
+    ensures shown { row.now.days ≤ 365 → result ≤ SHOWN_LAST }
+{
+    1440 * (found / 1440 + 1 + days_allowed(row))
+}

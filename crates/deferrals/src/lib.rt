@@ -1,0 +1,9 @@
+//! Inoperative equipment that is deferred under a minimum equipment list: what is open, when it is
+//! due for repair, and how it limits a flight (14 CFR 121.628).
+#![tactic(auto)]
+
+mod held;
+mod items;
+
+pub use held::{DEFERRAL_LIMIT, Deferrals};
+pub use items::{Deferral, due};

@@ -1,0 +1,8 @@
+-- Lists of names.
+use Rattle.std.specs.Prelude.{ℕ, Bool, List}
+use Rattle.std.specs.List.{list_any}
+use Rattle.std.specs.Str.{bytes_eq}
+
+-- whether a name is among some names
+abbrev pub has_name : List (List ℕ) → List ℕ → Bool
+has_name names name = list_any (λ n. bytes_eq n name) names

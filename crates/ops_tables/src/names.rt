@@ -1,0 +1,11 @@
+ghost use Rattle.std.specs.Prelude.{◌≡◌};
+ghost use Rattle.ops_tables.specs.Names as spec;
+
+use crate::Names;
+
+/// Whether a name is among some names.
+pub fn has_name(names: &Names, name: &[u8]) -> bool
+    ensures { result ≡ spec.has_name names.now name.now }
+{
+    names.as_slice().iter().any(|n| n.bytes() == name)
+}

@@ -1,0 +1,6 @@
+use Rattle.std.proofs.Common.{◌≡◌, ◌+◌, None, drop}
+use Rattle.plan.specs.Check.{first_fault}
+use Rattle.plan.proofs.check.first_fault.Given as goal
+
+abbrev pub invariant-loop-i : goal.invariant-loop-i
+invariant-loop-i l = first_fault (l.i + 1) l.before (drop l.i l.legs) ≡ first_fault 1 None l.legs

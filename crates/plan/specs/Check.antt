@@ -1,0 +1,95 @@
+-- The tests of a plan.
+use Rattle.std.specs.Prelude.{ℕ, ◌+◌, ◌-◌, Bool, ◌&&◌, ◌||◌, not, true, false, ◌≤◌, nat_lt, nat_le, if◌then◌else◌, List, [], ◌∷◌, length, Option, None, Some}
+use Rattle.std.specs.List.{list_all, list_any}
+use Rattle.std.specs.Str.{bytes_eq}
+use Rattle.desk_time.specs.declared.moments.TheConstants.{PLAN_FIRST, PLAN_LAST}
+use Rattle.codes.specs.declared.station.Station.{Station}
+use Rattle.plan.specs.declared.flights.Plan.{Plan}
+use Rattle.plan.specs.declared.flights.Leg.{Leg}
+use Rattle.plan.specs.declared.flights.Alternate.{Alternate}
+use Rattle.plan.specs.declared.flights.TakeoffAlternate.{TakeoffAlternate}
+use Rattle.plan.specs.declared.check.BadPlan.{BadPlan}
+use Rattle.plan.specs.declared.check.PlanWhy.{PlanWhy}
+use Rattle.plan.specs.declared.check.PlanWhy.TheVariants.{Repeated, Times, Amount}
+
+abbrev pub is_at : Station → Station → Bool
+is_at a b = bytes_eq a.bytes b.bytes
+
+abbrev pub is_alternate_at : Station → Alternate → Bool
+is_alternate_at s a = is_at a.station s
+
+-- an alternate equals a later one
+abbrev pub repeats : List Alternate → Bool
+repeats [] = false
+repeats (a ∷ rest) = list_any (is_alternate_at a.station) rest || repeats rest
+
+abbrev pub is_takeoff_at : Station → Option TakeoffAlternate → Bool
+is_takeoff_at s None = false
+is_takeoff_at s (Some t) = is_at t.station s
+
+-- The airport of departure is the destination or its own alternate, or an alternate is the
+-- destination or another alternate.
+abbrev pub is_repeated : Leg → Bool
+is_repeated l = is_at l.from l.to || is_takeoff_at l.from l.takeoff_alternate || list_any (is_alternate_at l.to) l.alternates || repeats l.alternates
+
+-- a moment at which a leg may be planned
+abbrev pub is_planned : ℕ → Bool
+is_planned m = nat_le PLAN_FIRST m && nat_le m PLAN_LAST
+
+-- the leg begins no earlier than the leg before it ends
+abbrev pub follows : Option ℕ → Leg → Bool
+follows None l = true
+follows (Some eta) l = nat_le eta l.etd
+
+-- an alternate is from 1 minute to 10 hours away
+abbrev pub is_near : ℕ → Bool
+is_near minutes = nat_le 1 minutes && nat_le minutes 600
+
+abbrev pub is_takeoff_near : Option TakeoffAlternate → Bool
+is_takeoff_near None = true
+is_takeoff_near (Some t) = is_near t.minutes
+
+abbrev pub has_moments : Option ℕ → Leg → Bool
+has_moments before l = is_planned l.etd && is_planned l.eta && nat_lt l.etd l.eta && follows before l
+
+-- it is in the air for a day at most, and for no longer than from its ETD to its ETA
+abbrev pub has_minutes : Leg → Bool
+has_minutes l = nat_le 1 l.minutes && nat_le l.minutes (l.eta - l.etd) && nat_le l.minutes 1440
+
+abbrev pub are_near : List Alternate → Bool
+are_near alternates = list_all (λ a. is_near a.minutes) alternates
+
+abbrev pub has_times : Option ℕ → Leg → Bool
+has_times before l = has_moments before l && has_minutes l && is_takeoff_near l.takeoff_alternate && are_near l.alternates
+
+-- no amount of fuel is above a million pounds
+abbrev pub is_amount : ℕ → Bool
+is_amount pounds = nat_le pounds 1_000_000
+
+abbrev pub are_amounts : List Alternate → Bool
+are_amounts alternates = list_all (λ a. is_amount a.fuel) alternates
+
+abbrev pub has_amounts : Leg → Bool
+has_amounts l = is_amount l.burn && is_amount l.extra && is_amount l.minimum && is_amount l.onboard && are_amounts l.alternates
+
+-- the first test that a leg fails, after a leg that ends at a moment
+abbrev pub leg_fault : Option ℕ → Leg → Option PlanWhy
+leg_fault before l =
+    if is_repeated l then Some Repeated else (if not (has_times before l) then Some Times else (if not (has_amounts l) then Some Amount else None))
+
+abbrev pub fault_or : Option PlanWhy → ℕ → Option BadPlan → Option BadPlan
+fault_or None n later = later
+fault_or (Some why) n later = Some (record { leg = n; why = why })
+
+-- the first leg that fails a test, where the first of them has that number
+abbrev pub first_fault : ℕ → Option ℕ → List Leg → Option BadPlan
+first_fault n before [] = None
+first_fault n before (l ∷ ls) = fault_or (leg_fault before l) n (first_fault (n + 1) (Some l.eta) ls)
+
+-- the first test that a plan fails
+unfoldable pub plan_fault : Plan → Option BadPlan
+plan_fault p = first_fault 1 None p.legs
+
+-- a plan has at most 1,000 legs
+abbrev pub HasFewLegs : Plan → Type 0
+HasFewLegs plan = length plan.legs ≤ 1000

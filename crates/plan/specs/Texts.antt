@@ -1,0 +1,26 @@
+-- How findings and phases are written.
+use Rattle.std.specs.Prelude.{ℕ, ◌≤◌, List, [], ◌∷◌, ◌++◌, codes, decimal}
+use Rattle.std.specs.List.{concat}
+use Rattle.desk_time.specs.Moments.{shown}
+use Rattle.plan.specs.Findings.{code_of}
+use Rattle.plan.specs.declared.findings.Finding.{Finding}
+use Rattle.plan.specs.declared.release.Phase.{Phase}
+use Rattle.plan.specs.declared.release.Phase.TheVariants.{Drafted, Ready, Cancelled}
+
+-- the code of the rule, the leg and the place
+unfoldable pub finding_text : Finding → List ℕ
+finding_text f = concat (code_of f.rule ∷ codes "/" ∷ decimal f.leg ∷ codes "/" ∷ decimal f.place ∷ [])
+
+unfoldable pub phase_text : Phase → List ℕ
+phase_text Drafted = codes "DRAFTED"
+phase_text Ready = codes "READY 1"
+phase_text (Cancelled at) = codes "CANCELLED " ++ shown at
+
+-- a moment that can be read and shown
+abbrev pub IsMoment : ℕ → Type 0
+IsMoment m = (15_778_080 ≤ m) × (m ≤ 68_374_079)
+
+abbrev pub HasMoment : Phase → Type 0
+HasMoment Drafted = Unit {0}
+HasMoment Ready = Unit {0}
+HasMoment (Cancelled at) = IsMoment at
