@@ -1,10 +1,22 @@
-use desk_io::Text;
+use desk_io::{Copied, OutOfMemory, Text};
+use plan::Plan;
+use std::alloc::Global;
 
 /// What is asked.
 #[derive(Debug, Drop)]
 pub enum Ask {
     /// The text of a weather report is admitted.
     Admit { text: Text },
+    /// A release is drafted for a plan.
+    Draft { plan: Plan },
+    /// The dispatcher signs the pending revision of that number.
+    Sign { release: u64, revision: u64 },
+    /// The captain concurs with the pending revision of that number.
+    Concur { release: u64, revision: u64 },
+    /// A release is cancelled.
+    Cancel { release: u64 },
+    /// The open alerts are shown.
+    ViewAlerts,
 }
 
 /// A request of a person.
@@ -18,4 +30,38 @@ pub struct Call {
     pub number: u64,
     /// What he asks.
     pub ask: Ask,
+}
+
+impl Copied for Ask {
+    fn copy(&self, alloc: Global) -> Result<Ask, OutOfMemory> {
+        match self {
+            Ask::Admit { text } => Ok(Ask::Admit {
+                text: text.copy(alloc)?,
+            }),
+            Ask::Draft { plan } => Ok(Ask::Draft {
+                plan: plan.copy(alloc)?,
+            }),
+            Ask::Sign { release, revision } => Ok(Ask::Sign {
+                release: *release,
+                revision: *revision,
+            }),
+            Ask::Concur { release, revision } => Ok(Ask::Concur {
+                release: *release,
+                revision: *revision,
+            }),
+            Ask::Cancel { release } => Ok(Ask::Cancel { release: *release }),
+            Ask::ViewAlerts => Ok(Ask::ViewAlerts),
+        }
+    }
+}
+
+impl Copied for Call {
+    fn copy(&self, alloc: Global) -> Result<Call, OutOfMemory> {
+        Ok(Call {
+            actor: self.actor.copy(alloc)?,
+            key: self.key.copy(alloc)?,
+            number: self.number,
+            ask: self.ask.copy(alloc)?,
+        })
+    }
 }

@@ -1,10 +1,17 @@
 use codes::Why;
+use desk_io::{Copied, OutOfMemory, Text};
+use plan::{Findings, Phase, PlanWhy};
+use std::alloc::Global;
 
 /// What an accepted request has done.
-#[derive(Debug, Drop)]
+#[derive(Clone, Copy, Debug, PartialEq, Eq)]
 pub enum Done {
     /// A report stands under this id.
     Report(u64),
+    /// A revision of a release was filed or signed.
+    Filed { release: u64, revision: u64 },
+    /// A release was changed.
+    Release(u64),
 }
 
 /// Why a request was refused, with its number.
@@ -15,6 +22,24 @@ pub enum Refusal {
     BadReport { group: u32, what: Why },
     /// 6: the day at that group lies in none of the five days in reach.
     DayOutOfReach { group: u32 },
+    /// 7: 200,000 reports are held.
+    ReportsFull { held: u64 },
+    /// 10: no release has that id.
+    NoSuchRelease,
+    /// 12: a test of the plan fails, of that leg.
+    BadPlan { leg: u32, what: PlanWhy },
+    /// 13: no revision is pending (0), or the dispatcher hasn't signed it (2).
+    NotPending { stage: u8 },
+    /// 14: the pending revision has that other number.
+    WrongRevision { current: u64 },
+    /// 17: these rules fail.
+    RuleFails { findings: Findings },
+    /// 18: the release is in a phase that the ask isn't for.
+    WrongPhase { phase: Phase },
+    /// 19: the dispatcher has signed.
+    AlreadySigned,
+    /// 24: the history has 400,000 entries.
+    HistoryFull { entries: u64 },
 }
 
 /// The answer to a request.
@@ -22,6 +47,44 @@ pub enum Refusal {
 pub enum Reply {
     /// It was accepted.
     Done(Done),
+    /// What it asked to see.
+    Seen(Text),
     /// It was refused, and changed nothing.
     Refused(Refusal),
+}
+
+impl Copied for Refusal {
+    fn copy(&self, alloc: Global) -> Result<Refusal, OutOfMemory> {
+        match self {
+            Refusal::BadReport { group, what } => Ok(Refusal::BadReport {
+                group: *group,
+                what: *what,
+            }),
+            Refusal::DayOutOfReach { group } => Ok(Refusal::DayOutOfReach { group: *group }),
+            Refusal::ReportsFull { held } => Ok(Refusal::ReportsFull { held: *held }),
+            Refusal::NoSuchRelease => Ok(Refusal::NoSuchRelease),
+            Refusal::BadPlan { leg, what } => Ok(Refusal::BadPlan {
+                leg: *leg,
+                what: *what,
+            }),
+            Refusal::NotPending { stage } => Ok(Refusal::NotPending { stage: *stage }),
+            Refusal::WrongRevision { current } => Ok(Refusal::WrongRevision { current: *current }),
+            Refusal::RuleFails { findings } => Ok(Refusal::RuleFails {
+                findings: findings.copy(alloc)?,
+            }),
+            Refusal::WrongPhase { phase } => Ok(Refusal::WrongPhase { phase: *phase }),
+            Refusal::AlreadySigned => Ok(Refusal::AlreadySigned),
+            Refusal::HistoryFull { entries } => Ok(Refusal::HistoryFull { entries: *entries }),
+        }
+    }
+}
+
+impl Copied for Reply {
+    fn copy(&self, alloc: Global) -> Result<Reply, OutOfMemory> {
+        match self {
+            Reply::Done(done) => Ok(Reply::Done(*done)),
+            Reply::Seen(text) => Ok(Reply::Seen(text.copy(alloc)?)),
+            Reply::Refused(refusal) => Ok(Reply::Refused(refusal.copy(alloc)?)),
+        }
+    }
 }

@@ -1,5 +1,4 @@
 pub mod Words
-pub mod State
-pub mod Weather
 pub mod Run
+pub mod Weather
 pub mod Answers

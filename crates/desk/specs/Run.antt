@@ -1,59 +1,60 @@
 -- The text of a run: a reply for each line, and the closing text.
-use Rattle.std.specs.Prelude.{ℕ, Bool, not, if◌then◌else◌, List, [], ◌∷◌, ◌++◌, Option, None, Some, codes}
-use Rattle.std.specs.Str.{bytes_eq}
-use Rattle.std.specs.List.{concat}
+use Rattle.std.specs.Prelude.{ℕ, nat_lt, Bool, true, false, List, [], ◌∷◌, ◌++◌, Option, None, Some, codes}
 use Rattle.desk_io.specs.Runs.{runs_between}
-use Rattle.desk_time.specs.Digits.{◌>>=◌}
-use Rattle.desk_time.specs.Moments.{shown}
-use Rattle.codes.specs.Groups.{groups_of, first_of}
 use Rattle.asks.specs.declared.call.Call.{Call}
-use Rattle.asks.specs.declared.call.Ask.{Ask}
-use Rattle.asks.specs.declared.call.Ask.TheVariants.{Admit}
+use Rattle.asks.specs.declared.reply.Reply.{Reply}
 use Rattle.desk_json.specs.Calls.{line_of}
 use Rattle.desk_json.specs.Replies.{reply_text}
-use Rattle.desk.specs.Weather.{weather}
-use Rattle.desk.specs.State.{Desk, start, ticked, reply_to_ask, after_ask}
+use Rattle.machine.specs.State.{State, start}
+use Rattle.machine.specs.Step.{Stepped, stay, do_call, tick_to}
+use Rattle.machine.specs.Texts.{closing}
 
 -- the lines that have a byte
 abbrev pub lines_of : List ℕ → List (List ℕ)
 lines_of bytes = runs_between (10 ∷ []) bytes
 
--- a forecast isn't admitted yet
-abbrev pub is_forecast : Ask → Bool
-is_forecast (Admit text) = bytes_eq (first_of (groups_of text)) (codes "TAF")
+-- A call is made once its tick is, in lane 1. Where the tick is refused, the call gets that refusal.
+abbrev pub once_ticked : Option Reply → State → Call → Stepped
+once_ticked (Some reply) s call = stay s reply
+once_ticked None s call = do_call s 1 call
 
-abbrev pub unless_forecast : ℕ × Call → Option (ℕ × Call)
-unless_forecast line = if is_forecast line.1.ask then None else Some line
+abbrev pub late_call : State → ℕ → Call → Stepped
+late_call s at call = once_ticked (tick_to s 1 at).reply (tick_to s 1 at).state call
 
--- the call of a line that the desk answers
-unfoldable pub call_of : List ℕ → Option (ℕ × Call)
-call_of line = line_of line >>= unless_forecast
+abbrev pub call_by : Bool → State → ℕ → Call → Stepped
+call_by true s at call = late_call s at call
+call_by false s at call = do_call s 1 call
+
+-- a call at a moment: the desk ticks to it first, where it is later
+unfoldable pub call_at : State → ℕ → Call → Stepped
+call_at s at call = call_by (nat_lt s.moment at) s at call
 
 abbrev pub not_built : List ℕ
 not_built = codes "{\"bad\":\"NotBuilt\",\"key\":\"\"}"
 
--- the answer to a line: the reply at its moment, where the desk answers it
-abbrev pub answer_to : Desk → Option (ℕ × Call) → List ℕ
-answer_to d None = not_built
-answer_to d (Some (at, call)) = reply_text (reply_to_ask (ticked d at) call.ask)
+abbrev pub text_of_reply : Option Reply → List ℕ
+text_of_reply None = []
+text_of_reply (Some reply) = reply_text reply
 
-abbrev pub after : Desk → Option (ℕ × Call) → Desk
-after d None = d
-after d (Some (at, call)) = after_ask (ticked d at) call.ask
+-- the answer to a line
+abbrev pub answer_to : State → Option (ℕ × Call) → List ℕ
+answer_to s None = not_built
+answer_to s (Some line) = text_of_reply (call_at s line.0 line.1).reply
 
--- the answers to lines, and the desk after them
-abbrev pub answers : Desk → List (List ℕ) → List ℕ
-answers d [] = []
-answers d (line ∷ lines) = (answer_to d (call_of line) ++ codes "\n") ++ answers (after d (call_of line)) lines
+-- the state after a line
+abbrev pub after_line : State → Option (ℕ × Call) → State
+after_line s None = s
+after_line s (Some line) = (call_at s line.0 line.1).state
 
-abbrev pub desk_after : Desk → List (List ℕ) → Desk
-desk_after d [] = d
-desk_after d (line ∷ lines) = desk_after (after d (call_of line)) lines
+-- the answers to lines, and the state after them
+abbrev pub answers : State → List (List ℕ) → List ℕ
+answers s [] = []
+answers s (line ∷ lines) = (answer_to s (line_of line) ++ codes "\n") ++ answers (after_line s (line_of line)) lines
 
--- the closing text
-unfoldable pub closing : Desk → List ℕ
-closing d = concat (codes "BOARD " ∷ shown d.clock ∷ codes "\n" ∷ weather d.reports ∷ codes "END\n" ∷ [])
+abbrev pub after_lines : State → List (List ℕ) → State
+after_lines s [] = s
+after_lines s (line ∷ lines) = after_lines (after_line s (line_of line)) lines
 
 -- the text of a run of a script
 unfoldable pub run_text : List ℕ → List ℕ
-run_text bytes = answers start (lines_of bytes) ++ closing (desk_after start (lines_of bytes))
+run_text bytes = answers start (lines_of bytes) ++ closing (after_lines start (lines_of bytes))

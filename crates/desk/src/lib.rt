@@ -3,8 +3,8 @@
 
 mod answer;
 mod run;
-mod state;
-mod step;
+#[cfg(test)]
+mod tests;
 mod top;
 mod weather;
 mod words;

@@ -1,64 +1,78 @@
-ghost use Rattle.std.specs.Prelude.{◌≡◌, ◌≤◌, ◌++◌, codes, map, IfOk, IfSome, OnOk};
-ghost use Rattle.desk.specs.Weather.{weather};
+ghost use Rattle.std.specs.Prelude.{◌≡◌, ◌<◌, ◌≤◌, ◌++◌, codes, map, IfOk, IfSome, OnOk};
+ghost use Rattle.asks.specs.Forms.{IsCall, ReplyHasMoment};
+ghost use Rattle.desk_json.specs.Calls.{line_of};
+ghost use Rattle.machine.specs.State.{start};
+ghost use Rattle.machine.specs.Step.{do_call};
+ghost use Rattle.machine.specs.Texts.{closing};
 ghost use Rattle.desk.specs.Run as spec;
-ghost use Rattle.desk.specs.Run.{call_of, answers, desk_after, closing, run_text};
+ghost use Rattle.desk.specs.Run.{call_at, answers, after_lines, run_text};
 
-use crate::state::State;
-use crate::step;
-use crate::weather::push_weather;
-use asks::{Ask, Call};
-use codes::{Groups, first_of};
-use desk_io::{OutOfMemory, push_all, runs_between};
+use asks::{Call, Reply};
+use board::{Board, Installed};
+use desk_io::{OutOfMemory, runs_between};
 use desk_json::{read_line, reply_text};
-use desk_time::{FIRST, LAST, Minute, show};
+use desk_time::{LAST, Minute};
 use std::alloc::Global;
 
-fn is_forecast(alloc: Global, ask: &Ask) -> Result<bool, OutOfMemory>
-    ensures { IfOk result (λ b. b ≡ spec.is_forecast ask.now) }
+// The lane of a script's calls.
+const LANE: u32 = 1;
+
+fn make_call(alloc: Global, board: &mut Board, call: &Call) -> Result<Option<Reply>, OutOfMemory>
+    requires { IsCall call.now.ask }
+    ensures reply { IfOk result (λ r. r ≡ (do_call board.old.state 1 call.now).reply) }
+    ensures state { OnOk result (board.new.state ≡ (do_call board.old.state 1 call.now).state) }
+    ensures shown { IfOk result (λ r. IfSome r ReplyHasMoment) }
 {
-    match ask {
-        Ask::Admit { text } => {
-            let groups = Groups::of(alloc, text.bytes())?;
-            Ok(first_of(groups.as_slice()) == b"TAF".as_slice())
-        }
-    }
+    Ok(board.apply(alloc, LANE, call)?.reply)
 }
 
-#[tactic(auto, unfolding(crate::specs::Run::call_of))]
-fn call_of(alloc: Global, line: &[u8]) -> Result<Option<(Minute, Call)>, OutOfMemory>
-    ensures call { IfOk result (λ c. c ≡ call_of line.now) }
-    ensures range { IfOk result (λ c. IfSome c (λ p. (FIRST ≤ p.0) × (p.0 ≤ LAST))) }
-{
-    match read_line(alloc, line)? {
-        None => Ok(None),
-        Some((at, call)) => {
-            if is_forecast(alloc, &call.ask)? {
-                Ok(None)
-            } else {
-                Ok(Some((at, call)))
-            }
-        }
-    }
-}
-
-fn push_answer(
+fn late_call(
     alloc: Global,
-    state: &mut State,
-    line: Option<(Minute, Call)>,
-    out: &mut Vec<u8>,
-) -> Result<(), OutOfMemory>
-    requires { IfSome line (λ p. p.0 ≤ LAST) }
-    ensures answer { OnOk result (out.new.items ≡ out.old.items ++ spec.answer_to state.old line) }
-    ensures after { OnOk result (state.new ≡ spec.after state.old line) }
+    board: &mut Board,
+    at: Minute,
+    call: &Call,
+) -> Result<Option<Reply>, OutOfMemory>
+    requires later { board.old.state.moment < at }
+    requires within { at ≤ LAST }
+    requires call { IsCall call.now.ask }
+    ensures reply { IfOk result (λ r. r ≡ (spec.late_call board.old.state at call.now).reply) }
+    ensures state { OnOk result (board.new.state ≡ (spec.late_call board.old.state at call.now).state) }
+    ensures shown { IfOk result (λ r. IfSome r ReplyHasMoment) }
 {
-    match line {
-        None => {
-            out.extend_from_slice(b"{\"bad\":\"NotBuilt\",\"key\":\"\"}")?;
-            Ok(())
-        }
-        Some((at, call)) => {
-            state.tick(at);
-            let reply = step::answer(alloc, state, &call.ask)?;
+    let Installed { reply, notices: _ } = board.tick(alloc, LANE, at)?;
+    match reply {
+        Some(reply) => Ok(Some(reply)),
+        None => make_call(alloc, board, call),
+    }
+}
+
+#[tactic(auto, unfolding(crate::specs::Run::call_at))]
+fn call_at(
+    alloc: Global,
+    board: &mut Board,
+    at: Minute,
+    call: &Call,
+) -> Result<Option<Reply>, OutOfMemory>
+    requires within { at ≤ LAST }
+    requires call { IsCall call.now.ask }
+    ensures reply { IfOk result (λ r. r ≡ (call_at board.old.state at call.now).reply) }
+    ensures state { OnOk result (board.new.state ≡ (call_at board.old.state at call.now).state) }
+    ensures shown { IfOk result (λ r. IfSome r ReplyHasMoment) }
+{
+    if board.now() < at {
+        late_call(alloc, board, at, call)
+    } else {
+        make_call(alloc, board, call)
+    }
+}
+
+fn push_reply(alloc: Global, out: &mut Vec<u8>, reply: Option<Reply>) -> Result<(), OutOfMemory>
+    requires { IfSome reply ReplyHasMoment }
+    ensures { OnOk result (out.new.items ≡ out.old.items ++ spec.text_of_reply reply) }
+{
+    match reply {
+        None => Ok(()),
+        Some(reply) => {
             let text = reply_text(alloc, &reply)?;
             out.extend_from_slice(text.bytes())?;
             Ok(())
@@ -66,53 +80,65 @@ fn push_answer(
     }
 }
 
+fn push_answer(
+    alloc: Global,
+    board: &mut Board,
+    line: Option<(Minute, Call)>,
+    out: &mut Vec<u8>,
+) -> Result<(), OutOfMemory>
+    requires within { IfSome line (λ p. p.0 ≤ LAST) }
+    requires form { IfSome line (λ p. IsCall p.1.ask) }
+    ensures answer { OnOk result (out.new.items ≡ out.old.items ++ spec.answer_to board.old.state line) }
+    ensures after { OnOk result (board.new.state ≡ spec.after_line board.old.state line) }
+{
+    match line {
+        None => {
+            out.extend_from_slice(b"{\"bad\":\"NotBuilt\",\"key\":\"\"}")?;
+            Ok(())
+        }
+        Some((at, call)) => {
+            let reply = call_at(alloc, board, at, &call)?;
+            push_reply(alloc, out, reply)
+        }
+    }
+}
+
 fn push_line(
     alloc: Global,
-    state: &mut State,
+    board: &mut Board,
     line: &[u8],
     out: &mut Vec<u8>,
 ) -> Result<(), OutOfMemory>
-    ensures answer { OnOk result (out.new.items ≡ out.old.items ++ (spec.answer_to state.old (call_of line.now) ++ codes "\n")) }
-    ensures after { OnOk result (state.new ≡ spec.after state.old (call_of line.now)) }
+    ensures answer { OnOk result (out.new.items ≡ out.old.items ++ (spec.answer_to board.old.state (line_of line.now) ++ codes "\n")) }
+    ensures after { OnOk result (board.new.state ≡ spec.after_line board.old.state (line_of line.now)) }
 {
-    let call = call_of(alloc, line)?;
-    push_answer(alloc, state, call, out)?;
+    let line = read_line(alloc, line)?;
+    push_answer(alloc, board, line, out)?;
     out.push(b'\n')?;
     Ok(())
 }
 
-fn push_answers(
+pub(crate) fn push_answers(
     alloc: Global,
-    state: &mut State,
+    board: &mut Board,
     lines: &[&[u8]],
     out: &mut Vec<u8>,
 ) -> Result<(), OutOfMemory>
-    ensures answers { OnOk result (out.new.items ≡ out.old.items ++ answers state.old (map (λ x. x.now) lines.now)) }
-    ensures after { OnOk result (state.new ≡ desk_after state.old (map (λ x. x.now) lines.now)) }
+    ensures answers { OnOk result (out.new.items ≡ out.old.items ++ answers board.old.state (map (λ x. x.now) lines.now)) }
+    ensures after { OnOk result (board.new.state ≡ after_lines board.old.state (map (λ x. x.now) lines.now)) }
 {
     for line in lines {
-        push_line(alloc, state, line, out)?;
+        push_line(alloc, board, line, out)?;
     }
     Ok(())
 }
 
-fn weather_text(alloc: Global, state: &State) -> Result<Vec<u8>, OutOfMemory>
-    ensures { IfOk result (λ v. v.items ≡ weather state.now.reports) }
+fn push_closing(alloc: Global, board: &Board, out: &mut Vec<u8>) -> Result<(), OutOfMemory>
+    ensures { OnOk result (out.new.items ≡ out.old.items ++ closing board.now.state) }
 {
-    let mut out = Vec::new(alloc);
-    push_weather(alloc, &mut out, state.reports())?;
-    Ok(out)
-}
-
-#[tactic(auto, unfolding(crate::specs::Run::closing))]
-fn push_closing(alloc: Global, state: &State, out: &mut Vec<u8>) -> Result<(), OutOfMemory>
-    ensures { OnOk result (out.new.items ≡ out.old.items ++ closing state.now) }
-{
-    let lines = weather_text(alloc, state)?;
-    push_all(
-        out,
-        &[b"BOARD ", &show(state.clock()), b"\n", &lines, b"END\n"],
-    )
+    let text = board.closing(alloc)?;
+    out.extend_from_slice(text.bytes())?;
+    Ok(())
 }
 
 /// The text of a run of a script: a reply for each line that has a byte, and the closing text.
@@ -121,9 +147,9 @@ pub fn text_of_run(alloc: Global, script: &[u8]) -> Result<Vec<u8>, OutOfMemory>
     ensures { IfOk result (λ v. v.items ≡ run_text script.now) }
 {
     let lines = runs_between(alloc, b"\n", script)?;
-    let mut state = State::new(alloc);
+    let mut board = Board::new(alloc);
     let mut out = Vec::new(alloc);
-    push_answers(alloc, &mut state, &lines, &mut out)?;
-    push_closing(alloc, &state, &mut out)?;
+    push_answers(alloc, &mut board, &lines, &mut out)?;
+    push_closing(alloc, &board, &mut out)?;
     Ok(out)
 }

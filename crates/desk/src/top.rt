@@ -2,7 +2,7 @@ ghost use Rattle.std.specs.Prelude.{◌≢◌, map, string_bytes, IfSome};
 ghost use Rattle.desk_io.specs.Causes.{Rose};
 ghost use Rattle.desk_io.specs.Told.{HoldsName};
 ghost use Rattle.desk.specs.Words.{command_of};
-ghost use Rattle.desk.specs.Answers.{Says, Ends};
+ghost use Rattle.desk.specs.Answers.{Says, Ends, source_of};
 
 use crate::answer::answer_to;
 use desk_io::{PutFault, Shelf, Sink};
@@ -10,7 +10,8 @@ use std::alloc::Global;
 
 /// Does what the words ask, and answers the status of the program.
 ///
-/// - 0: the script was read to its end, and the text of its run was written.
+/// - 0: the source was read to its end, and what is said of it was written: of `run SCRIPT` a reply for
+///   each line and the closing text, of `weather FILE` a line for each report.
 /// - 2: exactly where the words form no command; `error 2 Usage` is written.
 /// - 3: only where the shelf's count of faults rose; `error 3 ReadFault NAME`.
 /// - 4: only where the sink's count of faults rose; it gained a front of the text.
@@ -22,7 +23,7 @@ pub fn desk_main<S: Shelf, O: Sink>(
     shelf: &mut S,
     out: &mut O,
 ) -> u8
-    ensures complete { S.sound shelf.old → O.sound out.old → IfSome (command_of (map string_bytes words.now)) (HoldsName (S.sources shelf.old))
+    ensures complete { S.sound shelf.old → O.sound out.old → IfSome (source_of (command_of (map string_bytes words.now))) (HoldsName (S.sources shelf.old))
         → (result ≢ 3) × (result ≢ 4) }
     ensures ends { Ends (Says (S.sources shelf.old) (Rose (S.fault_count shelf.old) (S.fault_count shelf.new)) (command_of (map string_bytes words.now)))
         (Rose (O.fault_count out.old) (O.fault_count out.new)) (O.content out.old) (O.content out.new) result }

@@ -1,181 +1,108 @@
-ghost use Rattle.std.specs.Prelude.{◌≡◌, ◌≤◌, ◌<◌, ◌++◌, ◌∷◌, [], codes, decimal, map, IfOk, IfSome, OnOk, MatchOption, insert, take, drop, length};
-ghost use Rattle.std.specs.Prelude.{string_bytes};
-ghost use Rattle.std.specs.List.{concat};
-ghost use Rattle.std.specs.Option.{option_map, option_copied};
+ghost use Rattle.std.specs.Prelude.{◌≡◌, ◌≤◌, ◌++◌, map, IfOk, IfSome, OnOk};
+ghost use Rattle.std.specs.Option.{option_map};
+ghost use Rattle.facts.specs.Reading.{read_of, ReadHasMoments};
 ghost use Rattle.desk.specs.Weather as spec;
+ghost use Rattle.desk.specs.Weather.{weather_text};
 
-use crate::state::Report;
-use codes::Cond;
-use desk_io::{OutOfMemory, push_all};
-use desk_time::{FIRST, LAST, show};
-use metar::Metar;
+use codes::{BadReport, ReportFault};
+use desk_io::{OutOfMemory, Text, push_all, runs_between};
+use desk_json::why_name;
+use desk_time::{FIRST, LAST, Minute, read_minute};
+use facts::{Read, Report, push_line, read_report};
 use std::alloc::Global;
-use std::cmp::Ordering;
 
-// The place of a text in a sorted list, unless it is there.
-fn place_of(found: &[[u8; 4]], text: [u8; 4]) -> Option<usize>
-    ensures place { MatchOption result (spec.with_text text found.now ≡ found.now) (λ i. spec.with_text text found.now ≡ insert found.now i text) }
-    ensures bound { IfSome result (λ i. i ≤ length found.now) }
+// The moment in front of a line, and what stands after the blank that follows it.
+fn stamped(line: &[u8]) -> Option<(Minute, &[u8])>
+    ensures value { option_map (λ p. (p.0, p.1.now)) result ≡ spec.stamped line.now }
+    ensures range { IfSome result (λ p. (FIRST ≤ p.0) × (p.0 ≤ LAST)) }
 {
-    for (i, other) in found.iter().enumerate() {
-        match text.cmp(other) {
-            Ordering::Less => return Some(i),
-            Ordering::Equal => return None,
-            Ordering::Greater => {}
-        }
+    if line.len() < 18 || line[17] != b' ' {
+        return None;
     }
-    Some(found.len())
+    let at = read_minute(&line[..17])?;
+    Some((at, &line[18..]))
 }
 
-fn stations(alloc: Global, reports: &[Report]) -> Result<Vec<[u8; 4]>, OutOfMemory>
-    ensures { IfOk result (λ v. v.items ≡ spec.stations [] reports.now) }
+fn push_fault(alloc: Global, out: &mut Vec<u8>, group: u32, why: &str) -> Result<(), OutOfMemory>
+    ensures { OnOk result (out.new.items ≡ out.old.items ++ spec.fault_line group why.now) }
 {
-    let mut found = Vec::new(alloc);
-    for report in reports {
-        let bytes = report.metar.station.bytes;
-        if let Some(place) = place_of(&found, bytes) {
-            found.insert(place, bytes)?;
-        }
-    }
-    Ok(found)
-}
-
-fn later(a: Option<Report>, b: Option<Report>) -> Option<Report>
-    requires { IfSome a spec.IsShown × IfSome b spec.IsShown }
-    ensures value { result ≡ spec.later a b }
-    ensures shown { IfSome result spec.IsShown }
-{
-    match (a, b) {
-        (None, _) => b,
-        (Some(_), None) => a,
-        (Some(x), Some(y)) => {
-            if y.metar.observed < x.metar.observed {
-                a
-            } else {
-                b
-            }
-        }
-    }
-}
-
-fn of_station(station: [u8; 4], report: Report) -> Option<Report>
-    requires { spec.IsShown report }
-    ensures value { result ≡ spec.of_station station report }
-    ensures shown { IfSome result spec.IsShown }
-{
-    if report.metar.station.bytes == station {
-        Some(report)
-    } else {
-        None
-    }
-}
-
-fn latest(station: [u8; 4], reports: &[Report]) -> Option<Report>
-    requires { spec.AllShown reports.now }
-    ensures value { result ≡ spec.latest station reports.now }
-    ensures shown { IfSome result spec.IsShown }
-{
-    let mut best = None;
-    for report in reports {
-        best = later(best, of_station(station, *report));
-    }
-    best
-}
-
-fn value_text(alloc: Global, value: Option<u32>) -> Result<String, OutOfMemory>
-    ensures { IfOk result (λ s. string_bytes s ≡ spec.value_text value) }
-{
-    match value {
-        None => Ok(String::from_str(alloc, "-")?),
-        Some(n) => Ok(n.to_string(alloc)?),
-    }
-}
-
-fn push_cond(alloc: Global, out: &mut Vec<u8>, cond: Cond, unread: u32) -> Result<(), OutOfMemory>
-    ensures { OnOk result (out.new.items ≡ out.old.items ++ spec.cond_text cond unread) }
-{
-    let ceiling = value_text(alloc, cond.ceiling)?;
-    let vis = value_text(alloc, cond.vis)?;
-    let unread = unread.to_string(alloc)?;
+    let group = group.to_string(alloc)?;
     push_all(
         out,
-        &[
-            b" ceiling ",
-            ceiling.as_bytes(),
-            b" vis ",
-            vis.as_bytes(),
-            b" unread ",
-            unread.as_bytes(),
-        ],
+        &[b"bad ", group.as_bytes(), b" ", why.as_bytes(), b"\n"],
     )
 }
 
-fn metar_text(alloc: Global, metar: Metar) -> Result<Vec<u8>, OutOfMemory>
-    ensures { IfOk result (λ v. v.items ≡ spec.metar_text metar) }
+fn reading_of(
+    alloc: Global,
+    text: &[u8],
+    receipt: Minute,
+) -> Result<Result<Read, BadReport>, OutOfMemory>
+    requires low { FIRST ≤ receipt }
+    requires high { receipt ≤ LAST }
+    ensures value { IfOk result (λ r. r ≡ read_of text.now receipt) }
+    ensures moments { IfOk result (λ r. IfOk r ReadHasMoments) }
 {
-    let mut out = Vec::new(alloc);
-    if metar.nil {
-        out.extend_from_slice(b" NIL")?;
-    } else {
-        push_cond(alloc, &mut out, metar.cond, metar.unread)?;
-    }
-    Ok(out)
-}
-
-#[tactic(auto, unfolding(crate::specs::Weather::line_of))]
-fn push_line(alloc: Global, out: &mut Vec<u8>, report: Report) -> Result<(), OutOfMemory>
-    requires low { FIRST ≤ report.metar.observed }
-    requires high { report.metar.observed ≤ LAST }
-    ensures { OnOk result (out.new.items ≡ out.old.items ++ spec.line_of report) }
-{
-    let id = report.id.to_string(alloc)?;
-    let rest = metar_text(alloc, report.metar)?;
-    let observed = show(report.metar.observed);
-    push_all(
-        out,
-        &[
-            &report.metar.station.bytes,
-            b" METAR ",
-            id.as_bytes(),
-            b" ",
-            &observed,
-            &rest,
-            b"\n",
-        ],
-    )
-}
-
-fn push_latest(alloc: Global, out: &mut Vec<u8>, report: Option<Report>) -> Result<(), OutOfMemory>
-    requires { IfSome report spec.IsShown }
-    ensures { OnOk result (out.new.items ≡ out.old.items ++ spec.line_of_latest report) }
-{
-    match report {
-        None => Ok(()),
-        Some(report) => push_line(alloc, out, report),
+    match read_report(alloc, text, receipt) {
+        Ok(read) => Ok(Ok(read)),
+        Err(ReportFault::Bad(bad)) => Ok(Err(bad)),
+        Err(ReportFault::OutOfMemory) => Err(OutOfMemory),
     }
 }
 
-fn push_lines(
+fn push_reading(
     alloc: Global,
     out: &mut Vec<u8>,
-    stations: &[[u8; 4]],
-    reports: &[Report],
+    at: Minute,
+    reading: Result<Read, BadReport>,
 ) -> Result<(), OutOfMemory>
-    requires { spec.AllShown reports.now }
-    ensures { OnOk result (out.new.items ≡ out.old.items ++ spec.lines_for stations.now reports.now) }
+    requires low { FIRST ≤ at }
+    requires high { at ≤ LAST }
+    requires moments { IfOk reading ReadHasMoments }
+    ensures { OnOk result (out.new.items ≡ out.old.items ++ spec.shown_reading at reading) }
 {
-    for station in stations {
-        push_latest(alloc, out, latest(*station, reports))?;
+    match reading {
+        Err(bad) => push_fault(alloc, out, bad.group, why_name(bad.why)),
+        Ok(read) => {
+            let report = Report {
+                id: 0,
+                received: at,
+                text: Text::from_vec(Vec::new(alloc)),
+                read,
+            };
+            push_line(alloc, out, &report)
+        }
+    }
+}
+
+fn push_report(alloc: Global, out: &mut Vec<u8>, line: &[u8]) -> Result<(), OutOfMemory>
+    ensures { OnOk result (out.new.items ≡ out.old.items ++ spec.shown_report (spec.stamped line.now)) }
+{
+    match stamped(line) {
+        None => push_fault(alloc, out, 0, "Missing"),
+        Some((at, text)) => {
+            let reading = reading_of(alloc, text, at)?;
+            push_reading(alloc, out, at, reading)
+        }
+    }
+}
+
+fn push_lines(alloc: Global, out: &mut Vec<u8>, lines: &[&[u8]]) -> Result<(), OutOfMemory>
+    ensures { OnOk result (out.new.items ≡ out.old.items ++ spec.shown_lines (map (λ x. x.now) lines.now)) }
+{
+    for line in lines {
+        push_report(alloc, out, line)?;
     }
     Ok(())
 }
 
-/// Writes the weather lines of all stations with a report, in byte order.
-#[tactic(auto, unfolding(crate::specs::Weather::weather))]
-pub fn push_weather(alloc: Global, out: &mut Vec<u8>, reports: &[Report]) -> Result<(), OutOfMemory>
-    requires { spec.AllShown reports.now }
-    ensures { OnOk result (out.new.items ≡ out.old.items ++ spec.weather reports.now) }
+/// What is said of a file of reports: the weather line of each, or its first fault.
+#[tactic(auto, unfolding(crate::specs::Weather::weather_text))]
+pub fn text_of_weather(alloc: Global, file: &[u8]) -> Result<Vec<u8>, OutOfMemory>
+    ensures { IfOk result (λ v. v.items ≡ weather_text file.now) }
 {
-    let stations = stations(alloc, reports)?;
-    push_lines(alloc, out, &stations, reports)
+    let lines = runs_between(alloc, b"\n", file)?;
+    let mut out = Vec::new(alloc);
+    push_lines(alloc, &mut out, &lines)?;
+    Ok(out)
 }

@@ -1,6 +1,6 @@
 -- The calls that the lines of a script make.
 -- A line is an object of the keys actor, ask, at, key and number, and no other.
-use Rattle.std.specs.Prelude.{ℕ, Bool, ◌&&◌, if◌then◌else◌, List, [], ◌∷◌, Option, None, Some, codes}
+use Rattle.std.specs.Prelude.{ℕ, Bool, ◌&&◌, if◌then◌else◌, List, [], ◌∷◌, Option, None, Some, codes, option_and_then}
 use Rattle.std.specs.Str.{bytes_eq}
 use Rattle.serde_json.specs.Data.{Data}
 use Rattle.serde_json.specs.Find.{get}
@@ -8,15 +8,53 @@ use Rattle.desk_time.specs.Digits.{◌>>=◌}
 use Rattle.desk_time.specs.Moments.{minute_of}
 use Rattle.asks.specs.declared.call.Call.{Call}
 use Rattle.asks.specs.declared.call.Ask.{Ask}
-use Rattle.asks.specs.declared.call.Ask.TheVariants.{Admit}
+use Rattle.asks.specs.declared.call.Ask.TheVariants.{Admit, Draft, Sign, Concur, Cancel, ViewAlerts}
+use Rattle.desk_json.specs.Plans.{plan_of}
 use Rattle.desk_json.specs.Fields.{data_of, text_at, number_at, short_at, has_members}
 
 -- to admit a text, which may be any
 abbrev pub admit_of : Data → Option Ask
 admit_of d = text_at (codes "text") d >>= λ text. if has_members 2 d then Some (Admit text) else None
 
+-- to draft a release for a plan
+abbrev pub draft_of : Data → Option Ask
+draft_of d = option_and_then plan_of (get (codes "plan") d) >>= λ plan. if has_members 2 d then Some (Draft plan) else None
+
+-- the id of a release, or the number of a revision
+abbrev pub id_at : List ℕ → Data → Option ℕ
+id_at key d = number_at key 1_000_000_000_000_000 d
+
+-- to sign a revision
+abbrev pub sign_of : Data → Option Ask
+sign_of d =
+    id_at (codes "release") d >>= λ release. id_at (codes "revision") d >>= λ revision.
+    if has_members 3 d then Some (Sign release revision) else None
+
+-- to concur with a revision
+abbrev pub concur_of : Data → Option Ask
+concur_of d =
+    id_at (codes "release") d >>= λ release. id_at (codes "revision") d >>= λ revision.
+    if has_members 3 d then Some (Concur release revision) else None
+
+-- to cancel a release
+abbrev pub cancel_of : Data → Option Ask
+cancel_of d = id_at (codes "release") d >>= λ release. if has_members 2 d then Some (Cancel release) else None
+
+-- to see the open alerts
+abbrev pub alerts_of : Data → Option Ask
+alerts_of d = if has_members 1 d then Some ViewAlerts else None
+
+abbrev pub ask_on_release : List ℕ → Data → Option Ask
+ask_on_release name d =
+    if bytes_eq name (codes "sign") then sign_of d
+    else (if bytes_eq name (codes "concur") then concur_of d
+    else (if bytes_eq name (codes "cancel") then cancel_of d else None))
+
 abbrev pub ask_named : List ℕ → Data → Option Ask
-ask_named name d = if bytes_eq name (codes "admit") then admit_of d else None
+ask_named name d =
+    if bytes_eq name (codes "admit") then admit_of d
+    else (if bytes_eq name (codes "draft") then draft_of d
+    else (if bytes_eq name (codes "alerts") then alerts_of d else ask_on_release name d))
 
 -- an object of do, which names the ask, and the keys of that ask
 abbrev pub ask_of : Data → Option Ask

@@ -1,5 +1,5 @@
 -- The fields of JSON objects, as `serde_json` reads them.
-use Rattle.std.specs.Prelude.{ℕ, Bool, ◌==◌, nat_le, if◌then◌else◌, false, List, [], ◌∷◌, length, Option, None, Some, codes, option_and_then}
+use Rattle.std.specs.Prelude.{ℕ, Bool, ◌==◌, nat_le, if◌then◌else◌, false, List, length, Option, None, Some, option_and_then}
 use Rattle.std.specs.Str.Lossy.{utf8_valid_len}
 use Rattle.serde_json.specs.Data.{Data, Members}
 use Rattle.serde_json.specs.Events.{members_len}

@@ -1,3 +1,4 @@
 pub mod Fields
+pub mod Plans
 pub mod Calls
 pub mod Replies

@@ -1,17 +1,24 @@
-ghost use Rattle.std.specs.Prelude.{◌≡◌, ◌≤◌, IfOk, IfSome};
+ghost use Rattle.std.specs.Prelude.{◌≡◌, ◌≤◌, IfOk, IfSome, codes, option_and_then};
 ghost use Rattle.serde_json.specs.View.{view};
+ghost use Rattle.serde_json.specs.Find.{get};
+ghost use Rattle.plan.specs.Check.{HasFewLegs};
+ghost use Rattle.asks.specs.Forms.{IsCall};
+ghost use Rattle.desk_json.specs.Plans.{plan_of};
 ghost use Rattle.desk_json.specs.Calls as spec;
 ghost use Rattle.desk_json.specs.Calls.{line_of};
 
 use crate::fields::{data_of, has_members, number_at, short_at, text_at};
+use crate::plans::read_plan;
 use asks::{Ask, Call};
 use desk_io::{OutOfMemory, Text};
 use desk_time::{FIRST, LAST, Minute, read_minute};
+use plan::Plan;
 use serde_json::Value;
 use std::alloc::Global;
 
 fn admit_of(alloc: Global, value: &Value) -> Result<Option<Ask>, OutOfMemory>
-    ensures { IfOk result (λ a. a ≡ spec.admit_of (view value.now)) }
+    ensures form { IfOk result (λ a. IfSome a IsCall) }
+    ensures value { IfOk result (λ a. a ≡ spec.admit_of (view value.now)) }
 {
     match text_at("text", value) {
         Some(text) if has_members(2, value) => Ok(Some(Ask::Admit {
@@ -21,17 +28,125 @@ fn admit_of(alloc: Global, value: &Value) -> Result<Option<Ask>, OutOfMemory>
     }
 }
 
-fn ask_of(alloc: Global, value: &Value) -> Result<Option<Ask>, OutOfMemory>
-    ensures { IfOk result (λ a. a ≡ spec.ask_of (view value.now)) }
+fn plan_at(alloc: Global, value: &Value) -> Result<Option<Plan>, OutOfMemory>
+    ensures value { IfOk result (λ p. p ≡ option_and_then plan_of (get (codes "plan") (view value.now))) }
+    ensures legs { IfOk result (λ p. IfSome p HasFewLegs) }
 {
-    match text_at("do", value) {
-        Some("admit") => admit_of(alloc, value),
+    match value.get("plan") {
+        Some(plan) => read_plan(alloc, plan),
+        None => Ok(None),
+    }
+}
+
+fn draft_of(alloc: Global, value: &Value) -> Result<Option<Ask>, OutOfMemory>
+    ensures value { IfOk result (λ a. a ≡ spec.draft_of (view value.now)) }
+    ensures form { IfOk result (λ a. IfSome a IsCall) }
+{
+    match plan_at(alloc, value)? {
+        Some(plan) if has_members(2, value) => Ok(Some(Ask::Draft { plan })),
         _ => Ok(None),
     }
 }
 
+fn id_at(key: &str, value: &Value) -> Option<u64>
+    ensures { result ≡ spec.id_at key.now (view value.now) }
+{
+    number_at(key, 1_000_000_000_000_000, value)
+}
+
+fn sign_of(value: &Value) -> Option<Ask>
+    ensures value { result ≡ spec.sign_of (view value.now) }
+    ensures form { IfSome result IsCall }
+{
+    let release = id_at("release", value)?;
+    let revision = id_at("revision", value)?;
+    if has_members(3, value) {
+        Some(Ask::Sign { release, revision })
+    } else {
+        None
+    }
+}
+
+fn concur_of(value: &Value) -> Option<Ask>
+    ensures value { result ≡ spec.concur_of (view value.now) }
+    ensures form { IfSome result IsCall }
+{
+    let release = id_at("release", value)?;
+    let revision = id_at("revision", value)?;
+    if has_members(3, value) {
+        Some(Ask::Concur { release, revision })
+    } else {
+        None
+    }
+}
+
+fn cancel_of(value: &Value) -> Option<Ask>
+    ensures value { result ≡ spec.cancel_of (view value.now) }
+    ensures form { IfSome result IsCall }
+{
+    let release = id_at("release", value)?;
+    if has_members(2, value) {
+        Some(Ask::Cancel { release })
+    } else {
+        None
+    }
+}
+
+fn alerts_of(value: &Value) -> Option<Ask>
+    ensures value { result ≡ spec.alerts_of (view value.now) }
+    ensures form { IfSome result IsCall }
+{
+    if has_members(1, value) {
+        Some(Ask::ViewAlerts)
+    } else {
+        None
+    }
+}
+
+fn ask_on_release(name: &str, value: &Value) -> Option<Ask>
+    ensures value { result ≡ spec.ask_on_release name.now (view value.now) }
+    ensures form { IfSome result IsCall }
+{
+    if name == "sign" {
+        sign_of(value)
+    } else if name == "concur" {
+        concur_of(value)
+    } else if name == "cancel" {
+        cancel_of(value)
+    } else {
+        None
+    }
+}
+
+fn ask_named(alloc: Global, name: &str, value: &Value) -> Result<Option<Ask>, OutOfMemory>
+    ensures form { IfOk result (λ a. IfSome a IsCall) }
+    ensures value { IfOk result (λ a. a ≡ spec.ask_named name.now (view value.now)) }
+{
+    if name == "admit" {
+        admit_of(alloc, value)
+    } else if name == "draft" {
+        draft_of(alloc, value)
+    } else if name == "alerts" {
+        Ok(alerts_of(value))
+    } else {
+        Ok(ask_on_release(name, value))
+    }
+}
+
+fn ask_of(alloc: Global, value: &Value) -> Result<Option<Ask>, OutOfMemory>
+    ensures form { IfOk result (λ a. IfSome a IsCall) }
+    ensures value { IfOk result (λ a. a ≡ spec.ask_of (view value.now)) }
+{
+    match text_at("do", value) {
+        Some(name) => ask_named(alloc, name, value),
+        None => Ok(None),
+    }
+}
+
 fn asked_by(alloc: Global, value: &Value, ask: Ask) -> Result<Option<Call>, OutOfMemory>
-    ensures { IfOk result (λ c. c ≡ spec.asked_by (view value.now) ask) }
+    requires { IsCall ask }
+    ensures value { IfOk result (λ c. c ≡ spec.asked_by (view value.now) ask) }
+    ensures form { IfOk result (λ c. IfSome c (λ call. IsCall call.ask)) }
 {
     let Some(actor) = short_at("actor", value) else {
         return Ok(None);
@@ -51,7 +166,8 @@ fn asked_by(alloc: Global, value: &Value, ask: Ask) -> Result<Option<Call>, OutO
 }
 
 fn call_in(alloc: Global, value: &Value) -> Result<Option<Call>, OutOfMemory>
-    ensures { IfOk result (λ c. c ≡ spec.call_in (view value.now)) }
+    ensures value { IfOk result (λ c. c ≡ spec.call_in (view value.now)) }
+    ensures form { IfOk result (λ c. IfSome c (λ call. IsCall call.ask)) }
 {
     let Some(ask) = value.get("ask") else {
         return Ok(None);
@@ -72,6 +188,7 @@ fn at_of(value: &Value) -> Option<Minute>
 fn line_in(alloc: Global, value: &Value) -> Result<Option<(Minute, Call)>, OutOfMemory>
     ensures line { IfOk result (λ l. l ≡ spec.line_in (view value.now)) }
     ensures range { IfOk result (λ l. IfSome l (λ p. (FIRST ≤ p.0) × (p.0 ≤ LAST))) }
+    ensures form { IfOk result (λ l. IfSome l (λ p. IsCall p.1.ask)) }
 {
     let Some(at) = at_of(value) else {
         return Ok(None);
@@ -88,6 +205,7 @@ fn line_in(alloc: Global, value: &Value) -> Result<Option<(Minute, Call)>, OutOf
 pub fn read_line(alloc: Global, line: &[u8]) -> Result<Option<(Minute, Call)>, OutOfMemory>
     ensures line { IfOk result (λ l. l ≡ line_of line.now) }
     ensures range { IfOk result (λ l. IfSome l (λ p. (FIRST ≤ p.0) × (p.0 ≤ LAST))) }
+    ensures form { IfOk result (λ l. IfSome l (λ p. IsCall p.1.ask)) }
 {
     match data_of(alloc, line)? {
         Some(value) => line_in(alloc, &value),

@@ -1,7 +1,6 @@
-use Rattle.std.proofs.Common.{◌≡◌, length, sym, ◌∙◌, ap, refl, eq-eqb}
+use Rattle.std.proofs.Common.{length, sym, eq-eqb}
 use Rattle.std.specs.Str.Lossy.{utf8_valid_len}
 use Rattle.std.proofs.lemmas.Str.{utf8_valid_len-IsUtf8}
-use Rattle.serde_json.specs.Read.{read}
 use Rattle.desk_json.proofs.fields.data_of.Goals as goal
 
 pub returns-in-Ok-from_str : goal.returns-in-Ok-from_str

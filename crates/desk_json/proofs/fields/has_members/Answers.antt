@@ -1,4 +1,4 @@
-use Rattle.std.proofs.Common.{◌≡◌, sym, ◌∙◌, ap, refl}
+use Rattle.std.proofs.Common.{ap, refl}
 use Rattle.serde_json.proofs.Views.{members_len-members_view}
 use Rattle.desk_json.specs.Fields.{is_length}
 use Rattle.desk_json.proofs.fields.has_members.Goals as goal

@@ -1,0 +1,43 @@
+-- The alert of a release after a judgement.
+use Rattle.std.specs.Prelude.{◌≡◌, ℕ, ◌+◌, Bool, ◌&&◌, true, false, if◌then◌else◌, List, [], ◌∷◌, Option, None, Some}
+use Rattle.plan.specs.declared.findings.Finding.{Finding}
+use Rattle.plan.specs.Findings.{is_same, is_before}
+use Rattle.alerts.specs.declared.alert.Alert.{Alert}
+
+-- the same findings in the same order
+abbrev pub are_same : List Finding → List Finding → Bool
+are_same [] [] = true
+are_same [] (g ∷ gs) = false
+are_same (f ∷ fs) [] = false
+are_same (f ∷ fs) (g ∷ gs) = is_same f g && are_same fs gs
+
+-- findings in order, with one more in its place
+abbrev pub with_finding : Finding → List Finding → List Finding
+with_finding f [] = f ∷ []
+with_finding f (g ∷ gs) = if is_before f g then f ∷ g ∷ gs else (if is_same f g then g ∷ gs else g ∷ with_finding f gs)
+
+-- findings in order, with others in their places
+abbrev pub with_findings : List Finding → List Finding → List Finding
+with_findings ever [] = ever
+with_findings ever (f ∷ fs) = with_findings (with_finding f ever) fs
+
+-- a new alert, which names the rules that fail
+abbrev pub opened_alert : ℕ → List ℕ → List Finding → ℕ → Alert
+opened_alert release desk findings moment =
+    record { release = release; desk = desk; version = 1; opened = moment; failing = findings; ever = findings; acknowledged = false }
+
+-- The alert once other rules fail: its version rises, it names these rules and keeps those that it
+-- ever named, and its acknowledgement falls.
+abbrev pub changed_alert : Alert → List Finding → Alert
+changed_alert a findings = record a { version = a.version + 1; failing = findings; ever = with_findings a.ever findings; acknowledged = false }
+
+-- an alert that is open stays open, and stays as it is where the same rules fail
+abbrev pub alert_once_open : Bool → Alert → List Finding → Alert
+alert_once_open true a findings = a
+alert_once_open false a findings = changed_alert a findings
+
+-- There is none where none was open and no rule fails.
+abbrev pub alert_after : Option Alert → ℕ → List ℕ → List Finding → ℕ → Option Alert
+alert_after None release desk [] moment = None
+alert_after None release desk (f ∷ fs) moment = Some (opened_alert release desk (f ∷ fs) moment)
+alert_after (Some a) release desk findings moment = Some (alert_once_open (are_same a.failing findings) a findings)

@@ -1,0 +1,4 @@
+pub mod Each
+pub mod Judging
+pub mod Deciding
+pub mod Boards

@@ -1,0 +1,6 @@
+pub mod State
+pub mod Texts
+pub mod Decide
+pub mod Step
+pub mod Legal
+pub mod Sound

@@ -1,0 +1,93 @@
+-- The texts that show what the desk holds. Every line ends in a line feed.
+use Rattle.std.specs.Prelude.{ℕ, Bool, if◌then◌else◌, List, [], ◌∷◌, ◌++◌, Option, None, Some, codes, decimal}
+use Rattle.std.specs.List.{concat}
+use Rattle.desk_time.specs.Moments.{shown}
+use Rattle.facts.specs.Lines.{weather}
+use Rattle.plan.specs.Texts.{finding_text, phase_text}
+use Rattle.plan.specs.declared.findings.Finding.{Finding}
+use Rattle.plan.specs.declared.release.Release.{Release}
+use Rattle.plan.specs.declared.release.Revision.{Revision}
+use Rattle.alerts.specs.declared.alert.Alert.{Alert}
+use Rattle.machine.specs.State.{State, alert_at}
+
+-- each finding after a blank
+abbrev pub spaced_findings : List Finding → List ℕ
+spaced_findings [] = []
+spaced_findings (f ∷ fs) = (codes " " ++ finding_text f) ++ spaced_findings fs
+
+-- findings after a blank each, or the word none
+unfoldable pub findings_text : List Finding → List ℕ
+findings_text [] = codes " none"
+findings_text (f ∷ fs) = spaced_findings (f ∷ fs)
+
+abbrev pub mark_text : Bool → List ℕ
+mark_text acknowledged = if acknowledged then codes "ack" else codes "open"
+
+-- an alert's release, its dispatcher and its version
+abbrev pub alert_head : Alert → List ℕ
+alert_head a = concat (decimal a.release ∷ codes " " ∷ a.desk ∷ codes " v" ∷ decimal a.version ∷ [])
+
+-- when it was opened, and whether it is acknowledged
+abbrev pub opening_text : Alert → List ℕ
+opening_text a = concat (codes " " ∷ shown a.opened ∷ codes " " ∷ mark_text a.acknowledged ∷ [])
+
+-- what fails, and what ever failed
+abbrev pub failing_text : Alert → List ℕ
+failing_text a = concat (findings_text a.failing ∷ codes " ever" ∷ findings_text a.ever ∷ codes "\n" ∷ [])
+
+-- the line of an alert
+unfoldable pub alert_line : Alert → List ℕ
+alert_line a = alert_head a ++ opening_text a ++ failing_text a
+
+abbrev pub alert_lines : List Alert → List ℕ
+alert_lines [] = []
+alert_lines (a ∷ rest) = alert_line a ++ alert_lines rest
+
+-- the alerts that stand open
+unfoldable pub alerts_view : ℕ → List Alert → List ℕ
+alerts_view moment alerts = concat (codes "ALERTS " ∷ shown moment ∷ codes "\n" ∷ alert_lines alerts ∷ [])
+
+abbrev pub number_of : Option Revision → ℕ
+number_of None = 0
+number_of (Some v) = v.number
+
+-- the newest revision: the pending one, or else the active one
+abbrev pub newest : Option Revision → Option Revision → Option Revision
+newest (Some v) active = Some v
+newest None active = active
+
+-- the flight and the aircraft of a revision
+abbrev pub flight_text : Option Revision → List ℕ
+flight_text None = codes "- -"
+flight_text (Some v) = v.plan.flight ++ codes " " ++ v.plan.tail
+
+abbrev pub alert_text : Option Alert → List ℕ
+alert_text None = codes "-"
+alert_text (Some a) = concat (codes "ALERT v" ∷ decimal a.version ∷ codes " " ∷ mark_text a.acknowledged ∷ findings_text a.failing ∷ [])
+
+-- a release's id, flight, aircraft and phase
+abbrev pub release_head : Release → List ℕ
+release_head r = concat (decimal r.id ∷ codes " " ∷ flight_text (newest r.pending r.active) ∷ codes " " ∷ phase_text r.phase ∷ [])
+
+-- the numbers of its active and of its pending revision
+abbrev pub numbers_text : Release → List ℕ
+numbers_text r = concat (codes " rev " ∷ decimal (number_of r.active) ∷ codes " pending " ∷ decimal (number_of r.pending) ∷ codes " " ∷ [])
+
+-- its dispatcher and its alert
+abbrev pub desk_text : Release → Option Alert → List ℕ
+desk_text r alert = concat (r.holder ∷ codes " " ∷ alert_text alert ∷ codes "\n" ∷ [])
+
+-- the line of a release
+unfoldable pub release_line : Release → Option Alert → List ℕ
+release_line r alert = release_head r ++ numbers_text r ++ desk_text r alert
+
+abbrev pub release_lines : List Alert → List Release → List ℕ
+release_lines alerts [] = []
+release_lines alerts (r ∷ rest) = release_line r (alert_at r.id alerts) ++ release_lines alerts rest
+
+abbrev pub board_head : ℕ → List ℕ
+board_head moment = concat (codes "BOARD " ∷ shown moment ∷ codes "\n" ∷ [])
+
+-- the closing text: the releases, and the weather of all stations that have a report
+unfoldable pub closing : State → List ℕ
+closing s = board_head s.moment ++ release_lines s.alerts s.releases ++ weather s.reports ++ codes "END\n"

@@ -1,0 +1,29 @@
+-- The reports that are held, and one that comes after them.
+use Rattle.std.specs.Prelude.{Bool, true, false, ◌&&◌, if◌then◌else◌, List, ◌++◌, option_to_list, Option, None, Some}
+use Rattle.std.specs.Str.{bytes_eq}
+use Rattle.codes.specs.declared.station.Station.{Station}
+use Rattle.facts.specs.declared.report.Read.{Read}
+use Rattle.facts.specs.declared.report.Read.TheVariants as read
+use Rattle.facts.specs.declared.report.Report.{Report}
+use Rattle.facts.specs.Same.{station_of_report}
+use Rattle.facts.specs.Latest.{later}
+
+abbrev pub is_metar : Read → Bool
+is_metar (read.Metar metar) = true
+is_metar (read.Taf taf) = false
+
+abbrev pub is_taf : Read → Bool
+is_taf (read.Metar metar) = false
+is_taf (read.Taf taf) = true
+
+-- the latest once a report comes after those that are held
+abbrev pub with_report : Bool → Option Report → Station → Report → Option Report
+with_report alike held station r = if alike && bytes_eq (station_of_report r).bytes station.bytes then later held (Some r) else held
+
+abbrev pub with_metar : Option Report → Station → Option Report → Option Report
+with_metar held station None = held
+with_metar held station (Some r) = with_report (is_metar r.read) held station r
+
+abbrev pub with_taf : Option Report → Station → Option Report → Option Report
+with_taf held station None = held
+with_taf held station (Some r) = with_report (is_taf r.read) held station r

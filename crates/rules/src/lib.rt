@@ -1,0 +1,7 @@
+//! The rules that a release is judged by.
+#![tactic(auto)]
+
+mod evidence;
+mod judgement;
+
+pub use judgement::{Evidence, HOLD, judge};
