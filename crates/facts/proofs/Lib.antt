@@ -1,3 +1,4 @@
 pub mod Admission
 pub mod LatestLaws
 pub mod Crossing
+pub mod Places

@@ -3,3 +3,4 @@ pub mod Reading
 pub mod Reports
 pub mod Latest
 pub mod Lines
+pub mod Moments

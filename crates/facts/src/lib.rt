@@ -3,6 +3,7 @@
 
 mod latest;
 mod lines;
+mod moments;
 mod reader;
 mod report;
 mod reports;

@@ -1,12 +1,15 @@
 ghost use Rattle.std.specs.Prelude.{◌≡◌, ◌==◌, ◌<◌, All, Some, OnOk, OnErr, IfSome, length};
+ghost use Rattle.std.specs.List.{find};
 ghost use Rattle.std.specs.Option.{option_copied};
 ghost use Rattle.taf.specs.Parts.{IsMoment};
 ghost use Rattle.facts.specs.Same.{is_same, same_id};
 ghost use Rattle.facts.specs.Reading.{HasMoments, TafHasMoments};
 ghost use Rattle.facts.specs.Reports.{room_for, no_reports, reserved, admitted, AreHeld};
+ghost use Rattle.facts.specs.Moments.{is_same_at, id_among};
 ghost use Rattle.facts.specs.Latest.{latest_metar, latest_taf, metar_latest, taf_latest, IsLatestMetar, IsLatestTaf};
 
 use crate::latest::{Kind, latest};
+use crate::moments::Moments;
 use crate::report::Report;
 use codes::Station;
 use desk_io::OutOfMemory;
@@ -23,26 +26,57 @@ use taf::Taf;
 #[derive(Drop)]
 pub struct Reports {
     held: Vec<Report>,
+    moments: Moments,
     room: Option<Snapshot<Report>>,
 }
 
 impl Model for Reports {
-    ghost use Rattle.std.specs.Prelude.{◌<◌, IsSome, vec_len};
+    ghost use Rattle.std.specs.Prelude.{◌<◌, IsSome, IfSome, vec_len};
     ghost use Rattle.std.specs.Vec.{vec_capacity};
     ghost use Rattle.std.specs.Option.{option_map};
     ghost use Rattle.facts.specs.Reports.{Admissions, room_for, AreHeld};
+    ghost use Rattle.facts.specs.Moments.{HasRoomAt, ArePlaced};
 
     ghost Value = { Admissions };
 
     ghost view = { λ r. record { reports = r.held.items; room = option_map (λ kept. room_for kept.value) r.room } };
 
-    ghost invariant = { λ r. (IsSome r.room → vec_len r.held < vec_capacity r.held) × AreHeld r.held.items };
+    ghost invariant = { λ r. (IsSome r.room → vec_len r.held < vec_capacity r.held) × AreHeld r.held.items × ArePlaced r.moments.groups r.held.items × IfSome (option_map (λ kept. room_for kept.value) r.room) (λ room. HasRoomAt r.moments.groups room.minute) };
 }
 
 fn is_same(report: &Report, text: &[u8], minute: Minute) -> bool
     ensures { result ≡ is_same text.now minute report.now }
 {
     report.text.bytes() == text && report.minute() == minute
+}
+
+fn is_same_at(reports: &[Report], place: usize, text: &[u8], minute: Minute) -> bool
+    ensures { result ≡ is_same_at reports.now text.now minute place }
+{
+    match reports.get(place) {
+        None => false,
+        Some(report) => is_same(report, text, minute),
+    }
+}
+
+fn first_place<'a>(
+    reports: &[Report],
+    places: &'a [usize],
+    text: &[u8],
+    minute: Minute,
+) -> Option<&'a usize>
+    ensures { option_copied result ≡ find (is_same_at reports.now text.now minute) places.now }
+{
+    places
+        .iter()
+        .find(|place| is_same_at(reports, **place, text, minute))
+}
+
+fn first_same(reports: &[Report], places: &[usize], text: &[u8], minute: Minute) -> Option<u64>
+    ensures { result ≡ id_among reports.now text.now minute places.now }
+{
+    let place = first_place(reports, places, text, minute)?;
+    Some(reports.get(*place)?.id)
 }
 
 impl Reports {
@@ -52,6 +86,7 @@ impl Reports {
     {
         Reports {
             held: Vec::new(alloc),
+            moments: Moments::new(alloc),
             room: None,
         }
     }
@@ -84,6 +119,8 @@ impl Reports {
         ensures err { OnErr result (self.new ≡ self.old) }
     {
         self.held.reserve(1)?;
+        self.moments
+            .reserve(*self.held.allocator(), report.minute())?;
         self.room = Some(Snapshot::of(report));
         Ok(())
     }
@@ -95,6 +132,8 @@ impl Reports {
         requires moments { HasMoments report }
         ensures { self.new ≡ admitted self.old report }
     {
+        let place = self.len();
+        self.moments.push_reserved(report.minute(), place);
         self.held.push_reserved(report);
         self.room = None;
     }
@@ -138,14 +177,11 @@ impl Reports {
     }
 
     /// The number of the first report of that canonical text that was observed or issued at that moment.
-    /// It takes no memory.
-    #[tactic(auto, unfolding(crate::specs::Same::same_id))]
+    /// It looks at the reports of that moment alone, and takes no memory.
+    #[tactic(auto, using(crate::proofs::Places::found_at))]
     pub fn same(&self, text: &[u8], minute: Minute) -> Option<u64>
         ensures { result ≡ same_id self.now.reports text.now minute }
     {
-        self.held
-            .iter()
-            .find(|report| is_same(report, text, minute))
-            .map(|report| report.id)
+        first_same(&self.held, self.moments.at(minute), text, minute)
     }
 }

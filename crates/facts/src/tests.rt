@@ -104,6 +104,14 @@ fn the_latest_moment_counts(rt: HostRuntime) -> Result<(), Fail> {
         b"TAF KJFK 121720Z 1218/1324 24010KT P6SM BKN030",
     )?;
     admit(alloc, &mut reports, 8, DAY + 1061, b"TAF EINN 121720Z NIL")?;
+    assert_eq!(rt;
+        reports.same(
+            b"TAF KJFK 121720Z 1218/1324 24010KT P6SM BKN030",
+            DAY + 1040
+        ),
+        Some(4)
+    );
+    assert_eq!(rt; reports.same(b"TAF EINN 121720Z NIL", DAY + 1040), Some(8));
     assert_eq!(rt; reports.latest_metar(KJFK).map(|report| report.id), Some(1));
     assert_eq!(rt; reports.latest_taf(KJFK).map(|report| report.id), Some(7));
     assert_eq!(rt;
