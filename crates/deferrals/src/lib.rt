@@ -4,6 +4,8 @@
 
 mod held;
 mod items;
+mod limits;
 
 pub use held::{DEFERRAL_LIMIT, Deferrals};
 pub use items::{Deferral, due};
+pub use limits::{Limits, limits_of};

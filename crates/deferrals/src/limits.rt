@@ -1,0 +1,106 @@
+ghost use Rattle.std.specs.Prelude.{◌≡◌, ◌≤◌, length, map, All, IfOk};
+ghost use Rattle.std.specs.List.{sum};
+ghost use Rattle.ops_tables.specs.Limits.{FitsItem};
+ghost use Rattle.deferrals.specs.Limits as spec;
+
+use crate::held::{DEFERRAL_LIMIT, Deferrals};
+use crate::items::Deferral;
+use desk_io::{Copied, Listed, OutOfMemory};
+use ops_tables::{Lost, MelRow, Tables, has_name};
+use std::alloc::Global;
+
+/// What the open deferrals of an aircraft mean for its flights.
+#[derive(Debug, Drop)]
+pub struct Limits {
+    /// What each leg carries more, in pounds.
+    pub extra_fuel: u64,
+    /// The capabilities that are lost, each once, in the order in which they were deferred.
+    pub lost: Lost,
+}
+
+fn is_of(tail: &[u8], deferral: &Deferral) -> bool
+    ensures { result ≡ spec.is_of tail.now deferral.now }
+{
+    deferral.tail.bytes() == tail
+}
+
+// The rows of the items that are deferred on an aircraft, in order of deferral.
+fn rows_of<'a>(
+    alloc: Global,
+    tables: &'a Tables,
+    kind: &[u8],
+    tail: &[u8],
+    list: &[Deferral],
+) -> Result<Vec<&'a MelRow>, OutOfMemory>
+    ensures value { IfOk result (λ v. map (λ row. row.now) v.items ≡ spec.rows_of tables.now kind.now tail.now list.now) }
+    ensures count { IfOk result (λ v. length v.items ≤ length list.now) }
+    ensures within { IfOk result (λ v. All (λ row. FitsItem row.now) v.items) }
+{
+    let mut rows = Vec::new(alloc);
+    for deferral in list {
+        if is_of(tail, deferral) {
+            if let Some(row) = tables.item(kind, deferral.item.bytes()) {
+                rows.push(row)?;
+            }
+        }
+    }
+    Ok(rows)
+}
+
+fn extra_fuel(rows: &[&MelRow]) -> u64
+    requires count { length rows.now ≤ DEFERRAL_LIMIT }
+    requires fits { All (λ row. FitsItem row.now) rows.now }
+    ensures value { result ≡ sum (map (λ row. row.extra_fuel) (map (λ row. row.now) rows.now)) }
+    ensures within { result ≤ 5_000_000_000 }
+{
+    let mut pounds = 0;
+    for row in rows {
+        pounds += u64::from(row.extra_fuel);
+    }
+    pounds
+}
+
+// Whether a row takes away a capability that isn't among the lost ones yet.
+fn loses_more(row: &MelRow, lost: &Lost) -> bool
+    ensures { result ≡ spec.loses_more row.now.capability lost.now }
+{
+    let capability = row.capability.bytes();
+    !capability.is_empty() && !has_name(lost, capability)
+}
+
+// The capabilities that rows take away, each once, in order.
+fn lost_by(alloc: Global, rows: &[&MelRow]) -> Result<Lost, OutOfMemory>
+    ensures { IfOk result (λ lost. lost ≡ spec.once (spec.capabilities_of (map (λ row. row.now) rows.now))) }
+{
+    let mut lost = Listed::new(alloc);
+    for row in rows {
+        if loses_more(row, &lost) {
+            lost.push(row.capability.copy(alloc)?)?;
+        }
+    }
+    Ok(lost)
+}
+
+/// What the open deferrals of an aircraft add and take away: the sum of the extra fuel of its
+/// deferred items, in pounds, and the capabilities that they take away, each once, in the order in
+/// which they were deferred (14 CFR 121.628). An item that the list of the aircraft's type lacks
+/// adds and takes away nothing, and one whose capability is empty takes none away.
+#[tactic(auto, unfolding(crate::specs::Limits::limits))]
+pub fn limits_of(
+    alloc: Global,
+    list: &Deferrals,
+    tail: &[u8],
+    tables: &Tables,
+) -> Result<Limits, OutOfMemory>
+    ensures value { IfOk result (λ limits. limits ≡ spec.limits tables.now tail.now list.now.list) }
+    ensures within { IfOk result (λ limits. limits.extra_fuel ≤ 5_000_000_000) }
+{
+    let rows = match tables.type_of(tail) {
+        None => Vec::new(alloc),
+        Some(kind) => rows_of(alloc, tables, kind.kind.bytes(), tail, list.as_slice())?,
+    };
+    Ok(Limits {
+        extra_fuel: extra_fuel(&rows),
+        lost: lost_by(alloc, &rows)?,
+    })
+}
