@@ -1,6 +1,6 @@
 -- A list without the one element of an id.
-use Rattle.std.proofs.Common.{◌≡◌, ◌≢◌, ℕ, zero, suc, ◌+◌, ◌<◌, Bool, true, false, not, cond, nat_lt, List, [], ◌∷◌, ◌++◌, length, get_or, take, drop, refl, ap, ◌∙◌, sym, arith, Option, Some, None, is_some, IfNone, IfSome, inl, inr}
-use Rattle.std.specs.List.{All, AllPairs, filter, remove, position, position_or_len, list_any}
+use Rattle.std.proofs.Common.{◌≡◌, ◌≢◌, ℕ, zero, suc, ◌<◌, Bool, true, false, not, cond, nat_lt, List, [], ◌∷◌, length, get_or, refl, ap, sym, arith, Option, Some, None, is_some, IfNone, IfSome, inl, inr}
+use Rattle.std.specs.List.{All, filter, remove, position, position_or_len, list_any}
 use Rattle.std.proofs.lemmas.Bool.Decides.{nat_tests}
 use Rattle.std.proofs.lemmas.Bool.{cases_lt}
 use Rattle.std.proofs.lemmas.List.Elements.{All-head, All-tail}

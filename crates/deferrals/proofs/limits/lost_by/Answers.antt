@@ -1,4 +1,4 @@
-use Rattle.std.proofs.Common.{◌≡◌, ◌∙◌, ◌+◌, ap, sym, List, [], ◌∷◌, ◌++◌, drop}
+use Rattle.std.proofs.Common.{◌∙◌, ◌+◌, ap, sym, List, [], ◌∷◌, ◌++◌, drop}
 use Rattle.ops_tables.specs.declared.rows.MelRow.{MelRow}
 use Rattle.deferrals.specs.Limits.{once, capabilities_of}
 use Rattle.std.specs.Prelude.{map}
