@@ -9,3 +9,6 @@ mod usable;
 pub use derived::{alternate_pairs, landing};
 pub use floors::flag_floor;
 pub use pair::{MILE, Pair, Pairs, meets};
+
+#[cfg(test)]
+mod tests;
