@@ -4,3 +4,13 @@ pub mod Names
 pub mod Shown
 pub mod Grouped
 pub mod Rows
+pub mod Fields
+pub mod Records
+pub mod CsvSteps
+pub mod CsvFaults
+pub mod Reading
+pub mod Seen
+pub mod Settings
+pub mod Files
+pub mod Filling
+pub mod Whole

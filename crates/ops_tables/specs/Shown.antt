@@ -5,15 +5,15 @@ use Rattle.ops_tables.specs.declared.tables.Tables.TheInside.{Inside}
 abbrev pub shown : Inside → TableRows
 shown t = record {
   settings = t.settings;
-  airports = t.airports.items;
+  airports = t.airports;
   approaches = t.approaches;
   alternates = t.alternates;
-  types = t.types.items;
-  tails = t.tails.items;
-  uses = t.uses.items;
-  distances = t.distances.items;
-  routes = t.routes.items;
-  mel = t.mel.items;
-  pairs = t.pairs.items;
-  actors = t.actors.items;
+  types = t.types;
+  tails = t.tails;
+  uses = t.uses;
+  distances = t.distances;
+  routes = t.routes;
+  mel = t.mel;
+  pairs = t.pairs;
+  actors = t.actors;
 }

@@ -74,9 +74,13 @@ item_of t kind item = find (λ r. bytes_eq r.kind kind && bytes_eq r.item item) 
 abbrev pub is_pair : ItemPair → List ℕ → List ℕ → List ℕ → Bool
 is_pair p kind one two = bytes_eq p.kind kind && bytes_eq p.item one && bytes_eq p.other two
 
+-- whether the table has that pair
+abbrev pub has_pair : TableRows → List ℕ → List ℕ → List ℕ → Bool
+has_pair t kind item other = list_any (λ p. is_pair p kind item other) t.pairs
+
 -- whether two items of a type may not be deferred together, which holds both ways
 abbrev pub are_paired : TableRows → List ℕ → List ℕ → List ℕ → Bool
-are_paired t kind one two = list_any (λ p. is_pair p kind one two || is_pair p kind two one) t.pairs
+are_paired t kind one two = has_pair t kind one two || has_pair t kind two one
 
 -- the person of that name
 abbrev pub actor_of : TableRows → List ℕ → Option Actor

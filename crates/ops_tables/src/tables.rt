@@ -2,9 +2,13 @@ ghost use Rattle.std.specs.Prelude.{◌≡◌, ◌≤◌, All, IfSome, IfOk};
 ghost use Rattle.std.specs.Option.{option_copied};
 ghost use Rattle.ops_tables.specs.Limits.{FitsSettings, FitsAirport, FitsApproach, FitsAlternate, FitsType, FitsItem, FitsTables};
 ghost use Rattle.ops_tables.specs.Rows.{rows_of};
-ghost use Rattle.ops_tables.specs.Tables.{airport_of, tail_named, type_named, type_of, may_use, miles_of, route_free, item_of, are_paired, actor_of, approaches_of, alternates_of};
+ghost use Rattle.ops_tables.specs.Tables.{airport_of, tail_named, type_named, type_of, may_use, miles_of, route_free, item_of, are_paired, has_pair, actor_of, approaches_of, alternates_of};
 
-use crate::grouped::{AtStation, Grouped};
+use crate::grouped::{Grouped, group_name};
+use crate::search::{
+    actor_among, airport_among, is_paired, is_route, is_used, item_among, miles_among, tail_among,
+    type_among,
+};
 use crate::{
     Actor, Airport, AlternateRow, Approach, Distance, ItemPair, MelRow, Route, Settings, Tail,
     TypeRow, Use,
@@ -17,18 +21,18 @@ use std::marker::Model;
 /// The operations tables. A contract sees the rows of each in the order of its file.
 #[derive(Drop)]
 pub struct Tables {
-    settings: Settings,
-    airports: Vec<Airport>,
-    approaches: Grouped<Approach>,
-    alternates: Grouped<AlternateRow>,
-    types: Vec<TypeRow>,
-    tails: Vec<Tail>,
-    uses: Vec<Use>,
-    distances: Vec<Distance>,
-    routes: Vec<Route>,
-    mel: Vec<MelRow>,
-    pairs: Vec<ItemPair>,
-    actors: Vec<Actor>,
+    pub(crate) settings: Settings,
+    pub(crate) airports: Grouped<Airport, 4>,
+    pub(crate) approaches: Grouped<Approach, 4>,
+    pub(crate) alternates: Grouped<AlternateRow, 4>,
+    pub(crate) types: Grouped<TypeRow, 48>,
+    pub(crate) tails: Grouped<Tail, 48>,
+    pub(crate) uses: Grouped<Use, 48>,
+    pub(crate) distances: Grouped<Distance, 48>,
+    pub(crate) routes: Grouped<Route, 48>,
+    pub(crate) mel: Grouped<MelRow, 48>,
+    pub(crate) pairs: Grouped<ItemPair, 48>,
+    pub(crate) actors: Grouped<Actor, 48>,
 }
 
 impl Model for Tables {
@@ -61,22 +65,6 @@ pub struct Rows {
     pub actors: Vec<Actor>,
 }
 
-impl AtStation for Approach {
-    ghost station = { λ a. a.station };
-
-    fn station(&self) -> Station {
-        self.station
-    }
-}
-
-impl AtStation for AlternateRow {
-    ghost station = { λ a. a.station };
-
-    fn station(&self) -> Station {
-        self.station
-    }
-}
-
 impl Tables {
     /// The tables of these rows.
     pub fn of_rows(alloc: Global, rows: Rows) -> Result<Tables, OutOfMemory>
@@ -85,17 +73,17 @@ impl Tables {
     {
         Ok(Tables {
             settings: rows.settings,
-            airports: rows.airports,
+            airports: Grouped::of_rows(alloc, rows.airports)?,
             approaches: Grouped::of_rows(alloc, rows.approaches)?,
             alternates: Grouped::of_rows(alloc, rows.alternates)?,
-            types: rows.types,
-            tails: rows.tails,
-            uses: rows.uses,
-            distances: rows.distances,
-            routes: rows.routes,
-            mel: rows.mel,
-            pairs: rows.pairs,
-            actors: rows.actors,
+            types: Grouped::of_rows(alloc, rows.types)?,
+            tails: Grouped::of_rows(alloc, rows.tails)?,
+            uses: Grouped::of_rows(alloc, rows.uses)?,
+            distances: Grouped::of_rows(alloc, rows.distances)?,
+            routes: Grouped::of_rows(alloc, rows.routes)?,
+            mel: Grouped::of_rows(alloc, rows.mel)?,
+            pairs: Grouped::of_rows(alloc, rows.pairs)?,
+            actors: Grouped::of_rows(alloc, rows.actors)?,
         })
     }
 
@@ -119,14 +107,14 @@ impl Tables {
         ensures value { option_copied result ≡ airport_of self.now s }
         ensures within { IfSome result (λ a. FitsAirport a.now) }
     {
-        self.airports.iter().find(|a| a.station.bytes == s.bytes)
+        airport_among(self.airports.at(&s.bytes), s)
     }
 
-    fn type_named(&self, kind: &[u8]) -> Option<&TypeRow>
+    pub(crate) fn type_named(&self, kind: &[u8]) -> Option<&TypeRow>
         ensures value { option_copied result ≡ type_named self.now kind.now }
         ensures within { IfSome result (λ r. FitsType r.now) }
     {
-        self.types.iter().find(|r| r.kind.bytes() == kind)
+        type_among(self.types.at(&group_name(kind, b"", b"")), kind)
     }
 
     /// The type of an aircraft.
@@ -143,16 +131,15 @@ impl Tables {
     fn tail_named(&self, tail: &[u8]) -> Option<&Tail>
         ensures { option_copied result ≡ tail_named self.now tail.now }
     {
-        self.tails.iter().find(|r| r.tail.bytes() == tail)
+        tail_among(self.tails.at(&group_name(tail, b"", b"")), tail)
     }
 
     /// Whether a type may use an airport.
     pub fn may_use(&self, kind: &[u8], s: Station) -> bool
         ensures { result ≡ may_use self.now kind.now s }
     {
-        self.uses
-            .iter()
-            .any(|u| u.kind.bytes() == kind && u.station.bytes == s.bytes)
+        let rows = self.uses.at(&group_name(kind, &s.bytes, b""));
+        is_used(rows, kind, s)
     }
 
     /// How far it is from one airport to another, in nautical miles. The way back counts by itself.
@@ -160,11 +147,8 @@ impl Tables {
         ensures value { result ≡ miles_of self.now from to }
         ensures within { IfSome result (λ miles. miles ≤ 20000) }
     {
-        let row = self
-            .distances
-            .iter()
-            .find(|d| d.from.bytes == from.bytes && d.to.bytes == to.bytes)?;
-        Some(row.miles)
+        let rows = self.distances.at(&group_name(&from.bytes, &to.bytes, b""));
+        miles_among(rows, from, to)
     }
 
     /// Whether a flag flight on the route may do without an alternate (14 CFR 121.621(a)(2)). The
@@ -172,9 +156,8 @@ impl Tables {
     pub fn route_free(&self, from: Station, to: Station) -> bool
         ensures { result ≡ route_free self.now from to }
     {
-        self.routes
-            .iter()
-            .any(|r| r.from.bytes == from.bytes && r.to.bytes == to.bytes)
+        let rows = self.routes.at(&group_name(&from.bytes, &to.bytes, b""));
+        is_route(rows, from, to)
     }
 
     /// An item of a type's minimum equipment list.
@@ -182,26 +165,28 @@ impl Tables {
         ensures value { option_copied result ≡ item_of self.now kind.now item.now }
         ensures within { IfSome result (λ r. FitsItem r.now) }
     {
-        self.mel
-            .iter()
-            .find(|r| r.kind.bytes() == kind && r.item.bytes() == item)
+        item_among(self.mel.at(&group_name(kind, item, b"")), kind, item)
     }
 
     /// Whether two items of a type may not be deferred together. It holds both ways.
     pub fn paired(&self, kind: &[u8], one: &[u8], two: &[u8]) -> bool
         ensures { result ≡ are_paired self.now kind.now one.now two.now }
     {
-        self.pairs.iter().any(|p| {
-            p.kind.bytes() == kind && p.item.bytes() == one && p.other.bytes() == two
-                || p.kind.bytes() == kind && p.item.bytes() == two && p.other.bytes() == one
-        })
+        self.has_pair(kind, one, two) || self.has_pair(kind, two, one)
+    }
+
+    fn has_pair(&self, kind: &[u8], item: &[u8], other: &[u8]) -> bool
+        ensures { result ≡ has_pair self.now kind.now item.now other.now }
+    {
+        let rows = self.pairs.at(&group_name(kind, item, other));
+        is_paired(rows, kind, item, other)
     }
 
     /// The person of that name.
     pub fn actor(&self, name: &[u8]) -> Option<&Actor>
         ensures { option_copied result ≡ actor_of self.now name.now }
     {
-        self.actors.iter().find(|a| a.name.bytes() == name)
+        actor_among(self.actors.at(&group_name(name, b"", b"")), name)
     }
 
     /// The approaches of a station in the order of the file, none where there are none.
@@ -209,7 +194,7 @@ impl Tables {
         ensures value { result.now ≡ approaches_of self.now s }
         ensures within { All FitsApproach result.now }
     {
-        self.approaches.at(s)
+        self.approaches.at(&s.bytes)
     }
 
     /// The alternate minima of a station that has its own, in the order of the file, none where
@@ -218,6 +203,6 @@ impl Tables {
         ensures value { result.now ≡ alternates_of self.now s }
         ensures within { All FitsAlternate result.now }
     {
-        self.alternates.at(s)
+        self.alternates.at(&s.bytes)
     }
 }
