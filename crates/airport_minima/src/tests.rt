@@ -160,64 +160,88 @@ fn pair(ceiling: u32, vis: u32) -> Pair {
     Pair { ceiling, vis }
 }
 
+fn landing_is(
+    alloc: Global,
+    tables: &Tables,
+    lost: [u8; 3],
+    pairs: &[Pair],
+) -> Result<bool, OutOfMemory> {
+    let kind = type_row(alloc)?;
+    let lost = names(alloc, &[lost])?;
+    let landing = landing(alloc, tables, &kind, KPHL, &lost)?;
+    Ok(landing.as_slice() == pairs)
+}
+
 #[test]
 fn minima_are_those_of_usable_approaches(rt: HostRuntime) -> Result<(), Fail> {
     let alloc = rt.alloc();
     let tables = tables(alloc)?;
-    let kind = type_row(alloc)?;
-    for (lost, pairs) in [
-        (
-            b"---",
-            [pair(200, 804_672), pair(400, 1_609_344)].as_slice(),
-        ),
-        (b"ILS", &[pair(400, 1_609_344)]),
-    ] {
-        let lost = names(alloc, &[*lost])?;
-        let landing = landing(alloc, &tables, &kind, KPHL, &lost)?;
-        assert_eq!(rt; landing.as_slice(), pairs);
-    }
+    let both = [pair(200, 804_672), pair(400, 1_609_344)];
+    assert_eq!(rt; landing_is(alloc, &tables, *b"---", &both), Ok(true));
+    let one = [pair(400, 1_609_344)];
+    assert_eq!(rt; landing_is(alloc, &tables, *b"ILS", &one), Ok(true));
     Ok(())
+}
+
+fn alternates_are(
+    alloc: Global,
+    tables: &Tables,
+    station: Station,
+    lost: [u8; 3],
+    pairs: &[Pair],
+) -> Result<bool, OutOfMemory> {
+    let kind = type_row(alloc)?;
+    let lost = names(alloc, &[lost])?;
+    let derived = alternate_pairs(alloc, tables, &kind, station, &lost)?;
+    Ok(derived.as_slice() == pairs)
 }
 
 #[test]
 fn alternate_minima_are_own_or_derived(rt: HostRuntime) -> Result<(), Fail> {
     let alloc = rt.alloc();
     let tables = tables(alloc)?;
-    let kind = type_row(alloc)?;
-    for (station, lost, pairs) in [
-        (
-            KPHL,
-            b"---",
-            [
-                pair(600, 2_414_016),
-                pair(800, 3_218_688),
-                pair(600, 2_414_016),
-            ]
-            .as_slice(),
-        ),
-        (KPHL, b"ILS", &[pair(800, 3_218_688)]),
-        (EINN, b"ILS", &[pair(600, 3_218_688)]),
-    ] {
-        let lost = names(alloc, &[*lost])?;
-        let derived = alternate_pairs(alloc, &tables, &kind, station, &lost)?;
-        assert_eq!(rt; derived.as_slice(), pairs);
-    }
+    let three = [
+        pair(600, 2_414_016),
+        pair(800, 3_218_688),
+        pair(600, 2_414_016),
+    ];
+    assert_eq!(rt;
+        alternates_are(alloc, &tables, KPHL, *b"---", &three),
+        Ok(true)
+    );
+    let one = [pair(800, 3_218_688)];
+    assert_eq!(rt;
+        alternates_are(alloc, &tables, KPHL, *b"ILS", &one),
+        Ok(true)
+    );
+    let own = [pair(600, 3_218_688)];
+    assert_eq!(rt;
+        alternates_are(alloc, &tables, EINN, *b"ILS", &own),
+        Ok(true)
+    );
     Ok(())
+}
+
+fn floor_of(
+    alloc: Global,
+    tables: &Tables,
+    station: Station,
+    lost: [u8; 3],
+) -> Result<Option<Pair>, OutOfMemory> {
+    let kind = type_row(alloc)?;
+    let lost = names(alloc, &[lost])?;
+    Ok(flag_floor(tables, &kind, station, &lost))
 }
 
 #[test]
 fn a_floor_stands_on_circling_or_on_the_lowest_approach(rt: HostRuntime) -> Result<(), Fail> {
     let alloc = rt.alloc();
     let tables = tables(alloc)?;
-    let kind = type_row(alloc)?;
-    for (station, lost, floor) in [
-        (KJFK, b"---", Some(pair(2_000, 4_828_032))),
-        (KJFK, b"ILS", None),
-        (KPHL, b"ILS", Some(pair(2_200, 4_828_032))),
-    ] {
-        let lost = names(alloc, &[*lost])?;
-        assert_eq!(rt; flag_floor(&tables, &kind, station, &lost), floor);
-    }
+    let kennedy = floor_of(alloc, &tables, KJFK, *b"---");
+    assert_eq!(rt; kennedy, Ok(Some(pair(2_000, 4_828_032))));
+    assert_eq!(rt; floor_of(alloc, &tables, KJFK, *b"ILS"), Ok(None));
+    let philadelphia = floor_of(alloc, &tables, KPHL, *b"ILS");
+    assert_eq!(rt; philadelphia, Ok(Some(pair(2_200, 4_828_032))));
     Ok(())
 }
 
