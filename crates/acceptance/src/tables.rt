@@ -1,4 +1,4 @@
-use desk_io::{MemoryShelf, OutOfMemory, Text, push_all};
+use desk_io::{MemoryShelf, OutOfMemory, Shelf, Text, push_all};
 use ops_tables::{TableFault, TableWhy, read_tables};
 use std::alloc::Global;
 use std::test::Fail;
@@ -7,31 +7,29 @@ use std::test::Fail;
 const SMALL: &str =
     "settings.csv\nname,value\nhold_minutes,60\nmarginal_ceiling,200\nsingle_ceiling,400\ndouble_ceiling,200\nmarginal_vis16,8\nsingle_vis16,16\ndouble_vis16,8\nlate_off,60\nlate_on,30\n--\nairports.csv\nstation,conus,circle\nKBOS,1,0\nKJFK,1,0\nKPHL,1,0\nEGLL,0,0\nEINN,0,0\n--\napproaches.csv\nstation,name,runway,capability,height,ceiling,vis16\nKBOS,ILS04R,04R,ILS,200,200,8\n--\nalternates.csv\nstation,ceiling,vis16\nEINN,600,32\n--\ntypes.csv\nkind,engines,oei_knots,cruise_pph,hold_pph,capabilities\nA320,2,400,6000,5000,ILS GPS\nB763,2,420,11500,9001,ILS GPS\n--\ntails.csv\ntail,kind\nN801DK,A320\n--\nuses.csv\nkind,station\nA320,KBOS\n--\ndistances.csv\nfrom,to,miles\nKBOS,KJFK,162\n--\nroutes.csv\nfrom,to\n--\nmel.csv\nkind,item,category,days,capability,extra_fuel,flag_ok,max_minutes\nA320,34-1,B,0,,0,1,0\nA320,22-1,C,0,ILS,0,1,0\n--\npairs.csv\nkind,item,other\nA320,22-1,34-1\n--\nactors.csv\nname,key,role\nD1,kD1,D\n";
 
-// The small tables, with other records under the header of one of them.
-fn shelf_with(alloc: Global, other: &str, records: &[u8]) -> Result<MemoryShelf, OutOfMemory> {
+// The small tables, with another text for one of them.
+fn shelf_with(alloc: Global, other: &str, text: &[u8]) -> Result<MemoryShelf, OutOfMemory> {
     let mut sources = Vec::new(alloc);
     for table in SMALL.split("--\n") {
         if let Some((name, lines)) = table.split_once("\n") {
             let name = Text::of(alloc, name.as_bytes())?;
-            let mut text = Vec::new(alloc);
-            if name.bytes() != other.as_bytes() {
-                push_all(&mut text, &[lines.as_bytes()])?;
-            } else if let Some((header, _)) = lines.split_once("\n") {
-                push_all(&mut text, &[header.as_bytes(), b"\n", records])?;
+            if name.bytes() == other.as_bytes() {
+                sources.push((name, Text::of(alloc, text)?))?;
+            } else {
+                sources.push((name, Text::of(alloc, lines.as_bytes())?))?;
             }
-            sources.push((name, Text::from_vec(text)))?;
         }
     }
     Ok(MemoryShelf::new(sources, Vec::new(alloc)))
 }
 
 // The number and the reason of the first bad record, which has to be of the table with that name.
-fn first_bad(
+fn first_bad_of(
     alloc: Global,
     name: &str,
-    records: &[u8],
+    text: &[u8],
 ) -> Result<Option<(u32, TableWhy)>, OutOfMemory> {
-    let mut shelf = shelf_with(alloc, name, records)?;
+    let mut shelf = shelf_with(alloc, name, text)?;
     let read = read_tables(alloc, &mut shelf);
     let Err(TableFault::Bad(bad)) = read else {
         return Ok(None);
@@ -40,6 +38,27 @@ fn first_bad(
         return Ok(None);
     }
     Ok(Some((bad.line, bad.why)))
+}
+
+// The header of a table of the small airline.
+fn header_of(name: &str) -> &'static str {
+    SMALL
+        .split("--\n")
+        .filter_map(|table| table.split_once("\n"))
+        .find(|(other, _)| *other == name)
+        .and_then(|(_, lines)| lines.split_once("\n"))
+        .map_or("", |(header, _)| header)
+}
+
+// The same of a table with its header and other records.
+fn first_bad(
+    alloc: Global,
+    name: &str,
+    records: &[u8],
+) -> Result<Option<(u32, TableWhy)>, OutOfMemory> {
+    let mut text = Vec::new(alloc);
+    push_all(&mut text, &[header_of(name).as_bytes(), b"\n", records])?;
+    first_bad_of(alloc, name, &text)
 }
 
 #[test]
@@ -160,5 +179,144 @@ fn no_table_goes_over_its_limit(rt: HostRuntime) -> Result<(), Fail> {
             Some((*limit + 2, TableWhy::OverLimit))
         );
     }
+    Ok(())
+}
+
+#[test]
+fn the_first_bad_record_is_named(rt: HostRuntime) -> Result<(), Fail> {
+    let alloc = rt.alloc();
+    let cases = [
+        (
+            "approaches.csv",
+            "station,name,runway,capability,height,ceiling,vis16\nKBOS,ILS04R,04R,ILS,200,200,8\nKJFK,ILS22L,22L,ILS,200,200,x\nKBOX,ILS22L,22L,ILS,200,200,8\n",
+            3,
+            TableWhy::BadField,
+        ),
+        (
+            "approaches.csv",
+            "station,name,runway,capability,height,ceiling,vis16\nKBOS,ILS04R,04R,ILS,200,200,8\nKJFK,ILS22L,22L,ILS,200,200,8\nKJFK,ILS22L,22L,ILS,200,200,8\n",
+            4,
+            TableWhy::Doubled,
+        ),
+        (
+            "airports.csv",
+            "\u{feff}\"station\",conus,circle\r\n\r\nKBOS,1,0\r\n\nKJFK,1,00\r\n",
+            3,
+            TableWhy::BadField,
+        ),
+        (
+            "airports.csv",
+            "station,conus,circle\nKBOS,1,20001",
+            2,
+            TableWhy::BadField,
+        ),
+        (
+            "airports.csv",
+            "station,conus,circle\nKBOS,1,+1\n",
+            2,
+            TableWhy::BadField,
+        ),
+        ("alternates.csv", "", 1, TableWhy::BadField),
+        (
+            "types.csv",
+            "kind,engines,oei_knots,cruise_pph,hold_pph,capabilities\nA320,2,400,6000,5000,\nB763,2,420,11500,9001,ILS  GPS\n",
+            3,
+            TableWhy::BadField,
+        ),
+        (
+            "tails.csv",
+            "tail,kind\nN801DK,A320\n\"N901\nDK\",B763\n",
+            3,
+            TableWhy::BadField,
+        ),
+        (
+            "distances.csv",
+            "from,to,miles\nKBOS,KBOX,10\n",
+            2,
+            TableWhy::Unlinked,
+        ),
+        (
+            "distances.csv",
+            "from,to,miles\nKBOS,KJFK,162\nKJFK,KBOS,163\nKBOS,KJFK,99999999999999999999\n",
+            4,
+            TableWhy::BadField,
+        ),
+        (
+            "mel.csv",
+            "kind,item,category,days,capability,extra_fuel,flag_ok,max_minutes\nA319,34-1,B,0,,0,1,0\n",
+            2,
+            TableWhy::Unlinked,
+        ),
+        (
+            "pairs.csv",
+            "kind,item,other\nA320,22-1,22-1\n",
+            2,
+            TableWhy::BadField,
+        ),
+        (
+            "pairs.csv",
+            "kind,item,other\nB763,22-1,34-1\n",
+            2,
+            TableWhy::Unlinked,
+        ),
+        (
+            "pairs.csv",
+            "kind,item,other\nA320,22-1,34-1\nA320,34-1,22-1\nA320,22-1,34-1\n",
+            4,
+            TableWhy::Doubled,
+        ),
+        (
+            "settings.csv",
+            "name,value\nmarginal_ceiling,200\n",
+            2,
+            TableWhy::BadField,
+        ),
+        (
+            "settings.csv",
+            "name,value\nhold_minutes,60\n",
+            3,
+            TableWhy::BadField,
+        ),
+        (
+            "settings.csv",
+            "name,value\nhold_minutes,60\nmarginal_ceiling,200\nsingle_ceiling,400\ndouble_ceiling,200\nmarginal_vis16,8\nsingle_vis16,16\ndouble_vis16,8\nlate_off,60\nlate_on,30\nmore,1\n",
+            11,
+            TableWhy::OverLimit,
+        ),
+    ];
+    for (name, text, line, why) in &cases {
+        assert_eq!(rt;
+            first_bad_of(alloc, name, text.as_bytes())?,
+            Some((*line, *why))
+        );
+    }
+    assert_eq!(rt;
+        first_bad_of(alloc, "actors.csv", b"name,key,role\nD1,k\xFF,D\n")?,
+        Some((2, TableWhy::BadField))
+    );
+    Ok(())
+}
+
+#[test]
+fn a_missing_table_is_a_fault_of_the_shelf(rt: HostRuntime) -> Result<(), Fail> {
+    let alloc = rt.alloc();
+    let mut shelf = MemoryShelf::new(Vec::new(alloc), Vec::new(alloc));
+    let read = read_tables(alloc, &mut shelf);
+    assert!(rt; matches!(read, Err(TableFault::ReadFault)));
+    assert_eq!(rt; shelf.faults(), 1);
+    Ok(())
+}
+
+// A table that can't be read hides no bad record of a table before it.
+#[test]
+fn a_bad_record_comes_before_a_missing_table(rt: HostRuntime) -> Result<(), Fail> {
+    let alloc = rt.alloc();
+    let mut sources = Vec::new(alloc);
+    let settings = Text::of(alloc, b"name,value\nhold_minutes,x\n")?;
+    sources.push((Text::of(alloc, b"settings.csv")?, settings))?;
+    let mut shelf = MemoryShelf::new(sources, Vec::new(alloc));
+    let read = read_tables(alloc, &mut shelf);
+    assert!(rt; matches!(read, Err(TableFault::Bad(bad)) if bad.line == 2));
+    assert_eq!(rt; shelf.faults(), 0);
     Ok(())
 }

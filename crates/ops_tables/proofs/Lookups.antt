@@ -1,5 +1,5 @@
 -- Look-ups in the group of a key find what a search of all rows finds.
-use Rattle.std.proofs.Common.{◌≡◌, ◌∙◌, sym, refl, ap, ℕ, List, [], ◌∷◌, Bool, true, false, cond, ◌&&◌, rules, true≢false}
+use Rattle.std.proofs.Common.{◌≡◌, ◌∙◌, sym, refl, ap, ℕ, List, [], ◌∷◌, Bool, true, false, cond, ◌&&◌, true≢false}
 use Rattle.std.specs.Prelude.{find, filter}
 use Rattle.std.specs.Str.{bytes_eq}
 use Rattle.std.proofs.lemmas.Slice.Eq.{bytes_eq-Decides}

@@ -1,10 +1,9 @@
 -- Reading one file after another.
-use Rattle.std.proofs.Common.{◌≡◌, ◌∙◌, ◌<◌, ◌≤◌, sym, refl, ap, subst, ℕ, zero, suc, ◌+◌, List, [], ◌∷◌, ◌++◌, take, drop, get_or, length, arith, add-one}
+use Rattle.std.proofs.Common.{◌≡◌, ◌<◌, ◌≤◌, sym, refl, ap, subst, ℕ, zero, suc, ◌+◌, List, [], ◌∷◌, ◌++◌, take, drop, get_or, length, arith, add-one}
 use Rattle.std.specs.Prelude.{Ok}
 use Rattle.ops_tables.specs.Tables.{TableRows}
 use Rattle.ops_tables.specs.Files.{files, no_rows}
-use Rattle.ops_tables.specs.Whole.{Told, FileGives, FilesGive, FileFails, StopsAt}
-use Rattle.ops_tables.specs.declared.faults.TableFault.{TableFault}
+use Rattle.ops_tables.specs.Whole.{Told, FileGives, FilesGive, StopsAt}
 use Rattle.ops_tables.specs.declared.files.File.{File}
 
 and_one : (told : Told) (start : TableRows) (before : List File) (file : File) (between after : TableRows)
@@ -42,9 +41,9 @@ reads_more told i d before after within read gives =
 pub reads_all : (told : Told) (i : ℕ) (tables : TableRows) → length files ≤ i → FilesGive told no_rows (take i files) tables → FilesGive told no_rows files tables
 reads_all told i tables past read = subst (λ fs. FilesGive told no_rows fs tables) (all files i past) read
 
-pub stops : (told : Told) (i : ℕ) (d : File) (before : TableRows) (why : TableFault) → i < length files
-    → FilesGive told no_rows (take i files) before → FileFails told (get_or files i d) before why → StopsAt told why
-stops told i d before why within read fails = record {
+pub stops : (told : Told) (Fails : File → TableRows → Type 0) (i : ℕ) (d : File) (before : TableRows) → i < length files
+    → FilesGive told no_rows (take i files) before → Fails (get_or files i d) before → StopsAt told Fails
+stops told Fails i d before within read fails = record {
   earlier = take i files;
   file = get_or files i d;
   later = drop (i + 1) files;

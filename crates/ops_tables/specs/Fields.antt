@@ -1,6 +1,6 @@
 -- The fields of the records of a table: numbers, names and marks.
 use Rattle.std.specs.Prelude.{ℕ, ◌+◌, ◌*◌, ◌-◌, ◌==◌, nat_le, nat_lt, Bool, true, false, ◌&&◌, ◌||◌, not, List, [], ◌∷◌, length, if◌then◌else◌, Option, None, Some, codes}
-use Rattle.std.specs.List.{list_any, list_all, slice_split}
+use Rattle.std.specs.List.{list_all, slice_split}
 use Rattle.std.specs.Str.{bytes_eq}
 use Rattle.ops_tables.specs.declared.rows.Category.{Category}
 use Rattle.ops_tables.specs.declared.rows.Category.TheVariants as category

@@ -1,5 +1,5 @@
 -- The twelve tables: their files, columns, keys, links and limits.
-use Rattle.std.specs.Prelude.{ℕ, Bool, true, ◌&&◌, List, [], ◌∷◌, Option, is_some, Result, Ok, Err, codes}
+use Rattle.std.specs.Prelude.{ℕ, Bool, true, ◌&&◌, List, [], ◌∷◌, is_some, Result, Ok, Err, codes}
 use Rattle.ops_tables.specs.Tables.{TableRows, airport_of, type_named, item_of}
 use Rattle.ops_tables.specs.Records.{airport_row, approach_row, alternate_row, type_row, tail_row, use_row, distance_row, route_row, item_row, pair_row, actor_row}
 use Rattle.ops_tables.specs.Reading.{Table, rows_of}

@@ -35,7 +35,8 @@ pub record FileIsBad (told : Told) (file : File) (before : TableRows) (bad : Bad
   pub name : bad.name ≡ name_of file
   pub gives : FileGives told file before (Err (record { line = bad.line; why = bad.why }))
 
--- what a fault says of the file at which it came
+-- What a fault says of the file at which it came. What a read fault says depends on the shelf; want of
+-- memory says nothing.
 abbrev pub FileFails : Told → File → TableRows → TableFault → Type 0
 FileFails told file before (fault.Bad bad) = FileIsBad told file before bad
 FileFails told file before fault.ReadFault = Unit {0}
@@ -51,20 +52,20 @@ FaultOf whole.ReadFault = fault.ReadFault
 FaultOf whole.TooLong = fault.TooLong
 FaultOf whole.OutOfMemory = fault.OutOfMemory
 
--- the files before some file were good, and that one fails
-pub record StopsAt (told : Told) (why : TableFault) : Type 0 where
+-- the files before some file were good, and that one fails in some way
+pub record StopsAt (told : Told) (Fails : File → TableRows → Type 0) : Type 0 where
   pub earlier : List File
   pub file : File
   pub later : List File
   pub order : files ≡ earlier ++ file ∷ later
   pub before : TableRows
   pub read : FilesGive told no_rows earlier before
-  pub fails : FileFails told file before why
+  pub fails : Fails file before
 
 -- The answer is the tables of all files, or the first fault in the order of the files.
 abbrev pub ReadsTables : Told → Result TableRows TableFault → Type 0
-ReadsTables told result = MatchResult result (λ tables. FilesGive told no_rows files tables) (λ why. StopsAt told why)
+ReadsTables told result = MatchResult result (λ tables. FilesGive told no_rows files tables) (λ why. StopsAt told (λ file before. FileFails told file before why))
 
--- the shelf holds all files, or doesn't tell
-abbrev pub HoldsFiles : Told → Type 0
-HoldsFiles told = (file : File) → HoldsName told (name_of file)
+-- The files before some file were good, and the shelf tells that it doesn't hold that one.
+abbrev pub StopsAtMissing : Told → Type 0
+StopsAtMissing told = StopsAt told (λ file _. HoldsName told (name_of file) → ⊥)

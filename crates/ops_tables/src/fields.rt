@@ -166,7 +166,6 @@ fn is_decimal(field: &[u8]) -> bool
 }
 
 // The number of some digits, where it isn't above the greatest one.
-#[tactic(auto, using(crate::proofs::Digits::too_great))]
 fn number_up_to(most: u32, digits: &[u8]) -> Option<u32>
     requires { most ≤ 1_000_000 }
     ensures { result ≡ if nat_le (spec.digits_after 0 digits.now) most then Some (spec.digits_after 0 digits.now) else None }

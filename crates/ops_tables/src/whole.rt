@@ -2,7 +2,7 @@ ghost use Rattle.std.specs.Prelude.{◌≡◌, IfOk, IsErrOf};
 ghost use Rattle.desk_io.specs.Causes.{HasCause};
 ghost use Rattle.desk_io.specs.Told.{HoldsName};
 ghost use Rattle.ops_tables.specs.Files.{name_of};
-ghost use Rattle.ops_tables.specs.Whole.{ReadsFile, ReadsTables, HoldsFiles, FaultOf};
+ghost use Rattle.ops_tables.specs.Whole.{ReadsFile, ReadsTables, StopsAtMissing, FaultOf};
 ghost use Rattle.ops_tables.specs.declared.faults.TableFault.TheVariants as fault;
 
 use crate::csv_records::records_of;
@@ -63,12 +63,13 @@ fn read_file<S: Shelf>(
 }
 
 /// The twelve tables of a shelf, each read whole and tested before the next. `Bad` names the first bad
-/// record in the order of the files; `ReadFault` comes only where the shelf's count of faults rose, and
-/// `TooLong` where a source has more than 64 MiB, both only after the tables before it were good.
+/// record in the order of the files; `TooLong` says that a source has more than 64 MiB, and comes only
+/// after the tables before it were good. `ReadFault` comes only where the shelf's count of faults rose;
+/// a sound shelf gives it only at a file that it doesn't hold, after the tables before that were good.
 pub fn read_tables<S: Shelf>(alloc: Global, shelf: &mut S) -> Result<Tables, TableFault>
     ensures tables { ReadsTables (S.sources shelf.old) result }
     ensures same { S.sources shelf.new ≡ S.sources shelf.old }
-    ensures sound { S.sound shelf.old → S.sound shelf.new × (HoldsFiles (S.sources shelf.old) → IsErrOf result fault.ReadFault → ⊥) }
+    ensures sound { S.sound shelf.old → S.sound shelf.new × (IsErrOf result fault.ReadFault → StopsAtMissing (S.sources shelf.old)) }
     ensures cause { HasCause fault.ReadFault (S.fault_count shelf.old) (S.fault_count shelf.new) result }
 {
     let mut tables = Tables::unread(alloc);

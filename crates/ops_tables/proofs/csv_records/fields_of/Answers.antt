@@ -1,4 +1,4 @@
-use Rattle.std.proofs.Common.{◌≡◌, ◌∙◌, ap, ap₂, sym, refl, arith, ℕ, List, [], ◌∷◌, ◌++◌, ◌+◌, ◌<◌, Some, None, length, get_or, take}
+use Rattle.std.proofs.Common.{◌∙◌, ap, ap₂, sym, arith, ℕ, List, [], ◌∷◌, ◌++◌, ◌<◌, length}
 use Rattle.std.specs.Prelude.{option_map}
 use Rattle.csv.specs.Records.{fields_of}
 use Rattle.ops_tables.proofs.CsvFields.{field_get, field_there}

@@ -1,5 +1,4 @@
 use Rattle.std.proofs.Common.{◌≡◌, ◌∙◌, ap, sym, refl, arith, ℕ, List, ◌∷◌, ◌+◌, ◌*◌, ◌-◌, ◌<◌, drop, get_or, length, drop-cons, add-one}
-use Rattle.std.proofs.lemmas.Bool.Decides.{nat_tests}
 use Rattle.ops_tables.specs.Fields.{digits_after}
 use Rattle.ops_tables.proofs.Digits.{too_great}
 use Rattle.ops_tables.proofs.fields.number_up_to.Goals as goal

@@ -1,4 +1,4 @@
-use Rattle.std.proofs.Common.{◌≡◌, sym, arith}
+use Rattle.std.proofs.Common.{sym, arith}
 use Rattle.std.proofs.lemmas.Bool.Decides.{nat_tests}
 use Rattle.ops_tables.proofs.Headers.{apart}
 use Rattle.ops_tables.proofs.reading.is_header.Goals as goal

@@ -1,4 +1,4 @@
-use Rattle.std.proofs.Common.{◌≡◌, ◌∙◌, ap, sym, refl, ◌||◌, ◌++◌, ◌∷◌, [], cond}
+use Rattle.std.proofs.Common.{◌∙◌, ap, ◌||◌, ◌∷◌, [], cond}
 use Rattle.std.specs.List.{list_any}
 use Rattle.std.specs.Str.{bytes_eq}
 use Rattle.std.proofs.lemmas.List.Folds.{list_any-append}

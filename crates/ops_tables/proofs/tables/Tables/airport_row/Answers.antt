@@ -1,8 +1,7 @@
-use Rattle.std.proofs.Common.{◌≡◌, ◌∙◌, ap, []}
-use Rattle.std.specs.Prelude.{find, ◌&&◌}
+use Rattle.std.proofs.Common.{◌∙◌, ap}
+use Rattle.std.specs.Prelude.{find}
 use Rattle.std.specs.Str.{bytes_eq}
 use Rattle.std.proofs.lemmas.List.Elements.{All-filter}
-use Rattle.ops_tables.specs.Grouped.{group_name}
 use Rattle.ops_tables.specs.Limits.{FitsAirport}
 use Rattle.ops_tables.specs.Tables.{airport_of}
 use Rattle.ops_tables.proofs.Lookups.{find-filter}

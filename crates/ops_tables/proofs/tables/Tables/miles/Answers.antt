@@ -1,4 +1,4 @@
-use Rattle.std.proofs.Common.{◌≡◌, ◌∙◌, ap, []}
+use Rattle.std.proofs.Common.{◌∙◌, ap, []}
 use Rattle.std.specs.Prelude.{find, ◌&&◌}
 use Rattle.std.specs.Option.{option_map}
 use Rattle.std.specs.Str.{bytes_eq}

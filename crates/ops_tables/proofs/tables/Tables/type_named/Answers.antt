@@ -1,5 +1,5 @@
-use Rattle.std.proofs.Common.{◌≡◌, ◌∙◌, ap, []}
-use Rattle.std.specs.Prelude.{find, ◌&&◌}
+use Rattle.std.proofs.Common.{◌∙◌, ap, []}
+use Rattle.std.specs.Prelude.{find}
 use Rattle.std.specs.Str.{bytes_eq}
 use Rattle.std.proofs.lemmas.List.Elements.{All-filter}
 use Rattle.ops_tables.specs.Grouped.{group_name}
