@@ -24,20 +24,25 @@ fn shelf_with(alloc: Global, other: &str, text: &[u8]) -> Result<MemoryShelf, Ou
 }
 
 // The number and the reason of the first bad record, which has to be of the table with that name.
+fn bad_record(alloc: Global, shelf: &mut MemoryShelf, name: &str) -> Option<(u32, TableWhy)> {
+    let read = read_tables(alloc, shelf);
+    let Err(TableFault::Bad(bad)) = read else {
+        return None;
+    };
+    if bad.name.bytes() != name.as_bytes() {
+        return None;
+    }
+    Some((bad.line, bad.why))
+}
+
+// The same over the small tables, with another text for that table.
 fn first_bad_of(
     alloc: Global,
     name: &str,
     text: &[u8],
 ) -> Result<Option<(u32, TableWhy)>, OutOfMemory> {
     let mut shelf = shelf_with(alloc, name, text)?;
-    let read = read_tables(alloc, &mut shelf);
-    let Err(TableFault::Bad(bad)) = read else {
-        return Ok(None);
-    };
-    if bad.name.bytes() != name.as_bytes() {
-        return Ok(None);
-    }
-    Ok(Some((bad.line, bad.why)))
+    Ok(bad_record(alloc, &mut shelf, name))
 }
 
 // The header of a table of the small airline.
@@ -50,14 +55,15 @@ fn header_of(name: &str) -> &'static str {
         .map_or("", |(header, _)| header)
 }
 
-// The same of a table with its header and other records.
+// The same with other records under the header of that table.
 fn first_bad(
     alloc: Global,
     name: &str,
     records: &[u8],
 ) -> Result<Option<(u32, TableWhy)>, OutOfMemory> {
     let mut text = Vec::new(alloc);
-    push_all(&mut text, &[header_of(name).as_bytes(), b"\n", records])?;
+    push_all(&mut text, &[header_of(name).as_bytes()])?;
+    push_all(&mut text, &[b"\n", records])?;
     first_bad_of(alloc, name, &text)
 }
 
@@ -315,8 +321,10 @@ fn a_bad_record_comes_before_a_missing_table(rt: HostRuntime) -> Result<(), Fail
     let settings = Text::of(alloc, b"name,value\nhold_minutes,x\n")?;
     sources.push((Text::of(alloc, b"settings.csv")?, settings))?;
     let mut shelf = MemoryShelf::new(sources, Vec::new(alloc));
-    let read = read_tables(alloc, &mut shelf);
-    assert!(rt; matches!(read, Err(TableFault::Bad(bad)) if bad.line == 2));
+    assert_eq!(rt;
+        bad_record(alloc, &mut shelf, "settings.csv"),
+        Some((2, TableWhy::BadField))
+    );
     assert_eq!(rt; shelf.faults(), 0);
     Ok(())
 }
