@@ -1,8 +1,9 @@
 -- The periods of forecasts (WMO FM 51, 51.1.3): DDHH/DDHH.
-use Rattle.std.specs.Prelude.{ℕ, nat_lt, ◌==◌, if◌then◌else◌, List, [], ◌∷◌, Result, Ok, Err}
+use Rattle.std.specs.Prelude.{ℕ, nat_lt, if◌then◌else◌, List, [], ◌∷◌, Result, Ok, Err}
 use Rattle.codes.specs.declared.fault.Why.{Why}
 use Rattle.codes.specs.declared.fault.Why.TheVariants.{Missing, BadPeriod}
 use Rattle.codes.specs.declared.fault.BadReport.{BadReport}
+use Rattle.codes.specs.Cond.{is_period}
 use Rattle.codes.specs.Moment.{written_moment, moment_or}
 
 -- the moment at which a period begins or ends, of two digits each of a day, an hour and a minute
@@ -15,10 +16,12 @@ ends (Err why) second = Err why
 ends (Ok from) (Err why) = Err why
 ends (Ok from) (Ok to) = if nat_lt from to then Ok (from, to) else Err BadPeriod
 
--- the period of one group
+-- The period of one group. A group that isn't four digits, / and four digits has no ends to speak of.
 unfoldable pub period_of : List ℕ → ℕ → Result (ℕ × ℕ) Why
 period_of (a ∷ b ∷ c ∷ d ∷ s ∷ e ∷ f ∷ g ∷ h ∷ []) first_day =
-    if s == 47 then ends (end_of (a ∷ b ∷ c ∷ d ∷ 48 ∷ 48 ∷ []) first_day) (end_of (e ∷ f ∷ g ∷ h ∷ 48 ∷ 48 ∷ []) first_day) else Err BadPeriod
+    if is_period (a ∷ b ∷ c ∷ d ∷ s ∷ e ∷ f ∷ g ∷ h ∷ [])
+    then ends (end_of (a ∷ b ∷ c ∷ d ∷ 48 ∷ 48 ∷ []) first_day) (end_of (e ∷ f ∷ g ∷ h ∷ 48 ∷ 48 ∷ []) first_day)
+    else Err BadPeriod
 period_of _ first_day = Err BadPeriod
 
 -- the same at the group of a number

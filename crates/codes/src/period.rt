@@ -1,6 +1,7 @@
 ghost use Rattle.std.specs.Prelude.{◌≡◌, ◌≤◌, ◌<◌, ◌+◌, ◌-◌, Ok, IfOk, length, drop};
 ghost use Rattle.codes.specs.Period as spec;
 
+use crate::cond::is_period;
 use crate::fault::{BadReport, Why};
 use crate::groups::Groups;
 use crate::moment::{moment_or, written_moment};
@@ -25,9 +26,12 @@ fn period_of(group: &[u8], first_day: u64) -> Result<(Minute, Minute), Why>
     ensures value { result ≡ spec.period_of group.now first_day }
     ensures range { IfOk result (λ p. (FIRST ≤ p.0) × (p.0 < p.1) × (p.1 ≤ LAST)) }
 {
-    let [a, b, c, d, b'/', e, f, g, h] = group else {
+    let [a, b, c, d, _, e, f, g, h] = group else {
         return Err(Why::BadPeriod);
     };
+    if !is_period(group) {
+        return Err(Why::BadPeriod);
+    }
     let from = end_of([*a, *b, *c, *d, b'0', b'0'], first_day)?;
     let to = end_of([*e, *f, *g, *h, b'0', b'0'], first_day)?;
     if from < to {

@@ -113,8 +113,8 @@ fn conditions_are_the_least_named(rt: HostRuntime) -> Result<(), Fail> {
 fn periods_times_and_stations(rt: HostRuntime) -> Result<(), Fail> {
     // The five days from 2025-03-11.
     let first_day = 20_158;
-    let groups = Groups::of(rt.alloc(), b"1212/1318 1318/1212 0612/3224")?;
-    assert_eq!(rt; groups.len(), 3);
+    let groups = Groups::of(rt.alloc(), b"1212/1318 1318/1212 0612/3224 0612/13A8")?;
+    assert_eq!(rt; groups.len(), 4);
     for (n, wanted) in [
         (1, Ok((29_029_680, 29_031_480))),
         (
@@ -135,6 +135,13 @@ fn periods_times_and_stations(rt: HostRuntime) -> Result<(), Fail> {
             4,
             Err(BadReport {
                 group: 4,
+                why: Why::BadPeriod,
+            }),
+        ),
+        (
+            5,
+            Err(BadReport {
+                group: 5,
                 why: Why::Missing,
             }),
         ),
