@@ -1,1 +1,2 @@
 pub mod LowestLaws
+mod FloorLaws

@@ -1,3 +1,3 @@
-pub mod Pair
 pub mod Minima
 pub mod Floor
+pub mod Lowest

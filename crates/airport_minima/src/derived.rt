@@ -1,12 +1,11 @@
 ghost use Rattle.std.specs.Prelude.{◌≡◌, ◌≤◌, ◌++◌, map, filter, All, IfOk, OnOk};
 ghost use Rattle.ops_tables.specs.Limits.{FitsApproach, FitsAlternate, FitsSettings};
-ghost use Rattle.airport_minima.specs.Pair.{AreWithin};
+ghost use Rattle.codes.specs.Pair.{AreWithin};
 ghost use Rattle.airport_minima.specs.Minima as spec;
 ghost use Rattle.airport_minima.specs.Minima.{landing, alternate_pairs};
 
-use crate::pair::{Pair, Pairs};
 use crate::usable::{millimetres, minima_of, usable};
-use codes::Station;
+use codes::{Pair, Pairs, Station};
 use desk_io::{Listed, OutOfMemory};
 use ops_tables::{AlternateRow, Approach, Lost, Settings, Tables, TypeRow};
 use std::alloc::Global;

@@ -1,12 +1,12 @@
-ghost use Rattle.std.specs.Prelude.{◌≡◌, ◌≤◌, filter, All, IfSome};
+ghost use Rattle.std.specs.Prelude.{◌≡◌, ◌≤◌, length, filter, All, IfSome, MatchOption};
 ghost use Rattle.ops_tables.specs.Limits.{FitsApproach};
-ghost use Rattle.airport_minima.specs.Minima.{is_usable};
+ghost use Rattle.airport_minima.specs.Minima.{is_usable, usable};
 ghost use Rattle.airport_minima.specs.Floor as spec;
 ghost use Rattle.airport_minima.specs.Floor.{flag_floor};
+ghost use Rattle.airport_minima.specs.Lowest.{IsFlagFloor};
 
-use crate::pair::{MILE, Pair};
 use crate::usable::{is_usable, millimetres};
-use codes::Station;
+use codes::{MILE, Pair, Station};
 use ops_tables::{Approach, Lost, Tables, TypeRow};
 
 /// The least height in feet and the least visibility in sixteenths of a statute mile of some
@@ -75,13 +75,8 @@ fn floor_vis(vis16: u32) -> u32
     (millimetres(vis16) + 2 * MILE).max(3 * MILE)
 }
 
-/// The weather at the destination at or above which a flag flight needs no alternate (14 CFR
-/// 121.621(a)(1)); none exactly where there is no approach that the type can fly. The ceiling is
-/// 1,500 feet above the circling minimum. Where the airport has none, it is 2,000 feet or 1,500 above
-/// the lowest height, whichever is greater. The visibility is 3 statute miles, or 2 more than the
-/// lowest visibility, whichever is greater. It takes no memory.
 #[tactic(auto, unfolding(crate::specs::Floor::flag_floor))]
-pub fn flag_floor(tables: &Tables, kind: &TypeRow, station: Station, lost: &Lost) -> Option<Pair>
+fn floor_over(tables: &Tables, kind: &TypeRow, station: Station, lost: &Lost) -> Option<Pair>
     ensures { result ≡ flag_floor tables.now kind.now station lost.now }
 {
     let lowest = lowest_usable(tables.approaches(station), kind, lost)?;
@@ -89,4 +84,16 @@ pub fn flag_floor(tables: &Tables, kind: &TypeRow, station: Station, lost: &Lost
         ceiling: floor_ceiling(circle_of(tables, station), lowest.height),
         vis: floor_vis(lowest.vis16),
     })
+}
+
+/// The weather at the destination at or above which a flag flight needs no alternate (14 CFR
+/// 121.621(a)(1)); none exactly where there is no approach that the type can fly. The ceiling is
+/// 1,500 feet above the circling minimum. Where the airport has none, it is 2,000 feet or 1,500 above
+/// the lowest height, whichever is greater. The visibility is 3 statute miles, or 2 more than the
+/// lowest visibility, whichever is greater. It takes no memory.
+pub fn flag_floor(tables: &Tables, kind: &TypeRow, station: Station, lost: &Lost) -> Option<Pair>
+    ensures value { result ≡ flag_floor tables.now kind.now station lost.now }
+    ensures lowest { MatchOption result (length (usable tables.now kind.now station lost.now) ≡ 0) (λ floor. IsFlagFloor tables.now kind.now station lost.now floor) }
+{
+    floor_over(tables, kind, station, lost)
 }

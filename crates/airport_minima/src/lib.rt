@@ -3,12 +3,7 @@
 
 mod derived;
 mod floors;
-mod pair;
 mod usable;
 
 pub use derived::{alternate_pairs, landing};
 pub use floors::flag_floor;
-pub use pair::{MILE, Pair, Pairs, meets};
-
-#[cfg(test)]
-mod tests;

@@ -2,7 +2,7 @@ ghost use Rattle.std.specs.Prelude.{◌≡◌, ◌≤◌, map, filter, All, IfOk
 ghost use Rattle.ops_tables.specs.Limits.{FitsApproach};
 ghost use Rattle.airport_minima.specs.Minima as spec;
 
-use crate::pair::Pair;
+use codes::Pair;
 use desk_io::OutOfMemory;
 use ops_tables::{Approach, Lost, TypeRow, has_name};
 use std::alloc::Global;

@@ -1,7 +1,8 @@
 -- The alert of a release after a judgement.
-use Rattle.std.specs.Prelude.{◌≡◌, ℕ, ◌+◌, Bool, ◌&&◌, true, false, if◌then◌else◌, List, [], ◌∷◌, Option, None, Some}
+use Rattle.std.specs.Prelude.{ℕ, ◌+◌, ◌≤◌, Bool, ◌&&◌, true, false, if◌then◌else◌, List, [], ◌∷◌, Option, None, Some}
 use Rattle.plan.specs.declared.findings.Finding.{Finding}
-use Rattle.plan.specs.Findings.{is_same, is_before}
+use Rattle.plan.specs.Findings.{is_same, is_before, AreInOrder, AreAmong}
+use Rattle.plan.specs.Texts.{IsMoment}
 use Rattle.alerts.specs.declared.alert.Alert.{Alert}
 
 -- the same findings in the same order
@@ -41,3 +42,13 @@ abbrev pub alert_after : Option Alert → ℕ → List ℕ → List Finding → 
 alert_after None release desk [] moment = None
 alert_after None release desk (f ∷ fs) moment = Some (opened_alert release desk (f ∷ fs) moment)
 alert_after (Some a) release desk findings moment = Some (alert_once_open (are_same a.failing findings) a findings)
+
+-- What holds of each alert, where no version is above a number: what fails and what ever failed stand
+-- in order, each once, and what fails is among what ever failed.
+pub record IsAlert (most : ℕ) (a : Alert) : Type 0 where
+  pub moment : IsMoment a.opened
+  pub first : 1 ≤ a.version
+  pub version : a.version ≤ most
+  pub failing : AreInOrder a.failing
+  pub ever : AreInOrder a.ever
+  pub among : AreAmong a.ever a.failing

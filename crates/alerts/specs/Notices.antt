@@ -1,5 +1,5 @@
 -- What a dispatcher is told of the alerts of his releases.
-use Rattle.std.specs.Prelude.{ℕ, nat_lt, if◌then◌else◌, Option, None, Some}
+use Rattle.std.specs.Prelude.{nat_lt, if◌then◌else◌, Option, None, Some}
 use Rattle.alerts.specs.declared.alert.Alert.{Alert}
 use Rattle.alerts.specs.declared.notices.Notice.{Notice}
 use Rattle.alerts.specs.declared.notices.NoticeKind.{NoticeKind}

@@ -5,8 +5,8 @@ use Rattle.codes.specs.declared.cond.Cond.{Cond}
 use Rattle.plan.specs.declared.flights.Leg.{Leg}
 use Rattle.plan.specs.declared.flights.Kind.{Kind}
 use Rattle.plan.specs.declared.flights.Kind.TheVariants.{Domestic, Flag}
-use Rattle.airport_minima.specs.declared.pair.Pair.{Pair}
-use Rattle.airport_minima.specs.Pair.{is_met, meets, raised}
+use Rattle.codes.specs.declared.pair.Pair.{Pair}
+use Rattle.codes.specs.Pair.{is_met, meets, raised}
 
 -- a takeoff alternate is needed where the weather is below all landing minima
 unfoldable pub needs_takeoff : Cond → List Pair → Bool

@@ -5,6 +5,3 @@
 mod needs;
 
 pub use needs::{in_range, is_marginal, needs_destination, needs_takeoff};
-
-#[cfg(test)]
-mod tests;

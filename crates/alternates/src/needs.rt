@@ -1,9 +1,8 @@
 ghost use Rattle.std.specs.Prelude.{◌≡◌, ◌≤◌, ◌+◌};
-ghost use Rattle.airport_minima.specs.Pair.{is_met, raised, reaches};
+ghost use Rattle.codes.specs.Pair.{is_met, raised, reaches};
 ghost use Rattle.alternates.specs.Needs as spec;
 
-use airport_minima::{MILE, Pair, meets};
-use codes::Cond;
+use codes::{Cond, MILE, Pair, meets};
 use plan::{Kind, Leg};
 
 /// The weather with which a domestic flight needs no alternate: 2,000 feet and 3 statute miles

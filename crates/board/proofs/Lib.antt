@@ -1,2 +1,4 @@
 pub mod Parts
 pub mod Kept
+pub mod Walks
+pub mod Places

@@ -1,39 +1,49 @@
 -- What the board's content stands for.
-use Rattle.std.specs.Prelude.{ℕ, List, Option, None, Some, vec_len, ◌<◌, ◌≡◌}
+use Rattle.std.specs.Prelude.{ℕ, ◌+◌, ◌≤◌, Some, vec_len, ◌<◌, ◌≡◌}
 use Rattle.std.specs.Vec.{vec_capacity}
 use Rattle.facts.specs.Reports.{room_for}
-use Rattle.facts.specs.Reading.{HasMoments}
+use Rattle.facts.specs.Reading.{IsRead}
 use Rattle.machine.specs.State.{State}
 use Rattle.machine.specs.declared.effect.Effect.{Effect}
-use Rattle.machine.specs.declared.effect.Effect.TheVariants.{Admit, File, Put, PutAfresh}
+use Rattle.machine.specs.declared.effect.Effect.TheVariants.{Tick, Admit, File, Put, PutAfresh}
 use Rattle.machine.specs.declared.effect.Decision.{Decision}
-use Rattle.machine.specs.declared.effect.Decision.TheVariants.{Refuse, Show, Do}
+use Rattle.machine.specs.declared.effect.Decision.TheVariants.{Show, Do}
 use Rattle.board.specs.declared.content.Content.{Content}
 
 -- the state that the content is
 abbrev pub state_of : Content → State
-state_of c = record { moment = c.moment; reports = c.reports.reports; releases = c.releases.items; alerts = c.alerts.items; entries = c.entries.items }
+state_of c = record { moment = c.moment; counters = c.counters; reports = c.reports.reports; releases = c.releases.items; alerts = c.alerts.items; entries = c.entries.items }
 
 -- there is room for what an effect adds
-abbrev pub HasRoomFor : Content → Option Effect → Type 0
-HasRoomFor c None = Unit {0}
-HasRoomFor c (Some (Admit report)) = c.reports.room ≡ Some (room_for report)
-HasRoomFor c (Some (File r)) = vec_len c.releases < vec_capacity c.releases
-HasRoomFor c (Some (Put r)) = Unit {0}
-HasRoomFor c (Some (PutAfresh r)) = Unit {0}
+abbrev pub HasRoomFor : Content → Effect → Type 0
+HasRoomFor c (Tick to) = Unit {0}
+HasRoomFor c (Admit report) = c.reports.room ≡ Some (room_for report)
+HasRoomFor c (File r) = vec_len c.releases < vec_capacity c.releases
+HasRoomFor c (Put r) = Unit {0}
+HasRoomFor c (PutAfresh r) = Unit {0}
 
--- there is room for an entry and for what an effect adds
-abbrev pub HasRoom : Content → Option Effect → Type 0
-HasRoom c effect = (vec_len c.entries < vec_capacity c.entries) × HasRoomFor c effect
+-- there is room for an entry, for some more alerts, and for what an effect adds
+pub record HasRoom (c : Content) (more : ℕ) (effect : Effect) : Type 0 where
+  pub entries : vec_len c.entries < vec_capacity c.entries
+  pub alerts : vec_len c.alerts + more ≤ vec_capacity c.alerts
+  pub rest : HasRoomFor c effect
 
--- each moment of an admitted report is one that is read
+-- a report that may be admitted has the next id; it is canonical, and its reading that of its text
+abbrev pub MayCome : State → Effect → Type 0
+MayCome s (Tick to) = Unit {0}
+MayCome s (Admit report) = (report.id ≡ s.counters.next_report) × IsRead report
+MayCome s (File r) = r.id ≡ s.counters.next_release
+MayCome s (Put r) = Unit {0}
+MayCome s (PutAfresh r) = Unit {0}
+
+-- an admitted report is canonical, and its reading that of its text
 abbrev pub IsShown : Effect → Type 0
-IsShown (Admit report) = HasMoments report
+IsShown (Tick to) = Unit {0}
+IsShown (Admit report) = IsRead report
 IsShown (File r) = Unit {0}
 IsShown (Put r) = Unit {0}
 IsShown (PutAfresh r) = Unit {0}
 
 abbrev pub EffectIsShown : Decision → Type 0
-EffectIsShown (Refuse refusal) = Unit {0}
 EffectIsShown (Show reply) = Unit {0}
 EffectIsShown (Do reply effect) = IsShown effect

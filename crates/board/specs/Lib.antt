@@ -1,3 +1,4 @@
 pub mod Contents
+pub mod Answers
 pub mod Prospect
 pub mod Prepare

@@ -1,51 +1,58 @@
 -- A step that is prepared: what is left is to put it in place.
-use Rattle.std.specs.Prelude.{◌≡◌, ℕ, List, ◌∷◌, [], ◌++◌, option_to_list, Option, None, Some}
-use Rattle.std.specs.List.{filter_map}
-use Rattle.facts.specs.Reading.{HasMoments}
-use Rattle.alerts.specs.declared.alert.Alert.{Alert}
-use Rattle.machine.specs.declared.effect.Effect.TheVariants.{Admit, File, Put, PutAfresh}
-use Rattle.facts.specs.declared.report.Report.{Report}
-use Rattle.plan.specs.declared.release.Release.{Release}
-use Rattle.machine.specs.declared.effect.Effect.{Effect}
-use Rattle.machine.specs.State.{State, judged_all, open_alert, next_report}
-use Rattle.machine.specs.Step.{Stepped, reports_after, releases_after, old_alert, notice_for}
-use Rattle.board.specs.declared.judging.Judged.{Judged}
-use Rattle.board.specs.declared.steps.Installed.{Installed}
-use Rattle.board.specs.declared.steps.Prepared.{Prepared}
+use Rattle.std.specs.Prelude.{◌≡◌, ◌∷◌, [], ◌++◌, length, Option, None, Some}
+use Rattle.machine.specs.State.{State}
+use Rattle.machine.specs.Events.{effected, put_changes}
+use Rattle.machine.specs.Step.{Stepped, counted}
+use Rattle.machine.specs.Sound.{IsBoard}
+use Rattle.board.specs.Contents.{state_of, HasRoom, MayCome}
+use Rattle.board.specs.declared.content.Content.{Content}
+use Rattle.board.specs.declared.prepared.Prepared.{Prepared}
+use Rattle.board.specs.declared.prepared.Installed.{Installed}
+use Rattle.board.specs.declared.prepared.Event.{Event}
 
-abbrev pub reports_with : Option Effect → List Report → List Report
-reports_with None reports = reports
-reports_with (Some effect) reports = reports_after effect reports
+-- the state once an event is put in place
+abbrev pub with_event : Event → State → State
+with_event e s = record (effected e.effect s) {
+  counters = counted e.entered.what (effected e.effect s).counters;
+  alerts = put_changes e.changes.items s.alerts;
+  entries = (effected e.effect s).entries ++ e.entered ∷ [];
+}
 
-abbrev pub releases_with : Option Effect → List Release → List Release
-releases_with None releases = releases
-releases_with (Some effect) releases = releases_after effect releases
+abbrev pub with_events : Option Event → State → State
+with_events None s = s
+with_events (Some e) s = with_event e s
 
 -- the state once what is prepared is put in place
-abbrev pub state_with : State → ℕ → Option Effect → Prepared → State
-state_with s moment effect p =
-    record { moment = moment; reports = reports_with effect s.reports; releases = releases_with effect s.releases; alerts = p.judged.alerts.items; entries = s.entries ++ p.entered ∷ [] }
+unfoldable pub installed : Prepared → State → State
+installed p s = with_events p.event s
+
+-- what is prepared are the reply, the state after it and the notices of a step
+pub record IsStepped (s : State) (p : Prepared) (stepped : Stepped) : Type 0 where
+  pub reply : p.reply ≡ stepped.reply
+  pub state : installed p s ≡ stepped.state
+  pub notices : p.notices ≡ stepped.notices
 
 -- the reply and what is told of the alerts are those of a step
-abbrev pub IsAnswered : Installed → Stepped → Type 0
-IsAnswered i stepped = (i.reply ≡ stepped.reply) × (i.notices ≡ stepped.notices)
+pub record IsAnswered (i : Installed) (stepped : Stepped) : Type 0 where
+  pub reply : i.reply ≡ stepped.reply
+  pub notices : i.notices ≡ stepped.notices
 
--- what a step needs that is put in place
-abbrev pub EffectMayCome : State → Option Effect → Type 0
-EffectMayCome s None = Unit {0}
-EffectMayCome s (Some (Admit report)) = (report.id ≡ next_report s) × HasMoments report
-EffectMayCome s (Some (File r)) = Unit {0}
-EffectMayCome s (Some (Put r)) = Unit {0}
-EffectMayCome s (Some (PutAfresh r)) = Unit {0}
+-- an event may be put in place without memory
+abbrev pub MayInstall : Content → Option Event → Type 0
+MayInstall c None = Unit {0}
+MayInstall c (Some e) = HasRoom c (length e.changes.items) e.effect × MayCome (state_of c) e.effect
 
-abbrev pub reports_and : State → Option Report → List Report
-reports_and s fresh = s.reports ++ option_to_list fresh
+-- what is prepared may be put in place, and keeps what holds of a board
+pub record IsReady (opening : State) (c : Content) (p : Prepared) : Type 0 where
+  pub may : MayInstall c p.event
+  pub keeps : IsBoard opening (installed p (state_of c))
 
--- releases judged by some reports, where `old` says which alert stood open for each
-pub record IsJudgedBy (s : State) (reports : List Report) (old : ℕ → Option Alert) (moment : ℕ) (releases : List Release) (j : Judged) : Type 0 where
-  pub alerted : j.alerts.items ≡ judged_all reports old moment releases
-  pub told : j.notices ≡ filter_map (notice_for reports (open_alert s.alerts) old moment) releases
+-- What a board shows: the state that it was opened in, its state, and the prepared step that may be
+-- installed without memory.
+pub record Shown : Type 0 where
+  pub opening : State
+  pub state : State
+  pub room : Option Prepared
 
--- every release judged once an effect is there
-abbrev pub IsJudged : State → Effect → Judged → Type 0
-IsJudged s effect j = IsJudgedBy s (reports_after effect s.reports) (old_alert effect s.alerts) s.moment (releases_after effect s.releases) j
+abbrev pub shown : State → State → Option Prepared → Shown
+shown opening s room = record { opening = opening; state = s; room = room }

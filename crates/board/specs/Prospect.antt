@@ -1,30 +1,54 @@
--- What releases are judged by: what the board holds, and what is about to change.
-use Rattle.std.specs.Prelude.{ℕ, List, ◌++◌, option_to_list, Option, None, Some}
-use Rattle.std.specs.Option.{option_copied}
-use Rattle.facts.specs.declared.report.Report.{Report}
+-- What is judged: what the board holds, once an effect is there. One pass over the releases and the
+-- alerts, each in its order.
+use Rattle.std.specs.Prelude.{ℕ, ◌<◌, ◌==◌, if◌then◌else◌, List, [], ◌∷◌, ◌++◌, Option, None, Some}
+use Rattle.std.specs.List.{AllByRecursion}
 use Rattle.plan.specs.declared.release.Release.{Release}
 use Rattle.alerts.specs.declared.alert.Alert.{Alert}
-use Rattle.alerts.specs.declared.notices.Notice.{Notice}
-use Rattle.machine.specs.State.{open_alert, other_alert, judged}
-use Rattle.machine.specs.Step.{notice_for}
+use Rattle.machine.specs.declared.change.AlertChange.{AlertChange}
+use Rattle.machine.specs.declared.effect.Effect.{Effect}
+use Rattle.machine.specs.declared.effect.Effect.TheVariants.{Tick, Admit, File, Put, PutAfresh}
+use Rattle.machine.specs.State.{State, grounds_of, failing_of, alert_for}
+use Rattle.machine.specs.Events.{effected, change_between}
 use Rattle.board.specs.declared.judging.Prospect.{Prospect}
+use Rattle.board.specs.Contents.{state_of}
 
--- the reports that are held, and the one that is about to be admitted
-abbrev pub reports_of : Prospect → List Report
-reports_of b = b.content.now.reports.reports ++ option_to_list (option_copied b.fresh)
+-- a version that leaves room for one more
+abbrev pub IsBounded : Alert → Type 0
+IsBounded a = a.version < 1_000_000_000_000_000
 
-abbrev pub old_where : Option ℕ → List Alert → ℕ → Option Alert
-old_where None alerts = open_alert alerts
-old_where (Some gone) alerts = other_alert gone alerts
+abbrev pub AreBounded : List Alert → Type 0
+AreBounded alerts = AllByRecursion IsBounded alerts
 
--- the alert that a release is judged on from
-abbrev pub old_of : Prospect → ℕ → Option Alert
-old_of b = old_where b.gone b.content.now.alerts.items
+-- the state once the effect is there
+abbrev pub prospect : Prospect → State
+prospect p = effected p.effect.now (state_of p.content.now)
 
--- a release's alert after the judgement
-abbrev pub alert_of : Prospect → Release → Option Alert
-alert_of b r = judged (reports_of b) (old_of b) b.moment r
+-- the alert of a release that an effect leaves
+abbrev pub kept_of : Effect → ℕ → Option Alert → Option Alert
+kept_of (Tick to) id before = before
+kept_of (Admit report) id before = before
+kept_of (File r) id before = before
+kept_of (Put r) id before = before
+kept_of (PutAfresh r) id before = if id == r.id then None else before
 
--- what is told of it
-abbrev pub told_of : Prospect → Release → Option Notice
-told_of b r = notice_for (reports_of b) (open_alert b.content.now.alerts.items) (old_of b) b.moment r
+-- the alert of a release once it is judged
+abbrev pub judged_by : Prospect → Release → Option Alert → Option Alert
+judged_by p r kept = alert_for (failing_of (grounds_of (prospect p)) r) kept r (prospect p).moment
+
+-- the changes of a release's alert, by the effect and by the judgement
+abbrev pub changes_by : Prospect → Option Alert → Release → List AlertChange
+changes_by p before r = change_between r.id before (kept_of p.effect.now r.id before) ++ change_between r.id (kept_of p.effect.now r.id before) (judged_by p r (kept_of p.effect.now r.id before))
+
+-- the alert at the front, where it is of that release
+abbrev pub here : ℕ → List Alert → Option Alert
+here id [] = None
+here id (a ∷ rest) = if a.release == id then Some a else None
+
+-- the alerts but for that one
+abbrev pub past : ℕ → List Alert → List Alert
+past id [] = []
+past id (a ∷ rest) = if a.release == id then rest else a ∷ rest
+
+abbrev pub walk : Prospect → List Alert → List Release → List AlertChange
+walk p alerts [] = []
+walk p alerts (r ∷ rs) = changes_by p (here r.id alerts) r ++ walk p (past r.id alerts) rs

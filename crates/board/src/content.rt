@@ -5,7 +5,7 @@ ghost use Rattle.board.specs.Contents.{state_of};
 use alerts::Alert;
 use desk_time::{FIRST, Minute};
 use facts::Reports;
-use machine::Entry;
+use machine::{Counters, Entry};
 use plan::Release;
 use std::alloc::Global;
 
@@ -13,6 +13,7 @@ use std::alloc::Global;
 #[derive(Drop)]
 pub struct Content {
     pub moment: Minute,
+    pub counters: Counters,
     pub reports: Reports,
     pub releases: Vec<Release>,
     pub alerts: Vec<Alert>,
@@ -26,6 +27,13 @@ impl Content {
     {
         Content {
             moment: FIRST,
+            counters: Counters {
+                events: 0,
+                next_report: 1,
+                next_deferral: 1,
+                next_release: 1,
+                next_kept: 1,
+            },
             reports: Reports::new(alloc),
             releases: Vec::new(alloc),
             alerts: Vec::new(alloc),
@@ -33,10 +41,10 @@ impl Content {
         }
     }
 
-    /// Whether the history is full.
+    /// Whether no event may come any more.
     pub fn is_full(&self) -> bool
         ensures { result ≡ is_full (state_of self.now) }
     {
-        self.entries.len() >= 400_000
+        self.entries.len() >= 400_000 || self.counters.events >= 999_999_999_999_000
     }
 }

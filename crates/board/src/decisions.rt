@@ -1,29 +1,32 @@
-ghost use Rattle.std.specs.Prelude.{◌≡◌, ◌==◌, ◌≤◌, [], Ok, IfOk, IfSome, length};
+ghost use Rattle.std.specs.Prelude.{◌≡◌, [], ℕ, IfOk, IfSome};
 ghost use Rattle.std.specs.Option.{option_copied};
 ghost use Rattle.codes.specs.Groups.{groups_of, canonical};
-ghost use Rattle.facts.specs.Reading.{read_of, ReadHasMoments};
-ghost use Rattle.rules.specs.Judgement.{findings_of};
-ghost use Rattle.plan.specs.Check.{HasFewLegs};
+ghost use Rattle.facts.specs.Reading.{read_of, report_of, IsRead};
+ghost use Rattle.facts.specs.Same.{same_id, minute_of_read};
+ghost use Rattle.plan.specs.Check.{HasFewLegs, plan_fault};
+ghost use Rattle.plan.specs.Texts.{IsMoment};
 ghost use Rattle.machine.specs.Decide as spec;
 ghost use Rattle.machine.specs.Decide.{decide};
 ghost use Rattle.machine.specs.State.{release_at};
-ghost use Rattle.plan.specs.Texts.{IsMoment};
-ghost use Rattle.machine.specs.Sound.{Sound, Kept, Fits, HasLegs, DecisionFits};
+ghost use Rattle.machine.specs.Sound.{Sound, Kept, HasLegs};
 ghost use Rattle.asks.specs.Forms.{IsCall};
+ghost use Rattle.board.specs.Answers.{Answers, Passes};
 ghost use Rattle.board.specs.Contents.{state_of, EffectIsShown};
 
+use crate::chain::{Stop, refused_if};
 use crate::content::Content;
 use crate::releases::find_release;
 use crate::texts::alerts_view;
 use asks::{Ask, Call, Done, Refusal, Reply};
-use codes::{BadReport, Groups, ReportFault, Why};
+use codes::{BadReport, ReportFault, Why};
 use desk_io::{Copied, OutOfMemory, Text};
-use desk_time::{FIRST, LAST, Minute};
-use facts::{Read, Report, read_report};
+use desk_time::Minute;
+use facts::{Received, Report, receive};
 use machine::{Decision, Effect};
-use plan::{Findings, Phase, Plan, Release, Revision, Signature, check_plan};
-use rules::{Evidence, judge};
+use plan::{Phase, Plan, Release, Revision, Signature, check_plan};
+use rules::{Steps, judge};
 use std::alloc::Global;
+use std::sync::ledger::Ledger;
 
 fn refusal_for(bad: BadReport) -> Refusal
     ensures { result ≡ spec.refusal_for bad.group bad.why }
@@ -35,30 +38,6 @@ fn refusal_for(bad: BadReport) -> Refusal
             what,
         },
     }
-}
-
-// The reading of a text, or why there is none.
-fn reading_of(
-    alloc: Global,
-    text: &[u8],
-    receipt: Minute,
-) -> Result<Result<Read, BadReport>, OutOfMemory>
-    requires low { FIRST ≤ receipt }
-    requires high { receipt ≤ LAST }
-    ensures value { IfOk result (λ r. r ≡ read_of text.now receipt) }
-    ensures moments { IfOk result (λ r. IfOk r ReadHasMoments) }
-{
-    match read_report(alloc, text, receipt) {
-        Ok(read) => Ok(Ok(read)),
-        Err(ReportFault::Bad(bad)) => Ok(Err(bad)),
-        Err(ReportFault::OutOfMemory) => Err(OutOfMemory),
-    }
-}
-
-fn canonical_text(alloc: Global, text: &[u8]) -> Result<Text, OutOfMemory>
-    ensures { IfOk result (λ t. t ≡ canonical (groups_of text.now)) }
-{
-    Groups::of(alloc, text)?.canonical(alloc)
 }
 
 fn once_signed(phase: Phase) -> Phase
@@ -122,63 +101,192 @@ fn cancelled(alloc: Global, release: &Release, moment: Minute) -> Result<Release
     Ok(release)
 }
 
+fn bad_plan(plan: &Plan) -> Result<(), Stop>
+    requires { HasFewLegs plan.now }
+    ensures { Passes result (spec.bad_plan (plan_fault plan.now)) }
+{
+    match check_plan(plan) {
+        Ok(()) => Ok(()),
+        Err(bad) => Err(Stop::Refused(Refusal::BadPlan {
+            leg: bad.leg,
+            what: bad.why,
+        })),
+    }
+}
+
+fn pending(release: &Release) -> Result<&Revision, Stop>
+    requires { HasLegs release.now.pending }
+    ensures value { Answers (λ v. v.now) result (spec.pending release.now) }
+    ensures legs { IfOk result (λ v. HasFewLegs v.now.plan) }
+{
+    match &release.pending {
+        None => Err(Stop::Refused(Refusal::NotPending { stage: 0 })),
+        Some(revision) => Ok(revision),
+    }
+}
+
+fn unsigned(revision: &Revision) -> Result<(), Stop>
+    ensures { Passes result (spec.unsigned revision.now.dispatcher) }
+{
+    match &revision.dispatcher {
+        None => Err(Stop::Refused(Refusal::NotPending { stage: 2 })),
+        Some(_) => Ok(()),
+    }
+}
+
+fn misnumbered(revision: &Revision, number: u64) -> Result<(), Stop>
+    ensures { Passes result (spec.misnumbered revision.now number) }
+{
+    refused_if(
+        revision.number != number,
+        Refusal::WrongRevision {
+            current: revision.number,
+        },
+    )
+}
+
+fn ended(phase: Phase) -> Result<(), Stop>
+    ensures { Passes result (spec.ended phase) }
+{
+    match phase {
+        Phase::Drafted | Phase::Ready => Ok(()),
+        Phase::Cancelled { at } => Err(Stop::Refused(Refusal::WrongPhase {
+            phase: Phase::Cancelled { at },
+        })),
+    }
+}
+
+fn signed(revision: &Revision) -> Result<(), Stop>
+    ensures { Passes result (spec.signed revision.now.dispatcher) }
+{
+    match &revision.dispatcher {
+        None => Ok(()),
+        Some(_) => Err(Stop::Refused(Refusal::AlreadySigned)),
+    }
+}
+
+fn filed(release: &Release, revision: &Revision) -> Reply
+    ensures { result ≡ Reply.Done (Done.Filed release.now.id revision.now.number) }
+{
+    Reply::Done(Done::Filed {
+        release: release.id,
+        revision: revision.number,
+    })
+}
+
 impl Content {
-    fn admit_new(&self, text: Text, read: Read) -> Decision
-        requires moment { IsMoment self.now.moment }
-        requires read { ReadHasMoments read }
-        ensures value { result ≡ spec.admit_read None (state_of self.now) text read }
-        ensures shown { EffectIsShown result }
+    fn received(&self, alloc: Global, text: &[u8]) -> Result<Received, Stop>
+        requires { IsMoment self.now.moment }
+        ensures value { Answers (λ r. r.read) result (spec.reading_or (read_of text.now (state_of self.now).moment)) }
+        ensures text { IfOk result (λ r. r.text ≡ canonical (groups_of text.now)) }
+        ensures read { IfOk result (λ r. (id : ℕ) → IsRead (report_of id self.now.moment r)) }
+    {
+        match receive(alloc, text, self.moment) {
+            Ok(received) => Ok(received),
+            Err(ReportFault::Bad(bad)) => Err(Stop::Refused(refusal_for(bad))),
+            Err(ReportFault::OutOfMemory) => Err(Stop::OutOfMemory),
+        }
+    }
+
+    fn reports_full(&self) -> Result<(), Stop>
+        ensures { Passes result (spec.reports_full (state_of self.now)) }
     {
         let held = self.reports.len();
-        if held >= 200_000 {
-            return Decision::Refuse(Refusal::ReportsFull { held: held as u64 });
+        refused_if(held >= 200_000, Refusal::ReportsFull { held: held as u64 })
+    }
+
+    fn held(&self, id: u64) -> Result<&Release, Stop>
+        requires sound { Sound (state_of self.now) }
+        requires kept { Kept (state_of self.now) }
+        ensures value { Answers (λ r. r.now) result (spec.held (state_of self.now) id) }
+        ensures legs { IfOk result (λ r. HasLegs r.now.pending) }
+    {
+        match self.release(id) {
+            None => Err(Stop::Refused(Refusal::NoSuchRelease)),
+            Some(release) => Ok(release),
         }
-        let id = held as u64 + 1;
+    }
+
+    fn release(&self, id: u64) -> Option<&Release>
+        requires sound { Sound (state_of self.now) }
+        requires kept { Kept (state_of self.now) }
+        ensures found { option_copied result ≡ release_at id (state_of self.now).releases }
+        ensures legs { IfSome (option_copied result) (λ r. HasLegs r.pending) }
+    {
+        find_release(&self.releases, id)
+    }
+
+    fn passes<L: Ledger>(
+        &self,
+        alloc: Global,
+        release: &Release,
+        revision: &Revision,
+        steps: &mut Steps<L>,
+    ) -> Result<(), Stop>
+        requires { HasFewLegs revision.now.plan }
+        ensures { Passes result (spec.fails (state_of self.now) release.now revision.now) }
+    {
+        let phase = once_signed(release.phase);
+        let findings = judge(
+            alloc,
+            &revision.plan,
+            phase,
+            &self.reports,
+            self.moment,
+            steps,
+        )?;
+        if findings.as_slice().is_empty() {
+            Ok(())
+        } else {
+            Err(Stop::Refused(Refusal::RuleFails { findings }))
+        }
+    }
+
+    fn admit_new(&self, received: Received) -> Result<Decision, Stop>
+        requires { (id : ℕ) → IsRead (report_of id self.now.moment received) }
+        ensures value { Answers (λ d. d) result (spec.admit_new (state_of self.now) received.text received.read) }
+        ensures shown { IfOk result EffectIsShown }
+    {
+        self.reports_full()?;
+        let id = self.counters.next_report;
+        let Received { text, read } = received;
         let report = Report {
             id,
             received: self.moment,
             text,
             read,
         };
-        Decision::Do(Reply::Done(Done::Report(id)), Effect::Admit(report))
+        Ok(Decision::Do(Reply::Done(Done::Report(id)), Effect::Admit(report)))
     }
 
-    fn admit_read(&self, text: Text, read: Read) -> Decision
-        requires moment { IsMoment self.now.moment }
-        requires read { ReadHasMoments read }
-        ensures value { result ≡ spec.admit_known (state_of self.now) text (Ok read) }
-        ensures shown { EffectIsShown result }
-    {
-        match self.reports.same(text.bytes(), read.minute()) {
-            Some(id) => Decision::Show(Reply::Done(Done::Report(id))),
-            None => self.admit_new(text, read),
-        }
-    }
-
-    fn admit(&self, alloc: Global, text: &Text) -> Result<Decision, OutOfMemory>
-        requires { IsMoment self.now.moment }
-        ensures value { IfOk result (λ d. d ≡ spec.decide_admit (state_of self.now) text.now) }
+    fn admit_received(&self, received: Received) -> Result<Decision, Stop>
+        requires { (id : ℕ) → IsRead (report_of id self.now.moment received) }
+        ensures value { Answers (λ d. d) result (spec.admit_read (same_id (state_of self.now).reports received.text (minute_of_read received.read)) (state_of self.now) received.text received.read) }
         ensures shown { IfOk result EffectIsShown }
     {
-        match reading_of(alloc, text.bytes(), self.moment)? {
-            Err(bad) => Ok(Decision::Refuse(refusal_for(bad))),
-            Ok(read) => Ok(self.admit_read(canonical_text(alloc, text.bytes())?, read)),
+        match self
+            .reports
+            .same(received.text.bytes(), received.read.minute())
+        {
+            Some(id) => Ok(Decision::Show(Reply::Done(Done::Report(id)))),
+            None => self.admit_new(received),
         }
     }
 
-    fn draft(&self, alloc: Global, actor: &Text, plan: &Plan) -> Result<Decision, OutOfMemory>
-        requires { HasFewLegs plan.now }
-        ensures { IfOk result (λ d. d ≡ spec.decide_draft (state_of self.now) actor.now plan.now) }
+    fn admit(&self, alloc: Global, text: &Text) -> Result<Decision, Stop>
+        requires { IsMoment self.now.moment }
+        ensures value { Answers (λ d. d) result (spec.decide_admit (state_of self.now) text.now) }
+        ensures shown { IfOk result EffectIsShown }
     {
-        if let Err(bad) = check_plan(plan) {
-            return Ok(Decision::Refuse(Refusal::BadPlan {
-                leg: bad.leg,
-                what: bad.why,
-            }));
-        }
-        let id = self.releases.len() as u64 + 1;
-        let release = Release {
-            id,
+        let received = self.received(alloc, text.bytes())?;
+        self.admit_received(received)
+    }
+
+    fn drafted(&self, alloc: Global, actor: &Text, plan: &Plan) -> Result<Release, OutOfMemory>
+        ensures { IfOk result (λ r. r ≡ spec.drafted (state_of self.now).counters.next_release actor.now plan.now) }
+    {
+        Ok(Release {
+            id: self.counters.next_release,
             holder: actor.copy(alloc)?,
             phase: Phase::Drafted,
             pending: Some(Revision {
@@ -188,264 +296,122 @@ impl Content {
                 captain: None,
             }),
             active: None,
-        };
+        })
+    }
+
+    fn draft(&self, alloc: Global, actor: &Text, plan: &Plan) -> Result<Decision, Stop>
+        requires { HasFewLegs plan.now }
+        ensures value { Answers (λ d. d) result (spec.decide_draft (state_of self.now) actor.now plan.now) }
+        ensures shown { IfOk result EffectIsShown }
+    {
+        bad_plan(plan)?;
         Ok(Decision::Do(
             Reply::Done(Done::Filed {
-                release: id,
+                release: self.counters.next_release,
                 revision: 1,
             }),
-            Effect::File(release),
+            Effect::File(self.drafted(alloc, actor, plan)?),
         ))
     }
 
-    fn findings(
-        &self,
-        alloc: Global,
-        release: &Release,
-        revision: &Revision,
-    ) -> Result<Findings, OutOfMemory>
-        requires { HasFewLegs revision.now.plan }
-        ensures { IfOk result (λ f. f ≡ findings_of revision.now.plan (spec.once_signed release.now.phase) (state_of self.now).reports) }
-    {
-        let evidence = Evidence {
-            held: &self.reports,
-            fresh: None,
-        };
-        judge(alloc, &revision.plan, once_signed(release.phase), evidence)
-    }
-
-    fn sign_clear(
-        &self,
-        alloc: Global,
-        actor: &Text,
-        release: &Release,
-        revision: &Revision,
-    ) -> Result<Decision, OutOfMemory>
-        ensures { IfOk result (λ d. d ≡ spec.sign_judged (state_of self.now) actor.now release.now revision.now []) }
-    {
-        let signature = signed_by(alloc, actor, self.moment)?;
-        let signed = with_dispatcher(alloc, release, revision, signature)?;
-        Ok(Decision::Do(
-            Reply::Done(Done::Filed {
-                release: release.id,
-                revision: revision.number,
-            }),
-            Effect::Put(signed),
-        ))
-    }
-
-    fn sign_unsigned(
-        &self,
-        alloc: Global,
-        actor: &Text,
-        release: &Release,
-        revision: &Revision,
-    ) -> Result<Decision, OutOfMemory>
-        requires { HasFewLegs revision.now.plan }
-        ensures { IfOk result (λ d. d ≡ spec.sign_unsigned (state_of self.now) actor.now release.now revision.now revision.now.dispatcher) }
-    {
-        if revision.dispatcher.is_some() {
-            return Ok(Decision::Refuse(Refusal::AlreadySigned));
-        }
-        let findings = self.findings(alloc, release, revision)?;
-        if findings.as_slice().is_empty() {
-            return self.sign_clear(alloc, actor, release, revision);
-        }
-        Ok(Decision::Refuse(Refusal::RuleFails { findings }))
-    }
-
-    fn sign_pending(
-        &self,
-        alloc: Global,
-        actor: &Text,
-        number: u64,
-        release: &Release,
-    ) -> Result<Decision, OutOfMemory>
-        requires { HasLegs release.now.pending }
-        ensures { IfOk result (λ d. d ≡ spec.sign_pending (state_of self.now) actor.now number release.now release.now.pending) }
-    {
-        let Some(revision) = &release.pending else {
-            return Ok(Decision::Refuse(Refusal::NotPending { stage: 0 }));
-        };
-        if revision.number != number {
-            return Ok(Decision::Refuse(Refusal::WrongRevision {
-                current: revision.number,
-            }));
-        }
-        self.sign_unsigned(alloc, actor, release, revision)
-    }
-
-    #[tactic(auto, using(machine::proofs::Deciding::found_release_fits))]
-    fn release(&self, id: u64) -> Option<&Release>
-        requires sound { Sound (state_of self.now) }
-        requires kept { Kept (state_of self.now) }
-        ensures found { option_copied result ≡ release_at id (state_of self.now).releases }
-        ensures fits { IfSome (option_copied result) Fits }
-    {
-        find_release(&self.releases, id)
-    }
-
-    fn sign(
+    fn sign<L: Ledger>(
         &self,
         alloc: Global,
         actor: &Text,
         id: u64,
         number: u64,
-    ) -> Result<Decision, OutOfMemory>
+        steps: &mut Steps<L>,
+    ) -> Result<Decision, Stop>
         requires sound { Sound (state_of self.now) }
         requires kept { Kept (state_of self.now) }
-        ensures { IfOk result (λ d. d ≡ spec.decide_sign (state_of self.now) actor.now id number) }
+        ensures value { Answers (λ d. d) result (spec.decide_sign (state_of self.now) actor.now id number) }
+        ensures shown { IfOk result EffectIsShown }
     {
-        match self.release(id) {
-            None => Ok(Decision::Refuse(Refusal::NoSuchRelease)),
-            Some(release) => self.sign_pending(alloc, actor, number, release),
-        }
-    }
-
-    fn concur_clear(
-        &self,
-        alloc: Global,
-        actor: &Text,
-        release: &Release,
-        revision: &Revision,
-    ) -> Result<Decision, OutOfMemory>
-        ensures { IfOk result (λ d. d ≡ spec.concur_judged (state_of self.now) actor.now release.now revision.now []) }
-    {
+        let release = self.held(id)?;
+        let revision = pending(release)?;
+        misnumbered(revision, number)?;
+        signed(revision)?;
+        self.passes(alloc, release, revision, steps)?;
         let signature = signed_by(alloc, actor, self.moment)?;
-        let signed = made_active(alloc, release, revision, signature)?;
         Ok(Decision::Do(
-            Reply::Done(Done::Filed {
-                release: release.id,
-                revision: revision.number,
-            }),
-            Effect::PutAfresh(signed),
+            filed(release, revision),
+            Effect::Put(with_dispatcher(alloc, release, revision, signature)?),
         ))
     }
 
-    fn concur_signed(
-        &self,
-        alloc: Global,
-        actor: &Text,
-        number: u64,
-        release: &Release,
-        revision: &Revision,
-    ) -> Result<Decision, OutOfMemory>
-        requires { HasFewLegs revision.now.plan }
-        ensures { IfOk result (λ d. d ≡ spec.concur_numbered (revision.now.number == number) (state_of self.now) actor.now release.now revision.now) }
-    {
-        if revision.number != number {
-            return Ok(Decision::Refuse(Refusal::WrongRevision {
-                current: revision.number,
-            }));
-        }
-        let findings = self.findings(alloc, release, revision)?;
-        if findings.as_slice().is_empty() {
-            return self.concur_clear(alloc, actor, release, revision);
-        }
-        Ok(Decision::Refuse(Refusal::RuleFails { findings }))
-    }
-
-    fn concur_pending(
-        &self,
-        alloc: Global,
-        actor: &Text,
-        number: u64,
-        release: &Release,
-    ) -> Result<Decision, OutOfMemory>
-        requires { HasLegs release.now.pending }
-        ensures { IfOk result (λ d. d ≡ spec.concur_pending (state_of self.now) actor.now number release.now release.now.pending) }
-    {
-        let Some(revision) = &release.pending else {
-            return Ok(Decision::Refuse(Refusal::NotPending { stage: 0 }));
-        };
-        if revision.dispatcher.is_none() {
-            return Ok(Decision::Refuse(Refusal::NotPending { stage: 2 }));
-        }
-        self.concur_signed(alloc, actor, number, release, revision)
-    }
-
-    fn concur(
+    fn concur<L: Ledger>(
         &self,
         alloc: Global,
         actor: &Text,
         id: u64,
         number: u64,
-    ) -> Result<Decision, OutOfMemory>
+        steps: &mut Steps<L>,
+    ) -> Result<Decision, Stop>
         requires sound { Sound (state_of self.now) }
         requires kept { Kept (state_of self.now) }
-        ensures { IfOk result (λ d. d ≡ spec.decide_concur (state_of self.now) actor.now id number) }
+        ensures value { Answers (λ d. d) result (spec.decide_concur (state_of self.now) actor.now id number) }
+        ensures shown { IfOk result EffectIsShown }
     {
-        match self.release(id) {
-            None => Ok(Decision::Refuse(Refusal::NoSuchRelease)),
-            Some(release) => self.concur_pending(alloc, actor, number, release),
-        }
+        let release = self.held(id)?;
+        let revision = pending(release)?;
+        unsigned(revision)?;
+        misnumbered(revision, number)?;
+        self.passes(alloc, release, revision, steps)?;
+        let signature = signed_by(alloc, actor, self.moment)?;
+        Ok(Decision::Do(
+            filed(release, revision),
+            Effect::PutAfresh(made_active(alloc, release, revision, signature)?),
+        ))
     }
 
-    fn cancel_found(&self, alloc: Global, release: &Release) -> Result<Decision, OutOfMemory>
-        ensures { IfOk result (λ d. d ≡ spec.cancel_in (state_of self.now) release.now release.now.phase) }
+    fn cancel(&self, alloc: Global, id: u64) -> Result<Decision, Stop>
+        requires sound { Sound (state_of self.now) }
+        requires kept { Kept (state_of self.now) }
+        ensures value { Answers (λ d. d) result (spec.decide_cancel (state_of self.now) id) }
+        ensures shown { IfOk result EffectIsShown }
     {
-        if let Phase::Cancelled { at } = release.phase {
-            return Ok(Decision::Refuse(Refusal::WrongPhase {
-                phase: Phase::Cancelled { at },
-            }));
-        }
+        let release = self.held(id)?;
+        ended(release.phase)?;
         Ok(Decision::Do(
             Reply::Done(Done::Release(release.id)),
             Effect::PutAfresh(cancelled(alloc, release, self.moment)?),
         ))
     }
 
-    fn cancel(&self, alloc: Global, id: u64) -> Result<Decision, OutOfMemory>
-        ensures { IfOk result (λ d. d ≡ spec.decide_cancel (state_of self.now) id) }
+    fn view_alerts(&self, alloc: Global) -> Result<Decision, Stop>
+        requires sound { Sound (state_of self.now) }
+        requires kept { Kept (state_of self.now) }
+        ensures value { Answers (λ d. d) result (spec.decide_ask (state_of self.now) [] Ask.ViewAlerts) }
+        ensures shown { IfOk result EffectIsShown }
     {
-        match find_release(&self.releases, id) {
-            None => Ok(Decision::Refuse(Refusal::NoSuchRelease)),
-            Some(release) => self.cancel_found(alloc, release),
-        }
-    }
-
-    #[tactic(auto, unfolding(machine::specs::Decide::decide))]
-    fn view_alerts(&self, alloc: Global) -> Result<Decision, OutOfMemory>
-        requires { Kept (state_of self.now) }
-        ensures { IfOk result (λ d. d ≡ spec.decide (state_of self.now) [] Ask.ViewAlerts) }
-    {
-        let text = alerts_view(alloc, self.moment, self.entries.len(), &self.alerts)?;
+        let text = alerts_view(alloc, self.moment, self.counters.events, &self.alerts)?;
         Ok(Decision::Show(Reply::Seen(text)))
     }
 
+    /// What a call comes to.
     #[tactic(auto, unfolding(machine::specs::Decide::decide))]
-    fn decision(&self, alloc: Global, call: &Call) -> Result<Decision, OutOfMemory>
+    pub fn decide<L: Ledger>(
+        &self,
+        alloc: Global,
+        call: &Call,
+        steps: &mut Steps<L>,
+    ) -> Result<Decision, Stop>
         requires sound { Sound (state_of self.now) }
         requires kept { Kept (state_of self.now) }
         requires call { IsCall call.now.ask }
-        ensures value { IfOk result (λ d. d ≡ decide (state_of self.now) call.now.actor call.now.ask) }
+        ensures value { Answers (λ d. d) result (decide (state_of self.now) call.now) }
         ensures shown { IfOk result EffectIsShown }
     {
+        let actor = &call.actor;
         match &call.ask {
             Ask::Admit { text } => self.admit(alloc, text),
-            Ask::Draft { plan } => self.draft(alloc, &call.actor, plan),
-            Ask::Sign { release, revision } => self.sign(alloc, &call.actor, *release, *revision),
+            Ask::Draft { plan } => self.draft(alloc, actor, plan),
+            Ask::Sign { release, revision } => self.sign(alloc, actor, *release, *revision, steps),
             Ask::Concur { release, revision } => self.concur(
-                alloc,
-                &call.actor,
-                *release,
-                *revision,
+                alloc, actor, *release, *revision, steps,
             ),
             Ask::Cancel { release } => self.cancel(alloc, *release),
             Ask::ViewAlerts => self.view_alerts(alloc),
         }
-    }
-
-    /// What a call comes to.
-    #[tactic(auto, using(machine::proofs::Deciding::decided_fits))]
-    pub fn decide(&self, alloc: Global, call: &Call) -> Result<Decision, OutOfMemory>
-        requires sound { Sound (state_of self.now) }
-        requires kept { Kept (state_of self.now) }
-        requires call { IsCall call.now.ask }
-        ensures value { IfOk result (λ d. d ≡ decide (state_of self.now) call.now.actor call.now.ask) }
-        ensures shown { IfOk result EffectIsShown }
-        ensures fits { IfOk result (DecisionFits (state_of self.now)) }
-    {
-        self.decision(alloc, call)
     }
 }

@@ -1,6 +1,6 @@
 ghost use Rattle.std.specs.Prelude.{◌≡◌, ◌+◌, ◌++◌, ◌<◌, ◌∷◌, take, drop, length, slice_set, IfSome, MatchOption};
 ghost use Rattle.std.specs.Option.{option_copied};
-ghost use Rattle.machine.specs.Step.{put};
+ghost use Rattle.machine.specs.Events.{put};
 ghost use Rattle.machine.specs.State.{release_at};
 
 use plan::Release;
@@ -26,7 +26,7 @@ pub fn place_of(releases: &[Release], other: &Release) -> Option<usize>
 }
 
 /// Puts a release in the place of the first of its id. It takes no memory.
-#[tactic(auto, using(crate::proofs::Parts::put_at))]
+#[tactic(auto, using(crate::proofs::Places::replaced))]
 pub fn put_release(releases: &mut Vec<Release>, release: Release)
     ensures { releases.new.items ≡ put release releases.old.items }
 {

@@ -1,15 +1,16 @@
-ghost use Rattle.std.specs.Prelude.{◌≡◌, ◌≤◌, ◌<◌, length, slice_get, Some, IfOk, IfSome, OnOk, OnErr};
+ghost use Rattle.std.specs.Prelude.{◌≡◌, ◌≤◌, ◌<◌, length, slice_get, None, Some, IfOk, IfSome, OnOk, OnErr};
 ghost use Rattle.std.specs.Option.{option_copied};
 ghost use Rattle.machine.specs.State.{start, release_at, alert_at};
 ghost use Rattle.machine.specs.Step.{do_call, tick_to};
 ghost use Rattle.machine.specs.Texts.{closing};
+ghost use Rattle.machine.specs.Allowed.{MayLeadTo};
 ghost use Rattle.machine.specs.Sound.{IsBoard};
 ghost use Rattle.asks.specs.Forms.{IsCall, ReplyHasMoment};
-ghost use Rattle.board.specs.Prepare.{IsAnswered};
+ghost use Rattle.board.specs.Prepare.{shown, installed, IsStepped, IsAnswered};
 
 use crate::content::Content;
+use crate::prepared::{Installed, Prepared};
 use crate::releases::find_release;
-use crate::steps::Installed;
 use crate::texts::find_alert;
 use alerts::Alert;
 use asks::Call;
@@ -17,66 +18,150 @@ use desk_io::{OutOfMemory, Text};
 use desk_time::{LAST, Minute};
 use machine::Entry;
 use plan::Release;
+use rules::Steps;
 use std::alloc::Global;
 use std::marker::Model;
 use std::snapshot::Snapshot;
+use std::sync::ledger::Ledger;
 
-/// The board of releases. Contracts see its state, and the state in which it was opened; code keeps no
-/// copy of the latter.
+/// The board of releases. Contracts see its state, the state in which it was opened, of which code keeps
+/// no copy, and the prepared step that may be installed without memory.
 #[derive(Drop)]
 pub struct Board {
     content: Content,
     opening: Snapshot<Content>,
+    room: Option<Snapshot<Prepared>>,
 }
 
 impl Model for Board {
-    ghost use Rattle.machine.specs.Sound.{Shown, IsBoard};
+    ghost use Rattle.std.specs.Prelude.{IfSome};
+    ghost use Rattle.std.specs.Option.{option_map};
+    ghost use Rattle.machine.specs.Sound.{IsBoard};
     ghost use Rattle.board.specs.Contents.{state_of};
+    ghost use Rattle.board.specs.Prepare.{Shown, shown, IsReady};
 
     ghost Value = { Shown };
 
-    ghost view = { λ b. record { opening = state_of b.opening.value; state = state_of b.content } };
+    ghost view = { λ b. shown (state_of b.opening.value) (state_of b.content) (option_map (λ kept. kept.value) b.room) };
 
-    ghost invariant = { λ b. IsBoard (state_of b.opening.value) (state_of b.content) };
+    ghost invariant = { λ b. IsBoard (state_of b.opening.value) (state_of b.content) × IfSome (option_map (λ kept. kept.value) b.room) (IsReady (state_of b.opening.value) b.content) };
 }
 
 impl Board {
     /// A board on which nothing is held, at 2000-01-01 00:00.
     #[tactic(auto, using(machine::proofs::Boards::start_board))]
     pub fn new(alloc: Global) -> Board
-        ensures { result ≡ record { opening = start; state = start } }
+        ensures { result ≡ shown start start None }
     {
         let content = Content::new(alloc);
         let opening = Snapshot::of(&content);
-        Board { content, opening }
+        Board {
+            content,
+            opening,
+            room: None,
+        }
+    }
+
+    /// Prepares a call in a lane: its reply, the state after it and what is told of the alerts are those of
+    /// the call. What is held stays as it is, and the step that was prepared has room. After want of memory
+    /// none has.
+    pub fn prepare_change<L: Ledger>(
+        &mut self,
+        alloc: Global,
+        lane: u32,
+        call: &Call,
+        steps: &mut Steps<L>,
+    ) -> Result<Prepared, OutOfMemory>
+        requires { IsCall call.now.ask }
+        ensures stepped { IfOk result (λ p. IsStepped self.old.state p (do_call self.old.state lane call.now)) }
+        ensures shown { IfOk result (λ p. IfSome p.reply ReplyHasMoment) }
+        ensures ok { IfOk result (λ p. self.new ≡ shown self.old.opening self.old.state (Some p)) }
+        ensures err { OnErr result (self.new ≡ shown self.old.opening self.old.state None) }
+    {
+        self.room = None;
+        let prepared = self.content.prepare_call(alloc, lane, call, steps)?;
+        self.room = Some(Snapshot::of(&prepared));
+        Ok(prepared)
+    }
+
+    /// Prepares a tick to a later moment in a lane. It has a reply only where the history is full.
+    pub fn prepare_tick<L: Ledger>(
+        &mut self,
+        alloc: Global,
+        lane: u32,
+        to: Minute,
+        steps: &mut Steps<L>,
+    ) -> Result<Prepared, OutOfMemory>
+        requires later { self.old.state.moment < to }
+        requires within { to ≤ LAST }
+        ensures stepped { IfOk result (λ p. IsStepped self.old.state p (tick_to self.old.state lane to)) }
+        ensures shown { IfOk result (λ p. IfSome p.reply ReplyHasMoment) }
+        ensures ok { IfOk result (λ p. self.new ≡ shown self.old.opening self.old.state (Some p)) }
+        ensures err { OnErr result (self.new ≡ shown self.old.opening self.old.state None) }
+    {
+        self.room = None;
+        let prepared = self.content.prepare_tick(alloc, lane, to, steps)?;
+        self.room = Some(Snapshot::of(&prepared));
+        Ok(prepared)
+    }
+
+    /// Puts a prepared step in place, which has room since nothing was prepared or changed after it. It
+    /// takes no memory.
+    pub fn install(&mut self, prepared: Prepared) -> Installed
+        requires { self.old.room ≡ Some prepared }
+        ensures reply { result.reply ≡ prepared.reply }
+        ensures notices { result.notices ≡ prepared.notices }
+        ensures state { self.new ≡ shown self.old.opening (installed prepared self.old.state) None }
+    {
+        self.room = None;
+        let Prepared {
+            reply,
+            notices,
+            event,
+        } = prepared;
+        self.content.install(event);
+        Installed { reply, notices }
     }
 
     /// Makes a call in a lane: its reply, what it changes, and what is told of the alerts are those of
-    /// the call. A refusal, a view and a repeated report change nothing. After want of memory the board is
-    /// as before.
-    #[tactic(auto, using(machine::proofs::Boards::call_keeps, machine::proofs::Boards::reply_shown))]
-    pub fn apply(&mut self, alloc: Global, lane: u32, call: &Call) -> Result<Installed, OutOfMemory>
+    /// the call. A refusal, a view and a repeated report change nothing, and an accepted call no more than
+    /// its ask may. After want of memory the board is as before.
+    pub fn apply<L: Ledger>(
+        &mut self,
+        alloc: Global,
+        lane: u32,
+        call: &Call,
+        steps: &mut Steps<L>,
+    ) -> Result<Installed, OutOfMemory>
         requires { IsCall call.now.ask }
         ensures answered { IfOk result (λ i. IsAnswered i (do_call self.old.state lane call.now)) }
         ensures shown { IfOk result (λ i. IfSome i.reply ReplyHasMoment) }
-        ensures state { OnOk result (self.new ≡ record { opening = self.old.opening; state = (do_call self.old.state lane call.now).state }) }
-        ensures err { OnErr result (self.new ≡ self.old) }
+        ensures state { OnOk result (self.new ≡ shown self.old.opening (do_call self.old.state lane call.now).state None) }
+        ensures own { OnOk result (MayLeadTo lane call.now self.old.state (do_call self.old.state lane call.now).state) }
+        ensures err { OnErr result (self.new ≡ shown self.old.opening self.old.state None) }
     {
-        self.content.apply(alloc, lane, call)
+        let prepared = self.prepare_change(alloc, lane, call, steps)?;
+        Ok(self.install(prepared))
     }
 
     /// Ticks to a later moment in a lane. It has a reply only where the history is full. After want of
     /// memory the board is as before.
-    #[tactic(auto, using(machine::proofs::Boards::tick_keeps, machine::proofs::Boards::tick_shown))]
-    pub fn tick(&mut self, alloc: Global, lane: u32, to: Minute) -> Result<Installed, OutOfMemory>
+    pub fn tick<L: Ledger>(
+        &mut self,
+        alloc: Global,
+        lane: u32,
+        to: Minute,
+        steps: &mut Steps<L>,
+    ) -> Result<Installed, OutOfMemory>
         requires later { self.old.state.moment < to }
         requires within { to ≤ LAST }
         ensures answered { IfOk result (λ i. IsAnswered i (tick_to self.old.state lane to)) }
         ensures shown { IfOk result (λ i. IfSome i.reply ReplyHasMoment) }
-        ensures state { OnOk result (self.new ≡ record { opening = self.old.opening; state = (tick_to self.old.state lane to).state }) }
-        ensures err { OnErr result (self.new ≡ self.old) }
+        ensures state { OnOk result (self.new ≡ shown self.old.opening (tick_to self.old.state lane to).state None) }
+        ensures err { OnErr result (self.new ≡ shown self.old.opening self.old.state None) }
     {
-        self.content.tick(alloc, lane, to)
+        let prepared = self.prepare_tick(alloc, lane, to, steps)?;
+        Ok(self.install(prepared))
     }
 
     /// The greatest moment so far. What holds of a board holds whenever it is asked: its history is legal

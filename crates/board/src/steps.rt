@@ -1,40 +1,35 @@
-ghost use Rattle.std.specs.Prelude.{◌≡◌, ◌++◌, ◌∷◌, [], Some, IfOk, OnOk, OnErr};
-ghost use Rattle.std.specs.Option.{option_copied};
-ghost use Rattle.machine.specs.State.{open_alert, is_full};
+ghost use Rattle.std.specs.Prelude.{◌≡◌, ◌<◌, ◌≤◌, ◌++◌, ◌∷◌, [], length, None, Some, IfOk, OnOk, OnErr};
+ghost use Rattle.machine.specs.State.{is_full};
+ghost use Rattle.machine.specs.Events as events;
+ghost use Rattle.machine.specs.Events.{effected, alert_changes};
 ghost use Rattle.machine.specs.Step as step;
-ghost use Rattle.machine.specs.Step.{do_call, tick_to, put, reports_after, releases_after};
-ghost use Rattle.machine.specs.Sound.{Sound, Kept, IsKept, EffectFits};
+ghost use Rattle.machine.specs.Step.{do_call, tick_to, counted};
+ghost use Rattle.machine.specs.Sound.{Sound, Kept, EffectFits};
+ghost use Rattle.plan.specs.Texts.{IsMoment};
 ghost use Rattle.asks.specs.Forms.{IsCall};
-ghost use Rattle.board.specs.Contents.{state_of, HasRoom, HasRoomFor, IsShown};
-ghost use Rattle.board.specs.Prospect.{old_where};
-ghost use Rattle.board.specs.Prepare.{state_with, reports_with, releases_with, reports_and, EffectMayCome, IsJudged, IsJudgedBy, IsAnswered};
+ghost use Rattle.board.specs.Contents.{state_of, HasRoom, HasRoomFor, IsShown, MayCome};
+ghost use Rattle.board.specs.Prepare.{with_event, with_events, installed, IsStepped, MayInstall};
 
+use crate::chain::Stop;
 use crate::content::Content;
-use crate::judging::{Judged, Prospect};
-use crate::releases::{place_of, put_release};
-use alerts::{Alert, Notices};
+use crate::held_alerts::put_changes;
+use crate::judging::{Prospect, notices_of};
+use crate::prepared::{Event, Prepared};
+use crate::releases::put_release;
+use alerts::Notices;
 use asks::{Call, Refusal, Reply};
 use desk_io::{Copied, OutOfMemory, Text};
 use desk_time::Minute;
-use facts::Report;
-use machine::{Decision, Effect, Entry, What};
-use plan::Release;
+use machine::{AlertChange, Decision, Effect, Entry, What};
+use rules::Steps;
 use std::alloc::Global;
+use std::sync::ledger::Ledger;
 
-/// What an event changes beside its effect, once all memory is taken.
+/// The alerts that an event changes, and what is told of them.
 #[derive(Drop)]
-struct Prepared {
-    judged: Judged,
-    entered: Entry,
-}
-
-/// What an installed step answers.
-#[derive(Debug, Drop)]
-pub struct Installed {
-    /// The reply: none for a tick that is allowed.
-    pub reply: Option<Reply>,
-    /// What is told of the alerts.
-    pub notices: Notices,
+struct Judged {
+    changes: Vec<AlertChange>,
+    notices: Notices,
 }
 
 fn without_key(alloc: Global, call: &Call) -> Result<Call, OutOfMemory>
@@ -60,81 +55,44 @@ fn entry_of(alloc: Global, lane: u32, call: &Call, reply: &Reply) -> Result<Entr
     })
 }
 
+fn tick_entry(lane: u32, to: Minute) -> Entry
+    ensures { result ≡ step.entry lane (What.Tick to) }
+{
+    Entry {
+        lane,
+        what: What::Tick { to },
+    }
+}
+
+fn stay(alloc: Global, reply: Reply) -> Prepared
+    ensures reply { result.reply ≡ Some reply }
+    ensures notices { result.notices ≡ [] }
+    ensures event { result.event ≡ None }
+{
+    Prepared {
+        reply: Some(reply),
+        notices: Notices::new(alloc),
+        event: None,
+    }
+}
+
+fn planned(reply: Option<Reply>, effect: Effect, judged: Judged, entered: Entry) -> Prepared
+    ensures reply { result.reply ≡ reply }
+    ensures notices { result.notices ≡ judged.notices }
+    ensures event { result.event ≡ Some (record { effect = effect; changes = judged.changes; entered = entered }) }
+{
+    Prepared {
+        reply,
+        notices: judged.notices,
+        event: Some(Event {
+            effect,
+            changes: judged.changes,
+            entered,
+        }),
+    }
+}
+
 impl Content {
-    // Every release judged, as they stand.
-    #[tactic(auto, using(crate::proofs::Parts::open_alerts, crate::proofs::Parts::and_nothing))]
-    fn judge_same(
-        &self,
-        alloc: Global,
-        fresh: Option<&Report>,
-        moment: Minute,
-    ) -> Result<Judged, OutOfMemory>
-        requires { Kept (state_of self.now) }
-        ensures { IfOk result (λ j. IsJudgedBy (state_of self.now) (reports_and (state_of self.now) (option_copied fresh.entry)) (open_alert (state_of self.now).alerts) moment (state_of self.now).releases j) }
-    {
-        let prospect = Prospect {
-            content: self,
-            fresh,
-            gone: None,
-            moment,
-        };
-        prospect.judge_all(alloc, &self.releases, None, &[])
-    }
-
-    // Every release judged, and one that is filed.
-    #[tactic(auto, using(crate::proofs::Parts::open_alerts, crate::proofs::Parts::and_nothing))]
-    fn judge_filed(&self, alloc: Global, release: &Release) -> Result<Judged, OutOfMemory>
-        requires kept { Kept (state_of self.now) }
-        requires release { IsKept release.now }
-        ensures { IfOk result (λ j. IsJudgedBy (state_of self.now) (state_of self.now).reports (open_alert (state_of self.now).alerts) (state_of self.now).moment ((state_of self.now).releases ++ release.now ∷ []) j) }
-    {
-        let prospect = Prospect {
-            content: self,
-            fresh: None,
-            gone: None,
-            moment: self.moment,
-        };
-        prospect.judge_all(alloc, &self.releases, Some(release), &[])
-    }
-
-    // Every release judged, with one in the place of the one of its id.
-    #[tactic(auto, using(crate::proofs::Parts::open_alerts, crate::proofs::Parts::kept_parts, crate::proofs::Parts::and_nothing))]
-    fn judge_put(
-        &self,
-        alloc: Global,
-        gone: Option<u64>,
-        release: &Release,
-    ) -> Result<Judged, OutOfMemory>
-        requires kept { Kept (state_of self.now) }
-        requires release { IsKept release.now }
-        ensures { IfOk result (λ j. IsJudgedBy (state_of self.now) (state_of self.now).reports (old_where gone (state_of self.now).alerts) (state_of self.now).moment (put release.now (state_of self.now).releases) j) }
-    {
-        let prospect = Prospect {
-            content: self,
-            fresh: None,
-            gone,
-            moment: self.moment,
-        };
-        let releases = self.releases.as_slice();
-        match place_of(releases, release) {
-            None => prospect.judge_all(alloc, releases, None, &[]),
-            Some(i) => prospect.judge_all(alloc, &releases[..i], Some(release), &releases[i + 1..]),
-        }
-    }
-
-    fn judge_effect(&self, alloc: Global, effect: &Effect) -> Result<Judged, OutOfMemory>
-        requires kept { Kept (state_of self.now) }
-        requires fits { EffectFits (state_of self.now) effect.now }
-        ensures { IfOk result (λ j. IsJudged (state_of self.now) effect.now j) }
-    {
-        match effect {
-            Effect::Admit(report) => self.judge_same(alloc, Some(report), self.moment),
-            Effect::File(release) => self.judge_filed(alloc, release),
-            Effect::Put(release) => self.judge_put(alloc, None, release),
-            Effect::PutAfresh(release) => self.judge_put(alloc, Some(release.id), release),
-        }
-    }
-
     fn full_reply(&self) -> Reply
         ensures { result ≡ step.full_reply (state_of self.now) }
     {
@@ -143,39 +101,215 @@ impl Content {
         })
     }
 
-    fn reserve_for(&mut self, effect: Option<&Effect>) -> Result<(), OutOfMemory>
+    fn reserve_for(&mut self, effect: &Effect) -> Result<(), OutOfMemory>
         ensures same { state_of self.new ≡ state_of self.old }
         ensures entries { self.new.entries ≡ self.old.entries }
-        ensures room { OnOk result (HasRoomFor self.new (option_copied effect.entry)) }
+        ensures alerts { self.new.alerts ≡ self.old.alerts }
+        ensures room { OnOk result (HasRoomFor self.new effect.now) }
     {
         match effect {
-            Some(Effect::Admit(report)) => self.reports.reserve(report),
-            Some(Effect::File(_)) => Ok(self.releases.reserve(1)?),
-            Some(Effect::Put(_)) | Some(Effect::PutAfresh(_)) | None => Ok(()),
+            Effect::Admit(report) => self.reports.reserve(report),
+            Effect::File(_) => Ok(self.releases.reserve(1)?),
+            Effect::Tick { .. } | Effect::Put(_) | Effect::PutAfresh(_) => Ok(()),
         }
     }
 
-    // Takes all memory that an entry and an effect need. What is held stays as it is.
-    fn reserve(&mut self, effect: Option<&Effect>) -> Result<(), OutOfMemory>
+    // Takes all memory that an event needs. What is held stays as it is.
+    fn reserve(&mut self, more: usize, effect: &Effect) -> Result<(), OutOfMemory>
         ensures same { state_of self.new ≡ state_of self.old }
-        ensures room { OnOk result (HasRoom self.new (option_copied effect.entry)) }
+        ensures room { OnOk result (HasRoom self.new more effect.now) }
     {
         self.entries.reserve(1)?;
+        self.alerts.reserve(more)?;
         self.reserve_for(effect)
     }
 
-    #[tactic(auto, using(crate::proofs::Parts::next_above))]
-    fn change(&mut self, effect: Effect)
-        requires room { HasRoomFor self.old (Some effect) }
+    // Judges every active release once an effect is there, and takes all memory that the event needs.
+    // What is held stays as it is.
+    fn judge_all<L: Ledger>(
+        &mut self,
+        alloc: Global,
+        effect: &Effect,
+        steps: &mut Steps<L>,
+    ) -> Result<Judged, OutOfMemory>
+        requires sound { Sound (state_of self.old) }
         requires kept { Kept (state_of self.old) }
-        requires may { EffectMayCome (state_of self.old) (Some effect) }
-        ensures reports { self.new.reports.reports ≡ reports_after effect self.old.reports.reports }
-        ensures releases { self.new.releases.items ≡ releases_after effect self.old.releases.items }
+        requires fits { EffectFits (state_of self.old) effect.now }
+        ensures same { state_of self.new ≡ state_of self.old }
+        ensures changes { IfOk result (λ j. j.changes.items ≡ alert_changes effect.now (state_of self.old)) }
+        ensures notices { IfOk result (λ j. j.notices ≡ events.notices_of (alert_changes effect.now (state_of self.old))) }
+        ensures room { IfOk result (λ j. HasRoom self.new (length j.changes.items) effect.now) }
+    {
+        let changes = Prospect {
+            content: self,
+            effect,
+        }
+        .changes(alloc, steps)?;
+        let notices = notices_of(alloc, &changes)?;
+        self.reserve(changes.len(), effect)?;
+        Ok(Judged { changes, notices })
+    }
+
+    // Judges every active release once an accepted call has its effect, and makes its entry.
+    fn judge_call<L: Ledger>(
+        &mut self,
+        alloc: Global,
+        lane: u32,
+        call: &Call,
+        reply: &Reply,
+        effect: &Effect,
+        steps: &mut Steps<L>,
+    ) -> Result<(Judged, Entry), OutOfMemory>
+        requires sound { Sound (state_of self.old) }
+        requires kept { Kept (state_of self.old) }
+        requires fits { EffectFits (state_of self.old) effect.now }
+        ensures same { state_of self.new ≡ state_of self.old }
+        ensures changes { IfOk result (λ j. j.0.changes.items ≡ alert_changes effect.now (state_of self.old)) }
+        ensures notices { IfOk result (λ j. j.0.notices ≡ events.notices_of (alert_changes effect.now (state_of self.old))) }
+        ensures room { IfOk result (λ j. HasRoom self.new (length j.0.changes.items) effect.now) }
+        ensures entered { IfOk result (λ j. j.1 ≡ step.entry lane (What.Asked (step.without_key call.now) reply.now)) }
+    {
+        let entered = entry_of(alloc, lane, call, reply)?;
+        let judged = self.judge_all(alloc, effect, steps)?;
+        Ok((judged, entered))
+    }
+
+    // Prepares an accepted call.
+    fn prepare_accepted<L: Ledger>(
+        &mut self,
+        alloc: Global,
+        lane: u32,
+        call: &Call,
+        reply: Reply,
+        effect: Effect,
+        steps: &mut Steps<L>,
+    ) -> Result<Prepared, OutOfMemory>
+        requires sound { Sound (state_of self.old) }
+        requires kept { Kept (state_of self.old) }
+        requires fits { EffectFits (state_of self.old) effect }
+        requires may { MayCome (state_of self.old) effect }
+        ensures same { state_of self.new ≡ state_of self.old }
+        ensures stepped { IfOk result (λ p. IsStepped (state_of self.old) p (step.accepted (state_of self.old) lane call.now reply effect)) }
+        ensures may { IfOk result (λ p. MayInstall self.new p.event) }
+    {
+        let (judged, entered) = self.judge_call(alloc, lane, call, &reply, &effect, steps)?;
+        Ok(planned(Some(reply), effect, judged, entered))
+    }
+
+    #[tactic(auto, unfolding(crate::specs::Prepare::installed))]
+    fn prepare_entered<L: Ledger>(
+        &mut self,
+        alloc: Global,
+        lane: u32,
+        call: &Call,
+        reply: Reply,
+        effect: Effect,
+        steps: &mut Steps<L>,
+    ) -> Result<Prepared, OutOfMemory>
+        requires sound { Sound (state_of self.old) }
+        requires kept { Kept (state_of self.old) }
+        requires fits { EffectFits (state_of self.old) effect }
+        requires may { MayCome (state_of self.old) effect }
+        ensures same { state_of self.new ≡ state_of self.old }
+        ensures stepped { IfOk result (λ p. IsStepped (state_of self.old) p (step.enter (is_full (state_of self.old)) (state_of self.old) lane call.now reply effect)) }
+        ensures may { IfOk result (λ p. MayInstall self.new p.event) }
+    {
+        if self.is_full() {
+            return Ok(stay(alloc, self.full_reply()));
+        }
+        self.prepare_accepted(alloc, lane, call, reply, effect, steps)
+    }
+
+    /// Prepares a call of a person who may make it, and takes all memory that it needs. What is held stays
+    /// as it is.
+    #[tactic(auto, unfolding(machine::specs::Step::do_call, crate::specs::Prepare::installed))]
+    pub fn prepare_call<L: Ledger>(
+        &mut self,
+        alloc: Global,
+        lane: u32,
+        call: &Call,
+        steps: &mut Steps<L>,
+    ) -> Result<Prepared, OutOfMemory>
+        requires sound { Sound (state_of self.old) }
+        requires kept { Kept (state_of self.old) }
+        requires call { IsCall call.now.ask }
+        ensures same { state_of self.new ≡ state_of self.old }
+        ensures stepped { IfOk result (λ p. IsStepped (state_of self.old) p (do_call (state_of self.old) lane call.now)) }
+        ensures may { IfOk result (λ p. MayInstall self.new p.event) }
+    {
+        match self.decide(alloc, call, steps) {
+            Ok(Decision::Do(reply, effect)) => {
+                self.prepare_entered(alloc, lane, call, reply, effect, steps)
+            }
+            Ok(Decision::Show(reply)) => Ok(stay(alloc, reply)),
+            Err(Stop::Refused(refusal)) => Ok(stay(alloc, Reply::Refused(refusal))),
+            Err(Stop::OutOfMemory) => Err(OutOfMemory),
+        }
+    }
+
+    fn prepare_ticked<L: Ledger>(
+        &mut self,
+        alloc: Global,
+        lane: u32,
+        to: Minute,
+        steps: &mut Steps<L>,
+    ) -> Result<Prepared, OutOfMemory>
+        requires sound { Sound (state_of self.old) }
+        requires kept { Kept (state_of self.old) }
+        requires moment { IsMoment to }
+        ensures same { state_of self.new ≡ state_of self.old }
+        ensures stepped { IfOk result (λ p. IsStepped (state_of self.old) p (step.ticked (state_of self.old) lane to)) }
+        ensures may { IfOk result (λ p. MayInstall self.new p.event) }
+    {
+        let effect = Effect::Tick { to };
+        let judged = self.judge_all(alloc, &effect, steps)?;
+        Ok(planned(None, effect, judged, tick_entry(lane, to)))
+    }
+
+    /// Prepares a tick to a later moment, and takes all memory that it needs. What is held stays as it is.
+    #[tactic(auto, unfolding(machine::specs::Step::tick_to, crate::specs::Prepare::installed))]
+    pub fn prepare_tick<L: Ledger>(
+        &mut self,
+        alloc: Global,
+        lane: u32,
+        to: Minute,
+        steps: &mut Steps<L>,
+    ) -> Result<Prepared, OutOfMemory>
+        requires sound { Sound (state_of self.old) }
+        requires kept { Kept (state_of self.old) }
+        requires moment { IsMoment to }
+        ensures same { state_of self.new ≡ state_of self.old }
+        ensures stepped { IfOk result (λ p. IsStepped (state_of self.old) p (tick_to (state_of self.old) lane to)) }
+        ensures may { IfOk result (λ p. MayInstall self.new p.event) }
+    {
+        if self.is_full() {
+            return Ok(stay(alloc, self.full_reply()));
+        }
+        self.prepare_ticked(alloc, lane, to, steps)
+    }
+
+    // Makes the effect, but leaves the alerts.
+    #[tactic(auto, using(crate::proofs::Parts::next_above, crate::proofs::Parts::small_report, crate::proofs::Parts::small_release))]
+    fn change(&mut self, effect: Effect)
+        requires room { HasRoomFor self.old effect }
+        requires kept { Kept (state_of self.old) }
+        requires may { MayCome (state_of self.old) effect }
+        ensures state { state_of self.new ≡ record (effected effect (state_of self.old)) { alerts = self.old.alerts.items } }
+        ensures alerts { self.new.alerts ≡ self.old.alerts }
         ensures entries { self.new.entries ≡ self.old.entries }
+        ensures events { self.new.counters.events ≡ self.old.counters.events }
+        ensures accepted { self.new.counters.next_kept ≡ self.old.counters.next_kept }
     {
         match effect {
-            Effect::Admit(report) => self.reports.admit(report),
-            Effect::File(release) => self.releases.push_reserved(release),
+            Effect::Tick { to } => self.moment = to,
+            Effect::Admit(report) => {
+                self.counters.next_report = report.id + 1;
+                self.reports.admit(report);
+            }
+            Effect::File(release) => {
+                self.counters.next_release = release.id + 1;
+                self.releases.push_reserved(release);
+            }
             Effect::Put(release) | Effect::PutAfresh(release) => put_release(
                 &mut self.releases,
                 release,
@@ -183,169 +317,43 @@ impl Content {
         }
     }
 
-    fn change_by(&mut self, effect: Option<Effect>)
-        requires room { HasRoomFor self.old effect }
-        requires kept { Kept (state_of self.old) }
-        requires may { EffectMayCome (state_of self.old) effect }
-        ensures reports { self.new.reports.reports ≡ reports_with effect self.old.reports.reports }
-        ensures releases { self.new.releases.items ≡ releases_with effect self.old.releases.items }
-        ensures entries { self.new.entries ≡ self.old.entries }
+    fn count(&mut self, entered: &Entry)
+        requires events { self.old.counters.events < 10_000_000_000_000_000 }
+        requires accepted { self.old.counters.next_kept < 10_000_000_000_000_000 }
+        ensures { self.new ≡ record self.old { counters = counted entered.now.what self.old.counters } }
     {
-        if let Some(effect) = effect {
-            self.change(effect);
+        self.counters.events += 1;
+        if let What::Asked { .. } = entered.what {
+            self.counters.next_kept += 1;
         }
     }
 
-    // Prepares what an accepted call changes, and takes all memory that it needs. What is held stays as it is.
-    fn prepare_call(
-        &mut self,
-        alloc: Global,
-        lane: u32,
-        call: &Call,
-        reply: &Reply,
-        effect: &Effect,
-    ) -> Result<Prepared, OutOfMemory>
+    #[tactic(auto, using(crate::proofs::Parts::small_events, crate::proofs::Parts::small_accepted))]
+    fn install_event(&mut self, event: Event)
+        requires room { HasRoom self.old (length event.changes.items) event.effect }
         requires kept { Kept (state_of self.old) }
-        requires fits { EffectFits (state_of self.old) effect.now }
-        ensures same { state_of self.new ≡ state_of self.old }
-        ensures room { OnOk result (HasRoom self.new (Some effect.now)) }
-        ensures judged { IfOk result (λ p. IsJudged (state_of self.old) effect.now p.judged) }
-        ensures entered { IfOk result (λ p. p.entered ≡ step.entry lane (What.Asked (step.without_key call.now) reply.now)) }
+        requires may { MayCome (state_of self.old) event.effect }
+        ensures { state_of self.new ≡ with_event event (state_of self.old) }
     {
-        let judged = self.judge_effect(alloc, effect)?;
-        let entered = entry_of(alloc, lane, call, reply)?;
-        self.reserve(Some(effect))?;
-        Ok(Prepared { judged, entered })
-    }
-
-    // Prepares a tick, and takes all memory that it needs. What is held stays as it is.
-    fn prepare_tick(
-        &mut self,
-        alloc: Global,
-        lane: u32,
-        to: Minute,
-    ) -> Result<Prepared, OutOfMemory>
-        requires { Kept (state_of self.old) }
-        ensures same { state_of self.new ≡ state_of self.old }
-        ensures room { OnOk result (HasRoom self.new None) }
-        ensures judged { IfOk result (λ p. IsJudgedBy (state_of self.old) (state_of self.old).reports (open_alert (state_of self.old).alerts) to (state_of self.old).releases p.judged) }
-        ensures entered { IfOk result (λ p. p.entered ≡ step.entry lane (What.Tick to)) }
-    {
-        let judged = self.judge_same(alloc, None, to)?;
-        self.reserve(None)?;
-        Ok(Prepared {
-            judged,
-            entered: Entry {
-                lane,
-                what: What::Tick { to },
-            },
-        })
-    }
-
-    // Puts what is prepared in place. It takes no memory.
-    fn install(&mut self, moment: Minute, effect: Option<Effect>, prepared: Prepared) -> Notices
-        requires room { HasRoom self.old effect }
-        requires kept { Kept (state_of self.old) }
-        requires may { EffectMayCome (state_of self.old) effect }
-        ensures state { state_of self.new ≡ state_with (state_of self.old) moment effect prepared }
-        ensures notices { result ≡ prepared.judged.notices }
-    {
-        let Prepared { judged, entered } = prepared;
-        let Judged { alerts, notices } = judged;
-        self.change_by(effect);
-        self.moment = moment;
-        self.alerts = alerts;
+        let Event {
+            effect,
+            changes,
+            entered,
+        } = event;
+        self.change(effect);
+        self.count(&entered);
+        put_changes(&mut self.alerts, changes);
         self.entries.push_reserved(entered);
-        notices
     }
 
-    fn stay(alloc: Global, reply: Reply) -> Installed
-        ensures reply { result.reply ≡ Some reply }
-        ensures notices { result.notices ≡ [] }
-    {
-        Installed {
-            reply: Some(reply),
-            notices: Notices::new(alloc),
-        }
-    }
-
-    fn accept(
-        &mut self,
-        alloc: Global,
-        lane: u32,
-        call: &Call,
-        reply: Reply,
-        effect: Effect,
-    ) -> Result<Installed, OutOfMemory>
+    /// Puts an event in place. It takes no memory.
+    pub fn install(&mut self, event: Option<Event>)
         requires kept { Kept (state_of self.old) }
-        requires fits { EffectFits (state_of self.old) effect }
-        requires shown { IsShown effect }
-        ensures answered { IfOk result (λ i. IsAnswered i (step.accepted (state_of self.old) lane call.now reply effect)) }
-        ensures state { OnOk result (state_of self.new ≡ (step.accepted (state_of self.old) lane call.now reply effect).state) }
-        ensures err { OnErr result (state_of self.new ≡ state_of self.old) }
+        requires may { MayInstall self.old event }
+        ensures { state_of self.new ≡ with_events event (state_of self.old) }
     {
-        let prepared = self.prepare_call(alloc, lane, call, &reply, &effect)?;
-        let notices = self.install(self.moment, Some(effect), prepared);
-        Ok(Installed {
-            reply: Some(reply),
-            notices,
-        })
-    }
-
-    fn enter(
-        &mut self,
-        alloc: Global,
-        lane: u32,
-        call: &Call,
-        reply: Reply,
-        effect: Effect,
-    ) -> Result<Installed, OutOfMemory>
-        requires kept { Kept (state_of self.old) }
-        requires fits { EffectFits (state_of self.old) effect }
-        requires shown { IsShown effect }
-        ensures answered { IfOk result (λ i. IsAnswered i (step.enter (is_full (state_of self.old)) (state_of self.old) lane call.now reply effect)) }
-        ensures state { OnOk result (state_of self.new ≡ (step.enter (is_full (state_of self.old)) (state_of self.old) lane call.now reply effect).state) }
-        ensures err { OnErr result (state_of self.new ≡ state_of self.old) }
-    {
-        if self.is_full() {
-            return Ok(Content::stay(alloc, self.full_reply()));
+        if let Some(event) = event {
+            self.install_event(event);
         }
-        self.accept(alloc, lane, call, reply, effect)
-    }
-
-    /// A call of a person who may make it. After want of memory what is held is as before.
-    #[tactic(auto, unfolding(machine::specs::Step::do_call))]
-    pub fn apply(&mut self, alloc: Global, lane: u32, call: &Call) -> Result<Installed, OutOfMemory>
-        requires sound { Sound (state_of self.old) }
-        requires kept { Kept (state_of self.old) }
-        requires call { IsCall call.now.ask }
-        ensures answered { IfOk result (λ i. IsAnswered i (do_call (state_of self.old) lane call.now)) }
-        ensures state { OnOk result (state_of self.new ≡ (do_call (state_of self.old) lane call.now).state) }
-        ensures err { OnErr result (state_of self.new ≡ state_of self.old) }
-    {
-        match self.decide(alloc, call)? {
-            Decision::Refuse(refusal) => Ok(Content::stay(alloc, Reply::Refused(refusal))),
-            Decision::Show(reply) => Ok(Content::stay(alloc, reply)),
-            Decision::Do(reply, effect) => self.enter(alloc, lane, call, reply, effect),
-        }
-    }
-
-    /// A tick to a later moment. After want of memory what is held is as before.
-    #[tactic(auto, unfolding(machine::specs::Step::tick_to))]
-    pub fn tick(&mut self, alloc: Global, lane: u32, to: Minute) -> Result<Installed, OutOfMemory>
-        requires { Kept (state_of self.old) }
-        ensures answered { IfOk result (λ i. IsAnswered i (tick_to (state_of self.old) lane to)) }
-        ensures state { OnOk result (state_of self.new ≡ (tick_to (state_of self.old) lane to).state) }
-        ensures err { OnErr result (state_of self.new ≡ state_of self.old) }
-    {
-        if self.is_full() {
-            return Ok(Content::stay(alloc, self.full_reply()));
-        }
-        let prepared = self.prepare_tick(alloc, lane, to)?;
-        let notices = self.install(to, None, prepared);
-        Ok(Installed {
-            reply: None,
-            notices,
-        })
     }
 }

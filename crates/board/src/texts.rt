@@ -5,7 +5,8 @@ ghost use Rattle.facts.specs.Lines.{weather};
 ghost use Rattle.machine.specs.Texts as spec;
 ghost use Rattle.machine.specs.State.{alert_at};
 ghost use Rattle.plan.specs.Texts.{IsMoment, HasMoment};
-ghost use Rattle.machine.specs.Sound.{IsKept, IsOpen, Kept};
+ghost use Rattle.alerts.specs.Alerts.{IsAlert};
+ghost use Rattle.machine.specs.Sound.{IsKept, Kept};
 ghost use Rattle.board.specs.Contents.{state_of};
 
 use crate::content::Content;
@@ -98,10 +99,10 @@ fn push_alert(alloc: Global, out: &mut Vec<u8>, alert: &Alert) -> Result<(), Out
 fn push_alerts(
     alloc: Global,
     out: &mut Vec<u8>,
-    most: usize,
+    most: u64,
     alerts: &[Alert],
 ) -> Result<(), OutOfMemory>
-    requires { AllByRecursion (IsOpen most) alerts.now }
+    requires { AllByRecursion (IsAlert most) alerts.now }
     ensures { OnOk result (out.new.items ≡ out.old.items ++ spec.alert_lines alerts.now) }
 {
     for alert in alerts {
@@ -115,11 +116,11 @@ fn push_alerts(
 pub fn alerts_view(
     alloc: Global,
     moment: Minute,
-    most: usize,
+    most: u64,
     alerts: &[Alert],
 ) -> Result<Text, OutOfMemory>
     requires moment { IsMoment moment }
-    requires open { AllByRecursion (IsOpen most) alerts.now }
+    requires open { AllByRecursion (IsAlert most) alerts.now }
     ensures { IfOk result (λ t. t ≡ spec.alerts_view moment alerts.now) }
 {
     let mut lines = Vec::new(alloc);
@@ -275,7 +276,7 @@ impl Content {
     {
         push_board_head(out, self.moment)?;
         push_releases(alloc, out, &self.alerts, &self.releases)?;
-        push_weather(alloc, out, &self.reports)?;
+        push_weather(out, &self.reports)?;
         out.extend_from_slice(b"END\n")?;
         Ok(())
     }

@@ -6,8 +6,8 @@ use Rattle.std.proofs.lemmas.List.{append-nil}
 use Rattle.std.proofs.Math.Seq.{get_or-append_right, get_or-append_seam, take-append_seam}
 use Rattle.std.proofs.lemmas.List.Elements.{All-nil, All-cons, All-head, All-tail, All-append, All-take, All-filter, filter_passes}
 use Rattle.std.proofs.lemmas.List.Splits.{slice_split-cons_yes, slice_split-cons_no, slice_split_none, slice_split_at}
-use Rattle.desk_io.specs.Runs.{is_among, has_bytes, runs_between}
-use Rattle.codes.specs.Groups.{IsGroup, blanks, kept, unmarked, last_unmarked, spaced, joined, groups_of, canonical}
+use Rattle.desk_io.specs.Runs.{blanks, is_among, has_bytes, kept, runs_between}
+use Rattle.codes.specs.Groups.{IsGroup, without_end_sign, last_without_end_sign, spaced, joined, groups_of, canonical}
 
 abbrev Passes : (ℕ → Bool) → List ℕ → Type 0
 Passes p g = All (λ b. p b ≡ false) g
@@ -33,22 +33,22 @@ runs_are_groups text =
     let full = filter_passes has_bytes (slice_split (is_among blanks) text) in
     λ k d within. record { full = full k d within; plain = passes k d within }
 
--- the last group without its mark
+-- the last group without its end sign
 
-unmarked_passes : (p : ℕ → Bool) (b : Bool) (g : List ℕ) → Passes p g → Passes p (cond b (take (length g - 1) g) g)
-unmarked_passes p true g h = All-take (λ b. p b ≡ false) (length g - 1) g h
-unmarked_passes p false g h = h
+without_end_sign_passes : (p : ℕ → Bool) (b : Bool) (g : List ℕ) → Passes p g → Passes p (cond b (take (length g - 1) g) g)
+without_end_sign_passes p true g h = All-take (λ b. p b ≡ false) (length g - 1) g h
+without_end_sign_passes p false g h = h
 
 kept_is_group : (b : Bool) (g : List ℕ) → eqb (length g) 0 ≡ b → Passes (is_among blanks) g → All IsGroup (cond b [] (g ∷ []))
 kept_is_group true g e h = All-nil _
 kept_is_group false g e h = All-cons IsGroup g [] (record { full = rw e refl; plain = h }) (All-nil _)
 
-pub last_are_groups : (gs : List (List ℕ)) → All IsGroup gs → All IsGroup (last_unmarked gs)
+pub last_are_groups : (gs : List (List ℕ)) → All IsGroup gs → All IsGroup (last_without_end_sign gs)
 last_are_groups [] h = All-nil _
 last_are_groups (g ∷ []) h =
-    kept_is_group (eqb (length (unmarked g)) 0) (unmarked g) refl (unmarked_passes (is_among blanks) (eqb (slice_index g (length g - 1)) 61) g ((All-head IsGroup g [] h).plain))
+    kept_is_group (eqb (length (without_end_sign g)) 0) (without_end_sign g) refl (without_end_sign_passes (is_among blanks) (eqb (slice_index g (length g - 1)) 61) g ((All-head IsGroup g [] h).plain))
 last_are_groups (g ∷ h ∷ gs) all =
-    All-cons IsGroup g (last_unmarked (h ∷ gs)) (All-head IsGroup g (h ∷ gs) all) (last_are_groups (h ∷ gs) (All-tail IsGroup g (h ∷ gs) all))
+    All-cons IsGroup g (last_without_end_sign (h ∷ gs)) (All-head IsGroup g (h ∷ gs) all) (last_are_groups (h ∷ gs) (All-tail IsGroup g (h ∷ gs) all))
 
 pub groups_are_groups : (text : List ℕ) → All IsGroup (groups_of text)
 unfolding groups_of
@@ -68,32 +68,32 @@ runs_joined g (h ∷ gs) all =
     rw (slice_split_at (is_among blanks) g 32 (h ++ spaced gs) is.plain refl)
     (full_front g (slice_split (is_among blanks) (h ++ spaced gs)) is.full ∙ ap (λ xs. g ∷ xs) (runs_joined h gs (All-tail IsGroup g (h ∷ gs) all)))
 
--- one more mark at the end
+-- one more end sign
 
-abbrev marked : List (List ℕ) → List (List ℕ)
-marked [] = []
-marked (g ∷ []) = (g ++ 61 ∷ []) ∷ []
-marked (g ∷ h ∷ gs) = g ∷ marked (h ∷ gs)
+abbrev ended : List (List ℕ) → List (List ℕ)
+ended [] = []
+ended (g ∷ []) = (g ++ 61 ∷ []) ∷ []
+ended (g ∷ h ∷ gs) = g ∷ ended (h ∷ gs)
 
-spaced_marked : (g : List ℕ) (gs : List (List ℕ)) → spaced (g ∷ gs) ++ 61 ∷ [] ≡ spaced (marked (g ∷ gs))
-spaced_marked g [] = ap (λ xs. (32 ∷ xs) ++ 61 ∷ []) (append-nil g) ∙ sym (append-nil (32 ∷ (g ++ 61 ∷ [])))
-spaced_marked g (h ∷ gs) = append_assoc (32 ∷ g) (spaced (h ∷ gs)) (61 ∷ []) ∙ ap (λ xs. (32 ∷ g) ++ xs) (spaced_marked h gs)
+spaced_ended : (g : List ℕ) (gs : List (List ℕ)) → spaced (g ∷ gs) ++ 61 ∷ [] ≡ spaced (ended (g ∷ gs))
+spaced_ended g [] = ap (λ xs. (32 ∷ xs) ++ 61 ∷ []) (append-nil g) ∙ sym (append-nil (32 ∷ (g ++ 61 ∷ [])))
+spaced_ended g (h ∷ gs) = append_assoc (32 ∷ g) (spaced (h ∷ gs)) (61 ∷ []) ∙ ap (λ xs. (32 ∷ g) ++ xs) (spaced_ended h gs)
 
-joined_marked : (g : List ℕ) (gs : List (List ℕ)) → joined (g ∷ gs) ++ 61 ∷ [] ≡ joined (marked (g ∷ gs))
-joined_marked g [] = ap (λ xs. xs ++ 61 ∷ []) (append-nil g) ∙ sym (append-nil (g ++ 61 ∷ []))
-joined_marked g (h ∷ gs) = append_assoc g (spaced (h ∷ gs)) (61 ∷ []) ∙ ap (λ xs. g ++ xs) (spaced_marked h gs)
+joined_ended : (g : List ℕ) (gs : List (List ℕ)) → joined (g ∷ gs) ++ 61 ∷ [] ≡ joined (ended (g ∷ gs))
+joined_ended g [] = ap (λ xs. xs ++ 61 ∷ []) (append-nil g) ∙ sym (append-nil (g ++ 61 ∷ []))
+joined_ended g (h ∷ gs) = append_assoc g (spaced (h ∷ gs)) (61 ∷ []) ∙ ap (λ xs. g ++ xs) (spaced_ended h gs)
 
-marked_group : (g : List ℕ) → IsGroup g → IsGroup (g ++ 61 ∷ [])
-marked_group g is = record {
+ended_group : (g : List ℕ) → IsGroup g → IsGroup (g ++ 61 ∷ [])
+ended_group g is = record {
   full = ap not (ne_eqb (length (g ++ 61 ∷ [])) 0 (λ e. omega (arith, length-append g (61 ∷ []))));
   plain = All-append (λ b. is_among blanks b ≡ false) g (61 ∷ []) is.plain (All-cons (λ b. is_among blanks b ≡ false) 61 [] refl (All-nil _));
 }
 
-marked_are_groups : (gs : List (List ℕ)) → All IsGroup gs → All IsGroup (marked gs)
-marked_are_groups [] h = All-nil _
-marked_are_groups (g ∷ []) h = All-cons IsGroup (g ++ 61 ∷ []) [] (marked_group g (All-head IsGroup g [] h)) (All-nil _)
-marked_are_groups (g ∷ h ∷ gs) all =
-    All-cons IsGroup g (marked (h ∷ gs)) (All-head IsGroup g (h ∷ gs) all) (marked_are_groups (h ∷ gs) (All-tail IsGroup g (h ∷ gs) all))
+ended_are_groups : (gs : List (List ℕ)) → All IsGroup gs → All IsGroup (ended gs)
+ended_are_groups [] h = All-nil _
+ended_are_groups (g ∷ []) h = All-cons IsGroup (g ++ 61 ∷ []) [] (ended_group g (All-head IsGroup g [] h)) (All-nil _)
+ended_are_groups (g ∷ h ∷ gs) all =
+    All-cons IsGroup g (ended (h ∷ gs)) (All-head IsGroup g (h ∷ gs) all) (ended_are_groups (h ∷ gs) (All-tail IsGroup g (h ∷ gs) all))
 
 kept_full : (b : Bool) (g : List ℕ) → not b ≡ true → cond b [] (g ∷ []) ≡ g ∷ []
 kept_full true g e = absurd cc
@@ -102,18 +102,18 @@ kept_full false g e = refl
 kept_group : (g : List ℕ) → IsGroup g → kept g ≡ g ∷ []
 kept_group g is = kept_full (eqb (length g) 0) g is.full
 
-unmarked_marked : (g : List ℕ) → unmarked (g ++ 61 ∷ []) ≡ g
-unmarked_marked g =
+without_with_end_sign : (g : List ℕ) → without_end_sign (g ++ 61 ∷ []) ≡ g
+without_with_end_sign g =
     let long : length (g ++ 61 ∷ []) - 1 ≡ length g = omega (arith, length-append g (61 ∷ [])) in
     rw (long, get_or-append_seam g 61 [] 0) (take-append_seam g (61 ∷ []))
 
-last_marked : (gs : List (List ℕ)) → All IsGroup gs → last_unmarked (marked gs) ≡ gs
-last_marked [] h = refl
-last_marked (g ∷ []) h = rw (unmarked_marked g) (kept_group g (All-head IsGroup g [] h))
-last_marked (g ∷ h ∷ []) all = ap (λ xs. g ∷ xs) (last_marked (h ∷ []) (All-tail IsGroup g (h ∷ []) all))
-last_marked (g ∷ h ∷ k ∷ gs) all = ap (λ xs. g ∷ xs) (last_marked (h ∷ k ∷ gs) (All-tail IsGroup g (h ∷ k ∷ gs) all))
+last_ended : (gs : List (List ℕ)) → All IsGroup gs → last_without_end_sign (ended gs) ≡ gs
+last_ended [] h = refl
+last_ended (g ∷ []) h = rw (without_with_end_sign g) (kept_group g (All-head IsGroup g [] h))
+last_ended (g ∷ h ∷ []) all = ap (λ xs. g ∷ xs) (last_ended (h ∷ []) (All-tail IsGroup g (h ∷ []) all))
+last_ended (g ∷ h ∷ k ∷ gs) all = ap (λ xs. g ∷ xs) (last_ended (h ∷ k ∷ gs) (All-tail IsGroup g (h ∷ k ∷ gs) all))
 
--- no mark at the end
+-- no end sign
 
 abbrev pub last_byte : List ℕ → ℕ
 last_byte text = slice_index text (length text - 1)
@@ -134,7 +134,7 @@ last_byte_after g h gs is =
     let cut : g ++ spaced (h ∷ gs) ≡ (g ++ 32 ∷ []) ++ (h ++ spaced gs) = sym (append_assoc g (32 ∷ []) (h ++ spaced gs)) in
     ap last_byte cut ∙ last_byte_append (g ++ 32 ∷ []) (h ++ spaced gs) (group_has_bytes h (spaced gs) is)
 
-last_unchanged : (g : List ℕ) (gs : List (List ℕ)) → All IsGroup (g ∷ gs) → eqb (last_byte (g ++ spaced gs)) 61 ≡ false → last_unmarked (g ∷ gs) ≡ g ∷ gs
+last_unchanged : (g : List ℕ) (gs : List (List ℕ)) → All IsGroup (g ∷ gs) → eqb (last_byte (g ++ spaced gs)) 61 ≡ false → last_without_end_sign (g ∷ gs) ≡ g ∷ gs
 last_unchanged g [] all e =
     let e' = rw (append-nil g) at e in
     rw e' (kept_group g (All-head IsGroup g [] all))
@@ -148,11 +148,11 @@ runs_of_joined [] h = refl
 runs_of_joined (g ∷ gs) h = runs_joined g gs h
 
 again : (b : Bool) (g : List ℕ) (gs : List (List ℕ)) → All IsGroup (g ∷ gs) → eqb (last_byte (joined (g ∷ gs))) 61 ≡ b
-    → last_unmarked (runs_between blanks (cond b (joined (g ∷ gs) ++ 61 ∷ []) (joined (g ∷ gs)))) ≡ g ∷ gs
+    → last_without_end_sign (runs_between blanks (cond b (joined (g ∷ gs) ++ 61 ∷ []) (joined (g ∷ gs)))) ≡ g ∷ gs
 again true g gs all e =
-    ap (λ t. last_unmarked (runs_between blanks t)) (joined_marked g gs)
-    ∙ ap last_unmarked (runs_of_joined (marked (g ∷ gs)) (marked_are_groups (g ∷ gs) all)) ∙ last_marked (g ∷ gs) all
-again false g gs all e = ap last_unmarked (runs_joined g gs all) ∙ last_unchanged g gs all e
+    ap (λ t. last_without_end_sign (runs_between blanks t)) (joined_ended g gs)
+    ∙ ap last_without_end_sign (runs_of_joined (ended (g ∷ gs)) (ended_are_groups (g ∷ gs) all)) ∙ last_ended (g ∷ gs) all
+again false g gs all e = ap last_without_end_sign (runs_joined g gs all) ∙ last_unchanged g gs all e
 
 -- the canonical text of groups has these groups
 pub groups_of_canonical : (gs : List (List ℕ)) → All IsGroup gs → groups_of (canonical gs) ≡ gs

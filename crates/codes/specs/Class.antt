@@ -7,7 +7,8 @@ use Rattle.codes.specs.declared.shapes.Named.TheVariants.{Value, Unmeasured, Not
 use Rattle.codes.specs.declared.class.Class.{Class}
 use Rattle.codes.specs.declared.class.Class.TheVariants.{Visibility, Sky, Wind, Runway, Weather, Temperature, Altimeter, Mark, Unread}
 use Rattle.codes.specs.Groups.{first_of}
-use Rattle.codes.specs.Shapes.{is_digit, are_digits, is_cavok, visibility, mixed, sky}
+use Rattle.codes.specs.declared.shapes.Elements.{Elements}
+use Rattle.codes.specs.Shapes.{is_digit, are_digits, is_cavok, mixed, elements_of}
 
 -- the group names something
 abbrev pub is_shaped : Named → Bool
@@ -17,8 +18,8 @@ is_shaped Nothing = false
 is_shaped Bad = false
 
 -- a distance by itself, or the miles of one whose fraction follows
-abbrev pub is_visibility : List ℕ → List ℕ → Bool
-is_visibility g next = (is_shaped (visibility g) && not (is_cavok g)) || is_some (mixed g next)
+abbrev pub is_visibility : Elements → List ℕ → List ℕ → Bool
+is_visibility elements g next = (is_shaped elements.vis && not (is_cavok g)) || is_some (mixed g next)
 
 -- two or three digits of speed
 abbrev pub is_speed : List ℕ → Bool
@@ -121,9 +122,13 @@ other_class g =
     if is_wind g then Wind else (if is_runway g then Runway else (if is_weather g then Weather
     else (if is_temperature g then Temperature else (if is_altimeter g then Altimeter else (if is_mark g then Mark else Unread)))))
 
+-- the same of a group that says this of each element
+abbrev pub class_by : Elements → List ℕ → List ℕ → Class
+class_by elements g next = if is_visibility elements g next then Visibility else (if is_shaped elements.sky then Sky else other_class g)
+
 -- the class of a group, by the group that follows it
 unfoldable pub class_of : List ℕ → List ℕ → Class
-class_of g next = if is_visibility g next then Visibility else (if is_shaped (sky g) then Sky else other_class g)
+class_of g next = class_by (elements_of g) g next
 
 abbrev pub is_unread : Class → Bool
 is_unread Unread = true

@@ -1,5 +1,5 @@
 -- The condition that a stretch of groups names, and the first of them that misses its shape.
-use Rattle.std.specs.Prelude.{ℕ, ◌+◌, nat_le, ◌&&◌, ◌==◌, min, Bool, if◌then◌else◌, true, false, List, [], ◌∷◌, Option, None, Some, Result, Ok, Err}
+use Rattle.std.specs.Prelude.{ℕ, ◌+◌, nat_le, ◌&&◌, ◌||◌, ◌==◌, min, Bool, if◌then◌else◌, true, false, List, [], ◌∷◌, Option, None, Some, Result, Ok, Err}
 use Rattle.std.specs.List.{list_any}
 use Rattle.codes.specs.declared.shapes.Named.{Named}
 use Rattle.codes.specs.declared.shapes.Named.TheVariants.{Value, Unmeasured, Nothing, Bad}
@@ -9,7 +9,12 @@ use Rattle.codes.specs.declared.fault.Why.TheVariants.{BadVisibility, BadSky, Ba
 use Rattle.codes.specs.declared.fault.BadReport.{BadReport}
 use Rattle.codes.specs.declared.fault.Form.{Form}
 use Rattle.codes.specs.declared.fault.Form.TheVariants.{Report, Forecast}
-use Rattle.codes.specs.Shapes.{visibility, visibility_after, sky, are_digits}
+use Rattle.codes.specs.declared.shapes.Elements.{Elements}
+use Rattle.codes.specs.declared.cond.Stretch.{Stretch}
+use Rattle.codes.specs.declared.cond.Found.{Found}
+use Rattle.codes.specs.Groups.{first_of}
+use Rattle.codes.specs.Shapes.{visibility_after, sky, are_digits, elements_of}
+use Rattle.codes.specs.Class.{class_of, is_unread, one_if, unread_count}
 
 -- the lesser of two values, where both are there
 abbrev pub lesser : Option ℕ → Option ℕ → Option ℕ
@@ -46,6 +51,10 @@ abbrev pub ceiling_of : Option ℕ → Bool → Option ℕ
 ceiling_of None unmeasured = None
 ceiling_of (Some n) unmeasured = if unmeasured && nat_le 100_000 n then None else Some n
 
+-- the condition of a stretch in which this was found
+abbrev pub cond_with : Found → Cond
+cond_with found = record { ceiling = ceiling_of found.height found.unmeasured; vis = found.vis }
+
 -- what a stretch of groups names: the least visibility and the least ceiling
 unfoldable pub named_cond : List (List ℕ) → Cond
 named_cond gs = record { ceiling = ceiling_of (least sky_after [] gs) (list_any is_unmeasured gs); vis = least visibility_after [] gs }
@@ -66,9 +75,13 @@ abbrev pub period_fault : Form → List ℕ → Option Why
 period_fault Report g = if is_period g then Some BadPeriod else None
 period_fault Forecast g = None
 
+-- why a group that says this of each element misses its shape
+abbrev pub fault_by : Form → Elements → List ℕ → Option Why
+fault_by form elements g = if is_bad elements.vis then Some BadVisibility else (if is_bad elements.sky then Some BadSky else period_fault form g)
+
 -- why a group misses its shape
 unfoldable pub shape_fault : Form → List ℕ → Option Why
-shape_fault form g = if is_bad (visibility g) then Some BadVisibility else (if is_bad (sky g) then Some BadSky else period_fault form g)
+shape_fault form g = fault_by form (elements_of g) g
 
 abbrev pub fault_or : Option Why → ℕ → Option BadReport → Option BadReport
 fault_or None n later = later
@@ -86,3 +99,37 @@ cond_unless (Some bad) gs = Err bad
 -- the condition of a stretch that begins at number n, or its first fault
 unfoldable pub cond_of : Form → ℕ → List (List ℕ) → Result Cond BadReport
 cond_of form n gs = cond_unless (first_fault form n gs) gs
+
+-- how many groups of a report are in no class that is read; those of a forecast aren't counted
+abbrev pub unread_in : Form → List (List ℕ) → ℕ
+unread_in Report gs = unread_count gs
+unread_in Forecast gs = 0
+
+abbrev pub stretch_with : Result Cond BadReport → ℕ → Result Stretch BadReport
+stretch_with (Ok cond) unread = Ok (record { cond = cond; unread = unread })
+stretch_with (Err bad) unread = Err bad
+
+-- what a stretch says that begins at number n, or its first fault
+unfoldable pub stretch_of : Form → ℕ → List (List ℕ) → Result Stretch BadReport
+stretch_of form n gs = stretch_with (cond_of form n gs) (unread_in form gs)
+
+-- what was found in the groups so far, and in one more, by those before and after it
+abbrev pub unread_one : Form → List ℕ → List ℕ → ℕ
+unread_one Report g next = one_if (is_unread (class_of g next))
+unread_one Forecast g next = 0
+
+abbrev pub found_with : Form → Found → List ℕ → List ℕ → List ℕ → Found
+found_with form found before g next = record {
+  vis = lesser found.vis (value_of (visibility_after before g));
+  height = lesser found.height (value_of (sky g));
+  unmeasured = found.unmeasured || is_unmeasured g;
+  unread = found.unread + unread_one form g next;
+}
+
+abbrev pub nothing_found : Found
+nothing_found = record { vis = None; height = None; unmeasured = false; unread = 0 }
+
+-- what is found in some more groups, after that group
+abbrev pub found_in : Form → Found → List ℕ → List (List ℕ) → Found
+found_in form found before [] = found
+found_in form found before (g ∷ gs) = found_in form (found_with form found before g (first_of gs)) g gs

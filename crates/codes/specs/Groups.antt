@@ -1,10 +1,6 @@
 -- The groups of a report's text (FMH-1, chapter 12; WMO FM 15 and FM 51).
 use Rattle.std.specs.Prelude.{◌≡◌, ℕ, ◌-◌, ◌==◌, true, false, if◌then◌else◌, List, [], ◌∷◌, ◌++◌, length, take, slice_index, All}
-use Rattle.desk_io.specs.Runs.{is_among, has_bytes, runs_between}
-
--- space, tab, carriage return and line feed
-abbrev pub blanks : List ℕ
-blanks = 32 ∷ 9 ∷ 13 ∷ 10 ∷ []
+use Rattle.desk_io.specs.Runs.{blanks, is_among, has_bytes, kept, runs_between}
 
 -- a group has bytes, and none of them is blank
 pub record IsGroup (g : List ℕ) : Type 0 where
@@ -12,21 +8,18 @@ pub record IsGroup (g : List ℕ) : Type 0 where
   pub plain : All (λ b. is_among blanks b ≡ false) g
 
 -- a run without one = at its end
-abbrev pub unmarked : List ℕ → List ℕ
-unmarked g = if slice_index g (length g - 1) == 61 then take (length g - 1) g else g
-
-abbrev pub kept : List ℕ → List (List ℕ)
-kept g = if length g == 0 then [] else g ∷ []
+abbrev pub without_end_sign : List ℕ → List ℕ
+without_end_sign g = if slice_index g (length g - 1) == 61 then take (length g - 1) g else g
 
 -- the last run loses one = at its end, and goes where nothing is left of it
-abbrev pub last_unmarked : List (List ℕ) → List (List ℕ)
-last_unmarked [] = []
-last_unmarked (g ∷ []) = kept (unmarked g)
-last_unmarked (g ∷ h ∷ gs) = g ∷ last_unmarked (h ∷ gs)
+abbrev pub last_without_end_sign : List (List ℕ) → List (List ℕ)
+last_without_end_sign [] = []
+last_without_end_sign (g ∷ []) = kept (without_end_sign g)
+last_without_end_sign (g ∷ h ∷ gs) = g ∷ last_without_end_sign (h ∷ gs)
 
--- the groups of a text: its maximal runs of bytes that aren't blank, without the mark of the report's end
+-- the groups of a text: its maximal runs of bytes that aren't blank, without the sign of the report's end
 unfoldable pub groups_of : List ℕ → List (List ℕ)
-groups_of text = last_unmarked (runs_between blanks text)
+groups_of text = last_without_end_sign (runs_between blanks text)
 
 -- the first group, or no bytes where there is none
 abbrev pub first_of : List (List ℕ) → List ℕ
@@ -43,10 +36,10 @@ joined [] = []
 joined (g ∷ gs) = g ++ spaced gs
 
 -- one = more, where the text ends in one
-abbrev pub remarked : List ℕ → List ℕ
-remarked text = if slice_index text (length text - 1) == 61 then text ++ 61 ∷ [] else text
+abbrev pub with_end_sign : List ℕ → List ℕ
+with_end_sign text = if slice_index text (length text - 1) == 61 then text ++ 61 ∷ [] else text
 
 -- The canonical text of groups: they are joined by one blank. Where the last ends in =, one more
 -- follows, so that the text has these groups.
 unfoldable pub canonical : List (List ℕ) → List ℕ
-canonical gs = remarked (joined gs)
+canonical gs = with_end_sign (joined gs)

@@ -5,3 +5,8 @@ pub mod Class
 pub mod Cond
 pub mod Moment
 pub mod Period
+pub mod Answers
+pub mod Pair
+pub mod Digits
+pub mod VisibilityTable
+pub mod SkyTable

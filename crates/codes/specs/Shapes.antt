@@ -7,6 +7,7 @@ use Rattle.std.specs.List.{list_all}
 use Rattle.desk_time.specs.Digits.{digit, pair, ◌>>=◌, or_else}
 use Rattle.codes.specs.declared.shapes.Named.{Named}
 use Rattle.codes.specs.declared.shapes.Named.TheVariants.{Value, Unmeasured, Nothing, Bad}
+use Rattle.codes.specs.declared.shapes.Elements.{Elements}
 
 abbrev pub is_digit : ℕ → Bool
 is_digit b = is_some (digit b)
@@ -109,13 +110,13 @@ fraction_of_mile g = before_sm g >>= fraction
 unfoldable pub mixed : List ℕ → List ℕ → Option ℕ
 mixed before g = miles before >>= λ m. fraction_of_mile g >>= λ f. Some (m + f)
 
-abbrev pub sum_or_alone : Option ℕ → List ℕ → Named
-sum_or_alone None g = visibility g
-sum_or_alone (Some sum) g = Value sum
+abbrev pub sum_or_alone : Option ℕ → Named → Named
+sum_or_alone None alone = alone
+sum_or_alone (Some sum) alone = Value sum
 
 -- the visibility that a group names together with the one before it
 abbrev pub visibility_after : List ℕ → List ℕ → Named
-visibility_after before g = sum_or_alone (mixed before g) g
+visibility_after before g = sum_or_alone (mixed before g) (visibility g)
 
 -- a height in feet, of three digits of hundreds
 abbrev pub hundreds : ℕ → ℕ → ℕ → Option ℕ
@@ -167,3 +168,7 @@ layer_of _ = Nothing
 unfoldable pub sky : List ℕ → Named
 sky (a ∷ b ∷ rest) = if (a == 86) && (b == 86) then vertical rest else layer_of (a ∷ b ∷ rest)
 sky _ = Nothing
+
+-- what a group says of each element by itself
+abbrev pub elements_of : List ℕ → Elements
+elements_of g = record { vis = visibility g; sky = sky g }

@@ -1,6 +1,5 @@
 -- The four characters that name an airport (ICAO location indicators).
-use Rattle.std.specs.Prelude.{ℕ, nat_le, Bool, ◌&&◌, ◌||◌, if◌then◌else◌, List, [], ◌∷◌, Option, None, Some}
-use Rattle.codes.specs.declared.station.Station.{Station}
+use Rattle.std.specs.Prelude.{ℕ, nat_le, Bool, ◌&&◌, ◌||◌, false, if◌then◌else◌, List, [], ◌∷◌, Option, None, Some}
 
 abbrev pub is_capital : ℕ → Bool
 is_capital b = nat_le 65 b && nat_le b 90
@@ -8,11 +7,15 @@ is_capital b = nat_le 65 b && nat_le b 90
 abbrev pub is_capital_or_digit : ℕ → Bool
 is_capital_or_digit b = is_capital b || (nat_le 48 b && nat_le b 57)
 
+-- a station is its characters
+abbrev pub Station : Type 0
+Station = List ℕ
+
 -- a capital letter, and then three capital letters or digits
-abbrev pub is_station : ℕ → ℕ → ℕ → ℕ → Bool
-is_station a b c d = is_capital a && is_capital_or_digit b && is_capital_or_digit c && is_capital_or_digit d
+abbrev pub is_station : List ℕ → Bool
+is_station (a ∷ b ∷ c ∷ d ∷ []) = is_capital a && is_capital_or_digit b && is_capital_or_digit c && is_capital_or_digit d
+is_station _ = false
 
 -- the station that four bytes name
 abbrev pub station_of : List ℕ → Option Station
-station_of (a ∷ b ∷ c ∷ d ∷ []) = if is_station a b c d then Some (record { bytes = a ∷ b ∷ c ∷ d ∷ [] }) else None
-station_of _ = None
+station_of text = if is_station text then Some text else None

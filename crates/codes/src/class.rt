@@ -1,10 +1,10 @@
 ghost use Rattle.std.specs.Prelude.{◌≡◌, ◌≤◌, ◌-◌, [], length, drop, slice_index_or};
 ghost use Rattle.codes.specs.Class as spec;
 ghost use Rattle.codes.specs.Groups.{first_of};
+ghost use Rattle.codes.specs.Shapes.{elements_of};
 
 use crate::groups::{Groups, first_of};
-use crate::shapes::{Named, are_digits, is_cavok, is_digit, mixed, sky, visibility};
-use desk_io::Text;
+use crate::shapes::{Elements, Named, are_digits, elements_of, is_cavok, is_digit, mixed};
 
 /// The classes of groups (FMH-1, chapter 12; WMO FM 15).
 #[derive(Clone, Copy, Debug, PartialEq, Eq)]
@@ -40,10 +40,10 @@ fn is_shaped(named: Named) -> bool
     }
 }
 
-fn is_visibility(group: &[u8], next: &[u8]) -> bool
-    ensures { result ≡ spec.is_visibility group.now next.now }
+fn is_visibility(elements: Elements, group: &[u8], next: &[u8]) -> bool
+    ensures { result ≡ spec.is_visibility elements group.now next.now }
 {
-    is_shaped(visibility(group)) && !is_cavok(group) || mixed(group, next).is_some()
+    is_shaped(elements.vis) && !is_cavok(group) || mixed(group, next).is_some()
 }
 
 fn is_speed(text: &[u8]) -> bool
@@ -231,21 +231,28 @@ fn other_class(group: &[u8]) -> Class
     }
 }
 
-#[tactic(auto, unfolding(crate::specs::Class::class_of))]
-fn class_of(group: &[u8], next: &[u8]) -> Class
-    ensures { result ≡ spec.class_of group.now next.now }
+// The class of a group that says this of each element.
+fn class_by(elements: Elements, group: &[u8], next: &[u8]) -> Class
+    ensures { result ≡ spec.class_by elements group.now next.now }
 {
-    if is_visibility(group, next) {
+    if is_visibility(elements, group, next) {
         Class::Visibility
-    } else if is_shaped(sky(group)) {
+    } else if is_shaped(elements.sky) {
         Class::Sky
     } else {
         other_class(group)
     }
 }
 
+#[tactic(auto, unfolding(crate::specs::Class::class_of))]
+fn class_of(group: &[u8], next: &[u8]) -> Class
+    ensures { result ≡ spec.class_of group.now next.now }
+{
+    class_by(elements_of(group), group, next)
+}
+
 /// The class of the group of that number.
-pub fn class_at(groups: &Groups, n: usize) -> Class
+pub fn class_at(groups: &Groups<'_>, n: usize) -> Class
     requires low { 1 ≤ n }
     requires high { n ≤ length groups.now }
     ensures { result ≡ spec.class_of (slice_index_or groups.now (n - 1) []) (first_of (drop n groups.now)) }
@@ -262,18 +269,11 @@ fn is_unread(class: Class) -> bool
     }
 }
 
-/// How many of the groups are in no class that is read.
-pub fn unread_count(groups: &[Text]) -> usize
-    ensures count { result ≡ spec.unread_count groups.now }
-    ensures within { result ≤ length groups.now }
+/// Whether a group that says this of each element is in no class that is read.
+#[tactic(auto, unfolding(crate::specs::Class::class_of))]
+pub(crate) fn is_unread_by(elements: Elements, group: &[u8], next: &[u8]) -> bool
+    requires { elements ≡ elements_of group.now }
+    ensures { result ≡ spec.is_unread (spec.class_of group.now next.now) }
 {
-    let mut count = 0;
-    let mut rest = groups;
-    while let [group, after @ ..] = rest {
-        if is_unread(class_of(group.bytes(), first_of(after))) {
-            count += 1;
-        }
-        rest = after;
-    }
-    count
+    is_unread(class_by(elements, group, next))
 }

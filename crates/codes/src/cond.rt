@@ -1,11 +1,12 @@
 ghost use Rattle.std.specs.Prelude.{◌≡◌, ◌≤◌, ◌<◌, ◌-◌, ◌+◌, ◌^◌, length, slice_range};
 ghost use Rattle.codes.specs.Cond as spec;
-ghost use Rattle.codes.specs.Cond.{cond_of};
+ghost use Rattle.codes.specs.Cond.{cond_of, stretch_of};
+ghost use Rattle.codes.specs.Shapes.{elements_of};
 
+use crate::class::is_unread_by;
 use crate::fault::{BadReport, Form, Why};
-use crate::groups::Groups;
-use crate::shapes::{Named, are_digits, sky, visibility, visibility_after};
-use desk_io::Text;
+use crate::groups::{Group, Groups, first_of};
+use crate::shapes::{Elements, Named, are_digits, elements_of, visibility_after};
 
 /// A ceiling in feet and a visibility in millimetres, where they are known.
 #[derive(Clone, Copy, Debug, PartialEq, Eq)]
@@ -24,13 +25,45 @@ impl Cond {
     };
 }
 
-fn lesser(a: Option<u32>, b: Named) -> Option<u32>
-    ensures { result ≡ spec.lesser a (spec.value_of b) }
+/// What a stretch of groups says.
+#[derive(Clone, Copy, Debug, PartialEq, Eq)]
+pub struct Stretch {
+    /// The condition that it names.
+    pub cond: Cond,
+    /// How many of its groups are in no class that is read. Those of a forecast aren't counted.
+    pub unread: u32,
+}
+
+// What was found in the groups so far.
+#[derive(Clone, Copy)]
+struct Found {
+    // The least visibility that they name.
+    vis: Option<u32>,
+    // The least height that they name.
+    height: Option<u32>,
+    // Whether one is a layer whose height wasn't measured.
+    unmeasured: bool,
+    // How many of them are in no class that is read.
+    unread: u32,
+}
+
+/// The lesser of two values, where both are there.
+pub fn lesser(a: Option<u32>, b: Option<u32>) -> Option<u32>
+    ensures { result ≡ spec.lesser a b }
 {
     match (a, b) {
-        (Some(x), Named::Value(y)) => Some(x.min(y)),
-        (None, Named::Value(y)) => Some(y),
-        _ => a,
+        (Some(x), Some(y)) => Some(x.min(y)),
+        (Some(_), None) => a,
+        (None, _) => b,
+    }
+}
+
+fn value_of(named: Named) -> Option<u32>
+    ensures { result ≡ spec.value_of named }
+{
+    match named {
+        Named::Value(value) => Some(value),
+        _ => None,
     }
 }
 
@@ -43,10 +76,10 @@ fn is_bad(named: Named) -> bool
     }
 }
 
-fn is_unmeasured(group: &[u8]) -> bool
-    ensures { result ≡ spec.is_unmeasured group.now }
+fn is_unmeasured(sky: Named) -> bool
+    ensures { result ≡ spec.is_unmeasured_name sky }
 {
-    match sky(group) {
+    match sky {
         Named::Unmeasured => true,
         _ => false,
     }
@@ -61,24 +94,56 @@ fn ceiling_of(least: Option<u32>, unmeasured: bool) -> Option<u32>
     }
 }
 
-// What a stretch of groups names: the least visibility and the least ceiling.
-#[tactic(auto, unfolding(crate::specs::Cond::named_cond))]
-fn named_cond(groups: &[Text]) -> Cond
-    ensures { result ≡ spec.named_cond groups.now }
+fn unread_one(form: Form, elements: Elements, group: &[u8], next: &[u8]) -> u32
+    requires { elements ≡ elements_of group.now }
+    ensures value { result ≡ spec.unread_one form group.now next.now }
+    ensures within { result ≤ 1 }
 {
-    let mut vis = None;
-    let mut height = None;
-    let mut unmeasured = false;
-    let mut before: &[u8] = b"";
-    for group in groups {
-        let group = group.bytes();
-        vis = lesser(vis, visibility_after(before, group));
-        height = lesser(height, sky(group));
-        unmeasured = unmeasured || is_unmeasured(group);
-        before = group;
+    match form {
+        Form::Report if is_unread_by(elements, group, next) => 1,
+        _ => 0,
     }
-    let ceiling = ceiling_of(height, unmeasured);
-    Cond { ceiling, vis }
+}
+
+impl Found {
+    const NOTHING: Found = Found {
+        vis: None,
+        height: None,
+        unmeasured: false,
+        unread: 0,
+    };
+
+    // What was found, and what one more group says, by those before and after it.
+    fn and(self, form: Form, elements: Elements, before: &[u8], group: &[u8], next: &[u8]) -> Found
+        requires elements { elements ≡ elements_of group.now }
+        requires fits { self.unread + 1 < 2 ^ 32 }
+        ensures { result ≡ spec.found_with form self before.now group.now next.now }
+    {
+        Found {
+            vis: lesser(
+                self.vis,
+                value_of(visibility_after(before, group, elements.vis)),
+            ),
+            height: lesser(self.height, value_of(elements.sky)),
+            unmeasured: self.unmeasured || is_unmeasured(elements.sky),
+            unread: self.unread + unread_one(form, elements, group, next),
+        }
+    }
+
+    // What a stretch says in which this was found.
+    fn stretch(self) -> Stretch
+        ensures cond { result.cond ≡ spec.cond_with self }
+        ensures unread { result.unread ≡ self.unread }
+    {
+        let ceiling = ceiling_of(self.height, self.unmeasured);
+        Stretch {
+            cond: Cond {
+                ceiling,
+                vis: self.vis,
+            },
+            unread: self.unread,
+        }
+    }
 }
 
 /// Whether a group is four digits, `/` and four digits, as the period of a forecast is.
@@ -92,13 +157,12 @@ pub fn is_period(group: &[u8]) -> bool
     }
 }
 
-#[tactic(auto, unfolding(crate::specs::Cond::shape_fault))]
-fn shape_fault(form: Form, group: &[u8]) -> Option<Why>
-    ensures { result ≡ spec.shape_fault form group.now }
+fn fault_by(form: Form, elements: Elements, group: &[u8]) -> Option<Why>
+    ensures { result ≡ spec.fault_by form elements group.now }
 {
-    if is_bad(visibility(group)) {
+    if is_bad(elements.vis) {
         Some(Why::BadVisibility)
-    } else if is_bad(sky(group)) {
+    } else if is_bad(elements.sky) {
         Some(Why::BadSky)
     } else {
         match form {
@@ -108,38 +172,47 @@ fn shape_fault(form: Form, group: &[u8]) -> Option<Why>
     }
 }
 
-fn first_fault(form: Form, number: u32, groups: &[Text]) -> Option<BadReport>
+/// What a stretch of groups says, the first of which has that number, or its first group that misses
+/// its shape. Each group is looked at once.
+#[tactic(auto, using(crate::proofs::CondLaws::stretch_found, crate::proofs::CondLaws::stretch_fault), unfolding(crate::specs::Cond::shape_fault))]
+pub fn stretch_in(form: Form, number: u32, groups: &[Group<'_>]) -> Result<Stretch, BadReport>
     requires { number + length groups.now < 2 ^ 32 }
-    ensures { result ≡ spec.first_fault form number groups.now }
+    ensures { result ≡ stretch_of form number groups.now }
 {
+    let mut found = Found::NOTHING;
+    let mut before: &[u8] = b"";
     for (i, group) in groups.iter().enumerate() {
-        if let Some(why) = shape_fault(form, group.bytes()) {
-            return Some(BadReport {
+        let group = group.bytes();
+        let elements = elements_of(group);
+        if let Some(why) = fault_by(form, elements, group) {
+            return Err(BadReport {
                 group: number + i as u32,
                 why,
             });
         }
+        found = found.and(form, elements, before, group, first_of(&groups[i + 1..]));
+        before = group;
     }
-    None
+    Ok(found.stretch())
 }
 
-/// The condition of a stretch of groups, the first of which has that number, or its first group
-/// that misses its shape.
-#[tactic(auto, unfolding(crate::specs::Cond::cond_of))]
-pub fn cond_in(form: Form, number: u32, groups: &[Text]) -> Result<Cond, BadReport>
+/// The condition that a stretch of groups names, the first of which has that number, or its first
+/// group that misses its shape.
+#[tactic(auto, unfolding(crate::specs::Cond::stretch_of))]
+pub fn cond_in(form: Form, number: u32, groups: &[Group<'_>]) -> Result<Cond, BadReport>
     requires { number + length groups.now < 2 ^ 32 }
     ensures { result ≡ cond_of form number groups.now }
 {
-    match first_fault(form, number, groups) {
-        Some(bad) => Err(bad),
-        None => Ok(named_cond(groups)),
+    match stretch_in(form, number, groups) {
+        Ok(stretch) => Ok(stretch.cond),
+        Err(bad) => Err(bad),
     }
 }
 
 /// The condition that the groups name from number `from` up to but not including number `to`:
 /// the least visibility and the least ceiling. An unmeasured layer hides a ceiling of 100,000. The
 /// first group that misses its shape is the error.
-pub fn cond_of(groups: &Groups, from: usize, to: usize) -> Result<Cond, BadReport>
+pub fn cond_of(groups: &Groups<'_>, from: usize, to: usize) -> Result<Cond, BadReport>
     requires low { 1 ≤ from }
     requires order { from ≤ to }
     requires high { to ≤ length groups.now + 1 }

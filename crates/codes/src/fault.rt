@@ -3,6 +3,15 @@ ghost use Rattle.codes.specs.declared.fault.ReportFault.TheVariants.{OutOfMemory
 
 use desk_io::OutOfMemory;
 
+/// The most bytes that the text of a report may have.
+pub const REPORT_LIMIT: usize = 2048;
+
+/// A text has more bytes than a report may have.
+pub const TOO_LONG: BadReport = BadReport {
+    group: 0,
+    why: Why::TooLong,
+};
+
 /// Why a report has no reading.
 #[derive(Clone, Copy, Debug, PartialEq, Eq)]
 pub enum Why {

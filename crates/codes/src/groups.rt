@@ -1,8 +1,7 @@
-ghost use Rattle.std.specs.Prelude.{◌≡◌, ◌==◌, ◌≤◌, ◌+◌, ◌-◌, ◌++◌, [], map, IfOk, OnOk, List, ℕ, length, slice_index, slice_index_or};
+ghost use Rattle.std.specs.Prelude.{◌≡◌, ◌==◌, ◌≤◌, ◌+◌, ◌-◌, ◌++◌, [], IfOk, OnOk, List, ℕ, length, slice_index, slice_index_or};
 ghost use Rattle.codes.specs.Groups.{
-  blanks,
-  unmarked,
-  last_unmarked,
+  without_end_sign,
+  last_without_end_sign,
   groups_of,
   first_of,
   spaced,
@@ -10,17 +9,21 @@ ghost use Rattle.codes.specs.Groups.{
   canonical,
 };
 
-use desk_io::{OutOfMemory, Text, runs_between};
-use std::alloc::{AllocError, Global};
+use desk_io::{Blanks, OutOfMemory, Run, Text, push_run, runs_between};
+use std::alloc::Global;
 use std::marker::Model;
 
-/// The groups of a report's text, numbered from 1. Each has bytes, and none of them is blank.
+/// One group of a report's text, which lends it.
+pub type Group<'a> = Run<'a>;
+
+/// The groups of a report's text, numbered from 1. Each has bytes, and none of them is blank. The text
+/// lends them.
 #[derive(Debug, Drop)]
-pub struct Groups {
-    items: Vec<Text>,
+pub struct Groups<'a> {
+    items: Vec<Group<'a>>,
 }
 
-impl Model for Groups {
+impl<'a> Model for Groups<'a> {
     ghost use Rattle.std.specs.Prelude.{List, ℕ, All};
     ghost use Rattle.codes.specs.Groups.{IsGroup};
 
@@ -32,8 +35,8 @@ impl Model for Groups {
 }
 
 // The run without one = at its end.
-fn unmarked(run: &[u8]) -> &[u8]
-    ensures { result.now ≡ unmarked run.now }
+fn without_end_sign(run: &[u8]) -> &[u8]
+    ensures { result.now ≡ without_end_sign run.now }
 {
     match run {
         [front @ .., b'='] => front,
@@ -41,40 +44,27 @@ fn unmarked(run: &[u8]) -> &[u8]
     }
 }
 
-fn unmark_last(runs: &mut Vec<&[u8]>) -> Result<(), AllocError>
-    ensures { OnOk result (map (λ x. x.now) runs.new.items ≡ last_unmarked (map (λ x. x.now) runs.old.items)) }
+#[tactic(auto, using(crate::proofs::GroupLaws::last_without_end_sign_push))]
+fn drop_end_sign(runs: &mut Vec<Run<'_>>) -> Result<(), OutOfMemory>
+    ensures { OnOk result (runs.new.items ≡ last_without_end_sign runs.old.items) }
 {
-    let Some(last) = runs.pop() else {
-        return Ok(());
-    };
-    let last = unmarked(last);
-    if !last.is_empty() {
-        runs.push(last)?;
+    if let Some(last) = runs.pop() {
+        push_run(runs, without_end_sign(last.bytes()))?;
     }
     Ok(())
 }
 
-fn copies(alloc: Global, runs: &[&[u8]]) -> Result<Vec<Text>, OutOfMemory>
-    ensures { IfOk result (λ v. v.items ≡ map (λ x. x.now) runs.now) }
-{
-    let mut items = Vec::new(alloc);
-    for run in runs {
-        items.push(Text::of(alloc, run)?)?;
-    }
-    Ok(items)
-}
-
 // The groups of a text.
 #[tactic(auto, unfolding(crate::specs::Groups::groups_of))]
-fn items_of(alloc: Global, text: &[u8]) -> Result<Vec<Text>, OutOfMemory>
+fn items_of<'a>(alloc: Global, text: &'a [u8]) -> Result<Vec<Group<'a>>, OutOfMemory>
     ensures { IfOk result (λ v. v.items ≡ groups_of text.now) }
 {
-    let mut runs = runs_between(alloc, b" \t\r\n", text)?;
-    unmark_last(&mut runs)?;
-    copies(alloc, &runs)
+    let mut runs = runs_between::<Blanks>(alloc, text)?;
+    drop_end_sign(&mut runs)?;
+    Ok(runs)
 }
 
-fn push_spaced(text: &mut Vec<u8>, groups: &[Text]) -> Result<(), OutOfMemory>
+fn push_spaced(text: &mut Vec<u8>, groups: &[Group<'_>]) -> Result<(), OutOfMemory>
     ensures { OnOk result (text.new.items ≡ text.old.items ++ spaced groups.now) }
 {
     for group in groups {
@@ -84,7 +74,7 @@ fn push_spaced(text: &mut Vec<u8>, groups: &[Text]) -> Result<(), OutOfMemory>
     Ok(())
 }
 
-fn joined(alloc: Global, groups: &[Text]) -> Result<Vec<u8>, OutOfMemory>
+fn joined(alloc: Global, groups: &[Group<'_>]) -> Result<Vec<u8>, OutOfMemory>
     ensures { IfOk result (λ v. v.items ≡ joined groups.now) }
 {
     let mut text = Vec::new(alloc);
@@ -96,24 +86,24 @@ fn joined(alloc: Global, groups: &[Text]) -> Result<Vec<u8>, OutOfMemory>
 }
 
 #[tactic(auto, unfolding(crate::specs::Groups::canonical))]
-fn canonical_text(alloc: Global, groups: &[Text]) -> Result<Text, OutOfMemory>
+fn canonical_text(alloc: Global, groups: &[Group<'_>]) -> Result<Text, OutOfMemory>
     ensures { IfOk result (λ t. t ≡ canonical groups.now) }
 {
     let mut text = joined(alloc, groups)?;
-    if ends_in_mark(&text) {
+    if has_end_sign(&text) {
         text.push(b'=')?;
     }
     Ok(Text::from_vec(text))
 }
 
-fn ends_in_mark(text: &[u8]) -> bool
+fn has_end_sign(text: &[u8]) -> bool
     ensures { result ≡ (slice_index text.now (length text.now - 1) == 61) }
 {
     text.last() == Some(&b'=')
 }
 
 /// The first group, or no bytes where there is none.
-pub fn first_of(groups: &[Text]) -> &[u8]
+pub fn first_of<'a>(groups: &[Group<'a>]) -> &'a [u8]
     ensures { result.now ≡ first_of groups.now }
 {
     match groups {
@@ -122,12 +112,12 @@ pub fn first_of(groups: &[Text]) -> &[u8]
     }
 }
 
-impl Groups {
+impl<'a> Groups<'a> {
     /// The groups of a text: its maximal runs of bytes that aren't blank. One `=` at the end of the
     /// last is dropped, and so is a last group of that `=` alone. A text has at most one group more
     /// than bytes.
     #[tactic(auto, using(crate::proofs::GroupLaws::groups_of_length))]
-    pub fn of(alloc: Global, text: &[u8]) -> Result<Groups, OutOfMemory>
+    pub fn of(alloc: Global, text: &'a [u8]) -> Result<Groups<'a>, OutOfMemory>
         ensures groups { IfOk result (λ g. g ≡ groups_of text.now) }
         ensures count { IfOk result (λ g. length g ≤ length text.now + 1) }
     {
@@ -162,14 +152,14 @@ impl Groups {
     }
 
     /// The groups in order.
-    pub fn as_slice(&self) -> &[Text]
+    pub fn as_slice(&self) -> &[Group<'a>]
         ensures { result.now ≡ self.now }
     {
         &self.items
     }
 
     /// The group of that number.
-    pub fn group(&self, n: usize) -> &[u8]
+    pub fn group(&self, n: usize) -> &'a [u8]
         requires low { 1 ≤ n }
         requires high { n ≤ length self.now }
         ensures { result.now ≡ slice_index_or self.now (n - 1) [] }

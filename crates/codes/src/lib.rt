@@ -7,17 +7,17 @@ mod cond;
 mod fault;
 mod groups;
 mod moment;
+mod pair;
 mod period;
 mod shapes;
 mod station;
-#[cfg(test)]
-mod tests;
 
-pub use class::{Class, class_at, unread_count};
-pub use cond::{Cond, cond_in, cond_of, is_period};
-pub use fault::{BadReport, Form, ReportFault, Why};
-pub use groups::{Groups, first_of};
+pub use class::{Class, class_at};
+pub use cond::{Cond, Stretch, cond_in, cond_of, is_period, lesser, stretch_in};
+pub use fault::{BadReport, Form, REPORT_LIMIT, ReportFault, TOO_LONG, Why};
+pub use groups::{Group, Groups, first_of};
 pub use moment::{moment_or, time_of, written_moment};
-pub use period::{end_of, period_at, period_in};
+pub use pair::{MILE, Pair, Pairs, meets};
+pub use period::{end_of, numbered, period_at, period_in};
 pub use shapes::{Named, sky, visibility};
 pub use station::Station;

@@ -3,9 +3,8 @@ ghost use Rattle.codes.specs.Period as spec;
 
 use crate::cond::is_period;
 use crate::fault::{BadReport, Why};
-use crate::groups::Groups;
+use crate::groups::{Group, Groups};
 use crate::moment::{moment_or, written_moment};
-use desk_io::Text;
 use desk_time::{FIRST, LAST, Minute};
 
 /// The moment at which a period begins or ends, of two digits each of a day, an hour and a minute,
@@ -41,14 +40,12 @@ fn period_of(group: &[u8], first_day: u64) -> Result<(Minute, Minute), Why>
     }
 }
 
-fn numbered(
-    group: u32,
-    period: Result<(Minute, Minute), Why>,
-) -> Result<(Minute, Minute), BadReport>
-    ensures { result ≡ spec.numbered group period }
+/// The same value, or the reason why there is none at the group of that number.
+pub fn numbered<T: Drop>(group: u32, value: Result<T, Why>) -> Result<T, BadReport>
+    ensures { result ≡ spec.numbered group value }
 {
-    match period {
-        Ok(ends) => Ok(ends),
+    match value {
+        Ok(value) => Ok(value),
         Err(why) => Err(BadReport { group, why }),
     }
 }
@@ -58,7 +55,7 @@ fn numbered(
 /// of reach of the five from the first, and `BadPeriod` for any other miss.
 pub fn period_in(
     number: u32,
-    groups: &[Text],
+    groups: &[Group<'_>],
     first_day: u64,
 ) -> Result<(Minute, Minute), BadReport>
     requires low { 10_000 ≤ first_day }
@@ -76,7 +73,11 @@ pub fn period_in(
 }
 
 /// The period at the group of that number, as `period_in` reads it.
-pub fn period_at(groups: &Groups, n: usize, first_day: u64) -> Result<(Minute, Minute), BadReport>
+pub fn period_at(
+    groups: &Groups<'_>,
+    n: usize,
+    first_day: u64,
+) -> Result<(Minute, Minute), BadReport>
     requires low { 1 ≤ n }
     requires high { n ≤ length groups.now + 1 }
     requires count { length groups.now ≤ 4_294_967_294 }

@@ -1,6 +1,8 @@
 ghost use Rattle.std.specs.Prelude.{◌≡◌, ◌≤◌, ◌<◌, ◌^◌, IfSome};
 ghost use Rattle.std.specs.Option.{option_map};
 ghost use Rattle.codes.specs.Shapes as spec;
+ghost use Rattle.codes.specs.VisibilityTable.{IsTabledVisibility, IsTabledSum};
+ghost use Rattle.codes.specs.SkyTable.{IsTabledSky};
 
 use desk_time::{digit, pair};
 
@@ -15,6 +17,25 @@ pub enum Named {
     Nothing,
     /// It begins or ends as a group that names a value, and misses the shape.
     Bad,
+}
+
+/// What a group says of each element by itself.
+#[derive(Clone, Copy, Debug, PartialEq, Eq)]
+pub(crate) struct Elements {
+    /// The visibility in millimetres.
+    pub vis: Named,
+    /// The height in feet.
+    pub sky: Named,
+}
+
+/// What a group says of each element by itself.
+pub(crate) fn elements_of(group: &[u8]) -> Elements
+    ensures { result ≡ spec.elements_of group.now }
+{
+    Elements {
+        vis: visibility(group),
+        sky: sky(group),
+    }
 }
 
 pub(crate) fn is_digit(b: u8) -> bool
@@ -146,7 +167,10 @@ fn distance_in_metres(group: &[u8]) -> Option<u32>
 pub(crate) fn is_cavok(group: &[u8]) -> bool
     ensures { result ≡ spec.is_cavok group.now }
 {
-    group == b"CAVOK".as_slice()
+    match group {
+        [b'C', b'A', b'V', b'O', b'K'] => true,
+        _ => false,
+    }
 }
 
 fn value_or_bad(value: Option<u32>) -> Named
@@ -178,10 +202,8 @@ fn visibility_in_metres(group: &[u8]) -> Named
     }
 }
 
-/// The visibility in millimetres that a group names by itself: statute miles and sixteenths of one
-/// (FMH-1, 12.6.6), or metres (WMO FM 15, 15.6). `CAVOK` stands for ten kilometres.
 #[tactic(auto, unfolding(crate::specs::Shapes::visibility))]
-pub fn visibility(group: &[u8]) -> Named
+fn visibility_in_group(group: &[u8]) -> Named
     ensures { result ≡ spec.visibility group.now }
 {
     if group.first() == Some(&b'/') {
@@ -193,6 +215,16 @@ pub fn visibility(group: &[u8]) -> Named
     }
 }
 
+/// The visibility in millimetres that a group names by itself: statute miles and sixteenths of one
+/// (FMH-1, 12.6.6), or metres (WMO FM 15, 15.6). `CAVOK` stands for ten kilometres.
+#[tactic(auto, using(crate::proofs::VisibilityLaws::visibility_is_tabled))]
+pub fn visibility(group: &[u8]) -> Named
+    ensures value { result ≡ spec.visibility group.now }
+    ensures tabled { IsTabledVisibility group.now result }
+{
+    visibility_in_group(group)
+}
+
 fn fraction_of_mile(group: &[u8]) -> Option<u32>
     ensures value { result ≡ spec.fraction_of_mile group.now }
     ensures bound { IfSome result (λ d. d ≤ 1_508_760) }
@@ -200,21 +232,29 @@ fn fraction_of_mile(group: &[u8]) -> Option<u32>
     fraction(before_sm(group)?)
 }
 
-/// The visibility of miles and a fraction of one, in two groups.
 #[tactic(auto, unfolding(crate::specs::Shapes::mixed))]
-pub(crate) fn mixed(before: &[u8], group: &[u8]) -> Option<u32>
+fn sum_of_groups(before: &[u8], group: &[u8]) -> Option<u32>
     ensures { result ≡ spec.mixed before.now group.now }
 {
     Some(miles(before)? + fraction_of_mile(group)?)
 }
 
-/// The visibility that a group names together with the one before it.
-pub(crate) fn visibility_after(before: &[u8], group: &[u8]) -> Named
-    ensures { result ≡ spec.visibility_after before.now group.now }
+/// The visibility of miles and a fraction of one, in two groups.
+#[tactic(auto, using(crate::proofs::VisibilityLaws::sum_is_tabled))]
+pub(crate) fn mixed(before: &[u8], group: &[u8]) -> Option<u32>
+    ensures value { result ≡ spec.mixed before.now group.now }
+    ensures tabled { IsTabledSum before.now group.now result }
+{
+    sum_of_groups(before, group)
+}
+
+/// The visibility that a group, which says `alone` by itself, names together with the one before it.
+pub(crate) fn visibility_after(before: &[u8], group: &[u8], alone: Named) -> Named
+    ensures { result ≡ spec.sum_or_alone (spec.mixed before.now group.now) alone }
 {
     match mixed(before, group) {
         Some(sum) => Named::Value(sum),
-        None => visibility(group),
+        None => alone,
     }
 }
 
@@ -275,26 +315,13 @@ fn no_ceiling(layer: Named) -> Named
 fn sky_word(group: &[u8]) -> Named
     ensures { result ≡ spec.sky_word group.now }
 {
-    if group == b"SKC".as_slice() {
-        Named::Value(100_000)
-    } else if group == b"CLR".as_slice() {
-        Named::Value(12_000)
-    } else if group == b"NSC".as_slice() || group == b"NCD".as_slice() || is_cavok(group) {
-        Named::Value(5000)
-    } else {
-        Named::Nothing
-    }
-}
-
-fn layer_after(word: [u8; 3], rest: &[u8], group: &[u8]) -> Named
-    ensures { result ≡ spec.layer_after word rest.now group.now }
-{
-    if word == *b"FEW" || word == *b"SCT" {
-        no_ceiling(layer(rest))
-    } else if word == *b"BKN" || word == *b"OVC" {
-        layer(rest)
-    } else {
-        sky_word(group)
+    match group {
+        [b'S', b'K', b'C'] => Named::Value(100_000),
+        [b'C', b'L', b'R'] => Named::Value(12_000),
+        [b'N', b'S', b'C'] => Named::Value(5000),
+        [b'N', b'C', b'D'] => Named::Value(5000),
+        _ if is_cavok(group) => Named::Value(5000),
+        _ => Named::Nothing,
     }
 }
 
@@ -302,19 +329,31 @@ fn layer_of(group: &[u8]) -> Named
     ensures { result ≡ spec.layer_of group.now }
 {
     match group {
-        [a, b, c, rest @ ..] => layer_after([*a, *b, *c], rest, group),
+        [b'F', b'E', b'W', rest @ ..] => no_ceiling(layer(rest)),
+        [b'S', b'C', b'T', rest @ ..] => no_ceiling(layer(rest)),
+        [b'B', b'K', b'N', rest @ ..] => layer(rest),
+        [b'O', b'V', b'C', rest @ ..] => layer(rest),
+        [_, _, _, ..] => sky_word(group),
         _ => Named::Nothing,
     }
 }
 
-/// The height in feet that a sky group names (FMH-1, 12.6.9; WMO FM 15, 15.9). A layer that is no
-/// ceiling, and a sky without layers, name 100,000; `CLR` 12,000; `NSC`, `NCD` and `CAVOK` 5,000.
 #[tactic(auto, unfolding(crate::specs::Shapes::sky))]
-pub fn sky(group: &[u8]) -> Named
+fn sky_in_group(group: &[u8]) -> Named
     ensures { result ≡ spec.sky group.now }
 {
     match group {
         [b'V', b'V', rest @ ..] => vertical(rest),
         _ => layer_of(group),
     }
+}
+
+/// The height in feet that a sky group names (FMH-1, 12.6.9; WMO FM 15, 15.9). A layer that is no
+/// ceiling, and a sky without layers, name 100,000; `CLR` 12,000; `NSC`, `NCD` and `CAVOK` 5,000.
+#[tactic(auto, using(crate::proofs::SkyLaws::sky_is_tabled))]
+pub fn sky(group: &[u8]) -> Named
+    ensures value { result ≡ spec.sky group.now }
+    ensures tabled { IsTabledSky group.now result }
+{
+    sky_in_group(group)
 }

@@ -1,11 +1,25 @@
 ghost use Rattle.std.specs.Prelude.{◌≡◌};
 ghost use Rattle.codes.specs.Station as spec;
 
+use std::marker::Model;
+
 /// An airport, by the four characters of its ICAO location indicator.
 #[derive(Clone, Copy, Debug, PartialEq, Eq)]
 pub struct Station {
-    /// The characters, as `read` takes them.
-    pub bytes: [u8; 4],
+    characters: [u8; 4],
+}
+
+impl Model for Station {
+    ghost use Rattle.std.specs.Prelude.{List, ℕ, IsTrue};
+    ghost use Rattle.codes.specs.Station.{is_station};
+
+    ghost Value = { List ℕ };
+
+    ghost view = { λ s. s.characters };
+
+    ghost invariant = { λ s. IsTrue (is_station s.characters) };
+
+    ghost inverse = { λ bytes. record { characters = bytes } };
 }
 
 fn is_capital(b: u8) -> bool
@@ -34,7 +48,7 @@ impl Station {
             && is_capital_or_digit(*d)
         {
             Some(Station {
-                bytes: [*a, *b, *c, *d],
+                characters: [*a, *b, *c, *d],
             })
         } else {
             None
@@ -43,8 +57,8 @@ impl Station {
 
     /// Its four characters.
     pub fn bytes(self) -> [u8; 4]
-        ensures { result ≡ self.bytes }
+        ensures { result ≡ self }
     {
-        self.bytes
+        self.characters
     }
 }

@@ -9,6 +9,3 @@ mod limits;
 pub use held::{DEFERRAL_LIMIT, Deferrals};
 pub use items::{Deferral, due};
 pub use limits::{Limits, limits_of};
-
-#[cfg(test)]
-mod tests;

@@ -2,3 +2,4 @@ pub mod Words
 pub mod Run
 pub mod Weather
 pub mod Answers
+pub mod Shown

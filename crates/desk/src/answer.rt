@@ -1,5 +1,5 @@
 ghost use Rattle.std.specs.Prelude.{◌≡◌, ◌≢◌, ◌++◌, codes, map, string_bytes, IfOk, IfSome};
-ghost use Rattle.desk_io.specs.Causes.{Rose};
+ghost use Rattle.desk_io.specs.Causes.{RoseOrFull};
 ghost use Rattle.desk_io.specs.Told.{HoldsName};
 ghost use Rattle.desk.specs.Words.{command_of};
 ghost use Rattle.desk.specs.Answers.{Says, TaskSays, text_of, source_of};
@@ -45,7 +45,7 @@ fn done<S: Shelf>(
 ) -> Result<Answer, OutOfMemory>
     ensures sound { S.sound shelf.old → HoldsName (S.sources shelf.old) name.now → IfOk result (λ a. a.status ≢ 3) }
     ensures known { IfOk result (λ a. a.status ≢ 4) }
-    ensures says { IfOk result (λ a. TaskSays (S.sources shelf.old) (Rose (S.fault_count shelf.old) (S.fault_count shelf.new)) task name.now a.status a.text.items) }
+    ensures says { IfOk result (λ a. TaskSays (S.sources shelf.old) (RoseOrFull (S.fault_count shelf.old) (S.fault_count shelf.new)) task name.now a.status a.text.items) }
 {
     match read_whole(alloc, shelf, name) {
         Ok(source) => {
@@ -66,7 +66,7 @@ pub fn answer_to<S: Shelf>(
 ) -> Result<Answer, OutOfMemory>
     ensures sound { S.sound shelf.old → IfSome (source_of (command_of (map string_bytes words.now))) (HoldsName (S.sources shelf.old)) → IfOk result (λ a. a.status ≢ 3) }
     ensures known { IfOk result (λ a. a.status ≢ 4) }
-    ensures says { IfOk result (λ a. Says (S.sources shelf.old) (Rose (S.fault_count shelf.old) (S.fault_count shelf.new)) (command_of (map string_bytes words.now)) a.status a.text.items) }
+    ensures says { IfOk result (λ a. Says (S.sources shelf.old) (RoseOrFull (S.fault_count shelf.old) (S.fault_count shelf.new)) (command_of (map string_bytes words.now)) a.status a.text.items) }
 {
     match command(words) {
         None => fault_line(alloc, 2, b"error 2 Usage", ""),

@@ -3,8 +3,6 @@
 
 mod answer;
 mod run;
-#[cfg(test)]
-mod tests;
 mod top;
 mod weather;
 mod words;

@@ -1,134 +1,178 @@
-ghost use Rattle.std.specs.Prelude.{◌≡◌, ◌<◌, ◌≤◌, ◌++◌, codes, map, IfOk, IfSome, OnOk};
+ghost use Rattle.std.specs.Prelude.{◌≡◌, ◌<◌, ◌≤◌, ◌++◌, IfOk, IfSome, OnOk};
+ghost use Rattle.std.specs.List.{AllByRecursion};
 ghost use Rattle.asks.specs.Forms.{IsCall, ReplyHasMoment};
 ghost use Rattle.desk_json.specs.Calls.{line_of};
 ghost use Rattle.machine.specs.State.{start};
-ghost use Rattle.machine.specs.Step.{do_call};
+ghost use Rattle.machine.specs.Lanes as lanes;
 ghost use Rattle.machine.specs.Texts.{closing};
 ghost use Rattle.desk.specs.Run as spec;
-ghost use Rattle.desk.specs.Run.{call_at, answers, after_lines, run_text};
+ghost use Rattle.desk.specs.Run.{items_of, texts_of, run_text};
+ghost use Rattle.desk.specs.Shown.{IsItem, IsShown};
 
 use asks::{Call, Reply};
 use board::{Board, Installed};
-use desk_io::{OutOfMemory, runs_between};
+use desk_io::{LineFeeds, OutOfMemory, Run, runs_between};
 use desk_json::{read_line, reply_text};
 use desk_time::{LAST, Minute};
+use machine::{Item, Outcome};
+use rules::Steps;
 use std::alloc::Global;
+use std::marker::Brand;
+use std::sync::ledger::{Blank, Ledger};
 
 // The lane of a script's calls.
 const LANE: u32 = 1;
 
-fn make_call(alloc: Global, board: &mut Board, call: &Call) -> Result<Option<Reply>, OutOfMemory>
-    requires { IsCall call.now.ask }
-    ensures reply { IfOk result (λ r. r ≡ (do_call board.old.state 1 call.now).reply) }
-    ensures state { OnOk result (board.new.state ≡ (do_call board.old.state 1 call.now).state) }
-    ensures shown { IfOk result (λ r. IfSome r ReplyHasMoment) }
-{
-    Ok(board.apply(alloc, LANE, call)?.reply)
-}
-
-fn late_call(
+fn make_call<L: Ledger>(
     alloc: Global,
     board: &mut Board,
+    lane: u32,
+    call: &Call,
+    steps: &mut Steps<L>,
+) -> Result<Outcome, OutOfMemory>
+    requires { IsCall call.now.ask }
+    ensures outcome { IfOk result (λ o. o ≡ (lanes.made lane board.old.state call.now).outcome) }
+    ensures state { OnOk result (board.new.state ≡ (lanes.made lane board.old.state call.now).state) }
+    ensures shown { IfOk result IsShown }
+{
+    let position = board.entries() as u64;
+    let reply = board.apply(alloc, lane, call, steps)?.reply;
+    Ok(Outcome { position, reply })
+}
+
+fn make_late<L: Ledger>(
+    alloc: Global,
+    board: &mut Board,
+    lane: u32,
     at: Minute,
     call: &Call,
-) -> Result<Option<Reply>, OutOfMemory>
+    steps: &mut Steps<L>,
+) -> Result<Outcome, OutOfMemory>
     requires later { board.old.state.moment < at }
     requires within { at ≤ LAST }
     requires call { IsCall call.now.ask }
-    ensures reply { IfOk result (λ r. r ≡ (spec.late_call board.old.state at call.now).reply) }
-    ensures state { OnOk result (board.new.state ≡ (spec.late_call board.old.state at call.now).state) }
-    ensures shown { IfOk result (λ r. IfSome r ReplyHasMoment) }
+    ensures outcome { IfOk result (λ o. o ≡ (lanes.made_late lane board.old.state at call.now).outcome) }
+    ensures state { OnOk result (board.new.state ≡ (lanes.made_late lane board.old.state at call.now).state) }
+    ensures shown { IfOk result IsShown }
 {
-    let Installed { reply, notices: _ } = board.tick(alloc, LANE, at)?;
+    let Installed { reply, notices: _ } = board.tick(alloc, lane, at, steps)?;
     match reply {
-        Some(reply) => Ok(Some(reply)),
-        None => make_call(alloc, board, call),
+        None => make_call(alloc, board, lane, call, steps),
+        Some(reply) => Ok(Outcome {
+            position: board.entries() as u64,
+            reply: Some(reply),
+        }),
     }
 }
 
-#[tactic(auto, unfolding(crate::specs::Run::call_at))]
-fn call_at(
+// A call at a moment: the desk ticks to it first, where it is later.
+#[tactic(auto, unfolding(machine::specs::Lanes::answer))]
+fn answer<L: Ledger>(
     alloc: Global,
     board: &mut Board,
+    lane: u32,
     at: Minute,
     call: &Call,
-) -> Result<Option<Reply>, OutOfMemory>
+    steps: &mut Steps<L>,
+) -> Result<Outcome, OutOfMemory>
     requires within { at ≤ LAST }
     requires call { IsCall call.now.ask }
-    ensures reply { IfOk result (λ r. r ≡ (call_at board.old.state at call.now).reply) }
-    ensures state { OnOk result (board.new.state ≡ (call_at board.old.state at call.now).state) }
-    ensures shown { IfOk result (λ r. IfSome r ReplyHasMoment) }
+    ensures outcome { IfOk result (λ o. o ≡ (lanes.answer lane board.old.state at call.now).outcome) }
+    ensures state { OnOk result (board.new.state ≡ (lanes.answer lane board.old.state at call.now).state) }
+    ensures shown { IfOk result IsShown }
 {
     if board.now() < at {
-        late_call(alloc, board, at, call)
+        make_late(alloc, board, lane, at, call, steps)
     } else {
-        make_call(alloc, board, call)
+        make_call(alloc, board, lane, call, steps)
     }
 }
 
-fn push_reply(alloc: Global, out: &mut Vec<u8>, reply: Option<Reply>) -> Result<(), OutOfMemory>
-    requires { IfSome reply ReplyHasMoment }
-    ensures { OnOk result (out.new.items ≡ out.old.items ++ spec.text_of_reply reply) }
-{
-    match reply {
-        None => Ok(()),
-        Some(reply) => {
-            let text = reply_text(alloc, &reply)?;
-            out.extend_from_slice(text.bytes())?;
-            Ok(())
-        }
-    }
-}
-
-fn push_answer(
+fn answer_item<L: Ledger>(
     alloc: Global,
     board: &mut Board,
-    line: Option<(Minute, Call)>,
-    out: &mut Vec<u8>,
-) -> Result<(), OutOfMemory>
+    lane: u32,
+    item: &Item,
+    steps: &mut Steps<L>,
+) -> Result<Outcome, OutOfMemory>
+    requires { IsItem item.now }
+    ensures outcome { IfOk result (λ o. o ≡ (lanes.answer_item lane board.old.state item.now).outcome) }
+    ensures state { OnOk result (board.new.state ≡ (lanes.answer_item lane board.old.state item.now).state) }
+    ensures shown { IfOk result IsShown }
+{
+    match item {
+        Item::Call { at, call } => answer(alloc, board, lane, *at, call, steps),
+        Item::Bad => Ok(Outcome {
+            position: board.entries() as u64,
+            reply: None,
+        }),
+    }
+}
+
+fn item_of(line: Option<(Minute, Call)>) -> Item
     requires within { IfSome line (λ p. p.0 ≤ LAST) }
     requires form { IfSome line (λ p. IsCall p.1.ask) }
-    ensures answer { OnOk result (out.new.items ≡ out.old.items ++ spec.answer_to board.old.state line) }
-    ensures after { OnOk result (board.new.state ≡ spec.after_line board.old.state line) }
+    ensures value { result ≡ spec.item_of line }
+    ensures form { IsItem result }
 {
     match line {
-        None => {
-            out.extend_from_slice(b"{\"bad\":\"NotBuilt\",\"key\":\"\"}")?;
-            Ok(())
-        }
-        Some((at, call)) => {
-            let reply = call_at(alloc, board, at, &call)?;
-            push_reply(alloc, out, reply)
-        }
+        None => Item::Bad,
+        Some((at, call)) => Item::Call { at, call },
     }
 }
 
-fn push_line(
+fn read_item(alloc: Global, line: &[u8]) -> Result<Item, OutOfMemory>
+    ensures value { IfOk result (λ i. i ≡ spec.item_of (line_of line.now)) }
+    ensures form { IfOk result IsItem }
+{
+    Ok(item_of(read_line(alloc, line)?))
+}
+
+/// What comes of the lines of a script.
+pub(crate) fn outcomes_of<L: Ledger>(
     alloc: Global,
     board: &mut Board,
-    line: &[u8],
-    out: &mut Vec<u8>,
-) -> Result<(), OutOfMemory>
-    ensures answer { OnOk result (out.new.items ≡ out.old.items ++ (spec.answer_to board.old.state (line_of line.now) ++ codes "\n")) }
-    ensures after { OnOk result (board.new.state ≡ spec.after_line board.old.state (line_of line.now)) }
+    lines: &[Run<'_>],
+    steps: &mut Steps<L>,
+) -> Result<Vec<Outcome>, OutOfMemory>
+    ensures outcomes { IfOk result (λ v. v.items ≡ lanes.outcomes LANE board.old.state (items_of lines.now)) }
+    ensures after { OnOk result (board.new.state ≡ lanes.after_items LANE board.old.state (items_of lines.now)) }
+    ensures shown { IfOk result (λ v. AllByRecursion IsShown v.items) }
 {
-    let line = read_line(alloc, line)?;
-    push_answer(alloc, board, line, out)?;
+    let mut outcomes = Vec::new(alloc);
+    for line in lines {
+        let item = read_item(alloc, line.bytes())?;
+        outcomes.push(answer_item(alloc, board, LANE, &item, steps)?)?;
+    }
+    Ok(outcomes)
+}
+
+fn push_reply(alloc: Global, out: &mut Vec<u8>, reply: &Option<Reply>) -> Result<(), OutOfMemory>
+    requires { IfSome reply.now ReplyHasMoment }
+    ensures { OnOk result (out.new.items ≡ out.old.items ++ spec.text_of_reply reply.now) }
+{
+    match reply {
+        None => out.extend_from_slice(b"{\"bad\":\"NotBuilt\",\"key\":\"\"}")?,
+        Some(reply) => out.extend_from_slice(reply_text(alloc, reply)?.bytes())?,
+    }
+    Ok(())
+}
+
+fn push_outcome(alloc: Global, out: &mut Vec<u8>, outcome: &Outcome) -> Result<(), OutOfMemory>
+    requires { IsShown outcome.now }
+    ensures { OnOk result (out.new.items ≡ out.old.items ++ spec.outcome_text outcome.now) }
+{
+    push_reply(alloc, out, &outcome.reply)?;
     out.push(b'\n')?;
     Ok(())
 }
 
-pub(crate) fn push_answers(
-    alloc: Global,
-    board: &mut Board,
-    lines: &[&[u8]],
-    out: &mut Vec<u8>,
-) -> Result<(), OutOfMemory>
-    ensures answers { OnOk result (out.new.items ≡ out.old.items ++ answers board.old.state (map (λ x. x.now) lines.now)) }
-    ensures after { OnOk result (board.new.state ≡ after_lines board.old.state (map (λ x. x.now) lines.now)) }
+fn push_outcomes(alloc: Global, out: &mut Vec<u8>, outcomes: &[Outcome]) -> Result<(), OutOfMemory>
+    requires { AllByRecursion IsShown outcomes.now }
+    ensures { OnOk result (out.new.items ≡ out.old.items ++ texts_of outcomes.now) }
 {
-    for line in lines {
-        push_line(alloc, board, line, out)?;
+    for outcome in outcomes {
+        push_outcome(alloc, out, outcome)?;
     }
     Ok(())
 }
@@ -141,15 +185,26 @@ fn push_closing(alloc: Global, board: &Board, out: &mut Vec<u8>) -> Result<(), O
     Ok(())
 }
 
-/// The text of a run of a script: a reply for each line that has a byte, and the closing text.
 #[tactic(auto, unfolding(crate::specs::Run::run_text))]
+fn text_with<L: Ledger>(alloc: Global, script: &[u8], blank: Blank) -> Result<Vec<u8>, OutOfMemory>
+    requires name { blank.name ≡ L.name }
+    requires parts { blank.parts ≡ L.parts }
+    requires some { 0 < blank.parts }
+    ensures { IfOk result (λ v. v.items ≡ run_text script.now) }
+{
+    let mut steps = Steps::<L>::new(blank);
+    let lines = runs_between::<LineFeeds>(alloc, script)?;
+    let mut board = Board::new(alloc);
+    let outcomes = outcomes_of(alloc, &mut board, &lines, &mut steps)?;
+    let mut out = Vec::new(alloc);
+    push_outcomes(alloc, &mut out, &outcomes)?;
+    push_closing(alloc, &board, &mut out)?;
+    Ok(out)
+}
+
+/// The text of a run of a script: a reply for each line that has a byte, and the closing text.
 pub fn text_of_run(alloc: Global, script: &[u8]) -> Result<Vec<u8>, OutOfMemory>
     ensures { IfOk result (λ v. v.items ≡ run_text script.now) }
 {
-    let lines = runs_between(alloc, b"\n", script)?;
-    let mut board = Board::new(alloc);
-    let mut out = Vec::new(alloc);
-    push_answers(alloc, &mut board, &lines, &mut out)?;
-    push_closing(alloc, &board, &mut out)?;
-    Ok(out)
+    text_with::<Brand>(alloc, script, Blank::new(1))
 }

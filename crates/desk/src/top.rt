@@ -1,5 +1,5 @@
 ghost use Rattle.std.specs.Prelude.{◌≢◌, map, string_bytes, IfSome};
-ghost use Rattle.desk_io.specs.Causes.{Rose};
+ghost use Rattle.desk_io.specs.Causes.{RoseOrFull};
 ghost use Rattle.desk_io.specs.Told.{HoldsName};
 ghost use Rattle.desk.specs.Words.{command_of};
 ghost use Rattle.desk.specs.Answers.{Says, Ends, source_of};
@@ -25,8 +25,8 @@ pub fn desk_main<S: Shelf, O: Sink>(
 ) -> u8
     ensures complete { S.sound shelf.old → O.sound out.old → IfSome (source_of (command_of (map string_bytes words.now))) (HoldsName (S.sources shelf.old))
         → (result ≢ 3) × (result ≢ 4) }
-    ensures ends { Ends (Says (S.sources shelf.old) (Rose (S.fault_count shelf.old) (S.fault_count shelf.new)) (command_of (map string_bytes words.now)))
-        (Rose (O.fault_count out.old) (O.fault_count out.new)) (O.content out.old) (O.content out.new) result }
+    ensures ends { Ends (Says (S.sources shelf.old) (RoseOrFull (S.fault_count shelf.old) (S.fault_count shelf.new)) (command_of (map string_bytes words.now)))
+        (RoseOrFull (O.fault_count out.old) (O.fault_count out.new)) (O.content out.old) (O.content out.new) result }
 {
     match answer_to(alloc, words, shelf) {
         Err(_) => 8,

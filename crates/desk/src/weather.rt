@@ -1,11 +1,11 @@
-ghost use Rattle.std.specs.Prelude.{◌≡◌, ◌≤◌, ◌++◌, map, IfOk, IfSome, OnOk};
+ghost use Rattle.std.specs.Prelude.{◌≡◌, ◌≤◌, ◌++◌, IfOk, IfSome, OnOk};
 ghost use Rattle.std.specs.Option.{option_map};
 ghost use Rattle.facts.specs.Reading.{read_of, ReadHasMoments};
 ghost use Rattle.desk.specs.Weather as spec;
 ghost use Rattle.desk.specs.Weather.{weather_text};
 
 use codes::{BadReport, ReportFault};
-use desk_io::{OutOfMemory, Text, push_all, runs_between};
+use desk_io::{LineFeeds, OutOfMemory, Run, Text, push_all, runs_between};
 use desk_json::why_name;
 use desk_time::{FIRST, LAST, Minute, read_minute};
 use facts::{Read, Report, push_line, read_report};
@@ -70,7 +70,7 @@ fn push_reading(
                 text: Text::from_vec(Vec::new(alloc)),
                 read,
             };
-            push_line(alloc, out, &report)
+            push_line(out, &report)
         }
     }
 }
@@ -87,11 +87,11 @@ fn push_report(alloc: Global, out: &mut Vec<u8>, line: &[u8]) -> Result<(), OutO
     }
 }
 
-fn push_lines(alloc: Global, out: &mut Vec<u8>, lines: &[&[u8]]) -> Result<(), OutOfMemory>
-    ensures { OnOk result (out.new.items ≡ out.old.items ++ spec.shown_lines (map (λ x. x.now) lines.now)) }
+fn push_lines(alloc: Global, out: &mut Vec<u8>, lines: &[Run<'_>]) -> Result<(), OutOfMemory>
+    ensures { OnOk result (out.new.items ≡ out.old.items ++ spec.shown_lines lines.now) }
 {
     for line in lines {
-        push_report(alloc, out, line)?;
+        push_report(alloc, out, line.bytes())?;
     }
     Ok(())
 }
@@ -101,7 +101,7 @@ fn push_lines(alloc: Global, out: &mut Vec<u8>, lines: &[&[u8]]) -> Result<(), O
 pub fn text_of_weather(alloc: Global, file: &[u8]) -> Result<Vec<u8>, OutOfMemory>
     ensures { IfOk result (λ v. v.items ≡ weather_text file.now) }
 {
-    let lines = runs_between(alloc, b"\n", file)?;
+    let lines = runs_between::<LineFeeds>(alloc, file)?;
     let mut out = Vec::new(alloc);
     push_lines(alloc, &mut out, &lines)?;
     Ok(out)

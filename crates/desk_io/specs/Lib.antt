@@ -3,3 +3,4 @@ pub mod Causes
 pub mod Whole
 pub mod Runs
 pub mod Planned
+pub mod Grown

@@ -8,8 +8,6 @@ mod outside;
 mod pieces;
 mod real;
 mod runs;
-#[cfg(test)]
-mod tests;
 mod text;
 mod whole;
 
@@ -17,8 +15,8 @@ pub use faults::{Failed, OutOfMemory, PutFault, WholeFault};
 pub use listed::{Copied, Listed, copied_items, copied_option};
 pub use memory::{MemoryShelf, MemorySink};
 pub use outside::{Shelf, Sink};
-pub use pieces::push_all;
+pub use pieces::{or_undone, push_all};
 pub use real::{FileShelf, StdoutSink};
-pub use runs::runs_between;
+pub use runs::{Blanks, LineFeeds, Run, Separators, push_run, runs_between};
 pub use text::Text;
 pub use whole::{SOURCE_LIMIT, read_whole};

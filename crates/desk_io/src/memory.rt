@@ -62,7 +62,7 @@ impl Shelf for MemoryShelf {
         ensures same { self.new.sources.items ≡ self.old.sources.items }
         ensures cause { HasCause (record {}) self.old.faults self.new.faults result }
         ensures sound { self.old.fail.items ≡ [] → (self.new.fail.items ≡ []) ×
-            (HoldsName (Some (source_named self.old.sources.items)) name.now → IsOk result) }
+            (HoldsName (Some (source_named self.old.sources.items)) name.now → IsOk result × (self.new.faults ≡ self.old.faults)) }
         // It gives bytes exactly where it holds the name and the call isn't among those that fail.
         ensures planned { is_ok result ≡ gives (source_named self.old.sources.items name.now)
             (is_planned self.old.fail.items self.old.calls) }
@@ -139,7 +139,7 @@ impl Sink for MemorySink {
     fn write(&mut self, bytes: &[u8]) -> Result<(), PutFault>
         ensures appends { Puts (Some self.old.written.items) (Some self.new.written.items) bytes.now result }
         ensures cause { HasCause PutFailed self.old.faults self.new.faults result }
-        ensures sound { self.old.fail.items ≡ [] → (self.new.fail.items ≡ []) × (IsErrOf result PutFailed → ⊥) }
+        ensures sound { self.old.fail.items ≡ [] → (self.new.fail.items ≡ []) × (IsErrOf result PutFailed → ⊥) × (self.new.faults ≡ self.old.faults) }
         ensures planned { Fails (is_planned self.old.fail.items self.old.calls) result }
         ensures err { OnErr result (self.new.written.items ≡ self.old.written.items) }
         ensures fail { self.new.fail.items ≡ self.old.fail.items }

@@ -1,5 +1,5 @@
 ghost use Rattle.std.specs.Prelude.{◌≡◌, ◌<◌, ◌≤◌, List, ℕ, Option, length, IfOk, IsOk, IsErrOf};
-ghost use Rattle.desk_io.specs.Told.{NextOf, OnSource, HoldsName, Puts};
+ghost use Rattle.desk_io.specs.Told.{NextOf, OnSource, HoldsName, Puts, TellsAsBefore};
 ghost use Rattle.desk_io.specs.Causes.{HasCause};
 ghost use Rattle.desk_io.specs.declared.faults.PutFault.TheVariants.{Failed as PutFailed};
 
@@ -14,7 +14,7 @@ pub trait Shelf {
     /// How often it has failed. The count stands still at its type's end.
     ghost fault_count: { Self → ℕ };
 
-    /// It fails only where it is asked for a name that it doesn't hold.
+    /// It fails, and its count rises, only where it is asked for a name that it doesn't hold.
     ghost sound: { Self → Type 0 };
 
     /// Writes the bytes of a source from a place on into the front of `into`, and answers how many
@@ -25,7 +25,7 @@ pub trait Shelf {
         ensures given { IfOk result (λ n. OnSource (sources self.old) name.now (λ bytes. NextOf bytes place n into.new)) }
         ensures same { sources self.new ≡ sources self.old }
         ensures cause { HasCause (record {}) (fault_count self.old) (fault_count self.new) result }
-        ensures sound { sound self.old → sound self.new × (HoldsName (sources self.old) name.now → IsOk result) };
+        ensures sound { sound self.old → sound self.new × (HoldsName (sources self.old) name.now → IsOk result × (fault_count self.new ≡ fault_count self.old)) };
 
     /// How often it has failed. The count never falls.
     fn faults(&self) -> u64
@@ -34,13 +34,13 @@ pub trait Shelf {
 
 /// Where a text goes.
 pub trait Sink {
-    /// All that was appended, where the sink tells it.
+    /// All that was appended, where the sink tells it. No call changes whether it tells.
     ghost content: { Self → Option (List ℕ) };
 
     /// How often it has failed. The count stands still at its type's end.
     ghost fault_count: { Self → ℕ };
 
-    /// It never fails.
+    /// It never fails, and its count stands still.
     ghost sound: { Self → Type 0 };
 
     /// Appends all of the bytes. Where it fails it has appended some front of them, and where memory
@@ -48,7 +48,8 @@ pub trait Sink {
     fn write(&mut self, bytes: &[u8]) -> Result<(), PutFault>
         ensures appends { Puts (content self.old) (content self.new) bytes.now result }
         ensures cause { HasCause PutFailed (fault_count self.old) (fault_count self.new) result }
-        ensures sound { sound self.old → sound self.new × (IsErrOf result PutFailed → ⊥) };
+        ensures sound { sound self.old → sound self.new × (IsErrOf result PutFailed → ⊥) × (fault_count self.new ≡ fault_count self.old) }
+        ensures telling { TellsAsBefore (content self.old) (content self.new) };
 
     /// How often it has failed. The count never falls.
     fn faults(&self) -> u64

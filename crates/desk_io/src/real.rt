@@ -1,4 +1,6 @@
-ghost use Rattle.std.specs.Prelude.{◌≡◌, ◌≤◌, length, None, IfOk};
+ghost use Rattle.std.specs.Prelude.{◌≡◌, ◌≤◌, length, None, Ok, is_ok, IfOk, OnOk};
+ghost use Rattle.std.specs.Io.KnownBytes.{Appends, ReadConsumes};
+ghost use Rattle.desk_io.specs.Causes.{HasCause};
 
 use crate::{Failed, PutFault, Shelf, Sink};
 use std::fs::File;
@@ -6,10 +8,91 @@ use std::io;
 use std::io::{Read, Seek, SeekFrom, Write};
 use std::rt::Files;
 
-/// The files of the working folder. It tells no contents, and each error is a counted fault.
+// An error of the system is a counted fault, and nothing else is.
+fn counted<T>(answer: io::Result<T>, faults: &mut u64) -> Result<T, Failed>
+    ensures fails { is_ok result ≡ is_ok answer }
+    ensures value { IfOk result (λ x. answer ≡ Ok x) }
+    ensures cause { HasCause (record {}) faults.old faults.new result }
+    ensures kept { OnOk result (faults.new ≡ faults.old) }
+{
+    match answer {
+        Ok(x) => Ok(x),
+        Err(_) => {
+            *faults = faults.saturating_add(1);
+            Err(Failed)
+        }
+    }
+}
+
+// The longest name that is kept, in bytes.
+const NAME_LIMIT: usize = 255;
+
+// A name in a fixed place, since a shelf takes no memory.
+#[derive(Clone, Copy)]
+struct Name {
+    bytes: [u8; NAME_LIMIT],
+    length: usize,
+}
+
+impl Name {
+    // The name that was given, where it isn't too long.
+    fn of(name: &[u8]) -> Option<Name> {
+        let length = name.len();
+        if length > NAME_LIMIT {
+            return None;
+        }
+        let mut bytes = [0; NAME_LIMIT];
+        bytes[..length].copy_from_slice(name);
+        Some(Name { bytes, length })
+    }
+
+    fn is(&self, name: &[u8]) -> bool {
+        self.length <= NAME_LIMIT && &self.bytes[..self.length] == name
+    }
+}
+
+// A file that was opened, and read up to a place. A name that is too long isn't known.
+#[derive(Drop)]
+struct Reading<F: Drop> {
+    file: F,
+    name: Option<Name>,
+    place: u64,
+}
+
+impl<F: Read + Drop> Reading<F> {
+    fn stands_at(&self, name: &str, place: u64) -> bool {
+        match &self.name {
+            None => false,
+            Some(known) => self.place == place && known.is(name.as_bytes()),
+        }
+    }
+
+    fn read_on(&mut self, into: &mut [u8]) -> io::Result<usize>
+        ensures bound { IfOk result (λ n. n ≤ length into.old) }
+        ensures bytes { ReadConsumes (F.remaining self.old.file) (F.remaining self.new.file) result into.new }
+    {
+        let count = self.file.read(into)?;
+        self.place = self.place.saturating_add(count as u64);
+        Ok(count)
+    }
+}
+
+fn opened<R: Files>(files: &R, name: &str, place: u64) -> io::Result<Reading<R::File>> {
+    let mut file = File::open(files, name)?;
+    if place > 0 {
+        file.seek(SeekFrom::Start(place))?;
+    }
+    let name = Name::of(name.as_bytes());
+    Ok(Reading { file, name, place })
+}
+
+/// The files of the working folder. It tells no contents, and each error is a counted fault. The file
+/// that was read last stays open up to its end, so that a source with a name of at most 255 bytes is
+/// opened once and read on. It takes no memory.
 #[derive(Drop)]
 pub struct FileShelf<R: Files + Drop> {
     files: R,
+    reading: Option<Reading<R::File>>,
     faults: u64,
 }
 
@@ -18,16 +101,27 @@ impl<R: Files + Drop> FileShelf<R> {
     pub fn new(files: R) -> Self
         ensures { result.faults ≡ 0 }
     {
-        FileShelf { files, faults: 0 }
+        FileShelf {
+            files,
+            reading: None,
+            faults: 0,
+        }
     }
-}
 
-fn read_at<R: Files>(files: &R, name: &str, place: u64, into: &mut [u8]) -> io::Result<usize>
-    ensures { IfOk result (λ n. n ≤ length into.old) }
-{
-    let mut file = File::open(files, name)?;
-    file.seek(SeekFrom::Start(place))?;
-    file.read(into)
+    fn read_at(&mut self, name: &str, place: u64, into: &mut [u8]) -> io::Result<usize>
+        ensures bound { IfOk result (λ n. n ≤ length into.old) }
+        ensures faults { self.new.faults ≡ self.old.faults }
+    {
+        let mut reading = match self.reading.take() {
+            Some(reading) if reading.stands_at(name, place) => reading,
+            _ => opened(&self.files, name, place)?,
+        };
+        let count = reading.read_on(into)?;
+        if count > 0 {
+            self.reading = Some(reading);
+        }
+        Ok(count)
+    }
 }
 
 impl<R: Files + Drop> Shelf for FileShelf<R> {
@@ -38,18 +132,20 @@ impl<R: Files + Drop> Shelf for FileShelf<R> {
     ghost sound = { λ s. ⊥ };
 
     fn next(&mut self, name: &str, place: u64, into: &mut [u8]) -> Result<usize, Failed> {
-        match read_at(&self.files, name, place, into) {
-            Ok(count) => Ok(count),
-            Err(_) => {
-                self.faults = self.faults.saturating_add(1);
-                Err(Failed)
-            }
-        }
+        let answer = self.read_at(name, place, into);
+        counted(answer, &mut self.faults)
     }
 
     fn faults(&self) -> u64 {
         self.faults
     }
+}
+
+// Writes all of the bytes, unless it answers an error.
+fn write_out<W: Write>(writer: &mut W, bytes: &[u8]) -> io::Result<()>
+    ensures { OnOk result (Appends (W.contents writer.old) (W.contents writer.new) bytes.now) }
+{
+    writer.write_all(bytes)
 }
 
 /// Standard output. It tells no content, and each error is a counted fault.
@@ -76,12 +172,10 @@ impl<R: Print + Drop> Sink for StdoutSink<R> {
     ghost sound = { λ s. ⊥ };
 
     fn write(&mut self, bytes: &[u8]) -> Result<(), PutFault> {
-        match io::writer(&self.out).write_all(bytes) {
+        let answer = write_out(&mut io::writer(&self.out), bytes);
+        match counted(answer, &mut self.faults) {
             Ok(()) => Ok(()),
-            Err(_) => {
-                self.faults = self.faults.saturating_add(1);
-                Err(PutFault::Failed)
-            }
+            Err(Failed) => Err(PutFault::Failed),
         }
     }
 

@@ -4,26 +4,39 @@ ghost use Rattle.desk_io.specs.Told.{HoldsName};
 ghost use Rattle.desk_io.specs.Whole.{ReadsWhole};
 ghost use Rattle.desk_io.specs.Causes.{HasCause};
 
-use crate::{Shelf, Text, WholeFault};
+use crate::{OutOfMemory, Shelf, Text, WholeFault};
 use std::alloc::Global;
 
 /// The most bytes that a source may have: 64 MiB.
 pub const SOURCE_LIMIT: u64 = 67_108_864;
 
-const PIECE: usize = 4096;
+// How many bytes are asked for at once.
+const PIECE: usize = 65_536;
 
-/// The whole source of that name. `ReadFault` comes only where the shelf's count of faults rose,
-/// `TooLong` exactly where the source has more than `SOURCE_LIMIT` bytes.
-pub fn read_whole<S: Shelf>(alloc: Global, shelf: &mut S, name: &str) -> Result<Text, WholeFault>
-    ensures whole { ReadsWhole SOURCE_LIMIT (S.sources shelf.old) name.now result }
+fn room(alloc: Global) -> Result<Vec<u8>, OutOfMemory>
+    ensures { IfOk result (λ piece. 0 < length piece.items) }
+{
+    let mut piece = Vec::new(alloc);
+    piece.resize(PIECE, 0)?;
+    Ok(piece)
+}
+
+// Reads the source by pieces, which come to `piece` one after another.
+fn read_by<S: Shelf>(
+    alloc: Global,
+    shelf: &mut S,
+    name: &str,
+    piece: &mut [u8],
+) -> Result<Text, WholeFault>
+    requires { 0 < length piece.old }
+    ensures whole { ReadsWhole (S.sources shelf.old) name.now result }
     ensures same { S.sources shelf.new ≡ S.sources shelf.old }
-    ensures sound { S.sound shelf.old → S.sound shelf.new × (HoldsName (S.sources shelf.old) name.now → IsErrOf result WholeFault.ReadFault → ⊥) }
+    ensures sound { S.sound shelf.old → S.sound shelf.new × (HoldsName (S.sources shelf.old) name.now → (IsErrOf result WholeFault.ReadFault → ⊥) × (S.fault_count shelf.new ≡ S.fault_count shelf.old)) }
     ensures cause { HasCause WholeFault.ReadFault (S.fault_count shelf.old) (S.fault_count shelf.new) result }
 {
-    let mut piece = [0u8; PIECE];
     let mut text = Vec::new(alloc);
     loop {
-        let count = shelf.next(name, text.len() as u64, &mut piece)?;
+        let count = shelf.next(name, text.len() as u64, piece)?;
         if count == 0 {
             return Ok(Text::from_vec(text));
         }
@@ -32,4 +45,16 @@ pub fn read_whole<S: Shelf>(alloc: Global, shelf: &mut S, name: &str) -> Result<
             return Err(WholeFault::TooLong);
         }
     }
+}
+
+/// The whole source of that name. `ReadFault` comes only where the shelf's count of faults rose,
+/// `TooLong` exactly where the source has more than `SOURCE_LIMIT` bytes.
+pub fn read_whole<S: Shelf>(alloc: Global, shelf: &mut S, name: &str) -> Result<Text, WholeFault>
+    ensures whole { ReadsWhole (S.sources shelf.old) name.now result }
+    ensures same { S.sources shelf.new ≡ S.sources shelf.old }
+    ensures sound { S.sound shelf.old → S.sound shelf.new × (HoldsName (S.sources shelf.old) name.now → (IsErrOf result WholeFault.ReadFault → ⊥) × (S.fault_count shelf.new ≡ S.fault_count shelf.old)) }
+    ensures cause { HasCause WholeFault.ReadFault (S.fault_count shelf.old) (S.fault_count shelf.new) result }
+{
+    let mut piece = room(alloc)?;
+    read_by(alloc, shelf, name, &mut piece)
 }

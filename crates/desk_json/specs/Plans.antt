@@ -6,8 +6,7 @@ use Rattle.serde_json.specs.Data.{Data, Items, no_items, item}
 use Rattle.serde_json.specs.Find.{get, as_array, as_null}
 use Rattle.desk_time.specs.Digits.{◌>>=◌}
 use Rattle.desk_time.specs.Moments.{minute_of}
-use Rattle.codes.specs.Station.{station_of, is_capital, is_capital_or_digit}
-use Rattle.codes.specs.declared.station.Station.{Station}
+use Rattle.codes.specs.Station.{Station, station_of, is_capital, is_capital_or_digit}
 use Rattle.plan.specs.declared.flights.Kind.TheVariants.{Domestic}
 use Rattle.plan.specs.declared.flights.Leg.{Leg}
 use Rattle.plan.specs.declared.flights.Plan.{Plan}

@@ -5,8 +5,6 @@ mod calls;
 mod fields;
 mod plans;
 mod replies;
-#[cfg(test)]
-mod tests;
 
 pub use calls::read_line;
 pub use replies::{reply_text, why_name};

@@ -1,3 +1,4 @@
+pub mod Limits
 pub mod Digits
 pub mod Calendar
 pub mod Moments

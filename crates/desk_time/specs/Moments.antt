@@ -1,10 +1,10 @@
 -- Moments, in minutes since 1970-01-01 00:00.
-use Rattle.std.specs.Prelude.{Bool, ℕ, zero, suc, ◌+◌, ◌*◌, ◌/◌, ◌%◌, nat_lt, nat_le, ◌==◌, ◌&&◌, ◌||◌, if◌then◌else◌, List, [], ◌∷◌, ◌++◌, Option, None, Some, Result, Ok, Err}
+use Rattle.std.specs.Prelude.{◌≡◌, ◌↔◌, ◌<◌, ◌≤◌, Bool, true, false, ℕ, zero, suc, ◌+◌, ◌*◌, ◌/◌, ◌%◌, nat_lt, nat_le, ◌==◌, ◌&&◌, ◌||◌, if◌then◌else◌, List, [], ◌∷◌, ◌++◌, Option, None, Some, Result, Ok, Err}
 use Rattle.desk_time.specs.Digits.{pair, ◌>>=◌}
 use Rattle.desk_time.specs.Calendar.{Civil, civil_of, day_of_month, day_at}
 use Rattle.desk_time.specs.declared.moments.BadDay.{BadDay}
 use Rattle.desk_time.specs.declared.moments.BadDay.TheVariants.{BadTime, OutOfReach}
-use Rattle.desk_time.specs.declared.moments.TheConstants.{FIRST, LAST}
+use Rattle.desk_time.specs.Limits.{first_moment, last_moment}
 
 -- the first of that many days with that day of the month
 abbrev pub day_named : ℕ → ℕ → ℕ → Option ℕ
@@ -12,7 +12,7 @@ day_named zero from day = None
 day_named (suc k) from day = if day_of_month from == day then Some from else day_named k (from + 1) day
 
 abbrev pub in_reach : ℕ → Result ℕ BadDay
-in_reach at = if nat_le FIRST at && nat_le at LAST then Ok at else Err OutOfReach
+in_reach at = if nat_le first_moment at && nat_le at last_moment then Ok at else Err OutOfReach
 
 abbrev pub at_time : Option ℕ → ℕ → ℕ → Result ℕ BadDay
 at_time None hour minute = Err OutOfReach
@@ -25,6 +25,25 @@ is_time day hour minute = nat_le 1 day && nat_le day 31 && nat_le minute 59 && (
 abbrev pub resolved : ℕ → ℕ → ℕ → ℕ → Result ℕ BadDay
 resolved first_day day hour minute =
     if is_time day hour minute then at_time (day_named 5 first_day day) hour minute else Err BadTime
+
+-- a day of the five from the first, with that day of the month
+pub record IsOfFive (first_day day d : ℕ) : Type 0 where
+  pub from : first_day ≤ d
+  pub within : d < first_day + 5
+  pub named : day_of_month d ≡ day
+
+-- a moment that is read
+pub record IsReached (at : ℕ) : Type 0 where
+  pub low : first_moment ≤ at
+  pub high : at ≤ last_moment
+
+-- What is answered for a day of the month and a time. Where the time is one, it is the moment at that time of
+-- the day of the five that is named, whichever it is, and `OutOfReach` where there is no such day or moment.
+pub record Resolves (first_day day hour minute : ℕ) (result : Result ℕ BadDay) : Type 0 where
+  pub reached : is_time day hour minute ≡ true → (d : ℕ) → IsOfFive first_day day d → IsReached (1440 * d + 60 * hour + minute) → result ≡ Ok (1440 * d + 60 * hour + minute)
+  pub beyond : is_time day hour minute ≡ true → (d : ℕ) → IsOfFive first_day day d → (IsReached (1440 * d + 60 * hour + minute) → ⊥) → result ≡ Err OutOfReach
+  pub unnamed : is_time day hour minute ≡ true → ((d : ℕ) → IsOfFive first_day day d → ⊥) → result ≡ Err OutOfReach
+  pub bad_time : (result ≡ Err BadTime) ↔ (is_time day hour minute ≡ false)
 
 abbrev pub two : ℕ → List ℕ
 two n = (48 + n / 10) ∷ (48 + n % 10) ∷ []

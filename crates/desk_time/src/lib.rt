@@ -4,8 +4,6 @@
 mod calendar;
 mod digits;
 mod moments;
-#[cfg(test)]
-mod tests;
 
 pub use digits::{digit, pair};
 pub use moments::{

@@ -1,6 +1,6 @@
-ghost use Rattle.std.specs.Prelude.{ℕ, Some, ◌≡◌, ◌+◌, ◌*◌, ◌<◌, ◌≤◌, pos, IfSome, IfOk};
+ghost use Rattle.std.specs.Prelude.{ℕ, Some, ◌↔◌, ◌≡◌, ◌+◌, ◌*◌, ◌<◌, ◌≤◌, pos, IfSome, IfOk};
 ghost use Rattle.desk_time.specs.Moments as spec;
-ghost use Rattle.desk_time.specs.Moments.{resolved, shown, minute_of};
+ghost use Rattle.desk_time.specs.Moments.{Resolves, resolved, shown, minute_of};
 ghost use Rattle.desk_time.specs.Calendar.{day_of_month};
 
 use crate::calendar::{day_at, day_of_month, parts_of};
@@ -33,16 +33,10 @@ pub enum BadDay {
     OutOfReach,
 }
 
-/// The moment at that time of the only day with that day of the month among the five days from
-/// `first_day`, which counts from 1970-01-01. Hour 24 is the start of the next day. `BadTime` is
-/// tested first.
-pub fn resolve(first_day: u64, day: u8, hour: u8, minute: u8) -> Result<Minute, BadDay>
-    requires low { 10_000 ≤ first_day }
-    requires high { first_day ≤ 48_000 }
+fn moment_of(first_day: u64, day: u8, hour: u8, minute: u8) -> Result<Minute, BadDay>
+    requires { first_day ≤ 48_000 }
     ensures value { result ≡ resolved first_day day hour minute }
     ensures range { IfOk result (λ m. (FIRST ≤ m) × (m ≤ LAST)) }
-    // No other day of the five has that day of the month.
-    ensures only { (d : ℕ) → first_day ≤ d → d < first_day + 5 → day_of_month d ≡ day → IfOk result (λ m. m ≡ 1440 * d + 60 * hour + minute) }
 {
     if !is_time(day, hour, minute) {
         return Err(BadDay::BadTime);
@@ -51,6 +45,20 @@ pub fn resolve(first_day: u64, day: u8, hour: u8, minute: u8) -> Result<Minute, 
         None => Err(BadDay::OutOfReach),
         Some(named) => in_reach(1440 * named + 60 * hour as u64 + minute as u64),
     }
+}
+
+/// The moment at that time of the only day with that day of the month among the five days from
+/// `first_day`, which counts from 1970-01-01. Hour 24 is the start of the next day. `BadTime` is
+/// tested first.
+pub fn resolve(first_day: u64, day: u8, hour: u8, minute: u8) -> Result<Minute, BadDay>
+    requires low { 10_000 ≤ first_day }
+    requires high { first_day ≤ 48_000 }
+    ensures value { result ≡ resolved first_day day hour minute }
+    ensures range { IfOk result (λ m. (FIRST ≤ m) × (m ≤ LAST)) }
+    // No two of the five days share a day of the month.
+    ensures exact { Resolves first_day day hour minute result }
+{
+    moment_of(first_day, day, hour, minute)
 }
 
 fn is_time(day: u8, hour: u8, minute: u8) -> bool
@@ -180,12 +188,11 @@ fn minute_in(text: &[u8]) -> Option<Minute>
 }
 
 /// The moment of a text such as `2025-03-12T17:00Z`: a real date from 2000 to 2099, and a time from
-/// 00:00 to 23:59. It reads again what `show` prints, up to `LAST`.
+/// 00:00 to 23:59. It reads what `show` prints of a moment from `FIRST` to `LAST`, and nothing else.
 pub fn read_minute(text: &[u8]) -> Option<Minute>
     ensures value { result ≡ minute_of text.now }
     ensures range { IfSome result (λ m. (FIRST ≤ m) × (m ≤ LAST)) }
-    // It reads each moment that is shown.
-    ensures again { (m : ℕ) → FIRST ≤ m → m ≤ LAST → text.now ≡ shown m → result ≡ Some m }
+    ensures exact { (m : ℕ) → (result ≡ Some m) ↔ ((FIRST ≤ m) × (m ≤ LAST) × (text.now ≡ shown m)) }
 {
     minute_in(text)
 }

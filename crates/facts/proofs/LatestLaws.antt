@@ -4,11 +4,12 @@ use Rattle.std.proofs.lemmas.Bool.{ltb-true, ltb-false}
 use Rattle.std.proofs.lemmas.List.Elements.{All-nil, All-cons, recursion_from_All}
 use Rattle.std.specs.Prelude.{nat_lt}
 use Rattle.std.specs.List.{AllByRecursion}
-use Rattle.codes.specs.declared.station.Station.{Station}
+use Rattle.codes.specs.Station.{Station}
 use Rattle.facts.specs.declared.report.Report.{Report}
 use Rattle.facts.specs.declared.latest.Kind.{Kind}
 use Rattle.facts.specs.Same.{minute_of_report}
-use Rattle.facts.specs.Reading.{HasMoments}
+use Rattle.facts.specs.Reading.{HasMoments, IsRead}
+use Rattle.facts.proofs.Admission.{moments_held}
 use Rattle.facts.specs.Latest.{is_of, where_of, later, latest, IsLatestReport, IsLatest}
 
 -- no such report is of a later moment, and none of an equal one
@@ -100,5 +101,5 @@ moments_of_latest kind station (r ∷ rs) all =
 
 -- the moments of the latest report are those of one in the list
 pub latest_moments : (kind : Kind) (station : Station) (rs : List Report) (r : Option Report)
-    → r ≡ latest kind station rs → All HasMoments rs → IfSome r HasMoments
-latest_moments kind station rs r e all = rw e (moments_of_latest kind station rs (recursion_from_All HasMoments rs all))
+    → r ≡ latest kind station rs → All IsRead rs → IfSome r HasMoments
+latest_moments kind station rs r e all = rw e (moments_of_latest kind station rs (recursion_from_All HasMoments rs (moments_held rs all)))

@@ -2,7 +2,7 @@
 use Rattle.std.specs.Prelude.{◌≡◌, ◌≢◌, ◌≤◌, nat_lt, Bool, true, false, ◌&&◌, IsTrue, if◌then◌else◌, List, [], ◌∷◌, ◌++◌, All, Option, None, Some}
 use Rattle.std.specs.Str.{bytes_eq}
 use Rattle.std.specs.Option.{option_and_then}
-use Rattle.codes.specs.declared.station.Station.{Station}
+use Rattle.codes.specs.Station.{Station}
 use Rattle.metar.specs.declared.metar.Metar.{Metar}
 use Rattle.taf.specs.declared.forecast.Taf.{Taf}
 use Rattle.facts.specs.declared.report.Read.{Read}
@@ -20,7 +20,7 @@ is_kind kind.Forecast (read.Taf taf) = true
 
 -- a report of that kind and station
 abbrev pub is_of : Kind → Station → Report → Bool
-is_of kind station r = is_kind kind r.read && bytes_eq (station_of_report r).bytes station.bytes
+is_of kind station r = is_kind kind r.read && bytes_eq (station_of_report r) station
 
 abbrev pub where_of : Kind → Station → Report → Option Report
 where_of kind station r = if is_of kind station r then Some r else None

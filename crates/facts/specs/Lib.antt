@@ -3,4 +3,5 @@ pub mod Reading
 pub mod Reports
 pub mod Latest
 pub mod Lines
-pub mod Moments
+pub mod Index
+pub mod Sorted

@@ -1,11 +1,13 @@
 -- The lines that show the weather: one for the latest report of each kind of a station.
-use Rattle.std.specs.Prelude.{ℕ, if◌then◌else◌, List, [], ◌∷◌, ◌++◌, length, Option, None, Some, codes, decimal}
-use Rattle.std.specs.List.{concat}
+use Rattle.std.specs.Prelude.{◌≡◌, ℕ, if◌then◌else◌, List, [], ◌∷◌, ◌++◌, length, Option, None, Some, codes, decimal}
+use Rattle.std.specs.List.{concat, list_any}
+use Rattle.std.specs.List.Sorted.{IsStrictlySortedBy}
+use Rattle.std.specs.Str.{bytes_eq}
 use Rattle.std.specs.Ordering.{nat_cmp, match_ordering}
 use Rattle.std.specs.Cmp.Lexicographic.{slice_cmp}
 use Rattle.desk_time.specs.Moments.{shown}
 use Rattle.codes.specs.declared.cond.Cond.{Cond}
-use Rattle.codes.specs.declared.station.Station.{Station}
+use Rattle.codes.specs.Station.{Station}
 use Rattle.metar.specs.declared.metar.Metar.{Metar}
 use Rattle.taf.specs.declared.forecast.Taf.{Taf}
 use Rattle.taf.specs.declared.forecast.TafState.{TafState}
@@ -32,15 +34,21 @@ cond_text c unread =
 abbrev pub metar_text : Metar → List ℕ
 metar_text m = if m.nil then codes " NIL" else cond_text m.cond m.unread
 
-abbrev pub state_text : TafState → ℕ → List ℕ
-state_text Normal parts = codes " parts " ++ decimal parts
-state_text Nil parts = codes " NIL"
-state_text Cancelled parts = codes " CNL"
+abbrev pub state_word : TafState → List ℕ
+state_word Normal = codes " parts "
+state_word Nil = codes " NIL"
+state_word Cancelled = codes " CNL"
+
+-- how many parts it has, where it forecasts
+abbrev pub part_count : TafState → ℕ → List ℕ
+part_count Normal parts = decimal parts
+part_count Nil parts = []
+part_count Cancelled parts = []
 
 -- what a forecast says after its moment: its validity, and how many parts it has
 abbrev pub taf_text : Taf → List ℕ
 taf_text t =
-    concat (codes " " ∷ moment_text t.from ∷ codes " " ∷ moment_text t.to ∷ state_text t.state (length t.parts) ∷ [])
+    concat (codes " " ∷ moment_text t.from ∷ codes " " ∷ moment_text t.to ∷ state_word t.state ∷ part_count t.state (length t.parts) ∷ [])
 
 abbrev pub kind_text : Read → List ℕ
 kind_text (read.Metar metar) = codes " METAR "
@@ -53,7 +61,7 @@ read_text (read.Taf taf) = taf_text taf
 -- a report's station, kind, number and moment
 abbrev pub head_text : Report → List ℕ
 head_text r =
-    concat ((station_of_report r).bytes ∷ kind_text r.read ∷ decimal r.id ∷ codes " " ∷ moment_text (minute_of_report r) ∷ [])
+    concat (station_of_report r ∷ kind_text r.read ∷ decimal r.id ∷ codes " " ∷ moment_text (minute_of_report r) ∷ [])
 
 -- the line of a report
 unfoldable pub line_of : Report → List ℕ
@@ -70,12 +78,21 @@ weather_at rs station = line_of_latest (latest_metar rs station) ++ line_of_late
 -- a sorted list of stations, with one more in its place
 abbrev pub with_station : Station → List Station → List Station
 with_station s [] = s ∷ []
-with_station s (t ∷ ts) = match_ordering (slice_cmp nat_cmp s.bytes t.bytes) (s ∷ t ∷ ts) (t ∷ ts) (t ∷ with_station s ts)
+with_station s (t ∷ ts) = match_ordering (slice_cmp nat_cmp s t) (s ∷ t ∷ ts) (t ∷ ts) (t ∷ with_station s ts)
 
 -- those stations and those of the reports, each once and in byte order
 abbrev pub stations_with : List Station → List Report → List Station
 stations_with found [] = found
 stations_with found (r ∷ rs) = stations_with (with_station (station_of_report r) found) rs
+
+-- the stations that have a report, each once and in byte order
+unfoldable pub stations_of : List Report → List Station
+stations_of rs = stations_with [] rs
+
+-- These are the stations that have a report, in rising byte order.
+pub record AreStations (rs : List Report) (stations : List Station) : Type 0 where
+  pub rising : IsStrictlySortedBy (slice_cmp nat_cmp) stations
+  pub each : (s : List ℕ) → list_any (λ t. bytes_eq t s) stations ≡ list_any (λ r. bytes_eq (station_of_report r) s) rs
 
 abbrev pub lines_for : List Station → List Report → List ℕ
 lines_for [] rs = []
@@ -83,4 +100,4 @@ lines_for (s ∷ ss) rs = weather_at rs s ++ lines_for ss rs
 
 -- the lines of all stations that have a report, in byte order
 unfoldable pub weather : List Report → List ℕ
-weather rs = lines_for (stations_with [] rs) rs
+weather rs = lines_for (stations_of rs) rs

@@ -1,16 +1,18 @@
 -- What a report says, of either kind (FMH-1; WMO FM 15 and FM 51).
-use Rattle.std.specs.Prelude.{ℕ, nat_lt, Bool, true, false, if◌then◌else◌, List, length, All, Result, Ok, Err, codes}
+use Rattle.std.specs.Prelude.{◌≡◌, ℕ, nat_lt, Bool, true, false, if◌then◌else◌, List, length, All, Result, Ok, Err, codes}
 use Rattle.std.specs.Str.{bytes_eq}
-use Rattle.codes.specs.Groups.{groups_of, first_of}
+use Rattle.codes.specs.Groups.{groups_of, first_of, canonical}
 use Rattle.codes.specs.declared.fault.BadReport.{BadReport}
 use Rattle.metar.specs.declared.metar.Metar.{Metar}
-use Rattle.metar.specs.Reading.{metar_of, too_long}
+use Rattle.codes.specs.Answers.{too_long}
+use Rattle.metar.specs.Reading as observation
 use Rattle.taf.specs.declared.forecast.Taf.{Taf}
-use Rattle.taf.specs.Reading.{taf_of}
+use Rattle.taf.specs.Reading as forecast
 use Rattle.taf.specs.Parts.{IsMoment, HasMoments as PartHasMoments}
 use Rattle.facts.specs.declared.report.Read.{Read}
 use Rattle.facts.specs.declared.report.Read.TheVariants as read
 use Rattle.facts.specs.declared.report.Report.{Report}
+use Rattle.facts.specs.declared.report.Received.{Received}
 
 abbrev pub observes : Result Metar BadReport → Result Read BadReport
 observes (Ok metar) = Ok (read.Metar metar)
@@ -20,17 +22,21 @@ abbrev pub forecasts : Result Taf BadReport → Result Read BadReport
 forecasts (Ok taf) = Ok (read.Taf taf)
 forecasts (Err bad) = Err bad
 
--- A text whose first group is TAF forecasts, and every other observes.
-abbrev pub is_forecast : List ℕ → Bool
-is_forecast text = bytes_eq (first_of (groups_of text)) (codes "TAF")
+-- A report whose first group is TAF forecasts, and every other observes.
+abbrev pub is_forecast : List (List ℕ) → Bool
+is_forecast gs = bytes_eq (first_of gs) (codes "TAF")
 
-abbrev pub read_as : Bool → List ℕ → ℕ → Result Read BadReport
-read_as true text receipt = forecasts (taf_of text receipt)
-read_as false text receipt = observes (metar_of text receipt)
+abbrev pub read_as : Bool → List (List ℕ) → ℕ → Result Read BadReport
+read_as true gs receipt = forecasts (forecast.reading gs receipt)
+read_as false gs receipt = observes (observation.reading gs receipt)
+
+-- what the groups of a report say that was received at that moment, or the first that doesn't read
+unfoldable pub reading : List (List ℕ) → ℕ → Result Read BadReport
+reading gs receipt = read_as (is_forecast gs) gs receipt
 
 -- what a text says that was received at that moment, or why it says nothing
 unfoldable pub read_of : List ℕ → ℕ → Result Read BadReport
-read_of text receipt = if nat_lt 2048 (length text) then Err too_long else read_as (is_forecast text) text receipt
+read_of text receipt = if nat_lt 2048 (length text) then Err too_long else reading (groups_of text) receipt
 
 -- each moment of a forecast is one that is read
 pub record TafHasMoments (taf : Taf) : Type 0 where
@@ -47,3 +53,18 @@ ReadHasMoments (read.Taf taf) = TafHasMoments taf
 pub record HasMoments (r : Report) : Type 0 where
   pub received : IsMoment r.received
   pub read : ReadHasMoments r.read
+
+-- The text is canonical: it is that of its own groups. The reading is that of the text at its receipt.
+pub record IsRead (r : Report) : Type 0 where
+  pub canonical : canonical (groups_of r.text) ≡ r.text
+  pub reading : read_of r.text r.received ≡ Ok r.read
+  pub moments : HasMoments r
+
+-- what was read of a text, where it was
+abbrev pub read_in : {E : Type 0} → Result Received E → Result Read E
+read_in (Ok r) = Ok r.read
+read_in (Err e) = Err e
+
+-- the report that it is under a number
+abbrev pub report_of : ℕ → ℕ → Received → Report
+report_of id receipt r = record { id = id; received = receipt; text = r.text; read = r.read }

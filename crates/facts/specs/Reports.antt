@@ -1,9 +1,9 @@
 -- The reports that were admitted, and the one that may be admitted with no more memory.
 use Rattle.std.specs.Prelude.{ℕ, ◌<◌, List, [], ◌∷◌, ◌++◌, All, AllPairs, Option, None, Some}
-use Rattle.codes.specs.declared.station.Station.{Station}
+use Rattle.codes.specs.Station.{Station}
 use Rattle.facts.specs.declared.report.Report.{Report}
 use Rattle.facts.specs.Same.{station_of_report, minute_of_report}
-use Rattle.facts.specs.Reading.{HasMoments}
+use Rattle.facts.specs.Reading.{IsRead}
 
 -- what is known of a report before its admission
 pub record Room : Type 0 where
@@ -31,7 +31,7 @@ reserved a r = record { reports = a.reports; room = Some (room_for r) }
 abbrev pub admitted : Admissions → Report → Admissions
 admitted a r = record { reports = a.reports ++ r ∷ []; room = None }
 
--- The numbers rise, and each moment is one that is read.
+-- The numbers rise, and each text is canonical and says what was read.
 pub record AreHeld (rs : List Report) : Type 0 where
   pub rising : AllPairs (λ a b. a.id < b.id) rs
-  pub moments : All HasMoments rs
+  pub read : All IsRead rs

@@ -1,26 +1,55 @@
-ghost use Rattle.std.specs.Prelude.{◌≡◌, ◌≤◌, IfOk};
-ghost use Rattle.taf.specs.Parts.{Answers};
+ghost use Rattle.std.specs.Prelude.{◌≡◌, ◌≤◌, ℕ, IfOk, length};
+ghost use Rattle.std.specs.Str.{IsUtf8};
+ghost use Rattle.codes.specs.Answers.{Answers};
+ghost use Rattle.codes.specs.Groups.{groups_of, canonical};
 ghost use Rattle.facts.specs.Reading as spec;
-ghost use Rattle.facts.specs.Reading.{read_of, ReadHasMoments};
+ghost use Rattle.facts.specs.Reading.{
+  reading,
+  read_of,
+  read_in,
+  report_of,
+  ReadHasMoments,
+  IsRead,
+};
 
-use crate::report::Read;
-use codes::{BadReport, Groups, ReportFault, Why, first_of};
-use desk_io::OutOfMemory;
+use crate::report::{Read, Received};
+use codes::{Group, Groups, REPORT_LIMIT, ReportFault, TOO_LONG, first_of};
 use desk_time::{FIRST, LAST, Minute};
-use metar::{REPORT_LIMIT, read_metar};
+use metar::metar_in;
 use std::alloc::Global;
-use taf::read_taf;
+use taf::taf_in;
 
-fn is_forecast(alloc: Global, text: &[u8]) -> Result<bool, OutOfMemory>
-    ensures { IfOk result (λ b. b ≡ spec.is_forecast text.now) }
+fn is_forecast(groups: &[Group<'_>]) -> bool
+    ensures { result ≡ spec.is_forecast groups.now }
 {
-    let groups = Groups::of(alloc, text)?;
-    Ok(first_of(groups.as_slice()) == b"TAF".as_slice())
+    first_of(groups) == b"TAF".as_slice()
 }
 
-/// What the text of a report says that was received at that moment: a TAF where its first group is
-/// `TAF`, and else a METAR or SPECI. `Bad` comes exactly where there is no reading, with the first
-/// group from the left that doesn't read; a text of more than 2,048 bytes is `TooLong` at group 0.
+/// What the groups of a report say that was received at that moment: a TAF where the first is `TAF`,
+/// and else a METAR or SPECI. `Bad` comes exactly where there is no reading, with the first group from
+/// the left that doesn't read.
+#[tactic(auto, unfolding(crate::specs::Reading::reading))]
+pub fn read_groups(
+    alloc: Global,
+    groups: &[Group<'_>],
+    receipt: Minute,
+) -> Result<Read, ReportFault>
+    requires count { length groups.now ≤ 2049 }
+    requires low { FIRST ≤ receipt }
+    requires high { receipt ≤ LAST }
+    ensures value { Answers result (reading groups.now receipt) }
+    ensures moments { IfOk result ReadHasMoments }
+{
+    if is_forecast(groups) {
+        Ok(Read::Taf(taf_in(alloc, groups, receipt)?))
+    } else {
+        Ok(Read::Metar(metar_in(groups, receipt)?))
+    }
+}
+
+/// What the text of a report says that was received at that moment. `Bad` comes exactly where there is
+/// no reading, with the first group from the left that doesn't read; a text of more than 2,048 bytes is
+/// `TooLong` at group 0.
 #[tactic(auto, unfolding(crate::specs::Reading::read_of))]
 pub fn read_report(alloc: Global, text: &[u8], receipt: Minute) -> Result<Read, ReportFault>
     requires low { FIRST ≤ receipt }
@@ -29,14 +58,28 @@ pub fn read_report(alloc: Global, text: &[u8], receipt: Minute) -> Result<Read, 
     ensures moments { IfOk result ReadHasMoments }
 {
     if text.len() > REPORT_LIMIT {
-        return Err(ReportFault::Bad(BadReport {
-            group: 0,
-            why: Why::TooLong,
-        }));
+        return Err(ReportFault::Bad(TOO_LONG));
     }
-    if is_forecast(alloc, text)? {
-        Ok(Read::Taf(read_taf(alloc, text, receipt)?))
-    } else {
-        Ok(Read::Metar(read_metar(alloc, text, receipt)?))
+    let groups = Groups::of(alloc, text)?;
+    read_groups(alloc, groups.as_slice(), receipt)
+}
+
+/// The canonical text of a report that was received at that moment, and what it says. `Bad` comes as
+/// in [`read_report`]. The canonical text says the same.
+#[tactic(auto, unfolding(crate::specs::Reading::read_of))]
+pub fn receive(alloc: Global, text: &[u8], receipt: Minute) -> Result<Received, ReportFault>
+    requires low { FIRST ≤ receipt }
+    requires high { receipt ≤ LAST }
+    ensures value { Answers (read_in result) (read_of text.now receipt) }
+    ensures text { IfOk result (λ r. r.text ≡ canonical (groups_of text.now)) }
+    ensures utf8 { IsUtf8 text.now → IfOk result (λ r. IsUtf8 r.text) }
+    ensures read { IfOk result (λ r. (id : ℕ) → IsRead (report_of id receipt r)) }
+{
+    if text.len() > REPORT_LIMIT {
+        return Err(ReportFault::Bad(TOO_LONG));
     }
+    let groups = Groups::of(alloc, text)?;
+    let read = read_groups(alloc, groups.as_slice(), receipt)?;
+    let text = groups.canonical(alloc)?;
+    Ok(Received { text, read })
 }

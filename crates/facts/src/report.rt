@@ -18,6 +18,15 @@ pub enum Read {
     Taf(Taf),
 }
 
+/// The canonical text of a report that was received, and what it says.
+#[derive(Debug, Drop)]
+pub struct Received {
+    /// Its groups, joined by one blank.
+    pub text: Text,
+    /// What it says.
+    pub read: Read,
+}
+
 /// A report that was received.
 #[derive(Debug, Drop)]
 pub struct Report {

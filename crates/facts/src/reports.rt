@@ -1,16 +1,27 @@
-ghost use Rattle.std.specs.Prelude.{◌≡◌, ◌==◌, ◌<◌, All, Some, OnOk, OnErr, IfSome, length};
-ghost use Rattle.std.specs.List.{find};
-ghost use Rattle.std.specs.Option.{option_copied};
+ghost use Rattle.std.specs.Prelude.{◌≡◌, ◌==◌, ◌<◌, All, Some, OnOk, OnErr, IfSome, drop, length};
+ghost use Rattle.std.specs.List.{find, slice_get};
+ghost use Rattle.std.specs.Option.{option_copied, option_map, option_and_then};
 ghost use Rattle.taf.specs.Parts.{IsMoment};
 ghost use Rattle.facts.specs.Same.{is_same, same_id};
-ghost use Rattle.facts.specs.Reading.{HasMoments, TafHasMoments};
+ghost use Rattle.facts.specs.Reading.{HasMoments, TafHasMoments, IsRead};
 ghost use Rattle.facts.specs.Reports.{room_for, no_reports, reserved, admitted, AreHeld};
-ghost use Rattle.facts.specs.Moments.{is_same_at, id_among};
-ghost use Rattle.facts.specs.Latest.{latest_metar, latest_taf, metar_latest, taf_latest, IsLatestMetar, IsLatestTaf};
+ghost use Rattle.facts.specs.Index.{IsLatestIndex, IsFirstIndex, id_from};
+ghost use Rattle.facts.specs.Lines.{AreStations, stations_of};
+ghost use Rattle.std.specs.Map.{keys_of};
+ghost use Rattle.facts.specs.Latest.{
+  latest,
+  latest_metar,
+  latest_taf,
+  metar_latest,
+  taf_latest,
+  IsLatestMetar,
+  IsLatestTaf,
+};
 
-use crate::latest::{Kind, latest};
-use crate::moments::Moments;
+use crate::index::{Places, fingerprint, first_place, key_of, place_of, places_at, places_with};
+use crate::latest::Kind;
 use crate::report::Report;
+use crate::sorted::Sorted;
 use codes::Station;
 use desk_io::OutOfMemory;
 use desk_time::Minute;
@@ -22,26 +33,29 @@ use taf::Taf;
 
 /// The reports that were admitted, in order of admission. A contract sees the list of them, and the
 /// station, the text and the moment of the one report whose admission needs no memory. Their numbers
-/// rise, and each of their moments is one that is read.
+/// rise, each text is canonical, and each reading is that of its text at its receipt.
 #[derive(Drop)]
 pub struct Reports {
     held: Vec<Report>,
-    moments: Moments,
+    // The places of the latest, by station.
+    stations: Sorted<[u8; 4], Places>,
+    // The first place of each moment and fingerprint.
+    firsts: Sorted<(Minute, u64), usize>,
     room: Option<Snapshot<Report>>,
 }
 
 impl Model for Reports {
-    ghost use Rattle.std.specs.Prelude.{◌<◌, IsSome, IfSome, vec_len};
+    ghost use Rattle.std.specs.Prelude.{◌<◌, ◌≤◌, IsSome, vec_len};
     ghost use Rattle.std.specs.Vec.{vec_capacity};
     ghost use Rattle.std.specs.Option.{option_map};
     ghost use Rattle.facts.specs.Reports.{Admissions, room_for, AreHeld};
-    ghost use Rattle.facts.specs.Moments.{HasRoomAt, ArePlaced};
+    ghost use Rattle.facts.specs.Index.{IsLatestIndex, IsFirstIndex, id_from};
 
     ghost Value = { Admissions };
 
     ghost view = { λ r. record { reports = r.held.items; room = option_map (λ kept. room_for kept.value) r.room } };
 
-    ghost invariant = { λ r. (IsSome r.room → vec_len r.held < vec_capacity r.held) × AreHeld r.held.items × ArePlaced r.moments.groups r.held.items × IfSome (option_map (λ kept. room_for kept.value) r.room) (λ room. HasRoomAt r.moments.groups room.minute) };
+    ghost invariant = { λ r. (IsSome r.room → (vec_len r.held < vec_capacity r.held) × (1 ≤ r.stations.room) × (1 ≤ r.firsts.room)) × AreHeld r.held.items × IsLatestIndex r.stations.entries r.held.items × IsFirstIndex r.firsts.entries r.held.items };
 }
 
 fn is_same(report: &Report, text: &[u8], minute: Minute) -> bool
@@ -50,33 +64,60 @@ fn is_same(report: &Report, text: &[u8], minute: Minute) -> bool
     report.text.bytes() == text && report.minute() == minute
 }
 
-fn is_same_at(reports: &[Report], place: usize, text: &[u8], minute: Minute) -> bool
-    ensures { result ≡ is_same_at reports.now text.now minute place }
+fn from_place(reports: &[Report], place: usize) -> &[Report]
+    ensures { result.now ≡ drop place reports.now }
 {
-    match reports.get(place) {
-        None => false,
-        Some(report) => is_same(report, text, minute),
+    if place < reports.len() {
+        &reports[place..]
+    } else {
+        &[]
     }
 }
 
-fn first_place<'a>(
-    reports: &[Report],
-    places: &'a [usize],
-    text: &[u8],
-    minute: Minute,
-) -> Option<&'a usize>
-    ensures { option_copied result ≡ find (is_same_at reports.now text.now minute) places.now }
+fn first_same<'a>(reports: &'a [Report], text: &[u8], minute: Minute) -> Option<&'a Report>
+    ensures { option_copied result ≡ find (is_same text.now minute) reports.now }
 {
-    places
-        .iter()
-        .find(|place| is_same_at(reports, **place, text, minute))
+    reports.iter().find(|report| is_same(report, text, minute))
 }
 
-fn first_same(reports: &[Report], places: &[usize], text: &[u8], minute: Minute) -> Option<u64>
-    ensures { result ≡ id_among reports.now text.now minute places.now }
+fn at_place(reports: &[Report], place: Option<usize>) -> Option<&Report>
+    ensures { option_copied result ≡ option_and_then (slice_get reports.now) place }
 {
-    let place = first_place(reports, places, text, minute)?;
-    Some(reports.get(*place)?.id)
+    reports.get(place?)
+}
+
+#[tactic(auto, using(crate::proofs::IndexLaws::stands_latest))]
+fn latest<'a>(
+    reports: &'a [Report],
+    stations: &Sorted<[u8; 4], Places>,
+    kind: Kind,
+    station: [u8; 4],
+) -> Option<&'a Report>
+    requires { IsLatestIndex stations.now.entries reports.now }
+    ensures { option_copied result ≡ latest kind station reports.now }
+{
+    let places = places_at(stations, station);
+    at_place(reports, place_of(kind, places))
+}
+
+fn id_from(reports: &[Report], text: &[u8], minute: Minute, place: Option<usize>) -> Option<u64>
+    ensures { result ≡ id_from reports.now text.now minute place }
+{
+    Some(first_same(from_place(reports, place?), text, minute)?.id)
+}
+
+#[tactic(auto, using(crate::proofs::IndexLaws::first_is_same))]
+fn same_in(
+    reports: &[Report],
+    firsts: &Sorted<(Minute, u64), usize>,
+    text: &[u8],
+    minute: Minute,
+) -> Option<u64>
+    requires { IsFirstIndex firsts.now.entries reports.now }
+    ensures { result ≡ same_id reports.now text.now minute }
+{
+    let place = first_place(firsts, (minute, fingerprint(text)));
+    id_from(reports, text, minute, place)
 }
 
 impl Reports {
@@ -86,7 +127,8 @@ impl Reports {
     {
         Reports {
             held: Vec::new(alloc),
-            moments: Moments::new(alloc),
+            stations: Sorted::new(alloc),
+            firsts: Sorted::new(alloc),
             room: None,
         }
     }
@@ -119,8 +161,8 @@ impl Reports {
         ensures err { OnErr result (self.new ≡ self.old) }
     {
         self.held.reserve(1)?;
-        self.moments
-            .reserve(*self.held.allocator(), report.minute())?;
+        self.stations.reserve()?;
+        self.firsts.reserve()?;
         self.room = Some(Snapshot::of(report));
         Ok(())
     }
@@ -129,35 +171,66 @@ impl Reports {
     pub fn admit(&mut self, report: Report)
         requires room { self.old.room ≡ Some (room_for report) }
         requires above { All (λ held. held.id < report.id) self.old.reports }
-        requires moments { HasMoments report }
+        requires read { IsRead report }
         ensures { self.new ≡ admitted self.old report }
     {
         let place = self.len();
-        self.moments.push_reserved(report.minute(), place);
+        let station = report.station().bytes();
+        let before = places_at(&self.stations, station);
+        let places = places_with(&self.held, before, &report, place);
+        let key = key_of(&report);
+        let first = first_place(&self.firsts, key).unwrap_or(place);
+        self.stations.put_reserved(station, places);
+        self.firsts.put_reserved(key, first);
         self.held.push_reserved(report);
         self.room = None;
     }
 
+    /// The latest METAR or SPECI of the station with those characters.
+    #[tactic(auto, using(crate::proofs::LatestLaws::latest_is, crate::proofs::LatestLaws::latest_moments))]
+    pub(crate) fn observation(&self, station: [u8; 4]) -> Option<&Report>
+        ensures value { option_copied result ≡ latest_metar self.now.reports station }
+        ensures latest { IsLatestMetar station self.now.reports (option_copied result) }
+        ensures moments { IfSome (option_copied result) HasMoments }
+    {
+        latest(&self.held, &self.stations, Kind::Observation, station)
+    }
+
+    /// The latest TAF of the station with those characters.
+    #[tactic(auto, using(crate::proofs::LatestLaws::latest_is, crate::proofs::LatestLaws::latest_moments))]
+    pub(crate) fn forecast(&self, station: [u8; 4]) -> Option<&Report>
+        ensures value { option_copied result ≡ latest_taf self.now.reports station }
+        ensures latest { IsLatestTaf station self.now.reports (option_copied result) }
+        ensures moments { IfSome (option_copied result) HasMoments }
+    {
+        latest(&self.held, &self.stations, Kind::Forecast, station)
+    }
+
+    /// The stations that have a report, in byte order. It takes no memory.
+    pub(crate) fn stations(&self) -> &[([u8; 4], Places)]
+        ensures { keys_of result.now ≡ stations_of self.now.reports }
+    {
+        self.stations.as_slice()
+    }
+
     /// The latest METAR or SPECI of that station: the one of the greatest moment of observation, and of
     /// equal moments the last admitted. It takes no memory.
-    #[tactic(auto, using(crate::proofs::LatestLaws::latest_is, crate::proofs::LatestLaws::latest_moments))]
     pub fn latest_metar(&self, station: Station) -> Option<&Report>
         ensures value { option_copied result ≡ latest_metar self.now.reports station }
         ensures latest { IsLatestMetar station self.now.reports (option_copied result) }
         ensures moments { IfSome (option_copied result) HasMoments }
     {
-        latest(Kind::Observation, station, &self.held)
+        self.observation(station.bytes())
     }
 
     /// The latest TAF of that station: the one of the greatest moment of issue, and of equal moments the
     /// last admitted. It takes no memory.
-    #[tactic(auto, using(crate::proofs::LatestLaws::latest_is, crate::proofs::LatestLaws::latest_moments))]
     pub fn latest_taf(&self, station: Station) -> Option<&Report>
         ensures value { option_copied result ≡ latest_taf self.now.reports station }
         ensures latest { IsLatestTaf station self.now.reports (option_copied result) }
         ensures moments { IfSome (option_copied result) HasMoments }
     {
-        latest(Kind::Forecast, station, &self.held)
+        self.forecast(station.bytes())
     }
 
     /// What the latest METAR or SPECI of that station says.
@@ -177,11 +250,10 @@ impl Reports {
     }
 
     /// The number of the first report of that canonical text that was observed or issued at that moment.
-    /// It looks at the reports of that moment alone, and takes no memory.
-    #[tactic(auto, using(crate::proofs::Places::found_at))]
+    /// It is found in an index, and takes no memory.
     pub fn same(&self, text: &[u8], minute: Minute) -> Option<u64>
         ensures { result ≡ same_id self.now.reports text.now minute }
     {
-        first_same(&self.held, self.moments.at(minute), text, minute)
+        same_in(&self.held, &self.firsts, text, minute)
     }
 }

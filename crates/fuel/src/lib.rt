@@ -4,6 +4,3 @@
 mod sums;
 
 pub use sums::{Basis, required};
-
-#[cfg(test)]
-mod tests;

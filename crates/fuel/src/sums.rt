@@ -1,5 +1,6 @@
 ghost use Rattle.std.specs.Prelude.{◌≡◌, ◌≤◌, ◌*◌};
 ghost use Rattle.fuel.specs.Sums as spec;
+ghost use Rattle.fuel.specs.Distant.{IsToMostDistant};
 
 use plan::{Alternate, Leg};
 
@@ -55,7 +56,7 @@ fn tenth_for(pph: u32, minutes: u32) -> u64
 /// alternate, the one with the greatest fuel, is counted. `cruise_pph` and `hold_pph` are pounds per
 /// hour. `extra_fuel` is what deferred equipment adds, in pounds. Each division is rounded up. It
 /// takes no memory.
-#[tactic(auto, unfolding(crate::specs::Sums::required))]
+#[tactic(auto, unfolding(crate::specs::Sums::required), using(crate::proofs::Distances::most_is_to_most_distant))]
 pub fn required(
     leg: &Leg,
     basis: Basis,
@@ -65,7 +66,8 @@ pub fn required(
     extra_fuel: u64,
 ) -> u64
     requires { extra_fuel ≤ 5_000_000_000 }
-    ensures { result ≡ spec.required leg.now basis counted cruise_pph hold_pph extra_fuel }
+    ensures sum { result ≡ spec.required leg.now basis counted cruise_pph hold_pph extra_fuel }
+    ensures distant { IsToMostDistant leg.now.alternates (spec.most_fuel leg.now.alternates) }
 {
     let planned = u64::from(leg.burn) + u64::from(leg.extra);
     let alternate = u64::from(alternate_fuel(leg, counted));

@@ -1,6 +1,6 @@
 -- What a call comes to fits the desk.
-use Rattle.std.proofs.Common.{◌≡◌, ℕ, ◌+◌, ◌==◌, ◌≤◌, Bool, true, false, List, [], ◌∷◌, length, Option, None, Some, IfSome, Result, Ok, Err, refl, subst, sym}
-use Rattle.std.specs.Prelude.{nat_le, find}
+use Rattle.std.proofs.Common.{◌≡◌, ℕ, ◌==◌, Bool, true, false, List, [], ◌∷◌, length, Option, None, Some, IfSome, Result, Ok, Err, refl, subst, sym, ◌∙◌, arith}
+use Rattle.std.specs.Prelude.{nat_le}
 use Rattle.std.specs.List.{AllByRecursion}
 use Rattle.codes.specs.Groups.{groups_of, canonical}
 use Rattle.codes.specs.declared.fault.BadReport.{BadReport}
@@ -9,7 +9,7 @@ use Rattle.codes.specs.declared.fault.Why.TheVariants as why
 use Rattle.facts.specs.Same.{same_id, minute_of_read}
 use Rattle.facts.specs.Reading.{read_of}
 use Rattle.facts.specs.declared.report.Read.{Read}
-use Rattle.plan.specs.Check.{plan_fault}
+use Rattle.plan.specs.Check.{plan_fault, HasFewLegs}
 use Rattle.plan.specs.declared.check.BadPlan.{BadPlan}
 use Rattle.plan.specs.declared.flights.Plan.{Plan}
 use Rattle.plan.specs.declared.findings.Finding.{Finding}
@@ -20,27 +20,44 @@ use Rattle.plan.specs.declared.release.Revision.{Revision}
 use Rattle.plan.specs.declared.release.Signature.{Signature}
 use Rattle.asks.specs.declared.call.Ask.{Ask}
 use Rattle.asks.specs.declared.call.Ask.TheVariants as ask
-use Rattle.rules.specs.Judgement.{findings_of}
-use Rattle.plan.specs.Check.{HasFewLegs}
+use Rattle.asks.specs.declared.call.Call.{Call}
+use Rattle.asks.specs.declared.reply.Refusal.{Refusal}
 use Rattle.machine.specs.declared.effect.Decision.{Decision}
-use Rattle.machine.specs.declared.effect.Decision.TheVariants.{Refuse, Show, Do}
-use Rattle.machine.specs.declared.effect.Effect.{Effect}
-use Rattle.machine.specs.declared.effect.Effect.TheVariants.{Admit, File, Put, PutAfresh}
-use Rattle.machine.specs.State.{State, release_at, next_report, next_release}
+use Rattle.machine.specs.State.{State, grounds_of, release_at, alert_at}
+use Rattle.machine.specs.Chain.{◌>>-◌, unless, some_or, refused_if}
 use Rattle.machine.specs.Decide as d
 use Rattle.machine.specs.Decide.{decide}
 use Rattle.plan.specs.Texts.{HasMoment, IsMoment}
-use Rattle.machine.specs.Sound.{Sound, Kept, IsKept, BearsBoth, HasBoth, HasLegs, IsSigned, Fits, EffectFits, DecisionFits}
+use Rattle.machine.specs.Sound.{Sound, Kept, IsKept, IsValid, IsPhased, AreNumbered, IsUncaptained, HasLegs, IsSigned, Fits, MayReplace, IsToldTo, IsAlerted, DecisionFits}
 use Rattle.asks.specs.Forms.{IsCall, RefusalHasMoment}
 use Rattle.machine.proofs.Each.{found_each}
 
-admit_new : (full : Bool) (s : State) (text : List ℕ) (read : Read) → DecisionFits s (d.admit_new full s text read)
-admit_new true s text read = tt
-admit_new false s text read = (tt, refl)
+-- Chains.
 
-admit_read : (o : Option ℕ) (s : State) (text : List ℕ) (read : Read) → DecisionFits s (d.admit_read o s text read)
-admit_read (Some id) s text read = tt
-admit_read None s text read = admit_new (nat_le 200_000 (length s.reports)) s text read
+-- a test that gives a value: its refusal can be written, and what comes after it fits
+given : {A : Type 0} (s : State) (m : Result A Refusal) (f : A → Result Decision Refusal) → ((x : Refusal) → m ≡ Err x → RefusalHasMoment x)
+    → ((a : A) → m ≡ Ok a → DecisionFits s (f a)) → DecisionFits s (m >>- f)
+given s (Err x) f stops goes = stops x refl
+given s (Ok a) f stops goes = goes a refl
+
+-- a test that refuses: its refusal can be written, and what comes after it fits
+passed : (s : State) (o : Option Refusal) (rest : Result Decision Refusal) → IfSome o RefusalHasMoment → (o ≡ None → DecisionFits s rest) → DecisionFits s (unless o rest)
+passed s None rest stops goes = goes refl
+passed s (Some x) rest stops goes = stops
+
+some_stops : {A : Type 0} (x : Refusal) (o : Option A) → RefusalHasMoment x → (y : Refusal) → some_or x o ≡ Err y → RefusalHasMoment y
+some_stops x None has y e = subst RefusalHasMoment (cc) has
+some_stops x (Some a) has y e = absurd (cc)
+
+some_given : {A : Type 0} (x : Refusal) (o : Option A) (a : A) → some_or x o ≡ Ok a → o ≡ Some a
+some_given x None a e = absurd (cc)
+some_given x (Some b) a e = cc
+
+if_stops : (b : Bool) (x : Refusal) → RefusalHasMoment x → IfSome (refused_if b x) RefusalHasMoment
+if_stops true x has = has
+if_stops false x has = tt
+
+-- The tests.
 
 refusal_shown : (group : ℕ) (w : Why) → RefusalHasMoment (d.refusal_for group w)
 refusal_shown group why.TooLong = tt
@@ -52,95 +69,217 @@ refusal_shown group why.BadVisibility = tt
 refusal_shown group why.BadSky = tt
 refusal_shown group why.BadPeriod = tt
 
-admit_known : (s : State) (text : List ℕ) (r : Result Read BadReport) → DecisionFits s (d.admit_known s text r)
-admit_known s text (Err bad) = refusal_shown bad.group bad.why
-admit_known s text (Ok read) = admit_read (same_id s.reports text (minute_of_read read)) s text read
+failing_stops : (fs : List Finding) → IfSome (d.failing fs) RefusalHasMoment
+failing_stops [] = tt
+failing_stops (f ∷ fs) = tt
 
-draft_checked : (s : State) (actor : List ℕ) (plan : Plan) (o : Option BadPlan) → HasFewLegs plan → DecisionFits s (d.draft_checked s actor plan o)
-draft_checked s actor plan (Some bad) few = tt
-draft_checked s actor plan None few = (tt, record { fits = record { both = tt; kept = record { moment = tt; pending = few; active = tt } }; numbered = refl })
+signed_stops : (o : Option Signature) → IfSome (d.signed o) RefusalHasMoment
+signed_stops None = tt
+signed_stops (Some signature) = tt
 
-sign_judged : (s : State) (actor : List ℕ) (r : Release) (v : Revision) (fs : List Finding) → Fits r → HasFewLegs v.plan → DecisionFits s (d.sign_judged s actor r v fs)
-sign_judged s actor r v (f ∷ fs) fits few = tt
-sign_judged s actor r v [] fits few = (tt, record { both = fits.both; kept = record { moment = fits.kept.moment; pending = few; active = fits.kept.active } })
+unsigned_stops : (o : Option Signature) → IfSome (d.unsigned o) RefusalHasMoment
+unsigned_stops None = tt
+unsigned_stops (Some signature) = tt
 
-sign_unsigned : (s : State) (actor : List ℕ) (r : Release) (v : Revision) (o : Option Signature) → Fits r → HasFewLegs v.plan → DecisionFits s (d.sign_unsigned s actor r v o)
-sign_unsigned s actor r v (Some signature) fits few = tt
-sign_unsigned s actor r v None fits few = sign_judged s actor r v (findings_of v.plan (d.once_signed r.phase) s.reports) fits few
+unsigned_passes : (o : Option Signature) → d.unsigned o ≡ None → IsSigned o
+unsigned_passes None e = absurd (cc)
+unsigned_passes (Some signature) e = tt
 
-sign_numbered : (b : Bool) (s : State) (actor : List ℕ) (r : Release) (v : Revision) → Fits r → HasFewLegs v.plan → DecisionFits s (d.sign_numbered b s actor r v)
-sign_numbered false s actor r v fits few = tt
-sign_numbered true s actor r v fits few = sign_unsigned s actor r v v.dispatcher fits few
+plan_stops : (o : Option BadPlan) → IfSome (d.bad_plan o) RefusalHasMoment
+plan_stops None = tt
+plan_stops (Some bad) = tt
 
-sign_pending : (s : State) (actor : List ℕ) (revision : ℕ) (r : Release) (p : Option Revision) → Fits r → HasLegs p → DecisionFits s (d.sign_pending s actor revision r p)
-sign_pending s actor revision r None fits few = tt
-sign_pending s actor revision r (Some v) fits few = sign_numbered (v.number == revision) s actor r v fits few
+ended_stops : (phase : Phase) → HasMoment phase → IfSome (d.ended phase) RefusalHasMoment
+ended_stops Drafted has = tt
+ended_stops Ready has = tt
+ended_stops (Cancelled at) has = has
 
-sign_found : (s : State) (actor : List ℕ) (revision : ℕ) (o : Option Release) → IfSome o Fits → DecisionFits s (d.sign_found s actor revision o)
-sign_found s actor revision None fits = tt
-sign_found s actor revision (Some r) fits = sign_pending s actor revision r r.pending fits fits.kept.pending
+-- What releases become.
 
 once_signed_moment : (phase : Phase) → HasMoment phase → HasMoment (d.once_signed phase)
 once_signed_moment Drafted has = tt
 once_signed_moment Ready has = tt
 once_signed_moment (Cancelled at) has = has
 
-concur_judged : (s : State) (actor : List ℕ) (r : Release) (v : Revision) (fs : List Finding) → Fits r → HasFewLegs v.plan → IsSigned v.dispatcher → DecisionFits s (d.concur_judged s actor r v fs)
-concur_judged s actor r v (f ∷ fs) fits few signed = tt
-concur_judged s actor r v [] fits few signed =
-    (tt, record { both = (signed, tt); kept = record { moment = once_signed_moment r.phase fits.kept.moment; pending = tt; active = few } })
+-- a release with a pending revision may stand once that is signed
+signed_phased : (phase : Phase) (v w : Revision) (active : Option Revision) → IsPhased phase (Some v) active → IsPhased phase (Some w) active
+signed_phased Drafted v w None is = tt
+signed_phased Drafted v w (Some x) is = is
+signed_phased Ready v w None is = is
+signed_phased Ready v w (Some x) is = tt
+signed_phased (Cancelled at) v w active is = is
 
-concur_numbered : (b : Bool) (s : State) (actor : List ℕ) (r : Release) (v : Revision) → Fits r → HasFewLegs v.plan → IsSigned v.dispatcher → DecisionFits s (d.concur_numbered b s actor r v)
-concur_numbered false s actor r v fits few signed = tt
-concur_numbered true s actor r v fits few signed = concur_judged s actor r v (findings_of v.plan (d.once_signed r.phase) s.reports) fits few signed
+signed_numbered : (most : ℕ) (v w : Revision) (active : Option Revision) → w.number ≡ v.number → AreNumbered most (Some v) active → AreNumbered most (Some w) active
+signed_numbered most v w None same is = (let one = is.0 in omega (arith, same, one), let two = is.1 in omega (arith, same, two))
+signed_numbered most v w (Some x) same is = (is.0, let one = is.1 in omega (arith, same, one), let two = is.2 in omega (arith, same, two))
 
-concur_signed : (s : State) (actor : List ℕ) (revision : ℕ) (r : Release) (v : Revision) (o : Option Signature) → Fits r → HasFewLegs v.plan → v.dispatcher ≡ o
-    → DecisionFits s (d.concur_signed s actor revision r v o)
-concur_signed s actor revision r v None fits few is = tt
-concur_signed s actor revision r v (Some signature) fits few is =
-    concur_numbered (v.number == revision) s actor r v fits few (subst IsSigned (sym is) tt)
+active_phased : (phase : Phase) (v w : Revision) (active : Option Revision) → IsPhased phase (Some v) active → IsPhased (d.once_signed phase) None (Some w)
+active_phased Drafted v w active is = tt
+active_phased Ready v w active is = tt
+active_phased (Cancelled at) v w active is = tt
 
-concur_pending : (s : State) (actor : List ℕ) (revision : ℕ) (r : Release) (p : Option Revision) → Fits r → HasLegs p → DecisionFits s (d.concur_pending s actor revision r p)
-concur_pending s actor revision r None fits few = tt
-concur_pending s actor revision r (Some v) fits few = concur_signed s actor revision r v v.dispatcher fits few refl
+active_numbered : (most : ℕ) (v w : Revision) (active : Option Revision) → w.number ≡ v.number → AreNumbered most (Some v) active → AreNumbered most None (Some w)
+active_numbered most v w None same is = (let one = is.0 in omega (arith, same, one), let two = is.1 in omega (arith, same, two))
+active_numbered most v w (Some x) same is = (let one = is.1 in let two = is.0 in omega (arith, same, one, two), let two = is.2 in omega (arith, same, two))
 
-concur_found : (s : State) (actor : List ℕ) (revision : ℕ) (o : Option Release) → IfSome o Fits → DecisionFits s (d.concur_found s actor revision o)
-concur_found s actor revision None fits = tt
-concur_found s actor revision (Some r) fits = concur_pending s actor revision r r.pending fits fits.kept.pending
+ended_numbered : (most : ℕ) (pending active : Option Revision) → AreNumbered most pending active → AreNumbered most None active
+ended_numbered most None active is = is
+ended_numbered most (Some v) None is = tt
+ended_numbered most (Some v) (Some w) is = (is.0, let one = is.1 in let two = is.2 in omega (arith, one, two))
 
-cancelled_fits : (r : Release) (moment : ℕ) → Fits r → IsMoment moment → Fits (d.cancelled r moment)
-cancelled_fits r moment fits shown = record { both = fits.both; kept = record { moment = shown; pending = tt; active = fits.kept.active } }
+-- what is known of a release that is held
+record IsHeld (s : State) (r : Release) : Type 0 where
+  pub fits : Fits s.counters.events r
+  pub holder : IsToldTo r.holder (alert_at r.id s.alerts)
 
-cancel_in : (s : State) (r : Release) (phase : Phase) → Fits r → HasMoment phase → IsMoment s.moment → DecisionFits s (d.cancel_in s r phase)
-cancel_in s r (Cancelled at) fits has shown = has
-cancel_in s r Drafted fits has shown = (tt, cancelled_fits r s.moment fits shown)
-cancel_in s r Ready fits has shown = (tt, cancelled_fits r s.moment fits shown)
+-- and of its pending revision
+record IsPending (s : State) (r : Release) (v : Revision) : Type 0 where
+  pub held : IsHeld s r
+  pub phased : IsPhased r.phase (Some v) r.active
+  pub uncaptained : v.captain ≡ None
+  pub numbered : AreNumbered s.counters.events (Some v) r.active
+  pub legs : HasFewLegs v.plan
 
-cancel_found : (s : State) (o : Option Release) → IfSome o Fits → IsMoment s.moment → DecisionFits s (d.cancel_found s o)
-cancel_found s None fits shown = tt
-cancel_found s (Some r) fits shown = cancel_in s r r.phase fits fits.kept.moment shown
+pending_is : (s : State) (r : Release) (p : Option Revision) (v : Revision) → IsHeld s r → r.pending ≡ p → p ≡ Some v → IsPending s r v
+pending_is s r None v held is e = absurd (cc)
+pending_is s r (Some w) v held is e =
+    let same : r.pending ≡ Some v = is ∙ e in
+    record {
+      held = held;
+      phased = subst (λ (o : Option Revision). IsPhased r.phase o r.active) same held.fits.valid.phased;
+      uncaptained = subst IsUncaptained same held.fits.valid.uncaptained;
+      numbered = subst (λ (o : Option Revision). AreNumbered s.counters.events o r.active) same held.fits.valid.numbered;
+      legs = subst HasLegs same held.fits.kept.pending;
+    }
 
-both_kept : (rs : List Release) → AllByRecursion BearsBoth rs → AllByRecursion IsKept rs → AllByRecursion Fits rs
-both_kept [] both kept = tt
-both_kept (r ∷ rs) both kept = (record { both = both.0; kept = kept.0 }, both_kept rs both.1 kept.1)
+signed_fits : (s : State) (r : Release) (v : Revision) (signature : Signature) → IsPending s r v → MayReplace s (d.with_dispatcher r v signature)
+signed_fits s r v signature is = record {
+  fits = record {
+    valid = record {
+      phased = signed_phased r.phase v (record v { dispatcher = Some signature }) r.active is.phased;
+      both = is.held.fits.valid.both;
+      uncaptained = is.uncaptained;
+      numbered = signed_numbered s.counters.events v (record v { dispatcher = Some signature }) r.active refl is.numbered;
+    };
+    kept = record { moment = is.held.fits.kept.moment; pending = is.legs; active = is.held.fits.kept.active };
+  };
+  holder = is.held.holder;
+}
 
--- a release that is found fits
-pub found_fits : (s : State) (id : ℕ) → Sound s → Kept s → IfSome (release_at id s.releases) Fits
-found_fits s id sound kept = found_each Fits (λ r. r.id == id) s.releases (both_kept s.releases sound.signed kept.releases)
+active_fits : (s : State) (r : Release) (v : Revision) (signature : Signature) → IsPending s r v → IsSigned v.dispatcher → MayReplace s (d.made_active r v signature)
+active_fits s r v signature is signed = record {
+  fits = record {
+    valid = record {
+      phased = active_phased r.phase v (record v { captain = Some signature }) r.active is.phased;
+      both = (signed, tt);
+      uncaptained = tt;
+      numbered = active_numbered s.counters.events v (record v { captain = Some signature }) r.active refl is.numbered;
+    };
+    kept = record { moment = once_signed_moment r.phase is.held.fits.kept.moment; pending = tt; active = is.legs };
+  };
+  holder = is.held.holder;
+}
 
--- the same, of a release that is the found one
-pub found_release_fits : (s : State) (id : ℕ) (o : Option Release) → o ≡ release_at id s.releases → Sound s → Kept s → IfSome o Fits
-found_release_fits s id o is sound kept = subst (λ (p : Option Release). IfSome p Fits) (sym is) (found_fits s id sound kept)
+cancelled_fits : (s : State) (r : Release) → IsHeld s r → IsMoment s.moment → MayReplace s (d.cancelled r s.moment)
+cancelled_fits s r is shown = record {
+  fits = record {
+    valid = record {
+      phased = tt;
+      both = is.fits.valid.both;
+      uncaptained = tt;
+      numbered = ended_numbered s.counters.events r.pending r.active is.fits.valid.numbered;
+    };
+    kept = record { moment = shown; pending = tt; active = is.fits.kept.active };
+  };
+  holder = is.holder;
+}
 
-pub decision_fits : (s : State) (actor : List ℕ) (a : Ask) → Sound s → Kept s → IsCall a → DecisionFits s (decide s actor a)
+held_each : (s : State) (rs : List Release) → AllByRecursion (IsAlerted (grounds_of s) s.alerts) rs → AllByRecursion (IsValid s.counters.events) rs → AllByRecursion IsKept rs
+    → AllByRecursion (IsHeld s) rs
+held_each s [] alerted valid kept = tt
+held_each s (r ∷ rs) alerted valid kept =
+    (record { fits = record { valid = valid.0; kept = kept.0 }; holder = alerted.0.1 }, held_each s rs alerted.1 valid.1 kept.1)
+
+found_held : (s : State) (id : ℕ) → Sound s → Kept s → IfSome (release_at id s.releases) (IsHeld s)
+found_held s id sound kept = found_each (IsHeld s) (λ r. r.id == id) s.releases (held_each s s.releases sound.alerted sound.valid kept.releases)
+
+held_is : (s : State) (o : Option Release) (r : Release) → IfSome o (IsHeld s) → o ≡ Some r → IsHeld s r
+held_is s None r is e = absurd (cc)
+held_is s (Some q) r is e = subst (λ (p : Option Release). IfSome p (IsHeld s)) e is
+
+legs_of : (s : State) (o : Option Release) → IfSome o (IsHeld s) → IfSome o (λ r. HasLegs r.pending)
+legs_of s None is = tt
+legs_of s (Some r) is = is.fits.kept.pending
+
+-- the plan of a pending revision that is found has few legs
+pub found_legs : (s : State) (id : ℕ) (o : Option Release) → o ≡ release_at id s.releases → Sound s → Kept s → IfSome o (λ r. HasLegs r.pending)
+found_legs s id o is sound kept = subst (λ (p : Option Release). IfSome p (λ r. HasLegs r.pending)) (sym is) (legs_of s (release_at id s.releases) (found_held s id sound kept))
+
+-- The asks.
+
+held_by : (s : State) (id : ℕ) (f : Release → Result Decision Refusal) → Sound s → Kept s → ((r : Release) → IsHeld s r → DecisionFits s (f r)) → DecisionFits s (d.held s id >>- f)
+held_by s id f sound kept goes =
+    given s (d.held s id) f (some_stops _ (release_at id s.releases) tt)
+    (λ r e. goes r (held_is s (release_at id s.releases) r (found_held s id sound kept) (some_given _ (release_at id s.releases) r e)))
+
+pending_by : (s : State) (r : Release) (f : Revision → Result Decision Refusal) → IsHeld s r → ((v : Revision) → IsPending s r v → DecisionFits s (f v)) → DecisionFits s (d.pending r >>- f)
+pending_by s r f held goes = given s (d.pending r) f (some_stops _ r.pending tt) (λ v e. goes v (pending_is s r r.pending v held refl (some_given _ r.pending v e)))
+
+admit_new : (s : State) (text : List ℕ) (read : Read) → DecisionFits s (d.admit_new s text read)
+admit_new s text read = passed s (d.reports_full s) _ (if_stops (nat_le 200_000 (length s.reports)) _ tt) (λ e. (tt, refl))
+
+admit_read : (o : Option ℕ) (s : State) (text : List ℕ) (read : Read) → DecisionFits s (d.admit_read o s text read)
+admit_read (Some id) s text read = tt
+admit_read None s text read = admit_new s text read
+
+reading_stops : (r : Result Read BadReport) (x : Refusal) → d.reading_or r ≡ Err x → RefusalHasMoment x
+reading_stops (Ok read) x e = absurd (cc)
+reading_stops (Err bad) x e = subst RefusalHasMoment (cc) (refusal_shown bad.group bad.why)
+
+admit : (s : State) (text : List ℕ) → DecisionFits s (d.decide_admit s text)
+admit s text =
+    given s (d.reading_or (read_of text s.moment)) _ (reading_stops (read_of text s.moment))
+    (λ read e. admit_read (same_id s.reports (canonical (groups_of text)) (minute_of_read read)) s (canonical (groups_of text)) read)
+
+draft : (s : State) (actor : List ℕ) (plan : Plan) → HasFewLegs plan → DecisionFits s (d.decide_draft s actor plan)
+draft s actor plan few = passed s (d.bad_plan (plan_fault plan)) _ (plan_stops (plan_fault plan))
+    (λ e. (
+      tt,
+      record {
+        fits = record {
+          valid = record { phased = tt; both = tt; uncaptained = refl; numbered = (omega arith, omega arith) };
+          kept = record { moment = tt; pending = few; active = tt };
+        };
+        numbered = refl;
+      },
+    ))
+
+sign : (s : State) (actor : List ℕ) (id number : ℕ) → Sound s → Kept s → DecisionFits s (d.decide_sign s actor id number)
+sign s actor id number sound kept =
+    held_by s id _ sound kept (λ r held. pending_by s r _ held (λ v is.
+    passed s (d.misnumbered v number) _ (if_stops _ _ tt) (λ e.
+    passed s (d.signed v.dispatcher) _ (signed_stops v.dispatcher) (λ f.
+    passed s (d.fails s r v) _ (failing_stops _) (λ g. (tt, signed_fits s r v (d.signed_by actor s.moment) is))))))
+
+concur : (s : State) (actor : List ℕ) (id number : ℕ) → Sound s → Kept s → DecisionFits s (d.decide_concur s actor id number)
+concur s actor id number sound kept =
+    held_by s id _ sound kept (λ r held. pending_by s r _ held (λ v is.
+    passed s (d.unsigned v.dispatcher) _ (unsigned_stops v.dispatcher) (λ e.
+    passed s (d.misnumbered v number) _ (if_stops _ _ tt) (λ f.
+    passed s (d.fails s r v) _ (failing_stops _) (λ g. (tt, active_fits s r v (d.signed_by actor s.moment) is (unsigned_passes v.dispatcher e)))))))
+
+cancel : (s : State) (id : ℕ) → Sound s → Kept s → DecisionFits s (d.decide_cancel s id)
+cancel s id sound kept =
+    held_by s id _ sound kept (λ r held. passed s (d.ended r.phase) _ (ended_stops r.phase held.fits.kept.moment) (λ e. (tt, cancelled_fits s r held kept.moment)))
+
+ask_fits : (s : State) (actor : List ℕ) (a : Ask) → Sound s → Kept s → IsCall a → DecisionFits s (d.decide_ask s actor a)
+ask_fits s actor (ask.Admit text) sound kept is = admit s text
+ask_fits s actor (ask.Draft plan) sound kept is = draft s actor plan is
+ask_fits s actor (ask.Sign release revision) sound kept is = sign s actor release revision sound kept
+ask_fits s actor (ask.Concur release revision) sound kept is = concur s actor release revision sound kept
+ask_fits s actor (ask.Cancel release) sound kept is = cancel s release sound kept
+ask_fits s actor ask.ViewAlerts sound kept is = tt
+
+pub decision_fits : (s : State) (call : Call) → Sound s → Kept s → IsCall call.ask → DecisionFits s (decide s call)
 unfolding decide
-decision_fits s actor (ask.Admit text) sound kept is = admit_known s (canonical (groups_of text)) (read_of text s.moment)
-decision_fits s actor (ask.Draft plan) sound kept is = draft_checked s actor plan (plan_fault plan) is
-decision_fits s actor (ask.Sign release revision) sound kept is = sign_found s actor revision (release_at release s.releases) (found_fits s release sound kept)
-decision_fits s actor (ask.Concur release revision) sound kept is = concur_found s actor revision (release_at release s.releases) (found_fits s release sound kept)
-decision_fits s actor (ask.Cancel release) sound kept is = cancel_found s (release_at release s.releases) (found_fits s release sound kept) kept.moment
-decision_fits s actor ask.ViewAlerts sound kept is = tt
-
--- the same, of a decision that is the one of an ask
-pub decided_fits : (s : State) (actor : List ℕ) (a : Ask) (decision : Decision) → decision ≡ decide s actor a → Sound s → Kept s → IsCall a → DecisionFits s decision
-decided_fits s actor a decision is sound kept call = subst (DecisionFits s) (sym is) (decision_fits s actor a sound kept call)
+decision_fits s call sound kept is = ask_fits s call.actor call.ask sound kept is

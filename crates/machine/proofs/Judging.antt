@@ -1,18 +1,23 @@
 -- Once every active release is judged, each alert is as its rules ask.
-use Rattle.std.proofs.Common.{◌≡◌, ℕ, ◌+◌, ◌<◌, ◌≤◌, Bool, true, false, cond, eqb, List, [], ◌∷◌, ◌++◌, length, Option, None, Some, IfSome, refl, ap, sym, ◌∙◌, subst, arith, eq-eqb}
+use Rattle.std.proofs.Common.{◌≡◌, ℕ, ◌+◌, ◌<◌, ◌≤◌, Bool, true, false, cond, not, eqb, List, [], ◌∷◌, ◌++◌, Option, None, Some, IfSome, refl, ap, sym, ◌∙◌, subst, arith, eq-eqb}
 use Rattle.std.proofs.lemmas.Bool.{ne_eqb, eqb-true}
-use Rattle.std.specs.Prelude.{find}
 use Rattle.std.specs.List.{AllByRecursion, filter_map, cons_option}
-use Rattle.facts.specs.declared.report.Report.{Report}
 use Rattle.plan.specs.declared.findings.Finding.{Finding}
+use Rattle.plan.specs.declared.release.Phase.{Phase}
+use Rattle.plan.specs.declared.release.Phase.TheVariants.{Drafted, Ready, Cancelled}
 use Rattle.plan.specs.declared.release.Release.{Release}
-use Rattle.alerts.specs.declared.alert.Alert.{Alert}
-use Rattle.alerts.specs.Alerts.{alert_after, alert_once_open, are_same}
-use Rattle.alerts.proofs.Sameness.{same_is}
-use Rattle.machine.specs.State.{State, failing_of, alert_at, alert_for, judged, judged_all, open_alert, other_alert}
-use Rattle.machine.specs.Step.{put}
+use Rattle.plan.specs.declared.release.Revision.{Revision}
+use Rattle.plan.specs.Findings.{AreInOrder}
 use Rattle.plan.specs.Texts.{IsMoment}
-use Rattle.machine.specs.Sound.{Matches, AreAlerted, Rise, IsOpen}
+use Rattle.alerts.specs.declared.alert.Alert.{Alert}
+use Rattle.alerts.specs.Alerts.{IsAlert, alert_once_open, are_same}
+use Rattle.alerts.proofs.Sameness.{same_is}
+use Rattle.alerts.proofs.Laws.{after_is}
+use Rattle.rules.specs.Grounds.{Grounds}
+use Rattle.rules.proofs.Laws.{findings_in_order}
+use Rattle.machine.specs.State.{State, grounds_of, failing_in, failing_of, alert_at, alert_for, judged, judged_all}
+use Rattle.machine.specs.Events.{put, without_alert}
+use Rattle.machine.specs.Sound.{Matches, IsToldTo, IsAlerted, Rise}
 use Rattle.machine.proofs.Each.{found_each}
 
 once_open : (b : Bool) (a : Alert) (findings : List Finding) → are_same a.failing findings ≡ b → (alert_once_open b a findings).failing ≡ findings
@@ -42,31 +47,45 @@ judged_of (Some (f ∷ fs)) None r moment is = refl
 judged_of (Some []) (Some a) r moment is = once_of _ a [] r.id is
 judged_of (Some (f ∷ fs)) (Some a) r moment is = once_of _ a (f ∷ fs) r.id is
 
--- `old` gives each release an alert of its own
-abbrev pub Finds : (ℕ → Option Alert) → Type 0
-Finds old = (id : ℕ) → IfSome (old id) (IsOf id)
+found_by_id : (id : ℕ) (a : Alert) (b : Bool) (later : Option Alert) → eqb a.release id ≡ b → IfSome later (IsOf id) → IfSome (cond b (Some a) later) (IsOf id)
+found_by_id id a true later e is = eqb-true a.release id e
+found_by_id id a false later e is = is
 
-found_of : (id : ℕ) (a : Alert) (b : Bool) (later : Option Alert) → eqb a.release id ≡ b → IfSome later (IsOf id) → IfSome (cond b (Some a) later) (IsOf id)
-found_of id a true later e is = eqb-true a.release id e
-found_of id a false later e is = is
+-- an alert that is found is of that release
+pub found_of : (id : ℕ) (alerts : List Alert) → IfSome (alert_at id alerts) (IsOf id)
+found_of id [] = tt
+found_of id (a ∷ rest) = found_by_id id a _ (alert_at id rest) refl (found_of id rest)
 
-pub open_finds : (alerts : List Alert) → Finds (open_alert alerts)
-open_finds [] id = tt
-open_finds (a ∷ rest) id = found_of id a _ (alert_at id rest) refl (open_finds rest id)
+pub judged_is : (t : State) (r : Release) → IfSome (judged t r) (IsOf r.id)
+judged_is t r = judged_of (failing_of (grounds_of t) r) (alert_at r.id t.alerts) r t.moment (found_of r.id t.alerts)
 
-other_by : (id : ℕ) (b : Bool) (o : Option Alert) (P : Alert → Type 0) → IfSome o P → IfSome (cond b None o) P
-other_by id true o P is = tt
-other_by id false o P is = is
+once_told : (b : Bool) (a : Alert) (findings : List Finding) (holder : List ℕ) → a.desk ≡ holder → (alert_once_open b a findings).desk ≡ holder
+once_told true a findings holder is = is
+once_told false a findings holder is = is
 
-pub other_finds : (gone : ℕ) (alerts : List Alert) → Finds (other_alert gone alerts)
-other_finds gone alerts id = other_by id (eqb id gone) (alert_at id alerts) (IsOf id) (open_finds alerts id)
+judged_told : (failing : Option (List Finding)) (old : Option Alert) (r : Release) (moment : ℕ) → IsToldTo r.holder old → IsToldTo r.holder (alert_for failing old r moment)
+judged_told None old r moment is = tt
+judged_told (Some []) None r moment is = tt
+judged_told (Some (f ∷ fs)) None r moment is = refl
+judged_told (Some fs) (Some a) r moment is = once_told _ a fs r.holder is
+
+failing_order : (g : Grounds) (active : Option Revision) (phase : Phase) → IfSome (failing_in g active phase) AreInOrder
+failing_order g None phase = tt
+failing_order g (Some v) Drafted = tt
+failing_order g (Some v) Ready = findings_in_order v.plan Ready g
+failing_order g (Some v) (Cancelled at) = tt
+
+judged_alert : (failing : Option (List Finding)) (old : Option Alert) (r : Release) (moment most : ℕ) → IsMoment moment → IfSome failing AreInOrder → IfSome old (IsAlert most)
+    → IfSome (alert_for failing old r moment) (IsAlert (most + 1))
+judged_alert None old r moment most shown order is = tt
+judged_alert (Some fs) old r moment most shown order is = after_is old r.id r.holder fs moment most shown order is
 
 -- the alert of each release is what a function gives
-abbrev Agrees : (Release → Option Alert) → List Alert → List Release → Type 0
+abbrev pub Agrees : (Release → Option Alert) → List Alert → List Release → Type 0
 Agrees j alerts rs = AllByRecursion (λ r. alert_at r.id alerts ≡ j r) rs
 
 -- each alert that the function gives is of its release
-abbrev Of : (Release → Option Alert) → Type 0
+abbrev pub Of : (Release → Option Alert) → Type 0
 Of j = (r : Release) → IfSome (j r) (IsOf r.id)
 
 -- an alert of an earlier release in front
@@ -100,57 +119,105 @@ here_by id None alerts is none = none
 here_by id (Some a) alerts is none = rw (eq-eqb a.release id is) refl
 
 -- the alerts that a function gives, in order of their releases, are found by their releases
-agrees_all : (j : Release → Option Alert) (low : ℕ) (rs : List Release) (next : ℕ) → Of j → Rise low rs next → Agrees j (filter_map j rs) rs
+pub agrees_all : (j : Release → Option Alert) (low : ℕ) (rs : List Release) (next : ℕ) → Of j → Rise low rs next → Agrees j (filter_map j rs) rs
 agrees_all j low [] next of rise = tt
 agrees_all j low (r ∷ rs) next of rise = (
   here_by r.id (j r) (filter_map j rs) (of r) (none_before j r.id r.id rs next of (omega arith) rise.1),
   agrees_after j r.id (j r) (filter_map j rs) rs next (of r) rise.1 (agrees_all j r.id rs next of rise.1),
 )
 
-alerted_by : (reports : List Report) (old : ℕ → Option Alert) (moment : ℕ) (alerts : List Alert) (rs : List Release)
-    → Agrees (judged reports old moment) alerts rs → AreAlerted reports alerts rs
-alerted_by reports old moment alerts [] agrees = tt
-alerted_by reports old moment alerts (r ∷ rs) agrees = (
-  subst (λ (o : Option Alert). Matches o (failing_of reports r)) (sym agrees.0) (matches (failing_of reports r) (old r.id) r moment),
-  alerted_by reports old moment alerts rs agrees.1,
+agreed : (j : Release → Option Alert) (alerts : List Alert) (rs : List Release) → Agrees j alerts rs → filter_map j rs ≡ filter_map (λ r. alert_at r.id alerts) rs
+agreed j alerts [] agrees = refl
+agreed j alerts (r ∷ rs) agrees =
+    ap (λ o. cons_option o (filter_map j rs)) (sym agrees.0) ∙ ap (λ (rest : List Alert). cons_option (alert_at r.id alerts) rest) (agreed j alerts rs agrees.1)
+
+-- the alerts are those of the releases, each once
+pub all_own : (t : State) (low next : ℕ) → Rise low t.releases next → judged_all t ≡ filter_map (λ r. alert_at r.id (judged_all t)) t.releases
+all_own t low next rise = agreed (judged t) (judged_all t) t.releases (agrees_all (judged t) low t.releases next (judged_is t) rise)
+
+abbrev pub AreTold : List Alert → List Release → Type 0
+AreTold alerts rs = AllByRecursion (λ r. IsToldTo r.holder (alert_at r.id alerts)) rs
+
+alerted_by : (t : State) (alerts : List Alert) (rs : List Release) → Agrees (judged t) alerts rs → AreTold t.alerts rs → AllByRecursion (IsAlerted (grounds_of t) alerts) rs
+alerted_by t alerts [] agrees told = tt
+alerted_by t alerts (r ∷ rs) agrees told = (
+  subst (λ (o : Option Alert). Matches o (failing_of (grounds_of t) r) × IsToldTo r.holder o) (sym agrees.0)
+      (matches (failing_of (grounds_of t) r) (alert_at r.id t.alerts) r t.moment, judged_told (failing_of (grounds_of t) r) (alert_at r.id t.alerts) r t.moment told.0),
+  alerted_by t alerts rs agrees.1 told.1,
 )
 
--- once all are judged, each alert is as its rules ask
-pub are_alerted : (reports : List Report) (old : ℕ → Option Alert) (moment low : ℕ) (rs : List Release) (next : ℕ)
-    → Finds old → Rise low rs next → AreAlerted reports (judged_all reports old moment rs) rs
-are_alerted reports old moment low rs next finds rise =
-    alerted_by reports old moment (judged_all reports old moment rs) rs
-    (agrees_all (judged reports old moment) low rs next (λ r. judged_of (failing_of reports r) (old r.id) r moment (finds r.id)) rise)
-
--- versions and moments of judged alerts
-open_once : (b : Bool) (a : Alert) (findings : List Finding) (most : ℕ) → IsOpen most a → IsOpen (most + 1) (alert_once_open b a findings)
-open_once true a findings most is = record { moment = is.moment; version = let v = is.version in omega arith }
-open_once false a findings most is = record { moment = is.moment; version = let v = is.version in omega arith }
-
-open_judged : (failing : Option (List Finding)) (old : Option Alert) (r : Release) (moment most : ℕ) → IsMoment moment → IfSome old (IsOpen most)
-    → IfSome (alert_for failing old r moment) (IsOpen (most + 1))
-open_judged None old r moment most shown is = tt
-open_judged (Some []) None r moment most shown is = tt
-open_judged (Some (f ∷ fs)) None r moment most shown is = record { moment = shown; version = omega arith }
-open_judged (Some []) (Some a) r moment most shown is = open_once _ a [] most is
-open_judged (Some (f ∷ fs)) (Some a) r moment most shown is = open_once _ a (f ∷ fs) most is
+-- once all are judged, each alert is as its rules ask, and told to the holder
+pub are_alerted : (t : State) (low next : ℕ) → Rise low t.releases next → AreTold t.alerts t.releases → AllByRecursion (IsAlerted (grounds_of t) (judged_all t)) t.releases
+are_alerted t low next rise told = alerted_by t (judged_all t) t.releases (agrees_all (judged t) low t.releases next (judged_is t) rise) told
 
 each_option : (P : Alert → Type 0) (o : Option Alert) (alerts : List Alert) → IfSome o P → AllByRecursion P alerts → AllByRecursion P (cons_option o alerts)
 each_option P None alerts here all = all
 each_option P (Some a) alerts here all = (here, all)
 
-pub are_open : (reports : List Report) (old : ℕ → Option Alert) (moment most : ℕ) (rs : List Release) → IsMoment moment → ((id : ℕ) → IfSome (old id) (IsOpen most))
-    → AllByRecursion (IsOpen (most + 1)) (judged_all reports old moment rs)
-are_open reports old moment most [] shown is = tt
-are_open reports old moment most (r ∷ rs) shown is =
-    each_option (IsOpen (most + 1)) (judged reports old moment r) (judged_all reports old moment rs)
-    (open_judged (failing_of reports r) (old r.id) r moment most shown (is r.id)) (are_open reports old moment most rs shown is)
+pub is_alert_at : (alerts : List Alert) (most id : ℕ) → AllByRecursion (IsAlert most) alerts → IfSome (alert_at id alerts) (IsAlert most)
+is_alert_at alerts most id all = found_each (IsAlert most) (λ a. eqb a.release id) alerts all
 
-pub open_is : (alerts : List Alert) (most id : ℕ) → AllByRecursion (IsOpen most) alerts → IfSome (open_alert alerts id) (IsOpen most)
-open_is alerts most id all = found_each (IsOpen most) (λ a. eqb a.release id) alerts all
+pub are_alerts : (t : State) (most : ℕ) (rs : List Release) → IsMoment t.moment → AllByRecursion (IsAlert most) t.alerts → AllByRecursion (IsAlert (most + 1)) (filter_map (judged t) rs)
+are_alerts t most [] shown all = tt
+are_alerts t most (r ∷ rs) shown all =
+    each_option (IsAlert (most + 1)) (judged t r) (filter_map (judged t) rs)
+    (judged_alert (failing_of (grounds_of t) r) (alert_at r.id t.alerts) r t.moment most shown (failing_order (grounds_of t) r.active r.phase) (is_alert_at t.alerts most r.id all))
+    (are_alerts t most rs shown all)
 
-pub other_is : (gone : ℕ) (alerts : List Alert) (most id : ℕ) → AllByRecursion (IsOpen most) alerts → IfSome (other_alert gone alerts id) (IsOpen most)
-other_is gone alerts most id all = other_by id (eqb id gone) (alert_at id alerts) (IsOpen most) (open_is alerts most id all)
+pub rise_bound : (low : ℕ) (rs : List Release) (next : ℕ) → Rise low rs next → low < next
+rise_bound low [] next rise = rise
+rise_bound low (r ∷ rs) next rise = let more = rise_bound r.id rs next rise.1 in let one = rise.0 in omega (arith, more, one)
+
+-- no alert of an id that is above all
+none_after : (j : Release → Option Alert) (id low : ℕ) (rs : List Release) (next : ℕ) → Of j → next ≤ id → Rise low rs next → alert_at id (filter_map j rs) ≡ None
+none_after j id low [] next of within rise = refl
+none_after j id low (r ∷ rs) next of within rise =
+    let less = rise_bound r.id rs next rise.1 in
+    after_option id r.id (j r) (filter_map j rs) (omega (arith, less, within)) (of r) ∙ none_after j id r.id rs next of within rise.1
+
+-- the release that comes next has no alert
+pub none_next : (alerts : List Alert) (rs : List Release) (next : ℕ) → alerts ≡ filter_map (λ r. alert_at r.id alerts) rs → Rise 0 rs next → alert_at next alerts ≡ None
+none_next alerts rs next own rise =
+    ap (λ (held : List Alert). alert_at next held) own ∙ none_after (λ r. alert_at r.id alerts) next 0 rs next (λ r. found_of r.id alerts) (omega arith) rise
+
+-- an alert that goes
+without_by : (gone id : ℕ) (a : Alert) (rest kept : List Alert) (b c d : Bool) → eqb a.release gone ≡ b → eqb a.release id ≡ c → eqb id gone ≡ d
+    → alert_at id kept ≡ cond d None (alert_at id rest) → alert_at id (cond (not b) (a ∷ kept) kept) ≡ cond d None (cond c (Some a) (alert_at id rest))
+without_by gone id a rest kept true c true e f g more = more
+without_by gone id a rest kept true false false e f g more = more
+without_by gone id a rest kept true true false e f g more =
+    absurd (let one = eqb-true a.release gone e in let two = eqb-true a.release id f in let ne : eqb id gone ≡ true = eq-eqb id gone (sym two ∙ one) in let bad : false ≡ true = sym g ∙ ne in cc)
+without_by gone id a rest kept false true true e f g more =
+    absurd (let two = eqb-true a.release id f in let three = eqb-true id gone g in let ne : eqb a.release gone ≡ true = eq-eqb a.release gone (two ∙ three) in let bad : false ≡ true = sym e ∙ ne in cc)
+without_by gone id a rest kept false true false e f g more = rw f refl
+without_by gone id a rest kept false false d e f g more = rw f more
+
+abbrev no_alert : Option Alert
+no_alert = None
+
+none_either : (b : Bool) → no_alert ≡ cond b None no_alert
+none_either true = refl
+none_either false = refl
+
+pub alert_without : (gone id : ℕ) (alerts : List Alert) → alert_at id (without_alert gone alerts) ≡ cond (eqb id gone) None (alert_at id alerts)
+alert_without gone id [] = none_either (eqb id gone)
+alert_without gone id (a ∷ rest) = without_by gone id a rest (without_alert gone rest) _ _ _ refl refl refl (alert_without gone id rest)
+
+kept_by : (b : Bool) (o : Option Alert) (P : Alert → Type 0) → IfSome o P → IfSome (cond b None o) P
+kept_by true o P is = tt
+kept_by false o P is = is
+
+-- what holds of the alert that is found holds of it once others went
+pub found_without : (P : Alert → Type 0) (gone id : ℕ) (alerts : List Alert) → IfSome (alert_at id alerts) P → IfSome (alert_at id (without_alert gone alerts)) P
+found_without P gone id alerts is = subst (λ (o : Option Alert). IfSome o P) (sym (alert_without gone id alerts)) (kept_by (eqb id gone) (alert_at id alerts) P is)
+
+each_kept : (P : Alert → Type 0) (b : Bool) (a : Alert) (rest : List Alert) → P a → AllByRecursion P rest → AllByRecursion P (cond (not b) (a ∷ rest) rest)
+each_kept P true a rest here all = all
+each_kept P false a rest here all = (here, all)
+
+pub each_without : (P : Alert → Type 0) (gone : ℕ) (alerts : List Alert) → AllByRecursion P alerts → AllByRecursion P (without_alert gone alerts)
+each_without P gone [] all = tt
+each_without P gone (a ∷ rest) all = each_kept P _ a (without_alert gone rest) all.0 (each_without P gone rest all.1)
 
 -- ids rise on
 pub rise_push : (low : ℕ) (rs : List Release) (next : ℕ) (r : Release) → Rise low rs next → r.id ≡ next → Rise low (rs ++ r ∷ []) (next + 1)

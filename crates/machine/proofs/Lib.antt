@@ -2,3 +2,5 @@ pub mod Each
 pub mod Judging
 pub mod Deciding
 pub mod Boards
+pub mod Changes
+pub mod AllowedLaws

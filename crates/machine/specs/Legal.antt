@@ -1,5 +1,5 @@
 -- Which histories are legal.
-use Rattle.std.specs.Prelude.{◌≡◌, ℕ, ◌<◌, Bool, true, false, List, [], ◌∷◌, Some}
+use Rattle.std.specs.Prelude.{◌≡◌, ℕ, ◌<◌, true, false, List, [], ◌∷◌, Some}
 use Rattle.machine.specs.declared.entry.Entry.{Entry}
 use Rattle.machine.specs.declared.entry.What.{What}
 use Rattle.machine.specs.declared.entry.What.TheVariants.{Tick, Asked}

@@ -1,21 +1,26 @@
 -- What holds of the desk at every moment.
-use Rattle.std.specs.Prelude.{◌≡◌, ℕ, ◌+◌, ◌<◌, ◌≤◌, List, [], ◌∷◌, length, Option, None, Some}
-use Rattle.std.specs.List.{AllByRecursion}
-use Rattle.plan.specs.declared.flights.Plan.{Plan}
+use Rattle.std.specs.Prelude.{◌≡◌, ℕ, ◌+◌, ◌<◌, ◌≤◌, List, [], ◌∷◌, length, Option, None, Some, IfSome, Result, Ok, Err}
+use Rattle.std.specs.List.{AllByRecursion, filter_map}
 use Rattle.plan.specs.declared.findings.Finding.{Finding}
 use Rattle.plan.specs.Texts.{IsMoment, HasMoment}
+use Rattle.plan.specs.declared.release.Phase.{Phase}
+use Rattle.plan.specs.declared.release.Phase.TheVariants.{Drafted, Ready, Cancelled}
 use Rattle.plan.specs.declared.release.Release.{Release}
 use Rattle.plan.specs.declared.release.Revision.{Revision}
 use Rattle.plan.specs.declared.release.Signature.{Signature}
 use Rattle.facts.specs.declared.report.Report.{Report}
 use Rattle.alerts.specs.declared.alert.Alert.{Alert}
+use Rattle.alerts.specs.Alerts.{IsAlert}
 use Rattle.asks.specs.Forms.{RefusalHasMoment, ReplyHasMoment}
+use Rattle.asks.specs.declared.reply.Refusal.{Refusal}
 use Rattle.plan.specs.Check.{HasFewLegs}
+use Rattle.rules.specs.Grounds.{Grounds}
+use Rattle.machine.specs.declared.counters.Counters.{Counters}
 use Rattle.machine.specs.declared.effect.Effect.{Effect}
-use Rattle.machine.specs.declared.effect.Effect.TheVariants.{Admit, File, Put, PutAfresh}
+use Rattle.machine.specs.declared.effect.Effect.TheVariants.{Tick, Admit, File, Put, PutAfresh}
 use Rattle.machine.specs.declared.effect.Decision.{Decision}
-use Rattle.machine.specs.declared.effect.Decision.TheVariants.{Refuse, Show, Do}
-use Rattle.machine.specs.State.{State, failing_of, alert_at, next_report, next_release}
+use Rattle.machine.specs.declared.effect.Decision.TheVariants.{Show, Do}
+use Rattle.machine.specs.State.{State, grounds_of, failing_of, alert_at}
 use Rattle.machine.specs.Legal.{IsHistory}
 
 -- No alert stands where none is asked for or no rule fails; one that stands names exactly the rules that fail.
@@ -25,34 +30,68 @@ Matches None (Some findings) = findings ≡ []
 Matches (Some a) None = ⊥
 Matches (Some a) (Some findings) = a.failing ≡ findings
 
--- The alert of each release is as its rules ask, by all reports that were admitted.
-abbrev pub AreAlerted : List Report → List Alert → List Release → Type 0
-AreAlerted reports alerts [] = Unit {0}
-AreAlerted reports alerts (r ∷ rs) = Matches (alert_at r.id alerts) (failing_of reports r) × AreAlerted reports alerts rs
+-- an alert is told to the dispatcher who holds the release
+abbrev pub IsToldTo : List ℕ → Option Alert → Type 0
+IsToldTo holder alert = IfSome alert (λ a. a.desk ≡ holder)
+
+-- the alert of a release is as its rules ask, and told to its holder
+abbrev pub IsAlerted : Grounds → List Alert → Release → Type 0
+IsAlerted g alerts r = Matches (alert_at r.id alerts) (failing_of g r) × IsToldTo r.holder (alert_at r.id alerts)
 
 -- ids rise from above one number to below another
 abbrev pub Rise : ℕ → List Release → ℕ → Type 0
 Rise low [] next = low < next
 Rise low (r ∷ rs) next = (low < r.id) × Rise r.id rs next
 
+-- A draft has a pending revision and no active one; a release that is ready has an active one; one that
+-- ended has no pending one.
+abbrev pub IsPhased : Phase → Option Revision → Option Revision → Type 0
+IsPhased Drafted None active = ⊥
+IsPhased Drafted (Some v) None = Unit {0}
+IsPhased Drafted (Some v) (Some w) = ⊥
+IsPhased Ready pending None = ⊥
+IsPhased Ready pending (Some w) = Unit {0}
+IsPhased (Cancelled at) None active = Unit {0}
+IsPhased (Cancelled at) (Some v) active = ⊥
+
 abbrev pub IsSigned : Option Signature → Type 0
 IsSigned None = ⊥
 IsSigned (Some signature) = Unit {0}
 
--- a revision bears the dispatcher's and the captain's signature
-abbrev pub HasBoth : Option Revision → Type 0
-HasBoth None = Unit {0}
-HasBoth (Some v) = IsSigned v.dispatcher × IsSigned v.captain
+-- an active revision bears the dispatcher's and the captain's signature
+abbrev pub BearsBoth : Option Revision → Type 0
+BearsBoth None = Unit {0}
+BearsBoth (Some v) = IsSigned v.dispatcher × IsSigned v.captain
 
-abbrev pub BearsBoth : Release → Type 0
-BearsBoth r = HasBoth r.active
+-- a pending revision bears no captain's signature
+abbrev pub IsUncaptained : Option Revision → Type 0
+IsUncaptained None = Unit {0}
+IsUncaptained (Some v) = v.captain ≡ None
+
+-- revisions are numbered from 1, none above a number, and the pending one above the active one
+abbrev pub AreNumbered : ℕ → Option Revision → Option Revision → Type 0
+AreNumbered most None None = Unit {0}
+AreNumbered most (Some v) None = (1 ≤ v.number) × (v.number ≤ most)
+AreNumbered most None (Some w) = (1 ≤ w.number) × (w.number ≤ most)
+AreNumbered most (Some v) (Some w) = (1 ≤ w.number) × (w.number < v.number) × (v.number ≤ most)
+
+-- a release that may stand, where no revision has a number above `most`
+pub record IsValid (most : ℕ) (r : Release) : Type 0 where
+  pub phased : IsPhased r.phase r.pending r.active
+  pub both : BearsBoth r.active
+  pub uncaptained : IsUncaptained r.pending
+  pub numbered : AreNumbered most r.pending r.active
 
 -- Each active release has no alert and fails no rule, or one alert that names exactly the rules that it
--- fails, by all reports; no other release has an alert; and each active revision bears both signatures.
+-- fails, and that is told to its holder; there are no other alerts than those of the releases, each once.
+-- Each release is valid: in particular each active revision bears both signatures. Ids rise, and ids,
+-- revisions and versions are within the counters.
 pub record Sound (s : State) : Type 0 where
-  pub alerted : AreAlerted s.reports s.alerts s.releases
-  pub signed : AllByRecursion BearsBoth s.releases
-  pub ids : Rise 0 s.releases (next_release s)
+  pub alerted : AllByRecursion (IsAlerted (grounds_of s) s.alerts) s.releases
+  pub own : s.alerts ≡ filter_map (λ r. alert_at r.id s.alerts) s.releases
+  pub alerts : AllByRecursion (IsAlert s.counters.events) s.alerts
+  pub valid : AllByRecursion (IsValid s.counters.events) s.releases
+  pub ids : Rise 0 s.releases s.counters.next_release
 
 abbrev pub HasLegs : Option Revision → Type 0
 HasLegs None = Unit {0}
@@ -65,48 +104,52 @@ pub record IsKept (r : Release) : Type 0 where
   pub active : HasLegs r.active
 
 -- a release that may be held
-pub record Fits (r : Release) : Type 0 where
-  pub both : BearsBoth r
+pub record Fits (most : ℕ) (r : Release) : Type 0 where
+  pub valid : IsValid most r
   pub kept : IsKept r
 
--- an alert whose moment can be shown, and whose version isn't above a number
-pub record IsOpen (most : ℕ) (a : Alert) : Type 0 where
-  pub moment : IsMoment a.opened
-  pub version : a.version ≤ most
-
--- a report whose id isn't above a number
+-- a report whose id is below a number
 abbrev pub IsNumbered : ℕ → Report → Type 0
-IsNumbered most r = r.id ≤ most
+IsNumbered next r = r.id < next
+
+-- each next id is at most one more than the number of events
+pub record AreCounters (c : Counters) : Type 0 where
+  pub events : c.events ≤ 999_999_999_999_000
+  pub report : c.next_report ≤ c.events + 1
+  pub deferral : c.next_deferral ≤ c.events + 1
+  pub release : c.next_release ≤ c.events + 1
+  pub accepted : c.next_kept ≤ c.events + 1
 
 -- what else the code rests on
 pub record Kept (s : State) : Type 0 where
   pub moment : IsMoment s.moment
-  pub reports : AllByRecursion (IsNumbered (length s.reports)) s.reports
+  pub counters : AreCounters s.counters
+  pub reports : AllByRecursion (IsNumbered s.counters.next_report) s.reports
   pub releases : AllByRecursion IsKept s.releases
-  pub alerts : AllByRecursion (IsOpen (length s.entries)) s.alerts
   pub entries : length s.entries ≤ 400_000
 
 -- a release that is filed, with that id
-pub record IsNew (id : ℕ) (r : Release) : Type 0 where
-  pub fits : Fits r
+pub record IsNew (most id : ℕ) (r : Release) : Type 0 where
+  pub fits : Fits most r
   pub numbered : r.id ≡ id
+
+-- a release that takes the place of another keeps its holder
+pub record MayReplace (s : State) (r : Release) : Type 0 where
+  pub fits : Fits s.counters.events r
+  pub holder : IsToldTo r.holder (alert_at r.id s.alerts)
 
 -- an effect that keeps what holds of the desk
 abbrev pub EffectFits : State → Effect → Type 0
-EffectFits s (Admit report) = report.id ≡ next_report s
-EffectFits s (File r) = IsNew (next_release s) r
-EffectFits s (Put r) = Fits r
-EffectFits s (PutAfresh r) = Fits r
+EffectFits s (Tick to) = IsMoment to
+EffectFits s (Admit report) = report.id ≡ s.counters.next_report
+EffectFits s (File r) = IsNew (s.counters.events + 1) s.counters.next_release r
+EffectFits s (Put r) = MayReplace s r
+EffectFits s (PutAfresh r) = MayReplace s r
 
-abbrev pub DecisionFits : State → Decision → Type 0
-DecisionFits s (Refuse refusal) = RefusalHasMoment refusal
-DecisionFits s (Show reply) = ReplyHasMoment reply
-DecisionFits s (Do reply effect) = ReplyHasMoment reply × EffectFits s effect
-
--- what a board shows: the state that it was opened in, and its state
-pub record Shown : Type 0 where
-  pub opening : State
-  pub state : State
+abbrev pub DecisionFits : State → Result Decision Refusal → Type 0
+DecisionFits s (Err refusal) = RefusalHasMoment refusal
+DecisionFits s (Ok (Show reply)) = ReplyHasMoment reply
+DecisionFits s (Ok (Do reply effect)) = ReplyHasMoment reply × EffectFits s effect
 
 -- what holds of a board at every moment
 pub record IsBoard (opening s : State) : Type 0 where

@@ -1,10 +1,13 @@
-use asks::{Refusal, Reply};
+use asks::Reply;
+use desk_time::Minute;
 use facts::Report;
 use plan::Release;
 
-/// What an accepted command changes.
+/// What an event changes, before every active release is judged.
 #[derive(Debug, Drop)]
 pub enum Effect {
+    /// The moment rises, and nothing else changes.
+    Tick { to: Minute },
     /// A report is admitted.
     Admit(Report),
     /// A release is filed.
@@ -15,11 +18,9 @@ pub enum Effect {
     PutAfresh(Release),
 }
 
-/// What a call comes to.
+/// What a call that isn't refused comes to.
 #[derive(Debug, Drop)]
 pub enum Decision {
-    /// It is refused.
-    Refuse(Refusal),
     /// It is answered, and changes nothing.
     Show(Reply),
     /// It is accepted, with this reply and this effect.

@@ -1,19 +1,17 @@
 -- What a METAR or SPECI says, by the list of its groups (FMH-1, chapter 12; WMO FM 15).
-use Rattle.std.specs.Prelude.{◌≡◌, ℕ, ◌-◌, ◌/◌, ◌+◌, nat_lt, Bool, ◌||◌, if◌then◌else◌, true, false, List, [], ◌∷◌, length, take, Option, None, Some, Result, Ok, Err, codes}
+use Rattle.std.specs.Prelude.{ℕ, ◌-◌, ◌/◌, ◌+◌, nat_lt, Bool, ◌||◌, if◌then◌else◌, true, false, List, [], ◌∷◌, length, take, Option, None, Some, Result, Ok, Err, codes}
 use Rattle.std.specs.Str.{bytes_eq}
 use Rattle.std.specs.List.{list_any}
-use Rattle.codes.specs.Station.{station_of}
-use Rattle.codes.specs.declared.station.Station.{Station}
+use Rattle.codes.specs.Station.{Station, station_of}
+use Rattle.codes.specs.Answers.{too_long}
 use Rattle.codes.specs.Groups.{groups_of, first_of}
 use Rattle.codes.specs.Moment.{time_of}
-use Rattle.codes.specs.Class.{unread_count}
-use Rattle.codes.specs.Cond.{cond_of}
+use Rattle.codes.specs.Cond.{stretch_of}
+use Rattle.codes.specs.declared.cond.Stretch.{Stretch}
 use Rattle.codes.specs.declared.cond.Cond.{Cond}
 use Rattle.codes.specs.declared.fault.Why.{Why}
-use Rattle.codes.specs.declared.fault.Why.TheVariants.{TooLong, Missing, NotStation}
+use Rattle.codes.specs.declared.fault.Why.TheVariants.{Missing, NotStation}
 use Rattle.codes.specs.declared.fault.BadReport.{BadReport}
-use Rattle.codes.specs.declared.fault.ReportFault.{ReportFault}
-use Rattle.codes.specs.declared.fault.ReportFault.TheVariants.{Bad, OutOfMemory}
 use Rattle.codes.specs.declared.fault.Form.TheVariants.{Report}
 use Rattle.metar.specs.declared.metar.Metar.{Metar}
 use Rattle.metar.specs.declared.metar.Head.{Head}
@@ -75,19 +73,19 @@ abbrev pub nil_report : Head → Metar
 nil_report h =
     record { special = h.special; station = h.station; observed = h.observed; corrected = h.corrected; auto = false; nil = true; cond = no_cond; unread = 0 }
 
--- a report with a body that names a condition
-abbrev pub report_with : Head → List (List ℕ) → Cond → Metar
-report_with h body cond =
-    record { special = h.special; station = h.station; observed = h.observed; corrected = h.corrected || has (codes "COR") body; auto = has (codes "AUTO") body; nil = false; cond = cond; unread = unread_count body }
+-- a report with a body that says this
+abbrev pub report_with : Head → List (List ℕ) → Stretch → Metar
+report_with h body stretch =
+    record { special = h.special; station = h.station; observed = h.observed; corrected = h.corrected || has (codes "COR") body; auto = has (codes "AUTO") body; nil = false; cond = stretch.cond; unread = stretch.unread }
 
-abbrev pub with_cond : Head → List (List ℕ) → Result Cond BadReport → Result Metar BadReport
-with_cond h body (Err bad) = Err bad
-with_cond h body (Ok cond) = Ok (report_with h body cond)
+abbrev pub with_stretch : Head → List (List ℕ) → Result Stretch BadReport → Result Metar BadReport
+with_stretch h body (Err bad) = Err bad
+with_stretch h body (Ok stretch) = Ok (report_with h body stretch)
 
 -- what follows the time: NIL, or the body
 abbrev pub after_time : ℕ → List (List ℕ) → Head → Result Metar BadReport
 after_time count rest h =
-    if is_nil (first_of rest) then Ok (nil_report h) else with_cond h (body_of rest) (cond_of Report (number_of count rest) (body_of rest))
+    if is_nil (first_of rest) then Ok (nil_report h) else with_stretch h (body_of rest) (stretch_of Report (number_of count rest) (body_of rest))
 
 abbrev pub observed_at : ℕ → List (List ℕ) → List (List ℕ) → Bool → Bool → Station → Result ℕ Why → Result Metar BadReport
 observed_at count at rest special corrected station (Err why) = Err (bad_at count at why)
@@ -115,15 +113,6 @@ unfoldable pub reading : List (List ℕ) → ℕ → Result Metar BadReport
 reading gs receipt =
     from_station (length gs) (after_words gs) (is_speci (first_of gs)) (is_cor (first_of (after_word gs))) (receipt / 1440 - 3)
 
-abbrev pub too_long : BadReport
-too_long = record { group = 0; why = TooLong }
-
 -- the reading of a text, or why there is none
 unfoldable pub metar_of : List ℕ → ℕ → Result Metar BadReport
 metar_of text receipt = if nat_lt 2048 (length text) then Err too_long else reading (groups_of text) receipt
-
--- The answer is this reading or this fault; want of memory is free.
-abbrev pub Answers : {T : Type 0} → Result T ReportFault → Result T BadReport → Type 0
-Answers (Ok value) r = Ok value ≡ r
-Answers (Err (Bad bad)) r = Err bad ≡ r
-Answers (Err OutOfMemory) r = Unit {0}

@@ -2,7 +2,5 @@
 #![tactic(auto)]
 
 mod metar;
-#[cfg(test)]
-mod tests;
 
-pub use metar::{Metar, REPORT_LIMIT, read_metar};
+pub use metar::{Metar, metar_in, read_metar};

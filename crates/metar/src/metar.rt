@@ -1,17 +1,16 @@
-ghost use Rattle.std.specs.Prelude.{◌≡◌, ◌≤◌, ◌<◌, ◌+◌, ◌-◌, ◌/◌, ◌^◌, length, codes, IfOk};
+ghost use Rattle.std.specs.Prelude.{◌≡◌, ◌↔◌, ◌≤◌, ◌<◌, ◌+◌, ◌-◌, ◌/◌, ◌^◌, length, codes, Ok, IfOk};
 ghost use Rattle.metar.specs.Reading as spec;
-ghost use Rattle.metar.specs.Reading.{reading, metar_of, Answers};
+ghost use Rattle.codes.specs.Answers.{Answers};
+ghost use Rattle.codes.specs.Groups.{groups_of};
+ghost use Rattle.metar.specs.Reading.{reading, metar_of};
+ghost use Rattle.metar.specs.Report.{ReadsMetar};
 
 use codes::{
-    BadReport, Cond, Form, Groups, ReportFault, Station, Why, cond_in, first_of, time_of,
-    unread_count,
+    BadReport, Cond, Form, Group, Groups, REPORT_LIMIT, ReportFault, Station, Stretch, TOO_LONG,
+    Why, first_of, stretch_in, time_of,
 };
-use desk_io::Text;
 use desk_time::{FIRST, LAST, Minute};
 use std::alloc::Global;
-
-/// The most bytes that the text of a report may have.
-pub const REPORT_LIMIT: usize = 2048;
 
 /// What a METAR or SPECI says.
 #[derive(Clone, Copy, Debug, PartialEq, Eq)]
@@ -61,7 +60,7 @@ fn is_nil(group: &[u8]) -> bool
     group == b"NIL".as_slice()
 }
 
-fn after_word(groups: &[Text]) -> &[Text]
+fn after_word<'a, 'b>(groups: &'b [Group<'a>]) -> &'b [Group<'a>]
     ensures value { result.now ≡ spec.after_word groups.now }
     ensures rest { length result.now ≤ length groups.now }
 {
@@ -72,7 +71,7 @@ fn after_word(groups: &[Text]) -> &[Text]
     }
 }
 
-fn after_cor(groups: &[Text]) -> &[Text]
+fn after_cor<'a, 'b>(groups: &'b [Group<'a>]) -> &'b [Group<'a>]
     ensures value { result.now ≡ spec.after spec.is_cor groups.now }
     ensures rest { length result.now ≤ length groups.now }
 {
@@ -91,7 +90,7 @@ fn ends_body(group: &[u8]) -> bool
         || group == b"BECMG".as_slice()
 }
 
-fn body_of(groups: &[Text]) -> &[Text]
+fn body_of<'a, 'b>(groups: &'b [Group<'a>]) -> &'b [Group<'a>]
     ensures value { result.now ≡ spec.body_of groups.now }
     ensures within { length result.now ≤ length groups.now }
 {
@@ -103,13 +102,13 @@ fn body_of(groups: &[Text]) -> &[Text]
     groups
 }
 
-fn has(word: &[u8], groups: &[Text]) -> bool
+fn has(word: &[u8], groups: &[Group<'_>]) -> bool
     ensures { result ≡ spec.has word.now groups.now }
 {
     groups.iter().any(|group| group.bytes() == word)
 }
 
-fn bad_at(count: u32, rest: &[Text], why: Why) -> BadReport
+fn bad_at(count: u32, rest: &[Group<'_>], why: Why) -> BadReport
     requires small { count ≤ 2049 }
     requires within { length rest.now ≤ count }
     ensures { result ≡ spec.bad_at count rest.now why }
@@ -133,9 +132,8 @@ fn nil_report(head: Head) -> Metar
     }
 }
 
-fn report_with(head: Head, body: &[Text], cond: Cond) -> Metar
-    requires { length body.now ≤ 2049 }
-    ensures { result ≡ spec.report_with head body.now cond }
+fn report_with(head: Head, body: &[Group<'_>], stretch: Stretch) -> Metar
+    ensures { result ≡ spec.report_with head body.now stretch }
 {
     Metar {
         special: head.special,
@@ -144,12 +142,12 @@ fn report_with(head: Head, body: &[Text], cond: Cond) -> Metar
         corrected: head.corrected || has(b"COR", body),
         auto: has(b"AUTO", body),
         nil: false,
-        cond,
-        unread: unread_count(body) as u32,
+        cond: stretch.cond,
+        unread: stretch.unread,
     }
 }
 
-fn after_time(count: u32, rest: &[Text], head: Head) -> Result<Metar, BadReport>
+fn after_time(count: u32, rest: &[Group<'_>], head: Head) -> Result<Metar, BadReport>
     requires small { count ≤ 2049 }
     requires within { length rest.now ≤ count }
     ensures value { result ≡ spec.after_time count rest.now head }
@@ -159,13 +157,13 @@ fn after_time(count: u32, rest: &[Text], head: Head) -> Result<Metar, BadReport>
         return Ok(nil_report(head));
     }
     let body = body_of(rest);
-    let cond = cond_in(Form::Report, count + 1 - rest.len() as u32, body)?;
-    Ok(report_with(head, body, cond))
+    let stretch = stretch_in(Form::Report, count + 1 - rest.len() as u32, body)?;
+    Ok(report_with(head, body, stretch))
 }
 
 fn after_station(
     count: u32,
-    rest: &[Text],
+    rest: &[Group<'_>],
     special: bool,
     corrected: bool,
     station: Station,
@@ -197,7 +195,7 @@ fn after_station(
 
 fn from_station(
     count: u32,
-    rest: &[Text],
+    rest: &[Group<'_>],
     special: bool,
     corrected: bool,
     first_day: u64,
@@ -219,7 +217,7 @@ fn from_station(
 }
 
 #[tactic(auto, unfolding(crate::specs::Reading::reading))]
-fn reading(groups: &[Text], receipt: Minute) -> Result<Metar, BadReport>
+fn reading_in(groups: &[Group<'_>], receipt: Minute) -> Result<Metar, BadReport>
     requires count { length groups.now ≤ 2049 }
     requires low { FIRST ≤ receipt }
     requires high { receipt ≤ LAST }
@@ -239,6 +237,19 @@ fn reading(groups: &[Text], receipt: Minute) -> Result<Metar, BadReport>
     )
 }
 
+/// What the groups of a METAR or SPECI say that was received at that moment, as `read_metar` reads its
+/// text. It takes no memory.
+pub fn metar_in(groups: &[Group<'_>], receipt: Minute) -> Result<Metar, BadReport>
+    requires count { length groups.now ≤ 2049 }
+    requires low { FIRST ≤ receipt }
+    requires high { receipt ≤ LAST }
+    ensures value { result ≡ reading groups.now receipt }
+    ensures range { IfOk result (λ m. (FIRST ≤ m.observed) × (m.observed ≤ LAST)) }
+    ensures report { (m : Metar) → ReadsMetar groups.now receipt m ↔ (result ≡ Ok m) }
+{
+    reading_in(groups, receipt)
+}
+
 /// The reading of the text of a METAR or SPECI that was received at that moment. A day of the month
 /// is the one within the five days that begin three days before the day of receipt. `Bad` comes
 /// exactly where there is no reading, with the first group from the left that doesn't read; a text of
@@ -249,15 +260,14 @@ pub fn read_metar(alloc: Global, text: &[u8], receipt: Minute) -> Result<Metar, 
     requires high { receipt ≤ LAST }
     ensures value { Answers result (metar_of text.now receipt) }
     ensures range { IfOk result (λ m. (FIRST ≤ m.observed) × (m.observed ≤ LAST)) }
+    ensures report { IfOk result (λ m. ReadsMetar (groups_of text.now) receipt m) }
+    ensures read { length text.now ≤ 2_048 → (m : Metar) → ReadsMetar (groups_of text.now) receipt m → Answers result (Ok m) }
 {
     if text.len() > REPORT_LIMIT {
-        return Err(ReportFault::Bad(BadReport {
-            group: 0,
-            why: Why::TooLong,
-        }));
+        return Err(ReportFault::Bad(TOO_LONG));
     }
     let groups = Groups::of(alloc, text)?;
-    match reading(groups.as_slice(), receipt) {
+    match metar_in(groups.as_slice(), receipt) {
         Ok(metar) => Ok(metar),
         Err(bad) => Err(ReportFault::Bad(bad)),
     }

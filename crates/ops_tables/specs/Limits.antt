@@ -1,14 +1,19 @@
--- What each row of the tables keeps to. Heights and ceilings are feet, visibilities sixteenths of a
--- statute mile, fuel pounds, distances nautical miles.
-use Rattle.std.specs.Prelude.{◌≤◌, All}
+-- The form and the range of each column of the tables. Heights and ceilings are feet, visibilities
+-- sixteenths of a statute mile, fuel pounds, distances nautical miles.
+use Rattle.std.specs.Prelude.{◌≤◌, ◌&&◌, IsTrue}
+use Rattle.std.specs.List.{list_all}
+use Rattle.ops_tables.specs.Forms.{is_name, is_tail, is_person, is_key, are_names, are_item_names, are_two_items}
 use Rattle.ops_tables.specs.declared.rows.Settings.{Settings}
 use Rattle.ops_tables.specs.declared.rows.Airport.{Airport}
 use Rattle.ops_tables.specs.declared.rows.Approach.{Approach}
 use Rattle.ops_tables.specs.declared.rows.AlternateRow.{AlternateRow}
 use Rattle.ops_tables.specs.declared.rows.TypeRow.{TypeRow}
+use Rattle.ops_tables.specs.declared.rows.Tail.{Tail}
+use Rattle.ops_tables.specs.declared.rows.Use.{Use}
 use Rattle.ops_tables.specs.declared.rows.Distance.{Distance}
 use Rattle.ops_tables.specs.declared.rows.MelRow.{MelRow}
-use Rattle.ops_tables.specs.Tables.{TableRows}
+use Rattle.ops_tables.specs.declared.rows.ItemPair.{ItemPair}
+use Rattle.ops_tables.specs.declared.rows.Actor.{Actor}
 
 pub record FitsSettings (s : Settings) : Type 0 where
   pub hold_minutes : s.hold_minutes ≤ 1440
@@ -25,6 +30,7 @@ pub record FitsAirport (a : Airport) : Type 0 where
   pub circle : a.circle ≤ 20000
 
 pub record FitsApproach (a : Approach) : Type 0 where
+  pub names : IsTrue (are_names a.name a.runway a.capability)
   pub height : a.height ≤ 20000
   pub ceiling : a.ceiling ≤ 20000
   pub vis16 : a.vis16 ≤ 160
@@ -34,6 +40,7 @@ pub record FitsAlternate (a : AlternateRow) : Type 0 where
   pub vis16 : a.vis16 ≤ 160
 
 pub record FitsType (t : TypeRow) : Type 0 where
+  pub kind : IsTrue (is_name t.kind)
   pub least_engines : 2 ≤ t.engines
   pub engines : t.engines ≤ 4
   pub least_speed : 1 ≤ t.oei_knots
@@ -42,20 +49,25 @@ pub record FitsType (t : TypeRow) : Type 0 where
   pub cruise_pph : t.cruise_pph ≤ 100000
   pub least_hold : 1 ≤ t.hold_pph
   pub hold_pph : t.hold_pph ≤ 100000
+  pub capabilities : IsTrue (list_all is_name t.capabilities)
+
+pub record FitsTail (r : Tail) : Type 0 where
+  pub tail : IsTrue (is_tail r.tail && is_name r.kind)
+
+pub record FitsUse (u : Use) : Type 0 where
+  pub kind : IsTrue (is_name u.kind)
 
 pub record FitsDistance (d : Distance) : Type 0 where
   pub miles : d.miles ≤ 20000
 
 pub record FitsItem (r : MelRow) : Type 0 where
+  pub names : IsTrue (are_item_names r.kind r.item r.capability)
   pub days : r.days ≤ 365
   pub extra_fuel : r.extra_fuel ≤ 100000
   pub max_minutes : r.max_minutes ≤ 1440
 
-pub record FitsTables (t : TableRows) : Type 0 where
-  pub settings : FitsSettings t.settings
-  pub airports : All FitsAirport t.airports
-  pub approaches : All FitsApproach t.approaches
-  pub alternates : All FitsAlternate t.alternates
-  pub types : All FitsType t.types
-  pub distances : All FitsDistance t.distances
-  pub mel : All FitsItem t.mel
+pub record FitsPair (p : ItemPair) : Type 0 where
+  pub items : IsTrue (are_two_items p.kind p.item p.other)
+
+pub record FitsActor (a : Actor) : Type 0 where
+  pub name : IsTrue (is_person a.name && is_key a.key)

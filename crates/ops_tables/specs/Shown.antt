@@ -1,8 +1,8 @@
--- The rows that a contract sees of tables.
+-- The rows of the tables that are loaded.
 use Rattle.ops_tables.specs.Tables.{TableRows}
-use Rattle.ops_tables.specs.declared.tables.Tables.TheInside.{Inside}
+use Rattle.ops_tables.specs.declared.loading.Loading.{Loading}
 
-abbrev pub shown : Inside → TableRows
+abbrev pub shown : Loading → TableRows
 shown t = record {
   settings = t.settings;
   airports = t.airports;

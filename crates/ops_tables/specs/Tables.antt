@@ -1,9 +1,9 @@
 -- The tables as lists of rows, and what is looked up in them.
-use Rattle.std.specs.Prelude.{ℕ, Bool, ◌&&◌, ◌||◌, List, Option, None, Some, find, filter}
+use Rattle.std.specs.Prelude.{ℕ, Bool, ◌&&◌, ◌||◌, List, Option, None, Some, find, filter, is_some}
 use Rattle.std.specs.List.{list_any}
 use Rattle.std.specs.Option.{option_map}
 use Rattle.std.specs.Str.{bytes_eq}
-use Rattle.codes.specs.declared.station.Station.{Station}
+use Rattle.codes.specs.Station.{Station}
 use Rattle.ops_tables.specs.declared.rows.Settings.{Settings}
 use Rattle.ops_tables.specs.declared.rows.Airport.{Airport}
 use Rattle.ops_tables.specs.declared.rows.Approach.{Approach}
@@ -33,7 +33,7 @@ pub record TableRows : Type 0 where
   pub actors : List Actor
 
 abbrev pub is_station : Station → Station → Bool
-is_station a b = bytes_eq a.bytes b.bytes
+is_station a b = bytes_eq a b
 
 -- the airport of a station
 abbrev pub airport_of : TableRows → Station → Option Airport
@@ -93,3 +93,13 @@ approaches_of t s = filter (λ a. is_station a.station s) t.approaches
 -- the alternate minima of a station, in the order of the file
 abbrev pub alternates_of : TableRows → Station → List AlternateRow
 alternates_of t s = filter (λ a. is_station a.station s) t.alternates
+
+-- what stands in the tables
+abbrev pub has_airport : TableRows → Station → Bool
+has_airport t station = is_some (airport_of t station)
+
+abbrev pub has_type : TableRows → List ℕ → Bool
+has_type t kind = is_some (type_named t kind)
+
+abbrev pub has_item : TableRows → List ℕ → List ℕ → Bool
+has_item t kind item = is_some (item_of t kind item)

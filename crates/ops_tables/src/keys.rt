@@ -1,118 +1,290 @@
 ghost use Rattle.std.specs.Prelude.{◌≡◌};
 
-use crate::grouped::{GroupName, Keyed, group_name};
+use crate::grouped::{GroupName, Row, group_name};
 use crate::{
     Actor, Airport, AlternateRow, Approach, Distance, ItemPair, MelRow, Route, Tail, TypeRow, Use,
 };
 
-impl Keyed<4> for Airport {
-    ghost name = { λ r. r.station.bytes };
+impl Row<4> for Airport {
+    ghost use Rattle.ops_tables.specs.Keys.{is_same_airport};
+    ghost use Rattle.ops_tables.specs.Limits.{FitsAirport};
+
+    ghost name = { λ r. r.station };
+
+    ghost is_same_key = { is_same_airport };
+
+    ghost Fits = { FitsAirport };
+
+    ghost limit = { 5_000 };
+
+    ghost same_group = { λ a b h. h };
 
     fn group_name(&self) -> [u8; 4] {
-        self.station.bytes
+        self.station.bytes()
+    }
+
+    fn has_key_of(&self, other: &Airport) -> bool {
+        other.station.bytes() == self.station.bytes()
     }
 }
 
-impl Keyed<4> for Approach {
-    ghost name = { λ r. r.station.bytes };
+impl Row<4> for Approach {
+    ghost use Rattle.std.specs.Str.{bytes_eq};
+    ghost use Rattle.ops_tables.specs.Keys.{is_same_approach};
+    ghost use Rattle.ops_tables.specs.Limits.{FitsApproach};
+    ghost use Rattle.ops_tables.specs.SameGroup.{first_of_two};
+
+    ghost name = { λ r. r.station };
+
+    ghost is_same_key = { is_same_approach };
+
+    ghost Fits = { FitsApproach };
+
+    ghost limit = { 50_000 };
+
+    ghost same_group = { λ a b h. first_of_two (bytes_eq b.station a.station) (bytes_eq b.name a.name) h };
 
     fn group_name(&self) -> [u8; 4] {
-        self.station.bytes
+        self.station.bytes()
+    }
+
+    fn has_key_of(&self, other: &Approach) -> bool {
+        other.station.bytes() == self.station.bytes() && other.name.bytes() == self.name.bytes()
     }
 }
 
-impl Keyed<4> for AlternateRow {
-    ghost name = { λ r. r.station.bytes };
+impl Row<4> for AlternateRow {
+    ghost use Rattle.std.specs.Prelude.{◌==◌};
+    ghost use Rattle.std.specs.Str.{bytes_eq};
+    ghost use Rattle.ops_tables.specs.Keys.{is_same_alternate};
+    ghost use Rattle.ops_tables.specs.Limits.{FitsAlternate};
+    ghost use Rattle.ops_tables.specs.SameGroup.{first_of_three};
+
+    ghost name = { λ r. r.station };
+
+    ghost is_same_key = { is_same_alternate };
+
+    ghost Fits = { FitsAlternate };
+
+    ghost limit = { 20_000 };
+
+    ghost same_group = { λ a b h. first_of_three (bytes_eq b.station a.station) (b.ceiling == a.ceiling) (b.vis16 == a.vis16) h };
 
     fn group_name(&self) -> [u8; 4] {
-        self.station.bytes
+        self.station.bytes()
+    }
+
+    fn has_key_of(&self, other: &AlternateRow) -> bool {
+        other.station.bytes() == self.station.bytes()
+            && other.ceiling == self.ceiling
+            && other.vis16 == self.vis16
     }
 }
 
-impl Keyed<48> for TypeRow {
+impl Row<48> for TypeRow {
     ghost use Rattle.std.specs.Prelude.{[]};
     ghost use Rattle.ops_tables.specs.Grouped.{group_name};
+    ghost use Rattle.ops_tables.specs.Keys.{is_same_type};
+    ghost use Rattle.ops_tables.specs.Limits.{FitsType};
+    ghost use Rattle.ops_tables.specs.SameGroup.{one_part};
 
     ghost name = { λ r. group_name r.kind [] [] };
+
+    ghost is_same_key = { is_same_type };
+
+    ghost Fits = { FitsType };
+
+    ghost limit = { 200 };
+
+    ghost same_group = { λ a b h. one_part b.kind a.kind h };
 
     fn group_name(&self) -> GroupName {
         group_name(self.kind.bytes(), b"", b"")
     }
+
+    fn has_key_of(&self, other: &TypeRow) -> bool {
+        other.kind.bytes() == self.kind.bytes()
+    }
 }
 
-impl Keyed<48> for Tail {
+impl Row<48> for Tail {
     ghost use Rattle.std.specs.Prelude.{[]};
     ghost use Rattle.ops_tables.specs.Grouped.{group_name};
+    ghost use Rattle.ops_tables.specs.Keys.{is_same_tail};
+    ghost use Rattle.ops_tables.specs.Limits.{FitsTail};
+    ghost use Rattle.ops_tables.specs.SameGroup.{one_part};
 
     ghost name = { λ r. group_name r.tail [] [] };
+
+    ghost is_same_key = { is_same_tail };
+
+    ghost Fits = { FitsTail };
+
+    ghost limit = { 5_000 };
+
+    ghost same_group = { λ a b h. one_part b.tail a.tail h };
 
     fn group_name(&self) -> GroupName {
         group_name(self.tail.bytes(), b"", b"")
     }
-}
 
-impl Keyed<48> for Use {
-    ghost use Rattle.std.specs.Prelude.{[]};
-    ghost use Rattle.ops_tables.specs.Grouped.{group_name};
-
-    ghost name = { λ r. group_name r.kind r.station.bytes [] };
-
-    fn group_name(&self) -> GroupName {
-        group_name(self.kind.bytes(), &self.station.bytes, b"")
+    fn has_key_of(&self, other: &Tail) -> bool {
+        other.tail.bytes() == self.tail.bytes()
     }
 }
 
-impl Keyed<48> for Distance {
+impl Row<48> for Use {
     ghost use Rattle.std.specs.Prelude.{[]};
     ghost use Rattle.ops_tables.specs.Grouped.{group_name};
+    ghost use Rattle.ops_tables.specs.Keys.{is_same_use};
+    ghost use Rattle.ops_tables.specs.Limits.{FitsUse};
+    ghost use Rattle.ops_tables.specs.SameGroup.{two_parts};
 
-    ghost name = { λ r. group_name r.from.bytes r.to.bytes [] };
+    ghost name = { λ r. group_name r.kind r.station [] };
+
+    ghost is_same_key = { is_same_use };
+
+    ghost Fits = { FitsUse };
+
+    ghost limit = { 200_000 };
+
+    ghost same_group = { λ a b h. two_parts b.kind b.station a.kind a.station h };
 
     fn group_name(&self) -> GroupName {
-        group_name(&self.from.bytes, &self.to.bytes, b"")
+        group_name(self.kind.bytes(), &self.station.bytes(), b"")
+    }
+
+    fn has_key_of(&self, other: &Use) -> bool {
+        other.kind.bytes() == self.kind.bytes() && other.station.bytes() == self.station.bytes()
     }
 }
 
-impl Keyed<48> for Route {
+impl Row<48> for Distance {
     ghost use Rattle.std.specs.Prelude.{[]};
     ghost use Rattle.ops_tables.specs.Grouped.{group_name};
+    ghost use Rattle.ops_tables.specs.Keys.{is_same_distance};
+    ghost use Rattle.ops_tables.specs.Limits.{FitsDistance};
+    ghost use Rattle.ops_tables.specs.SameGroup.{two_parts};
 
-    ghost name = { λ r. group_name r.from.bytes r.to.bytes [] };
+    ghost name = { λ r. group_name r.from r.to [] };
+
+    ghost is_same_key = { is_same_distance };
+
+    ghost Fits = { FitsDistance };
+
+    ghost limit = { 200_000 };
+
+    ghost same_group = { λ a b h. two_parts b.from b.to a.from a.to h };
 
     fn group_name(&self) -> GroupName {
-        group_name(&self.from.bytes, &self.to.bytes, b"")
+        group_name(&self.from.bytes(), &self.to.bytes(), b"")
+    }
+
+    fn has_key_of(&self, other: &Distance) -> bool {
+        other.from.bytes() == self.from.bytes() && other.to.bytes() == self.to.bytes()
     }
 }
 
-impl Keyed<48> for MelRow {
+impl Row<48> for Route {
     ghost use Rattle.std.specs.Prelude.{[]};
     ghost use Rattle.ops_tables.specs.Grouped.{group_name};
+    ghost use Rattle.ops_tables.specs.Keys.{is_same_route};
+    ghost use Rattle.ops_tables.specs.SameGroup.{two_parts};
+
+    ghost name = { λ r. group_name r.from r.to [] };
+
+    ghost is_same_key = { is_same_route };
+
+    ghost Fits = { λ _. Unit {0} };
+
+    ghost limit = { 50_000 };
+
+    ghost same_group = { λ a b h. two_parts b.from b.to a.from a.to h };
+
+    fn group_name(&self) -> GroupName {
+        group_name(&self.from.bytes(), &self.to.bytes(), b"")
+    }
+
+    fn has_key_of(&self, other: &Route) -> bool {
+        other.from.bytes() == self.from.bytes() && other.to.bytes() == self.to.bytes()
+    }
+}
+
+impl Row<48> for MelRow {
+    ghost use Rattle.std.specs.Prelude.{[]};
+    ghost use Rattle.ops_tables.specs.Grouped.{group_name};
+    ghost use Rattle.ops_tables.specs.Keys.{is_same_item};
+    ghost use Rattle.ops_tables.specs.Limits.{FitsItem};
+    ghost use Rattle.ops_tables.specs.SameGroup.{two_parts};
 
     ghost name = { λ r. group_name r.kind r.item [] };
+
+    ghost is_same_key = { is_same_item };
+
+    ghost Fits = { FitsItem };
+
+    ghost limit = { 50_000 };
+
+    ghost same_group = { λ a b h. two_parts b.kind b.item a.kind a.item h };
 
     fn group_name(&self) -> GroupName {
         group_name(self.kind.bytes(), self.item.bytes(), b"")
     }
+
+    fn has_key_of(&self, other: &MelRow) -> bool {
+        other.kind.bytes() == self.kind.bytes() && other.item.bytes() == self.item.bytes()
+    }
 }
 
-impl Keyed<48> for ItemPair {
-    ghost use Rattle.std.specs.Prelude.{[]};
+impl Row<48> for ItemPair {
     ghost use Rattle.ops_tables.specs.Grouped.{group_name};
+    ghost use Rattle.ops_tables.specs.Keys.{is_same_pair};
+    ghost use Rattle.ops_tables.specs.Limits.{FitsPair};
+    ghost use Rattle.ops_tables.specs.SameGroup.{three_parts};
 
     ghost name = { λ r. group_name r.kind r.item r.other };
+
+    ghost is_same_key = { is_same_pair };
+
+    ghost Fits = { FitsPair };
+
+    ghost limit = { 50_000 };
+
+    ghost same_group = { λ a b h. three_parts b.kind b.item b.other a.kind a.item a.other h };
 
     fn group_name(&self) -> GroupName {
         group_name(self.kind.bytes(), self.item.bytes(), self.other.bytes())
     }
+
+    fn has_key_of(&self, other: &ItemPair) -> bool {
+        other.kind.bytes() == self.kind.bytes()
+            && other.item.bytes() == self.item.bytes()
+            && other.other.bytes() == self.other.bytes()
+    }
 }
 
-impl Keyed<48> for Actor {
+impl Row<48> for Actor {
     ghost use Rattle.std.specs.Prelude.{[]};
     ghost use Rattle.ops_tables.specs.Grouped.{group_name};
+    ghost use Rattle.ops_tables.specs.Keys.{is_same_actor};
+    ghost use Rattle.ops_tables.specs.Limits.{FitsActor};
+    ghost use Rattle.ops_tables.specs.SameGroup.{one_part};
 
     ghost name = { λ r. group_name r.name [] [] };
 
+    ghost is_same_key = { is_same_actor };
+
+    ghost Fits = { FitsActor };
+
+    ghost limit = { 5_000 };
+
+    ghost same_group = { λ a b h. one_part b.name a.name h };
+
     fn group_name(&self) -> GroupName {
         group_name(self.name.bytes(), b"", b"")
+    }
+
+    fn has_key_of(&self, other: &Actor) -> bool {
+        other.name.bytes() == self.name.bytes()
     }
 }

@@ -13,7 +13,7 @@ pub(crate) fn airport_among(rows: &[Airport], s: Station) -> Option<&Airport>
     ensures value { option_copied result ≡ find (λ a. is_station a.station s) rows.now }
     ensures within { All FitsAirport rows.now → IfSome result (λ a. FitsAirport a.now) }
 {
-    rows.iter().find(|a| a.station.bytes == s.bytes)
+    rows.iter().find(|a| a.station.bytes() == s.bytes())
 }
 
 /// The first type of that name.
@@ -35,16 +35,14 @@ pub(crate) fn tail_among<'a>(rows: &'a [Tail], tail: &[u8]) -> Option<&'a Tail>
 pub(crate) fn is_used(rows: &[Use], kind: &[u8], s: Station) -> bool
     ensures { result ≡ list_any (λ u. bytes_eq u.kind kind.now && is_station u.station s) rows.now }
 {
-    rows.iter()
-        .any(|u| u.kind.bytes() == kind && u.station.bytes == s.bytes)
+    rows.iter().any(|u| u.kind.bytes() == kind && u.station.bytes() == s.bytes())
 }
 
 fn distance_among(rows: &[Distance], from: Station, to: Station) -> Option<&Distance>
     ensures value { option_copied result ≡ find (λ d. is_station d.from from && is_station d.to to) rows.now }
     ensures within { All FitsDistance rows.now → IfSome result (λ d. FitsDistance d.now) }
 {
-    rows.iter()
-        .find(|d| d.from.bytes == from.bytes && d.to.bytes == to.bytes)
+    rows.iter().find(|d| d.from.bytes() == from.bytes() && d.to.bytes() == to.bytes())
 }
 
 /// The miles of the first distance between two airports.
@@ -60,8 +58,7 @@ pub(crate) fn miles_among(rows: &[Distance], from: Station, to: Station) -> Opti
 pub(crate) fn is_route(rows: &[Route], from: Station, to: Station) -> bool
     ensures { result ≡ list_any (λ r. is_station r.from from && is_station r.to to) rows.now }
 {
-    rows.iter()
-        .any(|r| r.from.bytes == from.bytes && r.to.bytes == to.bytes)
+    rows.iter().any(|r| r.from.bytes() == from.bytes() && r.to.bytes() == to.bytes())
 }
 
 /// The first item of that name and type.

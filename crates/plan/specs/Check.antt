@@ -2,8 +2,8 @@
 use Rattle.std.specs.Prelude.{ℕ, ◌+◌, ◌-◌, Bool, ◌&&◌, ◌||◌, not, true, false, ◌≤◌, nat_lt, nat_le, if◌then◌else◌, List, [], ◌∷◌, length, Option, None, Some}
 use Rattle.std.specs.List.{list_all, list_any}
 use Rattle.std.specs.Str.{bytes_eq}
-use Rattle.desk_time.specs.declared.moments.TheConstants.{PLAN_FIRST, PLAN_LAST}
-use Rattle.codes.specs.declared.station.Station.{Station}
+use Rattle.desk_time.specs.Limits.{first_planned, last_planned}
+use Rattle.codes.specs.Station.{Station}
 use Rattle.plan.specs.declared.flights.Plan.{Plan}
 use Rattle.plan.specs.declared.flights.Leg.{Leg}
 use Rattle.plan.specs.declared.flights.Alternate.{Alternate}
@@ -13,7 +13,7 @@ use Rattle.plan.specs.declared.check.PlanWhy.{PlanWhy}
 use Rattle.plan.specs.declared.check.PlanWhy.TheVariants.{Repeated, Times, Amount}
 
 abbrev pub is_at : Station → Station → Bool
-is_at a b = bytes_eq a.bytes b.bytes
+is_at a b = bytes_eq a b
 
 abbrev pub is_alternate_at : Station → Alternate → Bool
 is_alternate_at s a = is_at a.station s
@@ -34,7 +34,7 @@ is_repeated l = is_at l.from l.to || is_takeoff_at l.from l.takeoff_alternate ||
 
 -- a moment at which a leg may be planned
 abbrev pub is_planned : ℕ → Bool
-is_planned m = nat_le PLAN_FIRST m && nat_le m PLAN_LAST
+is_planned m = nat_le first_planned m && nat_le m last_planned
 
 -- the leg begins no earlier than the leg before it ends
 abbrev pub follows : Option ℕ → Leg → Bool

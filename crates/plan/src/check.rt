@@ -30,7 +30,7 @@ pub struct BadPlan {
 fn is_at(a: Station, b: Station) -> bool
     ensures { result ≡ spec.is_at a b }
 {
-    a.bytes == b.bytes
+    a.bytes() == b.bytes()
 }
 
 fn any_at(station: Station, alternates: &[Alternate]) -> bool

@@ -1,4 +1,4 @@
-ghost use Rattle.std.specs.Prelude.{◌≡◌};
+ghost use Rattle.std.specs.Prelude.{◌≡◌, Some};
 ghost use Rattle.plan.specs.Findings as spec;
 
 use desk_io::{Copied, Listed, OutOfMemory};
@@ -33,7 +33,8 @@ impl Copied for Finding {
 impl Rule {
     /// Its number.
     pub fn number(self) -> u8
-        ensures { result ≡ spec.number_of self }
+        ensures value { result ≡ spec.number_of self }
+        ensures own { spec.rule_of result ≡ Some self }
     {
         match self {
             Rule::No3 => 3,

@@ -12,6 +12,3 @@ pub use findings::{Finding, Findings, Rule, is_before, is_same};
 pub use flights::{Alternate, Alternates, Kind, Leg, Legs, Plan, TakeoffAlternate};
 pub use release::{Phase, Release, Revision, Signature};
 pub use texts::{finding_text, phase_text};
-
-#[cfg(test)]
-mod tests;

@@ -1,7 +1,7 @@
 -- The reports that are held, and one that comes after them.
-use Rattle.std.specs.Prelude.{Bool, true, false, ◌&&◌, if◌then◌else◌, List, ◌++◌, option_to_list, Option, None, Some}
+use Rattle.std.specs.Prelude.{Bool, true, false, ◌&&◌, if◌then◌else◌, Option, None, Some}
 use Rattle.std.specs.Str.{bytes_eq}
-use Rattle.codes.specs.declared.station.Station.{Station}
+use Rattle.codes.specs.Station.{Station}
 use Rattle.facts.specs.declared.report.Read.{Read}
 use Rattle.facts.specs.declared.report.Read.TheVariants as read
 use Rattle.facts.specs.declared.report.Report.{Report}
@@ -18,7 +18,7 @@ is_taf (read.Taf taf) = true
 
 -- the latest once a report comes after those that are held
 abbrev pub with_report : Bool → Option Report → Station → Report → Option Report
-with_report alike held station r = if alike && bytes_eq (station_of_report r).bytes station.bytes then later held (Some r) else held
+with_report alike held station r = if alike && bytes_eq (station_of_report r) station then later held (Some r) else held
 
 abbrev pub with_metar : Option Report → Station → Option Report → Option Report
 with_metar held station None = held

@@ -42,7 +42,7 @@ fn with_report<'a>(
 ) -> Option<&'a Report>
     ensures { option_copied result ≡ spec.with_report alike (option_copied held.entry) station report.now }
 {
-    if alike && report.station().bytes == station.bytes {
+    if alike && report.station().bytes() == station.bytes() {
         later(held, report)
     } else {
         held

@@ -1,21 +1,24 @@
-ghost use Rattle.std.specs.Prelude.{◌≡◌, ◌≤◌, length, IfOk};
+ghost use Rattle.std.specs.Prelude.{◌≡◌, ◌≤◌, ◌+◌, length, IfOk};
+ghost use Rattle.std.specs.List.{AllByRecursion};
 ghost use Rattle.std.specs.Option.{option_copied};
 ghost use Rattle.facts.specs.Latest.{metar_latest, taf_latest};
+ghost use Rattle.rules.specs.Grounds.{reports_of, grounds_of};
 ghost use Rattle.rules.specs.Judgement as spec;
-ghost use Rattle.rules.specs.Judgement.{findings_of};
+ghost use Rattle.rules.specs.Judgement.{findings_of, IsTrueOf, NamesAll};
+ghost use Rattle.plan.specs.Findings.{AreInOrder};
 ghost use Rattle.plan.specs.Check.{HasFewLegs};
 
 use crate::evidence::{latest_metar, latest_taf};
-use airport_minima::{Pair, meets};
-use codes::{Cond, Station};
+use codes::{Cond, Pair, Station, meets};
 use desk_io::OutOfMemory;
 use desk_time::Minute;
 use facts::{Report, Reports};
 use metar::Metar;
 use plan::{Finding, Findings, Leg, Phase, Plan, Rule};
 use std::alloc::Global;
+use std::sync::ledger::Ledger;
 use taf::Taf;
-use weather_window::at;
+use weather_window::{Steps, at};
 
 /// How many minutes a METAR holds.
 pub const HOLD: u32 = 60;
@@ -26,44 +29,46 @@ const LANDING: Pair = Pair {
     vis: 804_672,
 };
 
-/// The reports by which a plan is judged: those that are held, and one that is about to be admitted.
+/// What a plan is judged by: what is held, and a report that is about to be admitted.
 #[derive(Clone, Copy)]
 pub struct Evidence<'a> {
     /// The reports that are held.
     pub held: &'a Reports,
     /// The report that comes after them.
     pub fresh: Option<&'a Report>,
+    /// The moment of the judgement.
+    pub moment: Minute,
 }
 
 impl<'a> Evidence<'a> {
     fn metar_at(&self, station: Station) -> Option<&'a Metar>
-        ensures { option_copied result ≡ metar_latest (spec.reports_of self.now) station }
+        ensures { option_copied result ≡ metar_latest (reports_of self.now) station }
     {
         latest_metar(self.held, self.fresh, station)?.read.metar()
     }
 
     fn taf_at(&self, station: Station) -> Option<&'a Taf>
-        ensures { option_copied result ≡ taf_latest (spec.reports_of self.now) station }
+        ensures { option_copied result ≡ taf_latest (reports_of self.now) station }
     {
         latest_taf(self.held, self.fresh, station)?.read.taf()
     }
 
     /// The weather that controls at a station, by its latest TAF and its latest METAR or SPECI.
     pub fn weather_at(&self, station: Station, moment: Minute) -> Cond
-        ensures { result ≡ spec.weather_at (spec.reports_of self.now) station moment }
+        ensures { result ≡ spec.weather_at (grounds_of self.now) station moment }
     {
         at(self.taf_at(station), self.metar_at(station), HOLD, moment)
     }
 
     fn is_below_landing(&self, leg: &Leg) -> bool
-        ensures { result ≡ spec.is_below_landing (spec.reports_of self.now) leg.now }
+        ensures { result ≡ spec.is_below_landing (grounds_of self.now) leg.now }
     {
         !meets(self.weather_at(leg.to, leg.eta), &[LANDING])
     }
 
     fn landing_findings(&self, alloc: Global, legs: &[Leg]) -> Result<Findings, OutOfMemory>
         requires { length legs.now ≤ 1000 }
-        ensures { IfOk result (λ f. f ≡ spec.landing_findings (spec.reports_of self.now) 1 legs.now) }
+        ensures { IfOk result (λ f. f ≡ spec.landing_findings (grounds_of self.now) 1 legs.now) }
     {
         let mut findings = Vec::new(alloc);
         for (i, leg) in legs.iter().enumerate() {
@@ -88,17 +93,64 @@ fn legs_left(phase: Phase, plan: &Plan) -> &[Leg]
     }
 }
 
-/// The rules that a plan fails in a phase, in order of rule and leg: of each leg that isn't flown, that
-/// the weather at the destination at the ETA is below landing minima (14 CFR 121.613).
+// The rules that a plan fails in a phase.
 #[tactic(auto, unfolding(crate::specs::Judgement::findings_of))]
-pub fn judge(
+fn findings(
     alloc: Global,
     plan: &Plan,
     phase: Phase,
     evidence: Evidence<'_>,
 ) -> Result<Findings, OutOfMemory>
     requires { HasFewLegs plan.now }
-    ensures { IfOk result (λ f. f ≡ findings_of plan.now phase (spec.reports_of evidence.entry)) }
+    ensures { IfOk result (λ f. f ≡ findings_of plan.now phase (grounds_of evidence.entry)) }
 {
     evidence.landing_findings(alloc, legs_left(phase, plan))
+}
+
+/// The rules that a plan fails in a phase, by what is held and a report that is about to be admitted,
+/// as `judge` finds them. It counts one step.
+#[tactic(auto, using(crate::proofs::Laws::findings_in_order, crate::proofs::Laws::findings_are_true))]
+pub fn judge_by<L: Ledger>(
+    alloc: Global,
+    plan: &Plan,
+    phase: Phase,
+    evidence: Evidence<'_>,
+    steps: &mut Steps<L>,
+) -> Result<Findings, OutOfMemory>
+    requires { HasFewLegs plan.now }
+    ensures value { IfOk result (λ f. f ≡ findings_of plan.now phase (grounds_of evidence.entry)) }
+    ensures order { IfOk result AreInOrder }
+    ensures truth { IfOk result (AllByRecursion (IsTrueOf plan.now phase (grounds_of evidence.entry))) }
+    ensures complete { IfOk result (NamesAll plan.now phase (grounds_of evidence.entry)) }
+    ensures steps { steps.new ≡ steps.old + 1 }
+{
+    steps.tick();
+    findings(alloc, plan, phase, evidence)
+}
+
+/// The rules that a plan fails in a phase, in order of rule and leg, each once: of each leg that isn't
+/// flown, that the weather at the destination at the ETA is below landing minima (14 CFR 121.613).
+/// It counts one step.
+#[tactic(auto, using(crate::proofs::Laws::and_none))]
+pub fn judge<L: Ledger>(
+    alloc: Global,
+    plan: &Plan,
+    phase: Phase,
+    facts: &Reports,
+    moment: Minute,
+    steps: &mut Steps<L>,
+) -> Result<Findings, OutOfMemory>
+    requires { HasFewLegs plan.now }
+    ensures value { IfOk result (λ f. f ≡ findings_of plan.now phase (record { reports = facts.now.reports; moment = moment })) }
+    ensures order { IfOk result AreInOrder }
+    ensures truth { IfOk result (AllByRecursion (IsTrueOf plan.now phase (record { reports = facts.now.reports; moment = moment }))) }
+    ensures complete { IfOk result (NamesAll plan.now phase (record { reports = facts.now.reports; moment = moment })) }
+    ensures steps { steps.new ≡ steps.old + 1 }
+{
+    let evidence = Evidence {
+        held: facts,
+        fresh: None,
+        moment,
+    };
+    judge_by(alloc, plan, phase, evidence, steps)
 }

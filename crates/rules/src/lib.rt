@@ -4,4 +4,5 @@
 mod evidence;
 mod judgement;
 
-pub use judgement::{Evidence, HOLD, judge};
+pub use judgement::{Evidence, HOLD, judge, judge_by};
+pub use weather_window::Steps;

@@ -1,2 +1,4 @@
 pub mod PartLaws
 pub mod Crossing
+pub mod ForecastLaws
+pub mod ReportLaws

@@ -1,18 +1,16 @@
 -- The parts of a forecast: a change word each, its period, and the groups up to the next (WMO FM 51).
-use Rattle.std.specs.Prelude.{◌≡◌, ℕ, ◌+◌, ◌≤◌, Bool, ◌||◌, if◌then◌else◌, List, [], ◌∷◌, ◌++◌, drop, map, Option, None, Some, is_some, Result, Ok, Err}
+use Rattle.std.specs.Prelude.{◌≡◌, ℕ, ◌+◌, ◌≤◌, All, Bool, ◌||◌, if◌then◌else◌, List, [], ◌∷◌, ◌++◌, drop, map, Option, None, Some, is_some, Result, Ok, Err}
 use Rattle.std.specs.List.{before_first}
-use Rattle.desk_time.specs.declared.moments.TheConstants.{FIRST, LAST}
+use Rattle.desk_time.specs.Limits.{first_moment, last_moment}
 use Rattle.codes.specs.Groups.{first_of}
 use Rattle.codes.specs.Cond.{cond_of}
 use Rattle.codes.specs.Period.{end_of, numbered, period_due}
 use Rattle.codes.specs.declared.fault.Why.TheVariants.{BadPeriod}
 use Rattle.codes.specs.declared.fault.BadReport.{BadReport}
-use Rattle.codes.specs.declared.fault.ReportFault.{ReportFault}
-use Rattle.codes.specs.declared.fault.ReportFault.TheVariants.{Bad, OutOfMemory}
 use Rattle.codes.specs.declared.fault.Form.TheVariants.{Forecast}
 use Rattle.taf.specs.declared.forecast.Part.{Part}
 use Rattle.taf.specs.declared.forecast.PartKind.{PartKind}
-use Rattle.taf.specs.declared.forecast.PartKind.TheVariants.{From, Prob}
+use Rattle.taf.specs.declared.forecast.PartKind.TheVariants.{Base, From, Prob}
 use Rattle.taf.specs.declared.change.Change.{Change}
 use Rattle.taf.specs.declared.change.Change.TheVariants.{At, During, Chance, Misshaped}
 use Rattle.taf.specs.Words.{is_remarks, is_tempo, change_of, change_after}
@@ -59,7 +57,7 @@ part_of kind from to n gs =
 abbrev pub part_during : PartKind → ℕ → List (List ℕ) → ℕ → Result Part BadReport
 part_during kind n gs first_day = period_due n gs first_day >>= λ period. part_of kind period.0 period.1 (n + 1) (drop 1 gs)
 
--- the part that begins at a moment, which the group before number n writes, and lasts until the end of the forecast
+-- the part that begins at a moment, which the group of number n writes, and lasts until the end of the forecast
 abbrev pub part_from : List ℕ → ℕ → List (List ℕ) → ℕ → ℕ → Result Part BadReport
 part_from digits n gs first_day until =
     numbered n (end_of digits first_day) >>= λ from. part_of From from until (n + 1) gs
@@ -94,17 +92,26 @@ and_change parts None n after first_day until = Ok parts
 and_change parts (Some change) n after first_day until =
     part_at change n after first_day until >>= λ part. Ok (parts ++ part ∷ [])
 
--- The answer is this reading or this fault; want of memory is free.
-abbrev pub Answers : {T : Type 0} → Result T ReportFault → Result T BadReport → Type 0
-Answers (Ok value) r = Ok value ≡ r
-Answers (Err (Bad bad)) r = Err bad ≡ r
-Answers (Err OutOfMemory) r = Unit {0}
-
 -- a moment that is read
 pub record IsMoment (at : ℕ) : Type 0 where
-  pub low : FIRST ≤ at
-  pub high : at ≤ LAST
+  pub low : first_moment ≤ at
+  pub high : at ≤ last_moment
 
 pub record HasMoments (part : Part) : Type 0 where
   pub from : IsMoment part.from
   pub to : IsMoment part.to
+
+-- a part that changes what stands before it, and that lasts to the end of the forecast where it replaces all
+pub record IsChange (until : ℕ) (part : Part) : Type 0 where
+  pub is_no_base : part.kind ≡ Base → ⊥
+  pub lasts : part.kind ≡ From → part.to ≡ until
+
+-- a base over the validity, and changes
+pub record HasBase (first last : ℕ) (parts : List Part) : Type 0 where
+  pub base : Part
+  pub changes : List Part
+  pub split : parts ≡ base ∷ changes
+  pub is_base : base.kind ≡ Base
+  pub from : base.from ≡ first
+  pub to : base.to ≡ last
+  pub are_changes : All (IsChange last) changes

@@ -1,12 +1,12 @@
 -- What a TAF says, by the list of its groups (WMO FM 51).
 use Rattle.std.specs.Prelude.{◌≡◌, ℕ, ◌+◌, ◌-◌, ◌/◌, ◌<◌, nat_lt, Bool, if◌then◌else◌, List, [], ◌∷◌, length, take, drop, All, Option, None, Some, Result, Ok, Err}
 use Rattle.std.specs.List.{list_any, prefix_len}
-use Rattle.codes.specs.Station.{station_of}
-use Rattle.codes.specs.declared.station.Station.{Station}
+use Rattle.codes.specs.Station.{Station, station_of}
+use Rattle.codes.specs.Answers.{too_long}
 use Rattle.codes.specs.Groups.{groups_of, first_of}
 use Rattle.codes.specs.Moment.{time_of}
 use Rattle.codes.specs.Period.{numbered, period_due}
-use Rattle.codes.specs.declared.fault.Why.TheVariants.{TooLong, Missing, NotStation}
+use Rattle.codes.specs.declared.fault.Why.TheVariants.{Missing, NotStation}
 use Rattle.codes.specs.declared.fault.BadReport.{BadReport}
 use Rattle.taf.specs.declared.forecast.Part.{Part}
 use Rattle.taf.specs.declared.forecast.PartKind.TheVariants.{Base}
@@ -14,8 +14,8 @@ use Rattle.taf.specs.declared.forecast.Taf.{Taf}
 use Rattle.taf.specs.declared.forecast.TafState.{TafState}
 use Rattle.taf.specs.declared.forecast.TafState.TheVariants.{Normal, Nil, Cancelled}
 use Rattle.taf.specs.declared.reader.Head.{Head}
-use Rattle.taf.specs.Words.{is_amended, is_corrected, is_mark, is_nil, is_cancelled}
-use Rattle.taf.specs.Parts.{◌>>=◌, part_of, parts_of, IsMoment, HasMoments}
+use Rattle.taf.specs.Words.{is_amended, is_corrected, is_modifier, is_nil, is_cancelled}
+use Rattle.taf.specs.Parts.{◌>>=◌, part_of, parts_of, IsMoment, HasMoments, HasBase}
 
 abbrev pub station_or_not : ℕ → Option Station → Result Station BadReport
 station_or_not n None = Err (record { group = n; why = NotStation })
@@ -53,24 +53,28 @@ after_time h n gs =
 
 -- one of the words is AMD
 abbrev pub are_amended : List (List ℕ) → Bool
-are_amended marks = list_any is_amended marks
+are_amended modifiers = list_any is_amended modifiers
 
 -- one of the words is COR
 abbrev pub are_corrected : List (List ℕ) → Bool
-are_corrected marks = list_any is_corrected marks
+are_corrected modifiers = list_any is_corrected modifiers
 
 abbrev pub head_of : List (List ℕ) → Station → ℕ → Head
-head_of marks station issued =
-    record { station = station; issued = issued; amended = are_amended marks; corrected = are_corrected marks }
+head_of modifiers station issued =
+    record { station = station; issued = issued; amended = are_amended modifiers; corrected = are_corrected modifiers }
+
+-- what follows the station, from number n on
+abbrev pub after_station : List (List ℕ) → Station → ℕ → List (List ℕ) → ℕ → Result Taf BadReport
+after_station modifiers station n gs first_day =
+    time_due n gs first_day >>= λ issued. after_time (head_of modifiers station issued) (n + 1) (drop 1 gs)
 
 -- what follows the words AMD and COR, from number n on
-abbrev pub after_marks : List (List ℕ) → ℕ → List (List ℕ) → ℕ → Result Taf BadReport
-after_marks marks n gs first_day =
-    station_due n gs >>= λ station. time_due (n + 1) (drop 1 gs) first_day >>= λ issued. after_time (head_of marks station issued) (n + 2) (drop 2 gs)
+abbrev pub after_modifiers : List (List ℕ) → ℕ → List (List ℕ) → ℕ → Result Taf BadReport
+after_modifiers modifiers n gs first_day = station_due n gs >>= λ station. after_station modifiers station (n + 1) (drop 1 gs) first_day
 
 -- how many of the words AMD and COR stand in front
-abbrev pub mark_count : List (List ℕ) → ℕ
-mark_count gs = prefix_len is_mark gs
+abbrev pub modifier_count : List (List ℕ) → ℕ
+modifier_count gs = prefix_len is_modifier gs
 
 -- The reading of a list of groups whose first is TAF, or the first of them that doesn't read.
 -- The day of issue lies within the five that begin three days before the day of receipt, and the other
@@ -78,26 +82,29 @@ mark_count gs = prefix_len is_mark gs
 unfoldable pub reading : List (List ℕ) → ℕ → Result Taf BadReport
 reading gs receipt =
     let words = drop 1 gs in
-    let count = mark_count words in
-    after_marks (take count words) (2 + count) (drop count words) (receipt / 1440 - 3)
-
-abbrev pub too_long : BadReport
-too_long = record { group = 0; why = TooLong }
+    let count = modifier_count words in
+    after_modifiers (take count words) (2 + count) (drop count words) (receipt / 1440 - 3)
 
 -- the reading of a text, or why there is none
 unfoldable pub taf_of : List ℕ → ℕ → Result Taf BadReport
 taf_of text receipt = if nat_lt 2048 (length text) then Err too_long else reading (groups_of text) receipt
 
 -- The validity begins before it ends. Where there is no forecast both are the moment of issue.
-abbrev pub IsOrdered : TafState → ℕ → ℕ → Type 0
-IsOrdered Normal from to = from < to
-IsOrdered Cancelled from to = from < to
-IsOrdered Nil from to = from ≡ to
+abbrev pub IsOrdered : TafState → ℕ → ℕ → ℕ → Type 0
+IsOrdered Normal issued from to = from < to
+IsOrdered Cancelled issued from to = from < to
+IsOrdered Nil issued from to = (from ≡ issued) × (to ≡ issued)
 
 -- the moments of a forecast, and of its parts
 pub record IsInReach (taf : Taf) : Type 0 where
   pub issued : IsMoment taf.issued
   pub from : IsMoment taf.from
   pub to : IsMoment taf.to
-  pub order : IsOrdered taf.state taf.from taf.to
+  pub order : IsOrdered taf.state taf.issued taf.from taf.to
   pub parts : All HasMoments taf.parts
+
+-- the parts of a forecast: none where there is none or it is cancelled, and else a base and changes
+abbrev pub AreParts : TafState → ℕ → ℕ → List Part → Type 0
+AreParts Normal from to parts = HasBase from to parts
+AreParts Cancelled from to parts = parts ≡ []
+AreParts Nil from to parts = parts ≡ []

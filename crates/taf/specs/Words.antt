@@ -14,8 +14,8 @@ is_amended g = bytes_eq g (codes "AMD")
 abbrev pub is_corrected : List ℕ → Bool
 is_corrected g = bytes_eq g (codes "COR")
 
-abbrev pub is_mark : List ℕ → Bool
-is_mark g = is_amended g || is_corrected g
+abbrev pub is_modifier : List ℕ → Bool
+is_modifier g = is_amended g || is_corrected g
 
 -- NIL: there is no forecast
 abbrev pub is_nil : List ℕ → Bool

@@ -30,8 +30,8 @@ pub(crate) fn is_corrected(group: &[u8]) -> bool
     group == b"COR".as_slice()
 }
 
-pub(crate) fn is_mark(group: &[u8]) -> bool
-    ensures { result ≡ spec.is_mark group.now }
+pub(crate) fn is_modifier(group: &[u8]) -> bool
+    ensures { result ≡ spec.is_modifier group.now }
 {
     is_amended(group) || is_corrected(group)
 }

@@ -7,7 +7,4 @@ mod parts;
 mod reader;
 
 pub use forecast::{Part, PartKind, Parts, Taf, TafState};
-pub use reader::read_taf;
-
-#[cfg(test)]
-mod tests;
+pub use reader::{read_taf, taf_in};

@@ -1,12 +1,13 @@
 ghost use Rattle.std.specs.Prelude.{◌≡◌, ◌≤◌, ◌<◌, ◌+◌, ◌^◌, [], drop, length, All, IfOk};
-ghost use Rattle.codes.specs.Period.{numbered};
 ghost use Rattle.taf.specs.Parts as spec;
-ghost use Rattle.taf.specs.Parts.{Answers, IsMoment, HasMoments, onto};
+ghost use Rattle.codes.specs.Answers.{Answers};
+ghost use Rattle.taf.specs.Parts.{IsMoment, HasMoments, onto};
 
 use crate::change::{Change, change_after, change_of, is_remarks, is_tempo};
 use crate::forecast::{Part, PartKind, Parts};
-use codes::{BadReport, Form, ReportFault, Why, cond_in, end_of, first_of, period_in};
-use desk_io::Text;
+use codes::{
+    BadReport, Form, Group, ReportFault, Why, cond_in, end_of, first_of, numbered, period_in,
+};
 use desk_time::Minute;
 
 fn ends_stretch(group: &[u8]) -> bool
@@ -16,7 +17,7 @@ fn ends_stretch(group: &[u8]) -> bool
 }
 
 // The groups up to the next change word, to the remarks or to the end.
-fn stretch(groups: &[Text]) -> &[Text]
+fn stretch<'a, 'b>(groups: &'b [Group<'a>]) -> &'b [Group<'a>]
     ensures value { result.now ≡ spec.stretch groups.now }
     ensures within { length result.now ≤ length groups.now }
 {
@@ -34,7 +35,7 @@ pub(crate) fn part_of(
     from: Minute,
     to: Minute,
     number: u32,
-    groups: &[Text],
+    groups: &[Group<'_>],
 ) -> Result<Part, BadReport>
     requires count { number + length groups.now < 2 ^ 32 }
     requires from { IsMoment from }
@@ -52,7 +53,7 @@ pub(crate) fn part_of(
 }
 
 // All but the first group, where there is one.
-pub(crate) fn after_first(groups: &[Text]) -> &[Text]
+pub(crate) fn after_first<'a, 'b>(groups: &'b [Group<'a>]) -> &'b [Group<'a>]
     ensures value { result.now ≡ drop 1 groups.now }
     ensures within { length result.now ≤ length groups.now }
 {
@@ -65,7 +66,7 @@ pub(crate) fn after_first(groups: &[Text]) -> &[Text]
 fn part_during(
     kind: PartKind,
     number: u32,
-    groups: &[Text],
+    groups: &[Group<'_>],
     first_day: u64,
 ) -> Result<Part, BadReport>
     requires count { number + 1 + length groups.now < 2 ^ 32 }
@@ -78,19 +79,10 @@ fn part_during(
     part_of(kind, from, to, number + 1, after_first(groups))
 }
 
-pub(crate) fn numbered(number: u32, at: Result<Minute, Why>) -> Result<Minute, BadReport>
-    ensures { result ≡ numbered number at }
-{
-    match at {
-        Ok(moment) => Ok(moment),
-        Err(why) => Err(BadReport { group: number, why }),
-    }
-}
-
 fn part_from(
     digits: [u8; 6],
     number: u32,
-    groups: &[Text],
+    groups: &[Group<'_>],
     first_day: u64,
     until: Minute,
 ) -> Result<Part, BadReport>
@@ -105,7 +97,7 @@ fn part_from(
     part_of(PartKind::From, from, until, number + 1, groups)
 }
 
-fn part_likely(number: u32, groups: &[Text], first_day: u64) -> Result<Part, BadReport>
+fn part_likely(number: u32, groups: &[Group<'_>], first_day: u64) -> Result<Part, BadReport>
     requires count { number + 2 + length groups.now < 2 ^ 32 }
     requires low { 10_000 ≤ first_day }
     requires high { first_day ≤ 48_000 }
@@ -123,7 +115,7 @@ fn part_likely(number: u32, groups: &[Text], first_day: u64) -> Result<Part, Bad
 fn part_at(
     change: Change,
     number: u32,
-    after: &[Text],
+    after: &[Group<'_>],
     first_day: u64,
     until: Minute,
 ) -> Result<Part, BadReport>
@@ -150,7 +142,7 @@ fn and_change(
     mut parts: Parts,
     change: Option<Change>,
     number: u32,
-    after: &[Text],
+    after: &[Group<'_>],
     first_day: u64,
     until: Minute,
 ) -> Result<Parts, ReportFault>
@@ -174,7 +166,7 @@ fn and_change(
 pub(crate) fn with_parts(
     mut parts: Parts,
     number: u32,
-    groups: &[Text],
+    groups: &[Group<'_>],
     first_day: u64,
     until: Minute,
 ) -> Result<Parts, ReportFault>

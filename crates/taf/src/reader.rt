@@ -1,20 +1,21 @@
-ghost use Rattle.std.specs.Prelude.{◌≡◌, ◌≤◌, ◌<◌, ◌+◌, ◌-◌, ◌/◌, ◌^◌, [], drop, length, codes, IfOk, All};
+ghost use Rattle.std.specs.Prelude.{◌≡◌, ◌≤◌, ◌<◌, ◌+◌, ◌-◌, ◌/◌, ◌^◌, [], drop, length, codes, Ok, IfOk, All};
 ghost use Rattle.codes.specs.Groups.{groups_of};
 ghost use Rattle.codes.specs.Groups.{first_of as first_group};
-ghost use Rattle.taf.specs.Parts.{Answers, IsMoment, HasMoments};
+ghost use Rattle.codes.specs.Answers.{Answers};
+ghost use Rattle.taf.specs.Parts.{IsMoment, HasMoments};
+ghost use Rattle.taf.specs.Forecast.{ReadsTaf};
 ghost use Rattle.taf.specs.Reading as spec;
-ghost use Rattle.taf.specs.Reading.{reading, taf_of, IsInReach};
+ghost use Rattle.taf.specs.Reading.{reading, taf_of, IsInReach, AreParts};
 
-use crate::change::{is_amended, is_cancelled, is_corrected, is_mark, is_nil};
+use crate::change::{is_amended, is_cancelled, is_corrected, is_modifier, is_nil};
 use crate::forecast::{PartKind, Parts, Taf, TafState};
-use crate::parts::{after_first, numbered, part_of, with_parts};
-use codes::{BadReport, Groups, ReportFault, Station, Why, first_of, period_in, time_of};
-use desk_io::Text;
+use crate::parts::{after_first, part_of, with_parts};
+use codes::{
+    BadReport, Group, Groups, REPORT_LIMIT, ReportFault, Station, TOO_LONG, Why, first_of,
+    numbered, period_in, time_of,
+};
 use desk_time::{FIRST, LAST, Minute};
 use std::alloc::Global;
-
-/// The most bytes that the text of a forecast may have.
-const TEXT_LIMIT: usize = 2048;
 
 // What stands before the validity.
 #[derive(Clone, Copy)]
@@ -25,7 +26,7 @@ struct Head {
     corrected: bool,
 }
 
-fn station_due(number: u32, groups: &[Text]) -> Result<Station, BadReport>
+fn station_due(number: u32, groups: &[Group<'_>]) -> Result<Station, BadReport>
     ensures { result ≡ spec.station_due number groups.now }
 {
     let [group, ..] = groups else {
@@ -43,7 +44,7 @@ fn station_due(number: u32, groups: &[Text]) -> Result<Station, BadReport>
     }
 }
 
-fn time_due(number: u32, groups: &[Text], first_day: u64) -> Result<Minute, BadReport>
+fn time_due(number: u32, groups: &[Group<'_>], first_day: u64) -> Result<Minute, BadReport>
     requires low { 10_000 ≤ first_day }
     requires high { first_day ≤ 48_000 }
     ensures value { result ≡ spec.time_due number groups.now first_day }
@@ -58,8 +59,8 @@ fn time_due(number: u32, groups: &[Text], first_day: u64) -> Result<Minute, BadR
     numbered(number, time_of(group.bytes(), first_day))
 }
 
-fn forecast(head: Head, state: TafState, from: Minute, to: Minute, parts: Parts) -> Taf
-    ensures { result ≡ spec.forecast head state from to parts }
+fn forecast(head: &Head, state: TafState, from: Minute, to: Minute, parts: Parts) -> Taf
+    ensures { result ≡ spec.forecast head.now state from to parts }
 {
     Taf {
         station: head.station,
@@ -76,18 +77,18 @@ fn forecast(head: Head, state: TafState, from: Minute, to: Minute, parts: Parts)
 // The forecast whose base begins at that number.
 fn normal(
     alloc: Global,
-    head: Head,
+    head: &Head,
     from: Minute,
     to: Minute,
     number: u32,
-    groups: &[Text],
+    groups: &[Group<'_>],
 ) -> Result<Taf, ReportFault>
     requires count { number + 3 + length groups.now < 2 ^ 32 }
-    requires issued { IsMoment head.issued }
+    requires issued { IsMoment head.now.issued }
     requires from { IsMoment from }
     requires to { IsMoment to }
     requires order { from < to }
-    ensures value { Answers result (spec.with_parts head from to number groups.now) }
+    ensures value { Answers result (spec.with_parts head.now from to number groups.now) }
     ensures range { IfOk result IsInReach }
 {
     let mut parts = Parts::new(alloc);
@@ -98,18 +99,18 @@ fn normal(
 
 fn after_validity(
     alloc: Global,
-    head: Head,
+    head: &Head,
     from: Minute,
     to: Minute,
     number: u32,
-    groups: &[Text],
+    groups: &[Group<'_>],
 ) -> Result<Taf, ReportFault>
     requires count { number + 3 + length groups.now < 2 ^ 32 }
-    requires issued { IsMoment head.issued }
+    requires issued { IsMoment head.now.issued }
     requires from { IsMoment from }
     requires to { IsMoment to }
     requires order { from < to }
-    ensures value { Answers result (spec.after_validity head from to number groups.now) }
+    ensures value { Answers result (spec.after_validity head.now from to number groups.now) }
     ensures range { IfOk result IsInReach }
 {
     if is_cancelled(first_of(groups)) {
@@ -118,10 +119,15 @@ fn after_validity(
     normal(alloc, head, from, to, number, groups)
 }
 
-fn after_time(alloc: Global, head: Head, number: u32, groups: &[Text]) -> Result<Taf, ReportFault>
+fn after_time(
+    alloc: Global,
+    head: &Head,
+    number: u32,
+    groups: &[Group<'_>],
+) -> Result<Taf, ReportFault>
     requires count { number + 4 + length groups.now < 2 ^ 32 }
-    requires issued { IsMoment head.issued }
-    ensures value { Answers result (spec.after_time head number groups.now) }
+    requires issued { IsMoment head.now.issued }
+    ensures value { Answers result (spec.after_time head.now number groups.now) }
     ensures range { IfOk result IsInReach }
 {
     if is_nil(first_of(groups)) {
@@ -137,57 +143,85 @@ fn after_time(alloc: Global, head: Head, number: u32, groups: &[Text]) -> Result
     after_validity(alloc, head, from, to, number + 1, after_first(groups))
 }
 
-fn are_amended(marks: &[Text]) -> bool
-    ensures { result ≡ spec.are_amended marks.now }
+fn are_amended(modifiers: &[Group<'_>]) -> bool
+    ensures { result ≡ spec.are_amended modifiers.now }
 {
-    marks.iter().any(|mark| is_amended(mark.bytes()))
+    modifiers
+        .iter()
+        .any(|modifier| is_amended(modifier.bytes()))
 }
 
-fn are_corrected(marks: &[Text]) -> bool
-    ensures { result ≡ spec.are_corrected marks.now }
+fn are_corrected(modifiers: &[Group<'_>]) -> bool
+    ensures { result ≡ spec.are_corrected modifiers.now }
 {
-    marks.iter().any(|mark| is_corrected(mark.bytes()))
+    modifiers
+        .iter()
+        .any(|modifier| is_corrected(modifier.bytes()))
 }
 
-fn head_of(marks: &[Text], station: Station, issued: Minute) -> Head
-    ensures { result ≡ spec.head_of marks.now station issued }
+fn head_of(modifiers: &[Group<'_>], station: Station, issued: Minute) -> Head
+    ensures { result ≡ spec.head_of modifiers.now station issued }
 {
     Head {
         station,
         issued,
-        amended: are_amended(marks),
-        corrected: are_corrected(marks),
+        amended: are_amended(modifiers),
+        corrected: are_corrected(modifiers),
     }
 }
 
-// The forecast of what follows the words in front, from that number on.
-fn after_marks(
+// The forecast of what follows the station, from that number on.
+fn after_station(
     alloc: Global,
-    marks: &[Text],
+    modifiers: &[Group<'_>],
+    station: Station,
     number: u32,
-    groups: &[Text],
+    groups: &[Group<'_>],
+    first_day: u64,
+) -> Result<Taf, ReportFault>
+    requires count { number + 5 + length groups.now < 2 ^ 32 }
+    requires low { 10_000 ≤ first_day }
+    requires high { first_day ≤ 48_000 }
+    ensures value { Answers result (spec.after_station modifiers.now station number groups.now first_day) }
+    ensures range { IfOk result IsInReach }
+{
+    let issued = time_due(number, groups, first_day)?;
+    let head = head_of(modifiers, station, issued);
+    after_time(alloc, &head, number + 1, after_first(groups))
+}
+
+// The forecast of what follows the words in front, from that number on.
+fn after_modifiers(
+    alloc: Global,
+    modifiers: &[Group<'_>],
+    number: u32,
+    groups: &[Group<'_>],
     first_day: u64,
 ) -> Result<Taf, ReportFault>
     requires count { number + 6 + length groups.now < 2 ^ 32 }
     requires low { 10_000 ≤ first_day }
     requires high { first_day ≤ 48_000 }
-    ensures value { Answers result (spec.after_marks marks.now number groups.now first_day) }
+    ensures value { Answers result (spec.after_modifiers modifiers.now number groups.now first_day) }
     ensures range { IfOk result IsInReach }
 {
     let station = station_due(number, groups)?;
-    let after_station = after_first(groups);
-    let issued = time_due(number + 1, after_station, first_day)?;
-    let head = head_of(marks, station, issued);
-    after_time(alloc, head, number + 2, after_first(after_station))
+    after_station(
+        alloc,
+        modifiers,
+        station,
+        number + 1,
+        after_first(groups),
+        first_day,
+    )
 }
 
 // How many of the words AMD and COR stand in front.
-fn mark_count(groups: &[Text]) -> usize
-    ensures value { result ≡ spec.mark_count groups.now }
+fn modifier_count(groups: &[Group<'_>]) -> usize
+    ensures value { result ≡ spec.modifier_count groups.now }
     ensures within { result ≤ length groups.now }
 {
     for (i, group) in groups.iter().enumerate() {
-        if !is_mark(group.bytes()) {
+        if !is_modifier(group.bytes()) {
             return i;
         }
     }
@@ -195,7 +229,7 @@ fn mark_count(groups: &[Text]) -> usize
 }
 
 #[tactic(auto, unfolding(crate::specs::Reading::reading))]
-fn reading(alloc: Global, groups: &[Text], receipt: Minute) -> Result<Taf, ReportFault>
+fn reading_in(alloc: Global, groups: &[Group<'_>], receipt: Minute) -> Result<Taf, ReportFault>
     requires count { length groups.now ≤ 2049 }
     requires low { FIRST ≤ receipt }
     requires high { receipt ≤ LAST }
@@ -203,14 +237,28 @@ fn reading(alloc: Global, groups: &[Text], receipt: Minute) -> Result<Taf, Repor
     ensures range { IfOk result IsInReach }
 {
     let words = after_first(groups);
-    let count = mark_count(words);
-    after_marks(
+    let count = modifier_count(words);
+    after_modifiers(
         alloc,
         &words[..count],
         2 + count as u32,
         &words[count..],
         receipt / 1440 - 3,
     )
+}
+
+/// What the groups of a TAF say that was received at that moment, as `read_taf` reads its text.
+pub fn taf_in(alloc: Global, groups: &[Group<'_>], receipt: Minute) -> Result<Taf, ReportFault>
+    requires count { length groups.now ≤ 2049 }
+    requires low { FIRST ≤ receipt }
+    requires high { receipt ≤ LAST }
+    ensures value { Answers result (reading groups.now receipt) }
+    ensures range { IfOk result IsInReach }
+    ensures parts { IfOk result (λ taf. AreParts taf.state taf.from taf.to taf.parts) }
+    ensures report { first_group groups.now ≡ codes "TAF" → IfOk result (ReadsTaf groups.now receipt) }
+    ensures read { (taf : Taf) → ReadsTaf groups.now receipt taf → Answers result (Ok taf) }
+{
+    reading_in(alloc, groups, receipt)
 }
 
 /// The reading of the text of a TAF that was received at that moment. Its first group is `TAF`. A day
@@ -225,13 +273,13 @@ pub fn read_taf(alloc: Global, text: &[u8], receipt: Minute) -> Result<Taf, Repo
     requires high { receipt ≤ LAST }
     ensures value { Answers result (taf_of text.now receipt) }
     ensures range { IfOk result IsInReach }
+    ensures parts { IfOk result (λ taf. AreParts taf.state taf.from taf.to taf.parts) }
+    ensures report { IfOk result (ReadsTaf (groups_of text.now) receipt) }
+    ensures read { length text.now ≤ 2_048 → (taf : Taf) → ReadsTaf (groups_of text.now) receipt taf → Answers result (Ok taf) }
 {
-    if text.len() > TEXT_LIMIT {
-        return Err(ReportFault::Bad(BadReport {
-            group: 0,
-            why: Why::TooLong,
-        }));
+    if text.len() > REPORT_LIMIT {
+        return Err(ReportFault::Bad(TOO_LONG));
     }
     let groups = Groups::of(alloc, text)?;
-    reading(alloc, groups.as_slice(), receipt)
+    taf_in(alloc, groups.as_slice(), receipt)
 }

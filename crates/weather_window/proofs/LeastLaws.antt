@@ -3,13 +3,8 @@ use Rattle.std.proofs.Common.{◌≡◌, ℕ, List, [], ◌∷◌, ◌++◌, Opt
 use Rattle.std.specs.Prelude.{option_to_list}
 use Rattle.desk_time.specs.Digits.{or_else}
 use Rattle.codes.specs.Cond.{lesser}
+use Rattle.codes.proofs.CondLaws.{lesser_assoc}
 use Rattle.weather_window.specs.Window.{least_of}
-
-pub lesser_assoc : (a b c : Option ℕ) → lesser a (lesser b c) ≡ lesser (lesser a b) c
-lesser_assoc None b c = refl
-lesser_assoc (Some x) None c = refl
-lesser_assoc (Some x) (Some y) None = refl
-lesser_assoc (Some x) (Some y) (Some z) = ap Some (omega arith)
 
 pub lesser_comm : (a b : Option ℕ) → lesser a b ≡ lesser b a
 lesser_comm None None = refl

@@ -1,3 +1,4 @@
 pub mod Values
 pub mod Window
+pub mod Changes
 pub mod Running

@@ -1,15 +1,13 @@
--- One pass over the parts of a forecast, and over the minutes of a window.
-use Rattle.std.specs.Prelude.{ℕ, ◌+◌, ◌||◌, min, if◌then◌else◌, List, [], ◌∷◌, map, Option, None, Some}
+-- One pass over the parts of a forecast, over points of change, and over the moments of a window.
+use Rattle.std.specs.Prelude.{ℕ, ◌||◌, min, if◌then◌else◌, List, [], ◌∷◌, Option, None, Some}
 use Rattle.desk_time.specs.Digits.{or_else}
 use Rattle.codes.specs.Cond.{lesser}
-use Rattle.metar.specs.declared.metar.Metar.{Metar}
 use Rattle.taf.specs.declared.forecast.Part.{Part}
-use Rattle.taf.specs.declared.forecast.Taf.{Taf}
 use Rattle.weather_window.specs.declared.parts.Role.{Role}
 use Rattle.weather_window.specs.declared.parts.Role.TheVariants.{Replaces, Lasts, Passes, Silent}
 use Rattle.weather_window.specs.declared.parts.Holding.{Holding}
 use Rattle.weather_window.specs.Values.{Element, has_replaced, has_become, is_changing, may_hold}
-use Rattle.weather_window.specs.Window.{value_at, minutes}
+use Rattle.weather_window.specs.Changes.{is_between}
 
 -- what a part does at a moment
 abbrev pub role_of : ℕ → Part → Role
@@ -51,12 +49,11 @@ worse None b = None
 worse (Some x) None = None
 worse (Some x) (Some y) = Some (min x y)
 
--- the worst of a value and some more
-abbrev pub worst_after : Option ℕ → List (Option ℕ) → Option ℕ
-worst_after value [] = value
-worst_after value (next ∷ later) = worst_after (worse value next) later
+-- the sooner of a moment found before and one more, where that is between the two
+abbrev pub sooner : ℕ → ℕ → Option ℕ → ℕ → Option ℕ
+sooner after to found m = if is_between after to m then lesser found (Some m) else found
 
--- the worst of every minute, the first of them by itself
-unfoldable pub worst_since : Element → Option Taf → Option Metar → ℕ → ℕ → ℕ → Option ℕ
-worst_since element taf metar hold from to =
-    worst_after (value_at element taf metar hold from) (map (value_at element taf metar hold) (minutes (from + 1) to))
+-- the soonest of a moment found before and some more
+abbrev pub soonest : ℕ → ℕ → Option ℕ → List ℕ → Option ℕ
+soonest after to found [] = found
+soonest after to found (m ∷ ms) = soonest after to (sooner after to found m) ms

@@ -2,10 +2,10 @@
 //! over a stretch of time.
 #![tactic(auto)]
 
+mod changes;
 mod parts;
+mod steps;
 mod window;
 
-pub use window::{at, worst};
-
-#[cfg(test)]
-mod tests;
+pub use steps::Steps;
+pub use window::{at, worst, worst_counted};

@@ -1,10 +1,9 @@
 ghost use Rattle.std.specs.Prelude.{◌≡◌, drop};
 ghost use Rattle.desk_time.specs.Digits.{or_else};
-ghost use Rattle.codes.specs.Cond.{lesser};
 ghost use Rattle.weather_window.specs.Running as spec;
 ghost use Rattle.weather_window.specs.Values.{Element, ceiling as ceiling_element, visibility};
 
-use codes::Cond;
+use codes::{Cond, lesser};
 use desk_time::Minute;
 use taf::{Part, PartKind};
 
@@ -43,26 +42,6 @@ fn role_of(part: &Part, minute: Minute) -> Role
     }
 }
 
-/// The lesser of two values, where both are there.
-pub(crate) fn lesser(a: Option<u32>, b: Option<u32>) -> Option<u32>
-    ensures { result ≡ lesser a b }
-{
-    match (a, b) {
-        (Some(x), Some(y)) => Some(x.min(y)),
-        (Some(_), None) => a,
-        (None, _) => b,
-    }
-}
-
-fn or_else(first: Option<u32>, second: Option<u32>) -> Option<u32>
-    ensures { result ≡ or_else first second }
-{
-    match first {
-        Some(_) => first,
-        None => second,
-    }
-}
-
 fn and_value(held: Holding, role: Role, value: Option<u32>) -> Holding
     ensures { result ≡ spec.and_value held role value }
 {
@@ -72,7 +51,7 @@ fn and_value(held: Holding, role: Role, value: Option<u32>) -> Holding
             passing: None,
         },
         Role::Lasts => Holding {
-            lasting: or_else(value, held.lasting),
+            lasting: value.or(held.lasting),
             passing: held.passing,
         },
         Role::Passes => Holding {

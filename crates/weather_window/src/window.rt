@@ -1,14 +1,18 @@
-ghost use Rattle.std.specs.Prelude.{◌≡◌, ◌≤◌, ◌+◌, ◌-◌, map};
+ghost use Rattle.std.specs.Prelude.{◌≡◌, ◌≤◌, ◌<◌, ◌+◌, ◌-◌, ◌*◌};
 ghost use Rattle.std.specs.Option.{option_copied};
-ghost use Rattle.std.specs.List.{range_with_len};
+ghost use Rattle.weather_window.specs.Changes.{part_count};
 ghost use Rattle.weather_window.specs.Running as spec;
 ghost use Rattle.weather_window.specs.Values.{ceiling as ceiling_element, visibility, is_normal, is_within, forecast_values, report_values};
-ghost use Rattle.weather_window.specs.Window.{least_of, value_at, cond_at, worst_cond};
+ghost use Rattle.weather_window.specs.Window.{least_of, value_at, cond_at, worst_value, worst_cond};
 
-use crate::parts::{lesser, parts_at};
-use codes::Cond;
+use crate::changes::next_change;
+use crate::parts::parts_at;
+use crate::steps::Steps;
+use codes::{Cond, lesser};
 use desk_time::{Minute, SHOWN_LAST};
 use metar::Metar;
+use std::marker::Brand;
+use std::sync::ledger::{Blank, Ledger};
 use taf::{Taf, TafState};
 
 fn is_normal(state: TafState) -> bool
@@ -85,27 +89,99 @@ fn worse(a: Option<u32>, b: Option<u32>) -> Option<u32>
     }
 }
 
-#[tactic(auto, using(crate::proofs::WindowLaws::worst_step), unfolding(crate::specs::Running::worst_since))]
-fn worst_from(taf: Option<&Taf>, metar: Option<&Metar>, hold: u32, from: Minute, to: Minute) -> Cond
+// One step: what controls at a moment.
+#[tactic(auto, unfolding(crate::specs::Window::cond_at))]
+fn counted_at<L: Ledger>(
+    taf: Option<&Taf>,
+    metar: Option<&Metar>,
+    hold: u32,
+    minute: Minute,
+    steps: &mut Steps<L>,
+) -> Cond
+    ensures ceiling { result.ceiling ≡ value_at ceiling_element (option_copied taf.entry) (option_copied metar.entry) hold minute }
+    ensures vis { result.vis ≡ value_at visibility (option_copied taf.entry) (option_copied metar.entry) hold minute }
+    ensures step { steps.new ≡ steps.old + 1 }
+{
+    steps.tick();
+    at(taf, metar, hold, minute)
+}
+
+fn worst_over<L: Ledger>(
+    taf: Option<&Taf>,
+    metar: Option<&Metar>,
+    hold: u32,
+    from: Minute,
+    to: Minute,
+    steps: &mut Steps<L>,
+) -> Cond
     requires order { from ≤ to }
     requires moments { to ≤ SHOWN_LAST }
-    ensures ceiling { result.ceiling ≡ spec.worst_since ceiling_element (option_copied taf.entry) (option_copied metar.entry) hold from to }
-    ensures vis { result.vis ≡ spec.worst_since visibility (option_copied taf.entry) (option_copied metar.entry) hold from to }
+    ensures ceiling { result.ceiling ≡ worst_value ceiling_element (option_copied taf.entry) (option_copied metar.entry) hold from to }
+    ensures vis { result.vis ≡ worst_value visibility (option_copied taf.entry) (option_copied metar.entry) hold from to }
+    ensures some { steps.old < steps.new }
+    ensures few { steps.new ≤ steps.old + (3 * part_count (option_copied taf.entry) + 5) }
 {
-    let mut worst = both_at(taf, metar, hold, from);
-    for minute in from + 1..to + 1 {
-        let next = both_at(taf, metar, hold, minute);
+    let mut worst = counted_at(taf, metar, hold, from, steps);
+    let mut seen = from;
+    while let Some(next) = next_change(taf, metar, hold, seen, to) {
+        let there = counted_at(taf, metar, hold, next, steps);
         worst = Cond {
-            ceiling: worse(worst.ceiling, next.ceiling),
-            vis: worse(worst.vis, next.vis),
+            ceiling: worse(worst.ceiling, there.ceiling),
+            vis: worse(worst.vis, there.vis),
         };
+        seen = next;
     }
     worst
 }
 
 /// The worst of `at` over every minute from the first to the last, for each element: unknown where one
 /// minute is unknown, and the least otherwise. It takes no memory.
-#[tactic(auto, using(crate::proofs::WindowLaws::worst_law), unfolding(crate::specs::Window::worst_cond))]
+///
+/// It calls `at` for the first minute and for each later one at which what is named can change. Each
+/// such call is one step, and there are at most three for each part of the forecast, and five more.
+#[tactic(auto, unfolding(crate::specs::Window::worst_cond))]
+pub fn worst_counted<L: Ledger>(
+    taf: Option<&Taf>,
+    metar: Option<&Metar>,
+    hold: u32,
+    from: Minute,
+    to: Minute,
+    steps: &mut Steps<L>,
+) -> Cond
+    requires hold { hold ≤ 1440 }
+    requires moments { to ≤ SHOWN_LAST }
+    requires order { from ≤ to }
+    requires span { to - from ≤ 1440 }
+    ensures worst { result ≡ worst_cond (option_copied taf.entry) (option_copied metar.entry) hold from to }
+    ensures some { steps.old < steps.new }
+    ensures few { steps.new ≤ steps.old + (3 * part_count (option_copied taf.entry) + 5) }
+{
+    worst_over(taf, metar, hold, from, to, steps)
+}
+
+fn worst_uncounted<L: Ledger>(
+    taf: Option<&Taf>,
+    metar: Option<&Metar>,
+    hold: u32,
+    from: Minute,
+    to: Minute,
+    blank: Blank,
+) -> Cond
+    requires hold { hold ≤ 1440 }
+    requires moments { to ≤ SHOWN_LAST }
+    requires order { from ≤ to }
+    requires span { to - from ≤ 1440 }
+    requires name { blank.name ≡ L.name }
+    requires parts { blank.parts ≡ L.parts }
+    requires one { blank.parts ≡ 1 }
+    ensures { result ≡ worst_cond (option_copied taf.entry) (option_copied metar.entry) hold from to }
+{
+    let mut steps = Steps::<L>::new(blank);
+    worst_counted(taf, metar, hold, from, to, &mut steps)
+}
+
+/// The worst of `at` over every minute from the first to the last, as `worst_counted` answers it, with
+/// its steps counted nowhere. It takes no memory.
 pub fn worst(taf: Option<&Taf>, metar: Option<&Metar>, hold: u32, from: Minute, to: Minute) -> Cond
     requires hold { hold ≤ 1440 }
     requires moments { to ≤ SHOWN_LAST }
@@ -113,5 +189,5 @@ pub fn worst(taf: Option<&Taf>, metar: Option<&Metar>, hold: u32, from: Minute, 
     requires span { to - from ≤ 1440 }
     ensures { result ≡ worst_cond (option_copied taf.entry) (option_copied metar.entry) hold from to }
 {
-    worst_from(taf, metar, hold, from, to)
+    worst_uncounted::<Brand>(taf, metar, hold, from, to, Blank::new(1))
 }

@@ -1,5 +1,5 @@
 use Rattle.std.proofs.Common.{◌≡◌, ◌++◌, take, drop}
-use Rattle.machine.specs.Step.{put}
+use Rattle.machine.specs.Events.{put}
 use Rattle.board.proofs.releases.place_of.Given as goal
 
 abbrev pub invariant-loop-i : goal.invariant-loop-i

@@ -1,11 +1,11 @@
 use Rattle.std.proofs.Common.{◌≡◌, ◌++◌, drop}
 use Rattle.std.specs.List.{AllByRecursion}
 use Rattle.machine.specs.Texts.{alert_lines}
-use Rattle.machine.specs.Sound.{IsOpen}
+use Rattle.alerts.specs.Alerts.{IsAlert}
 use Rattle.board.proofs.texts.push_alerts.Given as goal
 
 abbrev pub invariant-loop-alert : goal.invariant-loop-alert
 invariant-loop-alert l = record {
   lines : l.out.items ++ alert_lines (drop l.alert-index l.alerts) ≡ l.fn.out.items ++ alert_lines l.alerts;
-  rest : AllByRecursion (IsOpen l.most) (drop l.alert-index l.alerts);
+  rest : AllByRecursion (IsAlert l.most) (drop l.alert-index l.alerts);
 }

@@ -1,8 +1,12 @@
-use Rattle.std.proofs.Common.{◌≡◌, ◌++◌, map, drop}
-use Rattle.std.specs.List.{filter}
-use Rattle.desk_io.specs.Runs.{has_bytes}
+use Rattle.std.proofs.Common.{◌≡◌, ◌≤◌, ◌++◌, length}
+use Rattle.desk_io.specs.Runs.{runs_between}
 use Rattle.desk_io.proofs.runs.runs_between.Given as goal
 
-abbrev pub invariant-loop-piece : goal.invariant-loop-piece
-invariant-loop-piece l =
-    map (λ x. x.now) l.runs.items ++ filter has_bytes (map (λ x. x.now) (drop l.piece-index l.piece-items)) ≡ filter has_bytes (map (λ x. x.now) l.piece-items)
+abbrev pub invariant-loop-rest : goal.invariant-loop-rest
+invariant-loop-rest g l = record {
+  runs : l.runs.items ++ runs_between g.S.Separators.separators l.rest ≡ runs_between g.S.Separators.separators l.text;
+  within : length l.rest ≤ length l.text;
+}
+
+abbrev pub decreases-loop-rest : goal.decreases-loop-rest
+decreases-loop-rest g l = length l.rest

@@ -1,5 +1,6 @@
-use Rattle.board.proofs.Kept.{call_kept}
+use Rattle.std.proofs.Common.{refl}
+use Rattle.machine.proofs.AllowedLaws.{call_leads}
 use Rattle.board.proofs.state.Board.apply.Goals as goal
 
-pub invariant_of-self : goal.invariant_of-self
-invariant_of-self c = call_kept _ _ _ _ _ _ c.apply.ensures.state c.apply.ensures.err c.self.invariant c.requires
+pub returns-clause-own : goal.returns-clause-own
+returns-clause-own g c = call_leads c.args.self.now.state _ c.args.lane c.args.call.now refl

@@ -1,0 +1,9 @@
+use Rattle.board.proofs.Kept.{call_ready, call_reply}
+use Rattle.board.proofs.state.Board.prepare_change.Goals as goal
+
+pub invariant_of-self-2 : goal.invariant_of-self-2
+invariant_of-self-2 g c =
+    call_ready _ _ _ _ _ _ _ c.of.ensures c.in_ok-prepared.ensures.same c.self.invariant.0 c.requires c.in_ok-prepared.ensures.stepped c.in_ok-prepared.ensures.may
+
+pub returns-clause-shown : goal.returns-clause-shown
+returns-clause-shown g c = call_reply _ _ _ _ _ c.self.invariant.0 c.requires c.in_ok-prepared.ensures.stepped

@@ -1,0 +1,10 @@
+use Rattle.board.proofs.Kept.{tick_ready, tick_reply, later_than}
+use Rattle.board.proofs.state.Board.prepare_tick.Goals as goal
+
+pub invariant_of-self-2 : goal.invariant_of-self-2
+invariant_of-self-2 g c =
+    tick_ready _ _ _ _ _ _ _ c.of.ensures c.in_ok-prepared.ensures.same c.self.invariant.0 (later_than _ _ _ c.self.view_is c.requires.later) c.requires.within
+    c.in_ok-prepared.ensures.stepped c.in_ok-prepared.ensures.may
+
+pub returns-clause-shown : goal.returns-clause-shown
+returns-clause-shown g c = tick_reply _ _ _ _ c.in_ok-prepared.ensures.stepped

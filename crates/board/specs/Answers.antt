@@ -1,0 +1,20 @@
+-- What the tests of an ask answer.
+use Rattle.std.specs.Prelude.{◌≡◌, Option, None, Some, Result, Ok, Err}
+use Rattle.asks.specs.declared.reply.Refusal.{Refusal}
+use Rattle.board.specs.declared.chain.Stop.{Stop}
+use Rattle.board.specs.declared.chain.Stop.TheVariants as stop
+
+-- the value, the refusal, or want of memory
+abbrev pub Answers : {T A : Type 0} → (T → A) → Result T Stop → Result A Refusal → Type 0
+Answers f (Ok t) wanted = Ok (f t) ≡ wanted
+Answers f (Err (stop.Refused x)) wanted = Err x ≡ wanted
+Answers f (Err stop.OutOfMemory) wanted = Unit {0}
+
+-- the test passes, it refuses, or want of memory
+abbrev pub Passes : {T : Type 0} → Result T Stop → Option Refusal → Type 0
+Passes (Ok t) wanted = wanted ≡ None
+Passes (Err (stop.Refused x)) wanted = wanted ≡ Some x
+Passes (Err stop.OutOfMemory) wanted = Unit {0}
+
+abbrev pub IsWant : Stop → Type 0
+IsWant s = s ≡ stop.OutOfMemory

@@ -1,0 +1,50 @@
+ghost use Rattle.std.specs.Prelude.{◌≡◌, is_some};
+ghost use Rattle.std.specs.Option.{option_copied};
+
+use alerts::Notices;
+use asks::Reply;
+use machine::{AlertChange, Effect, Entry};
+
+/// What an event changes, once all memory is taken.
+#[derive(Drop)]
+pub struct Event {
+    /// What it changes before every active release is judged.
+    pub(crate) effect: Effect,
+    /// The alerts that change, in order of the releases.
+    pub(crate) changes: Vec<AlertChange>,
+    /// The entry of the history.
+    pub(crate) entered: Entry,
+}
+
+/// A step that only has to be put in place.
+#[derive(Drop)]
+pub struct Prepared {
+    pub(crate) reply: Option<Reply>,
+    pub(crate) notices: Notices,
+    pub(crate) event: Option<Event>,
+}
+
+/// What an installed step answers.
+#[derive(Debug, Drop)]
+pub struct Installed {
+    /// The reply: none for a tick that is allowed.
+    pub reply: Option<Reply>,
+    /// What is told of the alerts.
+    pub notices: Notices,
+}
+
+impl Prepared {
+    /// The reply: none for a tick that is allowed.
+    pub fn reply(&self) -> Option<&Reply>
+        ensures { option_copied result ≡ self.now.reply }
+    {
+        self.reply.as_ref()
+    }
+
+    /// Whether the step changes anything.
+    pub fn changed(&self) -> bool
+        ensures { result ≡ is_some self.now.event }
+    {
+        self.event.is_some()
+    }
+}

@@ -1,0 +1,211 @@
+use crate::fields::{is_written, items_at, number_at, small_number_at, text_at, truth_at};
+use crate::tables::{Files, NAMES, push_file, tables_of};
+use crate::written::{option_pair_text, pairs_text};
+use airport_minima::{alternate_pairs, flag_floor, landing};
+use codes::Station;
+use desk_io::{Listed, OutOfMemory, Text, push_all};
+use fuel::{Basis, required};
+use ops_tables::{Lost, Tables, TypeRow};
+use plan::{Alternate, Alternates, Leg};
+use serde_json::Value;
+use std::alloc::Global;
+use table_files::TableFault;
+
+// The first line of a text.
+fn header_of(text: &[u8]) -> &[u8] {
+    match text.iter().position(|byte| *byte == b'\n') {
+        Some(end) => &text[..end],
+        None => text,
+    }
+}
+
+// Adds the tables that a case gives.
+fn push_given(alloc: Global, files: &mut Files, tables: &Value) -> Result<(), OutOfMemory> {
+    for name in &NAMES {
+        if let Some(text) = text_at(tables, name) {
+            push_file(alloc, files, name, text.as_bytes())?;
+        }
+    }
+    Ok(())
+}
+
+// Adds an aircraft N1 of that type.
+fn push_tail(alloc: Global, files: &mut Files, kind: &str) -> Result<(), OutOfMemory> {
+    let mut text = Vec::new(alloc);
+    push_all(&mut text, &[b"tail,kind\nN1,", kind.as_bytes(), b"\n"])?;
+    push_file(alloc, files, "tails.csv", &text)
+}
+
+// Adds empty tables.
+fn push_empty(alloc: Global, files: &mut Files, small: &Files) -> Result<(), OutOfMemory> {
+    for (name, text) in small {
+        let header = Text::of(alloc, header_of(text.bytes()))?;
+        files.push((Text::of(alloc, name.bytes())?, header))?;
+    }
+    Ok(())
+}
+
+// The tables of a case, with an aircraft N1 of its type.
+fn tables_in(alloc: Global, case: &Value, small: &Files) -> Result<Option<Tables>, OutOfMemory> {
+    let Some(given) = case.get("tables") else {
+        return Ok(None);
+    };
+    let Some(kind) = text_at(case, "kind") else {
+        return Ok(None);
+    };
+    let mut files = Vec::new(alloc);
+    push_given(alloc, &mut files, given)?;
+    push_tail(alloc, &mut files, kind)?;
+    push_empty(alloc, &mut files, small)?;
+    match tables_of(alloc, files) {
+        Ok(tables) => Ok(Some(tables)),
+        Err(TableFault::OutOfMemory) => Err(OutOfMemory),
+        Err(_) => Ok(None),
+    }
+}
+
+fn lost_in(alloc: Global, case: &Value) -> Result<Lost, OutOfMemory> {
+    let mut lost = Listed::new(alloc);
+    for name in items_at(case, "lost") {
+        if let Some(name) = name.as_str() {
+            lost.push(Text::of(alloc, name.as_bytes())?)?;
+        }
+    }
+    Ok(lost)
+}
+
+fn station_at(case: &Value, key: &str) -> Option<Station> {
+    Station::read(text_at(case, key)?.as_bytes())
+}
+
+fn has_landing(
+    alloc: Global,
+    case: &Value,
+    tables: &Tables,
+    kind: &TypeRow,
+    station: Station,
+    lost: &Lost,
+) -> Result<bool, OutOfMemory> {
+    let pairs = landing(alloc, tables, kind, station, lost)?;
+    is_written(
+        alloc,
+        case,
+        "landing",
+        &pairs_text(alloc, pairs.as_slice())?,
+    )
+}
+
+fn has_alternates(
+    alloc: Global,
+    case: &Value,
+    tables: &Tables,
+    kind: &TypeRow,
+    station: Station,
+    lost: &Lost,
+) -> Result<bool, OutOfMemory> {
+    let pairs = alternate_pairs(alloc, tables, kind, station, lost)?;
+    is_written(
+        alloc,
+        case,
+        "alternate_pairs",
+        &pairs_text(alloc, pairs.as_slice())?,
+    )
+}
+
+fn has_minima(
+    alloc: Global,
+    case: &Value,
+    tables: &Tables,
+    station: Station,
+    lost: &Lost,
+) -> Result<bool, OutOfMemory> {
+    let Some(kind) = tables.type_of(b"N1") else {
+        return Ok(false);
+    };
+    let floor = option_pair_text(alloc, flag_floor(tables, kind, station, lost))?;
+    Ok(
+        has_landing(alloc, case, tables, kind, station, lost)?
+            && has_alternates(alloc, case, tables, kind, station, lost)?
+            && is_written(alloc, case, "flag_floor", &floor)?,
+    )
+}
+
+/// A case of `tables`, `kind`, `station`, `lost`, `landing`, `alternate_pairs` and `flag_floor`.
+pub fn minima(alloc: Global, case: &Value, small: &Files) -> Result<bool, OutOfMemory> {
+    let Some(station) = station_at(case, "station") else {
+        return Ok(false);
+    };
+    let Some(tables) = tables_in(alloc, case, small)? else {
+        return Ok(false);
+    };
+    let lost = lost_in(alloc, case)?;
+    has_minima(alloc, case, &tables, station, &lost)
+}
+
+fn basis_of(case: &Value) -> Option<Basis> {
+    let name = text_at(case, "basis")?;
+    if name == "Domestic" {
+        Some(Basis::Domestic)
+    } else if name == "Flag" {
+        Some(Basis::Flag)
+    } else if name == "NoAlternate" {
+        Some(Basis::NoAlternate)
+    } else {
+        None
+    }
+}
+
+fn alternate_of(value: &Value) -> Option<Alternate> {
+    Some(Alternate {
+        station: station_at(value, "station")?,
+        minutes: small_number_at(value, "minutes")?,
+        fuel: small_number_at(value, "fuel")?,
+    })
+}
+
+fn alternates_in(alloc: Global, case: &Value) -> Result<Alternates, OutOfMemory> {
+    let mut alternates = Listed::new(alloc);
+    for value in items_at(case, "alternates") {
+        if let Some(alternate) = alternate_of(value) {
+            alternates.push(alternate)?;
+        }
+    }
+    Ok(alternates)
+}
+
+// A leg with the fuel and the time of a case.
+fn leg_of(case: &Value, alternates: Alternates) -> Option<Leg> {
+    let station = Station::read(b"KJFK")?;
+    Some(Leg {
+        from: station,
+        to: station,
+        etd: 0,
+        eta: 0,
+        minutes: small_number_at(case, "minutes")?,
+        burn: small_number_at(case, "burn")?,
+        extra: small_number_at(case, "extra")?,
+        minimum: 0,
+        onboard: 0,
+        takeoff_alternate: None,
+        alternates,
+    })
+}
+
+fn fuel_of(case: &Value, leg: &Leg) -> Option<u64> {
+    let basis = basis_of(case)?;
+    let counted = truth_at(case, "counted")?;
+    let cruise = small_number_at(case, "cruise_pph")?;
+    let hold = small_number_at(case, "hold_pph")?;
+    let extra_fuel = number_at(case, "extra_fuel", 5_000_000_000)?;
+    Some(required(leg, basis, counted, cruise, hold, extra_fuel))
+}
+
+/// A case of `burn`, `extra`, `minutes`, `alternates`, `basis`, `counted`, `cruise_pph`, `hold_pph`,
+/// `extra_fuel` and `required`.
+pub fn fuel(alloc: Global, case: &Value) -> Result<bool, OutOfMemory> {
+    let Some(leg) = leg_of(case, alternates_in(alloc, case)?) else {
+        return Ok(false);
+    };
+    let fuel = fuel_of(case, &leg);
+    Ok(fuel.is_some() && fuel == number_at(case, "required", u64::MAX))
+}

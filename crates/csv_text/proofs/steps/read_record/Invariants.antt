@@ -1,0 +1,8 @@
+use Rattle.std.proofs.Common.{◌≡◌, [], drop}
+use Rattle.csv.specs.Machine.{next_record}
+use Rattle.csv.specs.Reading.{default_config}
+use Rattle.csv_text.specs.Steps.{state_of}
+use Rattle.csv_text.proofs.steps.read_record.Given as goal
+
+abbrev pub invariant-loop-i : goal.invariant-loop-i
+invariant-loop-i l = next_record default_config (state_of l.fn.start) [] [] l.text ≡ next_record default_config (state_of l.place) l.fields.items l.field.items (drop l.i l.text)

@@ -1,0 +1,15 @@
+-- What holds of items that are asked and of outcomes that are written.
+use Rattle.std.specs.Prelude.{◌≤◌, IfSome}
+use Rattle.asks.specs.Forms.{IsCall, ReplyHasMoment}
+use Rattle.machine.specs.declared.lanes.Item.{Item}
+use Rattle.machine.specs.declared.lanes.Item.TheVariants as item
+use Rattle.machine.specs.declared.lanes.Outcome.{Outcome}
+
+-- a call at a moment that can be shown
+abbrev pub IsItem : Item → Type 0
+IsItem item.Bad = Unit {0}
+IsItem (item.Call at call) = (at ≤ 68_374_079) × IsCall call.ask
+
+-- a reply that can be written
+abbrev pub IsShown : Outcome → Type 0
+IsShown o = IfSome o.reply ReplyHasMoment

@@ -1,0 +1,86 @@
+use crate::texts::{
+    ADMITTED, ADMITTED_SAID, AFTERNOON, AFTERNOON_SAID, FAILING, FAILING_SAID, FAULTY, FAULTY_SAID,
+    WEATHER, WEATHER_SAID,
+};
+use desk::desk_main;
+use desk_io::{MemoryShelf, MemorySink, OutOfMemory, Text, push_all};
+use std::alloc::Global;
+use std::test::Fail;
+
+// The words of a command, between blanks.
+fn words(alloc: Global, command: &str) -> Result<Vec<String>, OutOfMemory> {
+    let mut words = Vec::new(alloc);
+    for word in command.split(" ") {
+        if !word.is_empty() {
+            words.push(String::from_str(alloc, word)?)?;
+        }
+    }
+    Ok(words)
+}
+
+fn shelf(alloc: Global, script: &[u8]) -> Result<MemoryShelf, OutOfMemory> {
+    let mut sources = Vec::new(alloc);
+    sources.push((Text::of(alloc, b"script")?, Text::of(alloc, script)?))?;
+    Ok(MemoryShelf::new(sources, Vec::new(alloc)))
+}
+
+// Whether this is the status and the text of a command over one source, `script`.
+fn is_said(
+    alloc: Global,
+    command: &str,
+    script: &[u8],
+    status: u8,
+    text: &[u8],
+) -> Result<bool, OutOfMemory> {
+    let words = words(alloc, command)?;
+    let mut shelf = shelf(alloc, script)?;
+    let mut sink = MemorySink::new(alloc, Vec::new(alloc));
+    let ended = desk_main(alloc, &words, &mut shelf, &mut sink);
+    Ok(ended == status && sink.written() == text)
+}
+
+#[test]
+fn commands_are_answered(rt: HostRuntime) -> Result<(), Fail> {
+    let usage = b"error 2 Usage\n".as_slice();
+    let nowhere = b"error 3 ReadFault nowhere\n".as_slice();
+    let empty = b"BOARD 2000-01-01T00:00Z\nEND\n".as_slice();
+    for (command, script, status, text) in [
+        ("", b"".as_slice(), 2, usage),
+        ("run", b"", 2, usage),
+        ("run a b", b"", 2, usage),
+        ("--help", b"", 2, usage),
+        ("run nowhere", b"", 3, nowhere),
+        ("run script", b"", 0, empty),
+        ("weather script", WEATHER, 0, WEATHER_SAID),
+        ("run script", ADMITTED, 0, ADMITTED_SAID),
+        ("run script", FAULTY, 0, FAULTY_SAID),
+        ("run script", AFTERNOON, 0, AFTERNOON_SAID),
+        ("run script", FAILING, 0, FAILING_SAID),
+    ] {
+        assert!(rt;
+            is_said(rt.alloc(), command, script, status, text)?,
+            "{command}"
+        );
+    }
+    Ok(())
+}
+
+// A line that admits a text of so many letters.
+fn long_line(alloc: Global, count: usize) -> Result<Vec<u8>, OutOfMemory> {
+    let mut line = Vec::new(alloc);
+    let letters = vec![in alloc; b'A'; count]?;
+    let front = br#"{"actor":"F1","ask":{"do":"admit","text":""#.as_slice();
+    let back = br#""},"at":"2025-03-12T17:00Z","key":"kF1","number":1}"#.as_slice();
+    push_all(&mut line, &[front, &letters, back])?;
+    Ok(line)
+}
+
+#[test]
+fn long_reports_are_refused(rt: HostRuntime) -> Result<(), Fail> {
+    let alloc = rt.alloc();
+    let said =
+        b"{\"group\":0,\"refused\":5,\"what\":\"TooLong\",\"why\":\"BadReport\"}\nBOARD 2025-03-12T17:00Z\nEND\n";
+    let line = long_line(alloc, 2049)?;
+    assert!(rt; is_said(alloc, "run script", &line, 0, said)?);
+    Ok(())
+}

@@ -1,6 +1,0 @@
-use Rattle.std.proofs.Common.{◌≡◌, ◌++◌, map, drop}
-use Rattle.std.specs.List.{concat}
-use Rattle.desk_io.proofs.pieces.push_all.Given as goal
-
-abbrev pub invariant-loop-piece : goal.invariant-loop-piece
-invariant-loop-piece l = l.out.items ++ concat (map (λ x. x.now) (drop l.piece-index l.pieces)) ≡ l.fn.out.items ++ concat (map (λ x. x.now) l.pieces)

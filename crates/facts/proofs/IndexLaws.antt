@@ -1,0 +1,310 @@
+-- What the indexes say of the list of reports, and what one more report makes of them.
+use Rattle.std.proofs.Common.{◌≡◌, refl, sym, ap, ◌∙◌, subst, ℕ, zero, suc, ◌+◌, ◌<◌, ◌≤◌, Bool, true, false, ◌&&◌, cond, List, [], ◌∷◌, ◌++◌, length, drop, Option, Some, None, arith, length-append}
+use Rattle.std.specs.Prelude.{◌==◌, nat_lt}
+use Rattle.std.specs.declared.cmp.Ordering.{Ordering}
+use Rattle.std.specs.declared.cmp.Ordering.TheVariants.{Less, Equal, Greater}
+use Rattle.std.specs.Ordering.{nat_cmp, is_eq, ordering_then}
+use Rattle.std.specs.Cmp.{IsTotalOrder}
+use Rattle.std.specs.Cmp.Lexicographic.{slice_cmp}
+use Rattle.std.specs.Str.{bytes_eq}
+use Rattle.std.specs.List.{slice_get, find}
+use Rattle.std.specs.Option.{option_map, option_and_then, unwrap_or}
+use Rattle.std.specs.Map.{lookup, keys_of}
+use Rattle.std.specs.BTreeMap.{insert_entry, is_at}
+use Rattle.std.proofs.lemmas.Bool.{ltb-true, ltb-false, eqb-true}
+use Rattle.std.proofs.lemmas.Cmp.{nat_cmp_total, on_total, then_total, tied_itself, ranked}
+use Rattle.std.proofs.lemmas.Map.Text.{is_eq-slice_cmp}
+use Rattle.std.proofs.lemmas.Slice.Eq.{bytes_eq-Decides}
+use Rattle.codes.specs.Station.{Station}
+use Rattle.facts.specs.declared.index.Places.{Places}
+use Rattle.facts.specs.declared.latest.Kind.{Kind}
+use Rattle.facts.specs.declared.latest.Kind.TheVariants as kind
+use Rattle.facts.specs.declared.report.Read.{Read}
+use Rattle.facts.specs.declared.report.Read.TheVariants as read
+use Rattle.facts.specs.declared.report.Report.{Report}
+use Rattle.facts.specs.Same.{minute_of_report, station_of_report, is_same, same_id}
+use Rattle.facts.specs.Latest.{is_kind, where_of, later, latest}
+use Rattle.facts.specs.Lines.{with_station, stations_of}
+use Rattle.facts.specs.Index.{place_of, place_in, places_or, later_of, later_place, places_with, IsAtPlace, of_station, IsLatestIndex, fingerprint, key_of, key_cmp, first_from, IsFirstIndex, id_from}
+use Rattle.facts.proofs.StationLaws.{keys_with, stations_of_push}
+
+-- the latest of a station
+
+at_place : (kind : Kind) (station : Station) (rs : List Report) (o : Option ℕ) → IsAtPlace kind station rs o → option_and_then (slice_get rs) o ≡ latest kind station rs
+at_place kind station rs None is = sym is
+at_place kind station rs (Some place) is = is.1
+
+place_or : (kind : Kind) (o : Option Places) → place_of kind (places_or o) ≡ place_in kind o
+place_or kind.Observation None = refl
+place_or kind.Forecast None = refl
+place_or kind (Some p) = refl
+
+-- what stands at the place that an index gives
+pub stands_latest : (kind : Kind) (station : List ℕ) (entries : List (Station × Places)) (rs : List Report) → IsLatestIndex entries rs
+    → option_and_then (slice_get rs) (place_of kind (places_or (of_station entries station))) ≡ latest kind station rs
+stands_latest kind station entries rs is =
+    ap (option_and_then (slice_get rs)) (place_or kind (of_station entries station)) ∙ at_place kind station rs (place_in kind (of_station entries station)) (is.latest kind station)
+
+later_none : (o : Option Report) → later o None ≡ o
+later_none None = refl
+later_none (Some a) = refl
+
+later_two : (a b c : Report) (x y z : Bool) → nat_lt (minute_of_report b) (minute_of_report a) ≡ x → nat_lt (minute_of_report c) (minute_of_report b) ≡ y → nat_lt (minute_of_report c) (minute_of_report a) ≡ z
+    → later (Some a) (cond y (Some b) (Some c)) ≡ later (cond x (Some a) (Some b)) (Some c)
+later_two a b c true true true e f g = rw (e, g) refl
+later_two a b c true true false e f g = absurd (let x = ltb-true (minute_of_report b) (minute_of_report a) e in let y = ltb-true (minute_of_report c) (minute_of_report b) f in let z = ltb-false (minute_of_report c) (minute_of_report a) g in omega arith)
+later_two a b c true false z e f g = refl
+later_two a b c false true z e f g = rw (e, f) refl
+later_two a b c false false true e f g = absurd (let x = ltb-false (minute_of_report b) (minute_of_report a) e in let y = ltb-false (minute_of_report c) (minute_of_report b) f in let z = ltb-true (minute_of_report c) (minute_of_report a) g in omega arith)
+later_two a b c false false false e f g = rw (f, g) refl
+
+later_assoc : (a b c : Option Report) → later a (later b c) ≡ later (later a b) c
+later_assoc None b c = refl
+later_assoc (Some a) None c = refl
+later_assoc (Some a) (Some b) None = sym (later_none (later (Some a) (Some b)))
+later_assoc (Some a) (Some b) (Some c) =
+    later_two a b c (nat_lt (minute_of_report b) (minute_of_report a)) (nat_lt (minute_of_report c) (minute_of_report b)) (nat_lt (minute_of_report c) (minute_of_report a)) refl refl refl
+
+latest_push : (kind : Kind) (station : Station) (rs : List Report) (r : Report) → latest kind station (rs ++ r ∷ []) ≡ later (latest kind station rs) (where_of kind station r)
+latest_push kind station [] r = later_none (where_of kind station r)
+latest_push kind station (q ∷ rs) r =
+    ap (later (where_of kind station q)) (latest_push kind station rs r) ∙ later_assoc (where_of kind station q) (latest kind station rs) (where_of kind station r)
+
+get_front : (rs : List Report) (r : Report) (place : ℕ) → place < length rs → slice_get (rs ++ r ∷ []) place ≡ slice_get rs place
+get_front [] r place within = absurd (omega arith)
+get_front (q ∷ rs) r zero within = refl
+get_front (q ∷ rs) r (suc place) within = get_front rs r place (omega arith)
+
+get_last : (rs : List Report) (r : Report) → slice_get (rs ++ r ∷ []) (length rs) ≡ Some r
+get_last [] r = refl
+get_last (q ∷ rs) r = get_last rs r
+
+longer : (rs : List Report) (r : Report) → length (rs ++ r ∷ []) ≡ length rs + 1
+longer rs r = length-append rs (r ∷ [])
+
+-- a place stays where the latest stays
+stays : (kind : Kind) (station : Station) (rs : List Report) (r : Report) (o : Option ℕ) → where_of kind station r ≡ None → IsAtPlace kind station rs o → IsAtPlace kind station (rs ++ r ∷ []) o
+stays kind station rs r None other is = latest_push kind station rs r ∙ ap (later (latest kind station rs)) other ∙ later_none (latest kind station rs) ∙ is
+stays kind station rs r (Some place) other is = (
+  omega (arith, is.0, longer rs r),
+  get_front rs r place is.0 ∙ is.1 ∙ sym (latest_push kind station rs r ∙ ap (later (latest kind station rs)) other ∙ later_none (latest kind station rs)),
+)
+
+taken : (kind : Kind) (station : Station) (rs : List Report) (r a : Report) (held : ℕ) (b : Bool) → nat_lt (minute_of_report r) (minute_of_report a) ≡ b
+    → held < length rs → slice_get rs held ≡ Some a → latest kind station (rs ++ r ∷ []) ≡ cond b (Some a) (Some r) → IsAtPlace kind station (rs ++ r ∷ []) (Some (cond b held (length rs)))
+taken kind station rs r a held true e within at is = (omega (arith, within, longer rs r), get_front rs r held within ∙ at ∙ sym is)
+taken kind station rs r a held false e within at is = (omega (arith, longer rs r), get_last rs r ∙ sym is)
+
+held_or_last : (kind : Kind) (station : Station) (rs : List Report) (r : Report) (held : ℕ) (g : Option Report) → where_of kind station r ≡ Some r → slice_get rs held ≡ g → held < length rs → g ≡ latest kind station rs
+    → IsAtPlace kind station (rs ++ r ∷ []) (Some (later_of g held r (length rs)))
+held_or_last kind station rs r held None alike at within is =
+    (omega (arith, longer rs r), get_last rs r ∙ sym (latest_push kind station rs r ∙ ap (later (latest kind station rs)) alike ∙ ap (λ o. later o (Some r)) (sym is)))
+held_or_last kind station rs r held (Some a) alike at within is =
+    taken kind station rs r a held (nat_lt (minute_of_report r) (minute_of_report a)) refl within at
+    (latest_push kind station rs r ∙ ap (later (latest kind station rs)) alike ∙ ap (λ o. later o (Some r)) (sym is))
+
+-- one more of that kind and station
+takes : (kind : Kind) (station : Station) (rs : List Report) (r : Report) (o : Option ℕ) → where_of kind station r ≡ Some r → IsAtPlace kind station rs o
+    → IsAtPlace kind station (rs ++ r ∷ []) (Some (later_place rs o r (length rs)))
+takes kind station rs r None alike is =
+    (omega (arith, longer rs r), get_last rs r ∙ sym (latest_push kind station rs r ∙ ap (later (latest kind station rs)) alike ∙ ap (λ o. later o (Some r)) is))
+takes kind station rs r (Some held) alike is = held_or_last kind station rs r held (slice_get rs held) alike refl is.0 is.1
+
+where_is : (kind : Kind) (station : Station) (r : Report) (k b : Bool) → is_kind kind r.read ≡ k → bytes_eq (station_of_report r) station ≡ b → where_of kind station r ≡ cond (k && b) (Some r) None
+where_is kind station r k b e f = rw (e, f) refl
+
+with_report : (kind : Kind) (station : Station) (rs : List Report) (r : Report) (p : Places) (x : Read) → r.read ≡ x → bytes_eq (station_of_report r) station ≡ true
+    → IsAtPlace kind station rs (place_of kind p) → IsAtPlace kind station (rs ++ r ∷ []) (place_of kind (places_with rs p r x (length rs)))
+with_report kind.Observation station rs r p (read.Metar m) e same is =
+    takes kind.Observation station rs r p.observation (where_is kind.Observation station r true true (ap (is_kind kind.Observation) e) same) is
+with_report kind.Observation station rs r p (read.Taf t) e same is =
+    stays kind.Observation station rs r p.observation (where_is kind.Observation station r false true (ap (is_kind kind.Observation) e) same) is
+with_report kind.Forecast station rs r p (read.Metar m) e same is =
+    stays kind.Forecast station rs r p.forecast (where_is kind.Forecast station r false true (ap (is_kind kind.Forecast) e) same) is
+with_report kind.Forecast station rs r p (read.Taf t) e same is =
+    takes kind.Forecast station rs r p.forecast (where_is kind.Forecast station r true true (ap (is_kind kind.Forecast) e) same) is
+
+not_there : (kind : Kind) (station : Station) (r : Report) (k : Bool) → is_kind kind r.read ≡ k → bytes_eq (station_of_report r) station ≡ false → where_of kind station r ≡ None
+not_there kind station r true e f = where_is kind station r true false e f
+not_there kind station r false e f = where_is kind station r false false e f
+
+same_either_way : (q s : Station) (b : Bool) → bytes_eq q s ≡ b → bytes_eq s q ≡ b
+same_either_way q s true e = let same = (bytes_eq-Decides q s).0 e in subst (λ x. bytes_eq s x ≡ true) (sym same) (subst (λ x. bytes_eq x s ≡ true) same e)
+same_either_way q s false e = other (bytes_eq s q) refl
+  where
+    other : (c : Bool) → bytes_eq s q ≡ c → c ≡ false
+    other false f = refl
+    other true f = let same = (bytes_eq-Decides s q).0 f in absurd (let f' : bytes_eq q s ≡ true = subst (λ x. bytes_eq x s ≡ true) same (subst (λ x. bytes_eq s x ≡ true) (sym same) f) in cc)
+
+updated : (kind : Kind) (station : Station) (before after : List (Station × Places)) (rs : List Report) (r : Report) (b : Bool)
+    → bytes_eq station (station_of_report r) ≡ b → IsLatestIndex before rs
+    → of_station after station ≡ cond b (Some (places_with rs (places_or (of_station before (station_of_report r))) r r.read (length rs))) (of_station before station)
+    → IsAtPlace kind station (rs ++ r ∷ []) (place_in kind (of_station after station))
+updated kind station before after rs r true e is with_it =
+    let same = (bytes_eq-Decides station (station_of_report r)).0 e in
+    let was : IsAtPlace kind station rs (place_of kind (places_or (of_station before (station_of_report r)))) =
+    subst (λ s. IsAtPlace kind station rs (place_of kind (places_or (of_station before s)))) same
+    (subst (IsAtPlace kind station rs) (sym (place_or kind (of_station before station))) (is.latest kind station)) in
+    subst (λ o. IsAtPlace kind station (rs ++ r ∷ []) (place_in kind o)) (sym with_it)
+    (with_report kind station rs r (places_or (of_station before (station_of_report r))) r.read refl (same_either_way station (station_of_report r) true e) was)
+updated kind station before after rs r false e is with_it =
+    subst (λ o. IsAtPlace kind station (rs ++ r ∷ []) (place_in kind o)) (sym with_it)
+    (stays kind station rs r (place_in kind (of_station before station))
+    (not_there kind station r (is_kind kind r.read) refl (same_either_way station (station_of_report r) false e)) (is.latest kind station))
+
+-- the index with the places of one more report
+pub latest_with : (rs : List Report) (r : Report) (before after : List (Station × Places)) (places : Places) → IsLatestIndex before rs
+    → places ≡ places_with rs (places_or (of_station before (station_of_report r))) r r.read (length rs)
+    → after ≡ insert_entry (slice_cmp nat_cmp) before (station_of_report r) places
+    → ((q : List ℕ) → of_station after q ≡ cond (is_at (slice_cmp nat_cmp q) (station_of_report r)) (Some places) (of_station before q))
+    → IsLatestIndex after (rs ++ r ∷ [])
+latest_with rs r before after places is new put each = record {
+  stations = ap keys_of put ∙ keys_with (station_of_report r) places before ∙ ap (with_station (station_of_report r)) is.stations ∙ sym (stations_of_push rs r);
+  latest = λ kind station.
+      updated kind station before after rs r (bytes_eq station (station_of_report r)) refl is
+      (each station ∙ (λ i. cond (is_eq-slice_cmp station (station_of_report r) i) (Some (new i)) (of_station before station)));
+}
+
+-- the first of each key
+
+key_total : IsTotalOrder key_cmp
+key_total = then_total (on_total (λ (p : ℕ × ℕ). p.0) nat_cmp_total) (on_total (λ (p : ℕ × ℕ). p.1) nat_cmp_total)
+
+tied_numbers : (x y : ℕ) (o : Ordering) → o ≡ nat_cmp x y → is_eq o ≡ true → x ≡ y
+tied_numbers x y Less e h = absurd cc
+tied_numbers x y Equal e h = ranked x y Equal e
+tied_numbers x y Greater e h = absurd cc
+
+tied_first : (a b : Ordering) → is_eq (ordering_then a b) ≡ true → (is_eq a ≡ true) × (is_eq b ≡ true)
+tied_first Less b h = absurd cc
+tied_first Equal b h = (refl, h)
+tied_first Greater b h = absurd cc
+
+tied_keys : (x y : ℕ × ℕ) → is_at (key_cmp x) y ≡ true → x ≡ y
+tied_keys x y h =
+    let both = tied_first (nat_cmp x.0 y.0) (nat_cmp x.1 y.1) h in
+    λ i. (tied_numbers x.0 y.0 (nat_cmp x.0 y.0) refl both.0 i, tied_numbers x.1 y.1 (nat_cmp x.1 y.1) refl both.1 i)
+
+-- one more report has its key's first place where there was none
+first_push : (key : ℕ × ℕ) (place : ℕ) (rs : List Report) (r : Report)
+    → first_from key place (rs ++ r ∷ []) ≡ cond (is_at (key_cmp key) (key_of r)) (Some (unwrap_or (first_from key place rs) (place + length rs))) (first_from key place rs)
+first_push key place [] r = ap (λ n. cond (is_at (key_cmp key) (key_of r)) (Some n) None) (let e : place ≡ place + 0 = omega arith in e)
+first_push key place (q ∷ rs) r = by (is_at (key_cmp key) (key_of q)) (is_at (key_cmp key) (key_of r)) (first_push key (suc place) rs r)
+  where
+    by : (b c : Bool) → first_from key (suc place) (rs ++ r ∷ []) ≡ cond c (Some (unwrap_or (first_from key (suc place) rs) (suc place + length rs))) (first_from key (suc place) rs)
+        → cond b (Some place) (first_from key (suc place) (rs ++ r ∷ [])) ≡ cond c (Some (unwrap_or (cond b (Some place) (first_from key (suc place) rs)) (place + suc (length rs)))) (cond b (Some place) (first_from key (suc place) rs))
+    by true true rest = refl
+    by true false rest = refl
+    by false c rest = rest ∙ ap (λ n. cond c (Some (unwrap_or (first_from key (suc place) rs) n)) (first_from key (suc place) rs)) (let e : suc place + length rs ≡ place + suc (length rs) = omega arith in e)
+
+-- the index with one more report
+pub first_with : (rs : List Report) (r : Report) (before after : List ((ℕ × ℕ) × ℕ)) (first : ℕ) → IsFirstIndex before rs
+    → first ≡ unwrap_or (lookup (is_at (key_cmp (key_of r))) before) (length rs)
+    → ((q : ℕ × ℕ) → lookup (is_at (key_cmp q)) after ≡ cond (is_at (key_cmp q) (key_of r)) (Some first) (lookup (is_at (key_cmp q)) before))
+    → IsFirstIndex after (rs ++ r ∷ [])
+first_with rs r before after first is new each key =
+    by (is_at (key_cmp key) (key_of r)) refl
+    ∙ ap (λ n. cond (is_at (key_cmp key) (key_of r)) (Some (unwrap_or (first_from key 0 rs) n)) (first_from key 0 rs)) (let e : length rs ≡ 0 + length rs = omega arith in e)
+    ∙ sym (first_push key 0 rs r)
+  where
+    by : (b : Bool) → is_at (key_cmp key) (key_of r) ≡ b → lookup (is_at (key_cmp key)) after ≡ cond b (Some (unwrap_or (first_from key 0 rs) (length rs))) (first_from key 0 rs)
+    by true e =
+        let same = tied_keys key (key_of r) e in
+        each key ∙ ap (λ b. cond b (Some first) (lookup (is_at (key_cmp key)) before)) e
+        ∙ ap Some (new ∙ ap (λ o. unwrap_or o (length rs)) (is (key_of r) ∙ ap (λ m. first_from m 0 rs) (sym same)))
+    by false e = each key ∙ ap (λ b. cond b (Some first) (lookup (is_at (key_cmp key)) before)) e ∙ is key
+
+both_true : (a b : Bool) → a && b ≡ true → (a ≡ true) × (b ≡ true)
+both_true true true e = (refl, refl)
+both_true true false e = absurd cc
+both_true false b e = absurd cc
+
+same_key : (text : List ℕ) (minute : ℕ) (r : Report) → is_same text minute r ≡ true → is_at (key_cmp (minute, fingerprint text)) (key_of r) ≡ true
+same_key text minute r e =
+    let both = both_true (bytes_eq r.text text) (minute_of_report r == minute) e in
+    let text_is = (bytes_eq-Decides r.text text).0 both.0 in
+    let minute_is : minute_of_report r ≡ minute = eqb-true (minute_of_report r) minute both.1 in
+    let key : (minute, fingerprint text) ≡ key_of r = λ i. (sym minute_is i, fingerprint (sym text_is i)) in
+    subst (λ m. is_at (key_cmp (minute, fingerprint text)) m ≡ true) key (ap is_eq (tied_itself key_total (minute, fingerprint text)))
+
+other_key : (text : List ℕ) (minute : ℕ) (r : Report) (c : Bool) → is_same text minute r ≡ c → is_at (key_cmp (minute, fingerprint text)) (key_of r) ≡ false → c ≡ false
+other_key text minute r false e f = refl
+other_key text minute r true e f = absurd (let h = same_key text minute r e in cc)
+
+found_none : (text : List ℕ) (minute place : ℕ) (rs : List Report) → first_from (minute, fingerprint text) place rs ≡ None → find (is_same text minute) rs ≡ None
+found_none text minute place [] e = refl
+found_none text minute place (r ∷ rs) e = by (is_at (key_cmp (minute, fingerprint text)) (key_of r)) refl e (found_none text minute (suc place) rs)
+  where
+    by : (b : Bool) → is_at (key_cmp (minute, fingerprint text)) (key_of r) ≡ b → cond b (Some place) (first_from (minute, fingerprint text) (suc place) rs) ≡ None
+        → (first_from (minute, fingerprint text) (suc place) rs ≡ None → find (is_same text minute) rs ≡ None)
+        → cond (is_same text minute r) (Some r) (find (is_same text minute) rs) ≡ None
+    by true f e rest = absurd cc
+    by false f e rest = rw (other_key text minute r (is_same text minute r) refl f) (rest e)
+
+first_least : (key : ℕ × ℕ) (place at : ℕ) (rs : List Report) → first_from key place rs ≡ Some at → place ≤ at
+first_least key place at [] e = absurd cc
+first_least key place at (r ∷ rs) e = by (is_at (key_cmp key) (key_of r)) e (first_least key (suc place) at rs)
+  where
+    by : (b : Bool) → cond b (Some place) (first_from key (suc place) rs) ≡ Some at → (first_from key (suc place) rs ≡ Some at → suc place ≤ at) → place ≤ at
+    by true e rest = let same : place ≡ at = ap (λ o. unwrap_or o 0) e in omega arith
+    by false e rest = let more = rest e in omega arith
+
+found_some : (text : List ℕ) (minute place n : ℕ) (rs : List Report) → first_from (minute, fingerprint text) place rs ≡ Some (place + n) → find (is_same text minute) (drop n rs) ≡ find (is_same text minute) rs
+found_some text minute place zero rs e = refl
+found_some text minute place (suc n) [] e = absurd cc
+found_some text minute place (suc n) (r ∷ rs) e = by (is_at (key_cmp (minute, fingerprint text)) (key_of r)) refl e (found_some text minute (suc place) n rs)
+  where
+    by : (b : Bool) → is_at (key_cmp (minute, fingerprint text)) (key_of r) ≡ b → cond b (Some place) (first_from (minute, fingerprint text) (suc place) rs) ≡ Some (place + suc n)
+        → (first_from (minute, fingerprint text) (suc place) rs ≡ Some (suc place + n) → find (is_same text minute) (drop n rs) ≡ find (is_same text minute) rs)
+        → find (is_same text minute) (drop n rs) ≡ cond (is_same text minute r) (Some r) (find (is_same text minute) rs)
+    by true f e rest = absurd (let same : place ≡ place + suc n = ap (λ o. unwrap_or o 0) e in omega arith)
+    by false f e rest =
+        let there = rest (e ∙ ap Some (let g : place + suc n ≡ suc place + n = omega arith in g)) in
+        rw (other_key text minute r (is_same text minute r) refl f) there
+
+by_place : (rs : List Report) (text : List ℕ) (minute : ℕ) (o : Option ℕ) → first_from (minute, fingerprint text) 0 rs ≡ o → id_from rs text minute o ≡ same_id rs text minute
+unfolding same_id
+by_place rs text minute None e = sym (ap (option_map (λ r. r.id)) (found_none text minute 0 rs e))
+by_place rs text minute (Some at) e =
+    ap (option_map (λ r. r.id)) (found_some text minute 0 at rs (e ∙ ap Some (let g : at ≡ 0 + at = omega arith in g)))
+
+-- the number of the first same report, by the place that the index gives
+pub first_is_same : (entries : List ((ℕ × ℕ) × ℕ)) (rs : List Report) (text : List ℕ) (minute : ℕ) → IsFirstIndex entries rs
+    → id_from rs text minute (lookup (is_at (key_cmp (minute, fingerprint text))) entries) ≡ same_id rs text minute
+first_is_same entries rs text minute is = by_place rs text minute (lookup (is_at (key_cmp (minute, fingerprint text))) entries) (sym (is (minute, fingerprint text)))
+
+-- the indexes once a report is admitted
+
+pub latest_admitted : (rs seen : List Report) (r : Report) (before after : List (Station × Places)) (old places : Places) (key : List ℕ) (place : ℕ) → IsLatestIndex before rs
+    → key ≡ station_of_report r → seen ≡ rs → place ≡ length rs → old ≡ places_or (of_station before key) → places ≡ places_with seen old r r.read place
+    → after ≡ insert_entry (slice_cmp nat_cmp) before key places
+    → ((q : List ℕ) → of_station after q ≡ cond (is_at (slice_cmp nat_cmp q) key) (Some places) (of_station before q))
+    → IsLatestIndex after (rs ++ r ∷ [])
+latest_admitted rs seen r before after old places key place is named same last had new put each =
+    let had_there = had ∙ ap (λ s. places_or (of_station before s)) named in
+    latest_with rs r before after places is
+    (new ∙ (λ i. places_with (same i) (had_there i) r r.read (last i)))
+    (put ∙ ap (λ s. insert_entry (slice_cmp nat_cmp) before s places) named)
+    (λ q. each q ∙ ap (λ s. cond (is_at (slice_cmp nat_cmp q) s) (Some places) (of_station before q)) named)
+
+pub first_admitted : (rs : List Report) (r : Report) (before after : List ((ℕ × ℕ) × ℕ)) (had : Option ℕ) (key : ℕ × ℕ) (first place : ℕ) → IsFirstIndex before rs
+    → key ≡ key_of r → place ≡ length rs → had ≡ lookup (is_at (key_cmp key)) before → first ≡ unwrap_or had place
+    → ((q : ℕ × ℕ) → lookup (is_at (key_cmp q)) after ≡ cond (is_at (key_cmp q) key) (Some first) (lookup (is_at (key_cmp q)) before))
+    → IsFirstIndex after (rs ++ r ∷ [])
+first_admitted rs r before after had key first place is keyed last found new each =
+    let found_there = found ∙ ap (λ m. lookup (is_at (key_cmp m)) before) keyed in
+    first_with rs r before after first is
+    (new ∙ (λ i. unwrap_or (found_there i) (last i)))
+    (λ q. each q ∙ ap (λ m. cond (is_at (key_cmp q) m) (Some first) (lookup (is_at (key_cmp q)) before)) keyed)
+
+-- no reports, and no entries
+
+nothing_indexed : IsLatestIndex [] []
+unfolding stations_of
+nothing_indexed = record { stations = refl; latest = λ kind station. refl }
+
+pub none_latest : (entries : List (Station × Places)) (rs : List Report) → entries ≡ [] → rs ≡ [] → IsLatestIndex entries rs
+none_latest entries rs e f = subst (λ xs. IsLatestIndex xs rs) (sym e) (subst (IsLatestIndex []) (sym f) nothing_indexed)
+
+pub none_first : (entries : List ((ℕ × ℕ) × ℕ)) (rs : List Report) → entries ≡ [] → rs ≡ [] → IsFirstIndex entries rs
+none_first entries rs e f key = ap (lookup (is_at (key_cmp key))) e ∙ sym (ap (first_from key 0) f)

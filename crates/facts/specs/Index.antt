@@ -1,0 +1,94 @@
+-- Where the latest reports of each station stand, and the first report of each text and moment.
+use Rattle.std.specs.Prelude.{◌≡◌, ℕ, suc, ◌<◌, ◌+◌, ◌*◌, ◌%◌, ◌^◌, if◌then◌else◌, List, [], ◌∷◌, Option, None, Some, length, drop}
+use Rattle.std.specs.declared.cmp.Ordering.{Ordering}
+use Rattle.std.specs.Ordering.{nat_cmp, ordering_then}
+use Rattle.std.specs.Cmp.Lexicographic.{slice_cmp}
+use Rattle.std.specs.List.{slice_get, find}
+use Rattle.std.specs.Option.{option_map}
+use Rattle.std.specs.Map.{lookup, keys_of}
+use Rattle.std.specs.BTreeMap.{is_at}
+use Rattle.std.specs.Prelude.{nat_lt}
+use Rattle.codes.specs.Station.{Station}
+use Rattle.facts.specs.declared.index.Places.{Places}
+use Rattle.facts.specs.declared.latest.Kind.{Kind}
+use Rattle.facts.specs.declared.latest.Kind.TheVariants as kind
+use Rattle.facts.specs.declared.report.Read.{Read}
+use Rattle.facts.specs.declared.report.Read.TheVariants as read
+use Rattle.facts.specs.declared.report.Report.{Report}
+use Rattle.facts.specs.Same.{minute_of_report, is_same}
+use Rattle.facts.specs.Latest.{latest}
+use Rattle.facts.specs.Lines.{stations_of}
+
+-- of the two places that of a kind
+abbrev pub place_of : Kind → Places → Option ℕ
+place_of kind.Observation p = p.observation
+place_of kind.Forecast p = p.forecast
+
+abbrev pub place_in : Kind → Option Places → Option ℕ
+place_in kind None = None
+place_in kind (Some p) = place_of kind p
+
+abbrev pub no_places : Places
+no_places = record { observation = None; forecast = None }
+
+abbrev pub places_or : Option Places → Places
+places_or None = no_places
+places_or (Some p) = p
+
+-- of a report that may stand somewhere and of one more the place of the later, and of equal ones that of the second
+abbrev pub later_of : Option Report → ℕ → Report → ℕ → ℕ
+later_of None held r place = place
+later_of (Some a) held r place = if nat_lt (minute_of_report r) (minute_of_report a) then held else place
+
+abbrev pub later_place : List Report → Option ℕ → Report → ℕ → ℕ
+later_place rs None r place = place
+later_place rs (Some held) r place = later_of (slice_get rs held) held r place
+
+-- the places of the latest, with one more report at its place
+abbrev pub places_with : List Report → Places → Report → Read → ℕ → Places
+places_with rs p r (read.Metar metar) place = record { observation = Some (later_place rs p.observation r place); forecast = p.forecast }
+places_with rs p r (read.Taf taf) place = record { observation = p.observation; forecast = Some (later_place rs p.forecast r place) }
+
+-- what stands at a place is the latest, and there is none where there is no place
+abbrev pub IsAtPlace : Kind → Station → List Report → Option ℕ → Type 0
+IsAtPlace kind station rs None = latest kind station rs ≡ None
+IsAtPlace kind station rs (Some place) = (place < length rs) × (slice_get rs place ≡ latest kind station rs)
+
+-- the places of a station's latest reports
+abbrev pub of_station : List (Station × Places) → Station → Option Places
+of_station entries station = lookup (is_at (slice_cmp nat_cmp station)) entries
+
+-- The entries are those of the stations that have a report, with the places of the latest.
+pub record IsLatestIndex (entries : List (Station × Places)) (rs : List Report) : Type 0 where
+  pub stations : keys_of entries ≡ stations_of rs
+  pub latest : (kind : Kind) (station : List ℕ) → IsAtPlace kind station rs (place_in kind (of_station entries station))
+
+-- A number that texts seldom share: the value modulo 2^64 of their bytes as the digits of a number in a
+-- large base.
+abbrev pub fingerprint_from : ℕ → List ℕ → ℕ
+fingerprint_from n [] = n
+fingerprint_from n (b ∷ bs) = fingerprint_from (((n * 1099511628211) % 2 ^ 64 + b) % 2 ^ 64) bs
+
+unfoldable pub fingerprint : List ℕ → ℕ
+fingerprint text = fingerprint_from 1 text
+
+-- the moment and the fingerprint of a report's text
+abbrev pub key_of : Report → ℕ × ℕ
+key_of r = (minute_of_report r, fingerprint r.text)
+
+abbrev pub key_cmp : ℕ × ℕ → ℕ × ℕ → Ordering
+key_cmp x y = ordering_then (nat_cmp x.0 y.0) (nat_cmp x.1 y.1)
+
+-- the place of the first report of that key, where the first of all has that place
+abbrev pub first_from : ℕ × ℕ → ℕ → List Report → Option ℕ
+first_from key place [] = None
+first_from key place (r ∷ rs) = if is_at (key_cmp key) (key_of r) then Some place else first_from key (suc place) rs
+
+-- the first place of each key
+abbrev pub IsFirstIndex : List ((ℕ × ℕ) × ℕ) → List Report → Type 0
+IsFirstIndex entries rs = (key : ℕ × ℕ) → lookup (is_at (key_cmp key)) entries ≡ first_from key 0 rs
+
+-- the number of the first report of that text and moment from a place on
+abbrev pub id_from : List Report → List ℕ → ℕ → Option ℕ → Option ℕ
+id_from rs text minute None = None
+id_from rs text minute (Some place) = option_map (λ r. r.id) (find (is_same text minute) (drop place rs))

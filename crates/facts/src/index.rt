@@ -1,0 +1,115 @@
+ghost use Rattle.std.specs.Prelude.{◌≡◌, Some};
+ghost use Rattle.std.specs.Map.{lookup};
+ghost use Rattle.std.specs.BTreeMap.{is_at};
+ghost use Rattle.facts.specs.Index as spec;
+
+use crate::latest::Kind;
+use crate::report::{Read, Report};
+use crate::sorted::Sorted;
+use desk_time::Minute;
+
+/// Where the latest reports of a station stand among all reports.
+#[derive(Clone, Copy, Debug, Drop)]
+pub(crate) struct Places {
+    /// The latest METAR or SPECI.
+    pub(crate) observation: Option<usize>,
+    /// The latest TAF.
+    pub(crate) forecast: Option<usize>,
+}
+
+fn later_of(held: &Report, at: usize, report: &Report, place: usize) -> usize
+    ensures { result ≡ spec.later_of (Some held.now) at report.now place }
+{
+    if report.minute() < held.minute() {
+        at
+    } else {
+        place
+    }
+}
+
+fn later_place(reports: &[Report], held: Option<usize>, report: &Report, place: usize) -> usize
+    ensures { result ≡ spec.later_place reports.now held report.now place }
+{
+    let Some(at) = held else {
+        return place;
+    };
+    match reports.get(at) {
+        None => place,
+        Some(held) => later_of(held, at, report, place),
+    }
+}
+
+/// Of the two places that of the kind.
+pub(crate) fn place_of(kind: Kind, places: Places) -> Option<usize>
+    ensures { result ≡ spec.place_of kind places }
+{
+    match kind {
+        Kind::Observation => places.observation,
+        Kind::Forecast => places.forecast,
+    }
+}
+
+/// Those places, once that report stands at its place.
+pub(crate) fn places_with(
+    reports: &[Report],
+    places: Places,
+    report: &Report,
+    place: usize,
+) -> Places
+    ensures { result ≡ spec.places_with reports.now places report.now report.now.read place }
+{
+    match report.read {
+        Read::Metar(_) => Places {
+            observation: Some(later_place(reports, places.observation, report, place)),
+            forecast: places.forecast,
+        },
+        Read::Taf(_) => Places {
+            observation: places.observation,
+            forecast: Some(later_place(reports, places.forecast, report, place)),
+        },
+    }
+}
+
+/// The places of the latest reports of the station with those characters.
+pub(crate) fn places_at(stations: &Sorted<[u8; 4], Places>, station: [u8; 4]) -> Places
+    ensures { result ≡ spec.places_or (spec.of_station stations.now.entries station) }
+{
+    match stations.get(&station) {
+        Some(places) => *places,
+        None => Places {
+            observation: None,
+            forecast: None,
+        },
+    }
+}
+
+/// The place of the first report of that key.
+pub(crate) fn first_place(
+    firsts: &Sorted<(Minute, u64), usize>,
+    key: (Minute, u64),
+) -> Option<usize>
+    ensures { result ≡ lookup (is_at (spec.key_cmp key)) firsts.now.entries }
+{
+    firsts.get(&key).copied()
+}
+
+/// A number of a text that texts seldom share.
+#[tactic(auto, unfolding(crate::specs::Index::fingerprint))]
+pub(crate) fn fingerprint(text: &[u8]) -> u64
+    ensures { result ≡ spec.fingerprint text.now }
+{
+    let mut number: u64 = 1;
+    for byte in text {
+        number = number
+            .wrapping_mul(1_099_511_628_211)
+            .wrapping_add(*byte as u64);
+    }
+    number
+}
+
+/// The moment of a report and the fingerprint of its text.
+pub(crate) fn key_of(report: &Report) -> (Minute, u64)
+    ensures { result ≡ spec.key_of report.now }
+{
+    (report.minute(), fingerprint(report.text.bytes()))
+}

@@ -1,0 +1,142 @@
+ghost use Rattle.std.specs.Prelude.{◌≡◌, ◌<◌, All, IfOk, IsTrue};
+
+use crate::small::tables_of;
+use deferrals::{DEFERRAL_LIMIT, Deferral, Deferrals, due, limits_of};
+use desk_io::{Copied, LineFeeds, OutOfMemory, Text, push_all, runs_between};
+use desk_time::Minute;
+use ops_tables::Tables;
+use std::alloc::Global;
+use std::test::Fail;
+use table_files::TableFault;
+
+// 2025-03-10 00:00.
+const DAY: Minute = 29_026_080;
+
+const FOUND: Minute = DAY + 860;
+
+// A list of an item of each category, three of which limit the aircraft.
+fn tables(alloc: Global) -> Result<Tables, TableFault> {
+    tables_of(
+        alloc,
+        "mel.csv",
+        b"A320,34-1,B,0,,300,1,0\nA320,22-1,C,0,ILS,40,1,0\nA320,34-2,D,0,GPS,0,1,0\nA320,34-3,A,7,,0,1,0\n",
+    )
+}
+
+fn is_due(tables: &Tables, item: &[u8], end: Minute) -> bool {
+    match tables.item(b"A320", item) {
+        Some(row) => {
+            due(row, FOUND) == end && due(row, DAY) == end && due(row, DAY + 1439) == end
+        }
+        None => false,
+    }
+}
+
+#[test]
+fn days_count_from_the_day_after(rt: HostRuntime) -> Result<(), Fail> {
+    let tables = tables(rt.alloc())?;
+    for (item, end) in [
+        (b"34-3", DAY + 11_520),
+        (b"34-1", DAY + 5_760),
+        (b"22-1", DAY + 15_840),
+        (b"34-2", DAY + 174_240),
+    ] {
+        assert!(rt; is_due(&tables, item, end));
+    }
+    Ok(())
+}
+
+fn is_above(list: &[Deferral], id: u64) -> bool
+    ensures { IsTrue result → All (λ held. held.id < id) list.now }
+{
+    list.iter().all(|held| held.id < id)
+}
+
+fn deferral(alloc: Global, id: u64, tail: &[u8], item: &[u8]) -> Result<Deferral, OutOfMemory>
+    ensures { IfOk result (λ deferral. deferral.id ≡ id) }
+{
+    let deferral = Deferral {
+        id,
+        tail: Text::of(alloc, tail)?,
+        item: Text::of(alloc, item)?,
+        found: FOUND,
+    };
+    deferral.copy(alloc)
+}
+
+// Adds an item under the next number, if there is room in the list.
+fn add(alloc: Global, list: &mut Deferrals, tail: &[u8], item: &[u8]) -> Result<(), OutOfMemory> {
+    let count = list.as_slice().len();
+    let id = count as u64 + 1;
+    let deferral = deferral(alloc, id, tail, item)?;
+    if count < DEFERRAL_LIMIT && is_above(list.as_slice(), id) {
+        list.reserve()?;
+        list.add(deferral);
+    }
+    Ok(())
+}
+
+// Deferrals under the numbers 1, 2 and so on: a tail, a blank and an item in each line.
+fn deferred(alloc: Global, lines: &[u8]) -> Result<Deferrals, OutOfMemory> {
+    let mut list = Deferrals::new(alloc);
+    for line in &runs_between::<LineFeeds>(alloc, lines)? {
+        if let [tail @ .., b' ', a, b, c, d] = line.bytes() {
+            add(alloc, &mut list, tail, &[*a, *b, *c, *d])?;
+        }
+    }
+    Ok(list)
+}
+
+// The extra fuel of an aircraft's open items, and each lost capability after a blank.
+fn limits_text(
+    alloc: Global,
+    tables: &Tables,
+    lines: &[u8],
+    tail: &[u8],
+) -> Result<Text, OutOfMemory> {
+    let list = deferred(alloc, lines)?;
+    let limits = limits_of(alloc, &list, tail, tables)?;
+    let fuel = limits.extra_fuel.to_string(alloc)?;
+    let mut text = Vec::from_slice(alloc, fuel.as_bytes())?;
+    for name in limits.lost.as_slice() {
+        push_all(&mut text, &[b" ", name.bytes()])?;
+    }
+    Ok(Text::from_vec(text))
+}
+
+fn limits_are(
+    alloc: Global,
+    tables: &Tables,
+    tail: &[u8],
+    text: &[u8],
+) -> Result<bool, OutOfMemory> {
+    let lines = b"N801DK 34-2\nN801DK 34-1\nN901DK 34-1\nN801DK 22-1\nN801DK 22-1\nN801DK 99-9\n";
+    Ok(limits_text(alloc, tables, lines, tail)?.bytes() == text)
+}
+
+// Whether the first of two items is cleared once, and the second left.
+fn is_cleared(alloc: Global) -> Result<bool, OutOfMemory> {
+    let mut list = deferred(alloc, b"N801DK 34-1\nN801DK 22-1\n")?;
+    let first = list.clear(1);
+    let again = list.clear(1);
+    Ok(
+        first
+            && !again
+            && matches!(list.as_slice(), [left] if left.item.bytes() == b"22-1".as_slice()),
+    )
+}
+
+#[test]
+fn open_deferrals_limit_their_aircraft(rt: HostRuntime) -> Result<(), Fail> {
+    let alloc = rt.alloc();
+    let tables = tables(alloc)?;
+    for (tail, text) in [
+        (b"N801DK", b"380 GPS ILS".as_slice()),
+        (b"N901DK", b"0"),
+        (b"N999DK", b"0"),
+    ] {
+        assert!(rt; limits_are(alloc, &tables, tail, text)?);
+    }
+    assert!(rt; is_cleared(alloc)?);
+    Ok(())
+}

@@ -1,0 +1,189 @@
+use crate::small::{lines_of, push_small, shelf_of};
+use codes::Station;
+use desk_io::{MemoryShelf, OutOfMemory, Shelf, Text, push_all};
+use ops_tables::Tables;
+use std::alloc::Global;
+use std::test::Fail;
+use table_files::{TableFault, TableWhy, read_tables};
+
+// The number and the reason of the first bad record, which has to be of the table with that name.
+fn bad_record(alloc: Global, shelf: &mut MemoryShelf, name: &str) -> Option<(u32, TableWhy)> {
+    let read = read_tables(alloc, shelf);
+    let Err(TableFault::Bad(bad)) = read else {
+        return None;
+    };
+    if bad.name.bytes() != name.as_bytes() {
+        return None;
+    }
+    Some((bad.line, bad.why))
+}
+
+// The same over the small tables, with other records under the header of that table.
+fn first_bad(
+    alloc: Global,
+    name: &str,
+    records: &[u8],
+) -> Result<Option<(u32, TableWhy)>, OutOfMemory> {
+    let mut shelf = shelf_of(alloc, name, records)?;
+    Ok(bad_record(alloc, &mut shelf, name))
+}
+
+// Adds records, each with its number between two texts.
+fn push_numbered(
+    alloc: Global,
+    out: &mut Vec<u8>,
+    before: &[u8],
+    from: u32,
+    to: u32,
+    after: &[u8],
+) -> Result<(), OutOfMemory> {
+    for number in from..to {
+        let digits = number.to_string(alloc)?;
+        push_all(out, &[before, digits.as_bytes(), after, b"\n"])?;
+    }
+    Ok(())
+}
+
+// Whether a table that goes on to that line goes over its limit there.
+fn is_over_limit(
+    alloc: Global,
+    name: &str,
+    before: &[u8],
+    after: &[u8],
+    line: u32,
+) -> Result<bool, OutOfMemory> {
+    let mut records = Vec::new(alloc);
+    push_numbered(alloc, &mut records, before, 1, line, after)?;
+    let bad = first_bad(alloc, name, &records)?;
+    Ok(bad == Some((line, TableWhy::OverLimit)))
+}
+
+#[test]
+fn no_table_goes_over_its_limit(rt: HostRuntime) -> Result<(), Fail> {
+    let alloc = rt.alloc();
+    let features = b",2,400,6000,5000,ILS GPS";
+    assert!(rt; is_over_limit(alloc, "types.csv", b"T", features, 202)?);
+    assert!(rt; is_over_limit(alloc, "tails.csv", b"N", b",A320", 5_002)?);
+    Ok(())
+}
+
+// 1,000 airports beside the small ones.
+fn push_airports(
+    alloc: Global,
+    out: &mut Vec<u8>,
+    before: &[u8],
+    after: &[u8],
+) -> Result<(), OutOfMemory> {
+    let mut name = Vec::from_slice(alloc, before)?;
+    name.push(b'K')?;
+    push_numbered(alloc, out, &name, 100, 600, after)?;
+    name.pop();
+    name.push(b'L')?;
+    push_numbered(alloc, out, &name, 100, 600, after)
+}
+
+// 200 types, those of the small airline and 198 more, may use 1,000 airports each.
+fn all_uses(alloc: Global) -> Result<Vec<u8>, OutOfMemory> {
+    let mut uses = Vec::from_slice(alloc, b"kind,station\n")?;
+    push_airports(alloc, &mut uses, b"A320,", b"")?;
+    push_airports(alloc, &mut uses, b"B763,", b"")?;
+    for number in 0..198 {
+        let mut kind = Vec::new(alloc);
+        let digits = number.to_string(alloc)?;
+        push_all(&mut kind, &[b"T", digits.as_bytes(), b","])?;
+        push_airports(alloc, &mut uses, &kind, b"")?;
+    }
+    Ok(uses)
+}
+
+fn large_shelf(alloc: Global) -> Result<MemoryShelf, OutOfMemory> {
+    let mut airports = Vec::from_slice(alloc, lines_of("airports.csv").as_bytes())?;
+    push_airports(alloc, &mut airports, b"", b",1,0")?;
+    let mut types = Vec::from_slice(alloc, lines_of("types.csv").as_bytes())?;
+    push_numbered(alloc, &mut types, b"T", 0, 198, b",2,400,6000,5000,ILS GPS")?;
+    let uses = all_uses(alloc)?;
+    let mut sources = Vec::new(alloc);
+    sources.push((Text::of(alloc, b"airports.csv")?, Text::from_vec(airports)))?;
+    sources.push((Text::of(alloc, b"types.csv")?, Text::from_vec(types)))?;
+    sources.push((Text::of(alloc, b"uses.csv")?, Text::from_vec(uses)))?;
+    push_small(alloc, &mut sources)?;
+    Ok(MemoryShelf::new(sources, Vec::new(alloc)))
+}
+
+fn is_used(tables: &Tables, kind: &[u8], name: &[u8]) -> bool {
+    match Station::read(name) {
+        Some(station) => tables.may_use(kind, station),
+        None => false,
+    }
+}
+
+// Whether the large tables are read and have their last row, and none beside.
+fn large_tables_are_read(alloc: Global) -> Result<bool, TableFault> {
+    let mut shelf = large_shelf(alloc)?;
+    let tables = read_tables(alloc, &mut shelf)?;
+    Ok(is_used(&tables, b"T197", b"L599") && !is_used(&tables, b"T197", b"KBOS"))
+}
+
+#[test]
+fn a_table_at_its_limit_is_read(rt: HostRuntime) {
+    assert!(rt; matches!(large_tables_are_read(rt.alloc()), Ok(true)));
+}
+
+fn is_fault(fault: &TableFault, letter: char, source: &[u8]) -> bool {
+    match fault {
+        TableFault::Bad(bad) => letter == 'B' && bad.name.bytes() == source,
+        TableFault::ReadFault(name) => letter == 'R' && name.bytes() == source,
+        TableFault::TooLong(name) => letter == 'L' && name.bytes() == source,
+        TableFault::OutOfMemory => false,
+    }
+}
+
+// Whether no tables are read, for a fault with that letter and source, and the shelf counts so many.
+fn has_fault(
+    alloc: Global,
+    shelf: &mut MemoryShelf,
+    letter: char,
+    source: &[u8],
+    count: u64,
+) -> bool {
+    match read_tables(alloc, shelf) {
+        Ok(_) => false,
+        Err(fault) => is_fault(&fault, letter, source) && shelf.faults() == count,
+    }
+}
+
+// A shelf that holds nothing but settings.
+fn settings_alone(alloc: Global, text: &[u8]) -> Result<MemoryShelf, OutOfMemory> {
+    let mut sources = Vec::new(alloc);
+    sources.push((Text::of(alloc, b"settings.csv")?, Text::of(alloc, text)?))?;
+    Ok(MemoryShelf::new(sources, Vec::new(alloc)))
+}
+
+// Whether settings alone have that fault.
+fn settings_fault(
+    alloc: Global,
+    text: &[u8],
+    letter: char,
+    source: &[u8],
+    count: u64,
+) -> Result<bool, OutOfMemory> {
+    let mut shelf = settings_alone(alloc, text)?;
+    Ok(has_fault(alloc, &mut shelf, letter, source, count))
+}
+
+fn long_settings_fault(alloc: Global) -> Result<bool, OutOfMemory> {
+    let long = vec![in alloc; b'x'; 67_108_865]?;
+    settings_fault(alloc, &long, 'L', b"settings.csv", 0)
+}
+
+// The second table is missing, and hides no bad record of the first.
+#[test]
+fn sources_that_cannot_be_read(rt: HostRuntime) -> Result<(), Fail> {
+    let alloc = rt.alloc();
+    assert!(rt; long_settings_fault(alloc)?);
+    let settings = lines_of("settings.csv").as_bytes();
+    assert!(rt; settings_fault(alloc, settings, 'R', b"airports.csv", 1)?);
+    let bad = b"name,value\nhold_minutes,x\n";
+    assert!(rt; settings_fault(alloc, bad, 'B', b"settings.csv", 0)?);
+    Ok(())
+}

@@ -1,0 +1,16 @@
+//! Tests of the airline's tables, deferred equipment, alternates and plans. The faults of each table,
+//! minima and fuel are tested by the cases of `call_vectors`.
+#![tactic(auto)]
+
+#[cfg(test)]
+mod deferred;
+#[cfg(test)]
+mod faults;
+#[cfg(test)]
+mod look_ups;
+#[cfg(test)]
+mod needs;
+#[cfg(test)]
+mod plans;
+#[cfg(test)]
+mod small;

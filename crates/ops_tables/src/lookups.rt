@@ -1,0 +1,98 @@
+ghost use Rattle.std.specs.Prelude.{◌≡◌, ◌≤◌, ◌&&◌, IfSome, find};
+ghost use Rattle.std.specs.List.{list_any};
+ghost use Rattle.std.specs.Option.{option_copied, option_map};
+ghost use Rattle.std.specs.Str.{bytes_eq};
+ghost use Rattle.ops_tables.specs.Limits.{FitsAirport, FitsType, FitsItem};
+ghost use Rattle.ops_tables.specs.Tables.{is_station, is_pair};
+
+use crate::grouped::{Grouped, group_name};
+use crate::search::{
+    actor_among, airport_among, is_paired, is_route, is_used, item_among, miles_among, tail_among,
+    type_among,
+};
+use crate::{Actor, Airport, Distance, ItemPair, MelRow, Route, Tail, TypeRow, Use};
+use codes::Station;
+
+/// The airport of a station.
+pub(crate) fn airport_in(rows: &Grouped<Airport, 4>, s: Station) -> Option<&Airport>
+    ensures value { option_copied result ≡ find (λ a. is_station a.station s) rows.now }
+    ensures within { IfSome result (λ a. FitsAirport a.now) }
+{
+    airport_among(rows.at(&s.bytes()), s)
+}
+
+/// The type of that name.
+pub(crate) fn type_in<'a>(rows: &'a Grouped<TypeRow, 48>, kind: &[u8]) -> Option<&'a TypeRow>
+    ensures value { option_copied result ≡ find (λ r. bytes_eq r.kind kind.now) rows.now }
+    ensures within { IfSome result (λ r. FitsType r.now) }
+{
+    type_among(rows.at(&group_name(kind, b"", b"")), kind)
+}
+
+/// The aircraft of that registration.
+pub(crate) fn tail_in<'a>(rows: &'a Grouped<Tail, 48>, tail: &[u8]) -> Option<&'a Tail>
+    ensures { option_copied result ≡ find (λ r. bytes_eq r.tail tail.now) rows.now }
+{
+    tail_among(rows.at(&group_name(tail, b"", b"")), tail)
+}
+
+/// Whether the type may use the airport.
+pub(crate) fn is_used_in(rows: &Grouped<Use, 48>, kind: &[u8], s: Station) -> bool
+    ensures { result ≡ list_any (λ u. bytes_eq u.kind kind.now && is_station u.station s) rows.now }
+{
+    is_used(rows.at(&group_name(kind, &s.bytes(), b"")), kind, s)
+}
+
+/// The miles from one airport to another.
+pub(crate) fn miles_in(rows: &Grouped<Distance, 48>, from: Station, to: Station) -> Option<u32>
+    ensures value { result ≡ option_map (λ d. d.miles) (find (λ d. is_station d.from from && is_station d.to to) rows.now) }
+    ensures within { IfSome result (λ miles. miles ≤ 20_000) }
+{
+    miles_among(
+        rows.at(&group_name(&from.bytes(), &to.bytes(), b"")),
+        from,
+        to,
+    )
+}
+
+/// Whether the route is there.
+pub(crate) fn is_route_in(rows: &Grouped<Route, 48>, from: Station, to: Station) -> bool
+    ensures { result ≡ list_any (λ r. is_station r.from from && is_station r.to to) rows.now }
+{
+    is_route(
+        rows.at(&group_name(&from.bytes(), &to.bytes(), b"")),
+        from,
+        to,
+    )
+}
+
+/// The item of that name and type.
+pub(crate) fn item_in<'a>(
+    rows: &'a Grouped<MelRow, 48>,
+    kind: &[u8],
+    item: &[u8],
+) -> Option<&'a MelRow>
+    ensures value { option_copied result ≡ find (λ r. bytes_eq r.kind kind.now && bytes_eq r.item item.now) rows.now }
+    ensures within { IfSome result (λ r. FitsItem r.now) }
+{
+    item_among(rows.at(&group_name(kind, item, b"")), kind, item)
+}
+
+/// Whether the pair is there.
+pub(crate) fn is_paired_in(
+    rows: &Grouped<ItemPair, 48>,
+    kind: &[u8],
+    item: &[u8],
+    other: &[u8],
+) -> bool
+    ensures { result ≡ list_any (λ p. is_pair p kind.now item.now other.now) rows.now }
+{
+    is_paired(rows.at(&group_name(kind, item, other)), kind, item, other)
+}
+
+/// The person of that name.
+pub(crate) fn actor_in<'a>(rows: &'a Grouped<Actor, 48>, name: &[u8]) -> Option<&'a Actor>
+    ensures { option_copied result ≡ find (λ a. bytes_eq a.name name.now) rows.now }
+{
+    actor_among(rows.at(&group_name(name, b"", b"")), name)
+}

@@ -1,0 +1,144 @@
+ghost use Rattle.std.specs.Prelude.{◌≡◌, ◌<◌, ◌≤◌, All, IfOk, IsTrue};
+ghost use Rattle.facts.specs.Reading.{IsRead};
+
+use codes::{ReportFault, Station};
+use desk_io::{Copied, OutOfMemory};
+use desk_time::{FIRST, LAST, Minute};
+use facts::{Received, Report, Reports, push_line, push_weather, push_weather_at, receive};
+use std::alloc::Global;
+use std::test::Fail;
+
+// 2025-03-12 00:00.
+const DAY: Minute = 29_028_960;
+
+fn report(alloc: Global, id: u64, received: Minute, text: &[u8]) -> Result<Report, ReportFault>
+    requires low { FIRST ≤ received }
+    requires high { received ≤ LAST }
+    ensures id { IfOk result (λ report. report.id ≡ id) }
+    ensures read { IfOk result IsRead }
+{
+    let Received { text, read } = receive(alloc, text, received)?;
+    Ok(Report {
+        id,
+        received,
+        text,
+        read,
+    })
+}
+
+fn is_above(reports: &[Report], id: u64) -> bool
+    ensures { IsTrue result → All (λ held. held.id < id) reports.now }
+{
+    reports.iter().all(|held| held.id < id)
+}
+
+fn admit(alloc: Global, reports: &mut Reports, id: u64, text: &[u8]) -> Result<(), ReportFault> {
+    let report = report(alloc, id, DAY + 1060, text)?;
+    if is_above(reports.as_slice(), id) {
+        reports.reserve(&report)?;
+        reports.admit(report);
+    }
+    Ok(())
+}
+
+// Reports of three stations, under numbers that rise with gaps.
+fn held(alloc: Global) -> Result<Reports, ReportFault> {
+    let mut reports = Reports::new(alloc);
+    for (id, text) in [
+        (
+            1,
+            b"SPECI KJFK 121738Z 24012KT 4SM BR BKN015 11/09 A3008".as_slice(),
+        ),
+        (2, b"METAR KJFK 121651Z 10SM CLR"),
+        (4, b"TAF KJFK 121720Z 1218/1324 24010KT P6SM BKN030"),
+        (7, b"TAF KJFK 121720Z 1218/1324 24010KT P6SM BKN030"),
+        (8, b"TAF EINN 121720Z NIL"),
+    ] {
+        admit(alloc, &mut reports, id, text)?;
+    }
+    Ok(reports)
+}
+
+// The numbers of the latest METAR and the latest TAF of a station.
+fn latest(reports: &Reports, name: &[u8]) -> Option<(Option<u64>, Option<u64>)> {
+    let station = Station::read(name)?;
+    let metar = reports.latest_metar(station).map(|report| report.id);
+    let taf = reports.latest_taf(station).map(|report| report.id);
+    Some((metar, taf))
+}
+
+// Whether the weather lines of all stations are these.
+fn has_weather(alloc: Global, reports: &Reports, lines: &[u8]) -> Result<bool, OutOfMemory> {
+    let mut out = Vec::new(alloc);
+    push_weather(&mut out, reports)?;
+    Ok(out.as_slice() == lines)
+}
+
+// Whether the weather lines of one station are these.
+fn has_weather_at(
+    alloc: Global,
+    reports: &Reports,
+    station: Station,
+    lines: &[u8],
+) -> Result<bool, OutOfMemory> {
+    let mut out = Vec::new(alloc);
+    push_weather_at(&mut out, reports, station)?;
+    Ok(out.as_slice() == lines)
+}
+
+const KENNEDY: &[u8] = b"KJFK METAR 1 2025-03-12T17:38Z ceiling 1500 vis 6437376 unread 0\n\
+    KJFK TAF 7 2025-03-12T17:20Z 2025-03-12T18:00Z 2025-03-14T00:00Z parts 1\n";
+
+const ALL: &[u8] = b"EINN TAF 8 2025-03-12T17:20Z 2025-03-12T17:20Z 2025-03-12T17:20Z NIL\n\
+    KJFK METAR 1 2025-03-12T17:38Z ceiling 1500 vis 6437376 unread 0\n\
+    KJFK TAF 7 2025-03-12T17:20Z 2025-03-12T18:00Z 2025-03-14T00:00Z parts 1\n";
+
+#[test]
+fn the_latest_moment_counts(rt: HostRuntime) -> Result<(), Fail> {
+    let alloc = rt.alloc();
+    assert!(rt; Reports::new(alloc).is_empty());
+    let reports = held(alloc)?;
+    assert!(rt; reports.len() == 5);
+    assert!(rt; latest(&reports, b"KJFK") == Some((Some(1), Some(7))));
+    assert!(rt; latest(&reports, b"EINN") == Some((None, Some(8))));
+    assert!(rt; latest(&reports, b"KPHL") == Some((None, None)));
+    let forecast = b"TAF KJFK 121720Z 1218/1324 24010KT P6SM BKN030";
+    assert!(rt; reports.same(forecast, DAY + 1040) == Some(4));
+    assert!(rt; reports.same(forecast, DAY + 1041) == None);
+    assert!(rt; reports.same(b"TAF KJFK 121720Z", DAY + 1040) == None);
+    assert!(rt; has_weather(alloc, &reports, ALL)?);
+    let kennedy = Station::read(b"KJFK");
+    assert!(rt; kennedy.is_some());
+    if let Some(station) = kennedy {
+        assert!(rt; has_weather_at(alloc, &reports, station, KENNEDY)?);
+    }
+    Ok(())
+}
+
+fn line(alloc: Global, text: &[u8]) -> Result<Vec<u8>, ReportFault> {
+    let copy = report(alloc, 0, DAY + 1020, text)?.copy(alloc)?;
+    let mut out = Vec::new(alloc);
+    push_line(&mut out, &copy)?;
+    Ok(out)
+}
+
+#[test]
+fn lines_are_those_of_the_reports(rt: HostRuntime) -> Result<(), Fail> {
+    for (text, wanted) in [
+        (
+            b"METAR KJFK 121651Z 10SM CLR".as_slice(),
+            b"KJFK METAR 0 2025-03-12T16:51Z ceiling 12000 vis 16093440 unread 0\n".as_slice(),
+        ),
+        (
+            b"METAR KPHL 121157Z NIL",
+            b"KPHL METAR 0 2025-03-12T11:57Z NIL\n",
+        ),
+        (
+            b"TAF EGLL 121605Z 1217/1305 CNL",
+            b"EGLL TAF 0 2025-03-12T16:05Z 2025-03-12T17:00Z 2025-03-13T05:00Z CNL\n",
+        ),
+    ] {
+        assert!(rt; line(rt.alloc(), text)?.as_slice() == wanted);
+    }
+    Ok(())
+}

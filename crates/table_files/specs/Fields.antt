@@ -1,0 +1,60 @@
+-- The fields of the records of a table: numbers, names and marks.
+use Rattle.std.specs.Prelude.{ℕ, ◌+◌, ◌*◌, ◌-◌, ◌==◌, nat_le, Bool, true, false, ◌&&◌, ◌||◌, not, List, [], ◌∷◌, length, if◌then◌else◌, Option, None, Some, codes}
+use Rattle.std.specs.List.{list_all, slice_split}
+use Rattle.std.specs.Str.{bytes_eq}
+use Rattle.ops_tables.specs.Forms.{is_digit, is_name, in_name, in_mark, in_person, in_key}
+use Rattle.table_files.specs.declared.fields.Class.{Class}
+use Rattle.table_files.specs.declared.fields.Class.TheVariants as class
+use Rattle.ops_tables.specs.declared.rows.Category.{Category}
+use Rattle.ops_tables.specs.declared.rows.Category.TheVariants as category
+use Rattle.ops_tables.specs.declared.rows.Role.{Role}
+use Rattle.ops_tables.specs.declared.rows.Role.TheVariants as role
+
+-- the characters of a class
+abbrev pub is_of : Class → ℕ → Bool
+is_of class.Name b = in_name b
+is_of class.Mark b = in_mark b
+is_of class.Person b = in_person b
+is_of class.Key b = in_key b
+
+abbrev pub is_blank : ℕ → Bool
+is_blank b = b == 32
+
+-- the names between single blanks, none for the empty field
+abbrev pub names_of : List ℕ → List (List ℕ)
+names_of field = if length field == 0 then [] else slice_split is_blank field
+
+-- the names of a field, where all between the blanks are names
+unfoldable pub capabilities_of : List ℕ → Option (List (List ℕ))
+capabilities_of field = if list_all is_name (names_of field) then Some (names_of field) else None
+
+-- the number of some digits, after that of the digits before them
+abbrev pub digits_after : ℕ → List ℕ → ℕ
+digits_after before [] = before
+digits_after before (d ∷ ds) = digits_after (10 * before + (d - 48)) ds
+
+-- digits of which the first is no zero, or one zero alone
+abbrev pub is_decimal : List ℕ → Bool
+is_decimal [] = false
+is_decimal (d ∷ ds) = list_all is_digit (d ∷ ds) && (not (d == 48) || (length ds == 0))
+
+-- a number from a least to a greatest one
+abbrev pub number_within : ℕ → ℕ → List ℕ → Option ℕ
+number_within least most field =
+    if is_decimal field && nat_le least (digits_after 0 field) && nat_le (digits_after 0 field) most then Some (digits_after 0 field) else None
+
+-- 1 for yes, 0 for no
+abbrev pub mark_of : List ℕ → Option Bool
+mark_of field = if bytes_eq field (codes "1") then Some true else (if bytes_eq field (codes "0") then Some false else None)
+
+abbrev pub category_of : List ℕ → Option Category
+category_of [] = None
+category_of (c ∷ d ∷ rest) = None
+category_of (c ∷ []) =
+    if c == 65 then Some category.A else (if c == 66 then Some category.B else (if c == 67 then Some category.C else (if c == 68 then Some category.D else None)))
+
+abbrev pub role_of : List ℕ → Option Role
+role_of [] = None
+role_of (c ∷ d ∷ rest) = None
+role_of (c ∷ []) =
+    if c == 68 then Some role.D else (if c == 67 then Some role.C else (if c == 70 then Some role.F else (if c == 77 then Some role.M else (if c == 83 then Some role.S else None))))

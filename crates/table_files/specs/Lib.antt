@@ -1,0 +1,7 @@
+pub mod Fields
+pub mod Records
+pub mod Reading
+pub mod Settings
+pub mod Files
+pub mod Filling
+pub mod Whole

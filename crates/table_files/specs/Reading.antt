@@ -1,0 +1,90 @@
+-- A table is read record by record, the header first. The first record that is bad is named.
+use Rattle.std.specs.Prelude.{◌≡◌, ℕ, ◌+◌, nat_le, Bool, true, false, ◌&&◌, List, [], ◌∷◌, ◌++◌, length, if◌then◌else◌, Option, None, Some, Result, Ok, Err}
+use Rattle.std.specs.List.{list_any}
+use Rattle.std.specs.Str.{bytes_eq}
+use Rattle.csv_text.specs.Records.{AreRecordsOf, HasGiven}
+use Rattle.csv_text.specs.declared.records.Records.{Records}
+use Rattle.ops_tables.specs.Tables.{TableRows}
+use Rattle.table_files.specs.declared.faults.TableWhy.{TableWhy}
+use Rattle.table_files.specs.declared.faults.TableWhy.TheVariants as why
+use Rattle.table_files.specs.declared.faults.BadRecord.{BadRecord}
+
+-- What makes a table: the names of its columns, the row of a record, whether what a row names stands in
+-- the tables, and the tables with these rows in it.
+pub record Table (R : Type 0) : Type 0 where
+  pub columns : List (List ℕ)
+  pub row_of : List (List ℕ) → Option R
+  pub is_linked : TableRows → R → Bool
+  pub with_rows : TableRows → List R → TableRows
+
+-- the same fields, in the same order
+abbrev pub are_same : List (List ℕ) → List (List ℕ) → Bool
+are_same [] [] = true
+are_same [] (name ∷ names) = false
+are_same (field ∷ fields) [] = false
+are_same (field ∷ fields) (name ∷ names) = bytes_eq field name && are_same fields names
+
+abbrev pub linked_row : {R : Type 0} → Table R → TableRows → R → Result R TableWhy
+linked_row table tables row = if table.is_linked tables row then Ok row else Err why.Unlinked
+
+-- the row, where no earlier one has its key and what it names is there
+abbrev pub new_row : {R : Type 0} → (R → R → Bool) → Table R → TableRows → List R → Option R → Result R TableWhy
+new_row is_same_key table tables earlier None = Err why.BadField
+new_row is_same_key table tables earlier (Some row) = if list_any (is_same_key row) earlier then Err why.Doubled else linked_row table tables row
+
+-- the row of a record that comes after some rows, or the first test that it fails
+abbrev pub row_after : {R : Type 0} → (R → R → Bool) → ℕ → Table R → TableRows → List R → List (List ℕ) → Result R TableWhy
+row_after is_same_key limit table tables earlier fields =
+    if nat_le limit (length earlier) then Err why.OverLimit else new_row is_same_key table tables earlier (table.row_of fields)
+
+-- what comes of a row, or the record with that number, which is bad
+abbrev pub or_bad : {A B : Type 0} → ℕ → Result A TableWhy → (A → Result B BadRecord) → Result B BadRecord
+or_bad number (Err why) next = Err (record { line = number; why = why })
+or_bad number (Ok row) next = next row
+
+-- some rows and those of the records after them, or the first bad one; the header is record 1
+abbrev pub rows_after : {R : Type 0} → (R → R → Bool) → ℕ → Table R → TableRows → List R → List (List (List ℕ)) → Result (List R) BadRecord
+rows_after is_same_key limit table tables earlier [] = Ok earlier
+rows_after is_same_key limit table tables earlier (fields ∷ others) =
+    or_bad (length earlier + 2) (row_after is_same_key limit table tables earlier fields) (λ row. rows_after is_same_key limit table tables (earlier ++ row ∷ []) others)
+
+abbrev pub bad_header : {A : Type 0} → Result A BadRecord
+bad_header = Err (record { line = 1; why = why.BadField })
+
+-- what comes of the records under a header with these columns
+abbrev pub under_header : {A : Type 0} → List (List ℕ) → (List (List (List ℕ)) → Result A BadRecord) → List (List (List ℕ)) → Result A BadRecord
+under_header columns read [] = bad_header
+under_header columns read (header ∷ records) = if are_same header columns then read records else bad_header
+
+-- the rows of a table whose records are these
+abbrev pub rows_of : {R : Type 0} → (R → R → Bool) → ℕ → Table R → TableRows → List (List (List ℕ)) → Result (List R) BadRecord
+rows_of is_same_key limit table tables records = under_header table.columns (rows_after is_same_key limit table tables []) records
+
+abbrev pub put : {A : Type 0} → (A → TableRows) → Result A BadRecord → Result TableRows BadRecord
+put tables_with (Ok rows) = Ok (tables_with rows)
+put tables_with (Err bad) = Err bad
+
+-- the tables with one more read, whose records are these
+abbrev pub with_table : {R : Type 0} → (R → R → Bool) → ℕ → Table R → TableRows → List (List (List ℕ)) → Result TableRows BadRecord
+with_table is_same_key limit table tables records = put (table.with_rows tables) (rows_of is_same_key limit table tables records)
+
+-- whether the first of some records is a header with these columns
+abbrev pub has_header : List (List ℕ) → List (List (List ℕ)) → Bool
+has_header columns [] = false
+has_header columns (header ∷ records) = are_same header columns
+
+-- the first record of a text is a header with these columns, and the reader stands after it
+pub record HasHeader (text : List ℕ) (columns : List (List ℕ)) (reader : Records) : Type 0 where
+  pub header : List (List ℕ)
+  pub is_same : are_same header columns ≡ true
+  pub given : HasGiven text (header ∷ []) reader
+
+-- the records of a text have no header with these columns
+pub record HasNoHeader (text : List ℕ) (columns : List (List ℕ)) : Type 0 where
+  pub records : List (List (List ℕ))
+  pub are_records : AreRecordsOf text records
+  pub none : has_header columns records ≡ false
+
+abbrev pub Begins : List ℕ → List (List ℕ) → Bool → Records → Type 0
+Begins text columns true reader = HasHeader text columns reader
+Begins text columns false reader = HasNoHeader text columns

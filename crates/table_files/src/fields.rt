@@ -1,0 +1,235 @@
+ghost use Rattle.std.specs.Prelude.{◌≡◌, ◌≤◌, ℕ, Bool, IfSome, IfOk, IsTrue, map, nat_le, if◌then◌else◌, Some, None};
+ghost use Rattle.std.specs.List.{list_all, slice_split};
+ghost use Rattle.ops_tables.specs.Forms as form;
+ghost use Rattle.table_files.specs.Fields as spec;
+
+use desk_io::{Listed, OutOfMemory, Text};
+use ops_tables::{Category, Names, Role};
+use std::alloc::{AllocError, Global};
+
+fn is_digit(b: u8) -> bool
+    ensures { result ≡ form.is_digit b }
+{
+    b'0' <= b && b <= b'9'
+}
+
+/// The characters of which a name is made.
+#[derive(Clone, Copy, Debug)]
+enum Class {
+    /// Capital letters and digits.
+    Name,
+    /// Capital letters, digits and hyphens.
+    Mark,
+    /// Letters and digits.
+    Person,
+    /// Printable characters that aren't the blank.
+    Key,
+}
+
+fn is_of(class: Class, b: u8) -> bool
+    ensures { result ≡ spec.is_of class b }
+{
+    let in_name = b'A' <= b && b <= b'Z' || is_digit(b);
+    match class {
+        Class::Name => in_name,
+        Class::Mark => in_name || b == b'-',
+        Class::Person => in_name || b'a' <= b && b <= b'z',
+        Class::Key => b' ' < b && b < 127,
+    }
+}
+
+fn all_of(class: Class, field: &[u8]) -> bool
+    ensures { result ≡ list_all (spec.is_of class) field.now }
+{
+    for b in field {
+        if !is_of(class, *b) {
+            return false;
+        }
+    }
+    true
+}
+
+fn has_length(field: &[u8], most: usize) -> bool
+    ensures { result ≡ form.has_length most field.now }
+{
+    1 <= field.len() && field.len() <= most
+}
+
+// Whether the field is one to so many characters of a class.
+fn is_word(class: Class, most: usize, field: &[u8]) -> bool
+    ensures { result ≡ form.is_word (spec.is_of class) most field.now }
+{
+    has_length(field, most) && all_of(class, field)
+}
+
+/// Whether the field names a type, an approach, a runway or a capability.
+#[tactic(auto, unfolding(ops_tables::specs::Forms::is_name))]
+pub(crate) fn is_name(field: &[u8]) -> bool
+    ensures { result ≡ form.is_name field.now }
+{
+    is_word(Class::Name, 8, field)
+}
+
+/// Whether it is a capability, or empty for none.
+pub(crate) fn is_name_or_none(field: &[u8]) -> bool
+    ensures { result ≡ form.is_name_or_none field.now }
+{
+    field.is_empty() || is_name(field)
+}
+
+/// Whether it is a registration.
+#[tactic(auto, unfolding(ops_tables::specs::Forms::is_tail))]
+pub(crate) fn is_tail(field: &[u8]) -> bool
+    ensures { result ≡ form.is_tail field.now }
+{
+    is_word(Class::Mark, 8, field)
+}
+
+/// Whether it is an item of a minimum equipment list.
+#[tactic(auto, unfolding(ops_tables::specs::Forms::is_item))]
+pub(crate) fn is_item(field: &[u8]) -> bool
+    ensures { result ≡ form.is_item field.now }
+{
+    is_word(Class::Mark, 16, field)
+}
+
+/// Whether it is the name of a person.
+#[tactic(auto, unfolding(ops_tables::specs::Forms::is_person))]
+pub(crate) fn is_person(field: &[u8]) -> bool
+    ensures { result ≡ form.is_person field.now }
+{
+    is_word(Class::Person, 16, field)
+}
+
+/// Whether it is the key of a person.
+#[tactic(auto, unfolding(ops_tables::specs::Forms::is_key))]
+pub(crate) fn is_key(field: &[u8]) -> bool
+    ensures { result ≡ form.is_key field.now }
+{
+    is_word(Class::Key, 64, field)
+}
+
+fn pieces(alloc: Global, field: &[u8]) -> Result<Vec<&[u8]>, AllocError>
+    ensures { IfOk result (λ v. map (λ x. x.now) v.items ≡ slice_split spec.is_blank field.now) }
+{
+    field.split(|b| *b == b' ').collect(alloc)
+}
+
+fn are_names(names: &[&[u8]]) -> bool
+    ensures { result ≡ list_all form.is_name (map (λ x. x.now) names.now) }
+{
+    for name in names {
+        if !is_name(name) {
+            return false;
+        }
+    }
+    true
+}
+
+fn texts(alloc: Global, names: &[&[u8]]) -> Result<Names, OutOfMemory>
+    ensures { IfOk result (λ texts. texts ≡ map (λ x. x.now) names.now) }
+{
+    let mut texts = Vec::new(alloc);
+    for name in names {
+        texts.push(Text::of(alloc, name)?)?;
+    }
+    Ok(Listed::from_vec(texts))
+}
+
+/// The names of a field, with one blank between any two; none where it is empty.
+#[tactic(auto, unfolding(crate::specs::Fields::capabilities_of))]
+pub(crate) fn capabilities(alloc: Global, field: &[u8]) -> Result<Option<Names>, OutOfMemory>
+    ensures value { IfOk result (λ names. names ≡ spec.capabilities_of field.now) }
+    ensures forms { IfOk result (λ names. IfSome names (λ each. IsTrue (list_all form.is_name each))) }
+{
+    if field.is_empty() {
+        return Ok(Some(Listed::new(alloc)));
+    }
+    let pieces = pieces(alloc, field)?;
+    if !are_names(&pieces) {
+        return Ok(None);
+    }
+    Ok(Some(texts(alloc, &pieces)?))
+}
+
+fn all_digits(field: &[u8]) -> bool
+    ensures { result ≡ list_all form.is_digit field.now }
+{
+    field.iter().all(|b| is_digit(*b))
+}
+
+fn is_decimal(field: &[u8]) -> bool
+    ensures { result ≡ spec.is_decimal field.now }
+{
+    match field {
+        [] => false,
+        [first, rest @ ..] => all_digits(field) && (*first != b'0' || rest.is_empty()),
+    }
+}
+
+// The number of some digits, where it isn't above the greatest one.
+fn number_up_to(most: u32, digits: &[u8]) -> Option<u32>
+    requires { most ≤ 1_000_000 }
+    ensures { result ≡ if nat_le (spec.digits_after 0 digits.now) most then Some (spec.digits_after 0 digits.now) else None }
+{
+    let mut number = 0;
+    for digit in digits {
+        number = 10 * number + u32::from(digit.saturating_sub(b'0'));
+        if number > most {
+            return None;
+        }
+    }
+    Some(number)
+}
+
+/// The number of a field, from a least to a greatest one. It has no sign and begins with no zero but
+/// its own.
+pub(crate) fn number_within(least: u32, most: u32, field: &[u8]) -> Option<u32>
+    requires { most ≤ 1_000_000 }
+    ensures value { result ≡ spec.number_within least most field.now }
+    ensures bound { IfSome result (λ n. (least ≤ n) × (n ≤ most)) }
+{
+    if !is_decimal(field) {
+        return None;
+    }
+    let number = number_up_to(most, field)?;
+    if least <= number { Some(number) } else { None }
+}
+
+/// Yes for 1, and no for 0.
+pub(crate) fn mark_of(field: &[u8]) -> Option<bool>
+    ensures { result ≡ spec.mark_of field.now }
+{
+    match field {
+        b"1" => Some(true),
+        b"0" => Some(false),
+        _ => None,
+    }
+}
+
+/// The category of a letter from A to D.
+pub(crate) fn category_of(field: &[u8]) -> Option<Category>
+    ensures { result ≡ spec.category_of field.now }
+{
+    match field {
+        b"A" => Some(Category::A),
+        b"B" => Some(Category::B),
+        b"C" => Some(Category::C),
+        b"D" => Some(Category::D),
+        _ => None,
+    }
+}
+
+/// The role of a letter.
+pub(crate) fn role_of(field: &[u8]) -> Option<Role>
+    ensures { result ≡ spec.role_of field.now }
+{
+    match field {
+        b"D" => Some(Role::D),
+        b"C" => Some(Role::C),
+        b"F" => Some(Role::F),
+        b"M" => Some(Role::M),
+        b"S" => Some(Role::S),
+        _ => None,
+    }
+}

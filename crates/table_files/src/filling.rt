@@ -1,0 +1,138 @@
+ghost use Rattle.std.specs.Prelude.{◌≡◌, ◌≤◌, IfOk, OnOk};
+ghost use Rattle.ops_tables.specs.Limits.{FitsSettings};
+ghost use Rattle.ops_tables.specs.Shown.{shown};
+ghost use Rattle.table_files.specs.Files.{with_file, no_rows};
+ghost use Rattle.table_files.specs.Filling.{Fills, Puts};
+ghost use Rattle.table_files.specs.declared.files.File.TheVariants as file;
+
+use crate::faults::BadRecord;
+use crate::files::File;
+use crate::reading::read_rows;
+use crate::settings::read_settings;
+use desk_io::OutOfMemory;
+use ops_tables::{Grouped, Loading, Row, Settings};
+use std::alloc::Global;
+
+/// Tables of which none is read.
+pub(crate) fn unread(alloc: Global) -> Loading
+    ensures value { shown result ≡ no_rows }
+    ensures settings { FitsSettings result.settings }
+{
+    Loading {
+        settings: Settings {
+            hold_minutes: 0,
+            marginal_ceiling: 0,
+            single_ceiling: 0,
+            double_ceiling: 0,
+            marginal_vis16: 0,
+            single_vis16: 0,
+            double_vis16: 0,
+            late_off: 0,
+            late_on: 0,
+        },
+        airports: Grouped::new(alloc),
+        approaches: Grouped::new(alloc),
+        alternates: Grouped::new(alloc),
+        types: Grouped::new(alloc),
+        tails: Grouped::new(alloc),
+        uses: Grouped::new(alloc),
+        distances: Grouped::new(alloc),
+        routes: Grouped::new(alloc),
+        mel: Grouped::new(alloc),
+        pairs: Grouped::new(alloc),
+        actors: Grouped::new(alloc),
+    }
+}
+
+// Puts the rows of a table in place, where no record is bad.
+fn put<R: Row<N>, const N: usize>(
+    rows: &mut Grouped<R, N>,
+    read: Result<Grouped<R, N>, BadRecord>,
+) -> Result<(), BadRecord>
+    requires { N ≤ 48 }
+    ensures { Puts read result rows.old rows.new }
+{
+    match read {
+        Ok(more) => {
+            *rows = more;
+            Ok(())
+        }
+        Err(bad) => Err(bad),
+    }
+}
+
+fn fill_settings(
+    alloc: Global,
+    text: &[u8],
+    loaded: &mut Loading,
+) -> Result<Result<(), BadRecord>, OutOfMemory>
+    ensures value { IfOk result (λ made. Fills text.now (with_file file.Settings (shown loaded.old)) made (shown loaded.new)) }
+    ensures settings { FitsSettings loaded.old.settings → OnOk result (FitsSettings loaded.new.settings) }
+{
+    match read_settings(alloc, text)? {
+        Ok(settings) => {
+            loaded.settings = settings;
+            Ok(Ok(()))
+        }
+        Err(bad) => Ok(Err(bad)),
+    }
+}
+
+/// Reads the table of a file, which has this text, after those that stand before it.
+pub(crate) fn fill(
+    alloc: Global,
+    file: File,
+    text: &[u8],
+    loaded: &mut Loading,
+) -> Result<Result<(), BadRecord>, OutOfMemory>
+    ensures value { IfOk result (λ made. Fills text.now (with_file file (shown loaded.old)) made (shown loaded.new)) }
+    ensures settings { FitsSettings loaded.old.settings → OnOk result (FitsSettings loaded.new.settings) }
+{
+    match file {
+        File::Settings => fill_settings(alloc, text, loaded),
+        File::Airports => {
+            let read = read_rows(alloc, text, loaded)?;
+            Ok(put(&mut loaded.airports, read))
+        }
+        File::Approaches => {
+            let read = read_rows(alloc, text, loaded)?;
+            Ok(put(&mut loaded.approaches, read))
+        }
+        File::Alternates => {
+            let read = read_rows(alloc, text, loaded)?;
+            Ok(put(&mut loaded.alternates, read))
+        }
+        File::Types => {
+            let read = read_rows(alloc, text, loaded)?;
+            Ok(put(&mut loaded.types, read))
+        }
+        File::Tails => {
+            let read = read_rows(alloc, text, loaded)?;
+            Ok(put(&mut loaded.tails, read))
+        }
+        File::Uses => {
+            let read = read_rows(alloc, text, loaded)?;
+            Ok(put(&mut loaded.uses, read))
+        }
+        File::Distances => {
+            let read = read_rows(alloc, text, loaded)?;
+            Ok(put(&mut loaded.distances, read))
+        }
+        File::Routes => {
+            let read = read_rows(alloc, text, loaded)?;
+            Ok(put(&mut loaded.routes, read))
+        }
+        File::Mel => {
+            let read = read_rows(alloc, text, loaded)?;
+            Ok(put(&mut loaded.mel, read))
+        }
+        File::Pairs => {
+            let read = read_rows(alloc, text, loaded)?;
+            Ok(put(&mut loaded.pairs, read))
+        }
+        File::Actors => {
+            let read = read_rows(alloc, text, loaded)?;
+            Ok(put(&mut loaded.actors, read))
+        }
+    }
+}

@@ -1,0 +1,303 @@
+ghost use Rattle.std.specs.Prelude.{◌≡◌};
+
+use crate::reading::{FileRow, Layout};
+use crate::records::{
+    actor_row, airport_row, alternate_row, approach_row, distance_row, item_row, pair_row,
+    route_row, tail_row, type_row, use_row,
+};
+use desk_io::{OutOfMemory, Text};
+use ops_tables::{
+    Actor, Airport, AlternateRow, Approach, Distance, ItemPair, Loading, MelRow, Route, Tail,
+    TypeRow, Use,
+};
+use std::alloc::Global;
+
+impl FileRow<4> for Airport {
+    ghost use Rattle.std.specs.Prelude.{refl};
+    ghost use Rattle.table_files.specs.Files.{airports};
+
+    ghost table = { airports };
+
+    ghost bounded = { refl };
+
+    fn layout() -> Layout {
+        Layout {
+            columns: &["station", "conus", "circle"],
+            limit: 5_000,
+        }
+    }
+
+    fn of_fields(_: Global, fields: &[Text]) -> Result<Option<Airport>, OutOfMemory> {
+        Ok(airport_row(fields))
+    }
+
+    fn is_linked(&self, _: &Loading) -> bool {
+        true
+    }
+}
+
+impl FileRow<4> for Approach {
+    ghost use Rattle.std.specs.Prelude.{refl};
+    ghost use Rattle.table_files.specs.Files.{approaches};
+
+    ghost table = { approaches };
+
+    ghost bounded = { refl };
+
+    fn layout() -> Layout {
+        Layout {
+            columns: &[
+                "station",
+                "name",
+                "runway",
+                "capability",
+                "height",
+                "ceiling",
+                "vis16",
+            ],
+            limit: 50_000,
+        }
+    }
+
+    fn of_fields(alloc: Global, fields: &[Text]) -> Result<Option<Approach>, OutOfMemory> {
+        approach_row(alloc, fields)
+    }
+
+    fn is_linked(&self, loaded: &Loading) -> bool {
+        loaded.has_airport(self.station)
+    }
+}
+
+impl FileRow<4> for AlternateRow {
+    ghost use Rattle.std.specs.Prelude.{refl};
+    ghost use Rattle.table_files.specs.Files.{alternates};
+
+    ghost table = { alternates };
+
+    ghost bounded = { refl };
+
+    fn layout() -> Layout {
+        Layout {
+            columns: &["station", "ceiling", "vis16"],
+            limit: 20_000,
+        }
+    }
+
+    fn of_fields(_: Global, fields: &[Text]) -> Result<Option<AlternateRow>, OutOfMemory> {
+        Ok(alternate_row(fields))
+    }
+
+    fn is_linked(&self, loaded: &Loading) -> bool {
+        loaded.has_airport(self.station)
+    }
+}
+
+impl FileRow<48> for TypeRow {
+    ghost use Rattle.std.specs.Prelude.{refl};
+    ghost use Rattle.table_files.specs.Files.{types};
+
+    ghost table = { types };
+
+    ghost bounded = { refl };
+
+    fn layout() -> Layout {
+        Layout {
+            columns: &[
+                "kind",
+                "engines",
+                "oei_knots",
+                "cruise_pph",
+                "hold_pph",
+                "capabilities",
+            ],
+            limit: 200,
+        }
+    }
+
+    fn of_fields(alloc: Global, fields: &[Text]) -> Result<Option<TypeRow>, OutOfMemory> {
+        type_row(alloc, fields)
+    }
+
+    fn is_linked(&self, _: &Loading) -> bool {
+        true
+    }
+}
+
+impl FileRow<48> for Tail {
+    ghost use Rattle.std.specs.Prelude.{refl};
+    ghost use Rattle.table_files.specs.Files.{tails};
+
+    ghost table = { tails };
+
+    ghost bounded = { refl };
+
+    fn layout() -> Layout {
+        Layout {
+            columns: &["tail", "kind"],
+            limit: 5_000,
+        }
+    }
+
+    fn of_fields(alloc: Global, fields: &[Text]) -> Result<Option<Tail>, OutOfMemory> {
+        tail_row(alloc, fields)
+    }
+
+    fn is_linked(&self, loaded: &Loading) -> bool {
+        loaded.has_type(self.kind.bytes())
+    }
+}
+
+impl FileRow<48> for Use {
+    ghost use Rattle.std.specs.Prelude.{refl};
+    ghost use Rattle.table_files.specs.Files.{uses};
+
+    ghost table = { uses };
+
+    ghost bounded = { refl };
+
+    fn layout() -> Layout {
+        Layout {
+            columns: &["kind", "station"],
+            limit: 200_000,
+        }
+    }
+
+    fn of_fields(alloc: Global, fields: &[Text]) -> Result<Option<Use>, OutOfMemory> {
+        use_row(alloc, fields)
+    }
+
+    fn is_linked(&self, loaded: &Loading) -> bool {
+        loaded.has_type(self.kind.bytes()) && loaded.has_airport(self.station)
+    }
+}
+
+impl FileRow<48> for Distance {
+    ghost use Rattle.std.specs.Prelude.{refl};
+    ghost use Rattle.table_files.specs.Files.{distances};
+
+    ghost table = { distances };
+
+    ghost bounded = { refl };
+
+    fn layout() -> Layout {
+        Layout {
+            columns: &["from", "to", "miles"],
+            limit: 200_000,
+        }
+    }
+
+    fn of_fields(_: Global, fields: &[Text]) -> Result<Option<Distance>, OutOfMemory> {
+        Ok(distance_row(fields))
+    }
+
+    fn is_linked(&self, loaded: &Loading) -> bool {
+        loaded.has_airport(self.from) && loaded.has_airport(self.to)
+    }
+}
+
+impl FileRow<48> for Route {
+    ghost use Rattle.std.specs.Prelude.{refl};
+    ghost use Rattle.table_files.specs.Files.{routes};
+
+    ghost table = { routes };
+
+    ghost bounded = { refl };
+
+    fn layout() -> Layout {
+        Layout {
+            columns: &["from", "to"],
+            limit: 50_000,
+        }
+    }
+
+    fn of_fields(_: Global, fields: &[Text]) -> Result<Option<Route>, OutOfMemory> {
+        Ok(route_row(fields))
+    }
+
+    fn is_linked(&self, loaded: &Loading) -> bool {
+        loaded.has_airport(self.from) && loaded.has_airport(self.to)
+    }
+}
+
+impl FileRow<48> for MelRow {
+    ghost use Rattle.std.specs.Prelude.{refl};
+    ghost use Rattle.table_files.specs.Files.{mel};
+
+    ghost table = { mel };
+
+    ghost bounded = { refl };
+
+    fn layout() -> Layout {
+        Layout {
+            columns: &[
+                "kind",
+                "item",
+                "category",
+                "days",
+                "capability",
+                "extra_fuel",
+                "flag_ok",
+                "max_minutes",
+            ],
+            limit: 50_000,
+        }
+    }
+
+    fn of_fields(alloc: Global, fields: &[Text]) -> Result<Option<MelRow>, OutOfMemory> {
+        item_row(alloc, fields)
+    }
+
+    fn is_linked(&self, loaded: &Loading) -> bool {
+        loaded.has_type(self.kind.bytes())
+    }
+}
+
+impl FileRow<48> for ItemPair {
+    ghost use Rattle.std.specs.Prelude.{refl};
+    ghost use Rattle.table_files.specs.Files.{pairs};
+
+    ghost table = { pairs };
+
+    ghost bounded = { refl };
+
+    fn layout() -> Layout {
+        Layout {
+            columns: &["kind", "item", "other"],
+            limit: 50_000,
+        }
+    }
+
+    fn of_fields(alloc: Global, fields: &[Text]) -> Result<Option<ItemPair>, OutOfMemory> {
+        pair_row(alloc, fields)
+    }
+
+    fn is_linked(&self, loaded: &Loading) -> bool {
+        loaded.has_type(self.kind.bytes())
+            && loaded.has_item(self.kind.bytes(), self.item.bytes())
+            && loaded.has_item(self.kind.bytes(), self.other.bytes())
+    }
+}
+
+impl FileRow<48> for Actor {
+    ghost use Rattle.std.specs.Prelude.{refl};
+    ghost use Rattle.table_files.specs.Files.{actors};
+
+    ghost table = { actors };
+
+    ghost bounded = { refl };
+
+    fn layout() -> Layout {
+        Layout {
+            columns: &["name", "key", "role"],
+            limit: 5_000,
+        }
+    }
+
+    fn of_fields(alloc: Global, fields: &[Text]) -> Result<Option<Actor>, OutOfMemory> {
+        actor_row(alloc, fields)
+    }
+
+    fn is_linked(&self, _: &Loading) -> bool {
+        true
+    }
+}

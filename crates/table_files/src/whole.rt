@@ -1,0 +1,90 @@
+ghost use Rattle.std.specs.Prelude.{◌≡◌, IfOk, OnOk, IfErr};
+ghost use Rattle.ops_tables.specs.Limits.{FitsSettings};
+ghost use Rattle.table_files.specs.Files.{name_of};
+ghost use Rattle.table_files.specs.Whole.{ReadsText, ReadsFile, ReadsTables, StopsAtMissing, IsMissing, HasReadCause};
+ghost use Rattle.table_files.specs.declared.faults.TableFault.TheVariants as fault;
+ghost use Rattle.ops_tables.specs.Shown.{shown};
+
+use crate::faults::{BadRecord, BadTable, TableFault};
+use crate::files::{FILES, File};
+use crate::filling::{fill, unread};
+use desk_io::{OutOfMemory, Shelf, Text, WholeFault, read_whole};
+use ops_tables::{Loading, Tables};
+use std::alloc::Global;
+
+impl From<OutOfMemory> for TableFault {
+    ghost from_gives = { λ _ e. e ≡ fault.OutOfMemory };
+
+    fn from(_: OutOfMemory) -> Self {
+        TableFault::OutOfMemory
+    }
+}
+
+fn name_text(alloc: Global, file: File) -> Result<Text, OutOfMemory>
+    ensures { IfOk result (λ name. name ≡ name_of file) }
+{
+    Text::of(alloc, file.name().as_bytes())
+}
+
+fn bad_table(alloc: Global, file: File, bad: BadRecord) -> Result<BadTable, OutOfMemory>
+    ensures { IfOk result (λ table. table ≡ record { name = name_of file; line = bad.line; why = bad.why }) }
+{
+    Ok(BadTable {
+        name: name_text(alloc, file)?,
+        line: bad.line,
+        why: bad.why,
+    })
+}
+
+// The whole text of a file.
+fn read_text<S: Shelf>(alloc: Global, shelf: &mut S, file: File) -> Result<Text, TableFault>
+    ensures reads { ReadsText (S.sources shelf.old) file result }
+    ensures same { S.sources shelf.new ≡ S.sources shelf.old }
+    ensures sound { S.sound shelf.old → S.sound shelf.new × IfErr result (IsMissing (S.sources shelf.old) file) }
+    ensures cause { HasReadCause (S.fault_count shelf.old) (S.fault_count shelf.new) result }
+{
+    match read_whole(alloc, shelf, file.name()) {
+        Ok(text) => Ok(text),
+        Err(WholeFault::ReadFault) => Err(TableFault::ReadFault(name_text(alloc, file)?)),
+        Err(WholeFault::TooLong) => Err(TableFault::TooLong(name_text(alloc, file)?)),
+        Err(WholeFault::OutOfMemory) => Err(TableFault::OutOfMemory),
+    }
+}
+
+// Reads the table of one more file.
+fn read_file<S: Shelf>(
+    alloc: Global,
+    shelf: &mut S,
+    file: File,
+    loaded: &mut Loading,
+) -> Result<(), TableFault>
+    ensures reads { ReadsFile (S.sources shelf.old) file (shown loaded.old) result (shown loaded.new) }
+    ensures settings { FitsSettings loaded.old.settings → OnOk result (FitsSettings loaded.new.settings) }
+    ensures same { S.sources shelf.new ≡ S.sources shelf.old }
+    ensures sound { S.sound shelf.old → S.sound shelf.new × IfErr result (IsMissing (S.sources shelf.old) file) }
+    ensures cause { HasReadCause (S.fault_count shelf.old) (S.fault_count shelf.new) result }
+{
+    let text = read_text(alloc, shelf, file)?;
+    match fill(alloc, file, text.bytes(), loaded)? {
+        Ok(()) => Ok(()),
+        Err(bad) => Err(TableFault::Bad(bad_table(alloc, file, bad)?)),
+    }
+}
+
+/// The twelve tables of a shelf, each read whole and tested before the next. `Bad` names the first bad
+/// record in the order of the files; `TooLong` says that a source has more than 64 MiB, and comes only
+/// after the tables before it were good. `ReadFault` comes only where the shelf's count of faults rose;
+/// a sound shelf gives it only at a file that it doesn't hold, after the tables before that were good.
+/// Both carry the file's name.
+pub fn read_tables<S: Shelf>(alloc: Global, shelf: &mut S) -> Result<Tables, TableFault>
+    ensures tables { ReadsTables (S.sources shelf.old) result }
+    ensures same { S.sources shelf.new ≡ S.sources shelf.old }
+    ensures sound { S.sound shelf.old → S.sound shelf.new × IfErr result (StopsAtMissing (S.sources shelf.old)) }
+    ensures cause { HasReadCause (S.fault_count shelf.old) (S.fault_count shelf.new) result }
+{
+    let mut loaded = unread(alloc);
+    for file in &FILES {
+        read_file(alloc, shelf, *file, &mut loaded)?;
+    }
+    Ok(Tables::of(loaded))
+}
