@@ -1,28 +1,37 @@
 -- What holds of calls that are made and of replies that are written.
-use Rattle.plan.specs.Check.{HasFewLegs}
-use Rattle.plan.specs.Texts.{HasMoment}
+use Rattle.plan.specs.Check.{IsPlan}
+use Rattle.plan.specs.Texts.{IsMoment, HasMoment}
 use Rattle.asks.specs.declared.call.Ask.{Ask}
 use Rattle.asks.specs.declared.call.Ask.TheVariants as ask
 use Rattle.asks.specs.declared.reply.Reply.{Reply}
 use Rattle.asks.specs.declared.reply.Reply.TheVariants.{Done, Seen, Refused}
 use Rattle.asks.specs.declared.reply.Refusal.{Refusal}
-use Rattle.asks.specs.declared.reply.Refusal.TheVariants.{BadReport, DayOutOfReach, ReportsFull, NoSuchRelease, BadPlan, NotPending, WrongRevision, RuleFails, WrongPhase, AlreadySigned, HistoryFull}
+use Rattle.asks.specs.declared.reply.Refusal.TheVariants.{UnknownActor, WrongKey, NotYourRole, BadReport, DayOutOfReach, ReportsFull, UnknownTail, NoSuchDeferral, NoSuchRelease, NotYours, BadPlan, NotPending, WrongRevision, RuleFails, WrongPhase, AlreadySigned, HistoryFull, NoSuchStation, UnknownItem, BadFound, DeferralsFull}
 
--- a call whose plan has at most 1,000 legs
+-- a call whose plan has at most 1,000 legs, and whose moments are such as can be read
 abbrev pub IsCall : Ask → Type 0
 IsCall (ask.Admit text) = Unit {0}
-IsCall (ask.Draft plan) = HasFewLegs plan
+IsCall (ask.Defer tail item found) = IsMoment found
+IsCall (ask.Clear deferral) = Unit {0}
+IsCall (ask.Draft plan) = IsPlan plan
 IsCall (ask.Sign release revision) = Unit {0}
 IsCall (ask.Concur release revision) = Unit {0}
 IsCall (ask.Cancel release) = Unit {0}
 IsCall ask.ViewAlerts = Unit {0}
+IsCall (ask.ViewDeferred tail) = Unit {0}
 
--- the moment of a phase that a refusal names can be shown
+-- the moment that a refusal names can be shown
 abbrev pub RefusalHasMoment : Refusal → Type 0
+RefusalHasMoment UnknownActor = Unit {0}
+RefusalHasMoment WrongKey = Unit {0}
+RefusalHasMoment NotYourRole = Unit {0}
 RefusalHasMoment (BadReport group what) = Unit {0}
 RefusalHasMoment (DayOutOfReach group) = Unit {0}
 RefusalHasMoment (ReportsFull held) = Unit {0}
+RefusalHasMoment UnknownTail = Unit {0}
+RefusalHasMoment NoSuchDeferral = Unit {0}
 RefusalHasMoment NoSuchRelease = Unit {0}
+RefusalHasMoment (NotYours holder) = Unit {0}
 RefusalHasMoment (BadPlan leg what) = Unit {0}
 RefusalHasMoment (NotPending stage) = Unit {0}
 RefusalHasMoment (WrongRevision current) = Unit {0}
@@ -30,6 +39,10 @@ RefusalHasMoment (RuleFails findings) = Unit {0}
 RefusalHasMoment (WrongPhase phase) = HasMoment phase
 RefusalHasMoment AlreadySigned = Unit {0}
 RefusalHasMoment (HistoryFull entries) = Unit {0}
+RefusalHasMoment NoSuchStation = Unit {0}
+RefusalHasMoment UnknownItem = Unit {0}
+RefusalHasMoment (BadFound moment) = IsMoment moment
+RefusalHasMoment (DeferralsFull held) = Unit {0}
 
 abbrev pub ReplyHasMoment : Reply → Type 0
 ReplyHasMoment (Done done) = Unit {0}

@@ -1,4 +1,5 @@
 use desk_io::{Copied, OutOfMemory, Text};
+use desk_time::Minute;
 use plan::Plan;
 use std::alloc::Global;
 
@@ -6,17 +7,47 @@ use std::alloc::Global;
 #[derive(Debug, Drop)]
 pub enum Ask {
     /// The text of a weather report is admitted.
-    Admit { text: Text },
+    Admit {
+        text: Text,
+    },
+    /// An item of an aircraft's minimum equipment list is deferred.
+    Defer {
+        /// The registration of the aircraft, at most 64 bytes.
+        tail: Text,
+        /// The item, at most 64 bytes.
+        item: Text,
+        /// When it was found inoperative.
+        found: Minute,
+    },
+    /// A deferred item is repaired.
+    Clear {
+        deferral: u64,
+    },
     /// A release is drafted for a plan.
-    Draft { plan: Plan },
+    Draft {
+        plan: Plan,
+    },
     /// The dispatcher signs the pending revision of that number.
-    Sign { release: u64, revision: u64 },
+    Sign {
+        release: u64,
+        revision: u64,
+    },
     /// The captain concurs with the pending revision of that number.
-    Concur { release: u64, revision: u64 },
+    Concur {
+        release: u64,
+        revision: u64,
+    },
     /// A release is cancelled.
-    Cancel { release: u64 },
+    Cancel {
+        release: u64,
+    },
     /// The open alerts are shown.
     ViewAlerts,
+    /// The open deferrals of an aircraft are shown.
+    ViewDeferred {
+        /// Its registration, at most 64 bytes.
+        tail: Text,
+    },
 }
 
 /// A request of a person.
@@ -38,6 +69,14 @@ impl Copied for Ask {
             Ask::Admit { text } => Ok(Ask::Admit {
                 text: text.copy(alloc)?,
             }),
+            Ask::Defer { tail, item, found } => Ok(Ask::Defer {
+                tail: tail.copy(alloc)?,
+                item: item.copy(alloc)?,
+                found: *found,
+            }),
+            Ask::Clear { deferral } => Ok(Ask::Clear {
+                deferral: *deferral,
+            }),
             Ask::Draft { plan } => Ok(Ask::Draft {
                 plan: plan.copy(alloc)?,
             }),
@@ -51,6 +90,9 @@ impl Copied for Ask {
             }),
             Ask::Cancel { release } => Ok(Ask::Cancel { release: *release }),
             Ask::ViewAlerts => Ok(Ask::ViewAlerts),
+            Ask::ViewDeferred { tail } => Ok(Ask::ViewDeferred {
+                tail: tail.copy(alloc)?,
+            }),
         }
     }
 }

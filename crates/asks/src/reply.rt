@@ -1,5 +1,6 @@
 use codes::Why;
 use desk_io::{Copied, OutOfMemory, Text};
+use desk_time::Minute;
 use plan::{Findings, Phase, PlanWhy};
 use std::alloc::Global;
 
@@ -8,6 +9,8 @@ use std::alloc::Global;
 pub enum Done {
     /// A report stands under this id.
     Report(u64),
+    /// A deferral stands under this id, or stood under it until it was cleared.
+    Deferral(u64),
     /// A revision of a release was filed or signed.
     Filed { release: u64, revision: u64 },
     /// A release was changed.
@@ -17,6 +20,12 @@ pub enum Done {
 /// Why a request was refused, with its number.
 #[derive(Debug, Drop)]
 pub enum Refusal {
+    /// 1: no person has that name.
+    UnknownActor,
+    /// 2: the person has another key.
+    WrongKey,
+    /// 3: the ask isn't for the person's role.
+    NotYourRole,
     /// 5: the text has no reading, for another reason than 6. `group` is the first group that doesn't
     /// read.
     BadReport { group: u32, what: Why },
@@ -24,8 +33,14 @@ pub enum Refusal {
     DayOutOfReach { group: u32 },
     /// 7: 200,000 reports are held.
     ReportsFull { held: u64 },
+    /// 8: the tables have no such aircraft.
+    UnknownTail,
+    /// 9: no open deferral has that id.
+    NoSuchDeferral,
     /// 10: no release has that id.
     NoSuchRelease,
+    /// 11: it is for another person: the dispatcher who holds the release, or the captain of its plan.
+    NotYours { holder: Text },
     /// 12: a test of the plan fails, of that leg.
     BadPlan { leg: u32, what: PlanWhy },
     /// 13: no revision is pending (0), or the dispatcher hasn't signed it (2).
@@ -40,6 +55,14 @@ pub enum Refusal {
     AlreadySigned,
     /// 24: the history has 400,000 entries.
     HistoryFull { entries: u64 },
+    /// 25: the station isn't an airport of the tables.
+    NoSuchStation,
+    /// 28: the minimum equipment list of the aircraft's type has no such item.
+    UnknownItem,
+    /// 29: the item was found later than the desk's moment, which is that.
+    BadFound { moment: Minute },
+    /// 30: 50,000 deferrals are open.
+    DeferralsFull { held: u64 },
 }
 
 /// The answer to a request.
@@ -56,13 +79,21 @@ pub enum Reply {
 impl Copied for Refusal {
     fn copy(&self, alloc: Global) -> Result<Refusal, OutOfMemory> {
         match self {
+            Refusal::UnknownActor => Ok(Refusal::UnknownActor),
+            Refusal::WrongKey => Ok(Refusal::WrongKey),
+            Refusal::NotYourRole => Ok(Refusal::NotYourRole),
             Refusal::BadReport { group, what } => Ok(Refusal::BadReport {
                 group: *group,
                 what: *what,
             }),
             Refusal::DayOutOfReach { group } => Ok(Refusal::DayOutOfReach { group: *group }),
             Refusal::ReportsFull { held } => Ok(Refusal::ReportsFull { held: *held }),
+            Refusal::UnknownTail => Ok(Refusal::UnknownTail),
+            Refusal::NoSuchDeferral => Ok(Refusal::NoSuchDeferral),
             Refusal::NoSuchRelease => Ok(Refusal::NoSuchRelease),
+            Refusal::NotYours { holder } => Ok(Refusal::NotYours {
+                holder: holder.copy(alloc)?,
+            }),
             Refusal::BadPlan { leg, what } => Ok(Refusal::BadPlan {
                 leg: *leg,
                 what: *what,
@@ -75,6 +106,10 @@ impl Copied for Refusal {
             Refusal::WrongPhase { phase } => Ok(Refusal::WrongPhase { phase: *phase }),
             Refusal::AlreadySigned => Ok(Refusal::AlreadySigned),
             Refusal::HistoryFull { entries } => Ok(Refusal::HistoryFull { entries: *entries }),
+            Refusal::NoSuchStation => Ok(Refusal::NoSuchStation),
+            Refusal::UnknownItem => Ok(Refusal::UnknownItem),
+            Refusal::BadFound { moment } => Ok(Refusal::BadFound { moment: *moment }),
+            Refusal::DeferralsFull { held } => Ok(Refusal::DeferralsFull { held: *held }),
         }
     }
 }

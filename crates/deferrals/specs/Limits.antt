@@ -12,10 +12,13 @@ use Rattle.deferrals.specs.declared.limits.Limits.{Limits}
 abbrev pub is_of : List ℕ → Deferral → Bool
 is_of tail deferral = bytes_eq deferral.tail tail
 
--- the rows of the items that are deferred on an aircraft, in order of deferral; an item that the
--- list of the aircraft's type lacks has none
-abbrev pub rows_of : TableRows → List ℕ → List ℕ → List Deferral → List MelRow
-rows_of tables kind tail list = filter_map (λ deferral. item_of tables kind deferral.item) (filter (λ deferral. is_of tail deferral) list)
+-- the open deferrals of an aircraft, in order of their ids
+abbrev pub open_on : List ℕ → List Deferral → List Deferral
+open_on tail list = filter (λ deferral. is_of tail deferral) list
+
+-- the rows of deferred items, in order of deferral; an item that the list of the type lacks has none
+abbrev pub rows_of : TableRows → List ℕ → List Deferral → List MelRow
+rows_of tables kind deferred = filter_map (λ deferral. item_of tables kind deferral.item) deferred
 
 abbrev pub names_some : List ℕ → Bool
 names_some [] = false
@@ -41,7 +44,7 @@ limits_by rows = record { extra_fuel = sum (map (λ row. row.extra_fuel) rows); 
 -- the same, where the aircraft's type is known; an aircraft of no known type has no list
 abbrev pub limits_with : TableRows → Option TypeRow → List ℕ → List Deferral → Limits
 limits_with tables None tail list = limits_by []
-limits_with tables (Some kind) tail list = limits_by (rows_of tables kind.kind tail list)
+limits_with tables (Some kind) tail list = limits_by (rows_of tables kind.kind (open_on tail list))
 
 -- what the open deferrals of an aircraft add and take away
 unfoldable pub limits : TableRows → List ℕ → List Deferral → Limits

@@ -8,4 +8,4 @@ mod limits;
 
 pub use held::{DEFERRAL_LIMIT, Deferrals};
 pub use items::{Deferral, due};
-pub use limits::{Limits, limits_of};
+pub use limits::{Limits, limits_of, limits_on, open_on};

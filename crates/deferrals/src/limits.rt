@@ -24,24 +24,39 @@ fn is_of(tail: &[u8], deferral: &Deferral) -> bool
     deferral.tail.bytes() == tail
 }
 
-// The rows of the items that are deferred on an aircraft, in order of deferral.
+/// The open deferrals of an aircraft, in order of their ids.
+pub fn open_on<'a>(
+    alloc: Global,
+    list: &'a [Deferral],
+    tail: &[u8],
+) -> Result<Vec<&'a Deferral>, OutOfMemory>
+    ensures value { IfOk result (λ v. map (λ d. d.now) v.items ≡ spec.open_on tail.now list.now) }
+    ensures count { IfOk result (λ v. length v.items ≤ length list.now) }
+{
+    let mut open = Vec::new(alloc);
+    for deferral in list {
+        if is_of(tail, deferral) {
+            open.push(deferral)?;
+        }
+    }
+    Ok(open)
+}
+
+// The rows of deferred items, in order of deferral.
 fn rows_of<'a>(
     alloc: Global,
     tables: &'a Tables,
     kind: &[u8],
-    tail: &[u8],
-    list: &[Deferral],
+    deferred: &[&Deferral],
 ) -> Result<Vec<&'a MelRow>, OutOfMemory>
-    ensures value { IfOk result (λ v. map (λ row. row.now) v.items ≡ spec.rows_of tables.now kind.now tail.now list.now) }
-    ensures count { IfOk result (λ v. length v.items ≤ length list.now) }
+    ensures value { IfOk result (λ v. map (λ row. row.now) v.items ≡ spec.rows_of tables.now kind.now (map (λ d. d.now) deferred.now)) }
+    ensures count { IfOk result (λ v. length v.items ≤ length deferred.now) }
     ensures within { IfOk result (λ v. All (λ row. FitsItem row.now) v.items) }
 {
     let mut rows = Vec::new(alloc);
-    for deferral in list {
-        if is_of(tail, deferral) {
-            if let Some(row) = tables.item(kind, deferral.item.bytes()) {
-                rows.push(row)?;
-            }
+    for deferral in deferred {
+        if let Some(row) = tables.item(kind, deferral.item.bytes()) {
+            rows.push(row)?;
         }
     }
     Ok(rows)
@@ -81,10 +96,29 @@ fn lost_by(alloc: Global, rows: &[&MelRow]) -> Result<Lost, OutOfMemory>
     Ok(lost)
 }
 
-/// What the open deferrals of an aircraft add and take away: the sum of the extra fuel of its
-/// deferred items, in pounds, and the capabilities that they take away, each once, in the order in
-/// which they were deferred (14 CFR 121.628). An item that the list of the aircraft's type lacks
-/// adds and takes away nothing, and one whose capability is empty takes none away.
+/// What deferred items of one aircraft add and take away, where its type is known: the sum of their extra fuel,
+/// in pounds, and the capabilities that they take away, each once, in the order in which they were deferred (14
+/// CFR 121.628). An item that the list of the type lacks adds and takes away nothing, and one whose capability is
+/// empty takes none away.
+pub fn limits_on(
+    alloc: Global,
+    deferred: &[&Deferral],
+    kind: &[u8],
+    tables: &Tables,
+) -> Result<Limits, OutOfMemory>
+    requires { length deferred.now ≤ DEFERRAL_LIMIT }
+    ensures value { IfOk result (λ limits. limits ≡ spec.limits_by (spec.rows_of tables.now kind.now (map (λ d. d.now) deferred.now))) }
+    ensures within { IfOk result (λ limits. limits.extra_fuel ≤ 5_000_000_000) }
+{
+    let rows = rows_of(alloc, tables, kind, deferred)?;
+    Ok(Limits {
+        extra_fuel: extra_fuel(&rows),
+        lost: lost_by(alloc, &rows)?,
+    })
+}
+
+/// What the open deferrals of an aircraft add and take away, as `limits_on` says of its type. An aircraft of no
+/// known type has no list.
 #[tactic(auto, unfolding(crate::specs::Limits::limits))]
 pub fn limits_of(
     alloc: Global,
@@ -95,12 +129,11 @@ pub fn limits_of(
     ensures value { IfOk result (λ limits. limits ≡ spec.limits tables.now tail.now list.now.list) }
     ensures within { IfOk result (λ limits. limits.extra_fuel ≤ 5_000_000_000) }
 {
-    let rows = match tables.type_of(tail) {
-        None => Vec::new(alloc),
-        Some(kind) => rows_of(alloc, tables, kind.kind.bytes(), tail, list.as_slice())?,
-    };
-    Ok(Limits {
-        extra_fuel: extra_fuel(&rows),
-        lost: lost_by(alloc, &rows)?,
-    })
+    match tables.type_of(tail) {
+        None => limits_on(alloc, &[], b"", tables),
+        Some(kind) => {
+            let open = open_on(alloc, list.as_slice(), tail)?;
+            limits_on(alloc, &open, kind.kind.bytes(), tables)
+        }
+    }
 }

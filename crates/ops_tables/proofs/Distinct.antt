@@ -30,12 +30,13 @@ filtered name s (first ∷ rows) row = by (bytes_eq (name first) s) refl (filter
     by true e rest = rw e (ap (λ xs. first ∷ xs) rest)
     by false e rest = rw e rest
 
-pub grown : {R : Type 0} (name : R → List ℕ) (same : R → R → Bool) (Fits : R → Type 0) (limit : ℕ) (groups more : BTreeMap (List ℕ) (Vec R Global)) (rows : List R) (row : R)
-    → AreGrouped name same Fits limit groups rows → Fits row → list_any (same row) rows ≡ false → length rows < limit
+pub grown : {R : Type 0} (size : ℕ) (name : R → List ℕ) (same : R → R → Bool) (Fits : R → Type 0) (limit : ℕ) (groups more : BTreeMap (List ℕ) (Vec R Global)) (rows : List R) (row : R)
+    → AreGrouped size name same Fits limit groups rows → Fits row → list_any (same row) rows ≡ false → length rows < limit
     → ((s : List ℕ) → group_at more s ≡ group_at groups s ++ cond (bytes_eq (name row) s) (row ∷ []) [])
-    → AreGrouped name same Fits limit more (rows ++ row ∷ [])
-grown name same Fits limit groups more rows row old fits fresh room added = record {
+    → AreGrouped size name same Fits limit more (rows ++ row ∷ [])
+grown size name same Fits limit groups more rows row old fits fresh room added = record {
   grouped = λ s. added s ∙ ap (λ xs. xs ++ cond (bytes_eq (name row) s) (row ∷ []) []) (old.grouped s) ∙ sym (filtered name s rows row);
+  short = old.short;
   allowed = record {
     fits = All-push Fits rows row old.allowed.fits fits;
     distinct = one_more same [] rows row old.allowed.distinct fresh;

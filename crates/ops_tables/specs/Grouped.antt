@@ -1,6 +1,6 @@
 -- Rows that stand in groups by their key. A key has up to three parts, and a group is named by the
 -- front of each, so rows of the same key stand in one group.
-use Rattle.std.specs.Prelude.{◌≡◌, ℕ, ◌+◌, Bool, List, [], ◌∷◌, take, filter, Option, None, Some, Vec}
+use Rattle.std.specs.Prelude.{◌≡◌, ℕ, ◌+◌, ◌≤◌, Bool, List, [], ◌∷◌, take, filter, Option, None, Some, Vec}
 use Rattle.std.specs.List.{slice_set}
 use Rattle.std.specs.declared.alloc.Global.{Global}
 use Rattle.std.specs.BTreeMap.{BTreeMap, get}
@@ -34,7 +34,8 @@ group_at groups name = group_rows (get (slice_cmp nat_cmp) groups name)
 abbrev pub rows_at : {R : Type 0} → (R → List ℕ) → List ℕ → List R → List R
 rows_at name_of name rows = filter (λ r. bytes_eq (name_of r) name) rows
 
--- rows that a table may have, which stand in groups by those names
-pub record AreGrouped {R : Type 0} (name : R → List ℕ) (is_same_key : R → R → Bool) (Fits : R → Type 0) (limit : ℕ) (groups : BTreeMap (List ℕ) (Vec R Global)) (rows : List R) : Type 0 where
+-- rows that a table may have, which stand in groups by those names, of at most 48 bytes
+pub record AreGrouped {R : Type 0} (size : ℕ) (name : R → List ℕ) (is_same_key : R → R → Bool) (Fits : R → Type 0) (limit : ℕ) (groups : BTreeMap (List ℕ) (Vec R Global)) (rows : List R) : Type 0 where
   pub grouped : (s : List ℕ) → group_at groups s ≡ rows_at name s rows
+  pub short : size ≤ 48
   pub allowed : AreRows is_same_key Fits limit rows

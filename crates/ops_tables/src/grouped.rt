@@ -84,7 +84,7 @@ impl<R: Row<N>, const N: usize> Model for Grouped<R, N> {
 
     ghost view = { λ g. map (λ row. row.value) g.rows.items };
 
-    ghost invariant = { λ g. AreGrouped R.name R.is_same_key R.Fits R.limit g.groups (map (λ row. row.value) g.rows.items) };
+    ghost invariant = { λ g. AreGrouped N R.name R.is_same_key R.Fits R.limit g.groups (map (λ row. row.value) g.rows.items) };
 }
 
 // Adds a row at the end of the group of that name.

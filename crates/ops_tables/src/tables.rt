@@ -1,9 +1,9 @@
-ghost use Rattle.std.specs.Prelude.{◌≡◌, ◌≤◌, All, IfSome, IsSome, IsTrue};
+ghost use Rattle.std.specs.Prelude.{◌≡◌, ◌≤◌, All, IfSome, IsSome, is_some};
 ghost use Rattle.std.specs.Option.{option_copied};
 ghost use Rattle.ops_tables.specs.Limits.{FitsSettings, FitsAirport, FitsApproach, FitsAlternate, FitsType, FitsItem};
 ghost use Rattle.ops_tables.specs.Linked.{AreLinked};
 ghost use Rattle.ops_tables.specs.Shown.{shown};
-ghost use Rattle.ops_tables.specs.Tables.{airport_of, tail_named, type_of, may_use, miles_of, route_free, item_of, are_paired, actor_of, approaches_of, alternates_of, has_airport};
+ghost use Rattle.ops_tables.specs.Tables.{airport_of, tail_named, type_of, may_use, miles_of, route_free, item_of, are_paired, actor_of, approaches_of, alternates_of};
 
 use crate::loading::Loading;
 use crate::lookups::{
@@ -57,6 +57,13 @@ impl Tables {
         ensures within { IfSome result FitsAirport }
     {
         airport_in(&self.loaded.airports, s).copied()
+    }
+
+    /// Whether there is an aircraft of that registration.
+    pub fn has_tail(&self, tail: &[u8]) -> bool
+        ensures { result ≡ is_some (tail_named self.now tail.now) }
+    {
+        tail_in(&self.loaded.tails, tail).is_some()
     }
 
     /// The type of an aircraft.

@@ -1,16 +1,36 @@
--- The tests of a plan.
-use Rattle.std.specs.Prelude.{ℕ, ◌+◌, ◌-◌, Bool, ◌&&◌, ◌||◌, not, true, false, ◌≤◌, nat_lt, nat_le, if◌then◌else◌, List, [], ◌∷◌, length, Option, None, Some}
-use Rattle.std.specs.List.{list_all, list_any}
+-- The tests of a plan under the tables of the airline.
+use Rattle.std.specs.Prelude.{ℕ, ◌+◌, ◌-◌, Bool, ◌&&◌, ◌||◌, not, true, false, ◌≤◌, nat_lt, nat_le, if◌then◌else◌, List, [], ◌∷◌, length, Option, None, Some, is_some}
+use Rattle.std.specs.List.{AllByRecursion, list_all, list_any}
 use Rattle.std.specs.Str.{bytes_eq}
+use Rattle.plan.specs.Texts.{IsMoment}
 use Rattle.desk_time.specs.Limits.{first_planned, last_planned}
 use Rattle.codes.specs.Station.{Station}
+use Rattle.ops_tables.specs.Tables.{TableRows, tail_named, actor_of, has_airport}
+use Rattle.ops_tables.specs.declared.rows.Actor.{Actor}
+use Rattle.ops_tables.specs.declared.rows.Role.{Role}
+use Rattle.ops_tables.specs.declared.rows.Role.TheVariants.{D, C, F, M, S}
 use Rattle.plan.specs.declared.flights.Plan.{Plan}
 use Rattle.plan.specs.declared.flights.Leg.{Leg}
 use Rattle.plan.specs.declared.flights.Alternate.{Alternate}
 use Rattle.plan.specs.declared.flights.TakeoffAlternate.{TakeoffAlternate}
 use Rattle.plan.specs.declared.check.BadPlan.{BadPlan}
 use Rattle.plan.specs.declared.check.PlanWhy.{PlanWhy}
-use Rattle.plan.specs.declared.check.PlanWhy.TheVariants.{Repeated, Times, Amount}
+use Rattle.plan.specs.declared.check.PlanWhy.TheVariants.{UnknownTail, UnknownCaptain, Count, NoAirport, Repeated, Unjoined, Times, Amount}
+
+abbrev pub is_captain_role : Role → Bool
+is_captain_role D = false
+is_captain_role C = true
+is_captain_role F = false
+is_captain_role M = false
+is_captain_role S = false
+
+abbrev pub is_captain : Option Actor → Bool
+is_captain None = false
+is_captain (Some actor) = is_captain_role actor.role
+
+-- one to five legs
+abbrev pub has_legs : Plan → Bool
+has_legs p = nat_le 1 (length p.legs) && nat_le (length p.legs) 5
 
 abbrev pub is_at : Station → Station → Bool
 is_at a b = bytes_eq a b
@@ -32,14 +52,32 @@ is_takeoff_at s (Some t) = is_at t.station s
 abbrev pub is_repeated : Leg → Bool
 is_repeated l = is_at l.from l.to || is_takeoff_at l.from l.takeoff_alternate || list_any (is_alternate_at l.to) l.alternates || repeats l.alternates
 
+abbrev pub is_takeoff_airport : TableRows → Option TakeoffAlternate → Bool
+is_takeoff_airport tables None = true
+is_takeoff_airport tables (Some t) = has_airport tables t.station
+
+-- each airport of the leg stands in the table
+abbrev pub has_airports : TableRows → Leg → Bool
+has_airports tables l =
+    has_airport tables l.from && has_airport tables l.to && is_takeoff_airport tables l.takeoff_alternate && list_all (λ a. has_airport tables a.station) l.alternates
+
+-- at most three alternates
+abbrev pub has_few_alternates : Leg → Bool
+has_few_alternates l = nat_le (length l.alternates) 3
+
+-- the leg begins where the leg before it ends
+abbrev pub joins : Option Leg → Leg → Bool
+joins None l = true
+joins (Some before) l = is_at before.to l.from
+
 -- a moment at which a leg may be planned
 abbrev pub is_planned : ℕ → Bool
 is_planned m = nat_le first_planned m && nat_le m last_planned
 
 -- the leg begins no earlier than the leg before it ends
-abbrev pub follows : Option ℕ → Leg → Bool
+abbrev pub follows : Option Leg → Leg → Bool
 follows None l = true
-follows (Some eta) l = nat_le eta l.etd
+follows (Some before) l = nat_le before.eta l.etd
 
 -- an alternate is from 1 minute to 10 hours away
 abbrev pub is_near : ℕ → Bool
@@ -49,7 +87,7 @@ abbrev pub is_takeoff_near : Option TakeoffAlternate → Bool
 is_takeoff_near None = true
 is_takeoff_near (Some t) = is_near t.minutes
 
-abbrev pub has_moments : Option ℕ → Leg → Bool
+abbrev pub has_moments : Option Leg → Leg → Bool
 has_moments before l = is_planned l.etd && is_planned l.eta && nat_lt l.etd l.eta && follows before l
 
 -- it is in the air for a day at most, and for no longer than from its ETD to its ETA
@@ -59,7 +97,7 @@ has_minutes l = nat_le 1 l.minutes && nat_le l.minutes (l.eta - l.etd) && nat_le
 abbrev pub are_near : List Alternate → Bool
 are_near alternates = list_all (λ a. is_near a.minutes) alternates
 
-abbrev pub has_times : Option ℕ → Leg → Bool
+abbrev pub has_times : Option Leg → Leg → Bool
 has_times before l = has_moments before l && has_minutes l && is_takeoff_near l.takeoff_alternate && are_near l.alternates
 
 -- no amount of fuel is above a million pounds
@@ -72,24 +110,42 @@ are_amounts alternates = list_all (λ a. is_amount a.fuel) alternates
 abbrev pub has_amounts : Leg → Bool
 has_amounts l = is_amount l.burn && is_amount l.extra && is_amount l.minimum && is_amount l.onboard && are_amounts l.alternates
 
--- the first test that a leg fails, after a leg that ends at a moment
-abbrev pub leg_fault : Option ℕ → Leg → Option PlanWhy
-leg_fault before l =
-    if is_repeated l then Some Repeated else (if not (has_times before l) then Some Times else (if not (has_amounts l) then Some Amount else None))
+-- the first test of times and amounts that a leg fails, after a leg before it
+abbrev pub flight_fault : Option Leg → Leg → Option PlanWhy
+flight_fault before l =
+    if not (joins before l) then Some Unjoined else (if not (has_times before l) then Some Times else (if not (has_amounts l) then Some Amount else None))
+
+-- the first test that a leg fails, after a leg before it
+abbrev pub leg_fault : TableRows → Option Leg → Leg → Option PlanWhy
+leg_fault tables before l =
+    if not (has_airports tables l) then Some NoAirport
+    else (if not (has_few_alternates l) then Some Count else (if is_repeated l then Some Repeated else flight_fault before l))
 
 abbrev pub fault_or : Option PlanWhy → ℕ → Option BadPlan → Option BadPlan
 fault_or None n later = later
 fault_or (Some why) n later = Some (record { leg = n; why = why })
 
 -- the first leg that fails a test, where the first of them has that number
-abbrev pub first_fault : ℕ → Option ℕ → List Leg → Option BadPlan
-first_fault n before [] = None
-first_fault n before (l ∷ ls) = fault_or (leg_fault before l) n (first_fault (n + 1) (Some l.eta) ls)
+abbrev pub first_fault : TableRows → ℕ → Option Leg → List Leg → Option BadPlan
+first_fault tables n before [] = None
+first_fault tables n before (l ∷ ls) = fault_or (leg_fault tables before l) n (first_fault tables (n + 1) (Some l) ls)
 
--- the first test that a plan fails
-unfoldable pub plan_fault : Plan → Option BadPlan
-plan_fault p = first_fault 1 None p.legs
+-- the first test of the whole plan that it fails
+abbrev pub whole_fault : TableRows → Plan → Option PlanWhy
+whole_fault tables p =
+    if not (is_some (tail_named tables p.tail)) then Some UnknownTail
+    else (if not (is_captain (actor_of tables p.captain)) then Some UnknownCaptain else (if not (has_legs p) then Some Count else None))
 
--- a plan has at most 1,000 legs
-abbrev pub HasFewLegs : Plan → Type 0
-HasFewLegs plan = length plan.legs ≤ 1000
+-- The first test that a plan fails: those of the whole plan, and then those of each leg, all of one leg before
+-- the next.
+unfoldable pub plan_fault : TableRows → Plan → Option BadPlan
+plan_fault tables p = fault_or (whole_fault tables p) 0 (first_fault tables 1 None p.legs)
+
+-- a leg whose moments can be read and shown
+abbrev pub HasMoments : Leg → Type 0
+HasMoments leg = IsMoment leg.etd × IsMoment leg.eta
+
+-- What holds of each plan: it has at most 1,000 legs, and its moments can be read and shown.
+pub record IsPlan (plan : Plan) : Type 0 where
+  pub few : length plan.legs ≤ 1000
+  pub moments : AllByRecursion HasMoments plan.legs

@@ -2,19 +2,62 @@
 use Rattle.std.specs.Prelude.{◌≡◌, ℕ, Bool, true, ◌&&◌, ◌||◌, ◌==◌, nat_lt, if◌then◌else◌, List, [], ◌∷◌, Option, None, Some, codes}
 use Rattle.std.specs.List.{AllByRecursion, list_any}
 use Rattle.plan.specs.declared.findings.Rule.{Rule}
-use Rattle.plan.specs.declared.findings.Rule.TheVariants.{No3}
+use Rattle.plan.specs.declared.findings.Rule.TheVariants.{No3, No4, No5, No6, No7, No8, No9, No10, No11, No12, No13, No14, No15, No16, No19}
 use Rattle.plan.specs.declared.findings.Finding.{Finding}
 
 abbrev pub number_of : Rule → ℕ
 number_of No3 = 3
+number_of No4 = 4
+number_of No5 = 5
+number_of No6 = 6
+number_of No7 = 7
+number_of No8 = 8
+number_of No9 = 9
+number_of No10 = 10
+number_of No11 = 11
+number_of No12 = 12
+number_of No13 = 13
+number_of No14 = 14
+number_of No15 = 15
+number_of No16 = 16
+number_of No19 = 19
 
 -- the rule of a number
 abbrev pub rule_of : ℕ → Option Rule
-rule_of number = if number == 3 then Some No3 else None
+rule_of number =
+    if number == 3 then Some No3
+    else (if number == 4 then Some No4
+    else (if number == 5 then Some No5
+    else (if number == 6 then Some No6
+    else (if number == 7 then Some No7
+    else (if number == 8 then Some No8
+    else (if number == 9 then Some No9
+    else (if number == 10 then Some No10
+    else (if number == 11 then Some No11
+    else (if number == 12 then Some No12
+    else (if number == 13 then Some No13
+    else (if number == 14 then Some No14
+    else (if number == 15 then Some No15
+    else (if number == 16 then Some No16
+    else (if number == 19 then Some No19 else None))))))))))))))
 
--- the section of 14 CFR that a rule stands in
+-- the section of 14 CFR that a rule stands in, or a name of the desk's own
 abbrev pub code_of : Rule → List ℕ
 code_of No3 = codes "121.613"
+code_of No4 = codes "121.617-ALT"
+code_of No5 = codes "121.617-RANGE"
+code_of No6 = codes "121.617-WX"
+code_of No7 = codes "121.619-NONE"
+code_of No8 = codes "121.619-SECOND"
+code_of No9 = codes "121.621-NONE"
+code_of No10 = codes "121.625"
+code_of No11 = codes "121.628-LIMIT"
+code_of No12 = codes "121.628-DUE"
+code_of No13 = codes "121.631-TYPE"
+code_of No14 = codes "121.639"
+code_of No15 = codes "121.645"
+code_of No16 = codes "DESK-BOARD"
+code_of No19 = codes "DESK-TABLES"
 
 abbrev pub is_same : Finding → Finding → Bool
 is_same a b = (number_of a.rule == number_of b.rule) && (a.leg == b.leg) && (a.place == b.place)

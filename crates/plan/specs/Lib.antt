@@ -1,3 +1,4 @@
 pub mod Check
 pub mod Findings
+pub mod Phases
 pub mod Texts

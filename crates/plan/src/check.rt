@@ -1,17 +1,30 @@
-ghost use Rattle.std.specs.Prelude.{◌≡◌, ◌≤◌, length, MatchResult};
-ghost use Rattle.std.specs.List.{list_any};
+ghost use Rattle.std.specs.Prelude.{◌≡◌, ◌≤◌, None, length, MatchResult};
+ghost use Rattle.std.specs.List.{list_all, list_any};
+ghost use Rattle.std.specs.Option.{option_copied};
+ghost use Rattle.ops_tables.specs.Tables.{has_airport};
 ghost use Rattle.plan.specs.Check as spec;
-ghost use Rattle.plan.specs.Check.{plan_fault, HasFewLegs};
+ghost use Rattle.plan.specs.Check.{plan_fault, IsPlan};
 
 use crate::flights::{Alternate, Leg, Plan, TakeoffAlternate};
 use codes::Station;
 use desk_time::{Minute, PLAN_FIRST, PLAN_LAST};
+use ops_tables::{Actor, Role, Tables};
 
-/// Why a leg can't be flown as planned, in the order of the tests.
+/// Why a plan can't be flown.
 #[derive(Clone, Copy, Debug, PartialEq, Eq)]
 pub enum PlanWhy {
+    /// The tables have no such aircraft.
+    UnknownTail,
+    /// The tables have no such captain.
+    UnknownCaptain,
+    /// There isn't one leg to five, or a leg has more than three alternates.
+    Count,
+    /// An airport of the leg isn't in the tables.
+    NoAirport,
     /// An airport stands twice where it may stand once.
     Repeated,
+    /// The leg doesn't begin where the leg before it ends.
+    Unjoined,
     /// A moment, or how long something takes, is out of its bounds.
     Times,
     /// An amount of fuel is above 1,000,000 pounds.
@@ -21,7 +34,7 @@ pub enum PlanWhy {
 /// The first test that a plan fails.
 #[derive(Clone, Copy, Debug, PartialEq, Eq)]
 pub struct BadPlan {
-    /// The leg that fails it, from 1.
+    /// The leg that fails it, from 1; 0 for a test of the whole plan.
     pub leg: u32,
     /// The test.
     pub why: PlanWhy,
@@ -79,13 +92,54 @@ fn is_planned(at: Minute) -> bool
     PLAN_FIRST <= at && at <= PLAN_LAST
 }
 
-fn follows(before: Option<Minute>, leg: &Leg) -> bool
-    ensures { result ≡ spec.follows before leg.now }
+fn follows(before: Option<&Leg>, leg: &Leg) -> bool
+    ensures { result ≡ spec.follows (option_copied before.entry) leg.now }
 {
     match before {
         None => true,
-        Some(eta) => eta <= leg.etd,
+        Some(before) => before.eta <= leg.etd,
     }
+}
+
+fn joins(before: Option<&Leg>, leg: &Leg) -> bool
+    ensures { result ≡ spec.joins (option_copied before.entry) leg.now }
+{
+    match before {
+        None => true,
+        Some(before) => is_at(before.to, leg.from),
+    }
+}
+
+fn is_airport(tables: &Tables, station: Station) -> bool
+    ensures { result ≡ has_airport tables.now station }
+{
+    tables.airport(station).is_some()
+}
+
+fn is_takeoff_airport(tables: &Tables, alternate: Option<TakeoffAlternate>) -> bool
+    ensures { result ≡ spec.is_takeoff_airport tables.now alternate }
+{
+    match alternate {
+        None => true,
+        Some(alternate) => is_airport(tables, alternate.station),
+    }
+}
+
+fn are_airports(tables: &Tables, alternates: &[Alternate]) -> bool
+    ensures { result ≡ list_all (λ a. has_airport tables.now a.station) alternates.now }
+{
+    alternates
+        .iter()
+        .all(|alternate| is_airport(tables, alternate.station))
+}
+
+fn has_airports(tables: &Tables, leg: &Leg) -> bool
+    ensures { result ≡ spec.has_airports tables.now leg.now }
+{
+    is_airport(tables, leg.from)
+        && is_airport(tables, leg.to)
+        && is_takeoff_airport(tables, leg.takeoff_alternate)
+        && are_airports(tables, leg.alternates.as_slice())
 }
 
 fn is_near(minutes: u32) -> bool
@@ -103,8 +157,8 @@ fn is_takeoff_near(alternate: Option<TakeoffAlternate>) -> bool
     }
 }
 
-fn has_moments(before: Option<Minute>, leg: &Leg) -> bool
-    ensures { result ≡ spec.has_moments before leg.now }
+fn has_moments(before: Option<&Leg>, leg: &Leg) -> bool
+    ensures { result ≡ spec.has_moments (option_copied before.entry) leg.now }
 {
     is_planned(leg.etd) && is_planned(leg.eta) && leg.etd < leg.eta && follows(before, leg)
 }
@@ -124,8 +178,8 @@ fn are_near(alternates: &[Alternate]) -> bool
         .all(|alternate| is_near(alternate.minutes))
 }
 
-fn has_times(before: Option<Minute>, leg: &Leg) -> bool
-    ensures { result ≡ spec.has_times before leg.now }
+fn has_times(before: Option<&Leg>, leg: &Leg) -> bool
+    ensures { result ≡ spec.has_times (option_copied before.entry) leg.now }
 {
     has_moments(before, leg)
         && has_minutes(leg)
@@ -155,11 +209,11 @@ fn has_amounts(leg: &Leg) -> bool
         && are_amounts(leg.alternates.as_slice())
 }
 
-fn leg_fault(before: Option<Minute>, leg: &Leg) -> Option<PlanWhy>
-    ensures { result ≡ spec.leg_fault before leg.now }
+fn flight_fault(before: Option<&Leg>, leg: &Leg) -> Option<PlanWhy>
+    ensures { result ≡ spec.flight_fault (option_copied before.entry) leg.now }
 {
-    if is_repeated(leg) {
-        Some(PlanWhy::Repeated)
+    if !joins(before, leg) {
+        Some(PlanWhy::Unjoined)
     } else if !has_times(before, leg) {
         Some(PlanWhy::Times)
     } else if !has_amounts(leg) {
@@ -169,32 +223,85 @@ fn leg_fault(before: Option<Minute>, leg: &Leg) -> Option<PlanWhy>
     }
 }
 
-fn first_fault(legs: &[Leg]) -> Option<BadPlan>
+fn leg_fault(tables: &Tables, before: Option<&Leg>, leg: &Leg) -> Option<PlanWhy>
+    ensures { result ≡ spec.leg_fault tables.now (option_copied before.entry) leg.now }
+{
+    if !has_airports(tables, leg) {
+        Some(PlanWhy::NoAirport)
+    } else if leg.alternates.as_slice().len() > 3 {
+        Some(PlanWhy::Count)
+    } else if is_repeated(leg) {
+        Some(PlanWhy::Repeated)
+    } else {
+        flight_fault(before, leg)
+    }
+}
+
+fn first_fault(tables: &Tables, legs: &[Leg]) -> Option<BadPlan>
     requires { length legs.now ≤ 1000 }
-    ensures { result ≡ spec.first_fault 1 None legs.now }
+    ensures { result ≡ spec.first_fault tables.now 1 None legs.now }
 {
     let mut before = None;
     for (i, leg) in legs.iter().enumerate() {
-        if let Some(why) = leg_fault(before, leg) {
+        if let Some(why) = leg_fault(tables, before, leg) {
             return Some(BadPlan {
                 leg: i as u32 + 1,
                 why,
             });
         }
-        before = Some(leg.eta);
+        before = Some(leg);
     }
     None
 }
 
-/// The tests of a plan of at most 1,000 legs, leg by leg: that no airport stands twice where it may
-/// stand once, that the times are in order and in bounds, and that the amounts of fuel are. The first
-/// that fails is the error.
-#[tactic(auto, unfolding(crate::specs::Check::plan_fault))]
-pub fn check_plan(plan: &Plan) -> Result<(), BadPlan>
-    requires { HasFewLegs plan.now }
-    ensures { MatchResult result (λ _. plan_fault plan.now ≡ None) (λ bad. plan_fault plan.now ≡ Some bad) }
+fn is_captain(actor: Option<&Actor>) -> bool
+    ensures { result ≡ spec.is_captain (option_copied actor.entry) }
 {
-    match first_fault(plan.legs.as_slice()) {
+    match actor {
+        None => false,
+        Some(actor) => match actor.role {
+            Role::C => true,
+            Role::D | Role::F | Role::M | Role::S => false,
+        },
+    }
+}
+
+fn whole_fault(tables: &Tables, plan: &Plan) -> Option<PlanWhy>
+    ensures { result ≡ spec.whole_fault tables.now plan.now }
+{
+    let legs = plan.legs.as_slice().len();
+    if !tables.has_tail(plan.tail.bytes()) {
+        Some(PlanWhy::UnknownTail)
+    } else if !is_captain(tables.actor(plan.captain.bytes())) {
+        Some(PlanWhy::UnknownCaptain)
+    } else if legs < 1 || 5 < legs {
+        Some(PlanWhy::Count)
+    } else {
+        None
+    }
+}
+
+#[tactic(auto, unfolding(crate::specs::Check::plan_fault))]
+fn fault_of(plan: &Plan, tables: &Tables) -> Option<BadPlan>
+    requires { length plan.now.legs ≤ 1000 }
+    ensures { result ≡ plan_fault tables.now plan.now }
+{
+    match whole_fault(tables, plan) {
+        None => first_fault(tables, plan.legs.as_slice()),
+        Some(why) => Some(BadPlan { leg: 0, why }),
+    }
+}
+
+/// The tests of a plan of at most 1,000 legs under the tables. Those of the whole plan are of leg 0: that
+/// its aircraft and its captain are known, and that it has one leg to five. Then come those of each leg, all of
+/// one leg before the next: that its airports are known, that it has at most three alternates, that no airport
+/// stands twice where it may stand once, that it begins where the leg before it ends, that its times are in
+/// order and in bounds, and that its amounts of fuel are. The first that fails is the error. It takes no memory.
+pub fn check_plan(plan: &Plan, tables: &Tables) -> Result<(), BadPlan>
+    requires { IsPlan plan.now }
+    ensures { MatchResult result (λ _. plan_fault tables.now plan.now ≡ None) (λ bad. plan_fault tables.now plan.now ≡ Some bad) }
+{
+    match fault_of(plan, tables) {
         None => Ok(()),
         Some(bad) => Err(bad),
     }

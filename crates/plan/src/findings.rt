@@ -9,13 +9,44 @@ use std::alloc::Global;
 pub enum Rule {
     /// 14 CFR 121.613: the weather at the destination at the ETA is at or above landing minima.
     No3,
+    /// 14 CFR 121.617: where the weather at the airport of departure is below landing minima, a takeoff
+    /// alternate is listed.
+    No4,
+    /// 14 CFR 121.617(a): it is within the distance that the aircraft flies with one engine out.
+    No5,
+    /// 14 CFR 121.617(b): the weather at it is at or above its minima as an alternate.
+    No6,
+    /// 14 CFR 121.619(a): a domestic flight that needs an alternate has one.
+    No7,
+    /// 14 CFR 121.619(a): it has a second one where the weather at the destination and at the first is
+    /// marginal.
+    No8,
+    /// 14 CFR 121.621(a): a flag flight that needs an alternate has one, but on a route that may do
+    /// without.
+    No9,
+    /// 14 CFR 121.625: the weather at each listed alternate is at or above its minima as an alternate.
+    No10,
+    /// 14 CFR 121.628: no deferred item forbids the flight.
+    No11,
+    /// 14 CFR 121.628: no deferred item is due for repair at the ETA.
+    No12,
+    /// 14 CFR 121.631: the type may use each airport of the flight.
+    No13,
+    /// 14 CFR 121.639: the minimum fuel of a domestic flight is what is required.
+    No14,
+    /// 14 CFR 121.645: the minimum fuel of a flag flight is what is required.
+    No15,
+    /// The desk's own: the fuel aboard is at or above the minimum fuel.
+    No16,
+    /// The desk's own: the plan passes its tests under the tables.
+    No19,
 }
 
 /// A rule that fails.
 #[derive(Clone, Copy, Debug, PartialEq, Eq)]
 pub struct Finding {
     pub rule: Rule,
-    /// The leg for which it fails, from 1.
+    /// The leg for which it fails, from 1; 0 for the tests of the whole plan.
     pub leg: u32,
     /// What it fails for, where the rule speaks of several things; else 0.
     pub place: u64,
@@ -38,6 +69,20 @@ impl Rule {
     {
         match self {
             Rule::No3 => 3,
+            Rule::No4 => 4,
+            Rule::No5 => 5,
+            Rule::No6 => 6,
+            Rule::No7 => 7,
+            Rule::No8 => 8,
+            Rule::No9 => 9,
+            Rule::No10 => 10,
+            Rule::No11 => 11,
+            Rule::No12 => 12,
+            Rule::No13 => 13,
+            Rule::No14 => 14,
+            Rule::No15 => 15,
+            Rule::No16 => 16,
+            Rule::No19 => 19,
         }
     }
 
@@ -47,6 +92,20 @@ impl Rule {
     {
         match self {
             Rule::No3 => "121.613",
+            Rule::No4 => "121.617-ALT",
+            Rule::No5 => "121.617-RANGE",
+            Rule::No6 => "121.617-WX",
+            Rule::No7 => "121.619-NONE",
+            Rule::No8 => "121.619-SECOND",
+            Rule::No9 => "121.621-NONE",
+            Rule::No10 => "121.625",
+            Rule::No11 => "121.628-LIMIT",
+            Rule::No12 => "121.628-DUE",
+            Rule::No13 => "121.631-TYPE",
+            Rule::No14 => "121.639",
+            Rule::No15 => "121.645",
+            Rule::No16 => "DESK-BOARD",
+            Rule::No19 => "DESK-TABLES",
         }
     }
 }

@@ -10,5 +10,5 @@ mod texts;
 pub use check::{BadPlan, PlanWhy, check_plan};
 pub use findings::{Finding, Findings, Rule, is_before, is_same};
 pub use flights::{Alternate, Alternates, Kind, Leg, Legs, Plan, TakeoffAlternate};
-pub use release::{Phase, Release, Revision, Signature};
+pub use release::{Phase, Release, Revision, Signature, Standing, standing_of};
 pub use texts::{finding_text, phase_text};

@@ -1,3 +1,6 @@
+ghost use Rattle.std.specs.Prelude.{◌≡◌};
+ghost use Rattle.plan.specs.Phases as spec;
+
 use crate::flights::Plan;
 use desk_io::{Copied, OutOfMemory, Text, copied_option};
 use desk_time::Minute;
@@ -12,6 +15,27 @@ pub enum Phase {
     Ready,
     /// It was cancelled at that moment.
     Cancelled { at: Minute },
+}
+
+/// Where a leg of a release stands.
+#[derive(Clone, Copy, Debug, PartialEq, Eq)]
+pub enum Standing {
+    /// It hasn't departed.
+    Ahead,
+    /// It has departed, and hasn't arrived.
+    InFlight,
+    /// It is flown, or will never be.
+    Flown,
+}
+
+/// Where a leg of a release in a phase stands, counted from 1.
+pub fn standing_of(phase: Phase, _leg: u32) -> Standing
+    ensures { result ≡ spec.standing phase _leg }
+{
+    match phase {
+        Phase::Drafted | Phase::Ready => Standing::Ahead,
+        Phase::Cancelled { .. } => Standing::Flown,
+    }
 }
 
 /// The signature of a person (14 CFR 121.663).

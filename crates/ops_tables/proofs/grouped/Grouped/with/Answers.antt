@@ -20,6 +20,6 @@ invariant_of-result g c =
     ap (map shows) c.in_ok-push.ensures.items ∙ map_push shows before c.of.result ∙ ap (λ x. rows ++ x ∷ []) c.of.ensures in
     let fresh : list_any (same row) rows ≡ false = ap (list_any (same row)) c.self.view_is ∙ c.requires.fresh in
     let room : length rows < limit = subst (λ (xs : List _). length xs < limit) (sym c.self.view_is) c.requires.room in
-    subst (λ (xs : List _). AreGrouped name same g.R.Row.Fits limit c.add.new.groups xs) (sym now_is)
-    (grown name same g.R.Row.Fits limit c.self.inside.groups c.add.new.groups rows row c.self.invariant c.requires.fits fresh room
+    subst (λ (xs : List _). AreGrouped g.row.N name same g.R.Row.Fits limit c.add.new.groups xs) (sym now_is)
+    (grown g.row.N name same g.R.Row.Fits limit c.self.inside.groups c.add.new.groups rows row c.self.invariant c.requires.fits fresh room
     (λ s. rw c.group_name.ensures at (c.in_ok-add.ensures s)))
