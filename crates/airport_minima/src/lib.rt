@@ -7,3 +7,4 @@ mod usable;
 
 pub use derived::{alternate_pairs, landing};
 pub use floors::flag_floor;
+pub use usable::millimetres;

@@ -10,8 +10,8 @@ use std::alloc::Global;
 /// Millimetres in a sixteenth of a statute mile.
 const SIXTEENTH: u32 = 100_584;
 
-// Sixteenths of a statute mile in millimetres.
-pub(crate) fn millimetres(sixteenths: u32) -> u32
+/// Sixteenths of a statute mile in millimetres, of at most ten miles.
+pub fn millimetres(sixteenths: u32) -> u32
     requires { sixteenths ≤ 160 }
     ensures { result ≡ spec.millimetres sixteenths }
 {

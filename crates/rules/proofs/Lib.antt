@@ -1,2 +1,9 @@
 pub mod FreshLaws
+pub mod OpenLaws
+pub mod Needs
+pub mod DueLaws
+pub mod SightLaws
+pub mod Rising
+pub mod Order
+pub mod Truth
 pub mod Laws

@@ -1,3 +1,10 @@
 pub mod Grounds
 pub mod Evidence
+pub mod Circumstances
+pub mod Weather
+pub mod TakeoffAlternates
+pub mod DestinationAlternates
+pub mod Equipment
+pub mod Fuel
 pub mod Judgement
+pub mod Sights

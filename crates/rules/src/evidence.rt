@@ -1,10 +1,40 @@
-ghost use Rattle.std.specs.Prelude.{◌≡◌, ◌++◌, option_to_list};
+ghost use Rattle.std.specs.Prelude.{◌≡◌, ◌++◌, map, IfOk, OnOk, option_to_list};
 ghost use Rattle.std.specs.Option.{option_copied};
 ghost use Rattle.facts.specs.Latest as latest;
+ghost use Rattle.facts.specs.Latest.{metar_latest, taf_latest};
+ghost use Rattle.deferrals.specs.Held.{without};
+ghost use Rattle.deferrals.specs.Limits.{is_of, open_on as opened};
+ghost use Rattle.rules.specs.Grounds.{reports_of, once_cleared, deferrals_of};
 ghost use Rattle.rules.specs.Evidence as spec;
 
 use codes::Station;
+use deferrals::{Deferral, Deferrals, open_on};
+use desk_io::OutOfMemory;
+use desk_time::Minute;
 use facts::{Read, Report, Reports};
+use metar::Metar;
+use ops_tables::Tables;
+use std::alloc::Global;
+use taf::Taf;
+
+/// What a plan is judged by: what is held, and what is about to change of it.
+#[derive(Clone, Copy)]
+pub struct Evidence<'a> {
+    /// The reports that are held.
+    pub held: &'a Reports,
+    /// The report that comes after them.
+    pub fresh: Option<&'a Report>,
+    /// The deferrals that are open.
+    pub deferrals: &'a Deferrals,
+    /// The deferral that comes after them.
+    pub deferred: Option<&'a Deferral>,
+    /// The id of the deferral that is about to go.
+    pub cleared: Option<u64>,
+    /// The operations tables of the airline.
+    pub tables: &'a Tables,
+    /// The moment of the judgement.
+    pub moment: Minute,
+}
 
 // Of two reports the one of the later moment, and of equal moments the second.
 fn later<'a>(earlier: Option<&'a Report>, report: &'a Report) -> Option<&'a Report>
@@ -75,9 +105,9 @@ fn with_taf<'a>(
     }
 }
 
-/// The latest METAR or SPECI of a station, of the reports that are held and one that comes after them.
+// The latest METAR or SPECI of a station, of the reports that are held and one that comes after them.
 #[tactic(auto, using(crate::proofs::FreshLaws::metar_with))]
-pub fn latest_metar<'a>(
+fn latest_metar<'a>(
     held: &'a Reports,
     fresh: Option<&'a Report>,
     station: Station,
@@ -87,9 +117,9 @@ pub fn latest_metar<'a>(
     with_metar(held.latest_metar(station), station, fresh)
 }
 
-/// The latest TAF of a station, of the reports that are held and one that comes after them.
+// The latest TAF of a station, of the reports that are held and one that comes after them.
 #[tactic(auto, using(crate::proofs::FreshLaws::taf_with))]
-pub fn latest_taf<'a>(
+fn latest_taf<'a>(
     held: &'a Reports,
     fresh: Option<&'a Report>,
     station: Station,
@@ -97,4 +127,89 @@ pub fn latest_taf<'a>(
     ensures { option_copied result ≡ latest.latest_taf (held.now.reports ++ option_to_list (option_copied fresh.entry)) station }
 {
     with_taf(held.latest_taf(station), station, fresh)
+}
+
+fn is_of(tail: &[u8], deferral: &Deferral) -> bool
+    ensures { result ≡ is_of tail.now deferral.now }
+{
+    deferral.tail.bytes() == tail
+}
+
+// The open deferrals of an aircraft, but for the one with that id.
+fn open_without<'a>(
+    alloc: Global,
+    list: &'a [Deferral],
+    id: u64,
+    tail: &[u8],
+) -> Result<Vec<&'a Deferral>, OutOfMemory>
+    ensures { IfOk result (λ v. map (λ d. d.now) v.items ≡ opened tail.now (without id list.now)) }
+{
+    let mut open = Vec::new(alloc);
+    for deferral in list {
+        if deferral.id != id && is_of(tail, deferral) {
+            open.push(deferral)?;
+        }
+    }
+    Ok(open)
+}
+
+// The open deferrals of an aircraft, but for the one that is cleared.
+fn open_once_cleared<'a>(
+    alloc: Global,
+    list: &'a [Deferral],
+    cleared: Option<u64>,
+    tail: &[u8],
+) -> Result<Vec<&'a Deferral>, OutOfMemory>
+    ensures { IfOk result (λ v. map (λ d. d.now) v.items ≡ opened tail.now (once_cleared cleared list.now)) }
+{
+    match cleared {
+        None => open_on(alloc, list, tail),
+        Some(id) => open_without(alloc, list, id, tail),
+    }
+}
+
+// Adds a deferral where it is one of the aircraft.
+fn push_deferred<'a>(
+    list: &mut Vec<&'a Deferral>,
+    deferred: Option<&'a Deferral>,
+    tail: &[u8],
+) -> Result<(), OutOfMemory>
+    ensures { OnOk result (map (λ d. d.now) list.new.items ≡ map (λ d. d.now) list.old.items ++ opened tail.now (option_to_list (option_copied deferred.entry))) }
+{
+    if let Some(deferral) = deferred
+        && is_of(tail, deferral)
+    {
+        list.push(deferral)?;
+    }
+    Ok(())
+}
+
+impl<'a> Evidence<'a> {
+    /// What the latest METAR or SPECI of a station says.
+    pub(crate) fn metar_of(&self, station: Station) -> Option<&'a Metar>
+        ensures { option_copied result ≡ metar_latest (reports_of self.now) station }
+    {
+        latest_metar(self.held, self.fresh, station)?.read.metar()
+    }
+
+    /// What the latest TAF of a station says.
+    pub(crate) fn taf_of(&self, station: Station) -> Option<&'a Taf>
+        ensures { option_copied result ≡ taf_latest (reports_of self.now) station }
+    {
+        latest_taf(self.held, self.fresh, station)?.read.taf()
+    }
+
+    /// The deferrals of an aircraft as they will stand, in order of their ids.
+    #[tactic(auto, using(crate::proofs::OpenLaws::opened_append))]
+    pub(crate) fn deferrals_on(
+        &self,
+        alloc: Global,
+        tail: &[u8],
+    ) -> Result<Vec<&'a Deferral>, OutOfMemory>
+        ensures { IfOk result (λ v. map (λ d. d.now) v.items ≡ opened tail.now (deferrals_of self.now)) }
+    {
+        let mut open = open_once_cleared(alloc, self.deferrals.as_slice(), self.cleared, tail)?;
+        push_deferred(&mut open, self.deferred, tail)?;
+        Ok(open)
+    }
 }

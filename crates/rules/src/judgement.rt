@@ -1,96 +1,117 @@
-ghost use Rattle.std.specs.Prelude.{◌≡◌, ◌≤◌, ◌+◌, length, IfOk};
+ghost use Rattle.std.specs.Prelude.{◌≡◌, ◌≤◌, ◌+◌, ◌++◌, ◌∷◌, [], length, map, IfOk, OnOk};
 ghost use Rattle.std.specs.List.{AllByRecursion};
-ghost use Rattle.std.specs.Option.{option_copied};
-ghost use Rattle.facts.specs.Latest.{metar_latest, taf_latest};
-ghost use Rattle.rules.specs.Grounds.{reports_of, grounds_of};
+ghost use Rattle.ops_tables.specs.Limits.{FitsType};
+ghost use Rattle.plan.specs.Check.{IsPlan};
+ghost use Rattle.plan.specs.Findings.{AreInOrder};
+ghost use Rattle.deferrals.specs.Held.{AreRising};
+ghost use Rattle.rules.specs.Grounds.{deferrals_of, grounds_of, grounds_held};
+ghost use Rattle.rules.specs.Circumstances.{case_of};
+ghost use Rattle.rules.specs.Sights as seen;
 ghost use Rattle.rules.specs.Judgement as spec;
 ghost use Rattle.rules.specs.Judgement.{findings_of, IsTrueOf, NamesAll};
-ghost use Rattle.plan.specs.Findings.{AreInOrder};
-ghost use Rattle.plan.specs.Check.{HasFewLegs};
 
-use crate::evidence::{latest_metar, latest_taf};
-use codes::{Cond, Pair, Station, meets};
-use desk_io::OutOfMemory;
+use crate::circumstances::Circumstances;
+use crate::evidence::Evidence;
+use crate::sights::Sight;
+use deferrals::{DEFERRAL_LIMIT, Deferrals};
+use desk_io::{Listed, OutOfMemory};
 use desk_time::Minute;
-use facts::{Report, Reports};
-use metar::Metar;
-use plan::{Finding, Findings, Leg, Phase, Plan, Rule};
+use facts::Reports;
+use ops_tables::{Tables, TypeRow};
+use plan::{Finding, Findings, Phase, Plan, Rule, check_plan};
 use std::alloc::Global;
 use std::sync::ledger::Ledger;
-use taf::Taf;
-use weather_window::{Steps, at};
+use weather_window::Steps;
 
-/// How many minutes a METAR holds.
-pub const HOLD: u32 = 60;
+/// The rules of a plan that passes its tests, in their order.
+const RULES: [Rule; 14] = [
+    Rule::No3,
+    Rule::No4,
+    Rule::No5,
+    Rule::No6,
+    Rule::No7,
+    Rule::No8,
+    Rule::No9,
+    Rule::No10,
+    Rule::No11,
+    Rule::No12,
+    Rule::No13,
+    Rule::No14,
+    Rule::No15,
+    Rule::No16,
+];
 
-// The landing minima of every station.
-const LANDING: Pair = Pair {
-    ceiling: 200,
-    vis: 804_672,
-};
-
-/// What a plan is judged by: what is held, and a report that is about to be admitted.
-#[derive(Clone, Copy)]
-pub struct Evidence<'a> {
-    /// The reports that are held.
-    pub held: &'a Reports,
-    /// The report that comes after them.
-    pub fresh: Option<&'a Report>,
-    /// The moment of the judgement.
-    pub moment: Minute,
-}
-
-impl<'a> Evidence<'a> {
-    fn metar_at(&self, station: Station) -> Option<&'a Metar>
-        ensures { option_copied result ≡ metar_latest (reports_of self.now) station }
-    {
-        latest_metar(self.held, self.fresh, station)?.read.metar()
-    }
-
-    fn taf_at(&self, station: Station) -> Option<&'a Taf>
-        ensures { option_copied result ≡ taf_latest (reports_of self.now) station }
-    {
-        latest_taf(self.held, self.fresh, station)?.read.taf()
-    }
-
-    /// The weather that controls at a station, by its latest TAF and its latest METAR or SPECI.
-    pub fn weather_at(&self, station: Station, moment: Minute) -> Cond
-        ensures { result ≡ spec.weather_at (grounds_of self.now) station moment }
-    {
-        at(self.taf_at(station), self.metar_at(station), HOLD, moment)
-    }
-
-    fn is_below_landing(&self, leg: &Leg) -> bool
-        ensures { result ≡ spec.is_below_landing (grounds_of self.now) leg.now }
-    {
-        !meets(self.weather_at(leg.to, leg.eta), &[LANDING])
-    }
-
-    fn landing_findings(&self, alloc: Global, legs: &[Leg]) -> Result<Findings, OutOfMemory>
-        requires { length legs.now ≤ 1000 }
-        ensures { IfOk result (λ f. f ≡ spec.landing_findings (grounds_of self.now) 1 legs.now) }
-    {
-        let mut findings = Vec::new(alloc);
-        for (i, leg) in legs.iter().enumerate() {
-            if self.is_below_landing(leg) {
-                findings.push(Finding {
-                    rule: Rule::No3,
-                    leg: i as u32 + 1,
-                    place: 0,
-                })?;
-            }
-        }
-        Ok(Findings::from_vec(findings))
-    }
-}
-
-fn legs_left(phase: Phase, plan: &Plan) -> &[Leg]
-    ensures { result.now ≡ spec.legs_left phase plan.now.legs }
+// Adds a finding of a rule and a leg for each place.
+fn push_places(
+    findings: &mut Findings,
+    rule: Rule,
+    leg: u32,
+    places: &[u64],
+) -> Result<(), OutOfMemory>
+    ensures { OnOk result (findings.new ≡ findings.old ++ map (spec.finding rule leg) places.now) }
 {
-    match phase {
-        Phase::Drafted | Phase::Ready => plan.legs.as_slice(),
-        Phase::Cancelled { .. } => &[],
+    for place in places {
+        findings.push(Finding {
+            rule,
+            leg,
+            place: *place,
+        })?;
     }
+    Ok(())
+}
+
+// Adds the findings of a rule, leg by leg.
+fn push_rule(findings: &mut Findings, rule: Rule, sights: &[Sight]) -> Result<(), OutOfMemory>
+    requires { length sights.now ≤ 1000 }
+    ensures { OnOk result (findings.new ≡ findings.old ++ seen.findings_in rule 1 sights.now) }
+{
+    for (i, sight) in sights.iter().enumerate() {
+        push_places(findings, rule, i as u32 + 1, sight.places(rule))?;
+    }
+    Ok(())
+}
+
+// The findings of rules, rule by rule.
+fn findings_in(alloc: Global, rules: &[Rule], sights: &[Sight]) -> Result<Findings, OutOfMemory>
+    requires { length sights.now ≤ 1000 }
+    ensures { IfOk result (λ f. f ≡ seen.findings_in_all rules.now sights.now) }
+{
+    let mut findings = Listed::new(alloc);
+    for rule in rules {
+        push_rule(&mut findings, *rule, sights)?;
+    }
+    Ok(findings)
+}
+
+// The findings of a plan that passes its tests, whose aircraft is of that type.
+fn findings_by<'a>(
+    alloc: Global,
+    plan: &Plan,
+    phase: Phase,
+    evidence: Evidence<'a>,
+    aircraft: &'a TypeRow,
+) -> Result<Findings, OutOfMemory>
+    requires plan { IsPlan plan.now }
+    requires few { length (deferrals_of evidence) ≤ DEFERRAL_LIMIT }
+    requires fits { FitsType aircraft.now }
+    ensures { IfOk result (λ f. f ≡ spec.findings_by spec.rules_of_legs (case_of (grounds_of evidence.entry) plan.now aircraft.now) phase plan.now.legs) }
+{
+    let circumstances = Circumstances::of(alloc, evidence, plan, aircraft)?;
+    let sights = circumstances.sights(alloc, phase, plan.legs.as_slice())?;
+    findings_in(alloc, &RULES, &sights)
+}
+
+// The finding that a plan fails its tests, for a leg, or for the whole plan.
+fn only_tables(alloc: Global, leg: u32) -> Result<Findings, OutOfMemory>
+    ensures { IfOk result (λ f. f ≡ spec.finding Rule.No19 leg 0 ∷ []) }
+{
+    let mut findings = Listed::new(alloc);
+    findings.push(Finding {
+        rule: Rule::No19,
+        leg,
+        place: 0,
+    })?;
+    Ok(findings)
 }
 
 // The rules that a plan fails in a phase.
@@ -101,14 +122,22 @@ fn findings(
     phase: Phase,
     evidence: Evidence<'_>,
 ) -> Result<Findings, OutOfMemory>
-    requires { HasFewLegs plan.now }
+    requires plan { IsPlan plan.now }
+    requires few { length (deferrals_of evidence) ≤ DEFERRAL_LIMIT }
     ensures { IfOk result (λ f. f ≡ findings_of plan.now phase (grounds_of evidence.entry)) }
 {
-    evidence.landing_findings(alloc, legs_left(phase, plan))
+    let tables = evidence.tables;
+    match check_plan(plan, tables) {
+        Err(bad) => only_tables(alloc, bad.leg),
+        Ok(()) => match tables.type_of(plan.tail.bytes()) {
+            None => only_tables(alloc, 0),
+            Some(aircraft) => findings_by(alloc, plan, phase, evidence, aircraft),
+        },
+    }
 }
 
-/// The rules that a plan fails in a phase, by what is held and a report that is about to be admitted,
-/// as `judge` finds them. It counts one step.
+/// The rules that a plan fails in a phase, by what is held and what is about to change of it, as `judge` finds
+/// them. It counts one step.
 #[tactic(auto, using(crate::proofs::Laws::findings_in_order, crate::proofs::Laws::findings_are_true))]
 pub fn judge_by<L: Ledger>(
     alloc: Global,
@@ -117,7 +146,9 @@ pub fn judge_by<L: Ledger>(
     evidence: Evidence<'_>,
     steps: &mut Steps<L>,
 ) -> Result<Findings, OutOfMemory>
-    requires { HasFewLegs plan.now }
+    requires plan { IsPlan plan.now }
+    requires few { length (deferrals_of evidence) ≤ DEFERRAL_LIMIT }
+    requires rising { AreRising (deferrals_of evidence) }
     ensures value { IfOk result (λ f. f ≡ findings_of plan.now phase (grounds_of evidence.entry)) }
     ensures order { IfOk result AreInOrder }
     ensures truth { IfOk result (AllByRecursion (IsTrueOf plan.now phase (grounds_of evidence.entry))) }
@@ -128,28 +159,37 @@ pub fn judge_by<L: Ledger>(
     findings(alloc, plan, phase, evidence)
 }
 
-/// The rules that a plan fails in a phase, in order of rule and leg, each once: of each leg that isn't
-/// flown, that the weather at the destination at the ETA is below landing minima (14 CFR 121.613).
-/// It counts one step.
-#[tactic(auto, using(crate::proofs::Laws::and_none))]
-pub fn judge<L: Ledger>(
+/// The rules that a plan fails in a phase, in order of rule, leg and place, each once. A plan that fails its tests
+/// under the tables fails the rule of the tables alone. Otherwise each rule of weather, alternates, equipment and
+/// fuel fails for the legs that aren't flown, or that haven't departed, at which its predicate holds (14 CFR 121.613
+/// to 121.645). It counts one step.
+#[tactic(auto, using(crate::proofs::OpenLaws::and_none))]
+pub fn judge<'a, L: Ledger>(
     alloc: Global,
     plan: &Plan,
     phase: Phase,
-    facts: &Reports,
+    facts: &'a Reports,
+    deferrals: &'a Deferrals,
+    tables: &'a Tables,
     moment: Minute,
     steps: &mut Steps<L>,
 ) -> Result<Findings, OutOfMemory>
-    requires { HasFewLegs plan.now }
-    ensures value { IfOk result (λ f. f ≡ findings_of plan.now phase (record { reports = facts.now.reports; moment = moment })) }
+    requires { IsPlan plan.now }
+    ensures value { IfOk result (λ f. f ≡ findings_of plan.now phase (grounds_held tables.now facts.now.reports deferrals.now.list moment)) }
     ensures order { IfOk result AreInOrder }
-    ensures truth { IfOk result (AllByRecursion (IsTrueOf plan.now phase (record { reports = facts.now.reports; moment = moment }))) }
-    ensures complete { IfOk result (NamesAll plan.now phase (record { reports = facts.now.reports; moment = moment })) }
+    ensures truth { IfOk result (AllByRecursion (IsTrueOf plan.now phase (grounds_held tables.now facts.now.reports deferrals.now.list moment))) }
+    ensures complete { IfOk result (NamesAll plan.now phase (grounds_held tables.now facts.now.reports deferrals.now.list moment)) }
     ensures steps { steps.new ≡ steps.old + 1 }
 {
+    // The list says of itself that its ids rise, and that it is within its limit.
+    let _ = deferrals.as_slice();
     let evidence = Evidence {
         held: facts,
         fresh: None,
+        deferrals,
+        deferred: None,
+        cleared: None,
+        tables,
         moment,
     };
     judge_by(alloc, plan, phase, evidence, steps)

@@ -1,8 +1,16 @@
 //! The rules that a release is judged by.
 #![tactic(auto)]
 
+mod circumstances;
+mod destination_alternates;
+mod equipment;
 mod evidence;
 mod judgement;
+mod required_fuel;
+mod sights;
+mod takeoff_alternates;
+mod weather;
 
-pub use judgement::{Evidence, HOLD, judge, judge_by};
+pub use evidence::Evidence;
+pub use judgement::{judge, judge_by};
 pub use weather_window::Steps;

@@ -1,0 +1,29 @@
+-- The open deferrals of an aircraft.
+use Rattle.std.proofs.Common.{◌≡◌, ◌≤◌, ℕ, Bool, true, false, cond, List, [], ◌∷◌, ◌++◌, length, append-nil, Bor, sym, ap, ◌∙◌, arith}
+use Rattle.std.specs.Prelude.{map}
+use Rattle.std.proofs.lemmas.List.{length-map}
+use Rattle.std.proofs.lemmas.List.Elements.{filter-append}
+use Rattle.deferrals.specs.declared.items.Deferral.{Deferral}
+use Rattle.deferrals.specs.Limits.{open_on, is_of}
+
+-- what is held and nothing more
+pub and_none : {A : Type 0} (xs : List A) → xs ++ [] ≡ xs
+and_none xs = append-nil xs
+
+pub opened_append : (tail : List ℕ) (xs ys : List Deferral) → open_on tail (xs ++ ys) ≡ open_on tail xs ++ open_on tail ys
+opened_append tail xs ys = filter-append (λ d. is_of tail d) xs ys
+
+length_by : (b : Bool) (d : Deferral) (kept all : List Deferral) → length kept ≤ length all → length (cond b (d ∷ kept) kept) ≤ length (d ∷ all)
+length_by true d kept all fewer = omega (arith, fewer)
+length_by false d kept all fewer = omega (arith, fewer)
+
+opened_fewer : (tail : List ℕ) (xs : List Deferral) → length (open_on tail xs) ≤ length xs
+opened_fewer tail [] = omega arith
+opened_fewer tail (d ∷ xs) = length_by (is_of tail d) d (open_on tail xs) xs (opened_fewer tail xs)
+
+-- those of the aircraft are no more than all
+pub opened_count : (tail : List ℕ) (some : List (Bor Deferral)) (all : List Deferral) → map (λ d. d.now) some ≡ open_on tail all → length some ≤ length all
+opened_count tail some all is =
+    let fewer = opened_fewer tail all in
+    let same : length some ≡ length (open_on tail all) = sym (length-map some (λ (d : Bor Deferral). d.now)) ∙ ap length is in
+    omega (arith, fewer, same)

@@ -1,0 +1,57 @@
+-- The circumstances in which a plan is judged: its aircraft, the weather, and the minima that hold for both.
+use Rattle.std.specs.Prelude.{ℕ, Bool, not, List}
+use Rattle.codes.specs.Station.{Station}
+use Rattle.codes.specs.declared.cond.Cond.{Cond}
+use Rattle.codes.specs.declared.pair.Pair.{Pair}
+use Rattle.codes.specs.Pair.{meets}
+use Rattle.ops_tables.specs.declared.rows.TypeRow.{TypeRow}
+use Rattle.plan.specs.declared.flights.Kind.{Kind}
+use Rattle.plan.specs.declared.flights.Plan.{Plan}
+use Rattle.weather_window.specs.Window.{cond_at, worst_cond}
+use Rattle.facts.specs.Latest.{metar_latest, taf_latest}
+use Rattle.airport_minima.specs.Minima.{landing, alternate_pairs}
+use Rattle.deferrals.specs.declared.items.Deferral.{Deferral}
+use Rattle.deferrals.specs.declared.limits.Limits.{Limits}
+use Rattle.deferrals.specs.Limits.{open_on, rows_of, limits_by}
+use Rattle.rules.specs.Grounds.{Grounds}
+
+pub record Case : Type 0 where
+  pub grounds : Grounds
+  -- domestic or flag
+  pub flight : Kind
+  -- the type of the aircraft
+  pub aircraft : TypeRow
+  -- the open deferrals of the aircraft in order of their ids
+  pub deferred : List Deferral
+  -- what these add and take away
+  pub limits : Limits
+
+-- a plan whose aircraft is of a type
+abbrev pub case_of : Grounds → Plan → TypeRow → Case
+case_of g plan aircraft = record {
+  grounds = g;
+  flight = plan.kind;
+  aircraft = aircraft;
+  deferred = open_on plan.tail g.deferrals;
+  limits = limits_by (rows_of g.tables aircraft.kind (open_on plan.tail g.deferrals));
+}
+
+-- the weather that controls at a station, by its latest forecast and its latest observation
+abbrev pub weather_at : Grounds → Station → ℕ → Cond
+weather_at g station moment = cond_at (taf_latest g.reports station) (metar_latest g.reports station) g.tables.settings.hold_minutes moment
+
+-- the worst of it from one minute to another
+abbrev pub worst_weather : Grounds → Station → ℕ → ℕ → Cond
+worst_weather g station from to = worst_cond (taf_latest g.reports station) (metar_latest g.reports station) g.tables.settings.hold_minutes from to
+
+-- the landing minima of a station for the aircraft
+abbrev pub landing_at : Case → Station → List Pair
+landing_at c station = landing c.grounds.tables c.aircraft station c.limits.lost
+
+-- the minima of a station as an alternate for the aircraft
+abbrev pub alternate_at : Case → Station → List Pair
+alternate_at c station = alternate_pairs c.grounds.tables c.aircraft station c.limits.lost
+
+-- the weather at a station is below its minima as an alternate
+abbrev pub is_below_alternate : Case → Station → ℕ → Bool
+is_below_alternate c station moment = not (meets (weather_at c.grounds station moment) (alternate_at c station))

@@ -1,0 +1,156 @@
+-- What each rule says of a leg, where all that the rules need of a station is looked up once.
+use Rattle.std.specs.Prelude.{◌≡◌, ℕ, ◌+◌, ◌≤◌, Bool, true, false, ◌&&◌, if◌then◌else◌, List, [], ◌∷◌, ◌++◌, map, is_none}
+use Rattle.std.specs.List.{list_all}
+use Rattle.std.specs.Option.{option_copied}
+use Rattle.codes.specs.Station.{Station}
+use Rattle.facts.specs.Latest.{metar_latest, taf_latest}
+use Rattle.deferrals.specs.declared.items.Deferral.{Deferral}
+use Rattle.plan.specs.Phases.{standing}
+use Rattle.plan.specs.declared.flights.Leg.{Leg}
+use Rattle.plan.specs.declared.flights.Alternate.{Alternate}
+use Rattle.plan.specs.declared.release.Phase.{Phase}
+use Rattle.plan.specs.declared.release.Standing.{Standing}
+use Rattle.plan.specs.declared.release.Standing.TheVariants.{Ahead, InFlight, Flown}
+use Rattle.plan.specs.declared.findings.Finding.{Finding}
+use Rattle.plan.specs.declared.findings.Rule.{Rule}
+use Rattle.plan.specs.declared.findings.Rule.TheVariants.{No3, No4, No5, No6, No7, No8, No9, No10, No11, No12, No13, No14, No15, No16, No19}
+use Rattle.rules.specs.Grounds.{Grounds, grounds_of}
+use Rattle.rules.specs.Circumstances.{Case, is_below_alternate}
+use Rattle.rules.specs.Weather.{is_below_landing}
+use Rattle.rules.specs.TakeoffAlternates.{needs_takeoff_alternate, is_far, is_below_there}
+use Rattle.rules.specs.DestinationAlternates.{place_if, needs_alternate, lacks_domestic_alternate, lacks_second_alternate, lacks_flag_alternate, is_marginal_at, low_alternates}
+use Rattle.rules.specs.Equipment.{is_limiting, is_overdue, limiting, overdue, barred}
+use Rattle.rules.specs.Fuel.{does_without, is_short_domestic, is_short_flag, is_underfilled}
+use Rattle.rules.specs.Judgement.{finding}
+use Rattle.rules.specs.declared.circumstances.Circumstances.{Circumstances}
+use Rattle.rules.specs.declared.weather.Reported.{Reported}
+use Rattle.rules.specs.declared.takeoff_alternates.Takeoff.{Takeoff}
+use Rattle.rules.specs.declared.destination_alternates.Need.{Need}
+use Rattle.rules.specs.declared.destination_alternates.There.{There}
+use Rattle.rules.specs.declared.destination_alternates.AllThere.{AllThere}
+use Rattle.rules.specs.declared.destination_alternates.Arrival.{Arrival}
+use Rattle.rules.specs.declared.equipment.OfDeferral.{OfDeferral}
+use Rattle.rules.specs.declared.equipment.Deferred.{Deferred}
+use Rattle.rules.specs.declared.equipment.Equipment.{Equipment}
+use Rattle.rules.specs.declared.required_fuel.Fuel.{Fuel}
+use Rattle.rules.specs.declared.sights.Sight.{Sight}
+
+-- the case that circumstances are
+abbrev pub case_by : Circumstances → Case
+case_by c = record { grounds = grounds_of c.evidence; flight = c.flight; aircraft = c.aircraft.now; deferred = map (λ d. d.now) c.deferred.items; limits = c.limits }
+
+-- the bounds of what the tables and the deferrals say
+pub record IsWithin (c : Circumstances) : Type 0 where
+  pub knots : c.aircraft.now.oei_knots ≤ 1000
+  pub extra_fuel : c.limits.extra_fuel ≤ 5_000_000_000
+
+-- the latest reports of a station
+pub record IsReported (g : Grounds) (station : Station) (reported : Reported) : Type 0 where
+  pub taf : option_copied reported.taf ≡ taf_latest g.reports station
+  pub metar : option_copied reported.metar ≡ metar_latest g.reports station
+  pub hold : reported.hold ≡ g.tables.settings.hold_minutes
+  pub within : reported.hold ≤ 1440
+
+-- the rules on takeoff alternates, where it is known whether one is needed
+abbrev pub takeoff_where : Bool → Case → Leg → Takeoff
+takeoff_where needed c leg =
+    record { lacks = needed && is_none leg.takeoff_alternate; is_far = needed && is_far c leg leg.takeoff_alternate; is_low = needed && is_below_there c leg leg.takeoff_alternate }
+
+abbrev pub takeoff_of : Case → Leg → Takeoff
+takeoff_of c leg = takeoff_where (needs_takeoff_alternate c leg) c leg
+
+abbrev pub lists_one : List Alternate → Bool
+lists_one [] = false
+lists_one (it ∷ []) = true
+lists_one (it ∷ other ∷ rest) = false
+
+abbrev pub need_of : Case → Leg → Need
+need_of c leg =
+    record { is_needed = needs_alternate c leg; lacks_domestic = lacks_domestic_alternate c leg; lacks_flag = lacks_flag_alternate c leg; does_without = does_without c leg }
+
+abbrev pub there_of : Case → Leg → Alternate → There
+there_of c leg it = record { is_low = is_below_alternate c it.station (leg.eta + it.minutes); is_marginal = is_marginal_at c leg it }
+
+abbrev pub all_there_of : Case → Leg → AllThere
+all_there_of c leg = record { low = low_alternates c leg; are_marginal = list_all (is_marginal_at c leg) leg.alternates }
+
+abbrev pub arrival_of : Case → Leg → Arrival
+arrival_of c leg =
+    record { is_below_landing = is_below_landing c leg; need = need_of c leg; lacks_second = lacks_second_alternate c leg; low = low_alternates c leg }
+
+abbrev pub of_deferral : Case → Leg → Deferral → OfDeferral
+of_deferral c leg d = record { is_limiting = is_limiting c leg d; is_overdue = is_overdue c leg d }
+
+abbrev pub limits_of_leg : Case → Leg → Deferred
+limits_of_leg c leg = record { limiting = limiting c leg; overdue = overdue c leg }
+
+-- no rule on deferred equipment speaks of a leg that has departed
+abbrev pub where_ahead : Bool → List ℕ → List ℕ
+where_ahead ahead places = if ahead then places else []
+
+abbrev pub equipment_of : Case → Bool → Leg → Equipment
+equipment_of c ahead leg = record { limiting = where_ahead ahead (limiting c leg); overdue = where_ahead ahead (overdue c leg); barred = barred c ahead leg }
+
+abbrev pub fuel_of : Case → Leg → Fuel
+fuel_of c leg = record { is_short_domestic = is_short_domestic c leg; is_short_flag = is_short_flag c leg; is_underfilled = is_underfilled leg }
+
+abbrev pub no_takeoff : Takeoff
+no_takeoff = record { lacks = false; is_far = false; is_low = false }
+
+-- a leg that isn't flown
+abbrev pub sight_of : Case → Bool → Leg → Sight
+sight_of c ahead leg =
+    record { takeoff = if ahead then takeoff_of c leg else no_takeoff; arrival = arrival_of c leg; equipment = equipment_of c ahead leg; fuel = fuel_of c leg }
+
+abbrev pub no_need : Need
+no_need = record { is_needed = false; lacks_domestic = false; lacks_flag = false; does_without = false }
+
+-- no rule speaks of a leg that is flown
+abbrev pub clear : Sight
+clear = record {
+  takeoff = no_takeoff;
+  arrival = record { is_below_landing = false; need = no_need; lacks_second = false; low = [] };
+  equipment = record { limiting = []; overdue = []; barred = [] };
+  fuel = record { is_short_domestic = false; is_short_flag = false; is_underfilled = false };
+}
+
+abbrev pub sight_at : Case → Standing → Leg → Sight
+sight_at c Ahead leg = sight_of c true leg
+sight_at c InFlight leg = sight_of c false leg
+sight_at c Flown leg = clear
+
+-- what each rule says of each leg, where the first of them has that number
+abbrev pub sights_from : Case → Phase → ℕ → List Leg → List Sight
+sights_from c phase n [] = []
+sights_from c phase n (leg ∷ legs) = sight_at c (standing phase n) leg ∷ sights_from c phase (n + 1) legs
+
+abbrev pub whole_if : Bool → List ℕ
+whole_if fails = place_if fails 0
+
+-- the places at which a leg fails a rule
+abbrev pub places_in : Rule → Sight → List ℕ
+places_in No3 s = whole_if s.arrival.is_below_landing
+places_in No4 s = whole_if s.takeoff.lacks
+places_in No5 s = whole_if s.takeoff.is_far
+places_in No6 s = whole_if s.takeoff.is_low
+places_in No7 s = whole_if s.arrival.need.lacks_domestic
+places_in No8 s = whole_if s.arrival.lacks_second
+places_in No9 s = whole_if s.arrival.need.lacks_flag
+places_in No10 s = s.arrival.low
+places_in No11 s = s.equipment.limiting
+places_in No12 s = s.equipment.overdue
+places_in No13 s = s.equipment.barred
+places_in No14 s = whole_if s.fuel.is_short_domestic
+places_in No15 s = whole_if s.fuel.is_short_flag
+places_in No16 s = whole_if s.fuel.is_underfilled
+places_in No19 s = []
+
+-- the findings of a rule, leg by leg, where the first of them has that number
+abbrev pub findings_in : Rule → ℕ → List Sight → List Finding
+findings_in rule n [] = []
+findings_in rule n (sight ∷ sights) = map (finding rule n) (places_in rule sight) ++ findings_in rule (n + 1) sights
+
+-- the findings of rules, rule by rule
+abbrev pub findings_in_all : List Rule → List Sight → List Finding
+findings_in_all [] sights = []
+findings_in_all (rule ∷ rules) sights = findings_in rule 1 sights ++ findings_in_all rules sights

@@ -1,0 +1,53 @@
+ghost use Rattle.std.specs.Prelude.{◌≡◌, ◌≤◌, length, IfOk};
+ghost use Rattle.ops_tables.specs.Limits.{FitsType};
+ghost use Rattle.rules.specs.Grounds.{deferrals_of, grounds_of};
+ghost use Rattle.rules.specs.Circumstances.{case_of};
+ghost use Rattle.rules.specs.Sights.{case_by, IsWithin};
+
+use crate::evidence::Evidence;
+use deferrals::{DEFERRAL_LIMIT, Deferral, Limits, limits_on};
+use desk_io::OutOfMemory;
+use ops_tables::TypeRow;
+use plan::{Kind, Plan};
+use std::alloc::Global;
+
+/// The circumstances in which the legs of a plan are judged, found once for all of them.
+#[derive(Drop)]
+pub(crate) struct Circumstances<'a> {
+    /// What the plan is judged by.
+    pub evidence: Evidence<'a>,
+    /// The rules under which it is flown.
+    pub flight: Kind,
+    /// The type of the aircraft.
+    pub aircraft: &'a TypeRow,
+    /// The open deferrals of the aircraft, in order of their ids.
+    pub deferred: Vec<&'a Deferral>,
+    /// What these add and take away.
+    pub limits: Limits,
+}
+
+impl<'a> Circumstances<'a> {
+    /// The circumstances of a plan whose aircraft is of that type.
+    #[tactic(auto, using(crate::proofs::OpenLaws::opened_count))]
+    pub(crate) fn of(
+        alloc: Global,
+        evidence: Evidence<'a>,
+        plan: &Plan,
+        aircraft: &'a TypeRow,
+    ) -> Result<Circumstances<'a>, OutOfMemory>
+        requires few { length (deferrals_of evidence) ≤ DEFERRAL_LIMIT }
+        requires fits { FitsType aircraft.now }
+        ensures value { IfOk result (λ c. case_by c ≡ case_of (grounds_of evidence.entry) plan.now aircraft.now) }
+        ensures within { IfOk result IsWithin }
+    {
+        let deferred = evidence.deferrals_on(alloc, plan.tail.bytes())?;
+        let limits = limits_on(alloc, &deferred, aircraft.kind.bytes(), evidence.tables)?;
+        Ok(Circumstances {
+            evidence,
+            flight: plan.kind,
+            aircraft,
+            deferred,
+            limits,
+        })
+    }
+}

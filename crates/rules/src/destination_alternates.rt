@@ -1,0 +1,210 @@
+ghost use Rattle.std.specs.Prelude.{◌≡◌, ◌≤◌, IfOk};
+ghost use Rattle.std.specs.List.{list_all};
+ghost use Rattle.ops_tables.specs.Limits.{FitsSettings};
+ghost use Rattle.plan.specs.Check.{HasMoments};
+ghost use Rattle.rules.specs.DestinationAlternates as spec;
+ghost use Rattle.alternates.specs.Needs as needs;
+ghost use Rattle.rules.specs.Sights.{case_by, lists_one, need_of, there_of, all_there_of, arrival_of, IsReported};
+
+use crate::circumstances::Circumstances;
+use crate::weather::Reported;
+use airport_minima::{flag_floor, millimetres};
+use alternates::{is_marginal, needs_destination};
+use codes::{Cond, Pair, meets};
+use desk_io::{Listed, OutOfMemory};
+use ops_tables::Settings;
+use plan::{Alternate, Kind, Leg};
+use std::alloc::Global;
+
+/// Whether a leg needs an alternate of its destination, and what follows (14 CFR 121.619, 121.621).
+#[derive(Clone, Copy)]
+pub(crate) struct Need {
+    /// It needs one.
+    pub is_needed: bool,
+    /// It is domestic, needs one, and lists none.
+    pub lacks_domestic: bool,
+    /// It is a flag flight, needs one, lists none, and its route isn't one that may do without.
+    pub lacks_flag: bool,
+    /// It is a flag flight, needs one, lists none, and its route is one that may do without.
+    pub does_without: bool,
+}
+
+impl Need {
+    /// None is needed.
+    pub const NONE: Need = Need {
+        is_needed: false,
+        lacks_domestic: false,
+        lacks_flag: false,
+        does_without: false,
+    };
+}
+
+/// What the rules on minima say of an alternate.
+#[derive(Clone, Copy)]
+struct There {
+    /// The weather is below its minima.
+    is_low: bool,
+    /// The weather is marginal.
+    is_marginal: bool,
+}
+
+/// What the rules on minima say of the alternates of a leg.
+#[derive(Drop)]
+struct AllThere {
+    /// The numbers, from 1, of those at which the weather is below their minima.
+    low: Listed<u64>,
+    /// The weather is marginal at each.
+    are_marginal: bool,
+}
+
+/// What the rules on the destination and its alternates say of a leg.
+#[derive(Drop)]
+pub(crate) struct Arrival {
+    /// The weather at the destination is below landing minima.
+    pub is_below_landing: bool,
+    pub need: Need,
+    /// It is domestic, needs an alternate and lists one, and the weather is marginal at both.
+    pub lacks_second: bool,
+    /// The numbers, from 1, of the alternates at which the weather is below their minima.
+    pub low: Listed<u64>,
+}
+
+pub(crate) fn is_domestic(flight: Kind) -> bool
+    ensures { result ≡ spec.is_domestic flight }
+{
+    match flight {
+        Kind::Domestic => true,
+        Kind::Flag => false,
+    }
+}
+
+pub(crate) fn lists_none(alternates: &[Alternate]) -> bool
+    ensures { result ≡ spec.lists_none alternates.now }
+{
+    match alternates {
+        [] => true,
+        _ => false,
+    }
+}
+
+fn lists_one(alternates: &[Alternate]) -> bool
+    ensures { result ≡ lists_one alternates.now }
+{
+    match alternates {
+        [_] => true,
+        _ => false,
+    }
+}
+
+// By how much weather must be above minima not to be marginal.
+fn margin(settings: Settings) -> Pair
+    requires { FitsSettings settings }
+    ensures { result ≡ spec.margin settings }
+{
+    Pair {
+        ceiling: settings.marginal_ceiling,
+        vis: millimetres(settings.marginal_vis16),
+    }
+}
+
+impl<'a> Circumstances<'a> {
+    // Weather at some minima is marginal.
+    fn is_marginal(&self, weather: Cond, pairs: &[Pair]) -> bool
+        ensures { result ≡ needs.is_marginal weather pairs.now (spec.margin self.now.evidence.tables.now.settings) }
+    {
+        is_marginal(weather, pairs, margin(self.evidence.tables.settings()))
+    }
+
+    #[tactic(auto, using(crate::proofs::Needs::needs_domestic))]
+    fn needs_alternate(&self, leg: &Leg, reported: &Reported<'_>) -> bool
+        requires reported { IsReported (case_by self.now).grounds leg.now.to reported.now }
+        requires moments { HasMoments leg.now }
+        ensures { result ≡ spec.needs_alternate (case_by self.now) leg.now }
+    {
+        let window = reported.around(leg.eta);
+        match self.flight {
+            Kind::Domestic => needs_destination(leg, Kind::Domestic, window, None),
+            Kind::Flag => {
+                let tables = self.evidence.tables;
+                let floor = flag_floor(tables, self.aircraft, leg.to, &self.limits.lost);
+                needs_destination(leg, Kind::Flag, window, floor)
+            }
+        }
+    }
+
+    fn need(&self, leg: &Leg, reported: &Reported<'_>) -> Need
+        requires reported { IsReported (case_by self.now).grounds leg.now.to reported.now }
+        requires moments { HasMoments leg.now }
+        ensures { result ≡ need_of (case_by self.now) leg.now }
+    {
+        let is_needed = self.needs_alternate(leg, reported);
+        let lists_none = lists_none(leg.alternates.as_slice());
+        let domestic = is_domestic(self.flight);
+        let flag_without = !domestic && is_needed && lists_none;
+        let is_free = flag_without && self.evidence.tables.route_free(leg.from, leg.to);
+        Need {
+            is_needed,
+            lacks_domestic: domestic && is_needed && lists_none,
+            lacks_flag: flag_without && !is_free,
+            does_without: is_free,
+        }
+    }
+
+    fn there(&self, alloc: Global, leg: &Leg, it: &Alternate) -> Result<There, OutOfMemory>
+        requires { HasMoments leg.now }
+        ensures { IfOk result (λ t. t ≡ there_of (case_by self.now) leg.now it.now) }
+    {
+        let weather = self.weather_at(it.station, leg.eta + u64::from(it.minutes));
+        let pairs = self.alternate_at(alloc, it.station)?;
+        Ok(There {
+            is_low: !meets(weather, pairs.as_slice()),
+            is_marginal: self.is_marginal(weather, pairs.as_slice()),
+        })
+    }
+
+    fn all_there(&self, alloc: Global, leg: &Leg) -> Result<AllThere, OutOfMemory>
+        requires { HasMoments leg.now }
+        ensures { IfOk result (λ a. a ≡ all_there_of (case_by self.now) leg.now) }
+    {
+        let mut low = Listed::new(alloc);
+        let mut are_marginal = true;
+        for (i, it) in leg.alternates.as_slice().iter().enumerate() {
+            let there = self.there(alloc, leg, it)?;
+            are_marginal = are_marginal && there.is_marginal;
+            if there.is_low {
+                low.push(i as u64 + 1)?;
+            }
+        }
+        Ok(AllThere { low, are_marginal })
+    }
+
+    // The weather is marginal at the destination and at the one alternate.
+    #[tactic(auto, using(crate::proofs::Needs::marginal_at_one))]
+    fn are_marginal(&self, leg: &Leg, at_destination: bool, at_alternates: bool) -> bool
+        requires destination { at_destination ≡ spec.is_marginal_landing (case_by self.now) leg.now }
+        requires alternates { at_alternates ≡ list_all (spec.is_marginal_at (case_by self.now) leg.now) leg.now.alternates }
+        ensures { result ≡ spec.are_marginal (case_by self.now) leg.now leg.now.alternates }
+    {
+        lists_one(leg.alternates.as_slice()) && at_destination && at_alternates
+    }
+
+    /// What the rules on the destination and its alternates say of a leg.
+    pub(crate) fn arrival(&self, alloc: Global, leg: &Leg) -> Result<Arrival, OutOfMemory>
+        requires { HasMoments leg.now }
+        ensures { IfOk result (λ a. a ≡ arrival_of (case_by self.now) leg.now) }
+    {
+        let reported = Reported::of(&self.evidence, leg.to);
+        let need = self.need(leg, &reported);
+        let weather = reported.at(leg.eta);
+        let landing = self.landing_at(alloc, leg.to)?;
+        let is_marginal = self.is_marginal(weather, landing.as_slice());
+        let there = self.all_there(alloc, leg)?;
+        let are_marginal = self.are_marginal(leg, is_marginal, there.are_marginal);
+        Ok(Arrival {
+            is_below_landing: !meets(weather, landing.as_slice()),
+            need,
+            lacks_second: is_domestic(self.flight) && need.is_needed && are_marginal,
+            low: there.low,
+        })
+    }
+}

@@ -1,0 +1,91 @@
+ghost use Rattle.std.specs.Prelude.{◌≡◌};
+ghost use Rattle.ops_tables.specs.Tables.{airport_of};
+ghost use Rattle.rules.specs.Fuel as spec;
+ghost use Rattle.rules.specs.Sights.{case_by, need_of, fuel_of, IsWithin};
+
+use crate::circumstances::Circumstances;
+use crate::destination_alternates::{Need, is_domestic, lists_none};
+use codes::Station;
+use fuel::{Basis, required};
+use ops_tables::Tables;
+use plan::Leg;
+
+/// What the rules on fuel say of a leg (14 CFR 121.639, 121.645).
+#[derive(Clone, Copy)]
+pub(crate) struct Fuel {
+    /// It is domestic, and its minimum fuel is less than what is required.
+    pub is_short_domestic: bool,
+    /// It is a flag flight, and its minimum fuel is less than what is required.
+    pub is_short_flag: bool,
+    /// The fuel aboard is less than the minimum fuel.
+    pub is_underfilled: bool,
+}
+
+impl Fuel {
+    /// No rule fails.
+    pub const CLEAR: Fuel = Fuel {
+        is_short_domestic: false,
+        is_short_flag: false,
+        is_underfilled: false,
+    };
+}
+
+fn is_contiguous(tables: &Tables, station: Station) -> bool
+    ensures { result ≡ spec.is_contiguous (airport_of tables.now station) }
+{
+    match tables.airport(station) {
+        None => false,
+        Some(airport) => airport.conus,
+    }
+}
+
+fn is_within_states(tables: &Tables, leg: &Leg) -> bool
+    ensures { result ≡ spec.is_within_states tables.now leg.now }
+{
+    is_contiguous(tables, leg.from) && is_contiguous(tables, leg.to)
+}
+
+impl<'a> Circumstances<'a> {
+    fn basis(&self, leg: &Leg, need: Need) -> Basis
+        requires { need ≡ need_of (case_by self.now) leg.now }
+        ensures { result ≡ spec.basis_of (case_by self.now) leg.now }
+    {
+        if need.does_without {
+            Basis::NoAlternate
+        } else if is_domestic(self.flight) || is_within_states(self.evidence.tables, leg) {
+            Basis::Domestic
+        } else {
+            Basis::Flag
+        }
+    }
+
+    fn required(&self, leg: &Leg, need: Need) -> u64
+        requires within { IsWithin self.now }
+        requires need { need ≡ need_of (case_by self.now) leg.now }
+        ensures { result ≡ spec.required_fuel (case_by self.now) leg.now }
+    {
+        required(
+            leg,
+            self.basis(leg, need),
+            need.is_needed && !lists_none(leg.alternates.as_slice()),
+            self.aircraft.cruise_pph,
+            self.aircraft.hold_pph,
+            self.limits.extra_fuel,
+        )
+    }
+
+    /// What the rules on fuel say of a leg.
+    pub(crate) fn fuel(&self, leg: &Leg, need: Need) -> Fuel
+        requires within { IsWithin self.now }
+        requires need { need ≡ need_of (case_by self.now) leg.now }
+        ensures { result ≡ fuel_of (case_by self.now) leg.now }
+    {
+        let domestic = is_domestic(self.flight);
+        let is_short = u64::from(leg.minimum) < self.required(leg, need);
+        Fuel {
+            is_short_domestic: domestic && is_short,
+            is_short_flag: !domestic && is_short,
+            is_underfilled: leg.onboard < leg.minimum,
+        }
+    }
+}

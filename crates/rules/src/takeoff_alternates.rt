@@ -1,0 +1,99 @@
+ghost use Rattle.std.specs.Prelude.{◌≡◌, true, Some, IfOk};
+ghost use Rattle.plan.specs.Check.{HasMoments};
+ghost use Rattle.rules.specs.Circumstances as spec;
+ghost use Rattle.rules.specs.TakeoffAlternates as departure;
+ghost use Rattle.rules.specs.Sights.{case_by, takeoff_where, takeoff_of, IsWithin};
+
+use crate::circumstances::Circumstances;
+use alternates::{in_range, needs_takeoff};
+use codes::{Station, meets};
+use desk_io::OutOfMemory;
+use desk_time::Minute;
+use plan::{Leg, TakeoffAlternate};
+use std::alloc::Global;
+
+/// What the rules on takeoff alternates say of a leg (14 CFR 121.617).
+#[derive(Clone, Copy)]
+pub(crate) struct Takeoff {
+    /// One is needed, and none is listed.
+    pub lacks: bool,
+    /// One is needed, and the one that is listed is too far.
+    pub is_far: bool,
+    /// One is needed, and the weather at the one that is listed is below its minima.
+    pub is_low: bool,
+}
+
+impl Takeoff {
+    /// No rule fails.
+    pub const CLEAR: Takeoff = Takeoff {
+        lacks: false,
+        is_far: false,
+        is_low: false,
+    };
+}
+
+impl<'a> Circumstances<'a> {
+    // The weather at a station is below its minima as an alternate.
+    fn is_below_alternate(
+        &self,
+        alloc: Global,
+        station: Station,
+        minute: Minute,
+    ) -> Result<bool, OutOfMemory>
+        ensures { IfOk result (λ b. b ≡ spec.is_below_alternate (case_by self.now) station minute) }
+    {
+        let pairs = self.alternate_at(alloc, station)?;
+        Ok(!meets(self.weather_at(station, minute), pairs.as_slice()))
+    }
+
+    fn is_far(&self, leg: &Leg, it: TakeoffAlternate) -> bool
+        requires { IsWithin self.now }
+        ensures { result ≡ departure.is_far (case_by self.now) leg.now (Some it) }
+    {
+        let miles = self.evidence.tables.miles(leg.from, it.station);
+        !in_range(self.aircraft.engines, self.aircraft.oei_knots, miles)
+    }
+
+    // The weather there, once the aircraft comes from the airport of departure, is below its minima.
+    fn is_low(&self, alloc: Global, leg: &Leg, it: TakeoffAlternate) -> Result<bool, OutOfMemory>
+        requires { HasMoments leg.now }
+        ensures { IfOk result (λ b. b ≡ departure.is_below_there (case_by self.now) leg.now (Some it)) }
+    {
+        let arrival = leg.etd + u64::from(it.minutes);
+        self.is_below_alternate(alloc, it.station, arrival)
+    }
+
+    // What the rules say where a takeoff alternate is needed.
+    fn takeoff_needed(&self, alloc: Global, leg: &Leg) -> Result<Takeoff, OutOfMemory>
+        requires within { IsWithin self.now }
+        requires moments { HasMoments leg.now }
+        ensures { IfOk result (λ t. t ≡ takeoff_where true (case_by self.now) leg.now) }
+    {
+        match leg.takeoff_alternate {
+            None => Ok(Takeoff {
+                lacks: true,
+                is_far: false,
+                is_low: false,
+            }),
+            Some(it) => Ok(Takeoff {
+                lacks: false,
+                is_far: self.is_far(leg, it),
+                is_low: self.is_low(alloc, leg, it)?,
+            }),
+        }
+    }
+
+    /// What the rules on takeoff alternates say of a leg that hasn't departed.
+    pub(crate) fn takeoff(&self, alloc: Global, leg: &Leg) -> Result<Takeoff, OutOfMemory>
+        requires within { IsWithin self.now }
+        requires moments { HasMoments leg.now }
+        ensures { IfOk result (λ t. t ≡ takeoff_of (case_by self.now) leg.now) }
+    {
+        let landing = self.landing_at(alloc, leg.from)?;
+        if needs_takeoff(self.weather_at(leg.from, leg.etd), landing.as_slice()) {
+            self.takeoff_needed(alloc, leg)
+        } else {
+            Ok(Takeoff::CLEAR)
+        }
+    }
+}
