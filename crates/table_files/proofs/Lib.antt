@@ -4,3 +4,6 @@ pub mod Headers
 pub mod Digits
 pub mod WholeLaws
 pub mod Linking
+pub mod GoodRows
+pub mod GoodSettings
+pub mod GoodFiles

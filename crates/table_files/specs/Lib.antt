@@ -3,5 +3,6 @@ pub mod Records
 pub mod Reading
 pub mod Settings
 pub mod Files
+pub mod Good
 pub mod Filling
 pub mod Whole

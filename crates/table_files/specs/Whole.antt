@@ -5,6 +5,7 @@ use Rattle.desk_io.specs.Causes.{RoseOrFull}
 use Rattle.ops_tables.specs.Tables.{TableRows}
 use Rattle.table_files.specs.Filling.{Gives}
 use Rattle.table_files.specs.Files.{files, name_of, no_rows, with_file}
+use Rattle.table_files.specs.Good.{SaysFile}
 use Rattle.table_files.specs.declared.faults.TableFault.{TableFault}
 use Rattle.table_files.specs.declared.faults.TableFault.TheVariants as fault
 use Rattle.table_files.specs.declared.faults.BadTable.{BadTable}
@@ -15,12 +16,13 @@ use Rattle.table_files.specs.declared.files.File.{File}
 abbrev pub Told : Type 0
 Told = Option (List ℕ → Option (List ℕ))
 
--- The source of a file makes this of the tables that were read before it.
+-- The source of a file makes this of the tables that were read before it, and exactly this is what its records say.
 pub record FileGives (told : Told) (file : File) (before : TableRows) (made : Result TableRows BadRecord) : Type 0 where
   pub bytes : List ℕ
   pub within : length bytes ≤ 67_108_864
   pub source : OnSource told (name_of file) (λ given. given ≡ bytes)
   pub gives : Gives bytes (with_file file before) made
+  pub says : SaysFile file before gives.records made
 
 -- some files, read in turn, take the tables from these to those
 abbrev pub FilesGive : Told → TableRows → List File → TableRows → Type 0
@@ -47,7 +49,7 @@ IsMissing told file (fault.Bad bad) = Unit {0}
 IsMissing told file (fault.TooLong name) = Unit {0}
 IsMissing told file fault.OutOfMemory = Unit {0}
 
--- a read fault comes only where the count rose
+-- a read fault comes only where the count of faults rose, and a count that is full counts as risen
 abbrev pub RoseAt : ℕ → ℕ → TableFault → Type 0
 RoseAt before now (fault.ReadFault name) = RoseOrFull before now
 RoseAt before now (fault.Bad bad) = Unit {0}

@@ -15,9 +15,10 @@ pub enum TableWhy {
     OverLimit,
 }
 
-/// A record that is bad. The header is record 1.
+/// A record that is bad.
 #[derive(Clone, Copy, Debug, PartialEq, Eq)]
 pub(crate) struct BadRecord {
+    /// The number of the record: the header is 1, and a line with no byte is no record.
     pub line: u32,
     pub why: TableWhy,
 }
@@ -27,7 +28,8 @@ pub(crate) struct BadRecord {
 pub struct BadTable {
     /// The name of its source.
     pub name: Text,
-    /// The number of the first bad record. The header is record 1.
+    /// The number of the first bad record: the header is 1, and a line with no byte is no record. A
+    /// record that is missing at the end has the number after the last.
     pub line: u32,
     pub why: TableWhy,
 }
@@ -37,7 +39,8 @@ pub struct BadTable {
 pub enum TableFault {
     /// The first bad record of the first table that has one, in the order of reading.
     Bad(BadTable),
-    /// The shelf failed at the source with that name, and counted it.
+    /// The shelf failed at the source with that name, and counted it. A count that is full (2^64 - 1)
+    /// stays so, and counts as risen.
     ReadFault(Text),
     /// The source with that name has more bytes than one may have.
     TooLong(Text),

@@ -52,6 +52,7 @@ fn read_text<S: Shelf>(alloc: Global, shelf: &mut S, file: File) -> Result<Text,
 }
 
 // Reads the table of one more file.
+#[tactic(auto, using(crate::proofs::GoodFiles::file_gives))]
 fn read_file<S: Shelf>(
     alloc: Global,
     shelf: &mut S,
@@ -73,9 +74,9 @@ fn read_file<S: Shelf>(
 
 /// The twelve tables of a shelf, each read whole and tested before the next. `Bad` names the first bad
 /// record in the order of the files; `TooLong` says that a source has more than 64 MiB, and comes only
-/// after the tables before it were good. `ReadFault` comes only where the shelf's count of faults rose;
-/// a sound shelf gives it only at a file that it doesn't hold, after the tables before that were good.
-/// Both carry the file's name.
+/// after the tables before it were good. `ReadFault` comes only where the shelf's count of faults rose
+/// or is full; a sound shelf gives it only at a file that it doesn't hold, after the tables before that
+/// were good. Both carry the file's name.
 pub fn read_tables<S: Shelf>(alloc: Global, shelf: &mut S) -> Result<Tables, TableFault>
     ensures tables { ReadsTables (S.sources shelf.old) result }
     ensures same { S.sources shelf.new ≡ S.sources shelf.old }
