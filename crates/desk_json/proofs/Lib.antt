@@ -1,2 +1,5 @@
+pub mod Again
+pub mod LegCounts
 pub mod Lists
+pub mod Puts
 pub mod Written

@@ -1,15 +1,15 @@
 -- No reply has a number with a fraction, so its text is the one that is written.
-use Rattle.std.proofs.Common.{◌≡◌, List, [], ◌∷◌, map, Bool, true, false, refl, ap, ◌∙◌}
+use Rattle.std.proofs.Common.{◌≡◌, List, [], ◌∷◌, map, false, refl, ap, ◌∙◌}
 use Rattle.serde_json.specs.Data.{Data}
 use Rattle.serde_json.specs.View.{items_of}
 use Rattle.serde_json.specs.Written.{has_float, items_have_float}
 use Rattle.plan.specs.declared.findings.Finding.{Finding}
 use Rattle.asks.specs.declared.reply.Reply.{Reply}
 use Rattle.asks.specs.declared.reply.Reply.TheVariants.{Done, Seen, Refused}
-use Rattle.asks.specs.declared.reply.Done.TheVariants.{Report, Filed, Release}
+use Rattle.asks.specs.declared.reply.Done.TheVariants.{Report, Deferral, Filed, Release}
 use Rattle.asks.specs.declared.reply.Done.{Done as DoneType}
 use Rattle.asks.specs.declared.reply.Refusal.{Refusal}
-use Rattle.asks.specs.declared.reply.Refusal.TheVariants.{BadReport, DayOutOfReach, ReportsFull, NoSuchRelease, BadPlan, NotPending, WrongRevision, RuleFails, WrongPhase, AlreadySigned, HistoryFull}
+use Rattle.asks.specs.declared.reply.Refusal.TheVariants.{UnknownActor, WrongKey, NotYourRole, BadReport, DayOutOfReach, ReportsFull, UnknownTail, NoSuchDeferral, NoSuchRelease, NotYours, BadPlan, NotPending, WrongRevision, RuleFails, WrongPhase, AlreadySigned, HistoryFull, NoSuchStation, UnknownItem, BadFound, DeferralsFull}
 use Rattle.desk_json.specs.Replies.{finding_data, done_data, refusal_data, reply_data}
 
 findings_whole : (fs : List Finding) → items_have_float (items_of (map finding_data fs)) ≡ false
@@ -18,14 +18,21 @@ findings_whole (f ∷ fs) = findings_whole fs
 
 done_whole : (d : DoneType) → has_float (done_data d) ≡ false
 done_whole (Report id) = refl
+done_whole (Deferral id) = refl
 done_whole (Filed release revision) = refl
 done_whole (Release id) = refl
 
 refusal_whole : (r : Refusal) → has_float (refusal_data r) ≡ false
+refusal_whole UnknownActor = refl
+refusal_whole WrongKey = refl
+refusal_whole NotYourRole = refl
 refusal_whole (BadReport group what) = refl
 refusal_whole (DayOutOfReach group) = refl
 refusal_whole (ReportsFull held) = refl
+refusal_whole UnknownTail = refl
+refusal_whole NoSuchDeferral = refl
 refusal_whole NoSuchRelease = refl
+refusal_whole (NotYours holder) = refl
 refusal_whole (BadPlan leg what) = refl
 refusal_whole (NotPending stage) = refl
 refusal_whole (WrongRevision current) = refl
@@ -33,6 +40,10 @@ refusal_whole (RuleFails findings) = rw (findings_whole findings) refl
 refusal_whole (WrongPhase phase) = refl
 refusal_whole AlreadySigned = refl
 refusal_whole (HistoryFull entries) = refl
+refusal_whole NoSuchStation = refl
+refusal_whole UnknownItem = refl
+refusal_whole (BadFound moment) = refl
+refusal_whole (DeferralsFull held) = refl
 
 whole : (r : Reply) → has_float (reply_data r) ≡ false
 whole (Done done) = rw (done_whole done) refl

@@ -1,16 +1,15 @@
 -- The calls that the lines of a script make.
 -- A line is an object of the keys actor, ask, at, key and number, and no other.
-use Rattle.std.specs.Prelude.{ℕ, Bool, ◌&&◌, if◌then◌else◌, List, [], ◌∷◌, Option, None, Some, codes, option_and_then}
+use Rattle.std.specs.Prelude.{ℕ, if◌then◌else◌, List, Option, None, Some, codes, option_and_then}
 use Rattle.std.specs.Str.{bytes_eq}
 use Rattle.serde_json.specs.Data.{Data}
 use Rattle.serde_json.specs.Find.{get}
 use Rattle.desk_time.specs.Digits.{◌>>=◌}
-use Rattle.desk_time.specs.Moments.{minute_of}
 use Rattle.asks.specs.declared.call.Call.{Call}
 use Rattle.asks.specs.declared.call.Ask.{Ask}
-use Rattle.asks.specs.declared.call.Ask.TheVariants.{Admit, Draft, Sign, Concur, Cancel, ViewAlerts}
+use Rattle.asks.specs.declared.call.Ask.TheVariants.{Admit, Defer, Clear, Draft, Sign, Concur, Cancel, ViewAlerts, ViewDeferred}
 use Rattle.desk_json.specs.Plans.{plan_of}
-use Rattle.desk_json.specs.Fields.{data_of, text_at, number_at, short_at, has_members}
+use Rattle.desk_json.specs.Fields.{data_of, text_at, number_at, short_at, moment_at, has_members}
 
 -- to admit a text, which may be any
 abbrev pub admit_of : Data → Option Ask
@@ -20,9 +19,23 @@ admit_of d = text_at (codes "text") d >>= λ text. if has_members 2 d then Some 
 abbrev pub draft_of : Data → Option Ask
 draft_of d = option_and_then plan_of (get (codes "plan") d) >>= λ plan. if has_members 2 d then Some (Draft plan) else None
 
--- the id of a release, or the number of a revision
+-- an id, or the number of a revision
 abbrev pub id_at : List ℕ → Data → Option ℕ
 id_at key d = number_at key 1_000_000_000_000_000 d
+
+-- to defer an item of an aircraft
+abbrev pub defer_of : Data → Option Ask
+defer_of d =
+    short_at (codes "tail") d >>= λ tail. short_at (codes "item") d >>= λ item. moment_at (codes "found") d >>= λ found.
+    if has_members 4 d then Some (Defer tail item found) else None
+
+-- to clear a deferral
+abbrev pub clear_of : Data → Option Ask
+clear_of d = id_at (codes "deferral") d >>= λ deferral. if has_members 2 d then Some (Clear deferral) else None
+
+-- to see the open deferrals of an aircraft
+abbrev pub deferred_of : Data → Option Ask
+deferred_of d = short_at (codes "tail") d >>= λ tail. if has_members 2 d then Some (ViewDeferred tail) else None
 
 -- to sign a revision
 abbrev pub sign_of : Data → Option Ask
@@ -50,11 +63,17 @@ ask_on_release name d =
     else (if bytes_eq name (codes "concur") then concur_of d
     else (if bytes_eq name (codes "cancel") then cancel_of d else None))
 
+abbrev pub ask_on_equipment : List ℕ → Data → Option Ask
+ask_on_equipment name d =
+    if bytes_eq name (codes "defer") then defer_of d
+    else (if bytes_eq name (codes "clear") then clear_of d
+    else (if bytes_eq name (codes "deferred") then deferred_of d else ask_on_release name d))
+
 abbrev pub ask_named : List ℕ → Data → Option Ask
 ask_named name d =
     if bytes_eq name (codes "admit") then admit_of d
     else (if bytes_eq name (codes "draft") then draft_of d
-    else (if bytes_eq name (codes "alerts") then alerts_of d else ask_on_release name d))
+    else (if bytes_eq name (codes "alerts") then alerts_of d else ask_on_equipment name d))
 
 -- an object of do, which names the ask, and the keys of that ask
 abbrev pub ask_of : Data → Option Ask
@@ -69,12 +88,9 @@ asked_by d ask =
 abbrev pub call_in : Data → Option Call
 call_in d = get (codes "ask") d >>= λ ask. ask_of ask >>= λ asked. asked_by d asked
 
-abbrev pub at_of : Data → Option ℕ
-at_of d = text_at (codes "at") d >>= λ at. minute_of at
-
 -- the moment and the call of an object
 abbrev pub line_in : Data → Option (ℕ × Call)
-line_in d = at_of d >>= λ at. call_in d >>= λ call. if has_members 5 d then Some (at, call) else None
+line_in d = moment_at (codes "at") d >>= λ at. call_in d >>= λ call. if has_members 5 d then Some (at, call) else None
 
 -- the moment and the call of a line, where it has no fault
 unfoldable pub line_of : List ℕ → Option (ℕ × Call)

@@ -1,10 +1,13 @@
 -- The fields of JSON objects, as `serde_json` reads them.
-use Rattle.std.specs.Prelude.{ℕ, Bool, ◌==◌, nat_le, if◌then◌else◌, false, List, length, Option, None, Some, option_and_then}
+use Rattle.std.specs.Prelude.{ℕ, Bool, ◌==◌, nat_le, if◌then◌else◌, false, List, [], ◌∷◌, length, Option, None, Some, option_and_then}
 use Rattle.std.specs.Str.Lossy.{utf8_valid_len}
-use Rattle.serde_json.specs.Data.{Data, Members}
+use Rattle.serde_json.specs.Data.{Data, Items, no_items, item, Members}
 use Rattle.serde_json.specs.Events.{members_len}
 use Rattle.serde_json.specs.Read.{read}
-use Rattle.serde_json.specs.Find.{get, as_str, as_number, as_u64, as_object}
+use Rattle.serde_json.specs.Find.{get, as_str, as_number, as_u64, as_array, as_object}
+use Rattle.desk_time.specs.Digits.{◌>>=◌}
+use Rattle.desk_time.specs.Moments.{minute_of}
+use Rattle.codes.specs.Station.{Station, station_of}
 
 -- the data of a line, where it is UTF-8 and JSON
 abbrev pub data_of : List ℕ → Option Data
@@ -21,12 +24,33 @@ up_to limit n = if nat_le n limit then Some n else None
 abbrev pub number_at : List ℕ → ℕ → Data → Option ℕ
 number_at key limit d = option_and_then (up_to limit) (option_and_then as_u64 (option_and_then as_number (get key d)))
 
+-- a whole number of 32 bits
+abbrev pub amount_at : List ℕ → Data → Option ℕ
+amount_at key d = number_at key 4_294_967_295 d
+
 abbrev pub short : List ℕ → Option (List ℕ)
 short t = if nat_le (length t) 64 then Some t else None
 
 -- the text at a key, of at most 64 bytes
 abbrev pub short_at : List ℕ → Data → Option (List ℕ)
 short_at key d = option_and_then short (text_at key d)
+
+-- the airport at a key
+abbrev pub station_at : List ℕ → Data → Option Station
+station_at key d = option_and_then station_of (text_at key d)
+
+-- the moment at a key
+abbrev pub moment_at : List ℕ → Data → Option ℕ
+moment_at key d = option_and_then minute_of (text_at key d)
+
+-- the list at a key
+abbrev pub list_at : List ℕ → Data → Option Items
+list_at key d = option_and_then as_array (get key d)
+
+-- what is read of each item of a list, where something is read of each
+abbrev pub each_read : {A : Type 0} → (Data → Option A) → Items → Option (List A)
+each_read read_one no_items = Some []
+each_read read_one (item d ds) = read_one d >>= λ x. each_read read_one ds >>= λ xs. Some (x ∷ xs)
 
 abbrev pub is_length : ℕ → Option Members → Bool
 is_length n None = false

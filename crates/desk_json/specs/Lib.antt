@@ -1,4 +1,6 @@
 pub mod Fields
+pub mod Legs
 pub mod Plans
 pub mod Calls
 pub mod Replies
+pub mod Canonical

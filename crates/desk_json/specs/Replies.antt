@@ -1,22 +1,22 @@
 -- The texts of replies: JSON without blanks, its keys in byte order.
 use Rattle.std.specs.Prelude.{ℕ, List, map, codes}
 use Rattle.std.specs.Str.Lossy.{utf8_lossy}
-use Rattle.serde_json.specs.Data.{Data, object, member, no_members, number, unsigned, string, array}
+use Rattle.serde_json.specs.Data.{Data, object, Members, member, no_members, put, number, unsigned, string, array}
 use Rattle.serde_json.specs.View.{items_of}
 use Rattle.serde_json.specs.Written.{compact_text}
+use Rattle.desk_time.specs.Moments.{shown}
 use Rattle.codes.specs.declared.fault.Why.{Why}
 use Rattle.codes.specs.declared.fault.Why.TheVariants as why
 use Rattle.plan.specs.Texts.{finding_text, phase_text}
 use Rattle.plan.specs.declared.check.PlanWhy.{PlanWhy}
-use Rattle.plan.specs.declared.check.PlanWhy.TheVariants.{Repeated, Times, Amount}
+use Rattle.plan.specs.declared.check.PlanWhy.TheVariants as plan_why
 use Rattle.plan.specs.declared.findings.Finding.{Finding}
-use Rattle.plan.specs.declared.release.Phase.{Phase}
 use Rattle.asks.specs.declared.reply.Reply.{Reply}
 use Rattle.asks.specs.declared.reply.Reply.TheVariants.{Done, Seen, Refused}
 use Rattle.asks.specs.declared.reply.Done.{Done as DoneType}
-use Rattle.asks.specs.declared.reply.Done.TheVariants.{Report, Filed, Release}
+use Rattle.asks.specs.declared.reply.Done.TheVariants.{Report, Deferral, Filed, Release}
 use Rattle.asks.specs.declared.reply.Refusal.{Refusal}
-use Rattle.asks.specs.declared.reply.Refusal.TheVariants.{BadReport, DayOutOfReach, ReportsFull, NoSuchRelease, BadPlan, NotPending, WrongRevision, RuleFails, WrongPhase, AlreadySigned, HistoryFull}
+use Rattle.asks.specs.declared.reply.Refusal.TheVariants.{UnknownActor, WrongKey, NotYourRole, BadReport, DayOutOfReach, ReportsFull, UnknownTail, NoSuchDeferral, NoSuchRelease, NotYours, BadPlan, NotPending, WrongRevision, RuleFails, WrongPhase, AlreadySigned, HistoryFull, NoSuchStation, UnknownItem, BadFound, DeferralsFull}
 
 -- the name of a reason
 abbrev pub why_name : Why → List ℕ
@@ -31,9 +31,14 @@ why_name why.BadPeriod = codes "BadPeriod"
 
 -- the name of a test of a plan
 abbrev pub plan_why_name : PlanWhy → List ℕ
-plan_why_name Repeated = codes "Repeated"
-plan_why_name Times = codes "Times"
-plan_why_name Amount = codes "Amount"
+plan_why_name plan_why.UnknownTail = codes "UnknownTail"
+plan_why_name plan_why.UnknownCaptain = codes "UnknownCaptain"
+plan_why_name plan_why.Count = codes "Count"
+plan_why_name plan_why.NoAirport = codes "NoAirport"
+plan_why_name plan_why.Repeated = codes "Repeated"
+plan_why_name plan_why.Unjoined = codes "Unjoined"
+plan_why_name plan_why.Times = codes "Times"
+plan_why_name plan_why.Amount = codes "Amount"
 
 abbrev pub count : ℕ → Data
 count n = number (unsigned n)
@@ -45,39 +50,92 @@ text_data t = string (utf8_lossy t)
 
 abbrev pub done_data : DoneType → Data
 done_data (Report id) = object (member (codes "report") (count id) no_members)
+done_data (Deferral id) = object (member (codes "deferral") (count id) no_members)
 done_data (Filed release revision) = object (member (codes "release") (count release) (member (codes "revision") (count revision) no_members))
 done_data (Release id) = object (member (codes "release") (count id) no_members)
 
--- a refusal that says no more than its number and its name
-abbrev pub plain_refusal : ℕ → List ℕ → Data
-plain_refusal refused name = object (member (codes "refused") (count refused) (member (codes "why") (string name) no_members))
+-- the number of a refusal
+abbrev pub refusal_number : Refusal → ℕ
+refusal_number UnknownActor = 1
+refusal_number WrongKey = 2
+refusal_number NotYourRole = 3
+refusal_number (BadReport group what) = 5
+refusal_number (DayOutOfReach group) = 6
+refusal_number (ReportsFull held) = 7
+refusal_number UnknownTail = 8
+refusal_number NoSuchDeferral = 9
+refusal_number NoSuchRelease = 10
+refusal_number (NotYours holder) = 11
+refusal_number (BadPlan leg what) = 12
+refusal_number (NotPending stage) = 13
+refusal_number (WrongRevision current) = 14
+refusal_number (RuleFails findings) = 17
+refusal_number (WrongPhase phase) = 18
+refusal_number AlreadySigned = 19
+refusal_number (HistoryFull entries) = 24
+refusal_number NoSuchStation = 25
+refusal_number UnknownItem = 28
+refusal_number (BadFound moment) = 29
+refusal_number (DeferralsFull held) = 30
+
+-- its name
+abbrev pub refusal_name : Refusal → List ℕ
+refusal_name UnknownActor = codes "UnknownActor"
+refusal_name WrongKey = codes "WrongKey"
+refusal_name NotYourRole = codes "NotYourRole"
+refusal_name (BadReport group what) = codes "BadReport"
+refusal_name (DayOutOfReach group) = codes "DayOutOfReach"
+refusal_name (ReportsFull held) = codes "ReportsFull"
+refusal_name UnknownTail = codes "UnknownTail"
+refusal_name NoSuchDeferral = codes "NoSuchDeferral"
+refusal_name NoSuchRelease = codes "NoSuchRelease"
+refusal_name (NotYours holder) = codes "NotYours"
+refusal_name (BadPlan leg what) = codes "BadPlan"
+refusal_name (NotPending stage) = codes "NotPending"
+refusal_name (WrongRevision current) = codes "WrongRevision"
+refusal_name (RuleFails findings) = codes "RuleFails"
+refusal_name (WrongPhase phase) = codes "WrongPhase"
+refusal_name AlreadySigned = codes "AlreadySigned"
+refusal_name (HistoryFull entries) = codes "HistoryFull"
+refusal_name NoSuchStation = codes "NoSuchStation"
+refusal_name UnknownItem = codes "UnknownItem"
+refusal_name (BadFound moment) = codes "BadFound"
+refusal_name (DeferralsFull held) = codes "DeferralsFull"
 
 abbrev pub finding_data : Finding → Data
 finding_data f = text_data (finding_text f)
 
+-- Some members and those of a refusal that say more than its number and its name, each put where its key
+-- belongs in byte order.
+abbrev pub with_fields : Refusal → Members → Members
+with_fields UnknownActor ms = ms
+with_fields WrongKey ms = ms
+with_fields NotYourRole ms = ms
+with_fields (BadReport group what) ms = put (codes "what") (string (why_name what)) (put (codes "group") (count group) ms)
+with_fields (DayOutOfReach group) ms = put (codes "group") (count group) ms
+with_fields (ReportsFull held) ms = put (codes "held") (count held) ms
+with_fields UnknownTail ms = ms
+with_fields NoSuchDeferral ms = ms
+with_fields NoSuchRelease ms = ms
+with_fields (NotYours holder) ms = put (codes "holder") (text_data holder) ms
+with_fields (BadPlan leg what) ms = put (codes "what") (string (plan_why_name what)) (put (codes "leg") (count leg) ms)
+with_fields (NotPending stage) ms = put (codes "stage") (count stage) ms
+with_fields (WrongRevision current) ms = put (codes "current") (count current) ms
+with_fields (RuleFails findings) ms = put (codes "findings") (array (items_of (map finding_data findings))) ms
+with_fields (WrongPhase phase) ms = put (codes "phase") (text_data (phase_text phase)) ms
+with_fields AlreadySigned ms = ms
+with_fields (HistoryFull entries) ms = put (codes "entries") (count entries) ms
+with_fields NoSuchStation ms = ms
+with_fields UnknownItem ms = ms
+with_fields (BadFound moment) ms = put (codes "now") (text_data (shown moment)) ms
+with_fields (DeferralsFull held) ms = put (codes "held") (count held) ms
+
+-- the members that every refusal has
+abbrev pub refusal_members : Refusal → Members
+refusal_members r = member (codes "refused") (count (refusal_number r)) (member (codes "why") (string (refusal_name r)) no_members)
+
 abbrev pub refusal_data : Refusal → Data
-refusal_data (BadReport group what) =
-    object (member (codes "group") (count group) (member (codes "refused") (count 5)
-    (member (codes "what") (string (why_name what)) (member (codes "why") (string (codes "BadReport")) no_members))))
-refusal_data (DayOutOfReach group) =
-    object (member (codes "group") (count group) (member (codes "refused") (count 6) (member (codes "why") (string (codes "DayOutOfReach")) no_members)))
-refusal_data (ReportsFull held) =
-    object (member (codes "held") (count held) (member (codes "refused") (count 7) (member (codes "why") (string (codes "ReportsFull")) no_members)))
-refusal_data NoSuchRelease = plain_refusal 10 (codes "NoSuchRelease")
-refusal_data (BadPlan leg what) =
-    object (member (codes "leg") (count leg) (member (codes "refused") (count 12)
-    (member (codes "what") (string (plan_why_name what)) (member (codes "why") (string (codes "BadPlan")) no_members))))
-refusal_data (NotPending stage) =
-    object (member (codes "refused") (count 13) (member (codes "stage") (count stage) (member (codes "why") (string (codes "NotPending")) no_members)))
-refusal_data (WrongRevision current) =
-    object (member (codes "current") (count current) (member (codes "refused") (count 14) (member (codes "why") (string (codes "WrongRevision")) no_members)))
-refusal_data (RuleFails findings) =
-    object (member (codes "findings") (array (items_of (map finding_data findings))) (member (codes "refused") (count 17) (member (codes "why") (string (codes "RuleFails")) no_members)))
-refusal_data (WrongPhase phase) =
-    object (member (codes "phase") (text_data (phase_text phase)) (member (codes "refused") (count 18) (member (codes "why") (string (codes "WrongPhase")) no_members)))
-refusal_data AlreadySigned = plain_refusal 19 (codes "AlreadySigned")
-refusal_data (HistoryFull entries) =
-    object (member (codes "entries") (count entries) (member (codes "refused") (count 24) (member (codes "why") (string (codes "HistoryFull")) no_members)))
+refusal_data r = object (with_fields r (refusal_members r))
 
 abbrev pub reply_data : Reply → Data
 reply_data (Done done) = object (member (codes "done") (done_data done) no_members)

@@ -1,17 +1,18 @@
 ghost use Rattle.std.specs.Prelude.{◌≡◌, ◌≤◌, IfOk, IfSome, codes, option_and_then};
 ghost use Rattle.serde_json.specs.View.{view};
 ghost use Rattle.serde_json.specs.Find.{get};
-ghost use Rattle.plan.specs.Check.{HasFewLegs};
+ghost use Rattle.plan.specs.Check.{IsPlan};
 ghost use Rattle.asks.specs.Forms.{IsCall};
 ghost use Rattle.desk_json.specs.Plans.{plan_of};
 ghost use Rattle.desk_json.specs.Calls as spec;
 ghost use Rattle.desk_json.specs.Calls.{line_of};
+ghost use Rattle.desk_json.specs.Canonical.{IsReadAgain};
 
-use crate::fields::{data_of, has_members, number_at, short_at, text_at};
+use crate::fields::{data_of, has_members, moment_at, number_at, short_at, text_at};
 use crate::plans::read_plan;
 use asks::{Ask, Call};
 use desk_io::{OutOfMemory, Text};
-use desk_time::{FIRST, LAST, Minute, read_minute};
+use desk_time::{FIRST, LAST, Minute};
 use plan::Plan;
 use serde_json::Value;
 use std::alloc::Global;
@@ -30,7 +31,7 @@ fn admit_of(alloc: Global, value: &Value) -> Result<Option<Ask>, OutOfMemory>
 
 fn plan_at(alloc: Global, value: &Value) -> Result<Option<Plan>, OutOfMemory>
     ensures value { IfOk result (λ p. p ≡ option_and_then plan_of (get (codes "plan") (view value.now))) }
-    ensures legs { IfOk result (λ p. IfSome p HasFewLegs) }
+    ensures form { IfOk result (λ p. IfSome p IsPlan) }
 {
     match value.get("plan") {
         Some(plan) => read_plan(alloc, plan),
@@ -52,6 +53,53 @@ fn id_at(key: &str, value: &Value) -> Option<u64>
     ensures { result ≡ spec.id_at key.now (view value.now) }
 {
     number_at(key, 1_000_000_000_000_000, value)
+}
+
+fn defer_of(alloc: Global, value: &Value) -> Result<Option<Ask>, OutOfMemory>
+    ensures form { IfOk result (λ a. IfSome a IsCall) }
+    ensures value { IfOk result (λ a. a ≡ spec.defer_of (view value.now)) }
+{
+    let Some(tail) = short_at("tail", value) else {
+        return Ok(None);
+    };
+    let Some(item) = short_at("item", value) else {
+        return Ok(None);
+    };
+    let Some(found) = moment_at("found", value) else {
+        return Ok(None);
+    };
+    if !has_members(4, value) {
+        return Ok(None);
+    }
+    Ok(Some(Ask::Defer {
+        tail: Text::of(alloc, tail.as_bytes())?,
+        item: Text::of(alloc, item.as_bytes())?,
+        found,
+    }))
+}
+
+fn clear_of(value: &Value) -> Option<Ask>
+    ensures value { result ≡ spec.clear_of (view value.now) }
+    ensures form { IfSome result IsCall }
+{
+    let deferral = id_at("deferral", value)?;
+    if has_members(2, value) {
+        Some(Ask::Clear { deferral })
+    } else {
+        None
+    }
+}
+
+fn deferred_of(alloc: Global, value: &Value) -> Result<Option<Ask>, OutOfMemory>
+    ensures form { IfOk result (λ a. IfSome a IsCall) }
+    ensures value { IfOk result (λ a. a ≡ spec.deferred_of (view value.now)) }
+{
+    match short_at("tail", value) {
+        Some(tail) if has_members(2, value) => Ok(Some(Ask::ViewDeferred {
+            tail: Text::of(alloc, tail.as_bytes())?,
+        })),
+        _ => Ok(None),
+    }
 }
 
 fn sign_of(value: &Value) -> Option<Ask>
@@ -118,6 +166,21 @@ fn ask_on_release(name: &str, value: &Value) -> Option<Ask>
     }
 }
 
+fn ask_on_equipment(alloc: Global, name: &str, value: &Value) -> Result<Option<Ask>, OutOfMemory>
+    ensures form { IfOk result (λ a. IfSome a IsCall) }
+    ensures value { IfOk result (λ a. a ≡ spec.ask_on_equipment name.now (view value.now)) }
+{
+    if name == "defer" {
+        defer_of(alloc, value)
+    } else if name == "clear" {
+        Ok(clear_of(value))
+    } else if name == "deferred" {
+        deferred_of(alloc, value)
+    } else {
+        Ok(ask_on_release(name, value))
+    }
+}
+
 fn ask_named(alloc: Global, name: &str, value: &Value) -> Result<Option<Ask>, OutOfMemory>
     ensures form { IfOk result (λ a. IfSome a IsCall) }
     ensures value { IfOk result (λ a. a ≡ spec.ask_named name.now (view value.now)) }
@@ -129,7 +192,7 @@ fn ask_named(alloc: Global, name: &str, value: &Value) -> Result<Option<Ask>, Ou
     } else if name == "alerts" {
         Ok(alerts_of(value))
     } else {
-        Ok(ask_on_release(name, value))
+        ask_on_equipment(alloc, name, value)
     }
 }
 
@@ -178,19 +241,12 @@ fn call_in(alloc: Global, value: &Value) -> Result<Option<Call>, OutOfMemory>
     }
 }
 
-fn at_of(value: &Value) -> Option<Minute>
-    ensures value { result ≡ spec.at_of (view value.now) }
-    ensures range { IfSome result (λ m. (FIRST ≤ m) × (m ≤ LAST)) }
-{
-    read_minute(text_at("at", value)?.as_bytes())
-}
-
 fn line_in(alloc: Global, value: &Value) -> Result<Option<(Minute, Call)>, OutOfMemory>
     ensures line { IfOk result (λ l. l ≡ spec.line_in (view value.now)) }
     ensures range { IfOk result (λ l. IfSome l (λ p. (FIRST ≤ p.0) × (p.0 ≤ LAST))) }
     ensures form { IfOk result (λ l. IfSome l (λ p. IsCall p.1.ask)) }
 {
-    let Some(at) = at_of(value) else {
+    let Some(at) = moment_at("at", value) else {
         return Ok(None);
     };
     match call_in(alloc, value)? {
@@ -199,10 +255,8 @@ fn line_in(alloc: Global, value: &Value) -> Result<Option<(Minute, Call)>, OutOf
     }
 }
 
-/// The moment and the call of a line of a script, where it has no fault: a JSON object of the keys
-/// `actor`, `ask`, `at`, `key` and `number`, and no other, each of its form.
 #[tactic(auto, unfolding(crate::specs::Calls::line_of))]
-pub fn read_line(alloc: Global, line: &[u8]) -> Result<Option<(Minute, Call)>, OutOfMemory>
+fn call_of_line(alloc: Global, line: &[u8]) -> Result<Option<(Minute, Call)>, OutOfMemory>
     ensures line { IfOk result (λ l. l ≡ line_of line.now) }
     ensures range { IfOk result (λ l. IfSome l (λ p. (FIRST ≤ p.0) × (p.0 ≤ LAST))) }
     ensures form { IfOk result (λ l. IfSome l (λ p. IsCall p.1.ask)) }
@@ -211,4 +265,16 @@ pub fn read_line(alloc: Global, line: &[u8]) -> Result<Option<(Minute, Call)>, O
         Some(value) => line_in(alloc, &value),
         None => Ok(None),
     }
+}
+
+/// The moment and the call of a line of a script, where it has no fault: a JSON object of the keys
+/// `actor`, `ask`, `at`, `key` and `number`, and no other, each of its form.
+pub fn read_line(alloc: Global, line: &[u8]) -> Result<Option<(Minute, Call)>, OutOfMemory>
+    ensures line { IfOk result (λ l. l ≡ line_of line.now) }
+    ensures range { IfOk result (λ l. IfSome l (λ p. (FIRST ≤ p.0) × (p.0 ≤ LAST))) }
+    ensures form { IfOk result (λ l. IfSome l (λ p. IsCall p.1.ask)) }
+    // The JSON of a call is read as that call.
+    ensures again { IfOk result (IsReadAgain line.now) }
+{
+    call_of_line(alloc, line)
 }

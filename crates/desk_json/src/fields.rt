@@ -1,10 +1,13 @@
 ghost use Rattle.std.specs.Prelude.{◌≡◌, ◌≤◌, IfOk, IfSome, option_and_then};
 ghost use Rattle.std.specs.Option.{option_map};
-ghost use Rattle.serde_json.specs.View.{view};
+ghost use Rattle.serde_json.specs.View.{view, items_view};
 ghost use Rattle.serde_json.specs.Find.{get, as_number, as_u64};
+ghost use Rattle.plan.specs.Texts.{IsMoment};
 ghost use Rattle.desk_json.specs.Fields as spec;
 
+use codes::Station;
 use desk_io::OutOfMemory;
+use desk_time::{Minute, read_minute};
 use serde_json::Value;
 use std::alloc::Global;
 use std::str;
@@ -58,6 +61,13 @@ pub(crate) fn number_at(key: &str, limit: u64, value: &Value) -> Option<u64>
     }
 }
 
+/// The whole number of 32 bits at a key.
+pub(crate) fn amount_at(key: &str, value: &Value) -> Option<u32>
+    ensures { result ≡ spec.amount_at key.now (view value.now) }
+{
+    Some(number_at(key, 4_294_967_295, value)? as u32)
+}
+
 /// The text at a key, of at most 64 bytes.
 pub(crate) fn short_at<'a>(key: &str, value: &'a Value) -> Option<&'a str>
     ensures { option_map (λ t. t.now) result ≡ spec.short_at key.now (view value.now) }
@@ -65,6 +75,34 @@ pub(crate) fn short_at<'a>(key: &str, value: &'a Value) -> Option<&'a str>
     match text_at(key, value) {
         Some(text) if text.len() <= 64 => Some(text),
         _ => None,
+    }
+}
+
+/// The airport at a key.
+pub(crate) fn station_at(key: &str, value: &Value) -> Option<Station>
+    ensures { result ≡ spec.station_at key.now (view value.now) }
+{
+    Station::read(text_at(key, value)?.as_bytes())
+}
+
+/// The moment at a key.
+pub(crate) fn moment_at(key: &str, value: &Value) -> Option<Minute>
+    ensures value { result ≡ spec.moment_at key.now (view value.now) }
+    ensures range { IfSome result IsMoment }
+{
+    read_minute(text_at(key, value)?.as_bytes())
+}
+
+/// The items of the list at a key.
+pub(crate) fn list_at<'a>(key: &str, value: &'a Value) -> Option<&'a [Value]>
+    ensures { option_map (λ vs. items_view vs.now) result ≡ spec.list_at key.now (view value.now) }
+{
+    match value.get(key) {
+        Some(found) => match found.as_array() {
+            Some(list) => Some(list.as_slice()),
+            None => None,
+        },
+        None => None,
     }
 }
 

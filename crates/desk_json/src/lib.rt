@@ -3,8 +3,12 @@
 
 mod calls;
 mod fields;
+mod legs;
+mod members;
 mod plans;
+mod refusals;
 mod replies;
 
 pub use calls::read_line;
-pub use replies::{reply_text, why_name};
+pub use refusals::why_name;
+pub use replies::reply_text;

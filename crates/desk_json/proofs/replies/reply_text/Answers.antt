@@ -1,4 +1,4 @@
-use Rattle.std.proofs.Common.{◌≡◌, ◌∙◌, ap}
+use Rattle.std.proofs.Common.{◌∙◌, ap}
 use Rattle.serde_json.specs.Written.{compact_text}
 use Rattle.desk_json.specs.Replies.{reply_text}
 use Rattle.desk_json.proofs.Written.{reply_whole}

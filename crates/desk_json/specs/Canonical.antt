@@ -1,0 +1,150 @@
+-- Plans, asks and calls as JSON, each key in its place in byte order.
+use Rattle.std.specs.Prelude.{◌≡◌, ℕ, ◌≤◌, true, List, length, map, Option, None, Some, codes}
+use Rattle.std.specs.List.{AllByRecursion}
+use Rattle.serde_json.specs.Data.{Data, null, object, member, no_members, number, unsigned, string, array}
+use Rattle.serde_json.specs.View.{items_of}
+use Rattle.desk_time.specs.Moments.{shown}
+use Rattle.codes.specs.Station.{is_station}
+use Rattle.plan.specs.Texts.{IsMoment}
+use Rattle.plan.specs.declared.flights.Kind.{Kind}
+use Rattle.plan.specs.declared.flights.Kind.TheVariants.{Domestic, Flag}
+use Rattle.plan.specs.declared.flights.Alternate.{Alternate}
+use Rattle.plan.specs.declared.flights.TakeoffAlternate.{TakeoffAlternate}
+use Rattle.plan.specs.declared.flights.Leg.{Leg}
+use Rattle.plan.specs.declared.flights.Plan.{Plan}
+use Rattle.asks.specs.declared.call.Call.{Call}
+use Rattle.asks.specs.declared.call.Ask.{Ask}
+use Rattle.asks.specs.declared.call.Ask.TheVariants.{Admit, Defer, Clear, Draft, Sign, Concur, Cancel, ViewAlerts, ViewDeferred}
+use Rattle.desk_json.specs.declared.plans.Form.TheVariants.{Flight, Tail, Captain}
+use Rattle.desk_json.specs.Fields.{data_of}
+use Rattle.desk_json.specs.Plans.{has_form}
+
+abbrev pub count : ℕ → Data
+count n = number (unsigned n)
+
+abbrev pub moment_data : ℕ → Data
+moment_data at = string (shown at)
+
+abbrev pub alternate_data : Alternate → Data
+alternate_data a = object (member (codes "fuel") (count a.fuel) (member (codes "minutes") (count a.minutes) (member (codes "station") (string a.station) no_members)))
+
+abbrev pub takeoff_data : Option TakeoffAlternate → Data
+takeoff_data None = null
+takeoff_data (Some t) = object (member (codes "minutes") (count t.minutes) (member (codes "station") (string t.station) no_members))
+
+abbrev pub leg_data : Leg → Data
+leg_data l = object
+    (member (codes "alternates") (array (items_of (map alternate_data l.alternates)))
+    (member (codes "burn") (count l.burn)
+    (member (codes "eta") (moment_data l.eta)
+    (member (codes "etd") (moment_data l.etd)
+    (member (codes "extra") (count l.extra)
+    (member (codes "from") (string l.from)
+    (member (codes "minimum") (count l.minimum)
+    (member (codes "minutes") (count l.minutes)
+    (member (codes "onboard") (count l.onboard)
+    (member (codes "takeoff_alternate") (takeoff_data l.takeoff_alternate)
+    (member (codes "to") (string l.to) no_members)))))))))))
+
+abbrev pub kind_name : Kind → List ℕ
+kind_name Domestic = codes "domestic"
+kind_name Flag = codes "flag"
+
+-- the JSON of a plan
+unfoldable pub plan_data : Plan → Data
+plan_data p = object
+    (member (codes "captain") (string p.captain)
+    (member (codes "flight") (string p.flight)
+    (member (codes "kind") (string (kind_name p.kind))
+    (member (codes "legs") (array (items_of (map leg_data p.legs)))
+    (member (codes "tail") (string p.tail) no_members)))))
+
+-- the JSON of an ask
+unfoldable pub ask_data : Ask → Data
+ask_data (Admit text) = object (member (codes "do") (string (codes "admit")) (member (codes "text") (string text) no_members))
+ask_data (Defer tail item found) =
+    object (member (codes "do") (string (codes "defer")) (member (codes "found") (moment_data found) (member (codes "item") (string item) (member (codes "tail") (string tail) no_members))))
+ask_data (Clear deferral) = object (member (codes "deferral") (count deferral) (member (codes "do") (string (codes "clear")) no_members))
+ask_data (Draft plan) = object (member (codes "do") (string (codes "draft")) (member (codes "plan") (plan_data plan) no_members))
+ask_data (Sign release revision) =
+    object (member (codes "do") (string (codes "sign")) (member (codes "release") (count release) (member (codes "revision") (count revision) no_members)))
+ask_data (Concur release revision) =
+    object (member (codes "do") (string (codes "concur")) (member (codes "release") (count release) (member (codes "revision") (count revision) no_members)))
+ask_data (Cancel release) = object (member (codes "do") (string (codes "cancel")) (member (codes "release") (count release) no_members))
+ask_data ViewAlerts = object (member (codes "do") (string (codes "alerts")) no_members)
+ask_data (ViewDeferred tail) = object (member (codes "do") (string (codes "deferred")) (member (codes "tail") (string tail) no_members))
+
+-- the JSON of a moment and a call, as a line of a script has it
+unfoldable pub line_data : ℕ → Call → Data
+line_data at c = object
+    (member (codes "actor") (string c.actor)
+    (member (codes "ask") (ask_data c.ask)
+    (member (codes "at") (moment_data at)
+    (member (codes "key") (string c.key)
+    (member (codes "number") (count c.number) no_members)))))
+
+-- a number of 32 bits
+abbrev pub IsAmount : ℕ → Type 0
+IsAmount n = n ≤ 4_294_967_295
+
+-- an alternate whose fields have their forms
+pub record IsAlternate (a : Alternate) : Type 0 where
+  pub station : is_station a.station ≡ true
+  pub minutes : IsAmount a.minutes
+  pub fuel : IsAmount a.fuel
+
+pub record IsTakeoff (t : TakeoffAlternate) : Type 0 where
+  pub station : is_station t.station ≡ true
+  pub minutes : IsAmount t.minutes
+
+abbrev pub MayBeTakeoff : Option TakeoffAlternate → Type 0
+MayBeTakeoff None = Unit {0}
+MayBeTakeoff (Some t) = IsTakeoff t
+
+-- a leg whose fields have their forms
+pub record IsLeg (l : Leg) : Type 0 where
+  pub from : is_station l.from ≡ true
+  pub to : is_station l.to ≡ true
+  pub etd : IsMoment l.etd
+  pub eta : IsMoment l.eta
+  pub minutes : IsAmount l.minutes
+  pub burn : IsAmount l.burn
+  pub extra : IsAmount l.extra
+  pub minimum : IsAmount l.minimum
+  pub onboard : IsAmount l.onboard
+  pub takeoff : MayBeTakeoff l.takeoff_alternate
+  pub alternates : AllByRecursion IsAlternate l.alternates
+
+-- a plan whose fields have their forms
+pub record HasForms (p : Plan) : Type 0 where
+  pub flight : has_form Flight p.flight ≡ true
+  pub tail : has_form Tail p.tail ≡ true
+  pub captain : has_form Captain p.captain ≡ true
+  pub few : length p.legs ≤ 1000
+  pub legs : AllByRecursion IsLeg p.legs
+
+abbrev pub IsId : ℕ → Type 0
+IsId n = n ≤ 1_000_000_000_000_000
+
+-- an ask whose fields have their forms
+abbrev pub AskHasForms : Ask → Type 0
+AskHasForms (Admit text) = Unit {0}
+AskHasForms (Defer tail item found) = (length tail ≤ 64) × (length item ≤ 64) × IsMoment found
+AskHasForms (Clear deferral) = IsId deferral
+AskHasForms (Draft plan) = HasForms plan
+AskHasForms (Sign release revision) = IsId release × IsId revision
+AskHasForms (Concur release revision) = IsId release × IsId revision
+AskHasForms (Cancel release) = IsId release
+AskHasForms ViewAlerts = Unit {0}
+AskHasForms (ViewDeferred tail) = length tail ≤ 64
+
+-- a call whose fields have their forms
+pub record CallHasForms (c : Call) : Type 0 where
+  pub actor : length c.actor ≤ 64
+  pub key : length c.key ≤ 64
+  pub number : c.number ≤ 1_000_000_000_000
+  pub ask : AskHasForms c.ask
+
+-- What a line is read as. Where its JSON is that of a moment and a call of good form, it is these.
+abbrev pub IsReadAgain : List ℕ → Option (ℕ × Call) → Type 0
+IsReadAgain line read = (at : ℕ) (c : Call) → IsMoment at → CallHasForms c → data_of line ≡ Some (line_data at c) → read ≡ Some (at, c)

@@ -1,0 +1,217 @@
+ghost use Rattle.std.specs.Prelude.{◌≡◌, map, codes, IfOk};
+ghost use Rattle.serde_json.specs.Data.{string, array, put};
+ghost use Rattle.serde_json.specs.View.{view, items_of, members_view};
+ghost use Rattle.plan.specs.Texts.{HasMoment, phase_text};
+ghost use Rattle.asks.specs.Forms.{RefusalHasMoment};
+ghost use Rattle.desk_json.specs.Replies as spec;
+
+use crate::members::{
+    Members, name_value, text_value, with_count, with_name, with_text, with_value,
+};
+use asks::Refusal;
+use codes::Why;
+use desk_io::OutOfMemory;
+use desk_time::show;
+use plan::{Finding, Phase, PlanWhy, finding_text, phase_text};
+use serde_json::{Map, Value};
+use std::alloc::Global;
+
+/// The name of a reason.
+pub fn why_name(why: Why) -> &'static str
+    ensures { result.now ≡ spec.why_name why }
+{
+    match why {
+        Why::TooLong => "TooLong",
+        Why::Missing => "Missing",
+        Why::NotStation => "NotStation",
+        Why::NotTime => "NotTime",
+        Why::DayOutOfReach => "DayOutOfReach",
+        Why::BadVisibility => "BadVisibility",
+        Why::BadSky => "BadSky",
+        Why::BadPeriod => "BadPeriod",
+    }
+}
+
+fn plan_why_name(why: PlanWhy) -> &'static str
+    ensures { result.now ≡ spec.plan_why_name why }
+{
+    match why {
+        PlanWhy::UnknownTail => "UnknownTail",
+        PlanWhy::UnknownCaptain => "UnknownCaptain",
+        PlanWhy::Count => "Count",
+        PlanWhy::NoAirport => "NoAirport",
+        PlanWhy::Repeated => "Repeated",
+        PlanWhy::Unjoined => "Unjoined",
+        PlanWhy::Times => "Times",
+        PlanWhy::Amount => "Amount",
+    }
+}
+
+fn refusal_number(refusal: &Refusal) -> u64
+    ensures { result ≡ spec.refusal_number refusal.now }
+{
+    match refusal {
+        Refusal::UnknownActor => 1,
+        Refusal::WrongKey => 2,
+        Refusal::NotYourRole => 3,
+        Refusal::BadReport { .. } => 5,
+        Refusal::DayOutOfReach { .. } => 6,
+        Refusal::ReportsFull { .. } => 7,
+        Refusal::UnknownTail => 8,
+        Refusal::NoSuchDeferral => 9,
+        Refusal::NoSuchRelease => 10,
+        Refusal::NotYours { .. } => 11,
+        Refusal::BadPlan { .. } => 12,
+        Refusal::NotPending { .. } => 13,
+        Refusal::WrongRevision { .. } => 14,
+        Refusal::RuleFails { .. } => 17,
+        Refusal::WrongPhase { .. } => 18,
+        Refusal::AlreadySigned => 19,
+        Refusal::HistoryFull { .. } => 24,
+        Refusal::NoSuchStation => 25,
+        Refusal::UnknownItem => 28,
+        Refusal::BadFound { .. } => 29,
+        Refusal::DeferralsFull { .. } => 30,
+    }
+}
+
+fn refusal_name(refusal: &Refusal) -> &'static str
+    ensures { result.now ≡ spec.refusal_name refusal.now }
+{
+    match refusal {
+        Refusal::UnknownActor => "UnknownActor",
+        Refusal::WrongKey => "WrongKey",
+        Refusal::NotYourRole => "NotYourRole",
+        Refusal::BadReport { .. } => "BadReport",
+        Refusal::DayOutOfReach { .. } => "DayOutOfReach",
+        Refusal::ReportsFull { .. } => "ReportsFull",
+        Refusal::UnknownTail => "UnknownTail",
+        Refusal::NoSuchDeferral => "NoSuchDeferral",
+        Refusal::NoSuchRelease => "NoSuchRelease",
+        Refusal::NotYours { .. } => "NotYours",
+        Refusal::BadPlan { .. } => "BadPlan",
+        Refusal::NotPending { .. } => "NotPending",
+        Refusal::WrongRevision { .. } => "WrongRevision",
+        Refusal::RuleFails { .. } => "RuleFails",
+        Refusal::WrongPhase { .. } => "WrongPhase",
+        Refusal::AlreadySigned => "AlreadySigned",
+        Refusal::HistoryFull { .. } => "HistoryFull",
+        Refusal::NoSuchStation => "NoSuchStation",
+        Refusal::UnknownItem => "UnknownItem",
+        Refusal::BadFound { .. } => "BadFound",
+        Refusal::DeferralsFull { .. } => "DeferralsFull",
+    }
+}
+
+// A place in a text or a plan, and what is wrong there.
+fn with_reason(
+    alloc: Global,
+    members: Members,
+    key: &str,
+    place: u32,
+    what: &str,
+) -> Result<Members, OutOfMemory>
+    ensures { IfOk result (λ all. members_view all.entries ≡ put (codes "what") (string what.now) (put key.now (spec.count place) (members_view members.entries))) }
+{
+    let members = with_count(alloc, members, key, place as u64)?;
+    with_name(alloc, members, "what", what)
+}
+
+fn finding_value(alloc: Global, finding: &Finding) -> Result<Value, OutOfMemory>
+    ensures { IfOk result (λ v. view v ≡ spec.finding_data finding.now) }
+{
+    let text = finding_text(alloc, finding)?;
+    Ok(text_value(alloc, text.bytes())?)
+}
+
+fn finding_values(alloc: Global, findings: &[Finding]) -> Result<Vec<Value>, OutOfMemory>
+    ensures { IfOk result (λ v. map view v.items ≡ map spec.finding_data findings.now) }
+{
+    let mut values = Vec::new(alloc);
+    for finding in findings {
+        values.push(finding_value(alloc, finding)?)?;
+    }
+    Ok(values)
+}
+
+fn findings_value(alloc: Global, findings: &[Finding]) -> Result<Value, OutOfMemory>
+    ensures { IfOk result (λ v. view v ≡ array (items_of (map spec.finding_data findings.now))) }
+{
+    Ok(Value::Array(finding_values(alloc, findings)?))
+}
+
+fn with_findings(
+    alloc: Global,
+    members: Members,
+    findings: &[Finding],
+) -> Result<Members, OutOfMemory>
+    ensures { IfOk result (λ all. members_view all.entries ≡ put (codes "findings") (array (items_of (map spec.finding_data findings.now))) (members_view members.entries)) }
+{
+    let value = findings_value(alloc, findings)?;
+    with_value(alloc, members, "findings", value)
+}
+
+fn with_phase(alloc: Global, members: Members, phase: Phase) -> Result<Members, OutOfMemory>
+    requires { HasMoment phase }
+    ensures { IfOk result (λ all. members_view all.entries ≡ put (codes "phase") (spec.text_data (phase_text phase)) (members_view members.entries)) }
+{
+    let text = phase_text(alloc, phase)?;
+    with_text(alloc, members, "phase", text.bytes())
+}
+
+// Some members and those of a refusal that say more than its number and its name.
+fn with_fields(alloc: Global, refusal: &Refusal, members: Members) -> Result<Members, OutOfMemory>
+    requires { RefusalHasMoment refusal.now }
+    ensures { IfOk result (λ all. members_view all.entries ≡ spec.with_fields refusal.now (members_view members.entries)) }
+{
+    match refusal {
+        Refusal::BadReport { group, what } => {
+            with_reason(alloc, members, "group", *group, why_name(*what))
+        }
+        Refusal::DayOutOfReach { group } => with_count(alloc, members, "group", *group as u64),
+        Refusal::ReportsFull { held } => with_count(alloc, members, "held", *held),
+        Refusal::NotYours { holder } => with_text(alloc, members, "holder", holder.bytes()),
+        Refusal::BadPlan { leg, what } => {
+            with_reason(alloc, members, "leg", *leg, plan_why_name(*what))
+        }
+        Refusal::NotPending { stage } => with_count(alloc, members, "stage", *stage as u64),
+        Refusal::WrongRevision { current } => with_count(alloc, members, "current", *current),
+        Refusal::RuleFails { findings } => with_findings(alloc, members, findings.as_slice()),
+        Refusal::WrongPhase { phase } => with_phase(alloc, members, *phase),
+        Refusal::HistoryFull { entries } => with_count(alloc, members, "entries", *entries),
+        Refusal::BadFound { moment } => with_text(alloc, members, "now", &show(*moment)),
+        Refusal::DeferralsFull { held } => with_count(alloc, members, "held", *held),
+        Refusal::UnknownActor
+        | Refusal::WrongKey
+        | Refusal::NotYourRole
+        | Refusal::UnknownTail
+        | Refusal::NoSuchDeferral
+        | Refusal::NoSuchRelease
+        | Refusal::AlreadySigned
+        | Refusal::NoSuchStation
+        | Refusal::UnknownItem => Ok(members),
+    }
+}
+
+// The members that every refusal has.
+fn refusal_members(alloc: Global, refusal: &Refusal) -> Result<Members, OutOfMemory>
+    ensures { IfOk result (λ all. members_view all.entries ≡ spec.refusal_members refusal.now) }
+{
+    let name = name_value(alloc, refusal_name(refusal))?;
+    let mut members = Map::new(alloc);
+    members.insert(
+        String::from_str(alloc, "refused")?,
+        Value::from(refusal_number(refusal)),
+    )?;
+    members.insert(String::from_str(alloc, "why")?, name)?;
+    Ok(members)
+}
+
+/// A refusal as a JSON object.
+pub(crate) fn refusal_value(alloc: Global, refusal: &Refusal) -> Result<Value, OutOfMemory>
+    requires { RefusalHasMoment refusal.now }
+    ensures { IfOk result (λ v. view v ≡ spec.refusal_data refusal.now) }
+{
+    let members = refusal_members(alloc, refusal)?;
+    Ok(Value::Object(with_fields(alloc, refusal, members)?))
+}
