@@ -1,48 +1,57 @@
 -- What is prepared is the step, and a step keeps what holds of a board.
-use Rattle.std.proofs.Common.{◌≡◌, ℕ, ◌<◌, ◌≤◌, List, [], ◌∷◌, ◌++◌, Option, None, Some, IfSome, Ok, refl, ap, sym, ◌∙◌, subst}
+use Rattle.std.proofs.Common.{◌≡◌, ℕ, get_or, length, ◌<◌, ◌≤◌, Bool, arith, List, [], ◌∷◌, ◌++◌, Option, None, Some, IfSome, Ok, refl, ap, sym, ◌∙◌, subst}
 use Rattle.alerts.specs.declared.alert.Alert.{Alert}
 use Rattle.asks.specs.declared.call.Call.{Call}
 use Rattle.asks.specs.declared.reply.Reply.{Reply}
 use Rattle.asks.specs.Forms.{IsCall, ReplyHasMoment}
 use Rattle.machine.specs.declared.entry.Entry.{Entry}
 use Rattle.machine.specs.declared.effect.Effect.{Effect}
-use Rattle.machine.specs.declared.effect.Effect.TheVariants.{Tick, Admit, File, Put, PutAfresh}
+use Rattle.machine.specs.declared.effect.Effect.TheVariants.{Tick, Admit, Defer, Clear, File, Put, PutAfresh}
 use Rattle.machine.specs.declared.effect.Decision.{Decision}
 use Rattle.machine.specs.declared.effect.Decision.TheVariants.{Do}
 use Rattle.machine.specs.State.{State}
 use Rattle.machine.specs.Events.{effected, alert_changes, notices_of, put_changes}
 use Rattle.machine.specs.Decide.{decide}
-use Rattle.machine.specs.Step.{counted, after_event, do_call, tick_to}
-use Rattle.machine.specs.Sound.{Sound, Kept, EffectFits, DecisionFits, IsBoard}
+use Rattle.machine.specs.Step.{counted, after_event, answer_call, tick_to}
+use Rattle.machine.specs.Sound.{Sound, InBounds, EffectFits, DecisionFits, IsEntered, IsBoard}
 use Rattle.machine.proofs.Boards.{call_keeps, tick_keeps, reply_shown, tick_shown}
+use Rattle.alerts.specs.declared.notices.Notice.{Notice}
+use Rattle.std.specs.List.{AllByRecursion}
+use Rattle.std.proofs.lemmas.List.Elements.{All-from_recursion}
+use Rattle.machine.specs.Allowed.{MayLeadTo, MayTickTo}
+use Rattle.machine.specs.Told.{takes_alert, AreDifferences, takes_none}
+use Rattle.machine.proofs.ToldLaws.{call_told, tick_told}
+use Rattle.machine.proofs.AllowedLaws.{call_leads, tick_leads}
 use Rattle.machine.proofs.Changes.{changes_lead}
 use Rattle.machine.proofs.Deciding.{decision_fits}
 use Rattle.board.specs.declared.content.Content.{Content}
 use Rattle.board.specs.declared.prepared.Prepared.{Prepared}
 use Rattle.board.specs.declared.steps.Judged.{Judged}
-use Rattle.board.specs.Contents.{state_of, IsShown, EffectIsShown, MayCome}
+use Rattle.board.specs.Contents.{state_of, AdmitsRead, DecisionAdmitsRead, MayBeMade}
 use Rattle.board.specs.Prepare.{with_events, installed, IsStepped, MayInstall, IsReady, Shown, shown}
 
 -- the effect of a call fits
-pub decided_fits : (s : State) (call : Call) (reply : Reply) (effect : Effect) → Ok (Do reply effect) ≡ decide s call → Sound s → Kept s → IsCall call.ask → EffectFits s effect
+pub decided_fits : (s : State) (call : Call) (reply : Reply) (effect : Effect) → Ok (Do reply effect) ≡ decide s call → Sound s → InBounds s → IsCall call.ask → EffectFits s effect
 decided_fits s call reply effect is sound kept form = (subst (DecisionFits s) (sym is) (decision_fits s call sound kept form)).1
 
-pub may_come : (s : State) (effect : Effect) → EffectFits s effect → IsShown effect → MayCome s effect
+pub may_come : (s : State) (effect : Effect) → EffectFits s effect → AdmitsRead effect → MayBeMade s effect
 may_come s (Tick to) fits has = tt
-may_come s (Admit report) fits has = (fits, has)
+may_come s (Admit report) fits has = (fits.is_new, has)
+may_come s (Defer d) fits has = (fits.is_new, fits.few)
+may_come s (Clear id) fits has = tt
 may_come s (File r) fits has = fits.numbered
 may_come s (Put r) fits has = tt
 may_come s (PutAfresh r) fits has = tt
 
 -- the same, of the effect of a decision
-pub effect_of : (s : State) (call : Call) (d : Decision) (reply : Reply) (effect : Effect) → d ≡ Do reply effect → Ok d ≡ decide s call → Sound s → Kept s → IsCall call.ask
+pub effect_of : (s : State) (call : Call) (d : Decision) (reply : Reply) (effect : Effect) → d ≡ Do reply effect → Ok d ≡ decide s call → Sound s → InBounds s → IsCall call.ask
     → EffectFits s effect
 effect_of s call d reply effect is made sound kept form = decided_fits s call reply effect (sym (ap (λ (x : Decision). Ok x) is) ∙ made) sound kept form
 
-pub effect_may : (s : State) (call : Call) (d : Decision) (reply : Reply) (effect : Effect) → d ≡ Do reply effect → Ok d ≡ decide s call → Sound s → Kept s → IsCall call.ask
-    → EffectIsShown d → MayCome s effect
+pub effect_may : (s : State) (call : Call) (d : Decision) (reply : Reply) (effect : Effect) → d ≡ Do reply effect → Ok d ≡ decide s call → Sound s → InBounds s → IsCall call.ask
+    → DecisionAdmitsRead d → MayBeMade s effect
 effect_may s call d reply effect is made sound kept form has =
-    may_come s effect (effect_of s call d reply effect is made sound kept form) (subst EffectIsShown is has)
+    may_come s effect (effect_of s call d reply effect is made sound kept form) (subst DecisionAdmitsRead is has)
 
 abbrev with_alerts : State → Entry → List Alert → State
 with_alerts t e alerts = record t { counters = counted e.what t.counters; alerts = alerts; entries = t.entries ++ e ∷ [] }
@@ -70,16 +79,16 @@ ready_by opening s u c p q same is board leads may after = (
 
 -- a call that is prepared may be put in place
 pub call_ready : (opening s : State) (c : Content) (p q : Prepared) (lane : ℕ) (call : Call) → q ≡ p → state_of c ≡ s → IsBoard opening s → IsCall call.ask
-    → IsStepped s p (do_call s lane call) → MayInstall c p.event → IsBoard opening (state_of c) × IsReady opening c q
+    → IsStepped s p (answer_call s lane call) → MayInstall c p.event → IsBoard opening (state_of c) × IsReady opening c q
 call_ready opening s c p q lane call same is board form stepped may =
-    ready_by opening s (do_call s lane call).state c p q same is board stepped.state may (call_keeps opening s (do_call s lane call).state lane call board form refl)
+    ready_by opening s (answer_call s lane call).state c p q same is board stepped.state may (call_keeps opening s (answer_call s lane call).state lane call board form refl)
 
 pub tick_ready : (opening s : State) (c : Content) (p q : Prepared) (lane to : ℕ) → q ≡ p → state_of c ≡ s → IsBoard opening s → s.moment < to → to ≤ 68_374_079
     → IsStepped s p (tick_to s lane to) → MayInstall c p.event → IsBoard opening (state_of c) × IsReady opening c q
 tick_ready opening s c p q lane to same is board later within stepped may =
     ready_by opening s (tick_to s lane to).state c p q same is board stepped.state may (tick_keeps opening s (tick_to s lane to).state lane to board later within refl)
 
-pub call_reply : (opening s : State) (p : Prepared) (lane : ℕ) (call : Call) → IsBoard opening s → IsCall call.ask → IsStepped s p (do_call s lane call) → IfSome p.reply ReplyHasMoment
+pub call_reply : (opening s : State) (p : Prepared) (lane : ℕ) (call : Call) → IsBoard opening s → IsCall call.ask → IsStepped s p (answer_call s lane call) → IfSome p.reply ReplyHasMoment
 call_reply opening s p lane call board form stepped = reply_shown s lane call p.reply stepped.reply board.sound board.kept form
 
 pub tick_reply : (s : State) (p : Prepared) (lane to : ℕ) → IsStepped s p (tick_to s lane to) → IfSome p.reply ReplyHasMoment
@@ -88,6 +97,43 @@ tick_reply s p lane to stepped = tick_shown s lane to p.reply stepped.reply
 -- later than the moment that is shown
 pub later_than : (before held : Shown) (to : ℕ) → held ≡ before → before.state.moment < to → held.state.moment < to
 later_than before held to is later = subst (λ (b : Shown). b.state.moment < to) (sym is) later
+
+-- what is prepared leads to no other state than the ask may
+pub prepared_leads : (before held : Shown) (p : Prepared) (lane : ℕ) (call : Call) → held ≡ before → IsStepped held.state p (answer_call held.state lane call)
+    → MayLeadTo lane call before.state (installed p before.state) p.reply
+prepared_leads before held p lane call is stepped =
+    subst (λ (b : Shown). MayLeadTo lane call b.state (installed p b.state) p.reply) is (call_leads held.state (installed p held.state) lane call p.reply stepped.state stepped.reply)
+
+pub ticked_leads : (before held : Shown) (p : Prepared) (lane to : ℕ) → held ≡ before → IsStepped held.state p (tick_to held.state lane to)
+    → MayTickTo lane to before.state (installed p before.state) p.reply
+ticked_leads before held p lane to is stepped =
+    subst (λ (b : Shown). MayTickTo lane to b.state (installed p b.state) p.reply) is (tick_leads held.state (installed p held.state) lane to p.reply stepped.state stepped.reply)
+
+-- an entry of the history has its form
+pub entry_form : (before held : Shown) (i : ℕ) (e : Entry) → held ≡ before → AllByRecursion (λ x. IsEntered x.what) held.state.entries → i < length before.state.entries
+    → e ≡ get_or held.state.entries i e → IsEntered e.what
+entry_form before held i e is all less same =
+    let within : i < length held.state.entries = subst (λ (b : Shown). i < length b.state.entries) (sym is) less in
+    subst (λ (x : Entry). IsEntered x.what) (sym same) (All-from_recursion (λ x. IsEntered x.what) held.state.entries all i e within)
+
+-- what is told of what is prepared are the differences of the alerts
+pub prepared_told : (opening : State) (before held : Shown) (p : Prepared) (lane : ℕ) (call : Call) → held ≡ before → IsBoard opening held.state → IsCall call.ask
+    → IsStepped held.state p (answer_call held.state lane call) → AreDifferences (takes_alert call.ask) before.state (installed p before.state) p.notices
+prepared_told opening before held p lane call is board form stepped =
+    subst (λ (b : Shown). AreDifferences (takes_alert call.ask) b.state (installed p b.state) p.notices) is
+    (call_told held.state (installed p held.state) lane call p.notices board.sound board.kept form stepped.state stepped.notices)
+
+pub ticked_told : (opening : State) (before held : Shown) (p : Prepared) (lane to : ℕ) → held ≡ before → IsBoard opening held.state → held.state.moment < to → to ≤ 68_374_079
+    → IsStepped held.state p (tick_to held.state lane to) → AreDifferences takes_none before.state (installed p before.state) p.notices
+ticked_told opening before held p lane to is board later within stepped =
+    let low = board.kept.moment.0 in
+    subst (λ (b : Shown). AreDifferences takes_none b.state (installed p b.state) p.notices) is
+    (tick_told held.state (installed p held.state) lane to p.notices board.sound (omega (arith, low, later), within) stepped.state stepped.notices)
+
+-- the same of what is installed
+pub installed_told : (takes : ℕ → Bool) (s t u : State) (told notices : List Notice) → u ≡ t → notices ≡ told → AreDifferences takes s u told → AreDifferences takes s t notices
+installed_told takes s t u told notices one two is =
+    subst (λ (v : State). AreDifferences takes s v notices) one (subst (λ (ns : List Notice). AreDifferences takes s u ns) (sym two) is)
 
 -- once a step that has room is put in place
 pub install_keeps : (opening t : State) (c : Content) (p : Prepared) (room : Option Prepared) → room ≡ Some p → IfSome room (IsReady opening c) → t ≡ with_events p.event (state_of c)

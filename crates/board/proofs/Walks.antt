@@ -7,18 +7,19 @@ use Rattle.alerts.specs.declared.alert.Alert.{Alert}
 use Rattle.alerts.specs.Alerts.{IsAlert}
 use Rattle.machine.specs.declared.change.AlertChange.{AlertChange}
 use Rattle.machine.specs.declared.effect.Effect.{Effect}
-use Rattle.machine.specs.declared.effect.Effect.TheVariants.{Tick, Admit, File, Put, PutAfresh}
+use Rattle.machine.specs.declared.effect.Effect.TheVariants.{Tick, Admit, Defer, Clear, File, Put, PutAfresh}
 use Rattle.machine.specs.State.{State, alert_at}
 use Rattle.machine.specs.Events.{effected, change_between, changes_from, changes_over, alert_changes}
-use Rattle.machine.specs.Sound.{Sound, Kept, IsKept, Rise, EffectFits}
+use Rattle.machine.specs.Sound.{Sound, InBounds, ReleaseInBounds, Rise, EffectFits}
 use Rattle.machine.proofs.Each.{each_push, each_weaker, put_each}
 use Rattle.machine.proofs.Judging.{IsOf, found_of, alert_without}
 use Rattle.machine.proofs.Changes.{AreAbove, all_above, effect_own, effect_ids}
 use Rattle.board.specs.declared.judging.Prospect.{Prospect}
 use Rattle.board.specs.Contents.{state_of}
-use Rattle.board.specs.Prospect.{IsBounded, AreBounded, prospect, kept_of, judged_by, changes_by, here, past, walk}
+use Rattle.machine.proofs.Boards.{effect_open}
+use Rattle.board.specs.Prospect.{AreOpenThen, IsBounded, AreBounded, prospect, kept_of, judged_by, changes_of, here, past, walk}
 
-pub all_bounded : (s : State) → Sound s → Kept s → AreBounded s.alerts
+pub all_bounded : (s : State) → Sound s → InBounds s → AreBounded s.alerts
 all_bounded s sound kept =
     each_weaker (IsAlert s.counters.events) IsBounded
     (λ a is. let v = is.version in let most = kept.counters.events in omega (arith, v, most)) s.alerts sound.alerts
@@ -46,6 +47,8 @@ kept_by false o is = is
 kept_is_bounded : (effect : Effect) (id : ℕ) (before : Option Alert) → IfSome before IsBounded → IfSome (kept_of effect id before) IsBounded
 kept_is_bounded (Tick to) id before is = is
 kept_is_bounded (Admit report) id before is = is
+kept_is_bounded (Defer d) id before is = is
+kept_is_bounded (Clear cleared) id before is = is
 kept_is_bounded (File r) id before is = is
 kept_is_bounded (Put r) id before is = is
 kept_is_bounded (PutAfresh r) id before is = kept_by (eqb id r.id) before is
@@ -54,19 +57,27 @@ pub kept_bounded : (effect : Effect) (id : ℕ) (before o : Option Alert) → o 
 kept_bounded effect id before o e is = subst (λ (p : Option Alert). IfSome p IsBounded) (sym e) (kept_is_bounded effect id before is)
 
 -- the releases may be held once the effect is there
-effect_kept : (effect : Effect) (s : State) → EffectFits s effect → Kept s → AllByRecursion IsKept (effected effect s).releases
+effect_kept : (effect : Effect) (s : State) → EffectFits s effect → InBounds s → AllByRecursion ReleaseInBounds (effected effect s).releases
 effect_kept (Tick to) s fits kept = kept.releases
 effect_kept (Admit report) s fits kept = kept.releases
-effect_kept (File r) s fits kept = each_push IsKept s.releases r kept.releases fits.fits.kept
-effect_kept (Put r) s fits kept = put_each IsKept r s.releases kept.releases fits.fits.kept
-effect_kept (PutAfresh r) s fits kept = put_each IsKept r s.releases kept.releases fits.fits.kept
+effect_kept (Defer d) s fits kept = kept.releases
+effect_kept (Clear cleared) s fits kept = kept.releases
+effect_kept (File r) s fits kept = each_push ReleaseInBounds s.releases r kept.releases fits.fits.kept
+effect_kept (Put r) s fits kept = put_each ReleaseInBounds r s.releases kept.releases fits.fits.kept
+effect_kept (PutAfresh r) s fits kept = put_each ReleaseInBounds r s.releases kept.releases fits.fits.kept
 
-pub releases_kept : (effect : Effect) (s : State) (rs : List Release) → rs ≡ (effected effect s).releases → EffectFits s effect → Kept s → AllByRecursion IsKept rs
-releases_kept effect s rs is fits kept = subst (λ (held : List Release). AllByRecursion IsKept held) (sym is) (effect_kept effect s fits kept)
+pub releases_kept : (effect : Effect) (s : State) (rs : List Release) → rs ≡ (effected effect s).releases → EffectFits s effect → InBounds s → AllByRecursion ReleaseInBounds rs
+releases_kept effect s rs is fits kept = subst (λ (held : List Release). AllByRecursion ReleaseInBounds held) (sym is) (effect_kept effect s fits kept)
+
+-- the deferrals may be open once the effect is there
+pub open_then : (p : Prospect) → EffectFits (state_of p.content.now) p.effect.now → InBounds (state_of p.content.now) → AreOpenThen p
+open_then p fits kept = effect_open p.effect.now (state_of p.content.now) fits kept
 
 kept_found : (effect : Effect) (s : State) (id : ℕ) → kept_of effect id (alert_at id s.alerts) ≡ alert_at id (effected effect s).alerts
 kept_found (Tick to) s id = refl
 kept_found (Admit report) s id = refl
+kept_found (Defer d) s id = refl
+kept_found (Clear cleared) s id = refl
 kept_found (File r) s id = refl
 kept_found (Put r) s id = refl
 kept_found (PutAfresh r) s id = sym (alert_without r.id id s.alerts)
@@ -97,8 +108,8 @@ walk_is p low (r ∷ rs) next rise =
     let s : State = state_of p.content.now in
     let later : List Alert = filter_map (λ q. alert_at q.id s.alerts) rs in
     let above : AreAbove r.id later = all_above (λ q. alert_at q.id s.alerts) r.id rs next (λ q. found_of q.id s.alerts) r.id (omega arith) rise.1 in
-    ap (λ o. changes_by p o r ++ walk p (past r.id (cons_option (alert_at r.id s.alerts) later)) rs) (here_is r.id (alert_at r.id s.alerts) later (found_of r.id s.alerts) above)
-    ∙ ap (λ (left : List Alert). changes_by p (alert_at r.id s.alerts) r ++ walk p left rs) (past_is r.id (alert_at r.id s.alerts) later (found_of r.id s.alerts) above)
+    ap (λ o. changes_of p o r ++ walk p (past r.id (cons_option (alert_at r.id s.alerts) later)) rs) (here_is r.id (alert_at r.id s.alerts) later (found_of r.id s.alerts) above)
+    ∙ ap (λ (left : List Alert). changes_of p (alert_at r.id s.alerts) r ++ walk p left rs) (past_is r.id (alert_at r.id s.alerts) later (found_of r.id s.alerts) above)
     ∙ ap (λ o. changes_for p r (alert_at r.id s.alerts) o ++ walk p later rs) (kept_found p.effect.now s r.id)
     ∙ ap (λ rest. changes_from (prospect p) (alert_at r.id s.alerts) r ++ rest) (walk_is p r.id rs next rise.1)
 

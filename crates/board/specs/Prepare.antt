@@ -4,7 +4,7 @@ use Rattle.machine.specs.State.{State}
 use Rattle.machine.specs.Events.{effected, put_changes}
 use Rattle.machine.specs.Step.{Stepped, counted}
 use Rattle.machine.specs.Sound.{IsBoard}
-use Rattle.board.specs.Contents.{state_of, HasRoom, MayCome}
+use Rattle.board.specs.Contents.{state_of, HasRoom, MayBeMade}
 use Rattle.board.specs.declared.content.Content.{Content}
 use Rattle.board.specs.declared.prepared.Prepared.{Prepared}
 use Rattle.board.specs.declared.prepared.Installed.{Installed}
@@ -40,7 +40,7 @@ pub record IsAnswered (i : Installed) (stepped : Stepped) : Type 0 where
 -- an event may be put in place without memory
 abbrev pub MayInstall : Content → Option Event → Type 0
 MayInstall c None = Unit {0}
-MayInstall c (Some e) = HasRoom c (length e.changes.items) e.effect × MayCome (state_of c) e.effect
+MayInstall c (Some e) = HasRoom c (length e.changes.items) e.effect × MayBeMade (state_of c) e.effect
 
 -- what is prepared may be put in place, and keeps what holds of a board
 pub record IsReady (opening : State) (c : Content) (p : Prepared) : Type 0 where

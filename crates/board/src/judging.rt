@@ -5,14 +5,15 @@ ghost use Rattle.rules.specs.Grounds as grounds;
 ghost use Rattle.machine.specs.State as state;
 ghost use Rattle.machine.specs.Events as events;
 ghost use Rattle.machine.specs.Events.{alert_changes, change_between};
-ghost use Rattle.machine.specs.Sound.{IsKept, Sound, Kept, EffectFits};
+ghost use Rattle.machine.specs.Sound.{ReleaseInBounds, Sound, InBounds, EffectFits};
 ghost use Rattle.board.specs.Contents.{state_of};
 ghost use Rattle.board.specs.Prospect as spec;
-ghost use Rattle.board.specs.Prospect.{prospect, AreBounded, IsBounded};
+ghost use Rattle.board.specs.Prospect.{prospect, AreBounded, IsBounded, AreOpenThen};
 
 use crate::content::Content;
 use crate::releases::place_of;
 use alerts::{Alert, Notices, after, notice_of};
+use deferrals::Deferral;
 use desk_io::{Copied, OutOfMemory};
 use desk_time::Minute;
 use facts::Report;
@@ -101,9 +102,12 @@ impl<'a> Prospect<'a> {
     {
         match self.effect {
             Effect::Tick { to } => *to,
-            Effect::Admit(_) | Effect::File(_) | Effect::Put(_) | Effect::PutAfresh(_) => {
-                self.content.moment
-            }
+            Effect::Admit(_)
+            | Effect::Defer(_)
+            | Effect::Clear { .. }
+            | Effect::File(_)
+            | Effect::Put(_)
+            | Effect::PutAfresh(_) => self.content.moment,
         }
     }
 
@@ -114,16 +118,56 @@ impl<'a> Prospect<'a> {
     {
         match self.effect {
             Effect::Admit(report) => Some(report),
-            Effect::Tick { .. } | Effect::File(_) | Effect::Put(_) | Effect::PutAfresh(_) => None,
+            Effect::Tick { .. }
+            | Effect::Defer(_)
+            | Effect::Clear { .. }
+            | Effect::File(_)
+            | Effect::Put(_)
+            | Effect::PutAfresh(_) => None,
         }
     }
 
+    // The item that is about to be deferred.
+    fn deferred(&self) -> Option<&'a Deferral>
+        ensures { option_copied result ≡ spec.deferred_of self.now.effect.now }
+    {
+        match self.effect {
+            Effect::Defer(deferral) => Some(deferral),
+            Effect::Tick { .. }
+            | Effect::Admit(_)
+            | Effect::Clear { .. }
+            | Effect::File(_)
+            | Effect::Put(_)
+            | Effect::PutAfresh(_) => None,
+        }
+    }
+
+    // The deferral that is about to go.
+    fn cleared(&self) -> Option<u64>
+        ensures { result ≡ spec.cleared_of self.now.effect.now }
+    {
+        match self.effect {
+            Effect::Clear { deferral } => Some(*deferral),
+            Effect::Tick { .. }
+            | Effect::Admit(_)
+            | Effect::Defer(_)
+            | Effect::File(_)
+            | Effect::Put(_)
+            | Effect::PutAfresh(_) => None,
+        }
+    }
+
+    #[tactic(auto, using(crate::proofs::Parts::deferrals_then))]
     fn evidence(&self) -> Evidence<'a>
         ensures { grounds.grounds_of result ≡ state.grounds_of (prospect self.now) }
     {
         Evidence {
             held: &self.content.reports,
             fresh: self.fresh(),
+            deferrals: &self.content.deferrals,
+            deferred: self.deferred(),
+            cleared: self.cleared(),
+            tables: &self.content.tables,
             moment: self.moment(),
         }
     }
@@ -148,7 +192,7 @@ impl<'a> Prospect<'a> {
     {
         let mut out = Vec::new(alloc);
         match self.effect {
-            Effect::Tick { .. } | Effect::Admit(_) => {
+            Effect::Tick { .. } | Effect::Admit(_) | Effect::Defer(_) | Effect::Clear { .. } => {
                 push_releases(&mut out, &self.content.releases)?;
             }
             Effect::File(release) => {
@@ -169,7 +213,8 @@ impl<'a> Prospect<'a> {
         release: &Release,
         steps: &mut Steps<L>,
     ) -> Result<Option<Findings>, OutOfMemory>
-        requires { IsKept release.now }
+        requires release { ReleaseInBounds release.now }
+        requires open { AreOpenThen self.now }
         ensures { IfOk result (λ f. f ≡ state.failing_of (state.grounds_of (prospect self.now)) release.now) }
     {
         match (&release.active, release.phase) {
@@ -198,7 +243,8 @@ impl<'a> Prospect<'a> {
         release: &Release,
         steps: &mut Steps<L>,
     ) -> Result<Option<Alert>, OutOfMemory>
-        requires release { IsKept release.now }
+        requires release { ReleaseInBounds release.now }
+        requires open { AreOpenThen self.now }
         requires version { IfSome (option_copied kept) IsBounded }
         ensures { IfOk result (λ a. a ≡ spec.judged_by self.now release.now (option_copied kept.entry)) }
     {
@@ -224,9 +270,10 @@ impl<'a> Prospect<'a> {
         release: &Release,
         steps: &mut Steps<L>,
     ) -> Result<(), OutOfMemory>
-        requires release { IsKept release.now }
+        requires release { ReleaseInBounds release.now }
+        requires open { AreOpenThen self.now }
         requires version { IfSome (option_copied before) IsBounded }
-        ensures { OnOk result (out.new.items ≡ out.old.items ++ spec.changes_by self.now (option_copied before.entry) release.now) }
+        ensures { OnOk result (out.new.items ≡ out.old.items ++ spec.changes_of self.now (option_copied before.entry) release.now) }
     {
         let kept = self.kept(before, release.id);
         let after = self.judged(alloc, kept, release, steps)?;
@@ -244,7 +291,8 @@ impl<'a> Prospect<'a> {
         releases: &[&Release],
         steps: &mut Steps<L>,
     ) -> Result<(), OutOfMemory>
-        requires releases { AllByRecursion IsKept (map (λ r. r.now) releases.now) }
+        requires releases { AllByRecursion ReleaseInBounds (map (λ r. r.now) releases.now) }
+        requires open { AreOpenThen self.now }
         requires alerts { AreBounded alerts.now }
         ensures { OnOk result (out.new.items ≡ out.old.items ++ spec.walk self.now alerts.now (map (λ r. r.now) releases.now)) }
     {
@@ -259,14 +307,14 @@ impl<'a> Prospect<'a> {
 
     /// The changes of the alerts by the effect and by the judgement of every active release, in order of
     /// the releases.
-    #[tactic(auto, using(crate::proofs::Walks::all_bounded, crate::proofs::Walks::releases_kept, crate::proofs::Walks::walk_all))]
+    #[tactic(auto, using(crate::proofs::Walks::all_bounded, crate::proofs::Walks::releases_kept, crate::proofs::Walks::open_then, crate::proofs::Walks::walk_all))]
     pub fn changes<L: Ledger>(
         &self,
         alloc: Global,
         steps: &mut Steps<L>,
     ) -> Result<Vec<AlertChange>, OutOfMemory>
         requires sound { Sound (state_of self.now.content.now) }
-        requires kept { Kept (state_of self.now.content.now) }
+        requires kept { InBounds (state_of self.now.content.now) }
         requires fits { EffectFits (state_of self.now.content.now) self.now.effect.now }
         ensures { IfOk result (λ v. v.items ≡ alert_changes self.now.effect.now (state_of self.now.content.now)) }
     {

@@ -6,6 +6,7 @@ mod content;
 mod decisions;
 mod held_alerts;
 mod judging;
+mod people;
 mod prepared;
 mod releases;
 mod state;

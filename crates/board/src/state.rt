@@ -1,10 +1,11 @@
 ghost use Rattle.std.specs.Prelude.{◌≡◌, ◌≤◌, ◌<◌, length, slice_get, None, Some, IfOk, IfSome, OnOk, OnErr};
 ghost use Rattle.std.specs.Option.{option_copied};
 ghost use Rattle.machine.specs.State.{start, release_at, alert_at};
-ghost use Rattle.machine.specs.Step.{do_call, tick_to};
+ghost use Rattle.machine.specs.Step.{answer_call, tick_to};
 ghost use Rattle.machine.specs.Texts.{closing};
-ghost use Rattle.machine.specs.Allowed.{MayLeadTo};
-ghost use Rattle.machine.specs.Sound.{IsBoard};
+ghost use Rattle.machine.specs.Allowed.{MayLeadTo, MayTickTo};
+ghost use Rattle.machine.specs.Told.{takes_alert, AreDifferences, takes_none};
+ghost use Rattle.machine.specs.Sound.{IsBoard, IsEntered};
 ghost use Rattle.asks.specs.Forms.{IsCall, ReplyHasMoment};
 ghost use Rattle.board.specs.Prepare.{shown, installed, IsStepped, IsAnswered};
 
@@ -17,6 +18,7 @@ use asks::Call;
 use desk_io::{OutOfMemory, Text};
 use desk_time::{LAST, Minute};
 use machine::Entry;
+use ops_tables::Tables;
 use plan::Release;
 use rules::Steps;
 use std::alloc::Global;
@@ -48,12 +50,12 @@ impl Model for Board {
 }
 
 impl Board {
-    /// A board on which nothing is held, at 2000-01-01 00:00.
+    /// A board under the tables of an airline, on which nothing is held, at 2000-01-01 00:00.
     #[tactic(auto, using(machine::proofs::Boards::start_board))]
-    pub fn new(alloc: Global) -> Board
-        ensures { result ≡ shown start start None }
+    pub fn new(alloc: Global, tables: Tables) -> Board
+        ensures { result ≡ shown (start tables) (start tables) None }
     {
-        let content = Content::new(alloc);
+        let content = Content::new(alloc, tables);
         let opening = Snapshot::of(&content);
         Board {
             content,
@@ -73,13 +75,15 @@ impl Board {
         steps: &mut Steps<L>,
     ) -> Result<Prepared, OutOfMemory>
         requires { IsCall call.now.ask }
-        ensures stepped { IfOk result (λ p. IsStepped self.old.state p (do_call self.old.state lane call.now)) }
+        ensures stepped { IfOk result (λ p. IsStepped self.old.state p (answer_call self.old.state lane call.now)) }
         ensures shown { IfOk result (λ p. IfSome p.reply ReplyHasMoment) }
+        ensures own { IfOk result (λ p. MayLeadTo lane call.now self.old.state (installed p self.old.state) p.reply) }
+        ensures told { IfOk result (λ p. AreDifferences (takes_alert call.now.ask) self.old.state (installed p self.old.state) p.notices) }
         ensures ok { IfOk result (λ p. self.new ≡ shown self.old.opening self.old.state (Some p)) }
         ensures err { OnErr result (self.new ≡ shown self.old.opening self.old.state None) }
     {
         self.room = None;
-        let prepared = self.content.prepare_call(alloc, lane, call, steps)?;
+        let prepared = self.content.prepare_answer(alloc, lane, call, steps)?;
         self.room = Some(Snapshot::of(&prepared));
         Ok(prepared)
     }
@@ -96,6 +100,8 @@ impl Board {
         requires within { to ≤ LAST }
         ensures stepped { IfOk result (λ p. IsStepped self.old.state p (tick_to self.old.state lane to)) }
         ensures shown { IfOk result (λ p. IfSome p.reply ReplyHasMoment) }
+        ensures own { IfOk result (λ p. MayTickTo lane to self.old.state (installed p self.old.state) p.reply) }
+        ensures told { IfOk result (λ p. AreDifferences takes_none self.old.state (installed p self.old.state) p.notices) }
         ensures ok { IfOk result (λ p. self.new ≡ shown self.old.opening self.old.state (Some p)) }
         ensures err { OnErr result (self.new ≡ shown self.old.opening self.old.state None) }
     {
@@ -124,8 +130,8 @@ impl Board {
     }
 
     /// Makes a call in a lane: its reply, what it changes, and what is told of the alerts are those of
-    /// the call. A refusal, a view and a repeated report change nothing, and an accepted call no more than
-    /// its ask may. After want of memory the board is as before.
+    /// the call. A refusal, a view and a repeated report change nothing; an accepted call is of a known person, with his
+    /// key and a role for which the ask is, and changes no more than its ask may. After want of memory the board is as before.
     pub fn apply<L: Ledger>(
         &mut self,
         alloc: Global,
@@ -134,10 +140,11 @@ impl Board {
         steps: &mut Steps<L>,
     ) -> Result<Installed, OutOfMemory>
         requires { IsCall call.now.ask }
-        ensures answered { IfOk result (λ i. IsAnswered i (do_call self.old.state lane call.now)) }
+        ensures answered { IfOk result (λ i. IsAnswered i (answer_call self.old.state lane call.now)) }
         ensures shown { IfOk result (λ i. IfSome i.reply ReplyHasMoment) }
-        ensures state { OnOk result (self.new ≡ shown self.old.opening (do_call self.old.state lane call.now).state None) }
-        ensures own { OnOk result (MayLeadTo lane call.now self.old.state (do_call self.old.state lane call.now).state) }
+        ensures state { OnOk result (self.new ≡ shown self.old.opening (answer_call self.old.state lane call.now).state None) }
+        ensures own { IfOk result (λ i. MayLeadTo lane call.now self.old.state (answer_call self.old.state lane call.now).state i.reply) }
+        ensures told { IfOk result (λ i. AreDifferences (takes_alert call.now.ask) self.old.state (answer_call self.old.state lane call.now).state i.notices) }
         ensures err { OnErr result (self.new ≡ shown self.old.opening self.old.state None) }
     {
         let prepared = self.prepare_change(alloc, lane, call, steps)?;
@@ -156,6 +163,8 @@ impl Board {
         requires later { self.old.state.moment < to }
         requires within { to ≤ LAST }
         ensures answered { IfOk result (λ i. IsAnswered i (tick_to self.old.state lane to)) }
+        ensures own { IfOk result (λ i. MayTickTo lane to self.old.state (tick_to self.old.state lane to).state i.reply) }
+        ensures told { IfOk result (λ i. AreDifferences takes_none self.old.state (tick_to self.old.state lane to).state i.notices) }
         ensures shown { IfOk result (λ i. IfSome i.reply ReplyHasMoment) }
         ensures state { OnOk result (self.new ≡ shown self.old.opening (tick_to self.old.state lane to).state None) }
         ensures err { OnErr result (self.new ≡ shown self.old.opening self.old.state None) }
@@ -184,7 +193,8 @@ impl Board {
     /// An entry of the history, counted from 0.
     pub fn entry(&self, i: usize) -> &Entry
         requires { i < length self.now.state.entries }
-        ensures { slice_get self.now.state.entries i ≡ Some result.now }
+        ensures entry { slice_get self.now.state.entries i ≡ Some result.now }
+        ensures form { IsEntered result.now.what }
     {
         &self.content.entries[i]
     }

@@ -3,17 +3,18 @@ ghost use Rattle.machine.specs.State.{is_full};
 ghost use Rattle.machine.specs.Events as events;
 ghost use Rattle.machine.specs.Events.{effected, alert_changes};
 ghost use Rattle.machine.specs.Step as step;
-ghost use Rattle.machine.specs.Step.{do_call, tick_to, counted};
-ghost use Rattle.machine.specs.Sound.{Sound, Kept, EffectFits};
+ghost use Rattle.machine.specs.Step.{do_call, answer_call, tick_to, counted};
+ghost use Rattle.machine.specs.Sound.{Sound, InBounds, EffectFits};
 ghost use Rattle.plan.specs.Texts.{IsMoment};
 ghost use Rattle.asks.specs.Forms.{IsCall};
-ghost use Rattle.board.specs.Contents.{state_of, HasRoom, HasRoomFor, IsShown, MayCome};
+ghost use Rattle.board.specs.Contents.{state_of, HasRoom, HasRoomFor, AdmitsRead, MayBeMade};
 ghost use Rattle.board.specs.Prepare.{with_event, with_events, installed, IsStepped, MayInstall};
 
 use crate::chain::Stop;
 use crate::content::Content;
 use crate::held_alerts::put_changes;
 use crate::judging::{Prospect, notices_of};
+use crate::people::mistaken;
 use crate::prepared::{Event, Prepared};
 use crate::releases::put_release;
 use alerts::Notices;
@@ -109,8 +110,11 @@ impl Content {
     {
         match effect {
             Effect::Admit(report) => self.reports.reserve(report),
+            Effect::Defer(_) => self.deferrals.reserve(),
             Effect::File(_) => Ok(self.releases.reserve(1)?),
-            Effect::Tick { .. } | Effect::Put(_) | Effect::PutAfresh(_) => Ok(()),
+            Effect::Tick { .. } | Effect::Clear { .. } | Effect::Put(_) | Effect::PutAfresh(_) => {
+                Ok(())
+            }
         }
     }
 
@@ -133,7 +137,7 @@ impl Content {
         steps: &mut Steps<L>,
     ) -> Result<Judged, OutOfMemory>
         requires sound { Sound (state_of self.old) }
-        requires kept { Kept (state_of self.old) }
+        requires kept { InBounds (state_of self.old) }
         requires fits { EffectFits (state_of self.old) effect.now }
         ensures same { state_of self.new ≡ state_of self.old }
         ensures changes { IfOk result (λ j. j.changes.items ≡ alert_changes effect.now (state_of self.old)) }
@@ -161,7 +165,7 @@ impl Content {
         steps: &mut Steps<L>,
     ) -> Result<(Judged, Entry), OutOfMemory>
         requires sound { Sound (state_of self.old) }
-        requires kept { Kept (state_of self.old) }
+        requires kept { InBounds (state_of self.old) }
         requires fits { EffectFits (state_of self.old) effect.now }
         ensures same { state_of self.new ≡ state_of self.old }
         ensures changes { IfOk result (λ j. j.0.changes.items ≡ alert_changes effect.now (state_of self.old)) }
@@ -185,9 +189,9 @@ impl Content {
         steps: &mut Steps<L>,
     ) -> Result<Prepared, OutOfMemory>
         requires sound { Sound (state_of self.old) }
-        requires kept { Kept (state_of self.old) }
+        requires kept { InBounds (state_of self.old) }
         requires fits { EffectFits (state_of self.old) effect }
-        requires may { MayCome (state_of self.old) effect }
+        requires may { MayBeMade (state_of self.old) effect }
         ensures same { state_of self.new ≡ state_of self.old }
         ensures stepped { IfOk result (λ p. IsStepped (state_of self.old) p (step.accepted (state_of self.old) lane call.now reply effect)) }
         ensures may { IfOk result (λ p. MayInstall self.new p.event) }
@@ -207,9 +211,9 @@ impl Content {
         steps: &mut Steps<L>,
     ) -> Result<Prepared, OutOfMemory>
         requires sound { Sound (state_of self.old) }
-        requires kept { Kept (state_of self.old) }
+        requires kept { InBounds (state_of self.old) }
         requires fits { EffectFits (state_of self.old) effect }
-        requires may { MayCome (state_of self.old) effect }
+        requires may { MayBeMade (state_of self.old) effect }
         ensures same { state_of self.new ≡ state_of self.old }
         ensures stepped { IfOk result (λ p. IsStepped (state_of self.old) p (step.enter (is_full (state_of self.old)) (state_of self.old) lane call.now reply effect)) }
         ensures may { IfOk result (λ p. MayInstall self.new p.event) }
@@ -231,7 +235,7 @@ impl Content {
         steps: &mut Steps<L>,
     ) -> Result<Prepared, OutOfMemory>
         requires sound { Sound (state_of self.old) }
-        requires kept { Kept (state_of self.old) }
+        requires kept { InBounds (state_of self.old) }
         requires call { IsCall call.now.ask }
         ensures same { state_of self.new ≡ state_of self.old }
         ensures stepped { IfOk result (λ p. IsStepped (state_of self.old) p (do_call (state_of self.old) lane call.now)) }
@@ -247,6 +251,28 @@ impl Content {
         }
     }
 
+    /// Prepares a call: the person and his key come first.
+    #[tactic(auto, unfolding(machine::specs::Step::answer_call, crate::specs::Prepare::installed))]
+    pub fn prepare_answer<L: Ledger>(
+        &mut self,
+        alloc: Global,
+        lane: u32,
+        call: &Call,
+        steps: &mut Steps<L>,
+    ) -> Result<Prepared, OutOfMemory>
+        requires sound { Sound (state_of self.old) }
+        requires kept { InBounds (state_of self.old) }
+        requires call { IsCall call.now.ask }
+        ensures same { state_of self.new ≡ state_of self.old }
+        ensures stepped { IfOk result (λ p. IsStepped (state_of self.old) p (answer_call (state_of self.old) lane call.now)) }
+        ensures may { IfOk result (λ p. MayInstall self.new p.event) }
+    {
+        match mistaken(self.tables.actor(call.actor.bytes()), call.key.bytes()) {
+            Some(refusal) => Ok(stay(alloc, Reply::Refused(refusal))),
+            None => self.prepare_call(alloc, lane, call, steps),
+        }
+    }
+
     fn prepare_ticked<L: Ledger>(
         &mut self,
         alloc: Global,
@@ -255,7 +281,7 @@ impl Content {
         steps: &mut Steps<L>,
     ) -> Result<Prepared, OutOfMemory>
         requires sound { Sound (state_of self.old) }
-        requires kept { Kept (state_of self.old) }
+        requires kept { InBounds (state_of self.old) }
         requires moment { IsMoment to }
         ensures same { state_of self.new ≡ state_of self.old }
         ensures stepped { IfOk result (λ p. IsStepped (state_of self.old) p (step.ticked (state_of self.old) lane to)) }
@@ -276,7 +302,7 @@ impl Content {
         steps: &mut Steps<L>,
     ) -> Result<Prepared, OutOfMemory>
         requires sound { Sound (state_of self.old) }
-        requires kept { Kept (state_of self.old) }
+        requires kept { InBounds (state_of self.old) }
         requires moment { IsMoment to }
         ensures same { state_of self.new ≡ state_of self.old }
         ensures stepped { IfOk result (λ p. IsStepped (state_of self.old) p (tick_to (state_of self.old) lane to)) }
@@ -289,11 +315,11 @@ impl Content {
     }
 
     // Makes the effect, but leaves the alerts.
-    #[tactic(auto, using(crate::proofs::Parts::next_above, crate::proofs::Parts::small_report, crate::proofs::Parts::small_release))]
+    #[tactic(auto, using(crate::proofs::Parts::next_above, crate::proofs::Parts::deferral_above, crate::proofs::Parts::small_report, crate::proofs::Parts::small_deferral, crate::proofs::Parts::small_release))]
     fn change(&mut self, effect: Effect)
         requires room { HasRoomFor self.old effect }
-        requires kept { Kept (state_of self.old) }
-        requires may { MayCome (state_of self.old) effect }
+        requires kept { InBounds (state_of self.old) }
+        requires may { MayBeMade (state_of self.old) effect }
         ensures state { state_of self.new ≡ record (effected effect (state_of self.old)) { alerts = self.old.alerts.items } }
         ensures alerts { self.new.alerts ≡ self.old.alerts }
         ensures entries { self.new.entries ≡ self.old.entries }
@@ -305,6 +331,13 @@ impl Content {
             Effect::Admit(report) => {
                 self.counters.next_report = report.id + 1;
                 self.reports.admit(report);
+            }
+            Effect::Defer(deferral) => {
+                self.counters.next_deferral = deferral.id + 1;
+                self.deferrals.add(deferral);
+            }
+            Effect::Clear { deferral } => {
+                let _ = self.deferrals.clear(deferral);
             }
             Effect::File(release) => {
                 self.counters.next_release = release.id + 1;
@@ -331,8 +364,8 @@ impl Content {
     #[tactic(auto, using(crate::proofs::Parts::small_events, crate::proofs::Parts::small_accepted))]
     fn install_event(&mut self, event: Event)
         requires room { HasRoom self.old (length event.changes.items) event.effect }
-        requires kept { Kept (state_of self.old) }
-        requires may { MayCome (state_of self.old) event.effect }
+        requires kept { InBounds (state_of self.old) }
+        requires may { MayBeMade (state_of self.old) event.effect }
         ensures { state_of self.new ≡ with_event event (state_of self.old) }
     {
         let Event {
@@ -348,7 +381,7 @@ impl Content {
 
     /// Puts an event in place. It takes no memory.
     pub fn install(&mut self, event: Option<Event>)
-        requires kept { Kept (state_of self.old) }
+        requires kept { InBounds (state_of self.old) }
         requires may { MayInstall self.old event }
         ensures { state_of self.new ≡ with_events event (state_of self.old) }
     {

@@ -1,4 +1,5 @@
-ghost use Rattle.std.specs.Prelude.{◌≡◌, ◌≤◌, ◌++◌, IfOk, IfSome, OnOk, string_bytes};
+ghost use Rattle.ops_tables.specs.Limits.{FitsItem};
+ghost use Rattle.std.specs.Prelude.{◌≡◌, ◌≤◌, ◌++◌, map, IfOk, IfSome, OnOk, string_bytes};
 ghost use Rattle.std.specs.List.{AllByRecursion};
 ghost use Rattle.std.specs.Option.{option_copied};
 ghost use Rattle.facts.specs.Lines.{weather};
@@ -6,14 +7,16 @@ ghost use Rattle.machine.specs.Texts as spec;
 ghost use Rattle.machine.specs.State.{alert_at};
 ghost use Rattle.plan.specs.Texts.{IsMoment, HasMoment};
 ghost use Rattle.alerts.specs.Alerts.{IsAlert};
-ghost use Rattle.machine.specs.Sound.{IsKept, Kept};
+ghost use Rattle.machine.specs.Sound.{ReleaseInBounds, InBounds};
 ghost use Rattle.board.specs.Contents.{state_of};
 
 use crate::content::Content;
 use alerts::Alert;
+use deferrals::{Deferral, due};
 use desk_io::{OutOfMemory, Text, push_all};
 use desk_time::{Minute, show};
 use facts::push_weather;
+use ops_tables::{MelRow, Tables};
 use plan::{Finding, Release, Revision, finding_text, phase_text};
 use std::alloc::Global;
 
@@ -111,7 +114,7 @@ fn push_alerts(
     Ok(())
 }
 
-/// The alerts that stand open.
+/// The alerts that stand.
 #[tactic(auto, unfolding(machine::specs::Texts::alerts_view))]
 pub fn alerts_view(
     alloc: Global,
@@ -130,8 +133,83 @@ pub fn alerts_view(
     Ok(Text::from_vec(out))
 }
 
-fn number_of(revision: &Option<Revision>) -> u64
-    ensures { result ≡ spec.number_of revision.now }
+fn due_text(
+    alloc: Global,
+    row: Option<&MelRow>,
+    deferral: &Deferral,
+) -> Result<Vec<u8>, OutOfMemory>
+    requires found { IsMoment deferral.now.found }
+    requires row { IfSome row (λ r. FitsItem r.now) }
+    ensures { IfOk result (λ v. v.items ≡ spec.due_text (option_copied row.entry) deferral.now) }
+{
+    let mut out = Vec::new(alloc);
+    match row {
+        None => out.push(b'-')?,
+        Some(row) => out.extend_from_slice(&show(due(row, deferral.found)))?,
+    }
+    Ok(out)
+}
+
+fn push_deferral_head(
+    alloc: Global,
+    out: &mut Vec<u8>,
+    deferral: &Deferral,
+) -> Result<(), OutOfMemory>
+    ensures { OnOk result (out.new.items ≡ out.old.items ++ spec.deferral_head deferral.now) }
+{
+    let id = deferral.id.to_string(alloc)?;
+    push_all(out, &[id.as_bytes(), b" ", deferral.item.bytes(), b" "])
+}
+
+fn push_due(
+    alloc: Global,
+    out: &mut Vec<u8>,
+    tables: &Tables,
+    kind: &[u8],
+    deferral: &Deferral,
+) -> Result<(), OutOfMemory>
+    requires { IsMoment deferral.now.found }
+    ensures { OnOk result (out.new.items ≡ out.old.items ++ spec.deferral_due tables.now kind.now deferral.now) }
+{
+    let row = tables.item(kind, deferral.item.bytes());
+    let due = due_text(alloc, row, deferral)?;
+    push_all(out, &[&show(deferral.found), b" due ", &due, b"\n"])
+}
+
+#[tactic(auto, unfolding(machine::specs::Texts::deferral_line))]
+fn push_deferral(
+    alloc: Global,
+    out: &mut Vec<u8>,
+    tables: &Tables,
+    kind: &[u8],
+    deferral: &Deferral,
+) -> Result<(), OutOfMemory>
+    requires { IsMoment deferral.now.found }
+    ensures { OnOk result (out.new.items ≡ out.old.items ++ spec.deferral_line tables.now kind.now deferral.now) }
+{
+    push_deferral_head(alloc, out, deferral)?;
+    push_due(alloc, out, tables, kind, deferral)
+}
+
+/// The open deferrals of an aircraft of a type.
+pub fn deferral_lines(
+    alloc: Global,
+    tables: &Tables,
+    kind: &[u8],
+    deferrals: &[&Deferral],
+) -> Result<Text, OutOfMemory>
+    requires { AllByRecursion (λ d. IsMoment d.found) (map (λ d. d.now) deferrals.now) }
+    ensures { IfOk result (λ t. t ≡ spec.deferral_lines tables.now kind.now (map (λ d. d.now) deferrals.now)) }
+{
+    let mut out = Vec::new(alloc);
+    for deferral in deferrals {
+        push_deferral(alloc, &mut out, tables, kind, deferral)?;
+    }
+    Ok(Text::from_vec(out))
+}
+
+fn revision_number(revision: &Option<Revision>) -> u64
+    ensures { result ≡ spec.revision_number revision.now }
 {
     match revision {
         None => 0,
@@ -196,8 +274,8 @@ fn push_release_head(alloc: Global, out: &mut Vec<u8>, release: &Release) -> Res
 fn push_numbers(alloc: Global, out: &mut Vec<u8>, release: &Release) -> Result<(), OutOfMemory>
     ensures { OnOk result (out.new.items ≡ out.old.items ++ spec.numbers_text release.now) }
 {
-    let active = number_of(&release.active).to_string(alloc)?;
-    let pending = number_of(&release.pending).to_string(alloc)?;
+    let active = revision_number(&release.active).to_string(alloc)?;
+    let pending = revision_number(&release.pending).to_string(alloc)?;
     push_all(
         out,
         &[
@@ -250,7 +328,7 @@ fn push_releases(
     alerts: &[Alert],
     releases: &[Release],
 ) -> Result<(), OutOfMemory>
-    requires { AllByRecursion IsKept releases.now }
+    requires { AllByRecursion ReleaseInBounds releases.now }
     ensures { OnOk result (out.new.items ≡ out.old.items ++ spec.release_lines alerts.now releases.now) }
 {
     for release in releases {
@@ -271,7 +349,7 @@ impl Content {
     /// report. Where memory runs out a part of it is written.
     #[tactic(auto, unfolding(machine::specs::Texts::closing))]
     pub fn push_closing(&self, alloc: Global, out: &mut Vec<u8>) -> Result<(), OutOfMemory>
-        requires { Kept (state_of self.now) }
+        requires { InBounds (state_of self.now) }
         ensures { OnOk result (out.new.items ≡ out.old.items ++ spec.closing (state_of self.now)) }
     {
         push_board_head(out, self.moment)?;

@@ -10,7 +10,7 @@ use Rattle.alerts.specs.declared.alert.Alert.{Alert}
 use Rattle.alerts.specs.Alerts.{alert_once_open}
 use Rattle.machine.specs.declared.change.AlertChange.{AlertChange}
 use Rattle.machine.specs.declared.effect.Effect.{Effect}
-use Rattle.machine.specs.declared.effect.Effect.TheVariants.{Tick, Admit, File, Put, PutAfresh}
+use Rattle.machine.specs.declared.effect.Effect.TheVariants.{Tick, Admit, Defer, Clear, File, Put, PutAfresh}
 use Rattle.machine.specs.State.{State, grounds_of, failing_of, alert_at, alert_for, judged, judged_all}
 use Rattle.machine.specs.Events.{put, effected, change_between, changes_over, alert_changes, put_alert, put_changes}
 use Rattle.machine.specs.Sound.{Sound, Rise, EffectFits}
@@ -89,6 +89,8 @@ none_step false o = same_step o
 pub effect_step : (effect : Effect) (s : State) (id : ℕ) → IsStep (alert_at id s.alerts) (alert_at id (effected effect s).alerts)
 effect_step (Tick to) s id = same_step (alert_at id s.alerts)
 effect_step (Admit report) s id = same_step (alert_at id s.alerts)
+effect_step (Defer d) s id = same_step (alert_at id s.alerts)
+effect_step (Clear gone) s id = same_step (alert_at id s.alerts)
 effect_step (File r) s id = same_step (alert_at id s.alerts)
 effect_step (Put r) s id = same_step (alert_at id s.alerts)
 effect_step (PutAfresh r) s id = subst (IsStep (alert_at id s.alerts)) (sym (alert_without r.id id s.alerts)) (none_step (eqb id r.id) (alert_at id s.alerts))
@@ -161,6 +163,8 @@ none_more alerts r none = rw none refl
 pub effect_own : (effect : Effect) (s : State) → EffectFits s effect → Sound s → s.alerts ≡ filter_map (λ r. alert_at r.id s.alerts) (effected effect s).releases
 effect_own (Tick to) s fits sound = sound.own
 effect_own (Admit report) s fits sound = sound.own
+effect_own (Defer d) s fits sound = sound.own
+effect_own (Clear gone) s fits sound = sound.own
 effect_own (File r) s fits sound =
     sound.own
     ∙ sym (filter_map-append (λ x. alert_at x.id s.alerts) s.releases (r ∷ [])
@@ -173,6 +177,8 @@ effect_own (PutAfresh r) s fits sound = sound.own ∙ sym (put_own s.alerts r s.
 pub effect_ids : (effect : Effect) (s : State) → EffectFits s effect → Sound s → Rise 0 (effected effect s).releases (effected effect s).counters.next_release
 effect_ids (Tick to) s fits sound = sound.ids
 effect_ids (Admit report) s fits sound = sound.ids
+effect_ids (Defer d) s fits sound = sound.ids
+effect_ids (Clear gone) s fits sound = sound.ids
 effect_ids (File r) s fits sound =
     subst (λ (n : ℕ). Rise 0 (s.releases ++ r ∷ []) (n + 1)) (sym fits.numbered) (rise_push 0 s.releases s.counters.next_release r sound.ids fits.numbered)
 effect_ids (Put r) s fits sound = rise_put 0 r s.releases s.counters.next_release sound.ids

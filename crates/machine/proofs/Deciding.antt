@@ -1,15 +1,18 @@
 -- What a call comes to fits the desk.
-use Rattle.std.proofs.Common.{◌≡◌, ℕ, ◌==◌, Bool, true, false, List, [], ◌∷◌, length, Option, None, Some, IfSome, Result, Ok, Err, refl, subst, sym, ◌∙◌, arith}
+use Rattle.std.proofs.lemmas.Bool.{leb-false}
+use Rattle.std.proofs.Common.{◌≡◌, ℕ, ◌==◌, not, Bool, true, false, List, [], ◌∷◌, length, Option, None, Some, IfSome, Result, Ok, Err, refl, subst, sym, ◌∙◌, arith}
 use Rattle.std.specs.Prelude.{nat_le}
 use Rattle.std.specs.List.{AllByRecursion}
 use Rattle.codes.specs.Groups.{groups_of, canonical}
 use Rattle.codes.specs.declared.fault.BadReport.{BadReport}
 use Rattle.codes.specs.declared.fault.Why.{Why}
 use Rattle.codes.specs.declared.fault.Why.TheVariants as why
-use Rattle.facts.specs.Same.{same_id, minute_of_read}
+use Rattle.facts.specs.Same.{same_id, minute_of_read, station_of_read}
 use Rattle.facts.specs.Reading.{read_of}
 use Rattle.facts.specs.declared.report.Read.{Read}
-use Rattle.plan.specs.Check.{plan_fault, HasFewLegs}
+use Rattle.ops_tables.specs.Tables.{actor_of, type_of}
+use Rattle.ops_tables.specs.declared.rows.Actor.{Actor}
+use Rattle.plan.specs.Check.{plan_fault, IsPlan}
 use Rattle.plan.specs.declared.check.BadPlan.{BadPlan}
 use Rattle.plan.specs.declared.flights.Plan.{Plan}
 use Rattle.plan.specs.declared.findings.Finding.{Finding}
@@ -27,8 +30,9 @@ use Rattle.machine.specs.State.{State, grounds_of, release_at, alert_at}
 use Rattle.machine.specs.Chain.{◌>>-◌, unless, some_or, refused_if}
 use Rattle.machine.specs.Decide as d
 use Rattle.machine.specs.Decide.{decide}
+use Rattle.machine.specs.People.{may_ask, not_his_role}
 use Rattle.plan.specs.Texts.{HasMoment, IsMoment}
-use Rattle.machine.specs.Sound.{Sound, Kept, IsKept, IsValid, IsPhased, AreNumbered, IsUncaptained, HasLegs, IsSigned, Fits, MayReplace, IsToldTo, IsAlerted, DecisionFits}
+use Rattle.machine.specs.Sound.{Sound, InBounds, ReleaseInBounds, IsValid, IsPhased, AreNumbered, IsUncaptained, RevisionInBounds, IsSigned, Fits, MayReplace, IsToldTo, IsAlerted, DecisionFits}
 use Rattle.asks.specs.Forms.{IsCall, RefusalHasMoment}
 use Rattle.machine.proofs.Each.{found_each}
 
@@ -56,6 +60,11 @@ some_given x (Some b) a e = cc
 if_stops : (b : Bool) (x : Refusal) → RefusalHasMoment x → IfSome (refused_if b x) RefusalHasMoment
 if_stops true x has = has
 if_stops false x has = tt
+
+-- what isn't refused isn't so
+not_so : (b : Bool) (x : Refusal) → refused_if b x ≡ None → b ≡ false
+not_so true x e = absurd (cc)
+not_so false x e = refl
 
 -- The tests.
 
@@ -138,7 +147,7 @@ record IsPending (s : State) (r : Release) (v : Revision) : Type 0 where
   pub phased : IsPhased r.phase (Some v) r.active
   pub uncaptained : v.captain ≡ None
   pub numbered : AreNumbered s.counters.events (Some v) r.active
-  pub legs : HasFewLegs v.plan
+  pub bounds : RevisionInBounds v
 
 pending_is : (s : State) (r : Release) (p : Option Revision) (v : Revision) → IsHeld s r → r.pending ≡ p → p ≡ Some v → IsPending s r v
 pending_is s r None v held is e = absurd (cc)
@@ -149,11 +158,11 @@ pending_is s r (Some w) v held is e =
       phased = subst (λ (o : Option Revision). IsPhased r.phase o r.active) same held.fits.valid.phased;
       uncaptained = subst IsUncaptained same held.fits.valid.uncaptained;
       numbered = subst (λ (o : Option Revision). AreNumbered s.counters.events o r.active) same held.fits.valid.numbered;
-      legs = subst HasLegs same held.fits.kept.pending;
+      bounds = subst (λ (o : Option Revision). IfSome o RevisionInBounds) same held.fits.kept.pending;
     }
 
-signed_fits : (s : State) (r : Release) (v : Revision) (signature : Signature) → IsPending s r v → MayReplace s (d.with_dispatcher r v signature)
-signed_fits s r v signature is = record {
+signed_fits : (s : State) (r : Release) (v : Revision) (signature : Signature) → IsMoment signature.at → IsPending s r v → MayReplace s (d.with_dispatcher r v signature)
+signed_fits s r v signature shown is = record {
   fits = record {
     valid = record {
       phased = signed_phased r.phase v (record v { dispatcher = Some signature }) r.active is.phased;
@@ -161,13 +170,17 @@ signed_fits s r v signature is = record {
       uncaptained = is.uncaptained;
       numbered = signed_numbered s.counters.events v (record v { dispatcher = Some signature }) r.active refl is.numbered;
     };
-    kept = record { moment = is.held.fits.kept.moment; pending = is.legs; active = is.held.fits.kept.active };
+    kept = record {
+      moment = is.held.fits.kept.moment;
+      pending = record { is_plan = is.bounds.is_plan; dispatcher = shown; captain = is.bounds.captain };
+      active = is.held.fits.kept.active;
+    };
   };
   holder = is.held.holder;
 }
 
-active_fits : (s : State) (r : Release) (v : Revision) (signature : Signature) → IsPending s r v → IsSigned v.dispatcher → MayReplace s (d.made_active r v signature)
-active_fits s r v signature is signed = record {
+active_fits : (s : State) (r : Release) (v : Revision) (signature : Signature) → IsMoment signature.at → IsPending s r v → IsSigned v.dispatcher → MayReplace s (d.made_active r v signature)
+active_fits s r v signature shown is signed = record {
   fits = record {
     valid = record {
       phased = active_phased r.phase v (record v { captain = Some signature }) r.active is.phased;
@@ -175,7 +188,11 @@ active_fits s r v signature is signed = record {
       uncaptained = tt;
       numbered = active_numbered s.counters.events v (record v { captain = Some signature }) r.active refl is.numbered;
     };
-    kept = record { moment = once_signed_moment r.phase is.held.fits.kept.moment; pending = tt; active = is.legs };
+    kept = record {
+      moment = once_signed_moment r.phase is.held.fits.kept.moment;
+      pending = tt;
+      active = record { is_plan = is.bounds.is_plan; dispatcher = is.bounds.dispatcher; captain = shown };
+    };
   };
   holder = is.held.holder;
 }
@@ -194,30 +211,30 @@ cancelled_fits s r is shown = record {
   holder = is.holder;
 }
 
-held_each : (s : State) (rs : List Release) → AllByRecursion (IsAlerted (grounds_of s) s.alerts) rs → AllByRecursion (IsValid s.counters.events) rs → AllByRecursion IsKept rs
+held_each : (s : State) (rs : List Release) → AllByRecursion (IsAlerted (grounds_of s) s.alerts) rs → AllByRecursion (IsValid s.counters.events) rs → AllByRecursion ReleaseInBounds rs
     → AllByRecursion (IsHeld s) rs
 held_each s [] alerted valid kept = tt
 held_each s (r ∷ rs) alerted valid kept =
     (record { fits = record { valid = valid.0; kept = kept.0 }; holder = alerted.0.1 }, held_each s rs alerted.1 valid.1 kept.1)
 
-found_held : (s : State) (id : ℕ) → Sound s → Kept s → IfSome (release_at id s.releases) (IsHeld s)
+found_held : (s : State) (id : ℕ) → Sound s → InBounds s → IfSome (release_at id s.releases) (IsHeld s)
 found_held s id sound kept = found_each (IsHeld s) (λ r. r.id == id) s.releases (held_each s s.releases sound.alerted sound.valid kept.releases)
 
 held_is : (s : State) (o : Option Release) (r : Release) → IfSome o (IsHeld s) → o ≡ Some r → IsHeld s r
 held_is s None r is e = absurd (cc)
 held_is s (Some q) r is e = subst (λ (p : Option Release). IfSome p (IsHeld s)) e is
 
-legs_of : (s : State) (o : Option Release) → IfSome o (IsHeld s) → IfSome o (λ r. HasLegs r.pending)
-legs_of s None is = tt
-legs_of s (Some r) is = is.fits.kept.pending
+plan_of_held : (s : State) (o : Option Release) → IfSome o (IsHeld s) → IfSome o (λ r. IfSome r.pending RevisionInBounds)
+plan_of_held s None is = tt
+plan_of_held s (Some r) is = is.fits.kept.pending
 
--- the plan of a pending revision that is found has few legs
-pub found_legs : (s : State) (id : ℕ) (o : Option Release) → o ≡ release_at id s.releases → Sound s → Kept s → IfSome o (λ r. HasLegs r.pending)
-found_legs s id o is sound kept = subst (λ (p : Option Release). IfSome p (λ r. HasLegs r.pending)) (sym is) (legs_of s (release_at id s.releases) (found_held s id sound kept))
+-- what holds of each plan holds of the pending one of a release that is found
+pub found_plan : (s : State) (id : ℕ) (o : Option Release) → o ≡ release_at id s.releases → Sound s → InBounds s → IfSome o (λ r. IfSome r.pending RevisionInBounds)
+found_plan s id o is sound kept = subst (λ (p : Option Release). IfSome p (λ r. IfSome r.pending RevisionInBounds)) (sym is) (plan_of_held s (release_at id s.releases) (found_held s id sound kept))
 
 -- The asks.
 
-held_by : (s : State) (id : ℕ) (f : Release → Result Decision Refusal) → Sound s → Kept s → ((r : Release) → IsHeld s r → DecisionFits s (f r)) → DecisionFits s (d.held s id >>- f)
+held_by : (s : State) (id : ℕ) (f : Release → Result Decision Refusal) → Sound s → InBounds s → ((r : Release) → IsHeld s r → DecisionFits s (f r)) → DecisionFits s (d.held s id >>- f)
 held_by s id f sound kept goes =
     given s (d.held s id) f (some_stops _ (release_at id s.releases) tt)
     (λ r e. goes r (held_is s (release_at id s.releases) r (found_held s id sound kept) (some_given _ (release_at id s.releases) r e)))
@@ -225,12 +242,13 @@ held_by s id f sound kept goes =
 pending_by : (s : State) (r : Release) (f : Revision → Result Decision Refusal) → IsHeld s r → ((v : Revision) → IsPending s r v → DecisionFits s (f v)) → DecisionFits s (d.pending r >>- f)
 pending_by s r f held goes = given s (d.pending r) f (some_stops _ r.pending tt) (λ v e. goes v (pending_is s r r.pending v held refl (some_given _ r.pending v e)))
 
-admit_new : (s : State) (text : List ℕ) (read : Read) → DecisionFits s (d.admit_new s text read)
-admit_new s text read = passed s (d.reports_full s) _ (if_stops (nat_le 200_000 (length s.reports)) _ tt) (λ e. (tt, refl))
+admit_new : (s : State) (text : List ℕ) (read : Read) → same_id s.reports text (minute_of_read read) ≡ None → DecisionFits s (d.admit_new s text read)
+admit_new s text read none = passed s (d.reports_full s) _ (if_stops (nat_le 200_000 (length s.reports)) _ tt)
+    (λ e. (tt, record { is_new = refl; unlike = none; few = leb-false 200_000 (length s.reports) (not_so (nat_le 200_000 (length s.reports)) _ e) }))
 
-admit_read : (o : Option ℕ) (s : State) (text : List ℕ) (read : Read) → DecisionFits s (d.admit_read o s text read)
-admit_read (Some id) s text read = tt
-admit_read None s text read = admit_new s text read
+admit_read : (o : Option ℕ) (s : State) (text : List ℕ) (read : Read) → same_id s.reports text (minute_of_read read) ≡ o → DecisionFits s (d.admit_read o s text read)
+admit_read (Some id) s text read same = tt
+admit_read None s text read same = admit_new s text read same
 
 reading_stops : (r : Result Read BadReport) (x : Refusal) → d.reading_or r ≡ Err x → RefusalHasMoment x
 reading_stops (Ok read) x e = absurd (cc)
@@ -239,47 +257,73 @@ reading_stops (Err bad) x e = subst RefusalHasMoment (cc) (refusal_shown bad.gro
 admit : (s : State) (text : List ℕ) → DecisionFits s (d.decide_admit s text)
 admit s text =
     given s (d.reading_or (read_of text s.moment)) _ (reading_stops (read_of text s.moment))
-    (λ read e. admit_read (same_id s.reports (canonical (groups_of text)) (minute_of_read read)) s (canonical (groups_of text)) read)
+    (λ read e. passed s (d.no_airport s (station_of_read read)) _ (if_stops _ _ tt)
+    (λ f. admit_read (same_id s.reports (canonical (groups_of text)) (minute_of_read read)) s (canonical (groups_of text)) read refl))
 
-draft : (s : State) (actor : List ℕ) (plan : Plan) → HasFewLegs plan → DecisionFits s (d.decide_draft s actor plan)
-draft s actor plan few = passed s (d.bad_plan (plan_fault plan)) _ (plan_stops (plan_fault plan))
+defer : (s : State) (tail item : List ℕ) (found : ℕ) → InBounds s → IsMoment found → DecisionFits s (d.decide_defer s tail item found)
+defer s tail item found kept shown =
+    given s (d.aircraft s tail) _ (some_stops _ (type_of s.tables tail) tt)
+    (λ kind e. passed s (d.unlisted s kind item) _ (if_stops _ _ tt)
+    (λ f. passed s (d.found_later s found) _ (if_stops _ _ kept.moment)
+    (λ g. passed s (d.deferrals_full s) _ (if_stops _ _ tt)
+    (λ h. (tt, record { is_new = refl; found = shown; few = leb-false 50_000 (length s.deferrals) (not_so (nat_le 50_000 (length s.deferrals)) _ h) })))))
+
+clear : (s : State) (id : ℕ) → DecisionFits s (d.decide_clear s id)
+clear s id = passed s (d.not_open s id) _ (if_stops _ _ tt) (λ e. (tt, tt))
+
+deferred : (s : State) (tail : List ℕ) → DecisionFits s (d.decide_deferred s tail)
+deferred s tail = given s (d.aircraft s tail) _ (some_stops _ (type_of s.tables tail) tt) (λ kind e. tt)
+
+draft : (s : State) (actor : List ℕ) (plan : Plan) → IsPlan plan → DecisionFits s (d.decide_draft s actor plan)
+draft s actor plan few = passed s (d.bad_plan (plan_fault s.tables plan)) _ (plan_stops (plan_fault s.tables plan))
     (λ e. (
       tt,
       record {
         fits = record {
           valid = record { phased = tt; both = tt; uncaptained = refl; numbered = (omega arith, omega arith) };
-          kept = record { moment = tt; pending = few; active = tt };
+          kept = record { moment = tt; pending = record { is_plan = few; dispatcher = tt; captain = tt }; active = tt };
         };
         numbered = refl;
       },
     ))
 
-sign : (s : State) (actor : List ℕ) (id number : ℕ) → Sound s → Kept s → DecisionFits s (d.decide_sign s actor id number)
+sign : (s : State) (actor : List ℕ) (id number : ℕ) → Sound s → InBounds s → DecisionFits s (d.decide_sign s actor id number)
 sign s actor id number sound kept =
     held_by s id _ sound kept (λ r held. pending_by s r _ held (λ v is.
+    passed s (d.not_yours r.holder actor) _ (if_stops _ _ tt) (λ own.
     passed s (d.misnumbered v number) _ (if_stops _ _ tt) (λ e.
     passed s (d.signed v.dispatcher) _ (signed_stops v.dispatcher) (λ f.
-    passed s (d.fails s r v) _ (failing_stops _) (λ g. (tt, signed_fits s r v (d.signed_by actor s.moment) is))))))
+    passed s (d.fails s r v) _ (failing_stops _) (λ g. (tt, signed_fits s r v (d.signed_by actor s.moment) kept.moment is)))))))
 
-concur : (s : State) (actor : List ℕ) (id number : ℕ) → Sound s → Kept s → DecisionFits s (d.decide_concur s actor id number)
+concur : (s : State) (actor : List ℕ) (id number : ℕ) → Sound s → InBounds s → DecisionFits s (d.decide_concur s actor id number)
 concur s actor id number sound kept =
     held_by s id _ sound kept (λ r held. pending_by s r _ held (λ v is.
     passed s (d.unsigned v.dispatcher) _ (unsigned_stops v.dispatcher) (λ e.
+    passed s (d.not_yours v.plan.captain actor) _ (if_stops _ _ tt) (λ own.
     passed s (d.misnumbered v number) _ (if_stops _ _ tt) (λ f.
-    passed s (d.fails s r v) _ (failing_stops _) (λ g. (tt, active_fits s r v (d.signed_by actor s.moment) is (unsigned_passes v.dispatcher e)))))))
+    passed s (d.fails s r v) _ (failing_stops _) (λ g. (tt, active_fits s r v (d.signed_by actor s.moment) kept.moment is (unsigned_passes v.dispatcher e))))))))
 
-cancel : (s : State) (id : ℕ) → Sound s → Kept s → DecisionFits s (d.decide_cancel s id)
-cancel s id sound kept =
-    held_by s id _ sound kept (λ r held. passed s (d.ended r.phase) _ (ended_stops r.phase held.fits.kept.moment) (λ e. (tt, cancelled_fits s r held kept.moment)))
+cancel : (s : State) (actor : List ℕ) (id : ℕ) → Sound s → InBounds s → DecisionFits s (d.decide_cancel s actor id)
+cancel s actor id sound kept =
+    held_by s id _ sound kept (λ r held. passed s (d.ended r.phase) _ (ended_stops r.phase held.fits.kept.moment)
+    (λ e. passed s (d.not_yours r.holder actor) _ (if_stops _ _ tt) (λ own. (tt, cancelled_fits s r held kept.moment))))
 
-ask_fits : (s : State) (actor : List ℕ) (a : Ask) → Sound s → Kept s → IsCall a → DecisionFits s (d.decide_ask s actor a)
+ask_fits : (s : State) (actor : List ℕ) (a : Ask) → Sound s → InBounds s → IsCall a → DecisionFits s (d.decide_ask s actor a)
 ask_fits s actor (ask.Admit text) sound kept is = admit s text
+ask_fits s actor (ask.Defer tail item found) sound kept is = defer s tail item found kept is
+ask_fits s actor (ask.Clear deferral) sound kept is = clear s deferral
 ask_fits s actor (ask.Draft plan) sound kept is = draft s actor plan is
 ask_fits s actor (ask.Sign release revision) sound kept is = sign s actor release revision sound kept
 ask_fits s actor (ask.Concur release revision) sound kept is = concur s actor release revision sound kept
-ask_fits s actor (ask.Cancel release) sound kept is = cancel s release sound kept
+ask_fits s actor (ask.Cancel release) sound kept is = cancel s actor release sound kept
 ask_fits s actor ask.ViewAlerts sound kept is = tt
+ask_fits s actor (ask.ViewDeferred tail) sound kept is = deferred s tail
 
-pub decision_fits : (s : State) (call : Call) → Sound s → Kept s → IsCall call.ask → DecisionFits s (decide s call)
+role_stops : (o : Option Actor) (a : Ask) → IfSome (not_his_role o a) RefusalHasMoment
+role_stops None a = tt
+role_stops (Some person) a = if_stops (not (may_ask a person.role)) _ tt
+
+pub decision_fits : (s : State) (call : Call) → Sound s → InBounds s → IsCall call.ask → DecisionFits s (decide s call)
 unfolding decide
-decision_fits s call sound kept is = ask_fits s call.actor call.ask sound kept is
+decision_fits s call sound kept is =
+    passed s (not_his_role (actor_of s.tables call.actor) call.ask) _ (role_stops (actor_of s.tables call.actor) call.ask) (λ e. ask_fits s call.actor call.ask sound kept is)

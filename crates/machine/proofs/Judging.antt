@@ -13,6 +13,7 @@ use Rattle.alerts.specs.declared.alert.Alert.{Alert}
 use Rattle.alerts.specs.Alerts.{IsAlert, alert_once_open, are_same}
 use Rattle.alerts.proofs.Sameness.{same_is}
 use Rattle.alerts.proofs.Laws.{after_is}
+use Rattle.deferrals.specs.Held.{AreRising}
 use Rattle.rules.specs.Grounds.{Grounds}
 use Rattle.rules.proofs.Laws.{findings_in_order}
 use Rattle.machine.specs.State.{State, grounds_of, failing_in, failing_of, alert_at, alert_for, judged, judged_all}
@@ -69,11 +70,11 @@ judged_told (Some []) None r moment is = tt
 judged_told (Some (f ∷ fs)) None r moment is = refl
 judged_told (Some fs) (Some a) r moment is = once_told _ a fs r.holder is
 
-failing_order : (g : Grounds) (active : Option Revision) (phase : Phase) → IfSome (failing_in g active phase) AreInOrder
-failing_order g None phase = tt
-failing_order g (Some v) Drafted = tt
-failing_order g (Some v) Ready = findings_in_order v.plan Ready g
-failing_order g (Some v) (Cancelled at) = tt
+failing_order : (g : Grounds) (active : Option Revision) (phase : Phase) → AreRising g.deferrals → IfSome (failing_in g active phase) AreInOrder
+failing_order g None phase rising = tt
+failing_order g (Some v) Drafted rising = tt
+failing_order g (Some v) Ready rising = findings_in_order v.plan Ready g rising
+failing_order g (Some v) (Cancelled at) rising = tt
 
 judged_alert : (failing : Option (List Finding)) (old : Option Alert) (r : Release) (moment most : ℕ) → IsMoment moment → IfSome failing AreInOrder → IfSome old (IsAlert most)
     → IfSome (alert_for failing old r moment) (IsAlert (most + 1))
@@ -157,12 +158,12 @@ each_option P (Some a) alerts here all = (here, all)
 pub is_alert_at : (alerts : List Alert) (most id : ℕ) → AllByRecursion (IsAlert most) alerts → IfSome (alert_at id alerts) (IsAlert most)
 is_alert_at alerts most id all = found_each (IsAlert most) (λ a. eqb a.release id) alerts all
 
-pub are_alerts : (t : State) (most : ℕ) (rs : List Release) → IsMoment t.moment → AllByRecursion (IsAlert most) t.alerts → AllByRecursion (IsAlert (most + 1)) (filter_map (judged t) rs)
-are_alerts t most [] shown all = tt
-are_alerts t most (r ∷ rs) shown all =
+pub are_alerts : (t : State) (most : ℕ) (rs : List Release) → IsMoment t.moment → AreRising t.deferrals → AllByRecursion (IsAlert most) t.alerts → AllByRecursion (IsAlert (most + 1)) (filter_map (judged t) rs)
+are_alerts t most [] shown rising all = tt
+are_alerts t most (r ∷ rs) shown rising all =
     each_option (IsAlert (most + 1)) (judged t r) (filter_map (judged t) rs)
-    (judged_alert (failing_of (grounds_of t) r) (alert_at r.id t.alerts) r t.moment most shown (failing_order (grounds_of t) r.active r.phase) (is_alert_at t.alerts most r.id all))
-    (are_alerts t most rs shown all)
+    (judged_alert (failing_of (grounds_of t) r) (alert_at r.id t.alerts) r t.moment most shown (failing_order (grounds_of t) r.active r.phase rising) (is_alert_at t.alerts most r.id all))
+    (are_alerts t most rs shown rising all)
 
 pub rise_bound : (low : ℕ) (rs : List Release) (next : ℕ) → Rise low rs next → low < next
 rise_bound low [] next rise = rise

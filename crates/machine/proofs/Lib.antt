@@ -4,3 +4,4 @@ pub mod Deciding
 pub mod Boards
 pub mod Changes
 pub mod AllowedLaws
+pub mod ToldLaws

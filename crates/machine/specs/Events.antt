@@ -5,9 +5,10 @@ use Rattle.plan.specs.declared.release.Release.{Release}
 use Rattle.alerts.specs.declared.alert.Alert.{Alert}
 use Rattle.alerts.specs.declared.notices.Notice.{Notice}
 use Rattle.alerts.specs.Notices.{notice_of}
+use Rattle.deferrals.specs.Held.{without}
 use Rattle.machine.specs.declared.change.AlertChange.{AlertChange}
 use Rattle.machine.specs.declared.effect.Effect.{Effect}
-use Rattle.machine.specs.declared.effect.Effect.TheVariants.{Tick, Admit, File, Put, PutAfresh}
+use Rattle.machine.specs.declared.effect.Effect.TheVariants.{Tick, Admit, Defer, Clear, File, Put, PutAfresh}
 use Rattle.machine.specs.State.{State, alert_at, judged}
 
 -- a release in the place of the first of its id
@@ -23,6 +24,8 @@ without_alert id alerts = filter (λ a. not (a.release == id)) alerts
 abbrev pub effected : Effect → State → State
 effected (Tick to) s = record s { moment = to }
 effected (Admit report) s = record s { counters = record s.counters { next_report = report.id + 1 }; reports = s.reports ++ report ∷ [] }
+effected (Defer d) s = record s { counters = record s.counters { next_deferral = d.id + 1 }; deferrals = s.deferrals ++ d ∷ [] }
+effected (Clear id) s = record s { deferrals = without id s.deferrals }
 effected (File r) s = record s { counters = record s.counters { next_release = r.id + 1 }; releases = s.releases ++ r ∷ [] }
 effected (Put r) s = record s { releases = put r s.releases }
 effected (PutAfresh r) s = record s { releases = put r s.releases; alerts = without_alert r.id s.alerts }

@@ -6,7 +6,7 @@ use Rattle.machine.specs.declared.lanes.Item.{Item}
 use Rattle.machine.specs.declared.lanes.Item.TheVariants as item
 use Rattle.machine.specs.declared.lanes.Outcome.{Outcome}
 use Rattle.machine.specs.State.{State}
-use Rattle.machine.specs.Step.{do_call, tick_to}
+use Rattle.machine.specs.Step.{answer_call, tick_to}
 
 -- an outcome, and the state after it
 pub record Answered : Type 0 where
@@ -17,7 +17,7 @@ abbrev pub replied : State → Option Reply → State → Answered
 replied before reply after = record { outcome = record { position = length before.entries; reply = reply }; state = after }
 
 abbrev pub made : ℕ → State → Call → Answered
-made lane s call = replied s (do_call s lane call).reply (do_call s lane call).state
+made lane s call = replied s (answer_call s lane call).reply (answer_call s lane call).state
 
 -- A call is made once its tick is. Where the tick is refused, the call gets that refusal.
 abbrev pub once_ticked : ℕ → Option Reply → State → Call → Answered

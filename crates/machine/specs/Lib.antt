@@ -2,9 +2,11 @@ pub mod State
 pub mod Events
 pub mod Texts
 pub mod Chain
+pub mod People
 pub mod Decide
 pub mod Step
 pub mod Legal
 pub mod Sound
 pub mod Lanes
 pub mod Allowed
+pub mod Told

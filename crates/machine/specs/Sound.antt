@@ -1,6 +1,7 @@
 -- What holds of the desk at every moment.
-use Rattle.std.specs.Prelude.{◌≡◌, ℕ, ◌+◌, ◌<◌, ◌≤◌, List, [], ◌∷◌, length, Option, None, Some, IfSome, Result, Ok, Err}
-use Rattle.std.specs.List.{AllByRecursion, filter_map}
+use Rattle.std.specs.Prelude.{◌≡◌, ℕ, ◌+◌, ◌<◌, ◌≤◌, false, List, [], ◌∷◌, length, Option, None, Some, IfSome, Result, Ok, Err}
+use Rattle.std.specs.List.{AllByRecursion, AllPairs, filter_map}
+use Rattle.facts.specs.Same.{is_same, same_id, minute_of_report}
 use Rattle.plan.specs.declared.findings.Finding.{Finding}
 use Rattle.plan.specs.Texts.{IsMoment, HasMoment}
 use Rattle.plan.specs.declared.release.Phase.{Phase}
@@ -11,13 +12,17 @@ use Rattle.plan.specs.declared.release.Signature.{Signature}
 use Rattle.facts.specs.declared.report.Report.{Report}
 use Rattle.alerts.specs.declared.alert.Alert.{Alert}
 use Rattle.alerts.specs.Alerts.{IsAlert}
-use Rattle.asks.specs.Forms.{RefusalHasMoment, ReplyHasMoment}
+use Rattle.asks.specs.Forms.{IsCall, RefusalHasMoment, ReplyHasMoment}
+use Rattle.machine.specs.declared.entry.What.{What}
+use Rattle.machine.specs.declared.entry.What.TheVariants as what
 use Rattle.asks.specs.declared.reply.Refusal.{Refusal}
-use Rattle.plan.specs.Check.{HasFewLegs}
+use Rattle.plan.specs.Check.{IsPlan}
+use Rattle.deferrals.specs.declared.items.Deferral.{Deferral}
+use Rattle.deferrals.specs.Held.{AreRising}
 use Rattle.rules.specs.Grounds.{Grounds}
 use Rattle.machine.specs.declared.counters.Counters.{Counters}
 use Rattle.machine.specs.declared.effect.Effect.{Effect}
-use Rattle.machine.specs.declared.effect.Effect.TheVariants.{Tick, Admit, File, Put, PutAfresh}
+use Rattle.machine.specs.declared.effect.Effect.TheVariants.{Tick, Admit, Defer, Clear, File, Put, PutAfresh}
 use Rattle.machine.specs.declared.effect.Decision.{Decision}
 use Rattle.machine.specs.declared.effect.Decision.TheVariants.{Show, Do}
 use Rattle.machine.specs.State.{State, grounds_of, failing_of, alert_at}
@@ -82,35 +87,52 @@ pub record IsValid (most : ℕ) (r : Release) : Type 0 where
   pub uncaptained : IsUncaptained r.pending
   pub numbered : AreNumbered most r.pending r.active
 
+-- no two reports have the same canonical text and the same moment
+abbrev pub AreUnlike : List Report → Type 0
+AreUnlike reports = AllPairs (λ earlier later. is_same later.text (minute_of_report later) earlier ≡ false) reports
+
 -- Each active release has no alert and fails no rule, or one alert that names exactly the rules that it
 -- fails, and that is told to its holder; there are no other alerts than those of the releases, each once.
--- Each release is valid: in particular each active revision bears both signatures. Ids rise, and ids,
--- revisions and versions are within the counters.
+-- Each release is valid: in particular each active revision bears both signatures. No two reports are the same. Ids
+-- rise, and ids, revisions and versions are within the counters.
 pub record Sound (s : State) : Type 0 where
   pub alerted : AllByRecursion (IsAlerted (grounds_of s) s.alerts) s.releases
   pub own : s.alerts ≡ filter_map (λ r. alert_at r.id s.alerts) s.releases
   pub alerts : AllByRecursion (IsAlert s.counters.events) s.alerts
   pub valid : AllByRecursion (IsValid s.counters.events) s.releases
+  pub unlike : AreUnlike s.reports
   pub ids : Rise 0 s.releases s.counters.next_release
 
-abbrev pub HasLegs : Option Revision → Type 0
-HasLegs None = Unit {0}
-HasLegs (Some v) = HasFewLegs v.plan
+-- a revision whose plan is one, and whose moments can be shown
+pub record RevisionInBounds (v : Revision) : Type 0 where
+  pub is_plan : IsPlan v.plan
+  pub dispatcher : IfSome v.dispatcher (λ signature. IsMoment signature.at)
+  pub captain : IfSome v.captain (λ signature. IsMoment signature.at)
 
 -- a release whose moments can be shown, and whose plans have at most 1,000 legs
-pub record IsKept (r : Release) : Type 0 where
+pub record ReleaseInBounds (r : Release) : Type 0 where
   pub moment : HasMoment r.phase
-  pub pending : HasLegs r.pending
-  pub active : HasLegs r.active
+  pub pending : IfSome r.pending RevisionInBounds
+  pub active : IfSome r.active RevisionInBounds
 
 -- a release that may be held
 pub record Fits (most : ℕ) (r : Release) : Type 0 where
   pub valid : IsValid most r
-  pub kept : IsKept r
+  pub kept : ReleaseInBounds r
 
 -- a report whose id is below a number
 abbrev pub IsNumbered : ℕ → Report → Type 0
 IsNumbered next r = r.id < next
+
+-- an open deferral whose id is below a number, and whose moment can be shown
+abbrev pub IsOpen : ℕ → Deferral → Type 0
+IsOpen next d = (d.id < next) × IsMoment d.found
+
+-- Open deferrals: their ids rise, all below the next one, and there are at most 50,000.
+pub record AreOpen (next : ℕ) (list : List Deferral) : Type 0 where
+  pub each : AllByRecursion (IsOpen next) list
+  pub rising : AreRising list
+  pub few : length list ≤ 50_000
 
 -- each next id is at most one more than the number of events
 pub record AreCounters (c : Counters) : Type 0 where
@@ -120,13 +142,21 @@ pub record AreCounters (c : Counters) : Type 0 where
   pub release : c.next_release ≤ c.events + 1
   pub accepted : c.next_kept ≤ c.events + 1
 
+-- an entry whose moment can be shown, and whose call and reply have their forms
+abbrev pub IsEntered : What → Type 0
+IsEntered (what.Tick to) = IsMoment to
+IsEntered (what.Asked call reply) = IsCall call.ask × ReplyHasMoment reply
+
 -- what else the code rests on
-pub record Kept (s : State) : Type 0 where
+pub record InBounds (s : State) : Type 0 where
   pub moment : IsMoment s.moment
   pub counters : AreCounters s.counters
   pub reports : AllByRecursion (IsNumbered s.counters.next_report) s.reports
-  pub releases : AllByRecursion IsKept s.releases
+  pub few : length s.reports ≤ 200_000
+  pub deferrals : AreOpen s.counters.next_deferral s.deferrals
+  pub releases : AllByRecursion ReleaseInBounds s.releases
   pub entries : length s.entries ≤ 400_000
+  pub forms : AllByRecursion (λ e. IsEntered e.what) s.entries
 
 -- a release that is filed, with that id
 pub record IsNew (most id : ℕ) (r : Release) : Type 0 where
@@ -138,10 +168,24 @@ pub record MayReplace (s : State) (r : Release) : Type 0 where
   pub fits : Fits s.counters.events r
   pub holder : IsToldTo r.holder (alert_at r.id s.alerts)
 
+-- a new deferral, where fewer than 50,000 are open
+pub record MayOpen (s : State) (d : Deferral) : Type 0 where
+  pub is_new : d.id ≡ s.counters.next_deferral
+  pub found : IsMoment d.found
+  pub few : length s.deferrals < 50_000
+
+-- a new report, which is the same as no other, where fewer than 200,000 are held
+pub record IsNext (s : State) (report : Report) : Type 0 where
+  pub is_new : report.id ≡ s.counters.next_report
+  pub unlike : same_id s.reports report.text (minute_of_report report) ≡ None
+  pub few : length s.reports < 200_000
+
 -- an effect that keeps what holds of the desk
 abbrev pub EffectFits : State → Effect → Type 0
 EffectFits s (Tick to) = IsMoment to
-EffectFits s (Admit report) = report.id ≡ s.counters.next_report
+EffectFits s (Admit report) = IsNext s report
+EffectFits s (Defer d) = MayOpen s d
+EffectFits s (Clear id) = Unit {0}
 EffectFits s (File r) = IsNew (s.counters.events + 1) s.counters.next_release r
 EffectFits s (Put r) = MayReplace s r
 EffectFits s (PutAfresh r) = MayReplace s r
@@ -153,6 +197,7 @@ DecisionFits s (Ok (Do reply effect)) = ReplyHasMoment reply × EffectFits s eff
 
 -- what holds of a board at every moment
 pub record IsBoard (opening s : State) : Type 0 where
+  pub tables : s.tables ≡ opening.tables
   pub history : IsHistory opening s
   pub sound : Sound s
-  pub kept : Kept s
+  pub kept : InBounds s

@@ -1,7 +1,9 @@
 -- What the desk holds.
 use Rattle.std.specs.Prelude.{ℕ, ◌==◌, nat_le, Bool, ◌||◌, List, [], length, find, Option, None, Some}
 use Rattle.std.specs.List.{filter_map}
+use Rattle.ops_tables.specs.Tables.{TableRows}
 use Rattle.facts.specs.declared.report.Report.{Report}
+use Rattle.deferrals.specs.declared.items.Deferral.{Deferral}
 use Rattle.plan.specs.declared.release.Phase.{Phase}
 use Rattle.plan.specs.declared.release.Phase.TheVariants.{Drafted, Ready, Cancelled}
 use Rattle.plan.specs.declared.release.Release.{Release}
@@ -15,12 +17,16 @@ use Rattle.machine.specs.declared.counters.Counters.{Counters}
 use Rattle.machine.specs.declared.entry.Entry.{Entry}
 
 pub record State : Type 0 where
+  -- the operations tables of the airline, which never change
+  pub tables : TableRows
   -- the greatest moment so far
   pub moment : ℕ
   -- how many events there were, and the ids that come next
   pub counters : Counters
   -- the reports in order of admission
   pub reports : List Report
+  -- the open deferrals in order of their ids
+  pub deferrals : List Deferral
   -- the releases in order of their ids
   pub releases : List Release
   -- the alerts in order of their releases
@@ -32,13 +38,13 @@ pub record State : Type 0 where
 abbrev pub first_counters : Counters
 first_counters = record { events = 0; next_report = 1; next_deferral = 1; next_release = 1; next_kept = 1 }
 
--- the beginning: 2000-01-01 00:00, and nothing held
-abbrev pub start : State
-start = record { moment = 15_778_080; counters = first_counters; reports = []; releases = []; alerts = []; entries = [] }
+-- the beginning under some tables: 2000-01-01 00:00, and nothing held
+abbrev pub start : TableRows → State
+start tables = record { tables = tables; moment = 15_778_080; counters = first_counters; reports = []; deferrals = []; releases = []; alerts = []; entries = [] }
 
 -- what a judgement stands on
 abbrev pub grounds_of : State → Grounds
-grounds_of s = record { reports = s.reports; moment = s.moment }
+grounds_of s = record { tables = s.tables; reports = s.reports; deferrals = s.deferrals; moment = s.moment }
 
 abbrev pub release_at : ℕ → List Release → Option Release
 release_at id releases = find (λ r. r.id == id) releases

@@ -1,4 +1,5 @@
 -- One step of the desk: a tick, or a call.
+use Rattle.ops_tables.specs.Tables.{actor_of}
 use Rattle.std.specs.Prelude.{ℕ, ◌+◌, Bool, true, false, not, List, [], ◌∷◌, ◌++◌, length, Option, None, Some, Result, Ok, Err}
 use Rattle.asks.specs.declared.call.Call.{Call}
 use Rattle.asks.specs.declared.reply.Reply.{Reply}
@@ -17,6 +18,7 @@ use Rattle.machine.specs.declared.effect.Decision.TheVariants.{Show, Do}
 use Rattle.machine.specs.State.{State, judged_all, is_full}
 use Rattle.machine.specs.Events.{effected, alert_changes, notices_of}
 use Rattle.machine.specs.Decide.{decide}
+use Rattle.machine.specs.People.{mistaken}
 
 abbrev pub entry : ℕ → What → Entry
 entry lane what = record { lane = lane; what = what }
@@ -64,7 +66,7 @@ finish s lane call (Err refusal) = stay s (Refused refusal)
 finish s lane call (Ok (Show reply)) = stay s reply
 finish s lane call (Ok (Do reply effect)) = enter (is_full s) s lane call reply effect
 
--- a call of a person who may make it
+-- a call of a person whose name and key are right
 unfoldable pub do_call : State → ℕ → Call → Stepped
 do_call s lane call = finish s lane call (decide s call)
 
@@ -76,6 +78,14 @@ changes_by s (Ok (Do reply effect)) = not (is_full s)
 
 unfoldable pub changes : State → Call → Bool
 changes s call = changes_by s (decide s call)
+
+abbrev pub do_unless : Option Refusal → State → ℕ → Call → Stepped
+do_unless None s lane call = do_call s lane call
+do_unless (Some refusal) s lane call = stay s (Refused refusal)
+
+-- a call: the person and his key come first
+unfoldable pub answer_call : State → ℕ → Call → Stepped
+answer_call s lane call = do_unless (mistaken (actor_of s.tables call.actor) call.key) s lane call
 
 abbrev pub ticked : State → ℕ → ℕ → Stepped
 ticked s lane to = after_event s None (Tick to) (entry lane (what.Tick to))

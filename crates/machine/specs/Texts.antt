@@ -1,4 +1,8 @@
 -- The texts that show what the desk holds. Every line ends in a line feed.
+use Rattle.ops_tables.specs.declared.rows.MelRow.{MelRow}
+use Rattle.ops_tables.specs.Tables.{TableRows, item_of}
+use Rattle.deferrals.specs.declared.items.Deferral.{Deferral}
+use Rattle.deferrals.specs.Due.{due}
 use Rattle.std.specs.Prelude.{ℕ, Bool, if◌then◌else◌, List, [], ◌∷◌, ◌++◌, Option, None, Some, codes, decimal}
 use Rattle.std.specs.List.{concat}
 use Rattle.desk_time.specs.Moments.{shown}
@@ -43,13 +47,35 @@ abbrev pub alert_lines : List Alert → List ℕ
 alert_lines [] = []
 alert_lines (a ∷ rest) = alert_line a ++ alert_lines rest
 
--- the alerts that stand open
+-- the alerts that stand
 unfoldable pub alerts_view : ℕ → List Alert → List ℕ
 alerts_view moment alerts = concat (codes "ALERTS " ∷ shown moment ∷ codes "\n" ∷ alert_lines alerts ∷ [])
 
-abbrev pub number_of : Option Revision → ℕ
-number_of None = 0
-number_of (Some v) = v.number
+-- when a deferred item is due for repair; a dash where the list of the type lacks it
+abbrev pub due_text : Option MelRow → Deferral → List ℕ
+due_text None d = codes "-"
+due_text (Some row) d = shown (due row d.found)
+
+-- a deferral's id and its item
+abbrev pub deferral_head : Deferral → List ℕ
+deferral_head d = concat (decimal d.id ∷ codes " " ∷ d.item ∷ codes " " ∷ [])
+
+-- when it was found, and when it is due by the list of a type
+abbrev pub deferral_due : TableRows → List ℕ → Deferral → List ℕ
+deferral_due tables kind d = concat (shown d.found ∷ codes " due " ∷ due_text (item_of tables kind d.item) d ∷ codes "\n" ∷ [])
+
+-- the line of a deferral of an aircraft of a type
+unfoldable pub deferral_line : TableRows → List ℕ → Deferral → List ℕ
+deferral_line tables kind d = deferral_head d ++ deferral_due tables kind d
+
+-- the deferrals of an aircraft of a type
+abbrev pub deferral_lines : TableRows → List ℕ → List Deferral → List ℕ
+deferral_lines tables kind [] = []
+deferral_lines tables kind (d ∷ rest) = deferral_line tables kind d ++ deferral_lines tables kind rest
+
+abbrev pub revision_number : Option Revision → ℕ
+revision_number None = 0
+revision_number (Some v) = v.number
 
 -- the newest revision: the pending one, or else the active one
 abbrev pub newest : Option Revision → Option Revision → Option Revision
@@ -71,7 +97,7 @@ release_head r = concat (decimal r.id ∷ codes " " ∷ flight_text (newest r.pe
 
 -- the numbers of its active and of its pending revision
 abbrev pub numbers_text : Release → List ℕ
-numbers_text r = concat (codes " rev " ∷ decimal (number_of r.active) ∷ codes " pending " ∷ decimal (number_of r.pending) ∷ codes " " ∷ [])
+numbers_text r = concat (codes " rev " ∷ decimal (revision_number r.active) ∷ codes " pending " ∷ decimal (revision_number r.pending) ∷ codes " " ∷ [])
 
 -- its dispatcher and its alert
 abbrev pub desk_text : Release → Option Alert → List ℕ

@@ -1,4 +1,5 @@
 use asks::Reply;
+use deferrals::Deferral;
 use desk_time::Minute;
 use facts::Report;
 use plan::Release;
@@ -10,6 +11,10 @@ pub enum Effect {
     Tick { to: Minute },
     /// A report is admitted.
     Admit(Report),
+    /// An item is deferred.
+    Defer(Deferral),
+    /// The deferral of an id goes.
+    Clear { deferral: u64 },
     /// A release is filed.
     File(Release),
     /// A release takes the place of the one of its id.

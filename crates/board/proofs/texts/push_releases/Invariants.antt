@@ -1,11 +1,11 @@
 use Rattle.std.proofs.Common.{◌≡◌, ◌++◌, drop}
 use Rattle.std.specs.List.{AllByRecursion}
 use Rattle.machine.specs.Texts.{release_lines}
-use Rattle.machine.specs.Sound.{IsKept}
+use Rattle.machine.specs.Sound.{ReleaseInBounds}
 use Rattle.board.proofs.texts.push_releases.Given as goal
 
 abbrev pub invariant-loop-release : goal.invariant-loop-release
 invariant-loop-release l = record {
   lines : l.out.items ++ release_lines l.alerts (drop l.release-index l.releases) ≡ l.fn.out.items ++ release_lines l.alerts l.releases;
-  rest : AllByRecursion IsKept (drop l.release-index l.releases);
+  rest : AllByRecursion ReleaseInBounds (drop l.release-index l.releases);
 }

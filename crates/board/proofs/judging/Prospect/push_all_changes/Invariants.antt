@@ -1,6 +1,6 @@
 use Rattle.std.proofs.Common.{◌≡◌, ◌++◌, map, drop}
 use Rattle.std.specs.List.{AllByRecursion}
-use Rattle.machine.specs.Sound.{IsKept}
+use Rattle.machine.specs.Sound.{ReleaseInBounds}
 use Rattle.board.specs.Prospect.{walk, AreBounded}
 use Rattle.board.proofs.judging.Prospect.push_all_changes.Given as goal
 
@@ -8,5 +8,5 @@ abbrev pub invariant-loop-release : goal.invariant-loop-release
 invariant-loop-release g l = record {
   changes : l.out.items ++ walk l.self l.left (map (λ r. r.now) (drop l.release-index l.releases)) ≡ l.fn.out.items ++ walk l.self l.alerts (map (λ r. r.now) l.releases);
   alerts : AreBounded l.left;
-  rest : AllByRecursion IsKept (map (λ r. r.now) (drop l.release-index l.releases));
+  rest : AllByRecursion ReleaseInBounds (map (λ r. r.now) (drop l.release-index l.releases));
 }

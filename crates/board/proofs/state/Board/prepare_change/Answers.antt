@@ -1,4 +1,4 @@
-use Rattle.board.proofs.Kept.{call_ready, call_reply}
+use Rattle.board.proofs.Kept.{call_ready, call_reply, prepared_leads, prepared_told}
 use Rattle.board.proofs.state.Board.prepare_change.Goals as goal
 
 pub invariant_of-self-2 : goal.invariant_of-self-2
@@ -7,3 +7,9 @@ invariant_of-self-2 g c =
 
 pub returns-clause-shown : goal.returns-clause-shown
 returns-clause-shown g c = call_reply _ _ _ _ _ c.self.invariant.0 c.requires c.in_ok-prepared.ensures.stepped
+
+pub returns-clause-own : goal.returns-clause-own
+returns-clause-own g c = prepared_leads _ _ _ _ _ c.self.view_is c.in_ok-prepared.ensures.stepped
+
+pub returns-clause-told : goal.returns-clause-told
+returns-clause-told g c = prepared_told _ _ _ _ _ _ c.self.view_is c.self.invariant.0 c.requires c.in_ok-prepared.ensures.stepped

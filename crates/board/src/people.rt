@@ -1,0 +1,79 @@
+ghost use Rattle.std.specs.Prelude.{◌≡◌};
+ghost use Rattle.std.specs.Option.{option_copied};
+ghost use Rattle.plan.specs.Check.{is_captain_role};
+ghost use Rattle.machine.specs.People as spec;
+ghost use Rattle.board.specs.Answers.{Passes};
+
+use crate::chain::{Stop, refused_if};
+use asks::{Ask, Refusal};
+use ops_tables::{Actor, Role};
+
+fn is_dispatcher(role: Role) -> bool
+    ensures { result ≡ spec.is_dispatcher role }
+{
+    match role {
+        Role::D => true,
+        Role::C | Role::F | Role::M | Role::S => false,
+    }
+}
+
+fn is_captain(role: Role) -> bool
+    ensures { result ≡ is_captain_role role }
+{
+    match role {
+        Role::C => true,
+        Role::D | Role::F | Role::M | Role::S => false,
+    }
+}
+
+fn is_feed(role: Role) -> bool
+    ensures { result ≡ spec.is_feed role }
+{
+    match role {
+        Role::F => true,
+        Role::D | Role::C | Role::M | Role::S => false,
+    }
+}
+
+fn is_maintenance(role: Role) -> bool
+    ensures { result ≡ spec.is_maintenance role }
+{
+    match role {
+        Role::M => true,
+        Role::D | Role::C | Role::F | Role::S => false,
+    }
+}
+
+// Whether an ask is for a role.
+fn may_ask(ask: &Ask, role: Role) -> bool
+    ensures { result ≡ spec.may_ask ask.now role }
+{
+    match ask {
+        Ask::Admit { .. } => is_feed(role) || is_dispatcher(role),
+        Ask::Defer { .. } | Ask::Clear { .. } => is_maintenance(role),
+        Ask::Draft { .. } | Ask::Sign { .. } | Ask::Cancel { .. } => is_dispatcher(role),
+        Ask::Concur { .. } => is_captain(role),
+        Ask::ViewAlerts | Ask::ViewDeferred { .. } => true,
+    }
+}
+
+/// Why a person of that key may ask nothing: nobody has the name, or he has another key.
+pub fn mistaken(person: Option<&Actor>, key: &[u8]) -> Option<Refusal>
+    ensures { result ≡ spec.mistaken (option_copied person.entry) key.now }
+{
+    match person {
+        None => Some(Refusal::UnknownActor),
+        Some(person) if person.key.bytes() == key => None,
+        Some(_) => Some(Refusal::WrongKey),
+    }
+}
+
+/// Whether the ask is for the person's role.
+pub fn not_his_role(person: Option<&Actor>, ask: &Ask) -> Result<(), Stop>
+    ensures { Passes result (spec.not_his_role (option_copied person.entry) ask.now) }
+{
+    match person {
+        None => Err(Stop::Refused(Refusal::NotYourRole)),
+        Some(person) => refused_if(!may_ask(ask, person.role), Refusal::NotYourRole),
+    }
+}

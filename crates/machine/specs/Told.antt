@@ -1,0 +1,39 @@
+-- What is told of the alerts between two states, release by release.
+use Rattle.std.specs.Prelude.{◌≡◌, ◌≢◌, ℕ, ◌==◌, Bool, true, false, List, [], ◌∷◌, ◌++◌, option_to_list, Option, None}
+use Rattle.plan.specs.declared.release.Release.{Release}
+use Rattle.alerts.specs.declared.alert.Alert.{Alert}
+use Rattle.alerts.specs.declared.notices.Notice.{Notice}
+use Rattle.alerts.specs.Notices.{notice_of}
+use Rattle.asks.specs.declared.call.Ask.{Ask}
+use Rattle.asks.specs.declared.call.Ask.TheVariants as ask
+use Rattle.machine.specs.State.{State, alert_at}
+
+-- The difference of a release's alert before and after. One that goes first is told as closed, whatever comes after it.
+abbrev pub told_of : Bool → Option Alert → Option Alert → List Notice
+told_of true before after = option_to_list (notice_of before None) ++ option_to_list (notice_of None after)
+told_of false before after = option_to_list (notice_of before after)
+
+-- whether an ask takes the alert of a release away before it is judged
+abbrev pub takes_alert : Ask → ℕ → Bool
+takes_alert (ask.Admit text) id = false
+takes_alert (ask.Defer tail item found) id = false
+takes_alert (ask.Clear deferral) id = false
+takes_alert (ask.Draft plan) id = false
+takes_alert (ask.Sign release revision) id = false
+takes_alert (ask.Concur release revision) id = id == release
+takes_alert (ask.Cancel release) id = id == release
+takes_alert ask.ViewAlerts id = false
+takes_alert (ask.ViewDeferred tail) id = false
+
+-- the differences of the alerts of releases, in their order
+abbrev pub told_over : (ℕ → Bool) → List Alert → List Alert → List Release → List Notice
+told_over takes before after [] = []
+told_over takes before after (r ∷ rs) = told_of (takes r.id) (alert_at r.id before) (alert_at r.id after) ++ told_over takes before after rs
+
+-- What is told between two states: nothing where nothing changes, else the differences of all alerts.
+pub record AreDifferences (takes : ℕ → Bool) (s t : State) (notices : List Notice) : Type 0 where
+  pub unchanged : t ≡ s → notices ≡ []
+  pub changed : t ≢ s → notices ≡ told_over takes s.alerts t.alerts t.releases
+
+abbrev pub takes_none : ℕ → Bool
+takes_none id = false
