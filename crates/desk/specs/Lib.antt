@@ -1,4 +1,5 @@
 pub mod Words
+pub mod ErrorLines
 pub mod Run
 pub mod Weather
 pub mod Answers

@@ -1,6 +1,7 @@
 -- The text of a run: a reply for each line, and the closing text.
 use Rattle.std.specs.Prelude.{ℕ, List, [], ◌∷◌, ◌++◌, Option, None, Some, map, codes}
 use Rattle.desk_io.specs.Runs.{runs_between}
+use Rattle.ops_tables.specs.Tables.{TableRows}
 use Rattle.asks.specs.declared.call.Call.{Call}
 use Rattle.asks.specs.declared.reply.Reply.{Reply}
 use Rattle.desk_json.specs.Calls.{line_of}
@@ -39,6 +40,6 @@ abbrev pub texts_of : List Outcome → List ℕ
 texts_of [] = []
 texts_of (o ∷ rest) = outcome_text o ++ texts_of rest
 
--- the text of a run of a script, whose lines are the items of lane 1
-unfoldable pub run_text : List ℕ → List ℕ
-run_text bytes = texts_of (outcomes 1 start (items_of (lines_of bytes))) ++ closing (after_items 1 start (items_of (lines_of bytes)))
+-- the text of a run of a script over the tables; its lines are the items of lane 1
+unfoldable pub run_text : TableRows → List ℕ → List ℕ
+run_text tables bytes = texts_of (outcomes 1 (start tables) (items_of (lines_of bytes))) ++ closing (after_items 1 (start tables) (items_of (lines_of bytes)))

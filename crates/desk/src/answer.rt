@@ -1,14 +1,9 @@
-ghost use Rattle.std.specs.Prelude.{◌≡◌, ◌≢◌, ◌++◌, codes, map, string_bytes, IfOk, IfSome};
-ghost use Rattle.desk_io.specs.Causes.{RoseOrFull};
-ghost use Rattle.desk_io.specs.Told.{HoldsName};
-ghost use Rattle.desk.specs.Words.{command_of};
-ghost use Rattle.desk.specs.Answers.{Says, TaskSays, text_of, source_of};
+ghost use Rattle.std.specs.Prelude.{◌≡◌, ◌++◌, codes, IfOk};
+ghost use Rattle.desk.specs.ErrorLines as lines;
 
-use crate::run::text_of_run;
-use crate::weather::text_of_weather;
-use crate::words::{Task, command};
-use desk_io::{OutOfMemory, Shelf, WholeFault, read_whole};
+use desk_io::{OutOfMemory, push_all};
 use std::alloc::Global;
+use table_files::{BadTable, TableWhy};
 
 /// A status, and the text that goes with it.
 #[derive(Drop)]
@@ -17,59 +12,73 @@ pub struct Answer {
     pub text: Vec<u8>,
 }
 
-fn fault_line(alloc: Global, status: u8, front: &[u8], name: &str) -> Result<Answer, OutOfMemory>
-    ensures status { IfOk result (λ a. a.status ≡ status) }
-    ensures text { IfOk result (λ a. a.text.items ≡ front.now ++ name.now ++ codes "\n") }
+// A line that ends in the name of a source.
+fn named(alloc: Global, front: &[u8], name: &[u8]) -> Result<Vec<u8>, OutOfMemory>
+    ensures { IfOk result (λ line. line.items ≡ front.now ++ name.now ++ codes "\n") }
 {
-    let mut text = Vec::new(alloc);
-    text.extend_from_slice(front)?;
-    text.extend_from_slice(name.as_bytes())?;
-    text.extend_from_slice(b"\n")?;
-    Ok(Answer { status, text })
+    let mut line = Vec::new(alloc);
+    push_all(&mut line, &[front, name, b"\n"])?;
+    Ok(line)
 }
 
-fn text_for(alloc: Global, task: Task, bytes: &[u8]) -> Result<Vec<u8>, OutOfMemory>
-    ensures { IfOk result (λ v. v.items ≡ text_of task bytes.now) }
+fn why_name(why: TableWhy) -> &'static [u8]
+    ensures { result.now ≡ lines.why_name why }
 {
-    match task {
-        Task::Run => text_of_run(alloc, bytes),
-        Task::Weather => text_of_weather(alloc, bytes),
+    match why {
+        TableWhy::BadField => b"BadField",
+        TableWhy::Doubled => b"Doubled",
+        TableWhy::Unlinked => b"Unlinked",
+        TableWhy::OverLimit => b"OverLimit",
     }
 }
 
-fn done<S: Shelf>(
-    alloc: Global,
-    task: Task,
-    name: &str,
-    shelf: &mut S,
-) -> Result<Answer, OutOfMemory>
-    ensures sound { S.sound shelf.old → HoldsName (S.sources shelf.old) name.now → IfOk result (λ a. a.status ≢ 3) }
-    ensures known { IfOk result (λ a. a.status ≢ 4) }
-    ensures says { IfOk result (λ a. TaskSays (S.sources shelf.old) (RoseOrFull (S.fault_count shelf.old) (S.fault_count shelf.new)) task name.now a.status a.text.items) }
+fn bad_table_line(alloc: Global, bad: &BadTable) -> Result<Vec<u8>, OutOfMemory>
+    ensures { IfOk result (λ line. line.items ≡ lines.bad_table bad.now) }
 {
-    match read_whole(alloc, shelf, name) {
-        Ok(source) => {
-            let text = text_for(alloc, task, source.bytes())?;
-            Ok(Answer { status: 0, text })
-        }
-        Err(WholeFault::ReadFault) => fault_line(alloc, 3, b"error 3 ReadFault ", name),
-        Err(WholeFault::TooLong) => fault_line(alloc, 10, b"error 10 InputTooLong ", name),
-        Err(WholeFault::OutOfMemory) => Err(OutOfMemory),
-    }
+    let number = bad.line.to_string(alloc)?;
+    let mut line = Vec::new(alloc);
+    push_all(&mut line, &[b"error 6 BadTable ", bad.name.bytes(), b" "])?;
+    push_all(
+        &mut line,
+        &[number.as_bytes(), b" ", why_name(bad.why), b"\n"],
+    )?;
+    Ok(line)
 }
 
-/// What the program says to the words.
-pub fn answer_to<S: Shelf>(
-    alloc: Global,
-    words: &[String],
-    shelf: &mut S,
-) -> Result<Answer, OutOfMemory>
-    ensures sound { S.sound shelf.old → IfSome (source_of (command_of (map string_bytes words.now))) (HoldsName (S.sources shelf.old)) → IfOk result (λ a. a.status ≢ 3) }
-    ensures known { IfOk result (λ a. a.status ≢ 4) }
-    ensures says { IfOk result (λ a. Says (S.sources shelf.old) (RoseOrFull (S.fault_count shelf.old) (S.fault_count shelf.new)) (command_of (map string_bytes words.now)) a.status a.text.items) }
-{
-    match command(words) {
-        None => fault_line(alloc, 2, b"error 2 Usage", ""),
-        Some((task, name)) => done(alloc, task, name, shelf),
+impl Answer {
+    /// The words form no command.
+    pub fn usage(alloc: Global) -> Result<Answer, OutOfMemory>
+        ensures status { IfOk result (λ a. a.status ≡ 2) }
+        ensures text { IfOk result (λ a. a.text.items ≡ lines.usage) }
+    {
+        let text = Vec::from_slice(alloc, b"error 2 Usage\n")?;
+        Ok(Answer { status: 2, text })
+    }
+
+    /// The source of that name can't be read.
+    pub fn read_fault(alloc: Global, name: &[u8]) -> Result<Answer, OutOfMemory>
+        ensures status { IfOk result (λ a. a.status ≡ 3) }
+        ensures text { IfOk result (λ a. a.text.items ≡ lines.read_fault name.now) }
+    {
+        let text = named(alloc, b"error 3 ReadFault ", name)?;
+        Ok(Answer { status: 3, text })
+    }
+
+    /// A table has a bad record.
+    pub fn bad_table(alloc: Global, bad: &BadTable) -> Result<Answer, OutOfMemory>
+        ensures status { IfOk result (λ a. a.status ≡ 6) }
+        ensures text { IfOk result (λ a. a.text.items ≡ lines.bad_table bad.now) }
+    {
+        let text = bad_table_line(alloc, bad)?;
+        Ok(Answer { status: 6, text })
+    }
+
+    /// The source of that name is too long.
+    pub fn input_too_long(alloc: Global, name: &[u8]) -> Result<Answer, OutOfMemory>
+        ensures status { IfOk result (λ a. a.status ≡ 10) }
+        ensures text { IfOk result (λ a. a.text.items ≡ lines.input_too_long name.now) }
+    {
+        let text = named(alloc, b"error 10 InputTooLong ", name)?;
+        Ok(Answer { status: 10, text })
     }
 }

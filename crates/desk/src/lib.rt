@@ -2,6 +2,7 @@
 #![tactic(auto)]
 
 mod answer;
+mod commands;
 mod run;
 mod top;
 mod weather;

@@ -15,6 +15,7 @@ use desk_io::{LineFeeds, OutOfMemory, Run, runs_between};
 use desk_json::{read_line, reply_text};
 use desk_time::{LAST, Minute};
 use machine::{Item, Outcome};
+use ops_tables::Tables;
 use rules::Steps;
 use std::alloc::Global;
 use std::marker::Brand;
@@ -186,15 +187,20 @@ fn push_closing(alloc: Global, board: &Board, out: &mut Vec<u8>) -> Result<(), O
 }
 
 #[tactic(auto, unfolding(crate::specs::Run::run_text))]
-fn text_with<L: Ledger>(alloc: Global, script: &[u8], blank: Blank) -> Result<Vec<u8>, OutOfMemory>
+fn text_with<L: Ledger>(
+    alloc: Global,
+    tables: Tables,
+    script: &[u8],
+    blank: Blank,
+) -> Result<Vec<u8>, OutOfMemory>
     requires name { blank.name ≡ L.name }
     requires parts { blank.parts ≡ L.parts }
     requires some { 0 < blank.parts }
-    ensures { IfOk result (λ v. v.items ≡ run_text script.now) }
+    ensures { IfOk result (λ v. v.items ≡ run_text tables script.now) }
 {
     let mut steps = Steps::<L>::new(blank);
+    let mut board = Board::new(alloc, tables);
     let lines = runs_between::<LineFeeds>(alloc, script)?;
-    let mut board = Board::new(alloc);
     let outcomes = outcomes_of(alloc, &mut board, &lines, &mut steps)?;
     let mut out = Vec::new(alloc);
     push_outcomes(alloc, &mut out, &outcomes)?;
@@ -202,9 +208,9 @@ fn text_with<L: Ledger>(alloc: Global, script: &[u8], blank: Blank) -> Result<Ve
     Ok(out)
 }
 
-/// The text of a run of a script: a reply for each line that has a byte, and the closing text.
-pub fn text_of_run(alloc: Global, script: &[u8]) -> Result<Vec<u8>, OutOfMemory>
-    ensures { IfOk result (λ v. v.items ≡ run_text script.now) }
+/// The text of a run of a script over the tables: a reply for each line that has a byte, and the closing text.
+pub fn text_of_run(alloc: Global, tables: Tables, script: &[u8]) -> Result<Vec<u8>, OutOfMemory>
+    ensures { IfOk result (λ v. v.items ≡ run_text tables script.now) }
 {
-    text_with::<Brand>(alloc, script, Blank::new(1))
+    text_with::<Brand>(alloc, tables, script, Blank::new(1))
 }

@@ -1,0 +1,15 @@
+use Rattle.std.proofs.Common.{[], ◌∷◌, map}
+use Rattle.desk_io.specs.Told.{HoldsName}
+use Rattle.table_files.specs.Files.{files, name_of}
+use Rattle.desk.proofs.Reading.{held_last, none_missing}
+use Rattle.desk.proofs.commands.answer_of_run.Goals as goal
+
+pub returns-in-Ok-clause-sound : goal.returns-in-Ok-clause-sound
+returns-in-Ok-clause-sound g c = λ sound all.
+    let e = c.in-Ok.ensures in
+    c.answer_over.ensures.sound (e.sound sound).0 (rw e.same (held_last (HoldsName (g.S.Shelf.sources c.args.shelf.now)) (map name_of files) c.args.name.now all))
+
+pub returns-in-Err-ReadFault-clause-sound : goal.returns-in-Err-ReadFault-clause-sound
+returns-in-Err-ReadFault-clause-sound g c = λ sound all.
+    let arm = c.in-Err-ReadFault in
+    absurd (none_missing (g.S.Shelf.sources c.args.shelf.now) _ (c.args.name.now ∷ []) all (rw arm.field-0-is at (arm.ensures.sound sound).1))

@@ -1,0 +1,11 @@
+use Rattle.std.proofs.Common.{subst, sym}
+use Rattle.std.specs.Prelude.{All}
+use Rattle.desk_io.specs.Told.{HoldsName}
+use Rattle.desk.specs.Answers.{sources_of}
+use Rattle.desk.proofs.commands.answer_to.Goals as goal
+
+pub returns-in-Some-Run-default-clause-sound : goal.returns-in-Some-Run-default-clause-sound
+returns-in-Some-Run-default-clause-sound g c = λ sound all.
+    let arm = c.in-Some-Run-default in
+    let is = rw arm.field-0-0-is at arm.ensures in
+    c.answer_of_run.ensures.sound sound (subst (λ o. All (HoldsName (g.S.Shelf.sources c.args.shelf.now)) (sources_of o)) (sym is) all)
