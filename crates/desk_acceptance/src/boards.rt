@@ -9,8 +9,10 @@ use desk_io::{LineFeeds, OutOfMemory, push_all, runs_between};
 use desk_json::read_line;
 use desk_time::{LAST, Minute};
 use machine::{Entry, What};
+use ops_tables::Tables;
 use plan::{Release, Signature};
 use rules::Steps;
+use small_airline::small_tables;
 use std::alloc::Global;
 use std::marker::Brand;
 use std::sync::ledger::{Blank, Ledger};
@@ -49,6 +51,7 @@ fn make<L: Ledger>(
 
 fn play<L: Ledger>(
     alloc: Global,
+    tables: Tables,
     script: &[u8],
     blank: Blank,
     told: &mut Vec<u8>,
@@ -58,7 +61,7 @@ fn play<L: Ledger>(
     requires some { 0 < blank.parts }
 {
     let mut steps = Steps::<L>::new(blank);
-    let mut board = Board::new(alloc);
+    let mut board = Board::new(alloc, tables);
     for line in &runs_between::<LineFeeds>(alloc, script)? {
         if let Some((at, call)) = read_line(alloc, line.bytes())? {
             make(alloc, &mut board, at, &call, &mut steps, told)?;
@@ -110,14 +113,15 @@ fn is_concurrence(entry: &Entry) -> bool {
     }
 }
 
-// A tick and a call for each line, but no call for the view: 7 ticks and 6 calls.
+// A tick for each moment and a call for each line, but none for the view: 7 ticks and 8 calls.
 #[test]
 fn the_history_has_ticks_and_calls(rt: HostRuntime) -> Result<(), Fail> {
     let alloc = rt.alloc();
     let mut told = Vec::new(alloc);
-    let board = play::<Brand>(alloc, AFTERNOON, Blank::new(1), &mut told)?;
-    assert!(rt; history(alloc, &board)?.as_slice() == b"TCTCTCTCTCTTC".as_slice());
-    assert!(rt; board.entries() > 7 && is_concurrence(board.entry(7)));
+    let tables = small_tables(alloc)?;
+    let board = play::<Brand>(alloc, tables, AFTERNOON, Blank::new(1), &mut told)?;
+    assert!(rt; history(alloc, &board)?.as_slice() == b"TCCCTCTCTCTCTTC".as_slice());
+    assert!(rt; board.entries() > 9 && is_concurrence(board.entry(9)));
     assert!(rt; matches!(board.release(1), Some(release) if is_signed_by_both(release)));
     assert!(rt; board.alert(1).is_some() && board.alert(2).is_none());
     assert!(rt; told.as_slice() == b"OC".as_slice());
@@ -131,7 +135,8 @@ fn notices_follow_the_alert(rt: HostRuntime) -> Result<(), Fail> {
     let mut script = Vec::new(alloc);
     push_all(&mut script, &[AFTERNOON, CANCELLATION])?;
     let mut told = Vec::new(alloc);
-    let board = play::<Brand>(alloc, &script, Blank::new(1), &mut told)?;
+    let tables = small_tables(alloc)?;
+    let board = play::<Brand>(alloc, tables, &script, Blank::new(1), &mut told)?;
     assert!(rt; told.as_slice() == b"OCX".as_slice());
     assert!(rt; board.release(1).is_some() && board.release(2).is_none());
     assert!(rt; board.alert(1).is_none());

@@ -1,9 +1,10 @@
 use crate::texts::{
-    ADMITTED, ADMITTED_SAID, AFTERNOON, AFTERNOON_SAID, FAILING, FAILING_SAID, FAULTY, FAULTY_SAID,
-    WEATHER, WEATHER_SAID,
+    ADMITTED, ADMITTED_SAID, AFTERNOON, AFTERNOON_SAID, DEFERRED, DEFERRED_SAID, DUE, DUE_SAID,
+    FAULTY, FAULTY_SAID, FUEL, FUEL_SAID, PEOPLE, PEOPLE_SAID, WEATHER, WEATHER_SAID,
 };
 use desk::desk_main;
 use desk_io::{MemoryShelf, MemorySink, OutOfMemory, Text, push_all};
+use small_airline::{push_small, shelf_of};
 use std::alloc::Global;
 use std::test::Fail;
 
@@ -21,10 +22,11 @@ fn words(alloc: Global, command: &str) -> Result<Vec<String>, OutOfMemory> {
 fn shelf(alloc: Global, script: &[u8]) -> Result<MemoryShelf, OutOfMemory> {
     let mut sources = Vec::new(alloc);
     sources.push((Text::of(alloc, b"script")?, Text::of(alloc, script)?))?;
+    push_small(alloc, &mut sources)?;
     Ok(MemoryShelf::new(sources, Vec::new(alloc)))
 }
 
-// Whether this is the status and the text of a command over one source, `script`.
+// Whether this is the status and the text of a command over the tables of the small airline and one source, `script`.
 fn is_said(
     alloc: Global,
     command: &str,
@@ -55,7 +57,10 @@ fn commands_are_answered(rt: HostRuntime) -> Result<(), Fail> {
         ("run script", ADMITTED, 0, ADMITTED_SAID),
         ("run script", FAULTY, 0, FAULTY_SAID),
         ("run script", AFTERNOON, 0, AFTERNOON_SAID),
-        ("run script", FAILING, 0, FAILING_SAID),
+        ("run script", DEFERRED, 0, DEFERRED_SAID),
+        ("run script", PEOPLE, 0, PEOPLE_SAID),
+        ("run script", FUEL, 0, FUEL_SAID),
+        ("run script", DUE, 0, DUE_SAID),
     ] {
         assert!(rt;
             is_said(rt.alloc(), command, script, status, text)?,
@@ -82,5 +87,57 @@ fn long_reports_are_refused(rt: HostRuntime) -> Result<(), Fail> {
         b"{\"group\":0,\"refused\":5,\"what\":\"TooLong\",\"why\":\"BadReport\"}\nBOARD 2025-03-12T17:00Z\nEND\n";
     let line = long_line(alloc, 2049)?;
     assert!(rt; is_said(alloc, "run script", &line, 0, said)?);
+    Ok(())
+}
+
+// The status and the text of a run where one table has other records.
+fn is_said_with(
+    alloc: Global,
+    table: &str,
+    records: &[u8],
+    status: u8,
+    text: &[u8],
+) -> Result<bool, OutOfMemory> {
+    let words = words(alloc, "run nowhere")?;
+    let mut shelf = shelf_of(alloc, table, records)?;
+    let mut sink = MemorySink::new(alloc, Vec::new(alloc));
+    let ended = desk_main(alloc, &words, &mut shelf, &mut sink);
+    Ok(ended == status && sink.written() == text)
+}
+
+// The first bad record of the tables is said before the script is read, which isn't there.
+#[test]
+fn tables_come_before_the_script(rt: HostRuntime) -> Result<(), Fail> {
+    for (table, records, status, text) in [
+        (
+            "approaches.csv",
+            b"KBOS,ILS04R,04R,ILS,200,200,8\nKJFK,ILS22L,22L,ILS,200,200,x\n".as_slice(),
+            6,
+            b"error 6 BadTable approaches.csv 3 BadField\n".as_slice(),
+        ),
+        (
+            "approaches.csv",
+            b"KBOS,ILS04R,04R,ILS,200,200,8\nKJFK,ILS22L,22L,ILS,200,200,8\nKJFK,ILS22L,22L,ILS,200,200,8\n",
+            6,
+            b"error 6 BadTable approaches.csv 4 Doubled\n",
+        ),
+        (
+            "tails.csv",
+            b"N801DK,A321\n",
+            6,
+            b"error 6 BadTable tails.csv 2 Unlinked\n",
+        ),
+        (
+            "actors.csv",
+            b"D1,kD1,D\n",
+            3,
+            b"error 3 ReadFault nowhere\n",
+        ),
+    ] {
+        assert!(rt;
+            is_said_with(rt.alloc(), table, records, status, text)?,
+            "{table}"
+        );
+    }
     Ok(())
 }

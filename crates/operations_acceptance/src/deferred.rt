@@ -1,10 +1,10 @@
 ghost use Rattle.std.specs.Prelude.{◌≡◌, ◌<◌, All, IfOk, IsTrue};
 
-use crate::small::tables_of;
 use deferrals::{DEFERRAL_LIMIT, Deferral, Deferrals, due, limits_of};
 use desk_io::{Copied, LineFeeds, OutOfMemory, Text, push_all, runs_between};
 use desk_time::Minute;
 use ops_tables::Tables;
+use small_airline::tables_of;
 use std::alloc::Global;
 use std::test::Fail;
 use table_files::TableFault;

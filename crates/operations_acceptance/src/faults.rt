@@ -1,7 +1,7 @@
-use crate::small::{lines_of, push_small, shelf_of};
 use codes::Station;
 use desk_io::{MemoryShelf, OutOfMemory, Shelf, Text, push_all};
 use ops_tables::Tables;
+use small_airline::{lines_of, push_small, shelf_of};
 use std::alloc::Global;
 use std::test::Fail;
 use table_files::{TableFault, TableWhy, read_tables};

@@ -7,10 +7,12 @@ mod deferred;
 #[cfg(test)]
 mod faults;
 #[cfg(test)]
+mod flights;
+#[cfg(test)]
 mod look_ups;
 #[cfg(test)]
 mod needs;
 #[cfg(test)]
-mod plans;
+mod plan_order;
 #[cfg(test)]
-mod small;
+mod plans;

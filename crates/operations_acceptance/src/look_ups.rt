@@ -1,6 +1,6 @@
-use crate::small::tables_of;
 use codes::Station;
 use ops_tables::{Category, Role, Tables};
+use small_airline::tables_of;
 use std::test::Fail;
 
 fn has_stations(tables: &Tables, boston: Station, kennedy: Station) -> bool {

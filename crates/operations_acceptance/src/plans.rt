@@ -1,19 +1,17 @@
-ghost use Rattle.std.specs.Prelude.{◌≤◌, IfOk};
-ghost use Rattle.plan.specs.Check.{HasFewLegs};
 ghost use Rattle.plan.specs.Texts.{HasMoment};
 
+use crate::flights::{ETD, fault_of, leg_between, plan_of};
 use codes::Station;
-use desk_io::{Copied, Listed, OutOfMemory, Text};
+use desk_io::{Copied, Listed, OutOfMemory};
 use desk_time::{Minute, PLAN_FIRST, PLAN_LAST};
+use ops_tables::Tables;
 use plan::{
-    Alternate, Finding, Kind, Leg, Phase, Plan, PlanWhy, Rule, TakeoffAlternate, check_plan,
-    finding_text, is_before, is_same, phase_text,
+    Alternate, Finding, Leg, Phase, Plan, PlanWhy, Rule, TakeoffAlternate, finding_text, is_before,
+    is_same, phase_text,
 };
+use small_airline::tables_of;
 use std::alloc::Global;
 use std::test::Fail;
-
-// 2025-03-12 18:00.
-const ETD: Minute = 29_030_040;
 
 // A station of a list of four, from Boston on.
 fn station(n: u8) -> Option<Station> {
@@ -25,68 +23,47 @@ fn station(n: u8) -> Option<Station> {
     }
 }
 
-// A leg from Boston to Kennedy.
-fn leg(alloc: Global, etd: Minute, eta: Minute, minutes: u32) -> Option<Leg> {
-    Some(Leg {
-        from: station(0)?,
-        to: station(1)?,
-        etd,
-        eta,
-        minutes,
-        burn: 12_000,
-        extra: 0,
-        minimum: 19_500,
-        onboard: 20_000,
-        takeoff_alternate: None,
-        alternates: Listed::new(alloc),
-    })
+// A leg from Boston to Kennedy, or back.
+fn leg(alloc: Global, is_back: bool, etd: Minute, eta: Minute, minutes: u32) -> Option<Leg> {
+    let (from, to) = if is_back { (1, 0) } else { (0, 1) };
+    Some(leg_between(alloc, station(from)?, station(to)?, etd, eta, minutes))
 }
 
-fn plan_of(alloc: Global, first: Leg, second: Option<Leg>) -> Result<Plan, OutOfMemory>
-    ensures { IfOk result (λ plan. HasFewLegs plan) }
-{
+fn known_plan(alloc: Global, first: Leg, second: Option<Leg>) -> Result<Plan, OutOfMemory> {
     let mut legs = Listed::new(alloc);
     legs.push(first)?;
     if let Some(second) = second {
         legs.push(second)?;
     }
-    Ok(Plan {
-        flight: Text::of(alloc, b"DK101")?,
-        tail: Text::of(alloc, b"N801DK")?,
-        kind: Kind::Domestic,
-        captain: Text::of(alloc, b"C7")?,
-        legs,
-    })
+    plan_of(alloc, b"N801DK", b"C7", legs)
 }
 
 // The first leg that fails a test, and the test.
-fn fault_of(
+fn legs_fault(
     alloc: Global,
+    tables: &Tables,
     first: Leg,
     second: Option<Leg>,
 ) -> Result<Option<(u32, PlanWhy)>, OutOfMemory> {
-    let plan = plan_of(alloc, first, second)?;
-    match check_plan(&plan) {
-        Ok(()) => Ok(None),
-        Err(bad) => Ok(Some((bad.leg, bad.why))),
-    }
+    let plan = known_plan(alloc, first, second)?;
+    Ok(fault_of(tables, &plan))
 }
 
 // What a plan of one leg fails, or a test that no plan fails at leg 0 where there is no such leg.
 fn time_fault(
     alloc: Global,
+    tables: &Tables,
     etd: Minute,
     eta: Minute,
     minutes: u32,
 ) -> Result<Option<(u32, PlanWhy)>, OutOfMemory> {
-    match leg(alloc, etd, eta, minutes) {
-        Some(leg) => fault_of(alloc, leg, None),
+    match leg(alloc, false, etd, eta, minutes) {
+        Some(leg) => legs_fault(alloc, tables, leg, None),
         None => Ok(Some((0, PlanWhy::Times))),
     }
 }
 
-#[test]
-fn a_leg_has_its_times(rt: HostRuntime) -> Result<(), Fail> {
+fn has_times(alloc: Global, tables: &Tables) -> Result<bool, OutOfMemory> {
     for (etd, eta, minutes, is_good) in [
         (ETD, ETD + 60, 55, true),
         (ETD, ETD + 60, 60, true),
@@ -105,9 +82,11 @@ fn a_leg_has_its_times(rt: HostRuntime) -> Result<(), Fail> {
         } else {
             Some((1, PlanWhy::Times))
         };
-        assert!(rt; time_fault(rt.alloc(), etd, eta, minutes)? == wanted);
+        if time_fault(alloc, tables, etd, eta, minutes)? != wanted {
+            return Ok(false);
+        }
     }
-    Ok(())
+    Ok(true)
 }
 
 // A leg with a takeoff alternate, where there are minutes to it, and an alternate.
@@ -116,7 +95,7 @@ fn with_alternates(
     takeoff: (u8, Option<u32>),
     other: (u8, u32, u32),
 ) -> Result<Option<Leg>, OutOfMemory> {
-    let Some(mut leg) = leg(alloc, ETD, ETD + 60, 55) else {
+    let Some(mut leg) = leg(alloc, false, ETD, ETD + 60, 55) else {
         return Ok(None);
     };
     if let (Some(station), Some(minutes)) = (station(takeoff.0), takeoff.1) {
@@ -135,17 +114,17 @@ fn with_alternates(
 
 fn alternate_fault(
     alloc: Global,
+    tables: &Tables,
     takeoff: (u8, Option<u32>),
     other: (u8, u32, u32),
 ) -> Result<Option<(u32, PlanWhy)>, OutOfMemory> {
     match with_alternates(alloc, takeoff, other)? {
-        Some(leg) => fault_of(alloc, leg, None),
+        Some(leg) => legs_fault(alloc, tables, leg, None),
         None => Ok(Some((0, PlanWhy::Times))),
     }
 }
 
-#[test]
-fn alternates_are_near_and_apart(rt: HostRuntime) -> Result<(), Fail> {
+fn has_alternate_faults(alloc: Global, tables: &Tables) -> Result<bool, OutOfMemory> {
     for (takeoff, other, why) in [
         ((0, None), (2, 35, 3_000), None),
         ((0, None), (0, 600, 1_000_000), None),
@@ -162,10 +141,11 @@ fn alternates_are_near_and_apart(rt: HostRuntime) -> Result<(), Fail> {
             Some(why) => Some((1, why)),
             None => None,
         };
-        let fault = alternate_fault(rt.alloc(), takeoff, other)?;
-        assert!(rt; fault == wanted);
+        if alternate_fault(alloc, tables, takeoff, other)? != wanted {
+            return Ok(false);
+        }
     }
-    Ok(())
+    Ok(true)
 }
 
 // A leg that is too long for its times, has too much fuel, and an alternate twice.
@@ -185,39 +165,58 @@ fn bad_leg(alloc: Global) -> Result<Option<Leg>, OutOfMemory> {
     Ok(Some(leg))
 }
 
-// A leg that begins so long after the first ends, which lands with that much fuel.
+// A leg back that begins then, after a first that departs with that much fuel.
 fn second_fault(
     alloc: Global,
+    tables: &Tables,
     etd: Minute,
     onboard: u32,
 ) -> Result<Option<(u32, PlanWhy)>, OutOfMemory> {
-    let Some(mut first) = leg(alloc, ETD, ETD + 60, 55) else {
+    let Some(mut first) = leg(alloc, false, ETD, ETD + 60, 55) else {
         return Ok(None);
     };
     first.onboard = onboard;
-    fault_of(alloc, first, leg(alloc, etd, ETD + 120, 55))
+    let second = leg(alloc, true, etd, ETD + 120, 55);
+    legs_fault(alloc, tables, first, second)
 }
 
-#[test]
-fn the_first_failing_test_is_told(rt: HostRuntime) -> Result<(), Fail> {
-    let alloc = rt.alloc();
-    let bad = bad_leg(alloc)?;
-    assert!(rt; bad.is_some());
-    if let Some(leg) = bad {
-        assert!(rt; fault_of(alloc, leg, None)? == Some((1, PlanWhy::Repeated)));
+fn has_first_faults(alloc: Global, tables: &Tables) -> Result<bool, OutOfMemory> {
+    let Some(bad) = bad_leg(alloc)? else {
+        return Ok(false);
+    };
+    if legs_fault(alloc, tables, bad, None)? != Some((1, PlanWhy::Repeated)) {
+        return Ok(false);
     }
     for (etd, onboard, wanted) in [
         (ETD + 60, 20_000, None),
         (ETD + 59, 20_000, Some((2, PlanWhy::Times))),
         (ETD + 59, 1_000_001, Some((1, PlanWhy::Amount))),
     ] {
-        assert!(rt; second_fault(alloc, etd, onboard)? == wanted);
+        if second_fault(alloc, tables, etd, onboard)? != wanted {
+            return Ok(false);
+        }
     }
+    Ok(true)
+}
+
+fn has_faults(alloc: Global, tables: &Tables) -> Result<bool, OutOfMemory> {
+    Ok(
+        has_times(alloc, tables)?
+            && has_alternate_faults(alloc, tables)?
+            && has_first_faults(alloc, tables)?,
+    )
+}
+
+#[test]
+fn legs_are_tested(rt: HostRuntime) -> Result<(), Fail> {
+    let alloc = rt.alloc();
+    let tables = tables_of(alloc, "routes.csv", b"")?;
+    assert!(rt; has_faults(alloc, &tables)?);
     Ok(())
 }
 
 fn has_copy(alloc: Global, leg: Leg) -> Result<bool, OutOfMemory> {
-    let plan = plan_of(alloc, leg, None)?;
+    let plan = known_plan(alloc, leg, None)?;
     let copy = plan.copy(alloc)?;
     Ok(
         copy.flight.bytes() == b"DK101".as_slice()
@@ -232,11 +231,11 @@ fn is_written(alloc: Global, phase: Phase, text: &[u8]) -> Result<bool, OutOfMem
 }
 
 // Whether a finding and its copy are the same, and are written so.
-fn is_finding(alloc: Global, text: &[u8]) -> Result<bool, OutOfMemory> {
+fn is_finding(alloc: Global, rule: Rule, text: &[u8]) -> Result<bool, OutOfMemory> {
     let finding = Finding {
-        rule: Rule::No3,
-        leg: 1,
-        place: 0,
+        rule,
+        leg: 2,
+        place: 7,
     };
     let copy = finding.copy(alloc)?;
     Ok(
@@ -244,6 +243,31 @@ fn is_finding(alloc: Global, text: &[u8]) -> Result<bool, OutOfMemory> {
             && !is_before(&finding, &copy)
             && finding_text(alloc, &copy)?.bytes() == text,
     )
+}
+
+fn are_findings(alloc: Global) -> Result<bool, OutOfMemory> {
+    for (rule, text) in [
+        (Rule::No3, b"121.613/2/7".as_slice()),
+        (Rule::No4, b"121.617-ALT/2/7"),
+        (Rule::No5, b"121.617-RANGE/2/7"),
+        (Rule::No6, b"121.617-WX/2/7"),
+        (Rule::No7, b"121.619-NONE/2/7"),
+        (Rule::No8, b"121.619-SECOND/2/7"),
+        (Rule::No9, b"121.621-NONE/2/7"),
+        (Rule::No10, b"121.625/2/7"),
+        (Rule::No11, b"121.628-LIMIT/2/7"),
+        (Rule::No12, b"121.628-DUE/2/7"),
+        (Rule::No13, b"121.631-TYPE/2/7"),
+        (Rule::No14, b"121.639/2/7"),
+        (Rule::No15, b"121.645/2/7"),
+        (Rule::No16, b"DESK-BOARD/2/7"),
+        (Rule::No19, b"DESK-TABLES/2/7"),
+    ] {
+        if !is_finding(alloc, rule, text)? {
+            return Ok(false);
+        }
+    }
+    Ok(true)
 }
 
 #[test]
@@ -254,7 +278,7 @@ fn plans_are_copied_and_findings_written(rt: HostRuntime) -> Result<(), Fail> {
     if let Some(leg) = bad {
         assert!(rt; has_copy(alloc, leg)?);
     }
-    assert!(rt; is_finding(alloc, b"121.613/1/0")?);
+    assert!(rt; are_findings(alloc)?);
     assert!(rt; is_written(alloc, Phase::Drafted, b"DRAFTED")?);
     assert!(rt; is_written(alloc, Phase::Ready, b"READY 1")?);
     let cancelled = Phase::Cancelled { at: ETD + 62 };
