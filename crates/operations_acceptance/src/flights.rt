@@ -71,7 +71,8 @@ fn have_moments(legs: &[Leg]) -> bool
     true
 }
 
-fn may_be_checked(plan: &Plan) -> bool
+/// Whether a plan has at most 1,000 legs, and its moments can be read and shown.
+pub fn may_be_checked(plan: &Plan) -> bool
     ensures { IsTrue result → IsPlan plan.now }
 {
     let legs = plan.legs.as_slice();

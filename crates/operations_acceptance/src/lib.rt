@@ -1,5 +1,5 @@
-//! Tests of the airline's tables, deferred equipment, alternates and plans. The faults of each table,
-//! minima and fuel are tested by the cases of `call_vectors`.
+//! Tests of the airline's tables, deferred equipment, alternates, plans and the text of releases. The faults of
+//! each table, minima and fuel are tested by the cases of `call_vectors`.
 #![tactic(auto)]
 
 #[cfg(test)]
@@ -16,3 +16,5 @@ mod needs;
 mod plan_order;
 #[cfg(test)]
 mod plans;
+#[cfg(test)]
+mod releases;

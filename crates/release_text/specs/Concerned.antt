@@ -1,0 +1,70 @@
+-- The airports that a release concerns: those of its legs that aren't flown (14 CFR 121.687).
+use Rattle.std.specs.Prelude.{◌≡◌, ℕ, ◌+◌, Bool, false, IsTrue, if◌then◌else◌, List, [], ◌∷◌, ◌++◌, map, Option, None, Some}
+use Rattle.std.specs.List.{AllByRecursion, list_any}
+use Rattle.std.specs.Str.{bytes_eq}
+use Rattle.codes.specs.Station.{Station}
+use Rattle.plan.specs.declared.flights.Plan.{Plan}
+use Rattle.plan.specs.declared.flights.Leg.{Leg}
+use Rattle.plan.specs.declared.flights.Alternate.{Alternate}
+use Rattle.plan.specs.declared.flights.TakeoffAlternate.{TakeoffAlternate}
+use Rattle.plan.specs.declared.release.Phase.{Phase}
+use Rattle.plan.specs.declared.release.Standing.{Standing}
+use Rattle.plan.specs.declared.release.Standing.TheVariants.{Ahead, InFlight, Flown}
+use Rattle.plan.specs.Phases.{standing}
+
+abbrev pub takeoff_station : Option TakeoffAlternate → List Station
+takeoff_station None = []
+takeoff_station (Some alternate) = alternate.station ∷ []
+
+-- the airport of departure, and its alternate where one is listed
+abbrev pub departure_stations : Leg → List Station
+departure_stations leg = leg.from ∷ takeoff_station leg.takeoff_alternate
+
+abbrev pub alternate_stations : List Alternate → List Station
+alternate_stations alternates = map (λ a. a.station) alternates
+
+-- the destination, and then its alternates
+abbrev pub arrival_stations : Leg → List Station
+arrival_stations leg = leg.to ∷ alternate_stations leg.alternates
+
+-- The airports that matter to a leg: where it hasn't departed all of them, in flight those where it may end.
+abbrev pub leg_stations : Standing → Leg → List Station
+leg_stations Ahead leg = departure_stations leg ++ arrival_stations leg
+leg_stations InFlight leg = arrival_stations leg
+leg_stations Flown leg = []
+
+-- the airports that matter to each leg, where the first of them has that number
+abbrev pub stations_from : Phase → ℕ → List Leg → List Station
+stations_from phase n [] = []
+stations_from phase n (leg ∷ legs) = leg_stations (standing phase n) leg ++ stations_from phase (n + 1) legs
+
+abbrev pub is_among : List Station → Station → Bool
+is_among stations station = list_any (λ other. bytes_eq other station) stations
+
+-- those stations, and one more at their end unless it is among them
+abbrev pub with_station : List Station → Station → List Station
+with_station found station = if is_among found station then found else found ++ station ∷ []
+
+-- those stations, and each of some others that isn't among them, at its first place
+abbrev pub with_stations : List Station → List Station → List Station
+with_stations found [] = found
+with_stations found (station ∷ stations) = with_stations (with_station found station) stations
+
+-- the stations that a release concerns, each once, at its first place
+unfoldable pub concerned : Plan → Phase → List Station
+concerned plan phase = with_stations [] (stations_from phase 1 plan.legs)
+
+-- no station stands twice
+abbrev pub AreDistinct : List Station → Type 0
+AreDistinct [] = Unit {0}
+AreDistinct (station ∷ stations) = AllByRecursion (λ other. bytes_eq station other ≡ false) stations × AreDistinct stations
+
+-- each of some stations is among others
+abbrev pub AreAmong : List Station → List Station → Type 0
+AreAmong others stations = AllByRecursion (λ station. IsTrue (is_among others station)) stations
+
+-- These are exactly those that stand in a list, each once.
+pub record AreOnceEach (every stations : List Station) : Type 0 where
+  pub distinct : AreDistinct stations
+  pub all : AreAmong stations every
+  pub only : AreAmong every stations

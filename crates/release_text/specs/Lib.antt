@@ -1,0 +1,4 @@
+pub mod Concerned
+pub mod Weather
+pub mod Laws
+pub mod Text

@@ -1,0 +1,13 @@
+//! The text of a release, the weather reports that are attached to it, and its digest (14 CFR 121.687).
+#![tactic(auto)]
+
+mod attached;
+mod digest;
+mod stations;
+mod unattached;
+mod written;
+
+pub use attached::{Attached, AttachedList, attach};
+pub use digest::{digest_of, digits_of};
+pub use unattached::newer;
+pub use written::text_of;
