@@ -6,7 +6,7 @@ use Rattle.asks.specs.declared.call.Ask.TheVariants as ask
 use Rattle.asks.specs.declared.reply.Reply.{Reply}
 use Rattle.asks.specs.declared.reply.Reply.TheVariants.{Done, Seen, Refused}
 use Rattle.asks.specs.declared.reply.Refusal.{Refusal}
-use Rattle.asks.specs.declared.reply.Refusal.TheVariants.{UnknownActor, WrongKey, NotYourRole, BadReport, DayOutOfReach, ReportsFull, UnknownTail, NoSuchDeferral, NoSuchRelease, NotYours, BadPlan, NotPending, WrongRevision, RuleFails, WrongPhase, AlreadySigned, HistoryFull, NoSuchStation, UnknownItem, BadFound, DeferralsFull}
+use Rattle.asks.specs.declared.reply.Refusal.TheVariants.{UnknownActor, WrongKey, NotYourRole, BadReport, DayOutOfReach, ReportsFull, UnknownTail, NoSuchDeferral, NoSuchRelease, NotYours, BadPlan, NotPending, WrongRevision, WrongText, WeatherNewer, RuleFails, WrongPhase, AlreadySigned, NoSuchAlert, AlertMoved, HistoryFull, NoSuchStation, UnknownItem, BadFound, DeferralsFull}
 
 -- a call whose plan has at most 1,000 legs, and whose moments are such as can be read
 abbrev pub IsCall : Ask → Type 0
@@ -14,10 +14,18 @@ IsCall (ask.Admit text) = Unit {0}
 IsCall (ask.Defer tail item found) = IsMoment found
 IsCall (ask.Clear deferral) = Unit {0}
 IsCall (ask.Draft plan) = IsPlan plan
-IsCall (ask.Sign release revision) = Unit {0}
-IsCall (ask.Concur release revision) = Unit {0}
+IsCall (ask.Prepare release) = Unit {0}
+IsCall (ask.Sign release revision digest) = Unit {0}
+IsCall (ask.Concur release revision digest) = Unit {0}
+IsCall (ask.Amend release plan) = IsPlan plan
 IsCall (ask.Cancel release) = Unit {0}
+IsCall (ask.Depart release leg) = Unit {0}
+IsCall (ask.Arrive release leg) = Unit {0}
+IsCall (ask.Acknowledge release version) = Unit {0}
+IsCall ask.ViewBoard = Unit {0}
 IsCall ask.ViewAlerts = Unit {0}
+IsCall (ask.ViewRelease release) = Unit {0}
+IsCall (ask.ViewWeather station) = Unit {0}
 IsCall (ask.ViewDeferred tail) = Unit {0}
 
 -- the moment that a refusal names can be shown
@@ -35,9 +43,13 @@ RefusalHasMoment (NotYours holder) = Unit {0}
 RefusalHasMoment (BadPlan leg what) = Unit {0}
 RefusalHasMoment (NotPending stage) = Unit {0}
 RefusalHasMoment (WrongRevision current) = Unit {0}
+RefusalHasMoment (WrongText digest) = Unit {0}
+RefusalHasMoment (WeatherNewer report) = Unit {0}
 RefusalHasMoment (RuleFails findings) = Unit {0}
 RefusalHasMoment (WrongPhase phase) = HasMoment phase
 RefusalHasMoment AlreadySigned = Unit {0}
+RefusalHasMoment NoSuchAlert = Unit {0}
+RefusalHasMoment (AlertMoved version) = Unit {0}
 RefusalHasMoment (HistoryFull entries) = Unit {0}
 RefusalHasMoment NoSuchStation = Unit {0}
 RefusalHasMoment UnknownItem = Unit {0}

@@ -1,3 +1,4 @@
+use codes::Station;
 use desk_io::{Copied, OutOfMemory, Text};
 use desk_time::Minute;
 use plan::Plan;
@@ -27,22 +28,62 @@ pub enum Ask {
     Draft {
         plan: Plan,
     },
-    /// The dispatcher signs the pending revision of that number.
+    /// The latest weather is attached to the pending revision of a release, which makes its text.
+    Prepare {
+        release: u64,
+    },
+    /// The dispatcher signs the pending revision of that number, whose text has that digest (14 CFR 121.663).
     Sign {
         release: u64,
         revision: u64,
+        /// The SHA-256 of the text.
+        digest: [u8; 32],
     },
-    /// The captain concurs with the pending revision of that number.
+    /// The captain concurs with the pending revision of that number, whose text has that digest (14 CFR 121.663).
     Concur {
         release: u64,
         revision: u64,
+        /// The SHA-256 of the text.
+        digest: [u8; 32],
+    },
+    /// A plan takes the place of the one of a release (14 CFR 121.631).
+    Amend {
+        release: u64,
+        plan: Plan,
     },
     /// A release is cancelled.
     Cancel {
         release: u64,
     },
+    /// A leg has departed.
+    Depart {
+        release: u64,
+        /// Its number, from 1.
+        leg: u32,
+    },
+    /// A leg has arrived.
+    Arrive {
+        release: u64,
+        /// Its number, from 1.
+        leg: u32,
+    },
+    /// The dispatcher has seen the alert of a release in that version.
+    Acknowledge {
+        release: u64,
+        version: u64,
+    },
+    /// The releases are shown.
+    ViewBoard,
     /// The open alerts are shown.
     ViewAlerts,
+    /// The texts of a release are shown.
+    ViewRelease {
+        release: u64,
+    },
+    /// The latest weather of an airport is shown.
+    ViewWeather {
+        station: Station,
+    },
     /// The open deferrals of an aircraft are shown.
     ViewDeferred {
         /// Its registration, at most 64 bytes.
@@ -65,35 +106,66 @@ pub struct Call {
 
 impl Copied for Ask {
     fn copy(&self, alloc: Global) -> Result<Ask, OutOfMemory> {
-        match self {
-            Ask::Admit { text } => Ok(Ask::Admit {
+        let ask = match self {
+            Ask::Admit { text } => Ask::Admit {
                 text: text.copy(alloc)?,
-            }),
-            Ask::Defer { tail, item, found } => Ok(Ask::Defer {
+            },
+            Ask::Defer { tail, item, found } => Ask::Defer {
                 tail: tail.copy(alloc)?,
                 item: item.copy(alloc)?,
                 found: *found,
-            }),
-            Ask::Clear { deferral } => Ok(Ask::Clear {
+            },
+            Ask::Clear { deferral } => Ask::Clear {
                 deferral: *deferral,
-            }),
-            Ask::Draft { plan } => Ok(Ask::Draft {
+            },
+            Ask::Draft { plan } => Ask::Draft {
                 plan: plan.copy(alloc)?,
-            }),
-            Ask::Sign { release, revision } => Ok(Ask::Sign {
+            },
+            Ask::Prepare { release } => Ask::Prepare { release: *release },
+            Ask::Sign {
+                release,
+                revision,
+                digest,
+            } => Ask::Sign {
                 release: *release,
                 revision: *revision,
-            }),
-            Ask::Concur { release, revision } => Ok(Ask::Concur {
+                digest: *digest,
+            },
+            Ask::Concur {
+                release,
+                revision,
+                digest,
+            } => Ask::Concur {
                 release: *release,
                 revision: *revision,
-            }),
-            Ask::Cancel { release } => Ok(Ask::Cancel { release: *release }),
-            Ask::ViewAlerts => Ok(Ask::ViewAlerts),
-            Ask::ViewDeferred { tail } => Ok(Ask::ViewDeferred {
+                digest: *digest,
+            },
+            Ask::Amend { release, plan } => Ask::Amend {
+                release: *release,
+                plan: plan.copy(alloc)?,
+            },
+            Ask::Cancel { release } => Ask::Cancel { release: *release },
+            Ask::Depart { release, leg } => Ask::Depart {
+                release: *release,
+                leg: *leg,
+            },
+            Ask::Arrive { release, leg } => Ask::Arrive {
+                release: *release,
+                leg: *leg,
+            },
+            Ask::Acknowledge { release, version } => Ask::Acknowledge {
+                release: *release,
+                version: *version,
+            },
+            Ask::ViewBoard => Ask::ViewBoard,
+            Ask::ViewAlerts => Ask::ViewAlerts,
+            Ask::ViewRelease { release } => Ask::ViewRelease { release: *release },
+            Ask::ViewWeather { station } => Ask::ViewWeather { station: *station },
+            Ask::ViewDeferred { tail } => Ask::ViewDeferred {
                 tail: tail.copy(alloc)?,
-            }),
-        }
+            },
+        };
+        Ok(ask)
     }
 }
 

@@ -13,6 +13,12 @@ pub enum Done {
     Deferral(u64),
     /// A revision of a release was filed or signed.
     Filed { release: u64, revision: u64 },
+    /// A revision of a release has a text, of that SHA-256.
+    Prepared {
+        release: u64,
+        revision: u64,
+        digest: [u8; 32],
+    },
     /// A release was changed.
     Release(u64),
 }
@@ -43,16 +49,24 @@ pub enum Refusal {
     NotYours { holder: Text },
     /// 12: a test of the plan fails, of that leg.
     BadPlan { leg: u32, what: PlanWhy },
-    /// 13: no revision is pending (0), or the dispatcher hasn't signed it (2).
+    /// 13: no revision is pending (0), or it isn't prepared (1), or the dispatcher hasn't signed it (2).
     NotPending { stage: u8 },
     /// 14: the pending revision has that other number.
     WrongRevision { current: u64 },
+    /// 15: the text of the pending revision has that other digest.
+    WrongText { digest: [u8; 32] },
+    /// 16: that report is newer than what is attached to the pending revision.
+    WeatherNewer { report: u64 },
     /// 17: these rules fail.
     RuleFails { findings: Findings },
     /// 18: the release is in a phase that the ask isn't for.
     WrongPhase { phase: Phase },
     /// 19: the dispatcher has signed.
     AlreadySigned,
+    /// 20: the release has no alert.
+    NoSuchAlert,
+    /// 21: the alert has that other version.
+    AlertMoved { version: u64 },
     /// 24: the history has 400,000 entries.
     HistoryFull { entries: u64 },
     /// 25: the station isn't an airport of the tables.
@@ -100,11 +114,15 @@ impl Copied for Refusal {
             }),
             Refusal::NotPending { stage } => Ok(Refusal::NotPending { stage: *stage }),
             Refusal::WrongRevision { current } => Ok(Refusal::WrongRevision { current: *current }),
+            Refusal::WrongText { digest } => Ok(Refusal::WrongText { digest: *digest }),
+            Refusal::WeatherNewer { report } => Ok(Refusal::WeatherNewer { report: *report }),
             Refusal::RuleFails { findings } => Ok(Refusal::RuleFails {
                 findings: findings.copy(alloc)?,
             }),
             Refusal::WrongPhase { phase } => Ok(Refusal::WrongPhase { phase: *phase }),
             Refusal::AlreadySigned => Ok(Refusal::AlreadySigned),
+            Refusal::NoSuchAlert => Ok(Refusal::NoSuchAlert),
+            Refusal::AlertMoved { version } => Ok(Refusal::AlertMoved { version: *version }),
             Refusal::HistoryFull { entries } => Ok(Refusal::HistoryFull { entries: *entries }),
             Refusal::NoSuchStation => Ok(Refusal::NoSuchStation),
             Refusal::UnknownItem => Ok(Refusal::UnknownItem),

@@ -1,19 +1,24 @@
 -- What an accepted ask may change, beside what its own line says.
-use Rattle.std.specs.Prelude.{◌≡◌, ◌≢◌, ◌⊎◌, ℕ, ◌+◌, ◌<◌, ◌≤◌, ◌==◌, true, List, [], ◌∷◌, ◌++◌, length, Option, None, Some, Result, Ok, Err}
+use Rattle.std.specs.Prelude.{◌≡◌, ◌≢◌, ◌⊎◌, ℕ, ◌+◌, ◌<◌, ◌≤◌, ◌==◌, true, false, List, [], ◌∷◌, ◌++◌, length, Option, None, Some, Result, Ok, Err}
 use Rattle.std.specs.List.{list_any}
 use Rattle.codes.specs.Groups.{groups_of, canonical}
 use Rattle.ops_tables.specs.Tables.{TableRows, actor_of, type_of, has_airport, has_item}
 use Rattle.ops_tables.specs.declared.rows.TypeRow.{TypeRow}
 use Rattle.ops_tables.specs.declared.rows.Actor.{Actor}
 use Rattle.deferrals.specs.declared.items.Deferral.{Deferral}
-use Rattle.deferrals.specs.Held.{has_id, without}
+use Rattle.deferrals.specs.Held.{has_id}
 use Rattle.facts.specs.Reading.{read_of}
 use Rattle.facts.specs.Same.{station_of_report}
+use Rattle.plan.specs.Change.{change_fault}
 use Rattle.plan.specs.Check.{plan_fault}
+use Rattle.release_text.specs.Revisions.{revision_digest}
+use Rattle.release_text.specs.Weather.{attached_to, newer_than}
+use Rattle.alerts.specs.declared.alert.Alert.{Alert}
 use Rattle.rules.specs.Judgement.{findings_of}
 use Rattle.facts.specs.declared.report.Report.{Report}
 use Rattle.plan.specs.declared.flights.Plan.{Plan}
-use Rattle.plan.specs.declared.release.Phase.TheVariants.{Drafted, Ready, Cancelled}
+use Rattle.plan.specs.declared.release.Phase.{Phase}
+use Rattle.plan.specs.declared.release.Phase.TheVariants.{Drafted, Ready, Flying, Stopped, Completed, Cancelled}
 use Rattle.plan.specs.declared.release.Signature.{Signature}
 use Rattle.plan.specs.declared.release.Release.{Release}
 use Rattle.plan.specs.declared.release.Revision.{Revision}
@@ -26,85 +31,127 @@ use Rattle.asks.specs.declared.reply.Done.TheVariants as done
 use Rattle.asks.specs.declared.reply.Reply.{Reply}
 use Rattle.asks.specs.declared.reply.Reply.TheVariants.{Done, Seen, Refused}
 use Rattle.machine.specs.declared.effect.Effect.{Effect}
-use Rattle.machine.specs.declared.effect.Effect.TheVariants.{Tick, Admit, Defer, Clear, File, Put, PutAfresh}
+use Rattle.machine.specs.Effects as effect
 use Rattle.machine.specs.declared.effect.Decision.{Decision}
 use Rattle.machine.specs.declared.effect.Decision.TheVariants.{Show, Do}
 use Rattle.machine.specs.declared.entry.Entry.{Entry}
 use Rattle.machine.specs.declared.entry.What.{What}
 use Rattle.machine.specs.declared.entry.What.TheVariants as what
-use Rattle.machine.specs.State.{State, grounds_of, release_at}
-use Rattle.machine.specs.Events.{put, effected}
-use Rattle.machine.specs.Decide.{once_signed}
+use Rattle.machine.specs.State.{State, grounds_of, failing_of, release_at, alert_at}
+use Rattle.machine.specs.Events.{effected, moment_after, reports_after, deferrals_after, releases_after}
+use Rattle.machine.specs.Decide.{once_signed, flies_by, leg_count}
+use Rattle.machine.specs.Texts.{newest}
 use Rattle.machine.specs.People.{may_ask}
 use Rattle.machine.specs.Step.{entered}
 
--- a signature of that person at that moment
-abbrev pub IsSignedBy : List ℕ → ℕ → Option Signature → Type 0
-IsSignedBy actor moment None = ⊥
-IsSignedBy actor moment (Some signature) = (signature.actor ≡ actor) × (signature.at ≡ moment)
+-- a signature of that person at that moment, on the text of that digest
+abbrev pub IsSignedBy : List ℕ → ℕ → List ℕ → Option Signature → Type 0
+IsSignedBy actor moment digest None = ⊥
+IsSignedBy actor moment digest (Some signature) = (signature.actor ≡ actor) × (signature.at ≡ moment) × (signature.digest ≡ digest)
 
--- A pending revision that may be signed under a number: it has that number, and fails no rule, judged as if both had signed.
-pub record MaySign (s : State) (number : ℕ) (q : Release) (v : Revision) : Type 0 where
+-- A pending revision that may be signed under a number and a digest: it has that number and is prepared, its text has that
+-- digest, the latest weather is attached, and it fails no rule, judged as if both had signed.
+pub record MaySign (s : State) (number : ℕ) (digest : List ℕ) (q : Release) (v : Revision) : Type 0 where
   pub numbered : v.number ≡ number
+  pub prepared : v.prepared ≡ true
+  pub text : revision_digest v ≡ digest
+  pub newest_weather : newer_than s.reports v.plan q.phase v.attached ≡ None
   pub passes : findings_of v.plan (once_signed q.phase) (grounds_of s) ≡ []
 
--- a revision that gets the dispatcher's signature: no other part changes
-pub record GainsDispatcher (s : State) (actor : List ℕ) (asked : ℕ) (q : Release) (v w : Revision) : Type 0 where
-  pub may : MaySign s asked q v
-  pub unsigned : v.dispatcher ≡ None
+-- the same number, plan and weather
+pub record IsSameText (v w : Revision) : Type 0 where
   pub number : w.number ≡ v.number
   pub plan : w.plan ≡ v.plan
-  pub dispatcher : IsSignedBy actor s.moment w.dispatcher
+  pub prepared : w.prepared ≡ v.prepared
+  pub attached : w.attached ≡ v.attached
+
+-- a revision that gets the dispatcher's signature: no other part changes
+pub record GainsDispatcher (s : State) (actor : List ℕ) (asked : ℕ) (digest : List ℕ) (q : Release) (v w : Revision) : Type 0 where
+  pub may : MaySign s asked digest q v
+  pub unsigned : v.dispatcher ≡ None
+  pub same : IsSameText v w
+  pub dispatcher : IsSignedBy actor s.moment digest w.dispatcher
   pub captain : w.captain ≡ v.captain
 
 -- a revision that gets the captain's signature, after the dispatcher's: no other part changes
-pub record GainsCaptain (s : State) (actor : List ℕ) (asked : ℕ) (q : Release) (v w : Revision) : Type 0 where
-  pub may : MaySign s asked q v
+pub record GainsCaptain (s : State) (actor : List ℕ) (asked : ℕ) (digest : List ℕ) (q : Release) (v w : Revision) : Type 0 where
+  pub may : MaySign s asked digest q v
   pub signed : v.dispatcher ≢ None
   pub own : v.plan.captain ≡ actor
+  pub same : IsSameText v w
+  pub dispatcher : w.dispatcher ≡ v.dispatcher
+  pub captain : IsSignedBy actor s.moment digest w.captain
+
+-- a revision that gets the latest weather, and loses the signatures on its earlier text
+pub record GainsWeather (s : State) (q : Release) (v w : Revision) : Type 0 where
   pub number : w.number ≡ v.number
   pub plan : w.plan ≡ v.plan
-  pub dispatcher : w.dispatcher ≡ v.dispatcher
-  pub captain : IsSignedBy actor s.moment w.captain
+  pub prepared : w.prepared ≡ true
+  pub attached : w.attached ≡ attached_to s.reports v.plan q.phase
+  pub dispatcher : w.dispatcher ≡ None
+  pub captain : w.captain ≡ None
 
 abbrev pub BothAre : (Revision → Revision → Type 0) → Option Revision → Option Revision → Type 0
 BothAre R None w = ⊥
 BothAre R (Some v) None = ⊥
 BothAre R (Some v) (Some w) = R v w
 
--- a release of which the dispatcher who holds it signs the pending revision
-pub record IsSigning (s : State) (actor : List ℕ) (number : ℕ) (q r : Release) : Type 0 where
-  pub own : q.holder ≡ actor
+-- a release that keeps its id and its holder
+pub record IsSameRelease (q r : Release) : Type 0 where
   pub id : r.id ≡ q.id
   pub holder : r.holder ≡ q.holder
+
+-- A release whose pending revision the dispatcher who holds it has prepared: the latest weather is attached, and the
+-- signatures on its earlier text are void.
+pub record IsPreparing (s : State) (actor : List ℕ) (q r : Release) : Type 0 where
+  pub own : q.holder ≡ actor
+  pub same : IsSameRelease q r
   pub phase : r.phase ≡ q.phase
   pub active : r.active ≡ q.active
-  pub pending : BothAre (GainsDispatcher s actor number q) q.pending r.pending
+  pub pending : BothAre (GainsWeather s q) q.pending r.pending
 
--- A release whose pending revision becomes the active one by the signature of its captain. A draft becomes ready, and
--- what is ready stays so.
-pub record IsConcurring (s : State) (actor : List ℕ) (number : ℕ) (q r : Release) : Type 0 where
-  pub id : r.id ≡ q.id
-  pub holder : r.holder ≡ q.holder
-  pub drafted : q.phase ≡ Drafted → r.phase ≡ Ready
-  pub ready : q.phase ≡ Ready → r.phase ≡ Ready
-  pub active : BothAre (GainsCaptain s actor number q) q.pending r.active
+-- a release of which the dispatcher who holds it signs the pending revision
+pub record IsSigning (s : State) (actor : List ℕ) (number : ℕ) (digest : List ℕ) (q r : Release) : Type 0 where
+  pub own : q.holder ≡ actor
+  pub same : IsSameRelease q r
+  pub phase : r.phase ≡ q.phase
+  pub active : r.active ≡ q.active
+  pub pending : BothAre (GainsDispatcher s actor number digest q) q.pending r.pending
+
+-- What a captain's signature makes of a phase: a draft becomes ready, and after a stop the flight is released again. In any
+-- other phase the release stays.
+abbrev pub IsReleased : Phase → Phase → Type 0
+IsReleased Drafted phase = phase ≡ Ready
+IsReleased Ready phase = phase ≡ Ready
+IsReleased (Flying leg) phase = phase ≡ Flying leg
+IsReleased (Stopped next since again) phase = phase ≡ Stopped next since true
+IsReleased (Completed at) phase = phase ≡ Completed at
+IsReleased (Cancelled at) phase = phase ≡ Cancelled at
+
+-- a release whose pending revision becomes the active one by the signature of its captain
+pub record IsConcurring (s : State) (actor : List ℕ) (number : ℕ) (digest : List ℕ) (q r : Release) : Type 0 where
+  pub same : IsSameRelease q r
+  pub phase : IsReleased q.phase r.phase
+  pub active : BothAre (GainsCaptain s actor number digest q) q.pending r.active
   pub pending : r.pending ≡ None
 
--- a release that its holder cancels, which wasn't cancelled, and its pending revision goes
+-- neither completed nor cancelled
+abbrev pub HasNotEnded : Phase → Type 0
+HasNotEnded phase = (at : ℕ) → (phase ≢ Completed at) × (phase ≢ Cancelled at)
+
+-- a release that its holder cancels, which hasn't ended, and its pending revision goes
 pub record IsCancelling (s : State) (actor : List ℕ) (q r : Release) : Type 0 where
   pub own : q.holder ≡ actor
-  pub once : (at : ℕ) → q.phase ≢ Cancelled at
-  pub id : r.id ≡ q.id
-  pub holder : r.holder ≡ q.holder
+  pub once : HasNotEnded q.phase
+  pub same : IsSameRelease q r
   pub phase : r.phase ≡ Cancelled s.moment
   pub active : r.active ≡ q.active
   pub pending : r.pending ≡ None
 
--- a first revision of a plan, which nobody has signed
-abbrev pub IsFirst : Plan → Option Revision → Type 0
-IsFirst plan None = ⊥
-IsFirst plan (Some v) = (v.number ≡ 1) × (v.plan ≡ plan) × (v.dispatcher ≡ None) × (v.captain ≡ None)
+-- a revision of a plan under a number, which has no weather, and which nobody has signed
+abbrev pub IsFresh : ℕ → Plan → Option Revision → Type 0
+IsFresh number plan None = ⊥
+IsFresh number plan (Some v) = (v.number ≡ number) × (v.plan ≡ plan) × (v.prepared ≡ false) × (v.attached ≡ []) × (v.dispatcher ≡ None) × (v.captain ≡ None)
 
 -- a new release of a plan that passes its tests, held by a dispatcher
 pub record IsDrafted (s : State) (actor : List ℕ) (plan : Plan) (r : Release) : Type 0 where
@@ -112,8 +159,76 @@ pub record IsDrafted (s : State) (actor : List ℕ) (plan : Plan) (r : Release) 
   pub is_new : r.id ≡ s.counters.next_release
   pub holder : r.holder ≡ actor
   pub phase : r.phase ≡ Drafted
-  pub pending : IsFirst plan r.pending
+  pub pending : IsFresh 1 plan r.pending
   pub active : r.active ≡ None
+
+-- a plan that passes its tests, and may take the place of a revision's
+pub record MayAmend (s : State) (plan : Plan) (phase : Phase) (v : Revision) : Type 0 where
+  pub passes : plan_fault s.tables plan ≡ None
+  pub follows : change_fault plan v.plan phase ≡ None
+
+-- a plan that its holder files in the place of the newest one, in a revision of the next number
+abbrev pub IsAmended : State → Plan → Phase → Option Revision → Option Revision → ℕ → Type 0
+IsAmended s plan phase None pending number = ⊥
+IsAmended s plan phase (Some v) pending number = MayAmend s plan phase v × (number ≡ v.number + 1) × IsFresh number plan pending
+
+-- A release that its holder amends, which hasn't ended. What both have signed stays until a captain concurs again.
+pub record IsAmending (s : State) (actor : List ℕ) (plan : Plan) (number : ℕ) (q r : Release) : Type 0 where
+  pub own : q.holder ≡ actor
+  pub once : HasNotEnded q.phase
+  pub same : IsSameRelease q r
+  pub phase : r.phase ≡ q.phase
+  pub active : r.active ≡ q.active
+  pub pending : IsAmended s plan q.phase (newest q.pending q.active) r.pending number
+
+-- The leg departs next: the first one of a release that is ready, or the one before which the flight has stopped.
+abbrev pub IsNextLeg : Phase → ℕ → Type 0
+IsNextLeg Drafted leg = ⊥
+IsNextLeg Ready leg = leg ≡ 1
+IsNextLeg (Flying in_flight) leg = ⊥
+IsNextLeg (Stopped next since again) leg = leg ≡ next
+IsNextLeg (Completed at) leg = ⊥
+IsNextLeg (Cancelled at) leg = ⊥
+
+-- A release of which a leg departs, where the active plan fails no rule. What is pending goes.
+pub record IsDeparting (s : State) (actor : List ℕ) (leg : ℕ) (q r : Release) : Type 0 where
+  pub own : flies_by (actor_of s.tables actor) q ≡ actor
+  pub next : IsNextLeg q.phase leg
+  pub passes : failing_of (grounds_of s) q ≡ Some []
+  pub same : IsSameRelease q r
+  pub phase : r.phase ≡ Flying leg
+  pub active : r.active ≡ q.active
+  pub pending : r.pending ≡ None
+
+-- A release of which the leg in flight arrives. What is pending goes.
+pub record IsArriving (s : State) (actor : List ℕ) (leg : ℕ) (q r : Release) : Type 0 where
+  pub own : flies_by (actor_of s.tables actor) q ≡ actor
+  pub flying : q.phase ≡ Flying leg
+  pub same : IsSameRelease q r
+  pub active : r.active ≡ q.active
+  pub pending : r.pending ≡ None
+
+-- after the leg another one remains
+pub record IsStopping (s : State) (actor : List ℕ) (leg : ℕ) (q r : Release) : Type 0 where
+  pub arrives : IsArriving s actor leg q r
+  pub more : leg < leg_count q.active
+  pub phase : r.phase ≡ Stopped (leg + 1) s.moment false
+
+-- it was the last leg
+pub record IsCompleting (s : State) (actor : List ℕ) (leg : ℕ) (q r : Release) : Type 0 where
+  pub arrives : IsArriving s actor leg q r
+  pub last : leg_count q.active ≤ leg
+  pub phase : r.phase ≡ Completed s.moment
+
+-- an alert in that version
+abbrev pub IsInVersion : ℕ → Option Alert → Type 0
+IsInVersion version None = ⊥
+IsInVersion version (Some a) = a.version ≡ version
+
+-- a release whose holder has seen its alert in that version
+pub record IsAcknowledging (s : State) (actor : List ℕ) (version : ℕ) (q : Release) : Type 0 where
+  pub own : q.holder ≡ actor
+  pub seen : IsInVersion version (alert_at q.id s.alerts)
 
 -- a new report of an airport, received now: the canonical form of a text, and what is read of the text
 pub record IsReceived (s : State) (text : List ℕ) (report : Report) : Type 0 where
@@ -145,15 +260,28 @@ OfHeld R None r = ⊥
 OfHeld R (Some q) r = R q r
 
 -- What an ask of a person may change, and nothing else, and what is answered then: no other ask changes anything. No ask
--- changes a holder, and only a concurrence makes an active revision; only a concurrence and a cancellation take an alert away.
+-- changes a holder, and only a concurrence makes an active revision. Only a concurrence, a cancellation and the arrival of
+-- the last leg take an alert away: neither an amendment nor that it is acknowledged does.
 pub data IsEffectOf (s : State) (actor : List ℕ) : Ask → Effect → DoneType → Type 0 where
-  admits : {text : List ℕ} {report : Report} → IsReceived s text report → IsEffectOf s actor (ask.Admit text) (Admit report) (done.Report report.id)
-  defers : {tail item : List ℕ} {found : ℕ} {d : Deferral} → IsDeferred s tail item found d → IsEffectOf s actor (ask.Defer tail item found) (Defer d) (done.Deferral d.id)
-  clears : {id : ℕ} → list_any (has_id id) s.deferrals ≡ true → IsEffectOf s actor (ask.Clear id) (Clear id) (done.Deferral id)
-  drafts : {plan : Plan} {r : Release} → IsDrafted s actor plan r → IsEffectOf s actor (ask.Draft plan) (File r) (done.Filed r.id 1)
-  signs : {id number : ℕ} {r : Release} → OfHeld (IsSigning s actor number) (release_at id s.releases) r → IsEffectOf s actor (ask.Sign id number) (Put r) (done.Filed r.id number)
-  concurs : {id number : ℕ} {r : Release} → OfHeld (IsConcurring s actor number) (release_at id s.releases) r → IsEffectOf s actor (ask.Concur id number) (PutAfresh r) (done.Filed r.id number)
-  cancels : {id : ℕ} {r : Release} → OfHeld (IsCancelling s actor) (release_at id s.releases) r → IsEffectOf s actor (ask.Cancel id) (PutAfresh r) (done.Release r.id)
+  admits : {text : List ℕ} {report : Report} → IsReceived s text report → IsEffectOf s actor (ask.Admit text) (effect.admit report) (done.Report report.id)
+  defers : {tail item : List ℕ} {found : ℕ} {d : Deferral} → IsDeferred s tail item found d → IsEffectOf s actor (ask.Defer tail item found) (effect.defer d) (done.Deferral d.id)
+  clears : {id : ℕ} → list_any (has_id id) s.deferrals ≡ true → IsEffectOf s actor (ask.Clear id) (effect.clear id) (done.Deferral id)
+  drafts : {plan : Plan} {r : Release} → IsDrafted s actor plan r → IsEffectOf s actor (ask.Draft plan) (effect.file r) (done.Filed r.id 1)
+  prepares : {id : ℕ} {r : Release} {w : Revision} → OfHeld (IsPreparing s actor) (release_at id s.releases) r → r.pending ≡ Some w
+      → IsEffectOf s actor (ask.Prepare id) (effect.put r) (done.Prepared r.id w.number (revision_digest w))
+  signs : {id number : ℕ} {digest : List ℕ} {r : Release} → OfHeld (IsSigning s actor number digest) (release_at id s.releases) r
+      → IsEffectOf s actor (ask.Sign id number digest) (effect.put r) (done.Filed r.id number)
+  concurs : {id number : ℕ} {digest : List ℕ} {r : Release} → OfHeld (IsConcurring s actor number digest) (release_at id s.releases) r
+      → IsEffectOf s actor (ask.Concur id number digest) (effect.put_afresh r) (done.Filed r.id number)
+  amends : {id number : ℕ} {plan : Plan} {r : Release} → OfHeld (IsAmending s actor plan number) (release_at id s.releases) r
+      → IsEffectOf s actor (ask.Amend id plan) (effect.put r) (done.Filed r.id number)
+  cancels : {id : ℕ} {r : Release} → OfHeld (IsCancelling s actor) (release_at id s.releases) r → IsEffectOf s actor (ask.Cancel id) (effect.put_afresh r) (done.Release r.id)
+  departs : {id leg : ℕ} {r : Release} → OfHeld (IsDeparting s actor leg) (release_at id s.releases) r → IsEffectOf s actor (ask.Depart id leg) (effect.put r) (done.Release r.id)
+  stops : {id leg : ℕ} {r : Release} → OfHeld (IsStopping s actor leg) (release_at id s.releases) r → IsEffectOf s actor (ask.Arrive id leg) (effect.put r) (done.Release r.id)
+  completes : {id leg : ℕ} {r : Release} → OfHeld (IsCompleting s actor leg) (release_at id s.releases) r
+      → IsEffectOf s actor (ask.Arrive id leg) (effect.put_afresh r) (done.Release r.id)
+  acknowledges : {id version : ℕ} {q : Release} → release_at id s.releases ≡ Some q → IsAcknowledging s actor version q
+      → IsEffectOf s actor (ask.Acknowledge id version) (effect.acknowledge q.id) (done.Release q.id)
 
 -- what may be answered where nothing changes: a refusal, a view, or the id of a report that is held
 abbrev pub IsAnswer : State → Reply → Type 0
@@ -162,6 +290,7 @@ IsAnswer s (Seen text) = Unit {0}
 IsAnswer s (Done (done.Report id)) = list_any (λ r. r.id == id) s.reports ≡ true
 IsAnswer s (Done (done.Deferral id)) = ⊥
 IsAnswer s (Done (done.Filed release revision)) = ⊥
+IsAnswer s (Done (done.Prepared release revision digest)) = ⊥
 IsAnswer s (Done (done.Release id)) = ⊥
 
 abbrev pub Stays : State → Option Reply → Type 0
@@ -189,34 +318,14 @@ pub record IsEntryOf (lane : ℕ) (call : Call) (told : Reply) (e : Entry) : Typ
   pub its_lane : e.lane ≡ lane
   pub its_call : IsAsked call told e.what
 
--- What an event leaves of each part: of moment, reports, deferrals and releases only the one changes that its effect names.
-
-abbrev pub moment_after : Effect → ℕ → ℕ
-moment_after (Tick to) moment = to
-moment_after _ moment = moment
-
-abbrev pub reports_after : Effect → List Report → List Report
-reports_after (Admit report) held = held ++ report ∷ []
-reports_after _ held = held
-
-abbrev pub deferrals_after : Effect → List Deferral → List Deferral
-deferrals_after (Defer d) held = held ++ d ∷ []
-deferrals_after (Clear id) held = without id held
-deferrals_after _ held = held
-
-abbrev pub releases_after : Effect → List Release → List Release
-releases_after (File r) held = held ++ r ∷ []
-releases_after (Put r) held = put r held
-releases_after (PutAfresh r) held = put r held
-releases_after _ held = held
-
+-- what an event leaves of each part: only that changes which its effect names
 pub record IsAfter (effect : Effect) (e : Entry) (s t : State) : Type 0 where
   pub judged : t ≡ entered e (effected effect s)
   pub tables : t.tables ≡ s.tables
-  pub moment : t.moment ≡ moment_after effect s.moment
-  pub reports : t.reports ≡ reports_after effect s.reports
-  pub deferrals : t.deferrals ≡ deferrals_after effect s.deferrals
-  pub releases : t.releases ≡ releases_after effect s.releases
+  pub moment : t.moment ≡ moment_after effect.moment s.moment
+  pub reports : t.reports ≡ reports_after effect.report s.reports
+  pub deferrals : t.deferrals ≡ deferrals_after effect.on_deferrals s.deferrals
+  pub releases : t.releases ≡ releases_after effect.on_releases s.releases
   pub entries : t.entries ≡ s.entries ++ e ∷ []
   pub events : t.counters.events ≡ s.counters.events + 1
 
@@ -232,11 +341,11 @@ pub record IsPermitted (s : State) (call : Call) : Type 0 where
 abbrev pub MayLeadTo : ℕ → Call → State → State → Option Reply → Type 0
 MayLeadTo lane call s t reply =
     ((t ≡ s) × Stays s reply)
-    ⊎ (IsPermitted s call × (effect : Effect) × (made : DoneType) × IsEffectOf s call.actor call.ask effect made × (reply ≡ Some (Done made))
-    × (e : Entry) × IsEntryOf lane call (Done made) e × IsAfter effect e s t)
+    ⊎ (IsPermitted s call × (does : Effect) × (made : DoneType) × IsEffectOf s call.actor call.ask does made × (reply ≡ Some (Done made))
+    × (e : Entry) × IsEntryOf lane call (Done made) e × IsAfter does e s t)
 
 -- A tick is refused and nothing changes; or the moment rises, every active release is then judged, and the tick entered.
 abbrev pub MayTickTo : ℕ → ℕ → State → State → Option Reply → Type 0
 MayTickTo lane to s t reply =
     ((t ≡ s) × Stays s reply)
-    ⊎ ((reply ≡ None) × (e : Entry) × (e.lane ≡ lane) × (e.what ≡ what.Tick to) × IsAfter (Tick to) e s t)
+    ⊎ ((reply ≡ None) × (e : Entry) × (e.lane ≡ lane) × (e.what ≡ what.Tick to) × IsAfter (effect.tick to) e s t)

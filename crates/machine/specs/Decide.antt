@@ -1,5 +1,5 @@
 -- What a call comes to in a state, ask by ask: a line of tests in their order, and the decision after them.
-use Rattle.std.specs.Prelude.{ℕ, ◌==◌, nat_le, nat_lt, not, is_none, List, [], ◌∷◌, length, Option, None, Some, Result, Ok, Err}
+use Rattle.std.specs.Prelude.{ℕ, ◌+◌, ◌==◌, nat_le, nat_lt, Bool, true, false, not, if◌then◌else◌, is_none, List, [], ◌∷◌, length, Option, None, Some, Result, Ok, Err}
 use Rattle.std.specs.Str.{bytes_eq}
 use Rattle.std.specs.List.{list_any}
 use Rattle.codes.specs.Groups.{groups_of, canonical}
@@ -8,18 +8,22 @@ use Rattle.codes.specs.declared.fault.BadReport.{BadReport}
 use Rattle.codes.specs.declared.fault.Why.{Why}
 use Rattle.codes.specs.declared.fault.Why.TheVariants as why
 use Rattle.ops_tables.specs.Tables.{has_airport, type_of, item_of, actor_of}
+use Rattle.ops_tables.specs.declared.rows.Actor.{Actor}
 use Rattle.ops_tables.specs.declared.rows.TypeRow.{TypeRow}
+use Rattle.alerts.specs.declared.alert.Alert.{Alert}
 use Rattle.deferrals.specs.Held.{has_id}
 use Rattle.deferrals.specs.Limits.{open_on}
 use Rattle.facts.specs.Same.{same_id, minute_of_read, station_of_read}
 use Rattle.facts.specs.Reading.{read_of}
 use Rattle.facts.specs.declared.report.Read.{Read}
-use Rattle.plan.specs.Check.{plan_fault}
+use Rattle.facts.specs.Lines.{weather_at}
+use Rattle.plan.specs.Change.{change_fault}
+use Rattle.plan.specs.Check.{is_captain_role, plan_fault}
 use Rattle.plan.specs.declared.check.BadPlan.{BadPlan}
 use Rattle.plan.specs.declared.flights.Plan.{Plan}
 use Rattle.plan.specs.declared.findings.Finding.{Finding}
 use Rattle.plan.specs.declared.release.Phase.{Phase}
-use Rattle.plan.specs.declared.release.Phase.TheVariants.{Drafted, Ready, Cancelled}
+use Rattle.plan.specs.declared.release.Phase.TheVariants.{Drafted, Ready, Flying, Stopped, Completed, Cancelled}
 use Rattle.plan.specs.declared.release.Release.{Release}
 use Rattle.plan.specs.declared.release.Revision.{Revision}
 use Rattle.plan.specs.declared.release.Signature.{Signature}
@@ -30,14 +34,16 @@ use Rattle.asks.specs.declared.reply.Done.TheVariants as done
 use Rattle.asks.specs.declared.reply.Refusal.{Refusal}
 use Rattle.asks.specs.declared.reply.Refusal.TheVariants as refusal
 use Rattle.asks.specs.declared.reply.Reply.TheVariants.{Done, Seen}
+use Rattle.release_text.specs.Revisions.{revision_digest}
+use Rattle.release_text.specs.Weather.{attached_to, newer_than}
 use Rattle.rules.specs.Judgement.{findings_of}
 use Rattle.machine.specs.declared.effect.Decision.{Decision}
 use Rattle.machine.specs.declared.effect.Decision.TheVariants.{Show, Do}
-use Rattle.machine.specs.declared.effect.Effect.TheVariants.{Admit, Defer, Clear, File, Put, PutAfresh}
-use Rattle.machine.specs.State.{State, grounds_of, release_at}
+use Rattle.machine.specs.Effects as effect
+use Rattle.machine.specs.State.{State, grounds_of, failing_of, release_at, alert_at}
 use Rattle.machine.specs.Chain.{◌>>-◌, unless, some_or, refused_if}
 use Rattle.machine.specs.People.{not_his_role}
-use Rattle.machine.specs.Texts.{alerts_view, deferral_lines}
+use Rattle.machine.specs.Texts.{alerts_view, board_view, deferral_lines, newest, release_view}
 
 -- The tests.
 
@@ -101,6 +107,10 @@ bad_plan (Some bad) = Some (refusal.BadPlan bad.leg bad.why)
 abbrev pub pending : Release → Result Revision Refusal
 pending r = some_or (refusal.NotPending 0) r.pending
 
+-- the pending revision isn't prepared (13, stage 1)
+abbrev pub unprepared : Revision → Option Refusal
+unprepared v = refused_if (not v.prepared) (refusal.NotPending 1)
+
 -- the dispatcher hasn't signed (13, stage 2)
 abbrev pub unsigned : Option Signature → Option Refusal
 unsigned None = Some (refusal.NotPending 2)
@@ -110,41 +120,120 @@ unsigned (Some signature) = None
 abbrev pub misnumbered : Revision → ℕ → Option Refusal
 misnumbered v number = refused_if (not (v.number == number)) (refusal.WrongRevision v.number)
 
+-- the text of the pending revision has another digest (15)
+abbrev pub mistaken_text : Revision → List ℕ → Option Refusal
+mistaken_text v digest = refused_if (not (bytes_eq (revision_digest v) digest)) (refusal.WrongText (revision_digest v))
+
+abbrev pub newer_weather : Option ℕ → Option Refusal
+newer_weather None = None
+newer_weather (Some report) = Some (refusal.WeatherNewer report)
+
+-- a report is newer than what is attached to the pending revision (16)
+abbrev pub outdated : State → Release → Revision → Option Refusal
+outdated s r v = newer_weather (newer_than s.reports v.plan r.phase v.attached)
+
 -- rules fail (17)
 abbrev pub failing : List Finding → Option Refusal
 failing [] = None
 failing (f ∷ fs) = Some (refusal.RuleFails (f ∷ fs))
 
--- A draft becomes ready by the captain's signature. Both signatures are judged as if it were.
+-- What a phase becomes by the captain's signature: a draft is ready, and after a stop the flight is released again. Both
+-- signatures are judged as if it were so.
 abbrev pub once_signed : Phase → Phase
 once_signed Drafted = Ready
 once_signed Ready = Ready
+once_signed (Flying leg) = Flying leg
+once_signed (Stopped next since again) = Stopped next since true
+once_signed (Completed at) = Completed at
 once_signed (Cancelled at) = Cancelled at
 
 abbrev pub fails : State → Release → Revision → Option Refusal
 fails s r v = failing (findings_of v.plan (once_signed r.phase) (grounds_of s))
 
--- the release was cancelled (18)
-abbrev pub ended : Phase → Option Refusal
-ended Drafted = None
-ended Ready = None
-ended (Cancelled at) = Some (refusal.WrongPhase (Cancelled at))
+abbrev pub failing_any : Option (List Finding) → Option Refusal
+failing_any None = None
+failing_any (Some findings) = failing findings
+
+-- the active revision fails rules as it stands
+abbrev pub fails_now : State → Release → Option Refusal
+fails_now s r = failing_any (failing_of (grounds_of s) r)
+
+-- What each phase allows. A release is amended and cancelled until it has ended.
+abbrev pub may_change : Phase → Bool
+may_change Drafted = true
+may_change Ready = true
+may_change (Flying leg) = true
+may_change (Stopped next since again) = true
+may_change (Completed at) = false
+may_change (Cancelled at) = false
+
+-- the first leg departs once both have signed, each other one after the leg before it
+abbrev pub may_depart : Phase → ℕ → Bool
+may_depart Drafted leg = false
+may_depart Ready leg = leg == 1
+may_depart (Flying in_flight) leg = false
+may_depart (Stopped next since again) leg = leg == next
+may_depart (Completed at) leg = false
+may_depart (Cancelled at) leg = false
+
+-- the leg in flight arrives
+abbrev pub may_arrive : Phase → ℕ → Bool
+may_arrive Drafted leg = false
+may_arrive Ready leg = false
+may_arrive (Flying in_flight) leg = leg == in_flight
+may_arrive (Stopped next since again) leg = false
+may_arrive (Completed at) leg = false
+may_arrive (Cancelled at) leg = false
+
+-- the phase doesn't allow it (18)
+abbrev pub out_of_phase : Bool → Phase → Option Refusal
+out_of_phase allowed phase = refused_if (not allowed) (refusal.WrongPhase phase)
 
 -- the dispatcher has signed (19)
 abbrev pub signed : Option Signature → Option Refusal
 signed None = None
 signed (Some signature) = Some refusal.AlreadySigned
 
+-- the release has no alert (20)
+abbrev pub alert_of : State → ℕ → Result Alert Refusal
+alert_of s id = some_or refusal.NoSuchAlert (alert_at id s.alerts)
+
+-- the alert has another version (21)
+abbrev pub moved : Alert → ℕ → Option Refusal
+moved a version = refused_if (not (a.version == version)) (refusal.AlertMoved a.version)
+
+-- the plan may not take the place of the newest revision's (12)
+abbrev pub bad_change : Plan → Option Revision → Phase → Option Refusal
+bad_change plan None phase = None
+bad_change plan (Some v) phase = bad_plan (change_fault plan v.plan phase)
+
+abbrev pub captain_or : Option Revision → List ℕ → List ℕ
+captain_or None holder = holder
+captain_or (Some v) holder = v.plan.captain
+
+-- Who flies by a release: the captain of the active plan where a captain asks, else the dispatcher who holds it.
+abbrev pub flies_by : Option Actor → Release → List ℕ
+flies_by None r = r.holder
+flies_by (Some person) r = if is_captain_role person.role then captain_or r.active r.holder else r.holder
+
 -- What releases become.
 
-abbrev pub first_revision : Plan → Revision
-first_revision plan = record { number = 1; plan = plan; dispatcher = None; captain = None }
+-- a revision of a plan, which isn't prepared yet
+abbrev pub fresh_revision : ℕ → Plan → Revision
+fresh_revision number plan = record { number = number; plan = plan; prepared = false; attached = []; dispatcher = None; captain = None }
 
 abbrev pub drafted : ℕ → List ℕ → Plan → Release
-drafted id actor plan = record { id = id; holder = actor; phase = Drafted; pending = Some (first_revision plan); active = None }
+drafted id actor plan = record { id = id; holder = actor; phase = Drafted; pending = Some (fresh_revision 1 plan); active = None }
 
-abbrev pub signed_by : List ℕ → ℕ → Signature
-signed_by actor moment = record { actor = actor; at = moment }
+-- a revision with the latest weather, which nobody has signed yet
+abbrev pub with_weather : State → Phase → Revision → Revision
+with_weather s phase v = record v { prepared = true; attached = attached_to s.reports v.plan phase; dispatcher = None; captain = None }
+
+abbrev pub prepared : State → Release → Revision → Release
+prepared s r v = record r { pending = Some (with_weather s r.phase v) }
+
+abbrev pub signed_by : List ℕ → ℕ → List ℕ → Signature
+signed_by actor moment digest = record { actor = actor; at = moment; digest = digest }
 
 abbrev pub with_dispatcher : Release → Revision → Signature → Release
 with_dispatcher r v signature = record r { pending = Some (record v { dispatcher = Some signature }) }
@@ -153,8 +242,34 @@ with_dispatcher r v signature = record r { pending = Some (record v { dispatcher
 abbrev pub made_active : Release → Revision → Signature → Release
 made_active r v signature = record r { phase = once_signed r.phase; pending = None; active = Some (record v { captain = Some signature }) }
 
+abbrev pub newest_number : Option Revision → ℕ
+newest_number None = 0
+newest_number (Some v) = v.number
+
+-- a plan is pending, in a revision of the next number
+abbrev pub amended : Release → Plan → Release
+amended r plan = record r { pending = Some (fresh_revision (newest_number (newest r.pending r.active) + 1) plan) }
+
 abbrev pub cancelled : Release → ℕ → Release
 cancelled r moment = record r { phase = Cancelled moment; pending = None }
+
+abbrev pub departed : Release → ℕ → Release
+departed r leg = record r { phase = Flying leg; pending = None }
+
+-- how many legs are flown by a revision
+abbrev pub leg_count : Option Revision → ℕ
+leg_count None = 0
+leg_count (Some v) = length v.plan.legs
+
+-- after this leg another one remains
+abbrev pub has_more : Release → ℕ → Bool
+has_more r leg = nat_lt leg (leg_count r.active)
+
+abbrev pub stopped : Release → ℕ → ℕ → Release
+stopped r leg moment = record r { phase = Stopped (leg + 1) moment false; pending = None }
+
+abbrev pub completed : Release → ℕ → Release
+completed r moment = record r { phase = Completed moment; pending = None }
 
 -- The asks.
 
@@ -162,7 +277,7 @@ cancelled r moment = record r { phase = Cancelled moment; pending = None }
 abbrev pub admit_new : State → List ℕ → Read → Result Decision Refusal
 admit_new s text read =
     unless (reports_full s)
-    (Ok (Do (Done (done.Report s.counters.next_report)) (Admit (record { id = s.counters.next_report; received = s.moment; text = text; read = read }))))
+    (Ok (Do (Done (done.Report s.counters.next_report)) (effect.admit (record { id = s.counters.next_report; received = s.moment; text = text; read = read }))))
 
 -- a report that is held keeps its id
 abbrev pub admit_read : Option ℕ → State → List ℕ → Read → Result Decision Refusal
@@ -178,10 +293,10 @@ abbrev pub decide_defer : State → List ℕ → List ℕ → ℕ → Result Dec
 decide_defer s tail item found =
     aircraft s tail >>- λ kind.
     unless (unlisted s kind item) (unless (found_later s found) (unless (deferrals_full s)
-    (Ok (Do (Done (done.Deferral s.counters.next_deferral)) (Defer (record { id = s.counters.next_deferral; tail = tail; item = item; found = found }))))))
+    (Ok (Do (Done (done.Deferral s.counters.next_deferral)) (effect.defer (record { id = s.counters.next_deferral; tail = tail; item = item; found = found }))))))
 
 abbrev pub decide_clear : State → ℕ → Result Decision Refusal
-decide_clear s id = unless (not_open s id) (Ok (Do (Done (done.Deferral id)) (Clear id)))
+decide_clear s id = unless (not_open s id) (Ok (Do (Done (done.Deferral id)) (effect.clear id)))
 
 -- the open deferrals of an aircraft
 abbrev pub decide_deferred : State → List ℕ → Result Decision Refusal
@@ -190,33 +305,83 @@ decide_deferred s tail = aircraft s tail >>- λ kind. Ok (Show (Seen (deferral_l
 abbrev pub decide_draft : State → List ℕ → Plan → Result Decision Refusal
 decide_draft s actor plan =
     unless (bad_plan (plan_fault s.tables plan))
-    (Ok (Do (Done (done.Filed s.counters.next_release 1)) (File (drafted s.counters.next_release actor plan))))
+    (Ok (Do (Done (done.Filed s.counters.next_release 1)) (effect.file (drafted s.counters.next_release actor plan))))
 
-abbrev pub decide_sign : State → List ℕ → ℕ → ℕ → Result Decision Refusal
-decide_sign s actor id number =
-    held s id >>- λ r. pending r >>- λ v.
-    unless (not_yours r.holder actor) (unless (misnumbered v number) (unless (signed v.dispatcher) (unless (fails s r v)
-    (Ok (Do (Done (done.Filed r.id v.number)) (Put (with_dispatcher r v (signed_by actor s.moment))))))))
+abbrev pub decide_prepare : State → List ℕ → ℕ → Result Decision Refusal
+decide_prepare s actor id =
+    held s id >>- λ r. pending r >>- λ v. unless (not_yours r.holder actor)
+    (Ok (Do (Done (done.Prepared r.id v.number (revision_digest (with_weather s r.phase v)))) (effect.put (prepared s r v))))
 
-abbrev pub decide_concur : State → List ℕ → ℕ → ℕ → Result Decision Refusal
-decide_concur s actor id number =
+abbrev pub decide_sign : State → List ℕ → ℕ → ℕ → List ℕ → Result Decision Refusal
+decide_sign s actor id number digest =
     held s id >>- λ r. pending r >>- λ v.
-    unless (unsigned v.dispatcher) (unless (not_yours v.plan.captain actor) (unless (misnumbered v number) (unless (fails s r v)
-    (Ok (Do (Done (done.Filed r.id v.number)) (PutAfresh (made_active r v (signed_by actor s.moment))))))))
+    unless (unprepared v) (unless (not_yours r.holder actor) (unless (misnumbered v number) (unless (mistaken_text v digest)
+    (unless (signed v.dispatcher) (unless (outdated s r v) (unless (fails s r v)
+    (Ok (Do (Done (done.Filed r.id v.number)) (effect.put (with_dispatcher r v (signed_by actor s.moment digest)))))))))))
+
+abbrev pub decide_concur : State → List ℕ → ℕ → ℕ → List ℕ → Result Decision Refusal
+decide_concur s actor id number digest =
+    held s id >>- λ r. pending r >>- λ v.
+    unless (unprepared v) (unless (unsigned v.dispatcher) (unless (not_yours v.plan.captain actor) (unless (misnumbered v number)
+    (unless (mistaken_text v digest) (unless (outdated s r v) (unless (fails s r v)
+    (Ok (Do (Done (done.Filed r.id v.number)) (effect.put_afresh (made_active r v (signed_by actor s.moment digest)))))))))))
+
+abbrev pub decide_amend : State → List ℕ → ℕ → Plan → Result Decision Refusal
+decide_amend s actor id plan =
+    held s id >>- λ r. unless (out_of_phase (may_change r.phase) r.phase) (unless (not_yours r.holder actor)
+    (unless (bad_plan (plan_fault s.tables plan)) (unless (bad_change plan (newest r.pending r.active) r.phase)
+    (Ok (Do (Done (done.Filed r.id (newest_number (newest r.pending r.active) + 1))) (effect.put (amended r plan)))))))
 
 abbrev pub decide_cancel : State → List ℕ → ℕ → Result Decision Refusal
 decide_cancel s actor id =
-    held s id >>- λ r. unless (ended r.phase) (unless (not_yours r.holder actor) (Ok (Do (Done (done.Release r.id)) (PutAfresh (cancelled r s.moment)))))
+    held s id >>- λ r. unless (out_of_phase (may_change r.phase) r.phase) (unless (not_yours r.holder actor)
+    (Ok (Do (Done (done.Release r.id)) (effect.put_afresh (cancelled r s.moment)))))
+
+abbrev pub decide_depart : State → List ℕ → ℕ → ℕ → Result Decision Refusal
+decide_depart s actor id leg =
+    held s id >>- λ r. unless (out_of_phase (may_depart r.phase leg) r.phase) (unless (not_yours (flies_by (actor_of s.tables actor) r) actor)
+    (unless (fails_now s r) (Ok (Do (Done (done.Release r.id)) (effect.put (departed r leg))))))
+
+-- after the last leg the release is completed and its alert goes
+abbrev pub arrival : Bool → Release → ℕ → ℕ → Decision
+arrival true r leg moment = Do (Done (done.Release r.id)) (effect.put (stopped r leg moment))
+arrival false r leg moment = Do (Done (done.Release r.id)) (effect.put_afresh (completed r moment))
+
+abbrev pub decide_arrive : State → List ℕ → ℕ → ℕ → Result Decision Refusal
+decide_arrive s actor id leg =
+    held s id >>- λ r. unless (out_of_phase (may_arrive r.phase leg) r.phase) (unless (not_yours (flies_by (actor_of s.tables actor) r) actor)
+    (Ok (arrival (has_more r leg) r leg s.moment)))
+
+abbrev pub decide_acknowledge : State → List ℕ → ℕ → ℕ → Result Decision Refusal
+decide_acknowledge s actor id version =
+    held s id >>- λ r. alert_of s r.id >>- λ a. unless (not_yours r.holder actor) (unless (moved a version)
+    (Ok (Do (Done (done.Release r.id)) (effect.acknowledge r.id))))
+
+-- the release and its texts
+abbrev pub decide_release : State → ℕ → Result Decision Refusal
+decide_release s id = held s id >>- λ r. Ok (Show (Seen (release_view r)))
+
+-- the latest weather of an airport
+abbrev pub decide_weather : State → Station → Result Decision Refusal
+decide_weather s station = unless (no_airport s station) (Ok (Show (Seen (weather_at s.reports station))))
 
 abbrev pub decide_ask : State → List ℕ → Ask → Result Decision Refusal
 decide_ask s actor (ask.Admit text) = decide_admit s text
 decide_ask s actor (ask.Defer tail item found) = decide_defer s tail item found
 decide_ask s actor (ask.Clear deferral) = decide_clear s deferral
 decide_ask s actor (ask.Draft plan) = decide_draft s actor plan
-decide_ask s actor (ask.Sign release revision) = decide_sign s actor release revision
-decide_ask s actor (ask.Concur release revision) = decide_concur s actor release revision
+decide_ask s actor (ask.Prepare release) = decide_prepare s actor release
+decide_ask s actor (ask.Sign release revision digest) = decide_sign s actor release revision digest
+decide_ask s actor (ask.Concur release revision digest) = decide_concur s actor release revision digest
+decide_ask s actor (ask.Amend release plan) = decide_amend s actor release plan
 decide_ask s actor (ask.Cancel release) = decide_cancel s actor release
+decide_ask s actor (ask.Depart release leg) = decide_depart s actor release leg
+decide_ask s actor (ask.Arrive release leg) = decide_arrive s actor release leg
+decide_ask s actor (ask.Acknowledge release version) = decide_acknowledge s actor release version
+decide_ask s actor ask.ViewBoard = Ok (Show (Seen (board_view s)))
 decide_ask s actor ask.ViewAlerts = Ok (Show (Seen (alerts_view s.moment s.alerts)))
+decide_ask s actor (ask.ViewRelease release) = decide_release s release
+decide_ask s actor (ask.ViewWeather station) = decide_weather s station
 decide_ask s actor (ask.ViewDeferred tail) = decide_deferred s tail
 
 -- what a call of a person who is known comes to

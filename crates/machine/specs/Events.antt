@@ -1,52 +1,121 @@
 -- What an event changes.
-use Rattle.std.specs.Prelude.{ℕ, ◌+◌, ◌==◌, not, nat_lt, if◌then◌else◌, List, [], ◌∷◌, ◌++◌, filter, Option, None, Some}
+use Rattle.std.specs.Prelude.{ℕ, ◌+◌, ◌==◌, not, nat_lt, Bool, true, false, ◌&&◌, if◌then◌else◌, List, [], ◌∷◌, ◌++◌, map, filter, Option, None, Some}
 use Rattle.std.specs.List.{filter_map, cons_option}
+use Rattle.facts.specs.declared.report.Report.{Report}
 use Rattle.plan.specs.declared.release.Release.{Release}
 use Rattle.alerts.specs.declared.alert.Alert.{Alert}
 use Rattle.alerts.specs.declared.notices.Notice.{Notice}
 use Rattle.alerts.specs.Notices.{notice_of}
+use Rattle.deferrals.specs.declared.items.Deferral.{Deferral}
 use Rattle.deferrals.specs.Held.{without}
 use Rattle.machine.specs.declared.change.AlertChange.{AlertChange}
+use Rattle.machine.specs.declared.counters.Counters.{Counters}
 use Rattle.machine.specs.declared.effect.Effect.{Effect}
-use Rattle.machine.specs.declared.effect.Effect.TheVariants.{Tick, Admit, Defer, Clear, File, Put, PutAfresh}
+use Rattle.machine.specs.declared.effect.OnDeferrals.{OnDeferrals}
+use Rattle.machine.specs.declared.effect.OnDeferrals.TheVariants as deferrals
+use Rattle.machine.specs.declared.effect.OnReleases.{OnReleases}
+use Rattle.machine.specs.declared.effect.OnReleases.TheVariants as releases
+use Rattle.machine.specs.declared.effect.OnAlerts.{OnAlerts}
+use Rattle.machine.specs.declared.effect.OnAlerts.TheVariants as alerts
 use Rattle.machine.specs.State.{State, alert_at, judged}
+
+-- Each part once an effect is there.
+
+abbrev pub moment_after : Option ℕ → ℕ → ℕ
+moment_after None moment = moment
+moment_after (Some to) moment = to
+
+abbrev pub reports_after : Option Report → List Report → List Report
+reports_after None reports = reports
+reports_after (Some report) reports = reports ++ report ∷ []
+
+abbrev pub deferrals_after : OnDeferrals → List Deferral → List Deferral
+deferrals_after deferrals.Nothing list = list
+deferrals_after (deferrals.Open d) list = list ++ d ∷ []
+deferrals_after (deferrals.Clear id) list = without id list
 
 -- a release in the place of the first of its id
 abbrev pub put : Release → List Release → List Release
 put r [] = []
 put r (q ∷ qs) = if q.id == r.id then r ∷ qs else q ∷ put r qs
 
+abbrev pub releases_after : OnReleases → List Release → List Release
+releases_after releases.Nothing list = list
+releases_after (releases.File r) list = list ++ r ∷ []
+releases_after (releases.Put r) list = put r list
+
 -- the alerts but for those of a release
 abbrev pub without_alert : ℕ → List Alert → List Alert
-without_alert id alerts = filter (λ a. not (a.release == id)) alerts
+without_alert id list = filter (λ a. not (a.release == id)) list
+
+-- an alert, acknowledged where it is that of a release
+abbrev pub acknowledged_if : ℕ → Alert → Alert
+acknowledged_if id a = if a.release == id then record a { acknowledged = true } else a
+
+abbrev pub alerts_after : OnAlerts → List Alert → List Alert
+alerts_after alerts.Nothing list = list
+alerts_after (alerts.Take id) list = without_alert id list
+alerts_after (alerts.Acknowledge id) list = map (acknowledged_if id) list
+
+-- The ids that come next.
+
+abbrev pub next_report : Option Report → ℕ → ℕ
+next_report None next = next
+next_report (Some report) next = report.id + 1
+
+abbrev pub next_deferral : OnDeferrals → ℕ → ℕ
+next_deferral deferrals.Nothing next = next
+next_deferral (deferrals.Open d) next = d.id + 1
+next_deferral (deferrals.Clear id) next = next
+
+abbrev pub next_release : OnReleases → ℕ → ℕ
+next_release releases.Nothing next = next
+next_release (releases.File r) next = r.id + 1
+next_release (releases.Put r) next = next
+
+abbrev pub counters_after : Effect → Counters → Counters
+counters_after e c = record c {
+  next_report = next_report e.report c.next_report;
+  next_deferral = next_deferral e.on_deferrals c.next_deferral;
+  next_release = next_release e.on_releases c.next_release;
+}
 
 -- the state once an effect is there, before any release is judged
 abbrev pub effected : Effect → State → State
-effected (Tick to) s = record s { moment = to }
-effected (Admit report) s = record s { counters = record s.counters { next_report = report.id + 1 }; reports = s.reports ++ report ∷ [] }
-effected (Defer d) s = record s { counters = record s.counters { next_deferral = d.id + 1 }; deferrals = s.deferrals ++ d ∷ [] }
-effected (Clear id) s = record s { deferrals = without id s.deferrals }
-effected (File r) s = record s { counters = record s.counters { next_release = r.id + 1 }; releases = s.releases ++ r ∷ [] }
-effected (Put r) s = record s { releases = put r s.releases }
-effected (PutAfresh r) s = record s { releases = put r s.releases; alerts = without_alert r.id s.alerts }
+effected e s = record s {
+  moment = moment_after e.moment s.moment;
+  counters = counters_after e s.counters;
+  reports = reports_after e.report s.reports;
+  deferrals = deferrals_after e.on_deferrals s.deferrals;
+  releases = releases_after e.on_releases s.releases;
+  alerts = alerts_after e.on_alerts s.alerts;
+}
+
+abbrev pub is_same_mark : Bool → Bool → Bool
+is_same_mark true mark = mark
+is_same_mark false mark = not mark
+
+-- the same version, acknowledged or not
+abbrev pub is_same_alert : Alert → Alert → Bool
+is_same_alert a b = (a.version == b.version) && is_same_mark a.acknowledged b.acknowledged
 
 abbrev change : ℕ → Option Alert → Option Alert → AlertChange
 change id before after = record { release = id; before = before; after = after }
 
--- what became of a release's alert: nothing where it has the same version
+-- what became of a release's alert: nothing where it has the same version and is acknowledged as before
 abbrev pub change_between : ℕ → Option Alert → Option Alert → List AlertChange
 change_between id None None = []
 change_between id None (Some b) = change id None (Some b) ∷ []
 change_between id (Some a) None = change id (Some a) None ∷ []
-change_between id (Some a) (Some b) = if a.version == b.version then [] else change id (Some a) (Some b) ∷ []
+change_between id (Some a) (Some b) = if is_same_alert a b then [] else change id (Some a) (Some b) ∷ []
 
 -- What became of a release's alert, from before an event: first by its effect, then by the judgement.
 abbrev pub changes_from : State → Option Alert → Release → List AlertChange
 changes_from t before r = change_between r.id before (alert_at r.id t.alerts) ++ change_between r.id (alert_at r.id t.alerts) (judged t r)
 
 abbrev pub changes_over : State → List Alert → List Release → List AlertChange
-changes_over t alerts [] = []
-changes_over t alerts (r ∷ rs) = changes_from t (alert_at r.id alerts) r ++ changes_over t alerts rs
+changes_over t held [] = []
+changes_over t held (r ∷ rs) = changes_from t (alert_at r.id held) r ++ changes_over t held rs
 
 -- the changes of the alerts by an effect and the judgement after it, in order of the releases
 abbrev pub alert_changes : Effect → State → List AlertChange
@@ -64,5 +133,5 @@ put_alert id alert (a ∷ rest) =
 
 -- the alerts after changes of them
 abbrev pub put_changes : List AlertChange → List Alert → List Alert
-put_changes [] alerts = alerts
-put_changes (c ∷ cs) alerts = put_changes cs (put_alert c.release c.after alerts)
+put_changes [] held = held
+put_changes (c ∷ cs) held = put_changes cs (put_alert c.release c.after held)

@@ -1,4 +1,5 @@
 pub mod State
+pub mod Effects
 pub mod Events
 pub mod Texts
 pub mod Chain

@@ -32,17 +32,26 @@ is_maintenance F = false
 is_maintenance M = true
 is_maintenance S = false
 
--- Reports come from a feed or a dispatcher, deferrals from maintenance; dispatchers draft, sign and cancel releases, and
--- captains concur (14 CFR 121.593, 121.595, 121.663). Everybody may see what the desk holds.
+-- Reports come from a feed or a dispatcher, deferrals from maintenance. Dispatchers draft, prepare, sign, amend and cancel
+-- releases and acknowledge alerts, captains concur, and either says that a leg has departed or arrived (14 CFR 121.593,
+-- 121.595, 121.663). Everybody may see what the desk holds.
 abbrev pub may_ask : Ask → Role → Bool
 may_ask (ask.Admit text) role = is_feed role || is_dispatcher role
 may_ask (ask.Defer tail item found) role = is_maintenance role
 may_ask (ask.Clear deferral) role = is_maintenance role
 may_ask (ask.Draft plan) role = is_dispatcher role
-may_ask (ask.Sign release revision) role = is_dispatcher role
-may_ask (ask.Concur release revision) role = is_captain_role role
+may_ask (ask.Prepare release) role = is_dispatcher role
+may_ask (ask.Sign release revision digest) role = is_dispatcher role
+may_ask (ask.Concur release revision digest) role = is_captain_role role
+may_ask (ask.Amend release plan) role = is_dispatcher role
 may_ask (ask.Cancel release) role = is_dispatcher role
+may_ask (ask.Depart release leg) role = is_dispatcher role || is_captain_role role
+may_ask (ask.Arrive release leg) role = is_dispatcher role || is_captain_role role
+may_ask (ask.Acknowledge release version) role = is_dispatcher role
+may_ask ask.ViewBoard role = true
 may_ask ask.ViewAlerts role = true
+may_ask (ask.ViewRelease release) role = true
+may_ask (ask.ViewWeather station) role = true
 may_ask (ask.ViewDeferred tail) role = true
 
 -- nobody has the name (1), or he has another key (2)

@@ -1,11 +1,12 @@
 -- What holds of the desk at every moment.
-use Rattle.std.specs.Prelude.{◌≡◌, ℕ, ◌+◌, ◌<◌, ◌≤◌, false, List, [], ◌∷◌, length, Option, None, Some, IfSome, Result, Ok, Err}
+use Rattle.std.specs.Prelude.{◌≡◌, ℕ, ◌+◌, ◌<◌, ◌≤◌, true, false, List, [], ◌∷◌, length, Option, None, Some, IfSome, Result, Ok, Err}
 use Rattle.std.specs.List.{AllByRecursion, AllPairs, filter_map}
 use Rattle.facts.specs.Same.{is_same, same_id, minute_of_report}
 use Rattle.plan.specs.declared.findings.Finding.{Finding}
 use Rattle.plan.specs.Texts.{IsMoment, HasMoment}
 use Rattle.plan.specs.declared.release.Phase.{Phase}
-use Rattle.plan.specs.declared.release.Phase.TheVariants.{Drafted, Ready, Cancelled}
+use Rattle.plan.specs.Phases.{PhaseFits}
+use Rattle.plan.specs.declared.release.Phase.TheVariants.{Drafted, Ready, Flying, Stopped, Completed, Cancelled}
 use Rattle.plan.specs.declared.release.Release.{Release}
 use Rattle.plan.specs.declared.release.Revision.{Revision}
 use Rattle.plan.specs.declared.release.Signature.{Signature}
@@ -22,9 +23,13 @@ use Rattle.deferrals.specs.Held.{AreRising}
 use Rattle.rules.specs.Grounds.{Grounds}
 use Rattle.machine.specs.declared.counters.Counters.{Counters}
 use Rattle.machine.specs.declared.effect.Effect.{Effect}
-use Rattle.machine.specs.declared.effect.Effect.TheVariants.{Tick, Admit, Defer, Clear, File, Put, PutAfresh}
+use Rattle.machine.specs.declared.effect.OnDeferrals.{OnDeferrals}
+use Rattle.machine.specs.declared.effect.OnDeferrals.TheVariants as on_deferrals
+use Rattle.machine.specs.declared.effect.OnReleases.{OnReleases}
+use Rattle.machine.specs.declared.effect.OnReleases.TheVariants as on_releases
 use Rattle.machine.specs.declared.effect.Decision.{Decision}
 use Rattle.machine.specs.declared.effect.Decision.TheVariants.{Show, Do}
+use Rattle.release_text.specs.Revisions.{revision_digest}
 use Rattle.machine.specs.State.{State, grounds_of, failing_of, alert_at}
 use Rattle.machine.specs.Legal.{IsHistory}
 
@@ -48,30 +53,49 @@ abbrev pub Rise : ℕ → List Release → ℕ → Type 0
 Rise low [] next = low < next
 Rise low (r ∷ rs) next = (low < r.id) × Rise r.id rs next
 
--- A draft has a pending revision and no active one; a release that is ready has an active one; one that
--- ended has no pending one.
+abbrev pub IsThere : Option Revision → Type 0
+IsThere None = ⊥
+IsThere (Some v) = Unit {0}
+
+abbrev pub IsNone : Option Revision → Type 0
+IsNone None = Unit {0}
+IsNone (Some v) = ⊥
+
+-- A draft has a pending revision and no active one; a release by which one may fly has an active one; one that ended
+-- has no pending one.
 abbrev pub IsPhased : Phase → Option Revision → Option Revision → Type 0
-IsPhased Drafted None active = ⊥
-IsPhased Drafted (Some v) None = Unit {0}
-IsPhased Drafted (Some v) (Some w) = ⊥
-IsPhased Ready pending None = ⊥
-IsPhased Ready pending (Some w) = Unit {0}
-IsPhased (Cancelled at) None active = Unit {0}
-IsPhased (Cancelled at) (Some v) active = ⊥
+IsPhased Drafted pending active = IsThere pending × IsNone active
+IsPhased Ready pending active = IsThere active
+IsPhased (Flying leg) pending active = IsThere active
+IsPhased (Stopped next since again) pending active = IsThere active
+IsPhased (Completed at) pending active = IsNone pending
+IsPhased (Cancelled at) pending active = IsNone pending
 
-abbrev pub IsSigned : Option Signature → Type 0
-IsSigned None = ⊥
-IsSigned (Some signature) = Unit {0}
+-- a signature on the very text of a revision
+abbrev pub IsSigned : Revision → Option Signature → Type 0
+IsSigned v None = ⊥
+IsSigned v (Some signature) = signature.digest ≡ revision_digest v
 
--- an active revision bears the dispatcher's and the captain's signature
-abbrev pub BearsBoth : Option Revision → Type 0
-BearsBoth None = Unit {0}
-BearsBoth (Some v) = IsSigned v.dispatcher × IsSigned v.captain
+-- A revision by which one may fly is prepared, and bears the dispatcher's and the captain's signature on its text.
+pub record BearsBoth (v : Revision) : Type 0 where
+  pub prepared : v.prepared ≡ true
+  pub dispatcher : IsSigned v v.dispatcher
+  pub captain : IsSigned v v.captain
 
--- a pending revision bears no captain's signature
-abbrev pub IsUncaptained : Option Revision → Type 0
-IsUncaptained None = Unit {0}
-IsUncaptained (Some v) = v.captain ≡ None
+-- a signature on the text of a revision that is prepared, or none
+abbrev pub MaySigned : Revision → Option Signature → Type 0
+MaySigned v None = Unit {0}
+MaySigned v (Some signature) = (v.prepared ≡ true) × (signature.digest ≡ revision_digest v)
+
+-- A pending revision bears no captain's signature, and a dispatcher's only where it is prepared, on its text.
+pub record Waits (v : Revision) : Type 0 where
+  pub captain : v.captain ≡ None
+  pub dispatcher : MaySigned v v.dispatcher
+
+-- the plan of a revision has a leg, and the one that the phase names
+pub record HasLegs (phase : Phase) (v : Revision) : Type 0 where
+  pub some : 1 ≤ length v.plan.legs
+  pub fits : PhaseFits phase v.plan.legs
 
 -- revisions are numbered from 1, none above a number, and the pending one above the active one
 abbrev pub AreNumbered : ℕ → Option Revision → Option Revision → Type 0
@@ -83,9 +107,11 @@ AreNumbered most (Some v) (Some w) = (1 ≤ w.number) × (w.number < v.number) �
 -- a release that may stand, where no revision has a number above `most`
 pub record IsValid (most : ℕ) (r : Release) : Type 0 where
   pub phased : IsPhased r.phase r.pending r.active
-  pub both : BearsBoth r.active
-  pub uncaptained : IsUncaptained r.pending
+  pub both : IfSome r.active BearsBoth
+  pub waits : IfSome r.pending Waits
   pub numbered : AreNumbered most r.pending r.active
+  pub pending_legs : IfSome r.pending (HasLegs r.phase)
+  pub active_legs : IfSome r.active (HasLegs r.phase)
 
 -- no two reports have the same canonical text and the same moment
 abbrev pub AreUnlike : List Report → Type 0
@@ -93,7 +119,7 @@ AreUnlike reports = AllPairs (λ earlier later. is_same later.text (minute_of_re
 
 -- Each active release has no alert and fails no rule, or one alert that names exactly the rules that it
 -- fails, and that is told to its holder; there are no other alerts than those of the releases, each once.
--- Each release is valid: in particular each active revision bears both signatures. No two reports are the same. Ids
+-- Each release is valid: in particular each active revision bears both signatures on its very text. No two reports are the same. Ids
 -- rise, and ids, revisions and versions are within the counters.
 pub record Sound (s : State) : Type 0 where
   pub alerted : AllByRecursion (IsAlerted (grounds_of s) s.alerts) s.releases
@@ -165,7 +191,7 @@ pub record IsNew (most id : ℕ) (r : Release) : Type 0 where
 
 -- a release that takes the place of another keeps its holder
 pub record MayReplace (s : State) (r : Release) : Type 0 where
-  pub fits : Fits s.counters.events r
+  pub fits : Fits (s.counters.events + 1) r
   pub holder : IsToldTo r.holder (alert_at r.id s.alerts)
 
 -- a new deferral, where fewer than 50,000 are open
@@ -180,15 +206,24 @@ pub record IsNext (s : State) (report : Report) : Type 0 where
   pub unlike : same_id s.reports report.text (minute_of_report report) ≡ None
   pub few : length s.reports < 200_000
 
+-- changes of deferrals and of releases that keep what holds of the desk
+
+abbrev pub DeferralsFit : State → OnDeferrals → Type 0
+DeferralsFit s on_deferrals.Nothing = Unit {0}
+DeferralsFit s (on_deferrals.Open d) = MayOpen s d
+DeferralsFit s (on_deferrals.Clear id) = Unit {0}
+
+abbrev pub ReleasesFit : State → OnReleases → Type 0
+ReleasesFit s on_releases.Nothing = Unit {0}
+ReleasesFit s (on_releases.File r) = IsNew (s.counters.events + 1) s.counters.next_release r
+ReleasesFit s (on_releases.Put r) = MayReplace s r
+
 -- an effect that keeps what holds of the desk
-abbrev pub EffectFits : State → Effect → Type 0
-EffectFits s (Tick to) = IsMoment to
-EffectFits s (Admit report) = IsNext s report
-EffectFits s (Defer d) = MayOpen s d
-EffectFits s (Clear id) = Unit {0}
-EffectFits s (File r) = IsNew (s.counters.events + 1) s.counters.next_release r
-EffectFits s (Put r) = MayReplace s r
-EffectFits s (PutAfresh r) = MayReplace s r
+pub record EffectFits (s : State) (e : Effect) : Type 0 where
+  pub moment : IfSome e.moment IsMoment
+  pub report : IfSome e.report (IsNext s)
+  pub deferrals : DeferralsFit s e.on_deferrals
+  pub releases : ReleasesFit s e.on_releases
 
 abbrev pub DecisionFits : State → Result Decision Refusal → Type 0
 DecisionFits s (Err refusal) = RefusalHasMoment refusal

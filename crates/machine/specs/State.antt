@@ -1,11 +1,11 @@
 -- What the desk holds.
-use Rattle.std.specs.Prelude.{ℕ, ◌==◌, nat_le, Bool, ◌||◌, List, [], length, find, Option, None, Some}
+use Rattle.std.specs.Prelude.{ℕ, ◌==◌, nat_le, Bool, true, false, ◌||◌, List, [], length, find, Option, None, Some}
 use Rattle.std.specs.List.{filter_map}
 use Rattle.ops_tables.specs.Tables.{TableRows}
 use Rattle.facts.specs.declared.report.Report.{Report}
 use Rattle.deferrals.specs.declared.items.Deferral.{Deferral}
+use Rattle.plan.specs.Phases.{is_active}
 use Rattle.plan.specs.declared.release.Phase.{Phase}
-use Rattle.plan.specs.declared.release.Phase.TheVariants.{Drafted, Ready, Cancelled}
 use Rattle.plan.specs.declared.release.Release.{Release}
 use Rattle.plan.specs.declared.release.Revision.{Revision}
 use Rattle.plan.specs.declared.findings.Finding.{Finding}
@@ -52,12 +52,14 @@ release_at id releases = find (λ r. r.id == id) releases
 abbrev pub alert_at : ℕ → List Alert → Option Alert
 alert_at id alerts = find (λ a. a.release == id) alerts
 
+abbrev pub failing_if : Bool → Grounds → Revision → Phase → Option (List Finding)
+failing_if true g v phase = Some (findings_of v.plan phase g)
+failing_if false g v phase = None
+
 -- the rules that an active release fails; none is asked of one that isn't active
 abbrev pub failing_in : Grounds → Option Revision → Phase → Option (List Finding)
 failing_in g None phase = None
-failing_in g (Some v) Drafted = None
-failing_in g (Some v) Ready = Some (findings_of v.plan Ready g)
-failing_in g (Some v) (Cancelled at) = None
+failing_in g (Some v) phase = failing_if (is_active phase) g v phase
 
 abbrev pub failing_of : Grounds → Release → Option (List Finding)
 failing_of g r = failing_in g r.active r.phase

@@ -12,7 +12,7 @@ use Rattle.machine.specs.declared.entry.Entry.{Entry}
 use Rattle.machine.specs.declared.entry.What.{What}
 use Rattle.machine.specs.declared.entry.What.TheVariants as what
 use Rattle.machine.specs.declared.effect.Effect.{Effect}
-use Rattle.machine.specs.declared.effect.Effect.TheVariants.{Tick}
+use Rattle.machine.specs.Effects.{tick}
 use Rattle.machine.specs.declared.effect.Decision.{Decision}
 use Rattle.machine.specs.declared.effect.Decision.TheVariants.{Show, Do}
 use Rattle.machine.specs.State.{State, judged_all, is_full}
@@ -88,7 +88,7 @@ unfoldable pub answer_call : State → ℕ → Call → Stepped
 answer_call s lane call = do_unless (mistaken (actor_of s.tables call.actor) call.key) s lane call
 
 abbrev pub ticked : State → ℕ → ℕ → Stepped
-ticked s lane to = after_event s None (Tick to) (entry lane (what.Tick to))
+ticked s lane to = after_event s None (tick to) (entry lane (what.Tick to))
 
 abbrev pub tick_unless : Bool → State → ℕ → ℕ → Stepped
 tick_unless true s lane to = stay s (full_reply s)

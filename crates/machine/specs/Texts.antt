@@ -3,9 +3,12 @@ use Rattle.ops_tables.specs.declared.rows.MelRow.{MelRow}
 use Rattle.ops_tables.specs.Tables.{TableRows, item_of}
 use Rattle.deferrals.specs.declared.items.Deferral.{Deferral}
 use Rattle.deferrals.specs.Due.{due}
-use Rattle.std.specs.Prelude.{ℕ, Bool, if◌then◌else◌, List, [], ◌∷◌, ◌++◌, Option, None, Some, codes, decimal}
+use Rattle.std.specs.Prelude.{ℕ, Bool, true, false, if◌then◌else◌, List, [], ◌∷◌, ◌++◌, Option, None, Some, codes, decimal}
 use Rattle.std.specs.List.{concat}
+use Rattle.hex.specs.Hex.{encode_lower}
 use Rattle.desk_time.specs.Moments.{shown}
+use Rattle.release_text.specs.Revisions.{revision_text, revision_digest}
+use Rattle.plan.specs.declared.release.Signature.{Signature}
 use Rattle.facts.specs.Lines.{weather}
 use Rattle.plan.specs.Texts.{finding_text, phase_text}
 use Rattle.plan.specs.declared.findings.Finding.{Finding}
@@ -113,6 +116,40 @@ release_lines alerts (r ∷ rest) = release_line r (alert_at r.id alerts) ++ rel
 
 abbrev pub board_head : ℕ → List ℕ
 board_head moment = concat (codes "BOARD " ∷ shown moment ∷ codes "\n" ∷ [])
+
+-- the releases
+unfoldable pub board_view : State → List ℕ
+board_view s = board_head s.moment ++ release_lines s.alerts s.releases
+
+-- who signed, and when
+abbrev pub signature_text : Option Signature → List ℕ
+signature_text None = []
+signature_text (Some signature) = concat (codes " " ∷ signature.actor ∷ codes " " ∷ shown signature.at ∷ [])
+
+-- the digits of the digest of a revision
+abbrev pub digest_text : Revision → List ℕ
+digest_text v = encode_lower (revision_digest v)
+
+abbrev pub prepared_text : Bool → Revision → List ℕ
+prepared_text true v = concat (codes "PENDING " ∷ digest_text v ∷ codes "\n" ∷ revision_text v ∷ [])
+prepared_text false v = []
+
+-- the digest and the text of a pending revision, once it is prepared
+unfoldable pub pending_text : Option Revision → List ℕ
+pending_text None = []
+pending_text (Some v) = prepared_text v.prepared v
+
+abbrev pub active_head : Revision → List ℕ
+active_head v = concat (codes "ACTIVE " ∷ digest_text v ∷ signature_text v.dispatcher ∷ signature_text v.captain ∷ codes "\n" ∷ [])
+
+-- the digest of an active revision, who signed it, and its text
+unfoldable pub active_text : Option Revision → List ℕ
+active_text None = []
+active_text (Some v) = active_head v ++ revision_text v
+
+-- a release with the texts of its revisions
+unfoldable pub release_view : Release → List ℕ
+release_view r = concat (codes "RELEASE " ∷ decimal r.id ∷ codes " " ∷ phase_text r.phase ∷ codes "\n" ∷ []) ++ pending_text r.pending ++ active_text r.active
 
 -- the closing text: the releases, and the weather of all stations that have a report
 unfoldable pub closing : State → List ℕ

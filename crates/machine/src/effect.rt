@@ -1,26 +1,149 @@
+ghost use Rattle.std.specs.Prelude.{◌≡◌};
+ghost use Rattle.machine.specs.Effects as spec;
+
 use asks::Reply;
 use deferrals::Deferral;
 use desk_time::Minute;
 use facts::Report;
 use plan::Release;
 
-/// What an event changes, before every active release is judged.
+/// What an event changes of the open deferrals.
 #[derive(Debug, Drop)]
-pub enum Effect {
-    /// The moment rises, and nothing else changes.
-    Tick { to: Minute },
-    /// A report is admitted.
-    Admit(Report),
+pub enum OnDeferrals {
+    Nothing,
     /// An item is deferred.
-    Defer(Deferral),
+    Open(Deferral),
     /// The deferral of an id goes.
     Clear { deferral: u64 },
+}
+
+/// What an event changes of the releases.
+#[derive(Debug, Drop)]
+pub enum OnReleases {
+    Nothing,
     /// A release is filed.
     File(Release),
     /// A release takes the place of the one of its id.
     Put(Release),
+}
+
+/// What an event changes of the alerts, before every active release is judged.
+#[derive(Clone, Copy, Debug, PartialEq, Eq)]
+pub enum OnAlerts {
+    Nothing,
+    /// The alert of a release goes.
+    Take { release: u64 },
+    /// The alert of a release is acknowledged.
+    Acknowledge { release: u64 },
+}
+
+/// What an event changes, part by part, before every active release is judged.
+#[derive(Debug, Drop)]
+pub struct Effect {
+    /// The moment that comes.
+    pub moment: Option<Minute>,
+    /// The report that is admitted.
+    pub report: Option<Report>,
+    pub on_deferrals: OnDeferrals,
+    pub on_releases: OnReleases,
+    pub on_alerts: OnAlerts,
+}
+
+impl Effect {
+    // What changes nothing.
+    fn nothing() -> Effect
+        ensures { result ≡ spec.nothing }
+    {
+        Effect {
+            moment: None,
+            report: None,
+            on_deferrals: OnDeferrals::Nothing,
+            on_releases: OnReleases::Nothing,
+            on_alerts: OnAlerts::Nothing,
+        }
+    }
+
+    /// The moment rises, and nothing else changes.
+    pub fn tick(to: Minute) -> Effect
+        ensures { result ≡ spec.tick to }
+    {
+        Effect {
+            moment: Some(to),
+            ..Effect::nothing()
+        }
+    }
+
+    /// A report is admitted.
+    pub fn admit(report: Report) -> Effect
+        ensures { result ≡ spec.admit report }
+    {
+        Effect {
+            report: Some(report),
+            ..Effect::nothing()
+        }
+    }
+
+    /// An item is deferred.
+    pub fn defer(deferral: Deferral) -> Effect
+        ensures { result ≡ spec.defer deferral }
+    {
+        Effect {
+            on_deferrals: OnDeferrals::Open(deferral),
+            ..Effect::nothing()
+        }
+    }
+
+    /// The deferral of an id goes.
+    pub fn clear(deferral: u64) -> Effect
+        ensures { result ≡ spec.clear deferral }
+    {
+        Effect {
+            on_deferrals: OnDeferrals::Clear { deferral },
+            ..Effect::nothing()
+        }
+    }
+
+    /// A release is filed.
+    pub fn file(release: Release) -> Effect
+        ensures { result ≡ spec.file release }
+    {
+        Effect {
+            on_releases: OnReleases::File(release),
+            ..Effect::nothing()
+        }
+    }
+
+    /// A release takes the place of the one of its id.
+    pub fn put(release: Release) -> Effect
+        ensures { result ≡ spec.put release }
+    {
+        Effect {
+            on_releases: OnReleases::Put(release),
+            ..Effect::nothing()
+        }
+    }
+
     /// A release takes the place of the one of its id, and that one's alert goes.
-    PutAfresh(Release),
+    pub fn put_afresh(release: Release) -> Effect
+        ensures { result ≡ spec.put_afresh release }
+    {
+        let id = release.id;
+        Effect {
+            on_releases: OnReleases::Put(release),
+            on_alerts: OnAlerts::Take { release: id },
+            ..Effect::nothing()
+        }
+    }
+
+    /// The alert of a release is acknowledged.
+    pub fn acknowledge(release: u64) -> Effect
+        ensures { result ≡ spec.acknowledge release }
+    {
+        Effect {
+            on_alerts: OnAlerts::Acknowledge { release },
+            ..Effect::nothing()
+        }
+    }
 }
 
 /// What a call that isn't refused comes to.

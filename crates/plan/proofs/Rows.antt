@@ -5,10 +5,12 @@ use Rattle.std.proofs.lemmas.Bool.{eqb-true}
 use Rattle.std.proofs.lemmas.Bool.Decides.{nat_tests}
 use Rattle.plan.specs.declared.findings.Finding.{Finding}
 use Rattle.plan.specs.declared.findings.Rule.{Rule}
-use Rattle.plan.specs.declared.findings.Rule.TheVariants.{No3, No4, No5, No6, No7, No8, No9, No10, No11, No12, No13, No14, No15, No16, No19}
+use Rattle.plan.specs.declared.findings.Rule.TheVariants.{No1, No2, No3, No4, No5, No6, No7, No8, No9, No10, No11, No12, No13, No14, No15, No16, No17, No18, No19}
 use Rattle.plan.specs.Findings.{number_of, rule_of, is_same, is_before}
 
 pub rule_numbered : (r : Rule) → rule_of (number_of r) ≡ Some r
+rule_numbered No1 = refl
+rule_numbered No2 = refl
 rule_numbered No3 = refl
 rule_numbered No4 = refl
 rule_numbered No5 = refl
@@ -23,6 +25,8 @@ rule_numbered No13 = refl
 rule_numbered No14 = refl
 rule_numbered No15 = refl
 rule_numbered No16 = refl
+rule_numbered No17 = refl
+rule_numbered No18 = refl
 rule_numbered No19 = refl
 
 abbrev rule_in : Rule → Option Rule → Rule

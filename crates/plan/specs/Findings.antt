@@ -2,10 +2,12 @@
 use Rattle.std.specs.Prelude.{◌≡◌, ℕ, Bool, true, ◌&&◌, ◌||◌, ◌==◌, nat_lt, if◌then◌else◌, List, [], ◌∷◌, Option, None, Some, codes}
 use Rattle.std.specs.List.{AllByRecursion, list_any}
 use Rattle.plan.specs.declared.findings.Rule.{Rule}
-use Rattle.plan.specs.declared.findings.Rule.TheVariants.{No3, No4, No5, No6, No7, No8, No9, No10, No11, No12, No13, No14, No15, No16, No19}
+use Rattle.plan.specs.declared.findings.Rule.TheVariants.{No1, No2, No3, No4, No5, No6, No7, No8, No9, No10, No11, No12, No13, No14, No15, No16, No17, No18, No19}
 use Rattle.plan.specs.declared.findings.Finding.{Finding}
 
 abbrev pub number_of : Rule → ℕ
+number_of No1 = 1
+number_of No2 = 2
 number_of No3 = 3
 number_of No4 = 4
 number_of No5 = 5
@@ -20,12 +22,16 @@ number_of No13 = 13
 number_of No14 = 14
 number_of No15 = 15
 number_of No16 = 16
+number_of No17 = 17
+number_of No18 = 18
 number_of No19 = 19
 
 -- the rule of a number
 abbrev pub rule_of : ℕ → Option Rule
 rule_of number =
-    if number == 3 then Some No3
+    if number == 1 then Some No1
+    else (if number == 2 then Some No2
+    else (if number == 3 then Some No3
     else (if number == 4 then Some No4
     else (if number == 5 then Some No5
     else (if number == 6 then Some No6
@@ -39,10 +45,14 @@ rule_of number =
     else (if number == 14 then Some No14
     else (if number == 15 then Some No15
     else (if number == 16 then Some No16
-    else (if number == 19 then Some No19 else None))))))))))))))
+    else (if number == 17 then Some No17
+    else (if number == 18 then Some No18
+    else (if number == 19 then Some No19 else None))))))))))))))))))
 
 -- the section of 14 CFR that a rule stands in, or a name of the desk's own
 abbrev pub code_of : Rule → List ℕ
+code_of No1 = codes "121.593"
+code_of No2 = codes "121.595"
 code_of No3 = codes "121.613"
 code_of No4 = codes "121.617-ALT"
 code_of No5 = codes "121.617-RANGE"
@@ -57,6 +67,8 @@ code_of No13 = codes "121.631-TYPE"
 code_of No14 = codes "121.639"
 code_of No15 = codes "121.645"
 code_of No16 = codes "DESK-BOARD"
+code_of No17 = codes "DESK-LATE-OFF"
+code_of No18 = codes "DESK-LATE-ON"
 code_of No19 = codes "DESK-TABLES"
 
 abbrev pub is_same : Finding → Finding → Bool

@@ -1,4 +1,5 @@
 pub mod Check
+pub mod Change
 pub mod Findings
 pub mod Phases
 pub mod Texts

@@ -1,13 +1,60 @@
--- Where the legs of a release stand.
-use Rattle.std.specs.Prelude.{ℕ}
+-- Where a release and its legs stand.
+use Rattle.std.specs.Prelude.{ℕ, ◌≤◌, ◌-◌, ◌==◌, nat_lt, Bool, true, false, if◌then◌else◌, List, length, Option, None, Some}
+use Rattle.plan.specs.declared.flights.Leg.{Leg}
 use Rattle.plan.specs.declared.release.Phase.{Phase}
-use Rattle.plan.specs.declared.release.Phase.TheVariants.{Drafted, Ready, Cancelled}
+use Rattle.plan.specs.declared.release.Phase.TheVariants.{Drafted, Ready, Flying, Stopped, Completed, Cancelled}
 use Rattle.plan.specs.declared.release.Standing.{Standing}
-use Rattle.plan.specs.declared.release.Standing.TheVariants.{Ahead, Flown}
+use Rattle.plan.specs.declared.release.Standing.TheVariants.{Ahead, InFlight, Flown}
 
--- A leg counted from 1: none is flown before the release is ready and departs, and none will be once it is
--- cancelled.
+-- a leg beside one that is in flight
+abbrev pub beside : ℕ → ℕ → Standing
+beside in_flight leg = if nat_lt leg in_flight then Flown else (if leg == in_flight then InFlight else Ahead)
+
+-- a leg on the ground, where those before a number have arrived
+abbrev pub before : ℕ → ℕ → Standing
+before next leg = if nat_lt leg next then Flown else Ahead
+
+-- A leg counted from 1: none is flown before the release is ready and departs, and none will be once it has ended.
 abbrev pub standing : Phase → ℕ → Standing
 standing Drafted leg = Ahead
 standing Ready leg = Ahead
+standing (Flying in_flight) leg = beside in_flight leg
+standing (Stopped next since again) leg = before next leg
+standing (Completed at) leg = Flown
 standing (Cancelled at) leg = Flown
+
+-- a release by which one may fly
+abbrev pub is_active : Phase → Bool
+is_active Drafted = false
+is_active Ready = true
+is_active (Flying in_flight) = true
+is_active (Stopped next since again) = true
+is_active (Completed at) = false
+is_active (Cancelled at) = false
+
+-- the leg in flight
+abbrev pub in_flight : Phase → Option ℕ
+in_flight Drafted = None
+in_flight Ready = None
+in_flight (Flying leg) = Some leg
+in_flight (Stopped next since again) = None
+in_flight (Completed at) = None
+in_flight (Cancelled at) = None
+
+-- how many of the legs are flown: all of them once the release has ended
+abbrev pub flown : Phase → List Leg → ℕ
+flown Drafted legs = 0
+flown Ready legs = 0
+flown (Flying in_flight) legs = in_flight - 1
+flown (Stopped next since again) legs = next - 1
+flown (Completed at) legs = length legs
+flown (Cancelled at) legs = length legs
+
+-- the leg that a phase names is one of these
+abbrev pub PhaseFits : Phase → List Leg → Type 0
+PhaseFits Drafted legs = Unit {0}
+PhaseFits Ready legs = Unit {0}
+PhaseFits (Flying in_flight) legs = (1 ≤ in_flight) × (in_flight ≤ length legs)
+PhaseFits (Stopped next since again) legs = (1 ≤ next) × (next ≤ length legs)
+PhaseFits (Completed at) legs = Unit {0}
+PhaseFits (Cancelled at) legs = Unit {0}

@@ -29,6 +29,10 @@ pub enum PlanWhy {
     Times,
     /// An amount of fuel is above 1,000,000 pounds.
     Amount,
+    /// The flight, the rules under which it is flown, or the aircraft in flight is another.
+    Changed,
+    /// A leg that is flown is another, none remains to be flown, or the leg in flight has departed otherwise.
+    Flown,
 }
 
 /// The first test that a plan fails.
@@ -40,7 +44,7 @@ pub struct BadPlan {
     pub why: PlanWhy,
 }
 
-fn is_at(a: Station, b: Station) -> bool
+pub(crate) fn is_at(a: Station, b: Station) -> bool
     ensures { result ≡ spec.is_at a b }
 {
     a.bytes() == b.bytes()

@@ -7,6 +7,10 @@ use std::alloc::Global;
 /// The rules that a release is judged by.
 #[derive(Clone, Copy, Debug, PartialEq, Eq)]
 pub enum Rule {
+    /// 14 CFR 121.593: a domestic flight that stops for more than an hour is released again.
+    No1,
+    /// 14 CFR 121.595: a flag flight that stops for more than six hours is released again.
+    No2,
     /// 14 CFR 121.613: the weather at the destination at the ETA is at or above landing minima.
     No3,
     /// 14 CFR 121.617: where the weather at the airport of departure is below landing minima, a takeoff
@@ -38,6 +42,10 @@ pub enum Rule {
     No15,
     /// The desk's own: the fuel aboard is at or above the minimum fuel.
     No16,
+    /// The desk's own: no leg departs much later than at its ETD.
+    No17,
+    /// The desk's own: no leg arrives much later than at its ETA.
+    No18,
     /// The desk's own: the plan passes its tests under the tables.
     No19,
 }
@@ -68,6 +76,8 @@ impl Rule {
         ensures own { spec.rule_of result ≡ Some self }
     {
         match self {
+            Rule::No1 => 1,
+            Rule::No2 => 2,
             Rule::No3 => 3,
             Rule::No4 => 4,
             Rule::No5 => 5,
@@ -82,6 +92,8 @@ impl Rule {
             Rule::No14 => 14,
             Rule::No15 => 15,
             Rule::No16 => 16,
+            Rule::No17 => 17,
+            Rule::No18 => 18,
             Rule::No19 => 19,
         }
     }
@@ -91,6 +103,8 @@ impl Rule {
         ensures { result.now ≡ spec.code_of self }
     {
         match self {
+            Rule::No1 => "121.593",
+            Rule::No2 => "121.595",
             Rule::No3 => "121.613",
             Rule::No4 => "121.617-ALT",
             Rule::No5 => "121.617-RANGE",
@@ -105,6 +119,8 @@ impl Rule {
             Rule::No14 => "121.639",
             Rule::No15 => "121.645",
             Rule::No16 => "DESK-BOARD",
+            Rule::No17 => "DESK-LATE-OFF",
+            Rule::No18 => "DESK-LATE-ON",
             Rule::No19 => "DESK-TABLES",
         }
     }

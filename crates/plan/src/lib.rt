@@ -1,14 +1,18 @@
 //! The plans of flights that a dispatcher files, their releases, and the rules that they fail.
 #![tactic(auto)]
 
+mod change;
 mod check;
 mod findings;
 mod flights;
 mod release;
 mod texts;
 
+pub use change::check_change;
 pub use check::{BadPlan, PlanWhy, check_plan};
 pub use findings::{Finding, Findings, Rule, is_before, is_same};
 pub use flights::{Alternate, Alternates, Kind, Leg, Legs, Plan, TakeoffAlternate};
-pub use release::{Phase, Release, Revision, Signature, Standing, standing_of};
+pub use release::{
+    Attached, AttachedList, Phase, Release, Revision, Signature, Standing, is_active, standing_of,
+};
 pub use texts::{finding_text, phase_text};

@@ -2,7 +2,7 @@ ghost use Rattle.std.specs.Prelude.{◌≡◌};
 ghost use Rattle.plan.specs.Phases as spec;
 
 use crate::flights::Plan;
-use desk_io::{Copied, OutOfMemory, Text, copied_option};
+use desk_io::{Copied, Listed, OutOfMemory, Text, copied_option};
 use desk_time::Minute;
 use std::alloc::Global;
 
@@ -11,8 +11,19 @@ use std::alloc::Global;
 pub enum Phase {
     /// No captain has concurred yet.
     Drafted,
-    /// Both have signed, and the first leg isn't flown.
+    /// Both have signed, and no leg has departed.
     Ready,
+    /// That leg has departed, and hasn't arrived.
+    Flying { leg: u32 },
+    /// The legs before `next` have arrived, the last of them at `since`. `again` tells whether a captain has
+    /// concurred since then.
+    Stopped {
+        next: u32,
+        since: Minute,
+        again: bool,
+    },
+    /// Its last leg arrived at that moment.
+    Completed { at: Minute },
     /// It was cancelled at that moment.
     Cancelled { at: Minute },
 }
@@ -28,22 +39,74 @@ pub enum Standing {
     Flown,
 }
 
-/// Where a leg of a release in a phase stands, counted from 1.
-pub fn standing_of(phase: Phase, _leg: u32) -> Standing
-    ensures { result ≡ spec.standing phase _leg }
+// Where a leg stands while one is in flight.
+fn beside(in_flight: u32, leg: u32) -> Standing
+    ensures { result ≡ spec.beside in_flight leg }
 {
-    match phase {
-        Phase::Drafted | Phase::Ready => Standing::Ahead,
-        Phase::Cancelled { .. } => Standing::Flown,
+    if leg < in_flight {
+        Standing::Flown
+    } else if leg == in_flight {
+        Standing::InFlight
+    } else {
+        Standing::Ahead
     }
 }
 
-/// The signature of a person (14 CFR 121.663).
+// Where a leg stands while the aircraft is on the ground.
+fn before(next: u32, leg: u32) -> Standing
+    ensures { result ≡ spec.before next leg }
+{
+    if leg < next {
+        Standing::Flown
+    } else {
+        Standing::Ahead
+    }
+}
+
+/// Where a leg of a release in a phase stands, counted from 1.
+pub fn standing_of(phase: Phase, leg: u32) -> Standing
+    ensures { result ≡ spec.standing phase leg }
+{
+    match phase {
+        Phase::Drafted | Phase::Ready => Standing::Ahead,
+        Phase::Flying { leg: in_flight } => beside(in_flight, leg),
+        Phase::Stopped { next, .. } => before(next, leg),
+        Phase::Completed { .. } | Phase::Cancelled { .. } => Standing::Flown,
+    }
+}
+
+/// Whether a release in a phase may be flown by, and is judged.
+pub fn is_active(phase: Phase) -> bool
+    ensures { result ≡ spec.is_active phase }
+{
+    match phase {
+        Phase::Ready | Phase::Flying { .. } | Phase::Stopped { .. } => true,
+        Phase::Drafted | Phase::Completed { .. } | Phase::Cancelled { .. } => false,
+    }
+}
+
+/// The signature of a person on the text of a release (14 CFR 121.663).
 #[derive(Debug, Drop)]
 pub struct Signature {
+    /// Who signed.
     pub actor: Text,
+    /// When.
     pub at: Minute,
+    /// The SHA-256 of the text that was signed.
+    pub digest: [u8; 32],
 }
+
+/// A weather report that is attached to a release (14 CFR 121.687(b)).
+#[derive(Debug, Drop)]
+pub struct Attached {
+    /// Its number.
+    pub report: u64,
+    /// Its canonical text.
+    pub text: Text,
+}
+
+/// The reports that are attached to a release, in the order in which its text has them.
+pub type AttachedList = Listed<Attached>;
 
 /// A plan as it stands in a release, and who has signed it.
 #[derive(Debug, Drop)]
@@ -51,6 +114,10 @@ pub struct Revision {
     /// Its number, from 1.
     pub number: u64,
     pub plan: Plan,
+    /// Whether its weather is attached, so that it has a text that may be signed.
+    pub prepared: bool,
+    /// The weather that is attached: none before it is prepared.
+    pub attached: AttachedList,
     pub dispatcher: Option<Signature>,
     pub captain: Option<Signature>,
 }
@@ -74,6 +141,16 @@ impl Copied for Signature {
         Ok(Signature {
             actor: self.actor.copy(alloc)?,
             at: self.at,
+            digest: self.digest,
+        })
+    }
+}
+
+impl Copied for Attached {
+    fn copy(&self, alloc: Global) -> Result<Attached, OutOfMemory> {
+        Ok(Attached {
+            report: self.report,
+            text: self.text.copy(alloc)?,
         })
     }
 }
@@ -83,6 +160,8 @@ impl Copied for Revision {
         Ok(Revision {
             number: self.number,
             plan: self.plan.copy(alloc)?,
+            prepared: self.prepared,
+            attached: self.attached.copy(alloc)?,
             dispatcher: copied_option(&self.dispatcher, alloc)?,
             captain: copied_option(&self.captain, alloc)?,
         })

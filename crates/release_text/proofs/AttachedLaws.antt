@@ -12,7 +12,7 @@ use Rattle.facts.specs.declared.latest.Kind.TheVariants as kind
 use Rattle.facts.specs.declared.report.Report.{Report}
 use Rattle.facts.specs.Latest.{latest_metar, latest_taf, IsLatest}
 use Rattle.facts.proofs.LatestLaws.{latest_is}
-use Rattle.release_text.specs.declared.attached.Attached.{Attached}
+use Rattle.plan.specs.declared.release.Attached.{Attached}
 use Rattle.release_text.specs.Concerned.{AreAmong, concerned, is_among}
 use Rattle.release_text.proofs.StationLaws.{all_among, both_parts}
 use Rattle.release_text.specs.Weather.{attached_of, attached_to, is_attached, latest_at, latest_of, least_new, new_id, newer_than, weather_for, where_held}

@@ -10,7 +10,7 @@ use Rattle.plan.specs.declared.flights.Leg.{Leg}
 use Rattle.plan.specs.Phases.{standing}
 use Rattle.plan.specs.declared.release.Phase.{Phase}
 use Rattle.facts.specs.declared.report.Report.{Report}
-use Rattle.release_text.specs.declared.attached.Attached.{Attached}
+use Rattle.plan.specs.declared.release.Attached.{Attached}
 use Rattle.release_text.specs.Concerned.{arrival_stations, departure_stations, leg_stations, is_among, with_station, with_stations, stations_from, concerned}
 use Rattle.release_text.specs.Weather.{latest_at, latest_of, new_id, least_new, newer_of, newer_than, weather_for}
 

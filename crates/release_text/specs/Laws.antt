@@ -7,7 +7,7 @@ use Rattle.plan.specs.declared.release.Phase.{Phase}
 use Rattle.facts.specs.declared.latest.Kind.{Kind}
 use Rattle.facts.specs.declared.report.Report.{Report}
 use Rattle.facts.specs.Latest.{IsLatestReport}
-use Rattle.release_text.specs.declared.attached.Attached.{Attached}
+use Rattle.plan.specs.declared.release.Attached.{Attached}
 use Rattle.release_text.specs.Concerned.{concerned, is_among}
 use Rattle.release_text.specs.Weather.{attached_of, is_attached, weather_for}
 

@@ -2,3 +2,4 @@ pub mod Concerned
 pub mod Weather
 pub mod Laws
 pub mod Text
+pub mod Revisions

@@ -8,7 +8,7 @@ use Rattle.plan.specs.declared.flights.Kind.TheVariants.{Domestic, Flag}
 use Rattle.plan.specs.declared.flights.Leg.{Leg}
 use Rattle.plan.specs.declared.flights.Alternate.{Alternate}
 use Rattle.plan.specs.declared.flights.TakeoffAlternate.{TakeoffAlternate}
-use Rattle.release_text.specs.declared.attached.Attached.{Attached}
+use Rattle.plan.specs.declared.release.Attached.{Attached}
 
 abbrev pub kind_word : Kind → List ℕ
 kind_word Domestic = codes "DOMESTIC"

@@ -7,7 +7,7 @@ use Rattle.plan.specs.declared.flights.Plan.{Plan}
 use Rattle.plan.specs.declared.release.Phase.{Phase}
 use Rattle.facts.specs.declared.report.Report.{Report}
 use Rattle.facts.specs.Latest.{latest_metar, latest_taf}
-use Rattle.release_text.specs.declared.attached.Attached.{Attached}
+use Rattle.plan.specs.declared.release.Attached.{Attached}
 use Rattle.release_text.specs.Concerned.{concerned}
 
 abbrev pub where_held : Option Report → List Report

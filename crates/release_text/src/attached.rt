@@ -6,31 +6,10 @@ ghost use Rattle.release_text.specs.Laws.{AreLatest};
 
 use crate::stations::concerned;
 use codes::Station;
-use desk_io::{Copied, Listed, OutOfMemory, Text};
+use desk_io::{Copied, Listed, OutOfMemory};
 use facts::{Report, Reports};
-use plan::{Phase, Plan};
+use plan::{Attached, AttachedList, Phase, Plan};
 use std::alloc::Global;
-
-/// A weather report that is attached to a release.
-#[derive(Debug, Drop)]
-pub struct Attached {
-    /// Its number.
-    pub report: u64,
-    /// Its canonical text.
-    pub text: Text,
-}
-
-/// The reports that are attached to a release, in the order in which its text has them.
-pub type AttachedList = Listed<Attached>;
-
-impl Copied for Attached {
-    fn copy(&self, alloc: Global) -> Result<Attached, OutOfMemory> {
-        Ok(Attached {
-            report: self.report,
-            text: self.text.copy(alloc)?,
-        })
-    }
-}
 
 fn attached_of(alloc: Global, report: &Report) -> Result<Attached, OutOfMemory>
     ensures { IfOk result (λ a. a ≡ spec.attached_of report.now) }

@@ -3,11 +3,13 @@
 
 mod attached;
 mod digest;
+mod revision;
 mod stations;
 mod unattached;
 mod written;
 
-pub use attached::{Attached, AttachedList, attach};
+pub use attached::attach;
 pub use digest::{digest_of, digits_of};
+pub use revision::{Written, written_text};
 pub use unattached::newer;
 pub use written::text_of;

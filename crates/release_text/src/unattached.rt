@@ -13,10 +13,9 @@ ghost use Rattle.release_text.specs.Concerned.{
 ghost use Rattle.release_text.specs.Weather as spec;
 ghost use Rattle.release_text.specs.Laws.{IsNoneNewer};
 
-use crate::attached::{Attached, AttachedList};
 use codes::Station;
 use facts::{Report, Reports};
-use plan::{Alternate, Leg, Phase, Plan, Standing, TakeoffAlternate, standing_of};
+use plan::{Alternate, Attached, AttachedList, Leg, Phase, Plan, Standing, TakeoffAlternate, standing_of};
 
 fn lesser(a: Option<u64>, b: Option<u64>) -> Option<u64>
     ensures { result ≡ cond.lesser a b }

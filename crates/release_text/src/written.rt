@@ -3,10 +3,9 @@ ghost use Rattle.std.specs.List.{AllByRecursion};
 ghost use Rattle.plan.specs.Check.{HasMoments, IsPlan};
 ghost use Rattle.release_text.specs.Text as spec;
 
-use crate::attached::{Attached, AttachedList};
 use desk_io::{OutOfMemory, Text, push_all};
 use desk_time::show;
-use plan::{Alternate, Kind, Leg, Plan, TakeoffAlternate};
+use plan::{Alternate, Attached, AttachedList, Kind, Leg, Plan, TakeoffAlternate};
 use std::alloc::Global;
 
 fn kind_word(kind: Kind) -> &'static [u8]

@@ -6,5 +6,7 @@ pub mod TakeoffAlternates
 pub mod DestinationAlternates
 pub mod Equipment
 pub mod Fuel
+pub mod Time
 pub mod Judgement
+pub mod Due
 pub mod Sights

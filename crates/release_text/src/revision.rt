@@ -1,0 +1,34 @@
+ghost use Rattle.std.specs.Prelude.{IfOk};
+ghost use Rattle.plan.specs.Check.{IsPlan};
+ghost use Rattle.release_text.specs.Revisions.{IsWritten};
+
+use crate::digest::digest_of;
+use crate::written::text_of;
+use desk_io::{OutOfMemory, Text};
+use plan::Revision;
+use std::alloc::Global;
+
+/// The text of a revision, and its digest.
+#[derive(Debug, Drop)]
+pub struct Written {
+    /// The text.
+    pub text: Text,
+    /// Its SHA-256.
+    pub digest: [u8; 32],
+}
+
+/// The text of a revision and its digest (14 CFR 121.687), each made once. Both signatures are on them (14 CFR 121.663).
+#[tactic(auto, unfolding(crate::specs::Revisions::text_digest))]
+pub fn written_text(alloc: Global, revision: &Revision) -> Result<Written, OutOfMemory>
+    requires { IsPlan revision.now.plan }
+    ensures { IfOk result (λ w. IsWritten revision.now w) }
+{
+    let text = text_of(
+        alloc,
+        &revision.plan,
+        revision.number,
+        &revision.attached,
+    )?;
+    let digest = digest_of(text.bytes());
+    Ok(Written { text, digest })
+}

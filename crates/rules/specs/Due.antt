@@ -1,0 +1,53 @@
+-- When a rule of time begins to fail.
+use Rattle.std.specs.Prelude.{◌≡◌, ℕ, ◌+◌, ◌-◌, ◌<◌, nat_lt, true, false, if◌then◌else◌, List, [], ◌∷◌, Option, None, Some}
+use Rattle.codes.specs.Cond.{lesser}
+use Rattle.ops_tables.specs.declared.rows.Settings.{Settings}
+use Rattle.plan.specs.declared.flights.Leg.{Leg}
+use Rattle.plan.specs.declared.flights.Plan.{Plan}
+use Rattle.plan.specs.declared.findings.Rule.{Rule}
+use Rattle.plan.specs.declared.findings.Rule.TheVariants.{No1, No2, No17, No18}
+use Rattle.plan.specs.declared.release.Phase.{Phase}
+use Rattle.rules.specs.Judgement.{leg_numbered}
+use Rattle.rules.specs.Time.{limit_of, is_late}
+
+-- the rules that begin to fail when time passes
+abbrev pub rules_of_time : List Rule
+rules_of_time = No1 ∷ No2 ∷ No17 ∷ No18 ∷ []
+
+-- the first minute past a limit, where it lies after a moment
+abbrev pub due_after : ℕ → Option ℕ → Option ℕ
+due_after moment None = None
+due_after moment (Some limit) = if nat_lt moment (limit + 1) then Some (limit + 1) else None
+
+-- the least of what is due after a moment for the leg of a number, by some rules
+abbrev pub leg_due : List Rule → Settings → Plan → Phase → ℕ → ℕ → Leg → Option ℕ
+leg_due [] settings plan phase moment n leg = None
+leg_due (rule ∷ rules) settings plan phase moment n leg =
+    lesser (due_after moment (limit_of rule settings plan.kind phase n leg)) (leg_due rules settings plan phase moment n leg)
+
+-- the least over legs, where the first of them has that number
+abbrev pub legs_due : Settings → Plan → Phase → ℕ → ℕ → List Leg → Option ℕ
+legs_due settings plan phase moment n [] = None
+legs_due settings plan phase moment n (leg ∷ legs) = lesser (leg_due rules_of_time settings plan phase moment n leg) (legs_due settings plan phase moment (n + 1) legs)
+
+-- the least minute after a moment at which a rule of time begins to fail
+unfoldable pub next_due : Plan → Phase → Settings → ℕ → Option ℕ
+next_due plan phase settings moment = legs_due settings plan phase moment 1 plan.legs
+
+-- A rule begins to fail for the leg of a number at a minute: it fails then, and not the minute before.
+pub record Begins (plan : Plan) (phase : Phase) (settings : Settings) (minute : ℕ) : Type 0 where
+  pub rule : Rule
+  pub number : ℕ
+  pub leg : Leg
+  pub stands : leg_numbered number 1 plan.legs ≡ Some leg
+  pub before : is_late rule settings plan.kind phase number leg (minute - 1) ≡ false
+  pub fails : is_late rule settings plan.kind phase number leg minute ≡ true
+
+-- none begins to fail after one moment and before another
+abbrev pub NoneBegins : Plan → Phase → Settings → ℕ → ℕ → Type 0
+NoneBegins plan phase settings after until = (minute : ℕ) → after < minute → minute < until → Begins plan phase settings minute → ⊥
+
+-- A rule of time begins to fail at that minute, and none does before it; or none ever does.
+abbrev pub IsNextDue : Plan → Phase → Settings → ℕ → Option ℕ → Type 0
+IsNextDue plan phase settings moment None = (until : ℕ) → NoneBegins plan phase settings moment until
+IsNextDue plan phase settings moment (Some due) = (moment < due) × Begins plan phase settings due × NoneBegins plan phase settings moment due
