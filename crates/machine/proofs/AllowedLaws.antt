@@ -1,8 +1,8 @@
 -- Each ask changes no more than it may.
-use Rattle.std.proofs.Common.{◌≡◌, ℕ, Bool, true, false, List, Option, None, Some, Result, Ok, Err, inl, inr, refl, ap, subst, sym, not, cond, eqb, eq-eqb, ◌≢◌, ◌||◌, [], ◌∷◌, length, is_some, is_none, arith}
+use Rattle.std.proofs.Common.{◌≡◌, ℕ, ◌+◌, IfSome, Bool, true, false, List, Option, None, Some, Result, Ok, Err, inl, inr, refl, ap, subst, sym, not, cond, eqb, eq-eqb, ◌≢◌, ◌||◌, [], ◌∷◌, length, is_some, is_none, arith}
 use Rattle.std.specs.Prelude.{nat_le, nat_lt, find}
 use Rattle.std.specs.Option.{option_map}
-use Rattle.std.proofs.lemmas.Bool.{leb-false, ltb-false, eqb-true}
+use Rattle.std.proofs.lemmas.Bool.{leb-false, ltb-true, ltb-false, eqb-true}
 use Rattle.std.specs.Str.{bytes_eq}
 use Rattle.std.specs.List.{list_any}
 use Rattle.std.proofs.lemmas.Slice.Eq.{bytes_eq-Decides}
@@ -17,11 +17,20 @@ use Rattle.facts.specs.declared.report.Report.{Report}
 use Rattle.facts.specs.Reading.{read_of}
 use Rattle.facts.specs.declared.report.Read.{Read}
 use Rattle.codes.specs.declared.fault.BadReport.{BadReport}
+use Rattle.alerts.specs.declared.alert.Alert.{Alert}
+use Rattle.codes.specs.Station.{Station}
+use Rattle.plan.specs.Change.{change_fault}
 use Rattle.plan.specs.Check.{plan_fault}
+use Rattle.release_text.specs.Revisions.{revision_digest}
+use Rattle.release_text.specs.Weather.{newer_than}
+use Rattle.rules.specs.Grounds.{Grounds}
+use Rattle.machine.proofs.Each.{found_each}
+use Rattle.machine.specs.Sound.{Sound, IsPhased, IsValid}
+use Rattle.machine.specs.Texts.{newest}
 use Rattle.plan.specs.declared.check.BadPlan.{BadPlan}
 use Rattle.plan.specs.declared.findings.Finding.{Finding}
 use Rattle.plan.specs.declared.release.Phase.{Phase}
-use Rattle.plan.specs.declared.release.Phase.TheVariants.{Drafted, Ready, Cancelled}
+use Rattle.plan.specs.declared.release.Phase.TheVariants.{Drafted, Ready, Flying, Stopped, Completed, Cancelled}
 use Rattle.plan.specs.declared.release.Signature.{Signature}
 use Rattle.plan.specs.declared.flights.Plan.{Plan}
 use Rattle.plan.specs.declared.release.Release.{Release}
@@ -37,17 +46,17 @@ use Rattle.asks.specs.declared.reply.Reply.TheVariants.{Done}
 use Rattle.machine.specs.declared.entry.What.TheVariants as what
 use Rattle.machine.specs.declared.entry.Entry.{Entry}
 use Rattle.machine.specs.declared.effect.Effect.{Effect}
-use Rattle.machine.specs.declared.effect.Effect.TheVariants.{Tick, Admit, Defer, Clear, File, Put, PutAfresh}
+use Rattle.machine.specs.Effects.{tick}
 use Rattle.machine.specs.Events.{effected}
 use Rattle.machine.specs.declared.effect.Decision.{Decision}
 use Rattle.machine.specs.declared.effect.Decision.TheVariants.{Show, Do}
-use Rattle.machine.specs.State.{State, release_at, is_full}
+use Rattle.machine.specs.State.{State, grounds_of, failing_in, failing_of, release_at, alert_at, is_full}
 use Rattle.machine.specs.Step.{entry, entered, without_key, accepted, enter, finish, do_call, do_unless, answer_call, tick_unless, tick_to}
 use Rattle.machine.specs.Chain.{◌>>-◌, unless, some_or, refused_if}
 use Rattle.machine.specs.People.{may_ask, mistaken, not_his_role}
 use Rattle.machine.specs.Decide as d
 use Rattle.machine.specs.Decide.{decide}
-use Rattle.machine.specs.Allowed.{MaySign, GainsDispatcher, GainsCaptain, BothAre, IsSigning, IsConcurring, IsCancelling, OfHeld, IsListed, IsEffectOf, admits, defers, clears, drafts, signs, concurs, cancels, DecisionOf, IsEntryOf, IsAfter, IsPermitted, MayLeadTo, MayTickTo}
+use Rattle.machine.specs.Allowed.{MaySign, GainsDispatcher, GainsCaptain, GainsWeather, BothAre, IsPreparing, IsSigning, IsReleased, IsConcurring, HasNotEnded, IsCancelling, IsAmended, IsAmending, IsNextLeg, IsDeparting, IsStopping, IsCompleting, IsInVersion, IsAcknowledging, OfHeld, IsListed, IsEffectOf, admits, defers, clears, drafts, prepares, signs, concurs, amends, cancels, departs, stops, completes, acknowledges, DecisionOf, IsEntryOf, IsAfter, IsPermitted, MayLeadTo, MayTickTo}
 
 given : {A : Type 0} (s : State) (actor : List ℕ) (a : Ask) (m : Result A Refusal) (f : A → Result Decision Refusal) → ((x : A) → m ≡ Ok x → DecisionOf s actor a (f x)) → DecisionOf s actor a (m >>- f)
 given s actor a (Err x) f goes = tt
@@ -101,17 +110,70 @@ good_plan : (o : Option BadPlan) → d.bad_plan o ≡ None → o ≡ None
 good_plan None e = refl
 good_plan (Some bad) e = absurd (cc)
 
-not_ended : (phase : Phase) → d.ended phase ≡ None → (at : ℕ) → phase ≢ Cancelled at
-not_ended Drafted e at = λ same. absurd (cc)
-not_ended Ready e at = λ same. absurd (cc)
+same_text : (v : Revision) (digest : List ℕ) → d.mistaken_text v digest ≡ None → revision_digest v ≡ digest
+same_text v digest e = same_bytes (revision_digest v) digest (so (bytes_eq (revision_digest v) digest) _ e)
+
+none_newer : (o : Option ℕ) → d.newer_weather o ≡ None → o ≡ None
+none_newer None e = refl
+none_newer (Some report) e = absurd (cc)
+
+allowed : (b : Bool) (phase : Phase) → d.out_of_phase b phase ≡ None → b ≡ true
+allowed b phase e = so b _ e
+
+not_ended : (phase : Phase) → d.may_change phase ≡ true → HasNotEnded phase
+not_ended Drafted e at = (λ same. absurd (cc), λ same. absurd (cc))
+not_ended Ready e at = (λ same. absurd (cc), λ same. absurd (cc))
+not_ended (Flying leg) e at = (λ same. absurd (cc), λ same. absurd (cc))
+not_ended (Stopped next since again) e at = (λ same. absurd (cc), λ same. absurd (cc))
+not_ended (Completed since) e at = absurd (cc)
 not_ended (Cancelled since) e at = absurd (cc)
+
+next_leg : (phase : Phase) (leg : ℕ) → d.may_depart phase leg ≡ true → IsNextLeg phase leg
+next_leg Drafted leg e = absurd (cc)
+next_leg Ready leg e = eqb-true leg 1 e
+next_leg (Flying n) leg e = absurd (cc)
+next_leg (Stopped next since again) leg e = eqb-true leg next e
+next_leg (Completed at) leg e = absurd (cc)
+next_leg (Cancelled at) leg e = absurd (cc)
+
+in_flight : (phase : Phase) (leg : ℕ) → d.may_arrive phase leg ≡ true → phase ≡ Flying leg
+in_flight Drafted leg e = absurd (cc)
+in_flight Ready leg e = absurd (cc)
+in_flight (Flying n) leg e = ap (λ k. Flying k) (sym (eqb-true leg n e))
+in_flight (Stopped next since again) leg e = absurd (cc)
+in_flight (Completed at) leg e = absurd (cc)
+in_flight (Cancelled at) leg e = absurd (cc)
+
+-- an active release that fails nothing now
+passes_by : (o : Option (List Finding)) → d.failing_any o ≡ None → (o ≡ None → ⊥) → o ≡ Some []
+passes_by None e active = absurd (active refl)
+passes_by (Some []) e active = refl
+passes_by (Some (f ∷ fs)) e active = absurd (cc)
+
+released : (phase : Phase) → IsReleased phase (d.once_signed phase)
+released Drafted = refl
+released Ready = refl
+released (Flying leg) = refl
+released (Stopped next since again) = refl
+released (Completed at) = refl
+released (Cancelled at) = refl
+
+good_change : (plan : Plan) (v : Revision) (phase : Phase) → d.bad_change plan (Some v) phase ≡ None → change_fault plan v.plan phase ≡ None
+good_change plan v phase e = good_plan (change_fault plan v.plan phase) e
 
 there_is : (o : Option MelRow) → is_none o ≡ false → is_some o ≡ true
 there_is None e = absurd (cc)
 there_is (Some row) e = refl
 
-may_sign : (s : State) (q : Release) (v : Revision) (number : ℕ) → d.misnumbered v number ≡ None → d.fails s q v ≡ None → MaySign s number q v
-may_sign s q v number one two = record { numbered = numbered v number one; passes = none_fail _ two }
+may_sign : (s : State) (q : Release) (v : Revision) (number : ℕ) (digest : List ℕ) → d.unprepared v ≡ None → d.misnumbered v number ≡ None → d.mistaken_text v digest ≡ None
+    → d.outdated s q v ≡ None → d.fails s q v ≡ None → MaySign s number digest q v
+may_sign s q v number digest ready named on latest passes = record {
+  numbered = numbered v number named;
+  prepared = so v.prepared _ ready;
+  text = same_text v digest on;
+  newest_weather = none_newer (newer_than s.reports v.plan q.phase v.attached) latest;
+  passes = none_fail _ passes;
+}
 
 both_are : (R : Revision → Revision → Type 0) (p : Option Revision) (v w : Revision) → p ≡ Some v → R v w → BothAre R p (Some w)
 both_are R p v w e is = subst (λ (o : Option Revision). BothAre R o (Some w)) (sym e) is
@@ -119,32 +181,84 @@ both_are R p v w e is = subst (λ (o : Option Revision). BothAre R o (Some w)) (
 of_held : (R : Release → Release → Type 0) (o : Option Release) (q r : Release) → o ≡ Some q → R q r → OfHeld R o r
 of_held R o q r e is = subst (λ (p : Option Release). OfHeld R p r) (sym e) is
 
-signing : (s : State) (q : Release) (v : Revision) (actor : List ℕ) (number : ℕ) → q.pending ≡ Some v → q.holder ≡ actor → MaySign s number q v → v.dispatcher ≡ None
-    → IsSigning s actor number q (d.with_dispatcher q v (d.signed_by actor s.moment))
-signing s q v actor number e own may unsigned = record {
+preparing : (s : State) (q : Release) (v : Revision) (actor : List ℕ) → q.pending ≡ Some v → q.holder ≡ actor → IsPreparing s actor q (d.prepared s q v)
+preparing s q v actor e own = record {
   own = own;
-  id = refl;
-  holder = refl;
+  same = record { id = refl; holder = refl };
   phase = refl;
   active = refl;
-  pending = both_are (GainsDispatcher s actor number q) q.pending v (record v { dispatcher = Some (d.signed_by actor s.moment) }) e
-      (record { may = may; unsigned = unsigned; number = refl; plan = refl; dispatcher = (refl, refl); captain = refl });
+  pending = both_are (GainsWeather s q) q.pending v (d.with_weather s q.phase v) e
+      (record { number = refl; plan = refl; prepared = refl; attached = refl; dispatcher = refl; captain = refl });
 }
 
-concurring : (s : State) (q : Release) (v : Revision) (actor : List ℕ) (number : ℕ) → q.pending ≡ Some v → v.plan.captain ≡ actor → MaySign s number q v → v.dispatcher ≢ None
-    → IsConcurring s actor number q (d.made_active q v (d.signed_by actor s.moment))
-concurring s q v actor number e own may signed = record {
-  id = refl;
-  holder = refl;
-  drafted = λ is. ap d.once_signed is;
-  ready = λ is. ap d.once_signed is;
-  active = both_are (GainsCaptain s actor number q) q.pending v (record v { captain = Some (d.signed_by actor s.moment) }) e
-      (record { may = may; signed = signed; own = own; number = refl; plan = refl; dispatcher = refl; captain = (refl, refl) });
+signing : (s : State) (q : Release) (v : Revision) (actor : List ℕ) (number : ℕ) (digest : List ℕ) → q.pending ≡ Some v → q.holder ≡ actor → MaySign s number digest q v → v.dispatcher ≡ None
+    → IsSigning s actor number digest q (d.with_dispatcher q v (d.signed_by actor s.moment digest))
+signing s q v actor number digest e own may unsigned = record {
+  own = own;
+  same = record { id = refl; holder = refl };
+  phase = refl;
+  active = refl;
+  pending = both_are (GainsDispatcher s actor number digest q) q.pending v (record v { dispatcher = Some (d.signed_by actor s.moment digest) }) e
+      (record { may = may; unsigned = unsigned; same = record { number = refl; plan = refl; prepared = refl; attached = refl }; dispatcher = (refl, refl, refl); captain = refl });
+}
+
+concurring : (s : State) (q : Release) (v : Revision) (actor : List ℕ) (number : ℕ) (digest : List ℕ) → q.pending ≡ Some v → v.plan.captain ≡ actor → MaySign s number digest q v
+    → v.dispatcher ≢ None → IsConcurring s actor number digest q (d.made_active q v (d.signed_by actor s.moment digest))
+concurring s q v actor number digest e own may signed = record {
+  same = record { id = refl; holder = refl };
+  phase = released q.phase;
+  active = both_are (GainsCaptain s actor number digest q) q.pending v (record v { captain = Some (d.signed_by actor s.moment digest) }) e
+      (record { may = may; signed = signed; own = own; same = record { number = refl; plan = refl; prepared = refl; attached = refl }; dispatcher = refl; captain = (refl, refl, refl) });
   pending = refl;
 }
 
-cancelling : (s : State) (q : Release) (actor : List ℕ) → q.holder ≡ actor → ((at : ℕ) → q.phase ≢ Cancelled at) → IsCancelling s actor q (d.cancelled q s.moment)
-cancelling s q actor own once = record { own = own; once = once; id = refl; holder = refl; phase = refl; active = refl; pending = refl }
+amending : (s : State) (q : Release) (plan : Plan) (actor : List ℕ) (o : Option Revision) → newest q.pending q.active ≡ o → (o ≡ None → ⊥) → q.holder ≡ actor → HasNotEnded q.phase
+    → plan_fault s.tables plan ≡ None → d.bad_change plan o q.phase ≡ None → IsAmending s actor plan (d.newest_number o + 1) q (record q { pending = Some (d.fresh_revision (d.newest_number o + 1) plan) })
+amending s q plan actor None is there own once passes follows = absurd (there refl)
+amending s q plan actor (Some v) is there own once passes follows = record {
+  own = own;
+  once = once;
+  same = record { id = refl; holder = refl };
+  phase = refl;
+  active = refl;
+  pending = subst (λ (o : Option Revision). IsAmended s plan q.phase o (Some (d.fresh_revision (v.number + 1) plan)) (v.number + 1)) (sym is)
+      (record { passes = passes; follows = good_change plan v q.phase follows }, refl, (refl, refl, refl, refl, refl, refl));
+}
+
+cancelling : (s : State) (q : Release) (actor : List ℕ) → q.holder ≡ actor → HasNotEnded q.phase → IsCancelling s actor q (d.cancelled q s.moment)
+cancelling s q actor own once = record { own = own; once = once; same = record { id = refl; holder = refl }; phase = refl; active = refl; pending = refl }
+
+departing : (s : State) (q : Release) (actor : List ℕ) (leg : ℕ) → d.flies_by (actor_of s.tables actor) q ≡ actor → IsNextLeg q.phase leg → failing_of (grounds_of s) q ≡ Some []
+    → IsDeparting s actor leg q (d.departed q leg)
+departing s q actor leg own next passes = record {
+  own = own;
+  next = next;
+  passes = passes;
+  same = record { id = refl; holder = refl };
+  phase = refl;
+  active = refl;
+  pending = refl;
+}
+
+stopping : (s : State) (q : Release) (actor : List ℕ) (leg : ℕ) → d.flies_by (actor_of s.tables actor) q ≡ actor → q.phase ≡ Flying leg → d.has_more q leg ≡ true
+    → IsStopping s actor leg q (d.stopped q leg s.moment)
+stopping s q actor leg own flying more = record {
+  arrives = record { own = own; flying = flying; same = record { id = refl; holder = refl }; active = refl; pending = refl };
+  more = ltb-true leg (d.leg_count q.active) more;
+  phase = refl;
+}
+
+completing : (s : State) (q : Release) (actor : List ℕ) (leg : ℕ) → d.flies_by (actor_of s.tables actor) q ≡ actor → q.phase ≡ Flying leg → d.has_more q leg ≡ false
+    → IsCompleting s actor leg q (d.completed q s.moment)
+completing s q actor leg own flying last = record {
+  arrives = record { own = own; flying = flying; same = record { id = refl; holder = refl }; active = refl; pending = refl };
+  last = ltb-false leg (d.leg_count q.active) last;
+  phase = refl;
+}
+
+acknowledging : (s : State) (q : Release) (actor : List ℕ) (version : ℕ) (a : Alert) → alert_at q.id s.alerts ≡ Some a → q.holder ≡ actor → a.version ≡ version
+    → IsAcknowledging s actor version q
+acknowledging s q actor version a is own same = record { own = own; seen = subst (λ (o : Option Alert). IsInVersion version o) (sym is) same }
 
 read_given : (r : Result Read BadReport) (read : Read) → d.reading_or r ≡ Ok read → r ≡ Ok read
 read_given (Err bad) read e = absurd (cc)
@@ -230,7 +344,7 @@ draft s actor plan =
         is_new = refl;
         holder = refl;
         phase = refl;
-        pending = (refl, refl, refl, refl);
+        pending = (refl, refl, refl, refl, refl, refl);
         active = refl;
       }),
     ))
@@ -238,55 +352,171 @@ draft s actor plan =
 filed_as : (r n m : ℕ) → n ≡ m → Done (done.Filed r n) ≡ Done (done.Filed r m)
 filed_as r n m e = ap (λ k. Done (done.Filed r k)) e
 
-sign : (s : State) (actor : List ℕ) (id number : ℕ) → DecisionOf s actor (ask.Sign id number) (d.decide_sign s actor id number)
-sign s actor id number =
-    given s actor (ask.Sign id number) (d.held s id) _ (λ q e. given s actor (ask.Sign id number) (d.pending q) _ (λ v f.
-    known s actor (ask.Sign id number) (d.not_yours q.holder actor) _ (λ own. known s actor (ask.Sign id number) (d.misnumbered v number) _
-    (λ named. known s actor (ask.Sign id number) (d.signed v.dispatcher) _ (λ fresh. known s actor (ask.Sign id number) (d.fails s q v) _
-    (λ passes. (
+prepare : (s : State) (actor : List ℕ) (id : ℕ) → DecisionOf s actor (ask.Prepare id) (d.decide_prepare s actor id)
+prepare s actor id =
+    given s actor (ask.Prepare id) (d.held s id) _ (λ q e. given s actor (ask.Prepare id) (d.pending q) _ (λ v f.
+    known s actor (ask.Prepare id) (d.not_yours q.holder actor) _
+    (λ own. (
       _,
-      filed_as q.id v.number number (numbered v number named),
-      signs (of_held (IsSigning s actor number) (release_at id s.releases) q _ (some_given _ (release_at id s.releases) q e)
-          (signing s q v actor number (some_given _ q.pending v f) (his q.holder actor own) (may_sign s q v number named passes) (unsigned_is v.dispatcher fresh))),
-    )))))))
+      refl,
+      prepares (of_held (IsPreparing s actor) (release_at id s.releases) q _ (some_given _ (release_at id s.releases) q e)
+          (preparing s q v actor (some_given _ q.pending v f) (his q.holder actor own))) refl,
+    ))))
 
-concur : (s : State) (actor : List ℕ) (id number : ℕ) → DecisionOf s actor (ask.Concur id number) (d.decide_concur s actor id number)
-concur s actor id number =
-    given s actor (ask.Concur id number) (d.held s id) _ (λ q e. given s actor (ask.Concur id number) (d.pending q) _ (λ v f.
-    known s actor (ask.Concur id number) (d.unsigned v.dispatcher) _ (λ has. known s actor (ask.Concur id number) (d.not_yours v.plan.captain actor) _ (λ own.
-    known s actor (ask.Concur id number) (d.misnumbered v number) _ (λ named. known s actor (ask.Concur id number) (d.fails s q v) _
+sign : (s : State) (actor : List ℕ) (id number : ℕ) (digest : List ℕ) → DecisionOf s actor (ask.Sign id number digest) (d.decide_sign s actor id number digest)
+sign s actor id number digest =
+    let a : Ask = ask.Sign id number digest in
+    given s actor a (d.held s id) _ (λ q e. given s actor a (d.pending q) _ (λ v f. known s actor a (d.unprepared v) _ (λ ready.
+    known s actor a (d.not_yours q.holder actor) _ (λ own. known s actor a (d.misnumbered v number) _ (λ named. known s actor a (d.mistaken_text v digest) _ (λ on.
+    known s actor a (d.signed v.dispatcher) _ (λ fresh. known s actor a (d.outdated s q v) _ (λ latest. known s actor a (d.fails s q v) _
     (λ passes. (
       _,
       filed_as q.id v.number number (numbered v number named),
-      concurs (of_held (IsConcurring s actor number) (release_at id s.releases) q _ (some_given _ (release_at id s.releases) q e)
-          (concurring s q v actor number (some_given _ q.pending v f) (his v.plan.captain actor own) (may_sign s q v number named passes) (signed_is v.dispatcher has))),
-    )))))))
+      signs (of_held (IsSigning s actor number digest) (release_at id s.releases) q _ (some_given _ (release_at id s.releases) q e)
+          (signing s q v actor number digest (some_given _ q.pending v f) (his q.holder actor own) (may_sign s q v number digest ready named on latest passes) (unsigned_is v.dispatcher fresh))),
+    ))))))))))
+
+concur : (s : State) (actor : List ℕ) (id number : ℕ) (digest : List ℕ) → DecisionOf s actor (ask.Concur id number digest) (d.decide_concur s actor id number digest)
+concur s actor id number digest =
+    let a : Ask = ask.Concur id number digest in
+    given s actor a (d.held s id) _ (λ q e. given s actor a (d.pending q) _ (λ v f. known s actor a (d.unprepared v) _ (λ ready.
+    known s actor a (d.unsigned v.dispatcher) _ (λ has. known s actor a (d.not_yours v.plan.captain actor) _ (λ own. known s actor a (d.misnumbered v number) _ (λ named.
+    known s actor a (d.mistaken_text v digest) _ (λ on. known s actor a (d.outdated s q v) _ (λ latest. known s actor a (d.fails s q v) _
+    (λ passes. (
+      _,
+      filed_as q.id v.number number (numbered v number named),
+      concurs (of_held (IsConcurring s actor number digest) (release_at id s.releases) q _ (some_given _ (release_at id s.releases) q e)
+          (concurring s q v actor number digest (some_given _ q.pending v f) (his v.plan.captain actor own) (may_sign s q v number digest ready named on latest passes) (signed_is v.dispatcher has))),
+    ))))))))))
+
+-- A release that may be amended has a revision: the definition asks that of soundness.
+amend : (s : State) (actor : List ℕ) (id : ℕ) (plan : Plan) → ((q : Release) → release_at id s.releases ≡ Some q → d.may_change q.phase ≡ true → newest q.pending q.active ≡ None → ⊥)
+    → DecisionOf s actor (ask.Amend id plan) (d.decide_amend s actor id plan)
+amend s actor id plan there =
+    let a : Ask = ask.Amend id plan in
+    given s actor a (d.held s id) _ (λ q e. known s actor a (d.out_of_phase (d.may_change q.phase) q.phase) _ (λ may. known s actor a (d.not_yours q.holder actor) _ (λ own.
+    known s actor a (d.bad_plan (plan_fault s.tables plan)) _ (λ passes. known s actor a (d.bad_change plan (newest q.pending q.active) q.phase) _
+    (λ follows. (
+      _,
+      refl,
+      amends (of_held (IsAmending s actor plan (d.newest_number (newest q.pending q.active) + 1)) (release_at id s.releases) q _ (some_given _ (release_at id s.releases) q e)
+          (amending s q plan actor (newest q.pending q.active) refl (there q (some_given _ (release_at id s.releases) q e) (allowed (d.may_change q.phase) q.phase may)) (his q.holder actor own)
+          (not_ended q.phase (allowed (d.may_change q.phase) q.phase may)) (good_plan (plan_fault s.tables plan) passes) follows)),
+    ))))))
 
 cancel : (s : State) (actor : List ℕ) (id : ℕ) → DecisionOf s actor (ask.Cancel id) (d.decide_cancel s actor id)
 cancel s actor id =
-    given s actor (ask.Cancel id) (d.held s id) _ (λ q e. known s actor (ask.Cancel id) (d.ended q.phase) _ (λ goes. known s actor (ask.Cancel id) (d.not_yours q.holder actor) _
+    given s actor (ask.Cancel id) (d.held s id) _ (λ q e. known s actor (ask.Cancel id) (d.out_of_phase (d.may_change q.phase) q.phase) _
+    (λ goes. known s actor (ask.Cancel id) (d.not_yours q.holder actor) _
     (λ own. (
       _,
       refl,
       cancels (of_held (IsCancelling s actor) (release_at id s.releases) q _ (some_given _ (release_at id s.releases) q e)
-          (cancelling s q actor (his q.holder actor own) (not_ended q.phase goes))),
+          (cancelling s q actor (his q.holder actor own) (not_ended q.phase (allowed (d.may_change q.phase) q.phase goes)))),
     ))))
 
-ask_is : (s : State) (actor : List ℕ) (a : Ask) → DecisionOf s actor a (d.decide_ask s actor a)
-ask_is s actor (ask.Admit text) = admit s actor text
-ask_is s actor (ask.Defer tail item found) = defer s actor tail item found
-ask_is s actor (ask.Clear deferral) = clear s actor deferral
-ask_is s actor (ask.Draft plan) = draft s actor plan
-ask_is s actor (ask.Sign id number) = sign s actor id number
-ask_is s actor (ask.Concur id number) = concur s actor id number
-ask_is s actor (ask.Cancel id) = cancel s actor id
-ask_is s actor ask.ViewAlerts = tt
-ask_is s actor (ask.ViewDeferred tail) = deferred s actor tail
+depart : (s : State) (actor : List ℕ) (id leg : ℕ) → ((q : Release) → release_at id s.releases ≡ Some q → d.may_depart q.phase leg ≡ true → failing_of (grounds_of s) q ≡ None → ⊥)
+    → DecisionOf s actor (ask.Depart id leg) (d.decide_depart s actor id leg)
+depart s actor id leg judged =
+    let a : Ask = ask.Depart id leg in
+    given s actor a (d.held s id) _ (λ q e. known s actor a (d.out_of_phase (d.may_depart q.phase leg) q.phase) _ (λ may.
+    known s actor a (d.not_yours (d.flies_by (actor_of s.tables actor) q) actor) _ (λ own. known s actor a (d.fails_now s q) _
+    (λ passes. (
+      _,
+      refl,
+      departs (of_held (IsDeparting s actor leg) (release_at id s.releases) q _ (some_given _ (release_at id s.releases) q e)
+          (departing s q actor leg (his (d.flies_by (actor_of s.tables actor) q) actor own) (next_leg q.phase leg (allowed (d.may_depart q.phase leg) q.phase may))
+          (passes_by (failing_of (grounds_of s) q) passes (judged q (some_given _ (release_at id s.releases) q e) (allowed (d.may_depart q.phase leg) q.phase may))))),
+    )))))
+
+arrival_is : (more : Bool) (s : State) (actor : List ℕ) (id leg : ℕ) (q : Release) → release_at id s.releases ≡ Some q → d.flies_by (actor_of s.tables actor) q ≡ actor → q.phase ≡ Flying leg
+    → d.has_more q leg ≡ more → DecisionOf s actor (ask.Arrive id leg) (Ok (d.arrival more q leg s.moment))
+arrival_is true s actor id leg q held own flying more = (_, refl, stops (of_held (IsStopping s actor leg) (release_at id s.releases) q _ held (stopping s q actor leg own flying more)))
+arrival_is false s actor id leg q held own flying more = (_, refl, completes (of_held (IsCompleting s actor leg) (release_at id s.releases) q _ held (completing s q actor leg own flying more)))
+
+arrive : (s : State) (actor : List ℕ) (id leg : ℕ) → DecisionOf s actor (ask.Arrive id leg) (d.decide_arrive s actor id leg)
+arrive s actor id leg =
+    let a : Ask = ask.Arrive id leg in
+    given s actor a (d.held s id) _ (λ q e. known s actor a (d.out_of_phase (d.may_arrive q.phase leg) q.phase) _ (λ may.
+    known s actor a (d.not_yours (d.flies_by (actor_of s.tables actor) q) actor) _
+    (λ own. arrival_is (d.has_more q leg) s actor id leg q (some_given _ (release_at id s.releases) q e) (his (d.flies_by (actor_of s.tables actor) q) actor own)
+    (in_flight q.phase leg (allowed (d.may_arrive q.phase leg) q.phase may)) refl)))
+
+in_version : (a : Alert) (version : ℕ) → d.moved a version ≡ None → a.version ≡ version
+in_version a version e = eqb-true a.version version (so (eqb a.version version) _ e)
+
+acknowledge : (s : State) (actor : List ℕ) (id version : ℕ) → DecisionOf s actor (ask.Acknowledge id version) (d.decide_acknowledge s actor id version)
+acknowledge s actor id version =
+    let k : Ask = ask.Acknowledge id version in
+    given s actor k (d.held s id) _ (λ q e. given s actor k (d.alert_of s q.id) _ (λ a f. known s actor k (d.not_yours q.holder actor) _ (λ own. known s actor k (d.moved a version) _
+    (λ seen. (
+      _,
+      refl,
+      acknowledges (some_given _ (release_at id s.releases) q e)
+          (acknowledging s q actor version a (some_given _ (alert_at q.id s.alerts) a f) (his q.holder actor own) (in_version a version seen)),
+    )))))
+
+view_release : (s : State) (actor : List ℕ) (id : ℕ) → DecisionOf s actor (ask.ViewRelease id) (d.decide_release s id)
+view_release s actor id = given s actor (ask.ViewRelease id) (d.held s id) _ (λ r e. tt)
+
+view_weather : (s : State) (actor : List ℕ) (station : Station) → DecisionOf s actor (ask.ViewWeather station) (d.decide_weather s station)
+view_weather s actor station = known s actor (ask.ViewWeather station) (d.no_airport s station) _ (λ e. tt)
+
+-- What soundness says of a release that is held.
+
+valid_by : (most : ℕ) (o : Option Release) (q : Release) → IfSome o (IsValid most) → o ≡ Some q → IsValid most q
+valid_by most None q is e = absurd (cc)
+valid_by most (Some r) q is e = subst (λ (p : Option Release). IfSome p (IsValid most)) e is
+
+valid_held : (s : State) (id : ℕ) (q : Release) → Sound s → release_at id s.releases ≡ Some q → IsValid s.counters.events q
+valid_held s id q sound is =
+    valid_by s.counters.events (release_at id s.releases) q (found_each (IsValid s.counters.events) (λ r. eqb r.id id) s.releases sound.valid) is
+
+there_by : (phase : Phase) (pending active : Option Revision) → d.may_change phase ≡ true → IsPhased phase pending active → newest pending active ≡ None → ⊥
+there_by phase (Some v) active e is none = absurd (cc)
+there_by Drafted None active e is none = is.0
+there_by Ready None None e is none = is
+there_by Ready None (Some v) e is none = absurd (cc)
+there_by (Flying leg) None None e is none = is
+there_by (Flying leg) None (Some v) e is none = absurd (cc)
+there_by (Stopped next since again) None None e is none = is
+there_by (Stopped next since again) None (Some v) e is none = absurd (cc)
+there_by (Completed at) None active e is none = absurd (cc)
+there_by (Cancelled at) None active e is none = absurd (cc)
+
+judged_by : (g : Grounds) (phase : Phase) (leg : ℕ) (pending active : Option Revision) → d.may_depart phase leg ≡ true → IsPhased phase pending active → failing_in g active phase ≡ None → ⊥
+judged_by g Drafted leg pending active e is none = absurd (cc)
+judged_by g Ready leg pending None e is none = is
+judged_by g Ready leg pending (Some v) e is none = absurd (cc)
+judged_by g (Flying n) leg pending active e is none = absurd (cc)
+judged_by g (Stopped next since again) leg pending None e is none = is
+judged_by g (Stopped next since again) leg pending (Some v) e is none = absurd (cc)
+judged_by g (Completed at) leg pending active e is none = absurd (cc)
+judged_by g (Cancelled at) leg pending active e is none = absurd (cc)
+
+ask_is : (s : State) (actor : List ℕ) (a : Ask) → Sound s → DecisionOf s actor a (d.decide_ask s actor a)
+ask_is s actor (ask.Admit text) sound = admit s actor text
+ask_is s actor (ask.Defer tail item found) sound = defer s actor tail item found
+ask_is s actor (ask.Clear deferral) sound = clear s actor deferral
+ask_is s actor (ask.Draft plan) sound = draft s actor plan
+ask_is s actor (ask.Prepare id) sound = prepare s actor id
+ask_is s actor (ask.Sign id number digest) sound = sign s actor id number digest
+ask_is s actor (ask.Concur id number digest) sound = concur s actor id number digest
+ask_is s actor (ask.Amend id plan) sound = amend s actor id plan (λ q e may. there_by q.phase q.pending q.active may (valid_held s id q sound e).phased)
+ask_is s actor (ask.Cancel id) sound = cancel s actor id
+ask_is s actor (ask.Depart id leg) sound = depart s actor id leg (λ q e may. judged_by (grounds_of s) q.phase leg q.pending q.active may (valid_held s id q sound e).phased)
+ask_is s actor (ask.Arrive id leg) sound = arrive s actor id leg
+ask_is s actor (ask.Acknowledge id version) sound = acknowledge s actor id version
+ask_is s actor ask.ViewBoard sound = tt
+ask_is s actor ask.ViewAlerts sound = tt
+ask_is s actor (ask.ViewRelease id) sound = view_release s actor id
+ask_is s actor (ask.ViewWeather station) sound = view_weather s actor station
+ask_is s actor (ask.ViewDeferred tail) sound = deferred s actor tail
 
 -- a call changes no more than its ask may
-pub decision_is : (s : State) (call : Call) → DecisionOf s call.actor call.ask (decide s call)
+pub decision_is : (s : State) (call : Call) → Sound s → DecisionOf s call.actor call.ask (decide s call)
 unfolding decide
-decision_is s call = known s call.actor call.ask (not_his_role (actor_of s.tables call.actor) call.ask) _ (λ e. ask_is s call.actor call.ask)
+decision_is s call sound = known s call.actor call.ask (not_his_role (actor_of s.tables call.actor) call.ask) _ (λ e. ask_is s call.actor call.ask sound)
 
 -- Who may make a call.
 
@@ -323,14 +553,8 @@ permitted_by s call (Some person) is right has = record {
 
 -- What a step leaves.
 
-effect_after : (effect : Effect) (e : Entry) (s : State) → IsAfter effect e s (entered e (effected effect s))
-effect_after (Tick to) e s = record { judged = refl; tables = refl; moment = refl; reports = refl; deferrals = refl; releases = refl; entries = refl; events = refl }
-effect_after (Admit report) e s = record { judged = refl; tables = refl; moment = refl; reports = refl; deferrals = refl; releases = refl; entries = refl; events = refl }
-effect_after (Defer d) e s = record { judged = refl; tables = refl; moment = refl; reports = refl; deferrals = refl; releases = refl; entries = refl; events = refl }
-effect_after (Clear id) e s = record { judged = refl; tables = refl; moment = refl; reports = refl; deferrals = refl; releases = refl; entries = refl; events = refl }
-effect_after (File r) e s = record { judged = refl; tables = refl; moment = refl; reports = refl; deferrals = refl; releases = refl; entries = refl; events = refl }
-effect_after (Put r) e s = record { judged = refl; tables = refl; moment = refl; reports = refl; deferrals = refl; releases = refl; entries = refl; events = refl }
-effect_after (PutAfresh r) e s = record { judged = refl; tables = refl; moment = refl; reports = refl; deferrals = refl; releases = refl; entries = refl; events = refl }
+effect_after : (does : Effect) (e : Entry) (s : State) → IsAfter does e s (entered e (effected does s))
+effect_after does e s = record { judged = refl; tables = refl; moment = refl; reports = refl; deferrals = refl; releases = refl; entries = refl; events = refl }
 
 -- the entry of a call
 entry_is : (lane : ℕ) (call : Call) (reply : Reply) → IsEntryOf lane call reply (entry lane (what.Asked (without_key call) reply))
@@ -353,23 +577,24 @@ finish_leads s lane call (Err refusal) permitted is = inl (refl, tt)
 finish_leads s lane call (Ok (Show reply)) permitted is = inl (refl, is)
 finish_leads s lane call (Ok (Do reply effect)) permitted is = enter_leads (is_full s) s lane call reply effect is.0 (permitted tt) is.1 is.2
 
-do_leads : (s : State) (lane : ℕ) (call : Call) (o : Option Refusal) → mistaken (actor_of s.tables call.actor) call.key ≡ o
+do_leads : (s : State) (lane : ℕ) (call : Call) (o : Option Refusal) → Sound s → mistaken (actor_of s.tables call.actor) call.key ≡ o
     → MayLeadTo lane call s (do_unless o s lane call).state (do_unless o s lane call).reply
 unfolding do_call
-do_leads s lane call (Some refusal) is = inl (refl, tt)
-do_leads s lane call None is =
-    finish_leads s lane call (decide s call) (λ does. permitted_by s call (actor_of s.tables call.actor) refl is (decided_role s call does)) (decision_is s call)
+do_leads s lane call (Some refusal) sound is = inl (refl, tt)
+do_leads s lane call None sound is =
+    finish_leads s lane call (decide s call) (λ does. permitted_by s call (actor_of s.tables call.actor) refl is (decided_role s call does)) (decision_is s call sound)
 
 -- a call leads to no other state than its ask may
-pub call_leads : (s t : State) (lane : ℕ) (call : Call) (reply : Option Reply) → t ≡ (answer_call s lane call).state → reply ≡ (answer_call s lane call).reply → MayLeadTo lane call s t reply
+pub call_leads : (s t : State) (lane : ℕ) (call : Call) (reply : Option Reply) → Sound s → t ≡ (answer_call s lane call).state → reply ≡ (answer_call s lane call).reply
+    → MayLeadTo lane call s t reply
 unfolding answer_call
-call_leads s t lane call reply one two =
+call_leads s t lane call reply sound one two =
     subst (λ (u : State). MayLeadTo lane call s u reply) (sym one)
-    (subst (λ (x : Option Reply). MayLeadTo lane call s (answer_call s lane call).state x) (sym two) (do_leads s lane call (mistaken (actor_of s.tables call.actor) call.key) refl))
+    (subst (λ (x : Option Reply). MayLeadTo lane call s (answer_call s lane call).state x) (sym two) (do_leads s lane call (mistaken (actor_of s.tables call.actor) call.key) sound refl))
 
 tick_leads_by : (full : Bool) (s : State) (lane to : ℕ) → MayTickTo lane to s (tick_unless full s lane to).state (tick_unless full s lane to).reply
 tick_leads_by true s lane to = inl (refl, tt)
-tick_leads_by false s lane to = inr (refl, entry lane (what.Tick to), refl, refl, effect_after (Tick to) (entry lane (what.Tick to)) s)
+tick_leads_by false s lane to = inr (refl, entry lane (what.Tick to), refl, refl, effect_after (tick to) (entry lane (what.Tick to)) s)
 
 -- a tick leads to no other state than it may
 pub tick_leads : (s t : State) (lane to : ℕ) (reply : Option Reply) → t ≡ (tick_to s lane to).state → reply ≡ (tick_to s lane to).reply → MayTickTo lane to s t reply

@@ -1,20 +1,10 @@
 -- Every step keeps what holds of a board.
-use Rattle.std.proofs.Common.{◌≡◌, ℕ, ◌+◌, ◌<◌, ◌≤◌, Bool, true, false, cond, not, ◌||◌, List, [], ◌∷◌, ◌++◌, length, length-append, Option, None, Some, IfSome, Result, Ok, Err, refl, ap, sym, ◌∙◌, subst, arith}
+use Rattle.std.proofs.Common.{◌≡◌, ℕ, ◌+◌, ◌<◌, ◌≤◌, Bool, true, false, not, ◌||◌, List, [], ◌∷◌, ◌++◌, length, length-append, Option, None, Some, IfSome, Result, Ok, Err, refl, ap, sym, subst, arith}
 use Rattle.std.specs.Prelude.{nat_le}
 use Rattle.std.specs.List.{AllByRecursion}
 use Rattle.std.proofs.lemmas.Bool.{leb-false}
-use Rattle.std.proofs.lemmas.List.Elements.{All-from_recursion}
-use Rattle.std.proofs.lemmas.List.Quantifiers.{all_pairs_push}
-use Rattle.std.proofs.lemmas.List.Kept.{AllPairs-filter}
-use Rattle.std.specs.Prelude.{filter, find}
-use Rattle.std.specs.Option.{option_map}
-use Rattle.facts.specs.Same.{is_same, same_id, minute_of_report}
 use Rattle.ops_tables.specs.Tables.{TableRows, actor_of}
-use Rattle.deferrals.specs.declared.items.Deferral.{Deferral}
-use Rattle.deferrals.specs.Held.{has_id, without}
-use Rattle.facts.specs.declared.report.Report.{Report}
 use Rattle.plan.specs.declared.release.Release.{Release}
-use Rattle.plan.specs.declared.release.Revision.{Revision}
 use Rattle.asks.specs.declared.call.Call.{Call}
 use Rattle.asks.specs.declared.reply.Reply.{Reply}
 use Rattle.asks.specs.declared.reply.Refusal.{Refusal}
@@ -27,9 +17,9 @@ use Rattle.machine.specs.declared.entry.What.TheVariants as what
 use Rattle.machine.specs.declared.effect.Decision.{Decision}
 use Rattle.machine.specs.declared.effect.Decision.TheVariants.{Show, Do}
 use Rattle.machine.specs.declared.effect.Effect.{Effect}
-use Rattle.machine.specs.declared.effect.Effect.TheVariants.{Tick, Admit, Defer, Clear, File, Put, PutAfresh}
+use Rattle.machine.specs.Effects.{tick}
 use Rattle.machine.specs.State.{State, start, grounds_of, alert_at, is_full}
-use Rattle.machine.specs.Events.{put, without_alert, effected}
+use Rattle.machine.specs.Events.{effected, releases_after}
 use Rattle.machine.specs.Decide.{decide}
 use Rattle.machine.specs.Step.{entry, entered, next_kept, accepted, enter, finish, do_call, changes, changes_by, do_unless, answer_call, ticked, tick_unless, tick_to, without_key}
 use Rattle.std.specs.Str.{bytes_eq}
@@ -40,10 +30,11 @@ use Rattle.machine.specs.People.{mistaken}
 use Rattle.machine.specs.Legal.{MayCome, next, Legal, IsHistory}
 use Rattle.plan.specs.Texts.{IsMoment}
 use Rattle.rules.specs.Grounds.{Grounds}
-use Rattle.machine.specs.Sound.{Sound, InBounds, ReleaseInBounds, IsValid, AreNumbered, IsBoard, IsNumbered, IsOpen, AreOpen, MayOpen, IsNext, AreUnlike, IsEntered, IsToldTo, IsAlerted, AreCounters, Rise, EffectFits, DecisionFits}
+use Rattle.machine.specs.Sound.{Sound, InBounds, ReleaseInBounds, IsValid, IsBoard, IsNumbered, AreOpen, AreUnlike, IsEntered, IsToldTo, IsAlerted, Rise, EffectFits, DecisionFits}
 use Rattle.asks.specs.Forms.{IsCall, RefusalHasMoment, ReplyHasMoment}
-use Rattle.machine.proofs.Each.{each_push, each_weaker, put_each}
-use Rattle.machine.proofs.Judging.{AreTold, all_own, are_alerted, are_alerts, none_next, found_without, each_without, rise_push, rise_put}
+use Rattle.machine.proofs.Each.{each_push, each_weaker}
+use Rattle.machine.proofs.Judging.{AreTold, alerts_have, all_own, are_alerted, are_alerts, told_kept}
+use Rattle.machine.proofs.Parts.{moment_shown, reports_unlike, reports_numbered, reports_few, report_next, deferrals_open, deferral_next, releases_rise, releases_valid, releases_kept, releases_told, release_next}
 use Rattle.machine.proofs.Deciding.{decision_fits}
 
 -- an entry more keeps a history legal
@@ -95,255 +86,33 @@ few_entries s room = leb-false 400_000 (length s.entries) (or_false (nat_le 400_
 few_events : (s : State) → is_full s ≡ false → s.counters.events < 999_999_999_999_000
 few_events s room = leb-false 999_999_999_999_000 s.counters.events (or_false (nat_le 400_000 (length s.entries)) (nat_le 999_999_999_999_000 s.counters.events) room).1
 
-more_numbers : (most : ℕ) (pending active : Option Revision) → AreNumbered most pending active → AreNumbered (most + 1) pending active
-more_numbers most None None is = tt
-more_numbers most (Some v) None is = (is.0, let two = is.1 in omega (arith, two))
-more_numbers most None (Some w) is = (is.0, let two = is.1 in omega (arith, two))
-more_numbers most (Some v) (Some w) is = (is.0, is.1, let two = is.2 in omega (arith, two))
-
-more_valid : (most : ℕ) (r : Release) → IsValid most r → IsValid (most + 1) r
-more_valid most r is = record { phased = is.phased; both = is.both; uncaptained = is.uncaptained; numbered = more_numbers most r.pending r.active is.numbered }
-
-all_valid : (most : ℕ) (rs : List Release) → AllByRecursion (IsValid most) rs → AllByRecursion (IsValid (most + 1)) rs
-all_valid most rs all = each_weaker (IsValid most) (IsValid (most + 1)) (λ r is. more_valid most r is) rs all
-
 all_told : (g : Grounds) (alerts : List Alert) (rs : List Release) → AllByRecursion (IsAlerted g alerts) rs → AreTold alerts rs
 all_told g alerts rs all = each_weaker (IsAlerted g alerts) (λ r. IsToldTo r.holder (alert_at r.id alerts)) (λ r is. is.1) rs all
 
-told_without : (gone : ℕ) (alerts : List Alert) (rs : List Release) → AreTold alerts rs → AreTold (without_alert gone alerts) rs
-told_without gone alerts rs all =
-    each_weaker (λ r. IsToldTo r.holder (alert_at r.id alerts)) (λ r. IsToldTo r.holder (alert_at r.id (without_alert gone alerts)))
-    (λ r is. found_without (λ a. a.desk ≡ r.holder) gone r.id alerts is) rs all
+acknowledged_alert : (most : ℕ) (a : Alert) → IsAlert most a → IsAlert most (record a { acknowledged = true })
+acknowledged_alert most a is = record { moment = is.moment; first = is.first; version = is.version; failing = is.failing; ever = is.ever; among = is.among }
 
-next_counters : (c : Counters) → AreCounters c → c.events < 999_999_999_999_000 → AreNext c
-next_counters c is few = record {
-  events = few;
-  report = let n = is.report in omega (arith, n);
-  deferral = let n = is.deferral in omega (arith, n);
-  release = let n = is.release in omega (arith, n);
-  accepted = is.accepted;
-}
-
-more_reports : (next : ℕ) (rs : List Report) → AllByRecursion (IsNumbered next) rs → AllByRecursion (IsNumbered (next + 1)) rs
-more_reports next rs all = each_weaker (IsNumbered next) (IsNumbered (next + 1)) (λ r within. omega (arith, within)) rs all
-
--- Reports.
-
-none_by : {A : Type 0} (p : A → Bool) (x : A) (b : Bool) (o : Option A) → p x ≡ b → cond b (Some x) o ≡ None → (p x ≡ false) × (o ≡ None)
-none_by p x true o e none = absurd (cc)
-none_by p x false o e none = (e, none)
-
--- where none is found, none passes
-none_found : {A : Type 0} (p : A → Bool) (xs : List A) → find p xs ≡ None → AllByRecursion (λ x. p x ≡ false) xs
-none_found p [] none = tt
-none_found p (x ∷ xs) none = let both = none_by p x (p x) (find p xs) refl none in (both.0, none_found p xs both.1)
-
-no_report : (o : Option Report) → option_map (λ r. r.id) o ≡ None → o ≡ None
-no_report None e = refl
-no_report (Some r) e = absurd (cc)
-
-unlike_more : (s : State) (report : Report) → IsNext s report → AreUnlike s.reports → AreUnlike (s.reports ++ report ∷ [])
-unfolding same_id
-unlike_more s report next unlike =
-    let test : Report → Bool = is_same report.text (minute_of_report report) in
-    all_pairs_push (λ a b. is_same b.text (minute_of_report b) a ≡ false) s.reports report unlike
-    (All-from_recursion (λ r. test r ≡ false) s.reports (none_found test s.reports (no_report (find test s.reports) next.unlike)))
-
--- Open deferrals.
-
-all_open : (next more : ℕ) (ds : List Deferral) → next ≤ more → AllByRecursion (IsOpen next) ds → AllByRecursion (IsOpen more) ds
-all_open next more ds within all = each_weaker (IsOpen next) (IsOpen more) (λ d is. (let below = is.0 in omega (arith, below, within), is.1)) ds all
-
-all_below : (next id : ℕ) (ds : List Deferral) → id ≡ next → AllByRecursion (IsOpen next) ds → AllByRecursion (λ e. e.id < id) ds
-all_below next id ds is all = each_weaker (IsOpen next) (λ e. e.id < id) (λ e has. let below = has.0 in omega (arith, below, is)) ds all
-
-one_longer : (ds : List Deferral) (d : Deferral) → length (ds ++ d ∷ []) ≡ length ds + 1
-one_longer ds d = length-append ds (d ∷ [])
-
-open_more : (s : State) (d : Deferral) → MayOpen s d → AreOpen s.counters.next_deferral s.deferrals → AreOpen (d.id + 1) (s.deferrals ++ d ∷ [])
-open_more s d may held =
-    let same = may.is_new in
-    record {
-      each = each_push (IsOpen (d.id + 1)) s.deferrals d (all_open s.counters.next_deferral (d.id + 1) s.deferrals (omega (arith, same)) held.each) (omega arith, may.found);
-      rising = all_pairs_push (λ a b. a.id < b.id) s.deferrals d held.rising
-          (All-from_recursion (λ e. e.id < d.id) s.deferrals (all_below s.counters.next_deferral d.id s.deferrals may.is_new held.each));
-      few = let long = one_longer s.deferrals d in let few = may.few in omega (arith, long, few);
-    }
-
-each_filter : {A : Type 0} (P : A → Type 0) (b : Bool) (x : A) (rest : List A) → P x → AllByRecursion P rest → AllByRecursion P (cond b (x ∷ rest) rest)
-each_filter P true x rest here all = (here, all)
-each_filter P false x rest here all = all
-
-pub filter_each : {A : Type 0} (P : A → Type 0) (q : A → Bool) (xs : List A) → AllByRecursion P xs → AllByRecursion P (filter q xs)
-filter_each P q [] all = tt
-filter_each P q (x ∷ xs) all = each_filter P (q x) x (filter q xs) all.0 (filter_each P q xs all.1)
-
-shorter : {A : Type 0} (b : Bool) (x : A) (rest xs : List A) → length rest ≤ length xs → length (cond b (x ∷ rest) rest) ≤ length (x ∷ xs)
-shorter true x rest xs within = omega (arith, within)
-shorter false x rest xs within = omega (arith, within)
-
-filter_shorter : {A : Type 0} (q : A → Bool) (xs : List A) → length (filter q xs) ≤ length xs
-filter_shorter q [] = omega arith
-filter_shorter q (x ∷ xs) = shorter (q x) x (filter q xs) xs (filter_shorter q xs)
-
-open_less : (id next : ℕ) (ds : List Deferral) → AreOpen next ds → AreOpen next (without id ds)
-open_less id next ds held = record {
-  each = filter_each (IsOpen next) (λ d. not (has_id id d)) ds held.each;
-  rising = AllPairs-filter (λ a b. a.id < b.id) (λ d. not (has_id id d)) ds held.rising;
-  few = let less = filter_shorter (λ d. not (has_id id d)) ds in let few = held.few in omega (arith, less, few);
-}
-
--- what holds of open deferrals holds once an effect is there
-pub effect_open : (effect : Effect) (s : State) → EffectFits s effect → InBounds s → AreOpen (effected effect s).counters.next_deferral (effected effect s).deferrals
-effect_open (Tick to) s fits kept = kept.deferrals
-effect_open (Admit report) s fits kept = kept.deferrals
-effect_open (Defer d) s fits kept = open_more s d fits kept.deferrals
-effect_open (Clear id) s fits kept = open_less id s.counters.next_deferral s.deferrals kept.deferrals
-effect_open (File r) s fits kept = kept.deferrals
-effect_open (Put r) s fits kept = kept.deferrals
-effect_open (PutAfresh r) s fits kept = kept.deferrals
-
-told_none : (holder : List ℕ) (o : Option Alert) → o ≡ None → IsToldTo holder o
-told_none holder None e = tt
-told_none holder (Some a) e = absurd (cc)
-
--- the effect of each kind
-effect_is : (s : State) (effect : Effect) → EffectFits s effect → Sound s → InBounds s → is_full s ≡ false → IsEffected (effected effect s)
-effect_is s (Tick to) fits sound kept room = record {
-  ids = sound.ids;
-  unlike = sound.unlike;
-  valid = all_valid s.counters.events s.releases sound.valid;
-  told = all_told (grounds_of s) s.alerts s.releases sound.alerted;
-  alerts = sound.alerts;
-  moment = fits;
-  counters = next_counters s.counters kept.counters (few_events s room);
-  reports = kept.reports;
-  few = kept.few;
-  deferrals = kept.deferrals;
-  kept = kept.releases;
-  entries = few_entries s room;
-  forms = kept.forms;
-}
-effect_is s (Admit report) fits sound kept room =
-    let few = few_events s room in
-    let least = kept.counters.report in
-    let is_new = fits.is_new in
-    record {
-      ids = sound.ids;
-      unlike = unlike_more s report fits sound.unlike;
-      valid = all_valid s.counters.events s.releases sound.valid;
-      told = all_told (grounds_of s) s.alerts s.releases sound.alerted;
-      alerts = sound.alerts;
-      moment = kept.moment;
-      counters = record {
-        events = few;
-        report = omega (arith, is_new, least);
-        deferral = let n = kept.counters.deferral in omega (arith, n);
-        release = let n = kept.counters.release in omega (arith, n);
-        accepted = kept.counters.accepted;
-      };
-      reports = each_push (IsNumbered (report.id + 1)) s.reports report
-          (each_weaker (IsNumbered s.counters.next_report) (IsNumbered (report.id + 1)) (λ r within. omega (arith, is_new, within)) s.reports kept.reports) (omega arith);
-      few = let long = length-append s.reports (report ∷ []) in let room = fits.few in omega (arith, long, room);
-      deferrals = kept.deferrals;
-      kept = kept.releases;
-      entries = few_entries s room;
-      forms = kept.forms;
-    }
-effect_is s (Defer d) fits sound kept room =
-    let few = few_events s room in
-    let least = kept.counters.deferral in
-    let same = fits.is_new in
-    record {
-      ids = sound.ids;
-      unlike = sound.unlike;
-      valid = all_valid s.counters.events s.releases sound.valid;
-      told = all_told (grounds_of s) s.alerts s.releases sound.alerted;
-      alerts = sound.alerts;
-      moment = kept.moment;
-      counters = record {
-        events = few;
-        report = let n = kept.counters.report in omega (arith, n);
-        deferral = omega (arith, same, least);
-        release = let n = kept.counters.release in omega (arith, n);
-        accepted = kept.counters.accepted;
-      };
-      reports = kept.reports;
-      few = kept.few;
-      deferrals = open_more s d fits kept.deferrals;
-      kept = kept.releases;
-      entries = few_entries s room;
-      forms = kept.forms;
-    }
-effect_is s (Clear id) fits sound kept room = record {
-  ids = sound.ids;
-  unlike = sound.unlike;
-  valid = all_valid s.counters.events s.releases sound.valid;
-  told = all_told (grounds_of s) s.alerts s.releases sound.alerted;
-  alerts = sound.alerts;
-  moment = kept.moment;
-  counters = next_counters s.counters kept.counters (few_events s room);
-  reports = kept.reports;
-  few = kept.few;
-  deferrals = open_less id s.counters.next_deferral s.deferrals kept.deferrals;
-  kept = kept.releases;
-  entries = few_entries s room;
-  forms = kept.forms;
-}
-effect_is s (File r) fits sound kept room =
-    let few = few_events s room in
-    let least = kept.counters.release in
-    let same = fits.numbered in
-    record {
-      ids = subst (λ (n : ℕ). Rise 0 (s.releases ++ r ∷ []) (n + 1)) (sym fits.numbered) (rise_push 0 s.releases s.counters.next_release r sound.ids fits.numbered);
-      unlike = sound.unlike;
-      valid = each_push (IsValid (s.counters.events + 1)) s.releases r (all_valid s.counters.events s.releases sound.valid) fits.fits.valid;
-      told = each_push (λ q. IsToldTo q.holder (alert_at q.id s.alerts)) s.releases r (all_told (grounds_of s) s.alerts s.releases sound.alerted)
-          (told_none r.holder (alert_at r.id s.alerts) (ap (λ id. alert_at id s.alerts) fits.numbered ∙ none_next s.alerts s.releases s.counters.next_release sound.own sound.ids));
-      alerts = sound.alerts;
-      moment = kept.moment;
-      counters = record {
-        events = few;
-        report = let n = kept.counters.report in omega (arith, n);
-        deferral = let n = kept.counters.deferral in omega (arith, n);
-        release = omega (arith, same, least);
-        accepted = kept.counters.accepted;
-      };
-      reports = kept.reports;
-      few = kept.few;
-      deferrals = kept.deferrals;
-      kept = each_push ReleaseInBounds s.releases r kept.releases fits.fits.kept;
-      entries = few_entries s room;
-      forms = kept.forms;
-    }
-effect_is s (Put r) fits sound kept room = record {
-  ids = rise_put 0 r s.releases s.counters.next_release sound.ids;
-  unlike = sound.unlike;
-  valid = put_each (IsValid (s.counters.events + 1)) r s.releases (all_valid s.counters.events s.releases sound.valid) (more_valid s.counters.events r fits.fits.valid);
-  told = put_each (λ q. IsToldTo q.holder (alert_at q.id s.alerts)) r s.releases (all_told (grounds_of s) s.alerts s.releases sound.alerted) fits.holder;
-  alerts = sound.alerts;
-  moment = kept.moment;
-  counters = next_counters s.counters kept.counters (few_events s room);
-  reports = kept.reports;
-  few = kept.few;
-  deferrals = kept.deferrals;
-  kept = put_each ReleaseInBounds r s.releases kept.releases fits.fits.kept;
-  entries = few_entries s room;
-  forms = kept.forms;
-}
-effect_is s (PutAfresh r) fits sound kept room = record {
-  ids = rise_put 0 r s.releases s.counters.next_release sound.ids;
-  unlike = sound.unlike;
-  valid = put_each (IsValid (s.counters.events + 1)) r s.releases (all_valid s.counters.events s.releases sound.valid) (more_valid s.counters.events r fits.fits.valid);
-  told = told_without r.id s.alerts (put r s.releases)
-      (put_each (λ q. IsToldTo q.holder (alert_at q.id s.alerts)) r s.releases (all_told (grounds_of s) s.alerts s.releases sound.alerted) fits.holder);
-  alerts = each_without (IsAlert s.counters.events) r.id s.alerts sound.alerts;
-  moment = kept.moment;
-  counters = next_counters s.counters kept.counters (few_events s room);
-  reports = kept.reports;
-  few = kept.few;
-  deferrals = kept.deferrals;
-  kept = put_each ReleaseInBounds r s.releases kept.releases fits.fits.kept;
+-- what holds of the desk before an effect, part by part, holds once it is there
+effect_is : (s : State) (e : Effect) → EffectFits s e → Sound s → InBounds s → is_full s ≡ false → IsEffected (effected e s)
+effect_is s e fits sound kept room = record {
+  ids = releases_rise s e.on_releases fits.releases sound.ids;
+  unlike = reports_unlike s e.report fits.report sound.unlike;
+  valid = releases_valid s e.on_releases fits.releases sound.valid;
+  told = told_kept e.on_alerts s.alerts (releases_after e.on_releases s.releases)
+      (releases_told s e.on_releases fits.releases sound (all_told (grounds_of s) s.alerts s.releases sound.alerted));
+  alerts = alerts_have (IsAlert s.counters.events) (acknowledged_alert s.counters.events) e.on_alerts s.alerts sound.alerts;
+  moment = moment_shown e.moment s.moment fits.moment kept.moment;
+  counters = record {
+    events = few_events s room;
+    report = report_next s e.report fits.report kept.counters.report;
+    deferral = deferral_next s e.on_deferrals fits.deferrals kept.counters.deferral;
+    release = release_next s e.on_releases fits.releases kept.counters.release;
+    accepted = kept.counters.accepted;
+  };
+  reports = reports_numbered s e.report fits.report kept.reports;
+  few = reports_few s e.report fits.report kept.few;
+  deferrals = deferrals_open s e.on_deferrals fits.deferrals kept.deferrals;
+  kept = releases_kept s e.on_releases fits.releases kept.releases;
   entries = few_entries s room;
   forms = kept.forms;
 }
@@ -385,25 +154,10 @@ event_kept t e is form = record {
   forms = each_push (λ x. IsEntered x.what) t.entries e is.forms form;
 }
 
-same_tables : (effect : Effect) (s : State) → (effected effect s).tables ≡ s.tables
-same_tables (Tick to) s = refl
-same_tables (Admit report) s = refl
-same_tables (Defer d) s = refl
-same_tables (Clear id) s = refl
-same_tables (File r) s = refl
-same_tables (Put r) s = refl
-same_tables (PutAfresh r) s = refl
-
 -- Ticks.
 
-same_entries : (effect : Effect) (s : State) → (effected effect s).entries ≡ s.entries
-same_entries (Tick to) s = refl
-same_entries (Admit report) s = refl
-same_entries (Defer d) s = refl
-same_entries (Clear id) s = refl
-same_entries (File r) s = refl
-same_entries (Put r) s = refl
-same_entries (PutAfresh r) s = refl
+tick_fits : (s : State) (to : ℕ) → IsMoment to → EffectFits s (tick to)
+tick_fits s to shown = record { moment = shown; report = tt; deferrals = tt; releases = tt }
 
 tick_by : (full : Bool) (opening s : State) (lane to : ℕ) → is_full s ≡ full → IsBoard opening s → s.moment < to → to ≤ 68_374_079
     → IsBoard opening (tick_unless full s lane to).state
@@ -411,13 +165,13 @@ unfolding tick_to
 tick_by true opening s lane to full board later within = board
 tick_by false opening s lane to full board later within =
     let moment : IsMoment to = (let low = board.kept.moment.0 in omega arith, within) in
-    let effect = effect_is s (Tick to) moment board.sound board.kept full in
+    let effect = effect_is s (tick to) (tick_fits s to moment) board.sound board.kept full in
     let is : (tick_to s lane to).state ≡ (ticked s lane to).state = rw full refl in
     record {
       tables = board.tables;
       history = history_more opening s (ticked s lane to).state lane (what.Tick to) board.history (later, full) is refl;
-      sound = event_sound (effected (Tick to) s) (entry lane (what.Tick to)) effect;
-      kept = event_kept (effected (Tick to) s) (entry lane (what.Tick to)) effect moment;
+      sound = event_sound (effected (tick to) s) (entry lane (what.Tick to)) effect;
+      kept = event_kept (effected (tick to) s) (entry lane (what.Tick to)) effect moment;
     }
 
 -- a tick keeps what holds of a board
@@ -441,8 +195,7 @@ unfolding do_call changes decide
 accepted_history opening s lane call reply effect is room history =
     let same : do_call s lane (without_key call) ≡ accepted s lane call reply effect = finish_keyless s lane call reply effect (decide s call) is room in
     history_more opening s (accepted s lane call reply effect).state lane (what.Asked (without_key call) reply) history
-    (ap (λ p. p.reply) same, changes_accepted s reply effect (decide s call) is room) (ap (λ p. p.state) same)
-    (ap (λ (es : List Entry). es ++ entry lane (what.Asked (without_key call) reply) ∷ []) (same_entries effect s))
+    (ap (λ p. p.reply) same, changes_accepted s reply effect (decide s call) is room) (ap (λ p. p.state) same) refl
 
 enter_board : (full : Bool) (opening s : State) (lane : ℕ) (call : Call) (reply : Reply) (effect : Effect) → is_full s ≡ full → decide s call ≡ Ok (Do reply effect)
     → EffectFits s effect → IsCall call.ask × ReplyHasMoment reply → IsBoard opening s → IsBoard opening (enter full s lane call reply effect).state
@@ -450,7 +203,7 @@ enter_board true opening s lane call reply effect full is fits form board = boar
 enter_board false opening s lane call reply effect full is fits form board =
     let event = effect_is s effect fits board.sound board.kept full in
     record {
-      tables = same_tables effect s ∙ board.tables;
+      tables = board.tables;
       history = accepted_history opening s lane call reply effect is full board.history;
       sound = event_sound (effected effect s) (entry lane (what.Asked (without_key call) reply)) event;
       kept = event_kept (effected effect s) (entry lane (what.Asked (without_key call) reply)) event form;

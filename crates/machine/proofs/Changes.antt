@@ -1,8 +1,8 @@
 -- The changes of the alerts lead from those before an event to those after it.
-use Rattle.std.proofs.Common.{◌≡◌, ℕ, ◌+◌, ◌<◌, ◌≤◌, Bool, true, false, cond, eqb, ltb, List, [], ◌∷◌, ◌++◌, append-nil, Option, None, Some, IfSome, refl, ap, sym, ◌∙◌, subst, arith, eq-eqb}
+use Rattle.std.proofs.Common.{◌≡◌, ℕ, ◌+◌, ◌<◌, ◌≤◌, Bool, true, false, ◌&&◌, cond, eqb, ltb, List, [], ◌∷◌, ◌++◌, Option, None, Some, IfSome, refl, ap, sym, ◌∙◌, subst, arith, eq-eqb}
 use Rattle.std.proofs.lemmas.Bool.{ne_eqb, eqb-true, lt-ltb}
 use Rattle.std.proofs.lemmas.Bool.Decides.{nat_tests}
-use Rattle.std.proofs.lemmas.List.Elements.{filter_map-append}
+use Rattle.std.specs.Option.{option_map}
 use Rattle.std.specs.List.{AllByRecursion, filter_map, cons_option}
 use Rattle.plan.specs.declared.findings.Finding.{Finding}
 use Rattle.plan.specs.declared.release.Release.{Release}
@@ -10,11 +10,13 @@ use Rattle.alerts.specs.declared.alert.Alert.{Alert}
 use Rattle.alerts.specs.Alerts.{alert_once_open}
 use Rattle.machine.specs.declared.change.AlertChange.{AlertChange}
 use Rattle.machine.specs.declared.effect.Effect.{Effect}
-use Rattle.machine.specs.declared.effect.Effect.TheVariants.{Tick, Admit, Defer, Clear, File, Put, PutAfresh}
+use Rattle.machine.specs.declared.effect.OnAlerts.{OnAlerts}
+use Rattle.machine.specs.declared.effect.OnAlerts.TheVariants as on_alerts
 use Rattle.machine.specs.State.{State, grounds_of, failing_of, alert_at, alert_for, judged, judged_all}
-use Rattle.machine.specs.Events.{put, effected, change_between, changes_over, alert_changes, put_alert, put_changes}
+use Rattle.machine.specs.Events.{effected, acknowledged_if, alerts_after, kept_alert, is_same_mark, is_same_alert, change_between, changes_over, alert_changes, put_alert, put_changes}
 use Rattle.machine.specs.Sound.{Sound, Rise, EffectFits}
-use Rattle.machine.proofs.Judging.{IsOf, Of, found_of, judged_is, none_next, alert_without, rise_push, rise_put}
+use Rattle.machine.proofs.Judging.{IsOf, Of, found_of, judged_is, alerts_kept}
+use Rattle.machine.proofs.Parts.{releases_own, releases_rise}
 
 -- alerts of earlier and of later releases
 abbrev pub AreBelow : ℕ → List Alert → Type 0
@@ -40,35 +42,40 @@ put_here id None new (a ∷ ys) is above =
     let ne : a.release ≡ id → ⊥ = λ e. absurd (omega (arith, e, less)) in
     rw (ne_eqb a.release id ne, lt-ltb id a.release less) refl
 
--- an alert of the same version is the same
+-- an alert of the same version and mark is the same
 abbrev IsStep : Option Alert → Option Alert → Type 0
 IsStep None new = Unit {0}
 IsStep (Some a) None = Unit {0}
-IsStep (Some a) (Some b) = eqb a.version b.version ≡ true → a ≡ b
+IsStep (Some a) (Some b) = is_same_alert a b ≡ true → a ≡ b
 
 stands : (id : ℕ) (old new : Option Alert) (xs ys : List Alert) → AreBelow id xs → AreAbove id ys → IfSome old (IsOf id)
     → put_alert id new (xs ++ cons_option old ys) ≡ xs ++ cons_option new ys
 stands id old new xs ys below above is = put_below id new xs (cons_option old ys) below ∙ ap (λ rest. xs ++ rest) (put_here id old new ys is above)
 
-by_version : (id : ℕ) (a b : Alert) (same : Bool) (xs ys : List Alert) (more : List AlertChange) → eqb a.version b.version ≡ same → (eqb a.version b.version ≡ true → a ≡ b)
+by_same : (id : ℕ) (a b : Alert) (same : Bool) (xs ys : List Alert) (more : List AlertChange) → is_same_alert a b ≡ same → (is_same_alert a b ≡ true → a ≡ b)
     → AreBelow id xs → AreAbove id ys → IsOf id a
     → put_changes (cond same [] (record { release = id; before = Some a; after = Some b } ∷ []) ++ more) (xs ++ a ∷ ys) ≡ put_changes more (xs ++ b ∷ ys)
-by_version id a b true xs ys more e step below above is = ap (λ c. put_changes more (xs ++ c ∷ ys)) (step e)
-by_version id a b false xs ys more e step below above is = ap (λ rest. put_changes more rest) (stands id (Some a) (Some b) xs ys below above is)
+by_same id a b true xs ys more e step below above is = ap (λ c. put_changes more (xs ++ c ∷ ys)) (step e)
+by_same id a b false xs ys more e step below above is = ap (λ rest. put_changes more rest) (stands id (Some a) (Some b) xs ys below above is)
 
 between : (id : ℕ) (old new : Option Alert) (xs ys : List Alert) (more : List AlertChange) → AreBelow id xs → AreAbove id ys → IfSome old (IsOf id) → IsStep old new
     → put_changes (change_between id old new ++ more) (xs ++ cons_option old ys) ≡ put_changes more (xs ++ cons_option new ys)
 between id None None xs ys more below above is step = refl
 between id None (Some b) xs ys more below above is step = ap (λ rest. put_changes more rest) (stands id None (Some b) xs ys below above is)
 between id (Some a) None xs ys more below above is step = ap (λ rest. put_changes more rest) (stands id (Some a) None xs ys below above is)
-between id (Some a) (Some b) xs ys more below above is step = by_version id a b _ xs ys more refl step below above is
+between id (Some a) (Some b) xs ys more below above is step = by_same id a b _ xs ys more refl step below above is
 
-version_rises : (n : ℕ) → eqb n (n + 1) ≡ true → ⊥
-version_rises n e = absurd (let same = eqb-true n (n + 1) e in omega (arith, same))
+pub both_true : (a b : Bool) → (a && b) ≡ true → (a ≡ true) × (b ≡ true)
+both_true true b e = (refl, e)
+both_true false b e = absurd (cc)
 
-once_step : (b : Bool) (a : Alert) (fs : List Finding) → eqb a.version (alert_once_open b a fs).version ≡ true → a ≡ alert_once_open b a fs
+version_rises : (a b : Alert) → b.version ≡ a.version + 1 → is_same_alert a b ≡ true → ⊥
+version_rises a b more e =
+    absurd (let same = eqb-true a.version b.version (both_true (eqb a.version b.version) (is_same_mark a.acknowledged b.acknowledged) e).0 in omega (arith, same, more))
+
+once_step : (b : Bool) (a : Alert) (fs : List Finding) → is_same_alert a (alert_once_open b a fs) ≡ true → a ≡ alert_once_open b a fs
 once_step true a fs e = refl
-once_step false a fs e = absurd (version_rises a.version e)
+once_step false a fs e = absurd (version_rises a (alert_once_open false a fs) refl e)
 
 judged_step : (failing : Option (List Finding)) (old : Option Alert) (r : Release) (moment : ℕ) → IsStep old (alert_for failing old r moment)
 judged_step None None r moment = tt
@@ -76,7 +83,7 @@ judged_step None (Some a) r moment = tt
 judged_step (Some fs) None r moment = tt
 judged_step (Some fs) (Some a) r moment = once_step _ a fs
 
--- the alert that an effect leaves is the one before it, or none
+-- the alert that an effect leaves is the one before it, or that one acknowledged, or none
 same_step : (o : Option Alert) → IsStep o o
 same_step None = tt
 same_step (Some a) = λ e. refl
@@ -86,14 +93,28 @@ none_step true None = tt
 none_step true (Some a) = tt
 none_step false o = same_step o
 
-pub effect_step : (effect : Effect) (s : State) (id : ℕ) → IsStep (alert_at id s.alerts) (alert_at id (effected effect s).alerts)
-effect_step (Tick to) s id = same_step (alert_at id s.alerts)
-effect_step (Admit report) s id = same_step (alert_at id s.alerts)
-effect_step (Defer d) s id = same_step (alert_at id s.alerts)
-effect_step (Clear gone) s id = same_step (alert_at id s.alerts)
-effect_step (File r) s id = same_step (alert_at id s.alerts)
-effect_step (Put r) s id = same_step (alert_at id s.alerts)
-effect_step (PutAfresh r) s id = subst (IsStep (alert_at id s.alerts)) (sym (alert_without r.id id s.alerts)) (none_step (eqb id r.id) (alert_at id s.alerts))
+mark_is : (mark : Bool) → is_same_mark mark true ≡ true → mark ≡ true
+mark_is true e = refl
+mark_is false e = absurd (cc)
+
+abbrev marked : Alert → Bool → Alert
+marked a mark = record a { acknowledged = mark }
+
+seen_by : (b : Bool) (a : Alert) → is_same_alert a (cond b (marked a true) a) ≡ true → a ≡ cond b (marked a true) a
+seen_by true a e = ap (λ mark. marked a mark) (mark_is a.acknowledged (both_true (eqb a.version a.version) (is_same_mark a.acknowledged true) e).1)
+seen_by false a e = refl
+
+seen_step : (seen : ℕ) (o : Option Alert) → IsStep o (option_map (acknowledged_if seen) o)
+seen_step seen None = tt
+seen_step seen (Some a) = seen_by (eqb a.release seen) a
+
+kept_step : (on : OnAlerts) (id : ℕ) (o : Option Alert) → IsStep o (kept_alert on id o)
+kept_step on_alerts.Nothing id o = same_step o
+kept_step (on_alerts.Take gone) id o = none_step (eqb id gone) o
+kept_step (on_alerts.Acknowledge seen) id o = seen_step seen o
+
+effect_step : (on : OnAlerts) (id : ℕ) (held : List Alert) → IsStep (alert_at id held) (alert_at id (alerts_after on held))
+effect_step on id held = subst (IsStep (alert_at id held)) (sym (alerts_kept on id held)) (kept_step on id (alert_at id held))
 
 above_option : (id high : ℕ) (o : Option Alert) (ys : List Alert) → id < high → IfSome o (IsOf high) → AreAbove id ys → AreAbove id (cons_option o ys)
 above_option id high None ys less is above = above
@@ -146,49 +167,12 @@ over t alerts xs low (r ∷ rs) next step rise below =
     ∙ over t alerts (xs ++ cons_option (judged t r) []) r.id rs next step rise.1 (below_option r.id (r.id + 1) xs (judged t r) (omega arith) under (judged_is t r))
     ∙ sym (join xs (filter_map (judged t) rs) (judged t r))
 
--- the alerts of the releases are found in the releases after the effect
-put_own_by : (alerts : List Alert) (q r : Release) (b : Bool) (qs more : List Release) → eqb q.id r.id ≡ b
-    → filter_map (λ x. alert_at x.id alerts) more ≡ filter_map (λ x. alert_at x.id alerts) qs
-    → filter_map (λ x. alert_at x.id alerts) (cond b (r ∷ qs) (q ∷ more)) ≡ filter_map (λ x. alert_at x.id alerts) (q ∷ qs)
-put_own_by alerts q r true qs more e same = ap (λ id. cons_option (alert_at id alerts) (filter_map (λ x. alert_at x.id alerts) qs)) (sym (eqb-true q.id r.id e))
-put_own_by alerts q r false qs more e same = ap (λ rest. cons_option (alert_at q.id alerts) rest) same
-
-put_own : (alerts : List Alert) (r : Release) (rs : List Release) → filter_map (λ x. alert_at x.id alerts) (put r rs) ≡ filter_map (λ x. alert_at x.id alerts) rs
-put_own alerts r [] = refl
-put_own alerts r (q ∷ qs) = put_own_by alerts q r _ qs (put r qs) refl (put_own alerts r qs)
-
-none_more : (alerts : List Alert) (r : Release) → alert_at r.id alerts ≡ None → filter_map (λ x. alert_at x.id alerts) (r ∷ []) ≡ []
-none_more alerts r none = rw none refl
-
-pub effect_own : (effect : Effect) (s : State) → EffectFits s effect → Sound s → s.alerts ≡ filter_map (λ r. alert_at r.id s.alerts) (effected effect s).releases
-effect_own (Tick to) s fits sound = sound.own
-effect_own (Admit report) s fits sound = sound.own
-effect_own (Defer d) s fits sound = sound.own
-effect_own (Clear gone) s fits sound = sound.own
-effect_own (File r) s fits sound =
-    sound.own
-    ∙ sym (filter_map-append (λ x. alert_at x.id s.alerts) s.releases (r ∷ [])
-    ∙ ap (λ rest. filter_map (λ x. alert_at x.id s.alerts) s.releases ++ rest)
-    (none_more s.alerts r (ap (λ id. alert_at id s.alerts) fits.numbered ∙ none_next s.alerts s.releases s.counters.next_release sound.own sound.ids))
-    ∙ append-nil (filter_map (λ x. alert_at x.id s.alerts) s.releases))
-effect_own (Put r) s fits sound = sound.own ∙ sym (put_own s.alerts r s.releases)
-effect_own (PutAfresh r) s fits sound = sound.own ∙ sym (put_own s.alerts r s.releases)
-
-pub effect_ids : (effect : Effect) (s : State) → EffectFits s effect → Sound s → Rise 0 (effected effect s).releases (effected effect s).counters.next_release
-effect_ids (Tick to) s fits sound = sound.ids
-effect_ids (Admit report) s fits sound = sound.ids
-effect_ids (Defer d) s fits sound = sound.ids
-effect_ids (Clear gone) s fits sound = sound.ids
-effect_ids (File r) s fits sound =
-    subst (λ (n : ℕ). Rise 0 (s.releases ++ r ∷ []) (n + 1)) (sym fits.numbered) (rise_push 0 s.releases s.counters.next_release r sound.ids fits.numbered)
-effect_ids (Put r) s fits sound = rise_put 0 r s.releases s.counters.next_release sound.ids
-effect_ids (PutAfresh r) s fits sound = rise_put 0 r s.releases s.counters.next_release sound.ids
-
 -- the changes lead to the alerts once every active release is judged
 pub changes_lead : (effect : Effect) (s : State) → EffectFits s effect → Sound s → put_changes (alert_changes effect s) s.alerts ≡ judged_all (effected effect s)
 changes_lead effect s fits sound =
-    ap (λ (held : List Alert). put_changes (alert_changes effect s) held) (effect_own effect s fits sound)
-    ∙ over (effected effect s) s.alerts [] 0 (effected effect s).releases (effected effect s).counters.next_release (effect_step effect s) (effect_ids effect s fits sound) tt
+    ap (λ (held : List Alert). put_changes (alert_changes effect s) held) (releases_own s effect.on_releases fits.releases sound)
+    ∙ over (effected effect s) s.alerts [] 0 (effected effect s).releases (effected effect s).counters.next_release (λ id. effect_step effect.on_alerts id s.alerts)
+    (releases_rise s effect.on_releases fits.releases sound.ids) tt
 
 -- One pass over the releases and the alerts in their order.
 

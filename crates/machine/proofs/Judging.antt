@@ -1,10 +1,12 @@
 -- Once every active release is judged, each alert is as its rules ask.
 use Rattle.std.proofs.Common.{◌≡◌, ℕ, ◌+◌, ◌<◌, ◌≤◌, Bool, true, false, cond, not, eqb, List, [], ◌∷◌, ◌++◌, Option, None, Some, IfSome, refl, ap, sym, ◌∙◌, subst, arith, eq-eqb}
 use Rattle.std.proofs.lemmas.Bool.{ne_eqb, eqb-true}
+use Rattle.std.specs.Prelude.{map}
+use Rattle.std.specs.Option.{option_map}
 use Rattle.std.specs.List.{AllByRecursion, filter_map, cons_option}
 use Rattle.plan.specs.declared.findings.Finding.{Finding}
 use Rattle.plan.specs.declared.release.Phase.{Phase}
-use Rattle.plan.specs.declared.release.Phase.TheVariants.{Drafted, Ready, Cancelled}
+use Rattle.plan.specs.Phases.{is_active}
 use Rattle.plan.specs.declared.release.Release.{Release}
 use Rattle.plan.specs.declared.release.Revision.{Revision}
 use Rattle.plan.specs.Findings.{AreInOrder}
@@ -16,8 +18,10 @@ use Rattle.alerts.proofs.Laws.{after_is}
 use Rattle.deferrals.specs.Held.{AreRising}
 use Rattle.rules.specs.Grounds.{Grounds}
 use Rattle.rules.proofs.Laws.{findings_in_order}
-use Rattle.machine.specs.State.{State, grounds_of, failing_in, failing_of, alert_at, alert_for, judged, judged_all}
-use Rattle.machine.specs.Events.{put, without_alert}
+use Rattle.machine.specs.State.{State, grounds_of, failing_if, failing_in, failing_of, alert_at, alert_for, judged, judged_all}
+use Rattle.machine.specs.declared.effect.OnAlerts.{OnAlerts}
+use Rattle.machine.specs.declared.effect.OnAlerts.TheVariants as on_alerts
+use Rattle.machine.specs.Events.{put, without_alert, acknowledged_if, alerts_after, kept_alert}
 use Rattle.machine.specs.Sound.{Matches, IsToldTo, IsAlerted, Rise}
 use Rattle.machine.proofs.Each.{found_each}
 
@@ -70,11 +74,13 @@ judged_told (Some []) None r moment is = tt
 judged_told (Some (f ∷ fs)) None r moment is = refl
 judged_told (Some fs) (Some a) r moment is = once_told _ a fs r.holder is
 
+order_if : (b : Bool) (g : Grounds) (v : Revision) (phase : Phase) → AreRising g.deferrals → IfSome (failing_if b g v phase) AreInOrder
+order_if true g v phase rising = findings_in_order v.plan phase g rising
+order_if false g v phase rising = tt
+
 failing_order : (g : Grounds) (active : Option Revision) (phase : Phase) → AreRising g.deferrals → IfSome (failing_in g active phase) AreInOrder
 failing_order g None phase rising = tt
-failing_order g (Some v) Drafted rising = tt
-failing_order g (Some v) Ready rising = findings_in_order v.plan Ready g rising
-failing_order g (Some v) (Cancelled at) rising = tt
+failing_order g (Some v) phase rising = order_if (is_active phase) g v phase rising
 
 judged_alert : (failing : Option (List Finding)) (old : Option Alert) (r : Release) (moment most : ℕ) → IsMoment moment → IfSome failing AreInOrder → IfSome old (IsAlert most)
     → IfSome (alert_for failing old r moment) (IsAlert (most + 1))
@@ -208,15 +214,11 @@ kept_by : (b : Bool) (o : Option Alert) (P : Alert → Type 0) → IfSome o P �
 kept_by true o P is = tt
 kept_by false o P is = is
 
--- what holds of the alert that is found holds of it once others went
-pub found_without : (P : Alert → Type 0) (gone id : ℕ) (alerts : List Alert) → IfSome (alert_at id alerts) P → IfSome (alert_at id (without_alert gone alerts)) P
-found_without P gone id alerts is = subst (λ (o : Option Alert). IfSome o P) (sym (alert_without gone id alerts)) (kept_by (eqb id gone) (alert_at id alerts) P is)
-
 each_kept : (P : Alert → Type 0) (b : Bool) (a : Alert) (rest : List Alert) → P a → AllByRecursion P rest → AllByRecursion P (cond (not b) (a ∷ rest) rest)
 each_kept P true a rest here all = all
 each_kept P false a rest here all = (here, all)
 
-pub each_without : (P : Alert → Type 0) (gone : ℕ) (alerts : List Alert) → AllByRecursion P alerts → AllByRecursion P (without_alert gone alerts)
+each_without : (P : Alert → Type 0) (gone : ℕ) (alerts : List Alert) → AllByRecursion P alerts → AllByRecursion P (without_alert gone alerts)
 each_without P gone [] all = tt
 each_without P gone (a ∷ rest) all = each_kept P _ a (without_alert gone rest) all.0 (each_without P gone rest all.1)
 
@@ -234,3 +236,65 @@ rise_put_by low q r qs more next false e less rest later = (less, later)
 pub rise_put : (low : ℕ) (r : Release) (rs : List Release) (next : ℕ) → Rise low rs next → Rise low (put r rs) next
 rise_put low r [] next rise = rise
 rise_put low r (q ∷ qs) next rise = rise_put_by low q r qs (put r qs) next _ refl rise.0 rise.1 (rise_put q.id r qs next rise.1)
+
+-- an alert that is acknowledged
+
+acknowledged_of : (seen : ℕ) (a : Alert) → (acknowledged_if seen a).release ≡ a.release
+acknowledged_of seen a = by_mark (eqb a.release seen) a
+  where
+    by_mark : (b : Bool) (a : Alert) → (cond b (record a { acknowledged = true }) a).release ≡ a.release
+    by_mark true a = refl
+    by_mark false a = refl
+
+found_seen : (seen id : ℕ) (a : Alert) (b : Bool) (later kept : Option Alert) → kept ≡ option_map (acknowledged_if seen) later
+    → cond b (Some (acknowledged_if seen a)) kept ≡ option_map (acknowledged_if seen) (cond b (Some a) later)
+found_seen seen id a true later kept e = refl
+found_seen seen id a false later kept e = e
+
+alert_seen : (seen id : ℕ) (alerts : List Alert) → alert_at id (map (acknowledged_if seen) alerts) ≡ option_map (acknowledged_if seen) (alert_at id alerts)
+alert_seen seen id [] = refl
+alert_seen seen id (a ∷ rest) =
+    ap (λ n. cond (eqb n id) (Some (acknowledged_if seen a)) (alert_at id (map (acknowledged_if seen) rest))) (acknowledged_of seen a)
+    ∙ found_seen seen id a (eqb a.release id) (alert_at id rest) (alert_at id (map (acknowledged_if seen) rest)) (alert_seen seen id rest)
+
+-- the alert of a release that an effect leaves
+pub alerts_kept : (on : OnAlerts) (id : ℕ) (alerts : List Alert) → alert_at id (alerts_after on alerts) ≡ kept_alert on id (alert_at id alerts)
+alerts_kept on_alerts.Nothing id alerts = refl
+alerts_kept (on_alerts.Take gone) id alerts = alert_without gone id alerts
+alerts_kept (on_alerts.Acknowledge seen) id alerts = alert_seen seen id alerts
+
+-- what doesn't ask whether an alert is acknowledged holds of the alert that is left
+seen_kept : (P : Alert → Type 0) → ((a : Alert) → P a → P (record a { acknowledged = true })) → (seen : ℕ) (a : Alert) → P a → P (acknowledged_if seen a)
+seen_kept P keeps seen a is = by_mark (eqb a.release seen)
+  where
+    by_mark : (b : Bool) → P (cond b (record a { acknowledged = true }) a)
+    by_mark true = keeps a is
+    by_mark false = is
+
+option_seen : (P : Alert → Type 0) → ((a : Alert) → P a → P (record a { acknowledged = true })) → (seen : ℕ) (o : Option Alert) → IfSome o P → IfSome (option_map (acknowledged_if seen) o) P
+option_seen P keeps seen None is = tt
+option_seen P keeps seen (Some a) is = seen_kept P keeps seen a is
+
+pub kept_has : (P : Alert → Type 0) → ((a : Alert) → P a → P (record a { acknowledged = true })) → (on : OnAlerts) (id : ℕ) (o : Option Alert) → IfSome o P → IfSome (kept_alert on id o) P
+kept_has P keeps on_alerts.Nothing id o is = is
+kept_has P keeps (on_alerts.Take gone) id o is = kept_by (eqb id gone) o P is
+kept_has P keeps (on_alerts.Acknowledge seen) id o is = option_seen P keeps seen o is
+
+each_seen : (P : Alert → Type 0) → ((a : Alert) → P a → P (record a { acknowledged = true })) → (seen : ℕ) (alerts : List Alert) → AllByRecursion P alerts
+    → AllByRecursion P (map (acknowledged_if seen) alerts)
+each_seen P keeps seen [] all = tt
+each_seen P keeps seen (a ∷ rest) all = (seen_kept P keeps seen a all.0, each_seen P keeps seen rest all.1)
+
+-- and of all that are left
+pub alerts_have : (P : Alert → Type 0) → ((a : Alert) → P a → P (record a { acknowledged = true })) → (on : OnAlerts) (alerts : List Alert) → AllByRecursion P alerts
+    → AllByRecursion P (alerts_after on alerts)
+alerts_have P keeps on_alerts.Nothing alerts all = all
+alerts_have P keeps (on_alerts.Take gone) alerts all = each_without P gone alerts all
+alerts_have P keeps (on_alerts.Acknowledge seen) alerts all = each_seen P keeps seen alerts all
+
+pub told_kept : (on : OnAlerts) (alerts : List Alert) (rs : List Release) → AreTold alerts rs → AreTold (alerts_after on alerts) rs
+told_kept on alerts [] all = tt
+told_kept on alerts (r ∷ rs) all = (
+  subst (λ (o : Option Alert). IsToldTo r.holder o) (sym (alerts_kept on r.id alerts)) (kept_has (λ a. a.desk ≡ r.holder) (λ a is. is) on r.id (alert_at r.id alerts) all.0),
+  told_kept on alerts rs all.1,
+)

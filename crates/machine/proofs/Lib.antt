@@ -1,5 +1,6 @@
 pub mod Each
 pub mod Judging
+pub mod Parts
 pub mod Deciding
 pub mod Boards
 pub mod Changes

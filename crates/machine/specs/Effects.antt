@@ -1,5 +1,5 @@
 -- What the accepted events change, part by part.
-use Rattle.std.specs.Prelude.{ℕ, Option, None, Some}
+use Rattle.std.specs.Prelude.{ℕ, None, Some}
 use Rattle.deferrals.specs.declared.items.Deferral.{Deferral}
 use Rattle.facts.specs.declared.report.Report.{Report}
 use Rattle.plan.specs.declared.release.Release.{Release}

@@ -1,6 +1,7 @@
 -- What an event changes.
 use Rattle.std.specs.Prelude.{ℕ, ◌+◌, ◌==◌, not, nat_lt, Bool, true, false, ◌&&◌, if◌then◌else◌, List, [], ◌∷◌, ◌++◌, map, filter, Option, None, Some}
 use Rattle.std.specs.List.{filter_map, cons_option}
+use Rattle.std.specs.Option.{option_map}
 use Rattle.facts.specs.declared.report.Report.{Report}
 use Rattle.plan.specs.declared.release.Release.{Release}
 use Rattle.alerts.specs.declared.alert.Alert.{Alert}
@@ -56,6 +57,12 @@ abbrev pub alerts_after : OnAlerts → List Alert → List Alert
 alerts_after alerts.Nothing list = list
 alerts_after (alerts.Take id) list = without_alert id list
 alerts_after (alerts.Acknowledge id) list = map (acknowledged_if id) list
+
+-- what an effect leaves of the alert of a release
+abbrev pub kept_alert : OnAlerts → ℕ → Option Alert → Option Alert
+kept_alert alerts.Nothing id before = before
+kept_alert (alerts.Take gone) id before = if id == gone then None else before
+kept_alert (alerts.Acknowledge seen) id before = option_map (acknowledged_if seen) before
 
 -- The ids that come next.
 

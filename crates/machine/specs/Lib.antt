@@ -11,3 +11,4 @@ pub mod Sound
 pub mod Lanes
 pub mod Allowed
 pub mod Told
+pub mod Contents

@@ -2,13 +2,17 @@
 #![tactic(auto)]
 
 mod change;
+mod content;
 mod counters;
 mod effect;
 mod entry;
+mod held;
 mod lanes;
 
 pub use change::AlertChange;
+pub use content::Content;
 pub use counters::Counters;
-pub use effect::{Decision, Effect};
+pub use effect::{Decision, Effect, OnAlerts, OnDeferrals, OnReleases};
 pub use entry::{Entry, What};
+pub use held::{find_alert, place_of};
 pub use lanes::{Item, Outcome};

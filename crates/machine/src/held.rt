@@ -1,18 +1,26 @@
-ghost use Rattle.std.specs.Prelude.{◌≡◌, ◌+◌, ◌++◌, ◌<◌, ◌∷◌, take, drop, length, slice_set, IfSome, MatchOption};
+ghost use Rattle.std.specs.Prelude.{◌≡◌, ◌+◌, ◌++◌, ◌<◌, ◌∷◌, take, drop, length, IfSome, MatchOption};
 ghost use Rattle.std.specs.Option.{option_copied};
 ghost use Rattle.machine.specs.Events.{put};
-ghost use Rattle.machine.specs.State.{release_at};
+ghost use Rattle.machine.specs.State.{release_at, alert_at};
 
+use alerts::Alert;
 use plan::Release;
 
 /// The release of an id.
-pub fn find_release(releases: &[Release], id: u64) -> Option<&Release>
+pub(crate) fn find_release(releases: &[Release], id: u64) -> Option<&Release>
     ensures { option_copied result ≡ release_at id releases.now }
 {
     releases.iter().find(|release| release.id == id)
 }
 
-/// The place of the first release of the id of another.
+/// The alert of a release.
+pub fn find_alert(alerts: &[Alert], id: u64) -> Option<&Alert>
+    ensures { option_copied result ≡ alert_at id alerts.now }
+{
+    alerts.iter().find(|alert| alert.release == id)
+}
+
+/// The place of the first release of the id of another: where that one comes to stand.
 pub fn place_of(releases: &[Release], other: &Release) -> Option<usize>
     ensures place { MatchOption result (put other.now releases.now ≡ releases.now) (λ i. put other.now releases.now ≡ take i releases.now ++ other.now ∷ drop (i + 1) releases.now) }
     ensures within { IfSome result (λ i. i < length releases.now) }
@@ -23,14 +31,4 @@ pub fn place_of(releases: &[Release], other: &Release) -> Option<usize>
         }
     }
     None
-}
-
-/// Puts a release in the place of the first of its id. It takes no memory.
-#[tactic(auto, using(crate::proofs::Places::replaced))]
-pub fn put_release(releases: &mut Vec<Release>, release: Release)
-    ensures { releases.new.items ≡ put release releases.old.items }
-{
-    if let Some(i) = place_of(releases.as_slice(), &release) {
-        releases[i] = release;
-    }
 }

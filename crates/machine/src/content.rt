@@ -1,17 +1,20 @@
 ghost use Rattle.std.specs.Prelude.{◌≡◌};
-ghost use Rattle.machine.specs.State.{start, is_full};
-ghost use Rattle.board.specs.Contents.{state_of};
+ghost use Rattle.std.specs.Option.{option_copied};
+ghost use Rattle.machine.specs.State.{start, is_full, release_at, alert_at};
+ghost use Rattle.machine.specs.Contents.{state_of};
 
+use crate::counters::Counters;
+use crate::entry::Entry;
+use crate::held::{find_alert, find_release};
 use alerts::Alert;
 use deferrals::Deferrals;
 use desk_time::{FIRST, Minute};
 use facts::Reports;
-use machine::{Counters, Entry};
 use ops_tables::Tables;
 use plan::Release;
 use std::alloc::Global;
 
-/// What the board holds.
+/// The state in code: what the desk holds.
 #[derive(Drop)]
 pub struct Content {
     pub tables: Tables,
@@ -52,5 +55,19 @@ impl Content {
         ensures { result ≡ is_full (state_of self.now) }
     {
         self.entries.len() >= 400_000 || self.counters.events >= 999_999_999_999_000
+    }
+
+    /// The release of an id.
+    pub fn release(&self, id: u64) -> Option<&Release>
+        ensures { option_copied result ≡ release_at id (state_of self.now).releases }
+    {
+        find_release(&self.releases, id)
+    }
+
+    /// The alert of a release.
+    pub fn alert(&self, id: u64) -> Option<&Alert>
+        ensures { option_copied result ≡ alert_at id (state_of self.now).alerts }
+    {
+        find_alert(&self.alerts, id)
     }
 }

@@ -1,0 +1,16 @@
+-- What the state in code stands for.
+use Rattle.machine.specs.State.{State}
+use Rattle.machine.specs.declared.content.Content.{Content}
+
+-- the state that the content is
+abbrev pub state_of : Content → State
+state_of c = record {
+  tables = c.tables;
+  moment = c.moment;
+  counters = c.counters;
+  reports = c.reports.reports;
+  deferrals = c.deferrals.list;
+  releases = c.releases.items;
+  alerts = c.alerts.items;
+  entries = c.entries.items;
+}
