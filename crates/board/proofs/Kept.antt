@@ -6,7 +6,6 @@ use Rattle.asks.specs.declared.reply.Reply.{Reply}
 use Rattle.asks.specs.Forms.{IsCall, ReplyHasMoment}
 use Rattle.machine.specs.declared.entry.Entry.{Entry}
 use Rattle.machine.specs.declared.effect.Effect.{Effect}
-use Rattle.machine.specs.declared.effect.Effect.TheVariants.{Tick, Admit, Defer, Clear, File, Put, PutAfresh}
 use Rattle.machine.specs.declared.effect.Decision.{Decision}
 use Rattle.machine.specs.declared.effect.Decision.TheVariants.{Do}
 use Rattle.machine.specs.State.{State}
@@ -24,24 +23,20 @@ use Rattle.machine.proofs.ToldLaws.{call_told, tick_told}
 use Rattle.machine.proofs.AllowedLaws.{call_leads, tick_leads}
 use Rattle.machine.proofs.Changes.{changes_lead}
 use Rattle.machine.proofs.Deciding.{decision_fits}
-use Rattle.board.specs.declared.content.Content.{Content}
+use Rattle.machine.specs.Contents.{state_of}
+use Rattle.machine.specs.Effects.{tick}
+use Rattle.machine.specs.declared.content.Content.{Content}
+use Rattle.plan.specs.Texts.{IsMoment}
 use Rattle.board.specs.declared.prepared.Prepared.{Prepared}
 use Rattle.board.specs.declared.steps.Judged.{Judged}
-use Rattle.board.specs.Contents.{state_of, AdmitsRead, DecisionAdmitsRead, MayBeMade}
+use Rattle.decisions.specs.Reads.{DecisionAdmitsRead}
+use Rattle.board.proofs.Parts.{may_come}
+use Rattle.board.specs.Room.{MayBeMade}
 use Rattle.board.specs.Prepare.{with_events, installed, IsStepped, MayInstall, IsReady, Shown, shown}
 
 -- the effect of a call fits
 pub decided_fits : (s : State) (call : Call) (reply : Reply) (effect : Effect) → Ok (Do reply effect) ≡ decide s call → Sound s → InBounds s → IsCall call.ask → EffectFits s effect
 decided_fits s call reply effect is sound kept form = (subst (DecisionFits s) (sym is) (decision_fits s call sound kept form)).1
-
-pub may_come : (s : State) (effect : Effect) → EffectFits s effect → AdmitsRead effect → MayBeMade s effect
-may_come s (Tick to) fits has = tt
-may_come s (Admit report) fits has = (fits.is_new, has)
-may_come s (Defer d) fits has = (fits.is_new, fits.few)
-may_come s (Clear id) fits has = tt
-may_come s (File r) fits has = fits.numbered
-may_come s (Put r) fits has = tt
-may_come s (PutAfresh r) fits has = tt
 
 -- the same, of the effect of a decision
 pub effect_of : (s : State) (call : Call) (d : Decision) (reply : Reply) (effect : Effect) → d ≡ Do reply effect → Ok d ≡ decide s call → Sound s → InBounds s → IsCall call.ask
@@ -51,7 +46,7 @@ effect_of s call d reply effect is made sound kept form = decided_fits s call re
 pub effect_may : (s : State) (call : Call) (d : Decision) (reply : Reply) (effect : Effect) → d ≡ Do reply effect → Ok d ≡ decide s call → Sound s → InBounds s → IsCall call.ask
     → DecisionAdmitsRead d → MayBeMade s effect
 effect_may s call d reply effect is made sound kept form has =
-    may_come s effect (effect_of s call d reply effect is made sound kept form) (subst DecisionAdmitsRead is has)
+    may_come s effect (effect_of s call d reply effect is made sound kept form) (subst DecisionAdmitsRead is has) kept
 
 abbrev with_alerts : State → Entry → List Alert → State
 with_alerts t e alerts = record t { counters = counted e.what t.counters; alerts = alerts; entries = t.entries ++ e ∷ [] }
@@ -99,10 +94,10 @@ pub later_than : (before held : Shown) (to : ℕ) → held ≡ before → before
 later_than before held to is later = subst (λ (b : Shown). b.state.moment < to) (sym is) later
 
 -- what is prepared leads to no other state than the ask may
-pub prepared_leads : (before held : Shown) (p : Prepared) (lane : ℕ) (call : Call) → held ≡ before → IsStepped held.state p (answer_call held.state lane call)
+pub prepared_leads : (opening : State) (before held : Shown) (p : Prepared) (lane : ℕ) (call : Call) → held ≡ before → IsBoard opening held.state → IsStepped held.state p (answer_call held.state lane call)
     → MayLeadTo lane call before.state (installed p before.state) p.reply
-prepared_leads before held p lane call is stepped =
-    subst (λ (b : Shown). MayLeadTo lane call b.state (installed p b.state) p.reply) is (call_leads held.state (installed p held.state) lane call p.reply stepped.state stepped.reply)
+prepared_leads opening before held p lane call is board stepped =
+    subst (λ (b : Shown). MayLeadTo lane call b.state (installed p b.state) p.reply) is (call_leads held.state (installed p held.state) lane call p.reply board.sound stepped.state stepped.reply)
 
 pub ticked_leads : (before held : Shown) (p : Prepared) (lane to : ℕ) → held ≡ before → IsStepped held.state p (tick_to held.state lane to)
     → MayTickTo lane to before.state (installed p before.state) p.reply
@@ -118,9 +113,9 @@ entry_form before held i e is all less same =
 
 -- what is told of what is prepared are the differences of the alerts
 pub prepared_told : (opening : State) (before held : Shown) (p : Prepared) (lane : ℕ) (call : Call) → held ≡ before → IsBoard opening held.state → IsCall call.ask
-    → IsStepped held.state p (answer_call held.state lane call) → AreDifferences (takes_alert call.ask) before.state (installed p before.state) p.notices
+    → IsStepped held.state p (answer_call held.state lane call) → AreDifferences (takes_alert before.state call.ask) before.state (installed p before.state) p.notices
 prepared_told opening before held p lane call is board form stepped =
-    subst (λ (b : Shown). AreDifferences (takes_alert call.ask) b.state (installed p b.state) p.notices) is
+    subst (λ (b : Shown). AreDifferences (takes_alert b.state call.ask) b.state (installed p b.state) p.notices) is
     (call_told held.state (installed p held.state) lane call p.notices board.sound board.kept form stepped.state stepped.notices)
 
 pub ticked_told : (opening : State) (before held : Shown) (p : Prepared) (lane to : ℕ) → held ≡ before → IsBoard opening held.state → held.state.moment < to → to ≤ 68_374_079
@@ -151,3 +146,26 @@ install_shows before opening s t room p is leads =
 
 pub room_is : (before : Shown) (opening s : State) (room : Option Prepared) (p : Prepared) → shown opening s room ≡ before → before.room ≡ Some p → room ≡ Some p
 room_is before opening s room p is has = ap (λ (b : Shown). b.room) is ∙ has
+
+tick_fits : (s : State) (to : ℕ) → IsMoment to → EffectFits s (tick to)
+tick_fits s to shown = record { moment = shown; report = tt; deferrals = tt; releases = tt }
+
+-- a tick fits, and may be made
+pub ticked_is : (s : State) (p : Prepared) (to : ℕ) (effect : Effect) (j : Judged) (made e : Entry)
+    → effect ≡ tick to → p.reply ≡ None → p.notices ≡ j.notices → p.event ≡ Some (record { effect = effect; changes = j.changes; entered = made }) → made ≡ e
+    → j.changes.items ≡ alert_changes effect s → j.notices ≡ notices_of (alert_changes effect s) → IsMoment to → Sound s
+    → IsStepped s p (after_event s None (tick to) e)
+ticked_is s p to effect j made e is replied told event entered changes notices shown sound =
+    subst (λ (x : Effect). IsStepped s p (after_event s None x e)) is
+    (planned_is s p None effect j made e replied told event entered changes notices (subst (EffectFits s) (sym is) (tick_fits s to shown)) sound)
+
+pub tick_fits_as : (s : State) (to : ℕ) (effect : Effect) → effect ≡ tick to → IsMoment to → EffectFits s effect
+tick_fits_as s to effect is shown = subst (EffectFits s) (sym is) (tick_fits s to shown)
+
+pub tick_may_as : (s : State) (to : ℕ) (effect : Effect) → effect ≡ tick to → MayBeMade s effect
+tick_may_as s to effect is = subst (MayBeMade s) (sym is) (record { report = tt; deferral = tt; release = tt })
+
+-- what is installed leads where what was prepared does
+pub applied_leads : (lane : ℕ) (call : Call) (s u t : State) (told reply : Option Reply) → u ≡ t → reply ≡ told → MayLeadTo lane call s u told → MayLeadTo lane call s t reply
+applied_leads lane call s u t told reply one two leads =
+    subst (λ (v : State). MayLeadTo lane call s v reply) one (subst (λ (o : Option Reply). MayLeadTo lane call s u o) (sym two) leads)

@@ -1,4 +1,2 @@
-pub mod Contents
-pub mod Answers
-pub mod Prospect
+pub mod Room
 pub mod Prepare

@@ -4,8 +4,9 @@ use Rattle.machine.specs.State.{State}
 use Rattle.machine.specs.Events.{effected, put_changes}
 use Rattle.machine.specs.Step.{Stepped, counted}
 use Rattle.machine.specs.Sound.{IsBoard}
-use Rattle.board.specs.Contents.{state_of, HasRoom, MayBeMade}
-use Rattle.board.specs.declared.content.Content.{Content}
+use Rattle.machine.specs.Contents.{state_of}
+use Rattle.machine.specs.declared.content.Content.{Content}
+use Rattle.board.specs.Room.{HasRoom, MayBeMade}
 use Rattle.board.specs.declared.prepared.Prepared.{Prepared}
 use Rattle.board.specs.declared.prepared.Installed.{Installed}
 use Rattle.board.specs.declared.prepared.Event.{Event}

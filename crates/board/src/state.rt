@@ -9,15 +9,14 @@ ghost use Rattle.machine.specs.Sound.{IsBoard, IsEntered};
 ghost use Rattle.asks.specs.Forms.{IsCall, ReplyHasMoment};
 ghost use Rattle.board.specs.Prepare.{shown, installed, IsStepped, IsAnswered};
 
-use crate::content::Content;
+use crate::installing::install;
 use crate::prepared::{Installed, Prepared};
-use crate::releases::find_release;
-use crate::texts::find_alert;
+use crate::steps::{prepare_answer, prepare_tick};
 use alerts::Alert;
 use asks::Call;
 use desk_io::{OutOfMemory, Text};
 use desk_time::{LAST, Minute};
-use machine::Entry;
+use machine::{Content, Entry};
 use ops_tables::Tables;
 use plan::Release;
 use rules::Steps;
@@ -25,6 +24,7 @@ use std::alloc::Global;
 use std::marker::Model;
 use std::snapshot::Snapshot;
 use std::sync::ledger::Ledger;
+use views::closing;
 
 /// The board of releases. Contracts see its state, the state in which it was opened, of which code keeps
 /// no copy, and the prepared step that may be installed without memory.
@@ -39,7 +39,7 @@ impl Model for Board {
     ghost use Rattle.std.specs.Prelude.{IfSome};
     ghost use Rattle.std.specs.Option.{option_map};
     ghost use Rattle.machine.specs.Sound.{IsBoard};
-    ghost use Rattle.board.specs.Contents.{state_of};
+    ghost use Rattle.machine.specs.Contents.{state_of};
     ghost use Rattle.board.specs.Prepare.{Shown, shown, IsReady};
 
     ghost Value = { Shown };
@@ -78,12 +78,12 @@ impl Board {
         ensures stepped { IfOk result (λ p. IsStepped self.old.state p (answer_call self.old.state lane call.now)) }
         ensures shown { IfOk result (λ p. IfSome p.reply ReplyHasMoment) }
         ensures own { IfOk result (λ p. MayLeadTo lane call.now self.old.state (installed p self.old.state) p.reply) }
-        ensures told { IfOk result (λ p. AreDifferences (takes_alert call.now.ask) self.old.state (installed p self.old.state) p.notices) }
+        ensures told { IfOk result (λ p. AreDifferences (takes_alert self.old.state call.now.ask) self.old.state (installed p self.old.state) p.notices) }
         ensures ok { IfOk result (λ p. self.new ≡ shown self.old.opening self.old.state (Some p)) }
         ensures err { OnErr result (self.new ≡ shown self.old.opening self.old.state None) }
     {
         self.room = None;
-        let prepared = self.content.prepare_answer(alloc, lane, call, steps)?;
+        let prepared = prepare_answer(alloc, &mut self.content, lane, call, steps)?;
         self.room = Some(Snapshot::of(&prepared));
         Ok(prepared)
     }
@@ -106,7 +106,7 @@ impl Board {
         ensures err { OnErr result (self.new ≡ shown self.old.opening self.old.state None) }
     {
         self.room = None;
-        let prepared = self.content.prepare_tick(alloc, lane, to, steps)?;
+        let prepared = prepare_tick(alloc, &mut self.content, lane, to, steps)?;
         self.room = Some(Snapshot::of(&prepared));
         Ok(prepared)
     }
@@ -125,7 +125,7 @@ impl Board {
             notices,
             event,
         } = prepared;
-        self.content.install(event);
+        install(&mut self.content, event);
         Installed { reply, notices }
     }
 
@@ -144,7 +144,7 @@ impl Board {
         ensures shown { IfOk result (λ i. IfSome i.reply ReplyHasMoment) }
         ensures state { OnOk result (self.new ≡ shown self.old.opening (answer_call self.old.state lane call.now).state None) }
         ensures own { IfOk result (λ i. MayLeadTo lane call.now self.old.state (answer_call self.old.state lane call.now).state i.reply) }
-        ensures told { IfOk result (λ i. AreDifferences (takes_alert call.now.ask) self.old.state (answer_call self.old.state lane call.now).state i.notices) }
+        ensures told { IfOk result (λ i. AreDifferences (takes_alert self.old.state call.now.ask) self.old.state (answer_call self.old.state lane call.now).state i.notices) }
         ensures err { OnErr result (self.new ≡ shown self.old.opening self.old.state None) }
     {
         let prepared = self.prepare_change(alloc, lane, call, steps)?;
@@ -203,22 +203,20 @@ impl Board {
     pub fn release(&self, id: u64) -> Option<&Release>
         ensures { option_copied result ≡ release_at id self.now.state.releases }
     {
-        find_release(&self.content.releases, id)
+        self.content.release(id)
     }
 
     /// The alert of a release.
     pub fn alert(&self, id: u64) -> Option<&Alert>
         ensures { option_copied result ≡ alert_at id self.now.state.alerts }
     {
-        find_alert(&self.content.alerts, id)
+        self.content.alert(id)
     }
 
     /// The closing text: the releases, and the weather of all stations that have a report.
     pub fn closing(&self, alloc: Global) -> Result<Text, OutOfMemory>
         ensures { IfOk result (λ t. t ≡ closing self.now.state) }
     {
-        let mut out = Vec::new(alloc);
-        self.content.push_closing(alloc, &mut out)?;
-        Ok(Text::from_vec(out))
+        closing(alloc, &self.content)
     }
 }

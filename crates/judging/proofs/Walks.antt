@@ -7,17 +7,18 @@ use Rattle.alerts.specs.declared.alert.Alert.{Alert}
 use Rattle.alerts.specs.Alerts.{IsAlert}
 use Rattle.machine.specs.declared.change.AlertChange.{AlertChange}
 use Rattle.machine.specs.declared.effect.Effect.{Effect}
-use Rattle.machine.specs.declared.effect.Effect.TheVariants.{Tick, Admit, Defer, Clear, File, Put, PutAfresh}
+use Rattle.machine.specs.declared.effect.OnAlerts.{OnAlerts}
+use Rattle.machine.specs.declared.effect.OnAlerts.TheVariants as on_alerts
 use Rattle.machine.specs.State.{State, alert_at}
-use Rattle.machine.specs.Events.{effected, change_between, changes_from, changes_over, alert_changes}
+use Rattle.machine.specs.Events.{effected, change_between, changes_from, changes_over, alert_changes, kept_alert}
 use Rattle.machine.specs.Sound.{Sound, InBounds, ReleaseInBounds, Rise, EffectFits}
-use Rattle.machine.proofs.Each.{each_push, each_weaker, put_each}
-use Rattle.machine.proofs.Judging.{IsOf, found_of, alert_without}
-use Rattle.machine.proofs.Changes.{AreAbove, all_above, effect_own, effect_ids}
-use Rattle.board.specs.declared.judging.Prospect.{Prospect}
-use Rattle.board.specs.Contents.{state_of}
-use Rattle.machine.proofs.Boards.{effect_open}
-use Rattle.board.specs.Prospect.{AreOpenThen, IsBounded, AreBounded, prospect, kept_of, judged_by, changes_of, here, past, walk}
+use Rattle.machine.proofs.Each.{each_weaker}
+use Rattle.machine.proofs.Judging.{IsOf, found_of, alerts_kept, kept_has}
+use Rattle.machine.proofs.Changes.{AreAbove, all_above}
+use Rattle.machine.proofs.Parts.{deferrals_open, releases_kept, releases_own, releases_rise}
+use Rattle.judging.specs.declared.prospect.Prospect.{Prospect}
+use Rattle.machine.specs.Contents.{state_of}
+use Rattle.judging.specs.Prospect.{AreOpenThen, IsBounded, AreBounded, prospect, acknowledged_by, left_by, judged_by, changes_of, here, past, walk}
 
 pub all_bounded : (s : State) → Sound s → InBounds s → AreBounded s.alerts
 all_bounded s sound kept =
@@ -40,47 +41,39 @@ pub past_bounded : (id : ℕ) (alerts left : List Alert) → left ≡ past id al
 past_bounded id [] left e all = rw e tt
 past_bounded id (a ∷ rest) left e all = rw e (past_by (eqb a.release id) a rest all)
 
-kept_by : (b : Bool) (o : Option Alert) → IfSome o IsBounded → IfSome (cond b None o) IsBounded
-kept_by true o is = tt
-kept_by false o is = is
+pub kept_bounded : (on : OnAlerts) (id : ℕ) (before o : Option Alert) → o ≡ kept_alert on id before → IfSome before IsBounded → IfSome o IsBounded
+kept_bounded on id before o e is = subst (λ (p : Option Alert). IfSome p IsBounded) (sym e) (kept_has IsBounded (λ a within. within) on id before is)
 
-kept_is_bounded : (effect : Effect) (id : ℕ) (before : Option Alert) → IfSome before IsBounded → IfSome (kept_of effect id before) IsBounded
-kept_is_bounded (Tick to) id before is = is
-kept_is_bounded (Admit report) id before is = is
-kept_is_bounded (Defer d) id before is = is
-kept_is_bounded (Clear cleared) id before is = is
-kept_is_bounded (File r) id before is = is
-kept_is_bounded (Put r) id before is = is
-kept_is_bounded (PutAfresh r) id before is = kept_by (eqb id r.id) before is
+-- what an effect leaves of an alert: the one that it acknowledges, or else what it doesn't take away
 
-pub kept_bounded : (effect : Effect) (id : ℕ) (before o : Option Alert) → o ≡ kept_of effect id before → IfSome before IsBounded → IfSome o IsBounded
-kept_bounded effect id before o e is = subst (λ (p : Option Alert). IfSome p IsBounded) (sym e) (kept_is_bounded effect id before is)
+abbrev first_of : Option Alert → Option Alert → Option Alert
+first_of None later = later
+first_of (Some a) later = Some a
+
+seen_first : (b : Bool) (a : Alert) → first_of (cond b (Some (record a { acknowledged = true })) None) (Some a) ≡ Some (cond b (record a { acknowledged = true }) a)
+seen_first true a = refl
+seen_first false a = refl
+
+kept_first : (on : OnAlerts) (id : ℕ) (before : Option Alert) → first_of (acknowledged_by on before) (left_by on id before) ≡ kept_alert on id before
+kept_first on_alerts.Nothing id before = refl
+kept_first (on_alerts.Take gone) id before = refl
+kept_first (on_alerts.Acknowledge seen) id None = refl
+kept_first (on_alerts.Acknowledge seen) id (Some a) = seen_first (eqb a.release seen) a
+
+pub kept_seen : (on : OnAlerts) (id : ℕ) (before : Option Alert) (a : Alert) → acknowledged_by on before ≡ Some a → Some a ≡ kept_alert on id before
+kept_seen on id before a is = sym (ap (λ o. first_of o (left_by on id before)) is) ∙ kept_first on id before
+
+pub kept_left : (on : OnAlerts) (id : ℕ) (before o : Option Alert) → acknowledged_by on before ≡ None → o ≡ left_by on id before → o ≡ kept_alert on id before
+kept_left on id before o none is = is ∙ sym (ap (λ x. first_of x (left_by on id before)) none) ∙ kept_first on id before
 
 -- the releases may be held once the effect is there
-effect_kept : (effect : Effect) (s : State) → EffectFits s effect → InBounds s → AllByRecursion ReleaseInBounds (effected effect s).releases
-effect_kept (Tick to) s fits kept = kept.releases
-effect_kept (Admit report) s fits kept = kept.releases
-effect_kept (Defer d) s fits kept = kept.releases
-effect_kept (Clear cleared) s fits kept = kept.releases
-effect_kept (File r) s fits kept = each_push ReleaseInBounds s.releases r kept.releases fits.fits.kept
-effect_kept (Put r) s fits kept = put_each ReleaseInBounds r s.releases kept.releases fits.fits.kept
-effect_kept (PutAfresh r) s fits kept = put_each ReleaseInBounds r s.releases kept.releases fits.fits.kept
-
-pub releases_kept : (effect : Effect) (s : State) (rs : List Release) → rs ≡ (effected effect s).releases → EffectFits s effect → InBounds s → AllByRecursion ReleaseInBounds rs
-releases_kept effect s rs is fits kept = subst (λ (held : List Release). AllByRecursion ReleaseInBounds held) (sym is) (effect_kept effect s fits kept)
+pub releases_in_bounds : (effect : Effect) (s : State) (rs : List Release) → rs ≡ (effected effect s).releases → EffectFits s effect → InBounds s → AllByRecursion ReleaseInBounds rs
+releases_in_bounds effect s rs is fits kept =
+    subst (λ (held : List Release). AllByRecursion ReleaseInBounds held) (sym is) (releases_kept s effect.on_releases fits.releases kept.releases)
 
 -- the deferrals may be open once the effect is there
 pub open_then : (p : Prospect) → EffectFits (state_of p.content.now) p.effect.now → InBounds (state_of p.content.now) → AreOpenThen p
-open_then p fits kept = effect_open p.effect.now (state_of p.content.now) fits kept
-
-kept_found : (effect : Effect) (s : State) (id : ℕ) → kept_of effect id (alert_at id s.alerts) ≡ alert_at id (effected effect s).alerts
-kept_found (Tick to) s id = refl
-kept_found (Admit report) s id = refl
-kept_found (Defer d) s id = refl
-kept_found (Clear cleared) s id = refl
-kept_found (File r) s id = refl
-kept_found (Put r) s id = refl
-kept_found (PutAfresh r) s id = sym (alert_without r.id id s.alerts)
+open_then p fits kept = deferrals_open (state_of p.content.now) p.effect.now.on_deferrals fits.deferrals kept.deferrals
 
 here_is : (id : ℕ) (o : Option Alert) (ys : List Alert) → IfSome o (IsOf id) → AreAbove id ys → here id (cons_option o ys) ≡ o
 here_is id (Some a) ys is above = rw (eq-eqb a.release id is) refl
@@ -110,7 +103,7 @@ walk_is p low (r ∷ rs) next rise =
     let above : AreAbove r.id later = all_above (λ q. alert_at q.id s.alerts) r.id rs next (λ q. found_of q.id s.alerts) r.id (omega arith) rise.1 in
     ap (λ o. changes_of p o r ++ walk p (past r.id (cons_option (alert_at r.id s.alerts) later)) rs) (here_is r.id (alert_at r.id s.alerts) later (found_of r.id s.alerts) above)
     ∙ ap (λ (left : List Alert). changes_of p (alert_at r.id s.alerts) r ++ walk p left rs) (past_is r.id (alert_at r.id s.alerts) later (found_of r.id s.alerts) above)
-    ∙ ap (λ o. changes_for p r (alert_at r.id s.alerts) o ++ walk p later rs) (kept_found p.effect.now s r.id)
+    ∙ ap (λ o. changes_for p r (alert_at r.id s.alerts) o ++ walk p later rs) (sym (alerts_kept p.effect.now.on_alerts r.id s.alerts))
     ∙ ap (λ rest. changes_from (prospect p) (alert_at r.id s.alerts) r ++ rest) (walk_is p r.id rs next rise.1)
 
 -- the pass over all gives the changes of the alerts
@@ -120,5 +113,5 @@ walk_all p rs is fits sound =
     let s : State = state_of p.content.now in
     let t : State = prospect p in
     ap (λ (held : List Release). walk p s.alerts held) is
-    ∙ ap (λ (alerts : List Alert). walk p alerts t.releases) (effect_own p.effect.now s fits sound)
-    ∙ walk_is p 0 t.releases t.counters.next_release (effect_ids p.effect.now s fits sound)
+    ∙ ap (λ (alerts : List Alert). walk p alerts t.releases) (releases_own s p.effect.now.on_releases fits.releases sound)
+    ∙ walk_is p 0 t.releases t.counters.next_release (releases_rise s p.effect.now.on_releases fits.releases sound.ids)

@@ -1,8 +1,8 @@
 use Rattle.std.proofs.Common.{◌≡◌, ◌++◌, map, drop}
 use Rattle.std.specs.List.{AllByRecursion}
 use Rattle.machine.specs.Sound.{ReleaseInBounds}
-use Rattle.board.specs.Prospect.{walk, AreBounded}
-use Rattle.board.proofs.judging.Prospect.push_all_changes.Given as goal
+use Rattle.judging.specs.Prospect.{walk, AreBounded}
+use Rattle.judging.proofs.prospect.Prospect.push_all_changes.Given as goal
 
 abbrev pub invariant-loop-release : goal.invariant-loop-release
 invariant-loop-release g l = record {

@@ -1,24 +1,23 @@
-ghost use Rattle.std.specs.Prelude.{◌≡◌, ◌++◌, ◌<◌, ◌+◌, map, take, drop, option_to_list, filter_map, IfOk, IfSome, OnOk};
+ghost use Rattle.std.specs.Prelude.{◌≡◌, ◌++◌, ◌<◌, ◌+◌, map, take, drop, option_to_list, IfOk, IfSome, OnOk};
 ghost use Rattle.std.specs.List.{AllByRecursion};
 ghost use Rattle.std.specs.Option.{option_copied};
 ghost use Rattle.rules.specs.Grounds as grounds;
 ghost use Rattle.machine.specs.State as state;
 ghost use Rattle.machine.specs.Events as events;
-ghost use Rattle.machine.specs.Events.{alert_changes, change_between};
+ghost use Rattle.machine.specs.Events.{alert_changes};
 ghost use Rattle.machine.specs.Sound.{ReleaseInBounds, Sound, InBounds, EffectFits};
-ghost use Rattle.board.specs.Contents.{state_of};
-ghost use Rattle.board.specs.Prospect as spec;
-ghost use Rattle.board.specs.Prospect.{prospect, AreBounded, IsBounded, AreOpenThen};
+ghost use Rattle.machine.specs.Contents.{state_of};
+ghost use Rattle.judging.specs.Prospect as spec;
+ghost use Rattle.judging.specs.Prospect.{prospect, AreBounded, IsBounded, AreOpenThen};
 
-use crate::content::Content;
-use crate::releases::place_of;
-use alerts::{Alert, Notices, after, notice_of};
+use crate::changes::push_change;
+use alerts::{Alert, after};
 use deferrals::Deferral;
 use desk_io::{Copied, OutOfMemory};
 use desk_time::Minute;
 use facts::Report;
-use machine::{AlertChange, Effect};
-use plan::{Findings, Phase, Release};
+use machine::{AlertChange, Content, Effect, OnAlerts, OnDeferrals, OnReleases, place_of};
+use plan::{Findings, Release, is_active};
 use rules::{Evidence, Steps, judge_by};
 use std::alloc::Global;
 use std::sync::ledger::Ledger;
@@ -30,37 +29,6 @@ pub struct Prospect<'a> {
     pub content: &'a Content,
     /// What is about to change.
     pub effect: &'a Effect,
-}
-
-fn copied_alert(alloc: Global, alert: Option<&Alert>) -> Result<Option<Alert>, OutOfMemory>
-    ensures { IfOk result (λ a. a ≡ option_copied alert.entry) }
-{
-    match alert {
-        None => Ok(None),
-        Some(alert) => Ok(Some(alert.copy(alloc)?)),
-    }
-}
-
-fn push_change(
-    alloc: Global,
-    out: &mut Vec<AlertChange>,
-    release: u64,
-    before: Option<&Alert>,
-    after: Option<&Alert>,
-) -> Result<(), OutOfMemory>
-    ensures { OnOk result (out.new.items ≡ out.old.items ++ change_between release (option_copied before.entry) (option_copied after.entry)) }
-{
-    match (before, after) {
-        (None, None) => return Ok(()),
-        (Some(one), Some(two)) if one.version == two.version => return Ok(()),
-        _ => {}
-    }
-    out.push(AlertChange {
-        release,
-        before: copied_alert(alloc, before)?,
-        after: copied_alert(alloc, after)?,
-    })?;
-    Ok(())
 }
 
 // The alert at the front, where it is of that release, and those after it.
@@ -83,77 +51,41 @@ fn push_releases<'a>(out: &mut Vec<&'a Release>, releases: &'a [Release]) -> Res
     Ok(())
 }
 
-/// What is told of changes of alerts.
-pub fn notices_of(alloc: Global, changes: &[AlertChange]) -> Result<Notices, OutOfMemory>
-    ensures { IfOk result (λ n. n ≡ events.notices_of changes.now) }
-{
-    let mut out = Notices::new(alloc);
-    for change in changes {
-        if let Some(notice) = notice_of(alloc, change.before.as_ref(), change.after.as_ref())? {
-            out.push(notice)?;
-        }
-    }
-    Ok(out)
-}
-
 impl<'a> Prospect<'a> {
     fn moment(&self) -> Minute
         ensures { result ≡ (prospect self.now).moment }
     {
-        match self.effect {
-            Effect::Tick { to } => *to,
-            Effect::Admit(_)
-            | Effect::Defer(_)
-            | Effect::Clear { .. }
-            | Effect::File(_)
-            | Effect::Put(_)
-            | Effect::PutAfresh(_) => self.content.moment,
+        match self.effect.moment {
+            Some(to) => to,
+            None => self.content.moment,
         }
     }
 
     // The report that is about to be admitted.
-    #[tactic(auto, using(crate::proofs::Parts::and_nothing))]
+    #[tactic(auto, using(crate::proofs::Parts::reports_then))]
     fn fresh(&self) -> Option<&'a Report>
         ensures { (prospect self.now).reports ≡ (state_of self.now.content.now).reports ++ option_to_list (option_copied result) }
     {
-        match self.effect {
-            Effect::Admit(report) => Some(report),
-            Effect::Tick { .. }
-            | Effect::Defer(_)
-            | Effect::Clear { .. }
-            | Effect::File(_)
-            | Effect::Put(_)
-            | Effect::PutAfresh(_) => None,
-        }
+        self.effect.report.as_ref()
     }
 
     // The item that is about to be deferred.
     fn deferred(&self) -> Option<&'a Deferral>
-        ensures { option_copied result ≡ spec.deferred_of self.now.effect.now }
+        ensures { option_copied result ≡ spec.deferred_of self.now.effect.now.on_deferrals }
     {
-        match self.effect {
-            Effect::Defer(deferral) => Some(deferral),
-            Effect::Tick { .. }
-            | Effect::Admit(_)
-            | Effect::Clear { .. }
-            | Effect::File(_)
-            | Effect::Put(_)
-            | Effect::PutAfresh(_) => None,
+        match &self.effect.on_deferrals {
+            OnDeferrals::Open(deferral) => Some(deferral),
+            OnDeferrals::Nothing | OnDeferrals::Clear { .. } => None,
         }
     }
 
     // The deferral that is about to go.
     fn cleared(&self) -> Option<u64>
-        ensures { result ≡ spec.cleared_of self.now.effect.now }
+        ensures { result ≡ spec.cleared_of self.now.effect.now.on_deferrals }
     {
-        match self.effect {
-            Effect::Clear { deferral } => Some(*deferral),
-            Effect::Tick { .. }
-            | Effect::Admit(_)
-            | Effect::Defer(_)
-            | Effect::File(_)
-            | Effect::Put(_)
-            | Effect::PutAfresh(_) => None,
+        match &self.effect.on_deferrals {
+            OnDeferrals::Clear { deferral } => Some(*deferral),
+            OnDeferrals::Nothing | OnDeferrals::Open(_) => None,
         }
     }
 
@@ -191,17 +123,13 @@ impl<'a> Prospect<'a> {
         ensures { IfOk result (λ v. map (λ r. r.now) v.items ≡ (prospect self.now).releases) }
     {
         let mut out = Vec::new(alloc);
-        match self.effect {
-            Effect::Tick { .. } | Effect::Admit(_) | Effect::Defer(_) | Effect::Clear { .. } => {
-                push_releases(&mut out, &self.content.releases)?;
-            }
-            Effect::File(release) => {
+        match &self.effect.on_releases {
+            OnReleases::Nothing => push_releases(&mut out, &self.content.releases)?,
+            OnReleases::File(release) => {
                 push_releases(&mut out, &self.content.releases)?;
                 out.push(release)?;
             }
-            Effect::Put(release) | Effect::PutAfresh(release) => {
-                self.push_put(&mut out, release)?;
-            }
+            OnReleases::Put(release) => self.push_put(&mut out, release)?,
         }
         Ok(out)
     }
@@ -217,22 +145,58 @@ impl<'a> Prospect<'a> {
         requires open { AreOpenThen self.now }
         ensures { IfOk result (λ f. f ≡ state.failing_of (state.grounds_of (prospect self.now)) release.now) }
     {
-        match (&release.active, release.phase) {
-            (Some(revision), Phase::Ready) => {
+        match &release.active {
+            Some(revision) if is_active(release.phase) => {
                 let evidence = self.evidence();
-                Ok(Some(judge_by(alloc, &revision.plan, Phase::Ready, evidence, steps)?))
+                let findings = judge_by(alloc, &revision.plan, release.phase, evidence, steps)?;
+                Ok(Some(findings))
             }
             _ => Ok(None),
         }
     }
 
-    // The alert of a release that the effect leaves.
-    fn kept(&self, before: Option<&'a Alert>, id: u64) -> Option<&'a Alert>
-        ensures { option_copied result ≡ spec.kept_of self.now.effect.now id (option_copied before.entry) }
+    // The alert of a release, acknowledged where the effect says so.
+    fn acknowledged(
+        &self,
+        alloc: Global,
+        before: Option<&Alert>,
+    ) -> Result<Option<Alert>, OutOfMemory>
+        ensures { IfOk result (λ a. a ≡ spec.acknowledged_by self.now.effect.now.on_alerts (option_copied before.entry)) }
     {
-        match self.effect {
-            Effect::PutAfresh(release) if id == release.id => None,
+        match (self.effect.on_alerts, before) {
+            (OnAlerts::Acknowledge { release }, Some(alert)) if alert.release == release => {
+                let mut alert = alert.copy(alloc)?;
+                alert.acknowledged = true;
+                Ok(Some(alert))
+            }
+            _ => Ok(None),
+        }
+    }
+
+    // The alert of a release that the effect leaves, where it isn't acknowledged by it.
+    fn left<'b>(&self, before: Option<&'b Alert>, id: u64) -> Option<&'b Alert>
+        ensures { option_copied result ≡ spec.left_by self.now.effect.now.on_alerts id (option_copied before.entry) }
+    {
+        match self.effect.on_alerts {
+            OnAlerts::Take { release } if id == release => None,
             _ => before,
+        }
+    }
+
+    // The alert of a release that the effect leaves.
+    #[tactic(auto, using(crate::proofs::Walks::kept_seen, crate::proofs::Walks::kept_left))]
+    fn kept<'b>(
+        &self,
+        acknowledged: Option<&'b Alert>,
+        before: Option<&'b Alert>,
+        id: u64,
+    ) -> Option<&'b Alert>
+        requires { option_copied acknowledged ≡ spec.acknowledged_by self.now.effect.now.on_alerts (option_copied before) }
+        ensures { option_copied result ≡ events.kept_alert self.now.effect.now.on_alerts id (option_copied before.entry) }
+    {
+        match acknowledged {
+            Some(_) => acknowledged,
+            None => self.left(before, id),
         }
     }
 
@@ -275,7 +239,8 @@ impl<'a> Prospect<'a> {
         requires version { IfSome (option_copied before) IsBounded }
         ensures { OnOk result (out.new.items ≡ out.old.items ++ spec.changes_of self.now (option_copied before.entry) release.now) }
     {
-        let kept = self.kept(before, release.id);
+        let acknowledged = self.acknowledged(alloc, before)?;
+        let kept = self.kept(acknowledged.as_ref(), before, release.id);
         let after = self.judged(alloc, kept, release, steps)?;
         push_change(alloc, out, release.id, before, kept)?;
         push_change(alloc, out, release.id, kept, after.as_ref())
@@ -307,7 +272,7 @@ impl<'a> Prospect<'a> {
 
     /// The changes of the alerts by the effect and by the judgement of every active release, in order of
     /// the releases.
-    #[tactic(auto, using(crate::proofs::Walks::all_bounded, crate::proofs::Walks::releases_kept, crate::proofs::Walks::open_then, crate::proofs::Walks::walk_all))]
+    #[tactic(auto, using(crate::proofs::Walks::all_bounded, crate::proofs::Walks::releases_in_bounds, crate::proofs::Walks::open_then, crate::proofs::Walks::walk_all))]
     pub fn changes<L: Ledger>(
         &self,
         alloc: Global,

@@ -1,5 +1,5 @@
 use Rattle.board.proofs.Kept.{planned_is}
-use Rattle.board.proofs.content.Content.prepare_accepted.Goals as goal
+use Rattle.board.proofs.steps.prepare_accepted.Goals as goal
 
 pub returns-clause-stepped : goal.returns-clause-stepped
 returns-clause-stepped g c =

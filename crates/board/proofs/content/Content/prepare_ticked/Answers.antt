@@ -1,7 +1,0 @@
-use Rattle.board.proofs.Kept.{planned_is}
-use Rattle.board.proofs.content.Content.prepare_ticked.Goals as goal
-
-pub returns-clause-stepped : goal.returns-clause-stepped
-returns-clause-stepped g c =
-    planned_is _ _ _ _ _ _ _ c.planned.ensures.reply c.planned.ensures.notices c.planned.ensures.event c.tick_entry.ensures
-    c.in_ok-judged.ensures.changes c.in_ok-judged.ensures.notices c.requires.moment c.requires.sound

@@ -1,0 +1,145 @@
+ghost use Rattle.std.specs.Prelude.{◌≡◌, ◌≤◌, ◌<◌, Some, true, IfSome, length, vec_len, vec_capacity};
+ghost use Rattle.facts.specs.Reports.{room_for};
+ghost use Rattle.machine.specs.Contents.{state_of};
+ghost use Rattle.machine.specs.Events as events;
+ghost use Rattle.machine.specs.Events.{effected};
+ghost use Rattle.machine.specs.Sound.{InBounds};
+ghost use Rattle.machine.specs.Step.{counted};
+ghost use Rattle.board.specs.Room.{HasRoom, HasReportRoom, HasDeferralRoom, HasReleaseRoom, HasOneMore, HasPlace, MayAdmit, MayDefer, MayFile, MayBeMade, IsSmall};
+ghost use Rattle.board.specs.Prepare.{with_event, with_events, MayInstall};
+
+use crate::held_alerts::put_changes;
+use crate::prepared::Event;
+use deferrals::Deferrals;
+use facts::{Report, Reports};
+use machine::{Content, Effect, Entry, OnDeferrals, OnReleases, What, place_of};
+use plan::Release;
+
+// Puts a release in the place of the first of its id.
+#[tactic(auto, using(crate::proofs::Places::replaced))]
+fn put_release(releases: &mut Vec<Release>, release: Release)
+    ensures { releases.new.items ≡ events.put release releases.old.items }
+{
+    if let Some(i) = place_of(releases.as_slice(), &release) {
+        releases[i] = release;
+    }
+}
+
+fn admit(reports: &mut Reports, next: &mut u64, report: Option<Report>)
+    requires room { IfSome report (λ r. reports.old.room ≡ Some (room_for r)) }
+    requires may { IfSome report (MayAdmit reports.old.reports) }
+    ensures reports { reports.new.reports ≡ events.reports_after report reports.old.reports }
+    ensures next { next.new ≡ events.next_report report next.old }
+{
+    if let Some(report) = report {
+        *next = report.id + 1;
+        reports.admit(report);
+    }
+}
+
+fn change_deferrals(deferrals: &mut Deferrals, next: &mut u64, on: OnDeferrals)
+    requires room { HasOneMore deferrals.old on }
+    requires may { MayDefer deferrals.old.list on }
+    ensures deferrals { deferrals.new.list ≡ events.deferrals_after on deferrals.old.list }
+    ensures next { next.new ≡ events.next_deferral on next.old }
+{
+    match on {
+        OnDeferrals::Nothing => {}
+        OnDeferrals::Open(deferral) => {
+            *next = deferral.id + 1;
+            deferrals.add(deferral);
+        }
+        OnDeferrals::Clear { deferral } => {
+            let _ = deferrals.clear(deferral);
+        }
+    }
+}
+
+fn change_releases(releases: &mut Vec<Release>, next: &mut u64, on: OnReleases)
+    requires room { HasPlace releases.old on }
+    requires may { MayFile on }
+    ensures releases { releases.new.items ≡ events.releases_after on releases.old.items }
+    ensures next { next.new ≡ events.next_release on next.old }
+{
+    match on {
+        OnReleases::Nothing => {}
+        OnReleases::File(release) => {
+            *next = release.id + 1;
+            releases.push_reserved(release);
+        }
+        OnReleases::Put(release) => put_release(releases, release),
+    }
+}
+
+// Makes the effect, but leaves the alerts.
+fn change(content: &mut Content, effect: Effect)
+    requires report { HasReportRoom content.old effect.report }
+    requires deferral { HasDeferralRoom content.old effect.on_deferrals }
+    requires release { HasReleaseRoom content.old effect.on_releases }
+    requires may { MayBeMade (state_of content.old) effect }
+    ensures state { state_of content.new ≡ record (effected effect (state_of content.old)) { alerts = content.old.alerts.items } }
+    ensures alerts { content.new.alerts ≡ content.old.alerts }
+    ensures entries { content.new.entries ≡ content.old.entries }
+    ensures events { content.new.counters.events ≡ content.old.counters.events }
+    ensures accepted { content.new.counters.next_kept ≡ content.old.counters.next_kept }
+{
+    let counters = &mut content.counters;
+    if let Some(to) = effect.moment {
+        content.moment = to;
+    }
+    admit(
+        &mut content.reports,
+        &mut counters.next_report,
+        effect.report,
+    );
+    change_deferrals(
+        &mut content.deferrals,
+        &mut counters.next_deferral,
+        effect.on_deferrals,
+    );
+    change_releases(
+        &mut content.releases,
+        &mut counters.next_release,
+        effect.on_releases,
+    );
+}
+
+fn count(content: &mut Content, entered: &Entry)
+    requires events { IsSmall content.old.counters.events }
+    requires accepted { IsSmall content.old.counters.next_kept }
+    ensures { content.new ≡ record content.old { counters = counted entered.now.what content.old.counters } }
+{
+    content.counters.events += 1;
+    if let What::Asked { .. } = entered.what {
+        content.counters.next_kept += 1;
+    }
+}
+
+#[tactic(auto, using(crate::proofs::Parts::small_events, crate::proofs::Parts::small_accepted))]
+fn install_event(content: &mut Content, event: Event)
+    requires room { HasRoom content.old (length event.changes.items) event.effect }
+    requires kept { InBounds (state_of content.old) }
+    requires may { MayBeMade (state_of content.old) event.effect }
+    ensures { state_of content.new ≡ with_event event (state_of content.old) }
+{
+    let Event {
+        effect,
+        changes,
+        entered,
+    } = event;
+    change(content, effect);
+    count(content, &entered);
+    put_changes(&mut content.alerts, changes);
+    content.entries.push_reserved(entered);
+}
+
+/// Puts an event in place. It takes no memory.
+pub fn install(content: &mut Content, event: Option<Event>)
+    requires kept { InBounds (state_of content.old) }
+    requires may { MayInstall content.old event }
+    ensures { state_of content.new ≡ with_events event (state_of content.old) }
+{
+    if let Some(event) = event {
+        install_event(content, event);
+    }
+}

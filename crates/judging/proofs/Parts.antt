@@ -1,0 +1,27 @@
+-- What is held once an effect is there.
+use Rattle.std.proofs.Common.{◌≡◌, ℕ, List, ◌++◌, append-nil, Option, None, Some, option_to_list, refl, sym, ap, ◌∙◌}
+use Rattle.deferrals.specs.declared.items.Deferral.{Deferral}
+use Rattle.deferrals.specs.Held.{without}
+use Rattle.facts.specs.declared.report.Report.{Report}
+use Rattle.rules.specs.Grounds.{once_cleared}
+use Rattle.machine.specs.Events.{reports_after, deferrals_after}
+use Rattle.machine.specs.declared.effect.OnDeferrals.{OnDeferrals}
+use Rattle.machine.specs.declared.effect.OnDeferrals.TheVariants as on_deferrals
+use Rattle.judging.specs.Prospect.{deferred_of, cleared_of}
+
+fresh_after : (o : Option Report) (held : List Report) → reports_after o held ≡ held ++ option_to_list o
+fresh_after None held = sym (append-nil held)
+fresh_after (Some report) held = refl
+
+pub reports_then : (o p : Option Report) (held : List Report) → p ≡ o → reports_after o held ≡ held ++ option_to_list p
+reports_then o p held is = fresh_after o held ∙ ap (λ (x : Option Report). held ++ option_to_list x) (sym is)
+
+open_after : (on : OnDeferrals) (held : List Deferral) → deferrals_after on held ≡ once_cleared (cleared_of on) held ++ option_to_list (deferred_of on)
+open_after on_deferrals.Nothing held = sym (append-nil held)
+open_after (on_deferrals.Open d) held = refl
+open_after (on_deferrals.Clear id) held = sym (append-nil (without id held))
+
+pub deferrals_then : (on : OnDeferrals) (held : List Deferral) (cleared : Option ℕ) (deferred : Option Deferral) → cleared ≡ cleared_of on → deferred ≡ deferred_of on
+    → deferrals_after on held ≡ once_cleared cleared held ++ option_to_list deferred
+deferrals_then on held cleared deferred one two = open_after on held ∙ sym (ap (λ o. once_cleared o held ++ option_to_list deferred) one
+    ∙ ap (λ (o : Option Deferral). once_cleared (cleared_of on) held ++ option_to_list o) two)
