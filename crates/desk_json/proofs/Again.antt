@@ -16,13 +16,14 @@ use Rattle.plan.specs.declared.flights.Leg.{Leg}
 use Rattle.plan.specs.declared.flights.Plan.{Plan}
 use Rattle.asks.specs.declared.call.Call.{Call}
 use Rattle.asks.specs.declared.call.Ask.{Ask}
-use Rattle.asks.specs.declared.call.Ask.TheVariants.{Admit, Defer, Clear, Draft, Sign, Concur, Cancel, ViewAlerts, ViewDeferred}
+use Rattle.asks.specs.declared.call.Ask.TheVariants.{Admit, Defer, Clear, Draft, Prepare, Sign, Concur, Amend, Cancel, Depart, Arrive, Acknowledge, ViewBoard, ViewAlerts, ViewRelease, ViewWeather, ViewDeferred}
 use Rattle.desk_json.specs.declared.plans.Form.{Form}
 use Rattle.desk_json.specs.Fields.{data_of, each_read, up_to, short}
 use Rattle.desk_json.specs.Legs.{alternate_of, takeoff_in, leg_of, legs_of}
 use Rattle.desk_json.specs.Plans.{has_form, formed, kind_of, plan_of}
+use Rattle.desk_json.proofs.DigestLaws.{digest_again}
 use Rattle.desk_json.specs.Calls.{ask_of, line_in, line_of}
-use Rattle.desk_json.specs.Canonical.{alternate_data, takeoff_data, leg_data, kind_name, plan_data, ask_data, line_data, IsAmount, IsAlternate, MayBeTakeoff, IsLeg, HasForms, AskHasForms, CallHasForms}
+use Rattle.desk_json.specs.Canonical.{alternate_data, takeoff_data, leg_data, kind_name, plan_data, ask_data, line_data, IsAmount, IsId, IsAlternate, MayBeTakeoff, IsLeg, HasForms, AskHasForms, CallHasForms}
 
 small_again : (n limit : ℕ) → n ≤ limit → up_to limit n ≡ Some n
 small_again n limit few = rw (le-leb n limit few) refl
@@ -88,17 +89,28 @@ unfolding plan_of plan_data
 plan_again p is =
     rw (kind_again p.kind, legs_again p.legs is.few is.legs, name_again _ p.flight is.flight, name_again _ p.tail is.tail, name_again _ p.captain is.captain) refl
 
+id_again : (n : ℕ) → IsId n → up_to 1_000_000_000_000_000 n ≡ Some n
+id_again n few = small_again n 1_000_000_000_000_000 few
+
 -- the ask that is written is read
 pub ask_again : (a : Ask) → AskHasForms a → ask_of (ask_data a) ≡ Some a
 unfolding ask_data
 ask_again (Admit text) is = refl
 ask_again (Defer tail item found) is = rw (short_again tail is.0, short_again item is.1, moment_again found is.2) refl
-ask_again (Clear deferral) is = rw (small_again deferral 1_000_000_000_000_000 is) refl
+ask_again (Clear deferral) is = rw (id_again deferral is) refl
 ask_again (Draft plan) is = rw (plan_again plan is) refl
-ask_again (Sign release revision) is = rw (small_again release 1_000_000_000_000_000 is.0, small_again revision 1_000_000_000_000_000 is.1) refl
-ask_again (Concur release revision) is = rw (small_again release 1_000_000_000_000_000 is.0, small_again revision 1_000_000_000_000_000 is.1) refl
-ask_again (Cancel release) is = rw (small_again release 1_000_000_000_000_000 is) refl
+ask_again (Prepare release) is = rw (id_again release is) refl
+ask_again (Sign release revision digest) is = rw (id_again release is.0, id_again revision is.1, digest_again digest is.2) refl
+ask_again (Concur release revision digest) is = rw (id_again release is.0, id_again revision is.1, digest_again digest is.2) refl
+ask_again (Amend release plan) is = rw (id_again release is.0, plan_again plan is.1) refl
+ask_again (Cancel release) is = rw (id_again release is) refl
+ask_again (Depart release leg) is = rw (id_again release is.0, amount_again leg is.1) refl
+ask_again (Arrive release leg) is = rw (id_again release is.0, amount_again leg is.1) refl
+ask_again (Acknowledge release version) is = rw (id_again release is.0, id_again version is.1) refl
+ask_again ViewBoard is = refl
 ask_again ViewAlerts is = refl
+ask_again (ViewRelease release) is = rw (id_again release is) refl
+ask_again (ViewWeather station) is = rw (station_again station is) refl
 ask_again (ViewDeferred tail) is = rw (short_again tail is) refl
 
 call_again : (at : ℕ) (c : Call) → IsMoment at → CallHasForms c → line_in (line_data at c) ≡ Some (at, c)

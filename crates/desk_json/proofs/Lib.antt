@@ -1,4 +1,5 @@
 pub mod Again
+pub mod DigestLaws
 pub mod LegCounts
 pub mod Lists
 pub mod Puts

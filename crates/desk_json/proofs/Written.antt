@@ -6,10 +6,10 @@ use Rattle.serde_json.specs.Written.{has_float, items_have_float}
 use Rattle.plan.specs.declared.findings.Finding.{Finding}
 use Rattle.asks.specs.declared.reply.Reply.{Reply}
 use Rattle.asks.specs.declared.reply.Reply.TheVariants.{Done, Seen, Refused}
-use Rattle.asks.specs.declared.reply.Done.TheVariants.{Report, Deferral, Filed, Release}
+use Rattle.asks.specs.declared.reply.Done.TheVariants.{Report, Deferral, Filed, Prepared, Release}
 use Rattle.asks.specs.declared.reply.Done.{Done as DoneType}
 use Rattle.asks.specs.declared.reply.Refusal.{Refusal}
-use Rattle.asks.specs.declared.reply.Refusal.TheVariants.{UnknownActor, WrongKey, NotYourRole, BadReport, DayOutOfReach, ReportsFull, UnknownTail, NoSuchDeferral, NoSuchRelease, NotYours, BadPlan, NotPending, WrongRevision, RuleFails, WrongPhase, AlreadySigned, HistoryFull, NoSuchStation, UnknownItem, BadFound, DeferralsFull}
+use Rattle.asks.specs.declared.reply.Refusal.TheVariants.{UnknownActor, WrongKey, NotYourRole, BadReport, DayOutOfReach, ReportsFull, UnknownTail, NoSuchDeferral, NoSuchRelease, NotYours, BadPlan, NotPending, WrongRevision, WrongText, WeatherNewer, RuleFails, WrongPhase, AlreadySigned, NoSuchAlert, AlertMoved, HistoryFull, NoSuchStation, UnknownItem, BadFound, DeferralsFull}
 use Rattle.desk_json.specs.Replies.{finding_data, done_data, refusal_data, reply_data}
 
 findings_whole : (fs : List Finding) → items_have_float (items_of (map finding_data fs)) ≡ false
@@ -20,6 +20,7 @@ done_whole : (d : DoneType) → has_float (done_data d) ≡ false
 done_whole (Report id) = refl
 done_whole (Deferral id) = refl
 done_whole (Filed release revision) = refl
+done_whole (Prepared release revision digest) = refl
 done_whole (Release id) = refl
 
 refusal_whole : (r : Refusal) → has_float (refusal_data r) ≡ false
@@ -36,9 +37,13 @@ refusal_whole (NotYours holder) = refl
 refusal_whole (BadPlan leg what) = refl
 refusal_whole (NotPending stage) = refl
 refusal_whole (WrongRevision current) = refl
+refusal_whole (WrongText digest) = refl
+refusal_whole (WeatherNewer report) = refl
 refusal_whole (RuleFails findings) = rw (findings_whole findings) refl
 refusal_whole (WrongPhase phase) = refl
 refusal_whole AlreadySigned = refl
+refusal_whole NoSuchAlert = refl
+refusal_whole (AlertMoved version) = refl
 refusal_whole (HistoryFull entries) = refl
 refusal_whole NoSuchStation = refl
 refusal_whole UnknownItem = refl

@@ -14,8 +14,9 @@ use Rattle.plan.specs.declared.flights.Leg.{Leg}
 use Rattle.plan.specs.declared.flights.Plan.{Plan}
 use Rattle.asks.specs.declared.call.Call.{Call}
 use Rattle.asks.specs.declared.call.Ask.{Ask}
-use Rattle.asks.specs.declared.call.Ask.TheVariants.{Admit, Defer, Clear, Draft, Sign, Concur, Cancel, ViewAlerts, ViewDeferred}
+use Rattle.asks.specs.declared.call.Ask.TheVariants.{Admit, Defer, Clear, Draft, Prepare, Sign, Concur, Amend, Cancel, Depart, Arrive, Acknowledge, ViewBoard, ViewAlerts, ViewRelease, ViewWeather, ViewDeferred}
 use Rattle.desk_json.specs.declared.plans.Form.TheVariants.{Flight, Tail, Captain}
+use Rattle.desk_json.specs.Digests.{digest_data, IsDigest}
 use Rattle.desk_json.specs.Fields.{data_of}
 use Rattle.desk_json.specs.Plans.{has_form}
 
@@ -66,12 +67,20 @@ ask_data (Defer tail item found) =
     object (member (codes "do") (string (codes "defer")) (member (codes "found") (moment_data found) (member (codes "item") (string item) (member (codes "tail") (string tail) no_members))))
 ask_data (Clear deferral) = object (member (codes "deferral") (count deferral) (member (codes "do") (string (codes "clear")) no_members))
 ask_data (Draft plan) = object (member (codes "do") (string (codes "draft")) (member (codes "plan") (plan_data plan) no_members))
-ask_data (Sign release revision) =
-    object (member (codes "do") (string (codes "sign")) (member (codes "release") (count release) (member (codes "revision") (count revision) no_members)))
-ask_data (Concur release revision) =
-    object (member (codes "do") (string (codes "concur")) (member (codes "release") (count release) (member (codes "revision") (count revision) no_members)))
+ask_data (Prepare release) = object (member (codes "do") (string (codes "prepare")) (member (codes "release") (count release) no_members))
+ask_data (Sign release revision digest) =
+    object (member (codes "digest") (digest_data digest) (member (codes "do") (string (codes "sign")) (member (codes "release") (count release) (member (codes "revision") (count revision) no_members))))
+ask_data (Concur release revision digest) =
+    object (member (codes "digest") (digest_data digest) (member (codes "do") (string (codes "concur")) (member (codes "release") (count release) (member (codes "revision") (count revision) no_members))))
+ask_data (Amend release plan) = object (member (codes "do") (string (codes "amend")) (member (codes "plan") (plan_data plan) (member (codes "release") (count release) no_members)))
 ask_data (Cancel release) = object (member (codes "do") (string (codes "cancel")) (member (codes "release") (count release) no_members))
+ask_data (Depart release leg) = object (member (codes "do") (string (codes "depart")) (member (codes "leg") (count leg) (member (codes "release") (count release) no_members)))
+ask_data (Arrive release leg) = object (member (codes "do") (string (codes "arrive")) (member (codes "leg") (count leg) (member (codes "release") (count release) no_members)))
+ask_data (Acknowledge release version) = object (member (codes "do") (string (codes "acknowledge")) (member (codes "release") (count release) (member (codes "version") (count version) no_members)))
+ask_data ViewBoard = object (member (codes "do") (string (codes "board")) no_members)
 ask_data ViewAlerts = object (member (codes "do") (string (codes "alerts")) no_members)
+ask_data (ViewRelease release) = object (member (codes "do") (string (codes "release")) (member (codes "release") (count release) no_members))
+ask_data (ViewWeather station) = object (member (codes "do") (string (codes "weather")) (member (codes "station") (string station) no_members))
 ask_data (ViewDeferred tail) = object (member (codes "do") (string (codes "deferred")) (member (codes "tail") (string tail) no_members))
 
 -- the JSON of a moment and a call, as a line of a script has it
@@ -132,10 +141,18 @@ AskHasForms (Admit text) = Unit {0}
 AskHasForms (Defer tail item found) = (length tail ≤ 64) × (length item ≤ 64) × IsMoment found
 AskHasForms (Clear deferral) = IsId deferral
 AskHasForms (Draft plan) = HasForms plan
-AskHasForms (Sign release revision) = IsId release × IsId revision
-AskHasForms (Concur release revision) = IsId release × IsId revision
+AskHasForms (Prepare release) = IsId release
+AskHasForms (Sign release revision digest) = IsId release × IsId revision × IsDigest digest
+AskHasForms (Concur release revision digest) = IsId release × IsId revision × IsDigest digest
+AskHasForms (Amend release plan) = IsId release × HasForms plan
 AskHasForms (Cancel release) = IsId release
+AskHasForms (Depart release leg) = IsId release × IsAmount leg
+AskHasForms (Arrive release leg) = IsId release × IsAmount leg
+AskHasForms (Acknowledge release version) = IsId release × IsId version
+AskHasForms ViewBoard = Unit {0}
 AskHasForms ViewAlerts = Unit {0}
+AskHasForms (ViewRelease release) = IsId release
+AskHasForms (ViewWeather station) = is_station station ≡ true
 AskHasForms (ViewDeferred tail) = length tail ≤ 64
 
 -- a call whose fields have their forms

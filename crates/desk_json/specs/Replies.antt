@@ -14,9 +14,10 @@ use Rattle.plan.specs.declared.findings.Finding.{Finding}
 use Rattle.asks.specs.declared.reply.Reply.{Reply}
 use Rattle.asks.specs.declared.reply.Reply.TheVariants.{Done, Seen, Refused}
 use Rattle.asks.specs.declared.reply.Done.{Done as DoneType}
-use Rattle.asks.specs.declared.reply.Done.TheVariants.{Report, Deferral, Filed, Release}
+use Rattle.asks.specs.declared.reply.Done.TheVariants.{Report, Deferral, Filed, Prepared, Release}
 use Rattle.asks.specs.declared.reply.Refusal.{Refusal}
-use Rattle.asks.specs.declared.reply.Refusal.TheVariants.{UnknownActor, WrongKey, NotYourRole, BadReport, DayOutOfReach, ReportsFull, UnknownTail, NoSuchDeferral, NoSuchRelease, NotYours, BadPlan, NotPending, WrongRevision, RuleFails, WrongPhase, AlreadySigned, HistoryFull, NoSuchStation, UnknownItem, BadFound, DeferralsFull}
+use Rattle.asks.specs.declared.reply.Refusal.TheVariants.{UnknownActor, WrongKey, NotYourRole, BadReport, DayOutOfReach, ReportsFull, UnknownTail, NoSuchDeferral, NoSuchRelease, NotYours, BadPlan, NotPending, WrongRevision, WrongText, WeatherNewer, RuleFails, WrongPhase, AlreadySigned, NoSuchAlert, AlertMoved, HistoryFull, NoSuchStation, UnknownItem, BadFound, DeferralsFull}
+use Rattle.desk_json.specs.Digests.{digest_data}
 
 -- the name of a reason
 abbrev pub why_name : Why → List ℕ
@@ -39,6 +40,8 @@ plan_why_name plan_why.Repeated = codes "Repeated"
 plan_why_name plan_why.Unjoined = codes "Unjoined"
 plan_why_name plan_why.Times = codes "Times"
 plan_why_name plan_why.Amount = codes "Amount"
+plan_why_name plan_why.Changed = codes "Changed"
+plan_why_name plan_why.Flown = codes "Flown"
 
 abbrev pub count : ℕ → Data
 count n = number (unsigned n)
@@ -48,11 +51,16 @@ count n = number (unsigned n)
 abbrev pub text_data : List ℕ → Data
 text_data t = string (utf8_lossy t)
 
+-- Some members and those that say what was done, each put where its key belongs in byte order.
+abbrev pub with_done : DoneType → Members → Members
+with_done (Report id) ms = put (codes "report") (count id) ms
+with_done (Deferral id) ms = put (codes "deferral") (count id) ms
+with_done (Filed release revision) ms = put (codes "revision") (count revision) (put (codes "release") (count release) ms)
+with_done (Prepared release revision digest) ms = put (codes "revision") (count revision) (put (codes "release") (count release) (put (codes "digest") (digest_data digest) ms))
+with_done (Release id) ms = put (codes "release") (count id) ms
+
 abbrev pub done_data : DoneType → Data
-done_data (Report id) = object (member (codes "report") (count id) no_members)
-done_data (Deferral id) = object (member (codes "deferral") (count id) no_members)
-done_data (Filed release revision) = object (member (codes "release") (count release) (member (codes "revision") (count revision) no_members))
-done_data (Release id) = object (member (codes "release") (count id) no_members)
+done_data done = object (with_done done no_members)
 
 -- the number of a refusal
 abbrev pub refusal_number : Refusal → ℕ
@@ -69,9 +77,13 @@ refusal_number (NotYours holder) = 11
 refusal_number (BadPlan leg what) = 12
 refusal_number (NotPending stage) = 13
 refusal_number (WrongRevision current) = 14
+refusal_number (WrongText digest) = 15
+refusal_number (WeatherNewer report) = 16
 refusal_number (RuleFails findings) = 17
 refusal_number (WrongPhase phase) = 18
 refusal_number AlreadySigned = 19
+refusal_number NoSuchAlert = 20
+refusal_number (AlertMoved version) = 21
 refusal_number (HistoryFull entries) = 24
 refusal_number NoSuchStation = 25
 refusal_number UnknownItem = 28
@@ -93,9 +105,13 @@ refusal_name (NotYours holder) = codes "NotYours"
 refusal_name (BadPlan leg what) = codes "BadPlan"
 refusal_name (NotPending stage) = codes "NotPending"
 refusal_name (WrongRevision current) = codes "WrongRevision"
+refusal_name (WrongText digest) = codes "WrongText"
+refusal_name (WeatherNewer report) = codes "WeatherNewer"
 refusal_name (RuleFails findings) = codes "RuleFails"
 refusal_name (WrongPhase phase) = codes "WrongPhase"
 refusal_name AlreadySigned = codes "AlreadySigned"
+refusal_name NoSuchAlert = codes "NoSuchAlert"
+refusal_name (AlertMoved version) = codes "AlertMoved"
 refusal_name (HistoryFull entries) = codes "HistoryFull"
 refusal_name NoSuchStation = codes "NoSuchStation"
 refusal_name UnknownItem = codes "UnknownItem"
@@ -121,9 +137,13 @@ with_fields (NotYours holder) ms = put (codes "holder") (text_data holder) ms
 with_fields (BadPlan leg what) ms = put (codes "what") (string (plan_why_name what)) (put (codes "leg") (count leg) ms)
 with_fields (NotPending stage) ms = put (codes "stage") (count stage) ms
 with_fields (WrongRevision current) ms = put (codes "current") (count current) ms
+with_fields (WrongText digest) ms = put (codes "digest") (digest_data digest) ms
+with_fields (WeatherNewer report) ms = put (codes "report") (count report) ms
 with_fields (RuleFails findings) ms = put (codes "findings") (array (items_of (map finding_data findings))) ms
 with_fields (WrongPhase phase) ms = put (codes "phase") (text_data (phase_text phase)) ms
 with_fields AlreadySigned ms = ms
+with_fields NoSuchAlert ms = ms
+with_fields (AlertMoved version) ms = put (codes "version") (count version) ms
 with_fields (HistoryFull entries) ms = put (codes "entries") (count entries) ms
 with_fields NoSuchStation ms = ms
 with_fields UnknownItem ms = ms

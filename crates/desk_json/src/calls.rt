@@ -1,14 +1,15 @@
-ghost use Rattle.std.specs.Prelude.{◌≡◌, ◌≤◌, IfOk, IfSome, codes, option_and_then};
+ghost use Rattle.std.specs.Prelude.{◌≡◌, ◌≤◌, IfOk, IfSome};
 ghost use Rattle.serde_json.specs.View.{view};
-ghost use Rattle.serde_json.specs.Find.{get};
 ghost use Rattle.plan.specs.Check.{IsPlan};
 ghost use Rattle.asks.specs.Forms.{IsCall};
-ghost use Rattle.desk_json.specs.Plans.{plan_of};
 ghost use Rattle.desk_json.specs.Calls as spec;
 ghost use Rattle.desk_json.specs.Calls.{line_of};
 ghost use Rattle.desk_json.specs.Canonical.{IsReadAgain};
 
-use crate::fields::{data_of, has_members, moment_at, number_at, short_at, text_at};
+use crate::digests::digest_at;
+use crate::fields::{
+    amount_at, data_of, has_members, moment_at, number_at, short_at, station_at, text_at,
+};
 use crate::plans::read_plan;
 use asks::{Ask, Call};
 use desk_io::{OutOfMemory, Text};
@@ -16,6 +17,21 @@ use desk_time::{FIRST, LAST, Minute};
 use plan::Plan;
 use serde_json::Value;
 use std::alloc::Global;
+
+// A revision of a release, and the digest of its text.
+#[derive(Clone, Copy)]
+struct Signed {
+    release: u64,
+    revision: u64,
+    digest: [u8; 32],
+}
+
+// A leg of a release.
+#[derive(Clone, Copy)]
+struct Flown {
+    release: u64,
+    leg: u32,
+}
 
 fn admit_of(alloc: Global, value: &Value) -> Result<Option<Ask>, OutOfMemory>
     ensures form { IfOk result (λ a. IfSome a IsCall) }
@@ -29,8 +45,14 @@ fn admit_of(alloc: Global, value: &Value) -> Result<Option<Ask>, OutOfMemory>
     }
 }
 
+fn id_at(key: &str, value: &Value) -> Option<u64>
+    ensures { result ≡ spec.id_at key.now (view value.now) }
+{
+    number_at(key, 1_000_000_000_000_000, value)
+}
+
 fn plan_at(alloc: Global, value: &Value) -> Result<Option<Plan>, OutOfMemory>
-    ensures value { IfOk result (λ p. p ≡ option_and_then plan_of (get (codes "plan") (view value.now))) }
+    ensures value { IfOk result (λ p. p ≡ spec.plan_at (view value.now)) }
     ensures form { IfOk result (λ p. IfSome p IsPlan) }
 {
     match value.get("plan") {
@@ -49,10 +71,17 @@ fn draft_of(alloc: Global, value: &Value) -> Result<Option<Ask>, OutOfMemory>
     }
 }
 
-fn id_at(key: &str, value: &Value) -> Option<u64>
-    ensures { result ≡ spec.id_at key.now (view value.now) }
+fn amend_of(alloc: Global, value: &Value) -> Result<Option<Ask>, OutOfMemory>
+    ensures value { IfOk result (λ a. a ≡ spec.amend_of (view value.now)) }
+    ensures form { IfOk result (λ a. IfSome a IsCall) }
 {
-    number_at(key, 1_000_000_000_000_000, value)
+    let Some(release) = id_at("release", value) else {
+        return Ok(None);
+    };
+    match plan_at(alloc, value)? {
+        Some(plan) if has_members(3, value) => Ok(Some(Ask::Amend { release, plan })),
+        _ => Ok(None),
+    }
 }
 
 fn defer_of(alloc: Global, value: &Value) -> Result<Option<Ask>, OutOfMemory>
@@ -102,39 +131,132 @@ fn deferred_of(alloc: Global, value: &Value) -> Result<Option<Ask>, OutOfMemory>
     }
 }
 
-fn sign_of(value: &Value) -> Option<Ask>
-    ensures value { result ≡ spec.sign_of (view value.now) }
-    ensures form { IfSome result IsCall }
+// The release of an ask that names nothing else.
+fn release_of(value: &Value) -> Option<u64>
+    ensures { result ≡ spec.release_of (view value.now) }
 {
     let release = id_at("release", value)?;
-    let revision = id_at("revision", value)?;
-    if has_members(3, value) {
-        Some(Ask::Sign { release, revision })
+    if has_members(2, value) {
+        Some(release)
     } else {
         None
     }
 }
 
-fn concur_of(value: &Value) -> Option<Ask>
-    ensures value { result ≡ spec.concur_of (view value.now) }
+fn prepare_of(value: &Value) -> Option<Ask>
+    ensures value { result ≡ spec.prepare_of (view value.now) }
     ensures form { IfSome result IsCall }
 {
-    let release = id_at("release", value)?;
-    let revision = id_at("revision", value)?;
-    if has_members(3, value) {
-        Some(Ask::Concur { release, revision })
-    } else {
-        None
-    }
+    Some(Ask::Prepare {
+        release: release_of(value)?,
+    })
 }
 
 fn cancel_of(value: &Value) -> Option<Ask>
     ensures value { result ≡ spec.cancel_of (view value.now) }
     ensures form { IfSome result IsCall }
 {
+    Some(Ask::Cancel {
+        release: release_of(value)?,
+    })
+}
+
+fn signed_of(value: &Value) -> Option<Signed>
+    ensures { result ≡ spec.signed_of (view value.now) }
+{
     let release = id_at("release", value)?;
-    if has_members(2, value) {
-        Some(Ask::Cancel { release })
+    let revision = id_at("revision", value)?;
+    let digest = digest_at("digest", value)?;
+    if has_members(4, value) {
+        Some(Signed {
+            release,
+            revision,
+            digest,
+        })
+    } else {
+        None
+    }
+}
+
+fn sign_of(value: &Value) -> Option<Ask>
+    ensures value { result ≡ spec.sign_of (view value.now) }
+    ensures form { IfSome result IsCall }
+{
+    let Signed {
+        release,
+        revision,
+        digest,
+    } = signed_of(value)?;
+    Some(Ask::Sign {
+        release,
+        revision,
+        digest,
+    })
+}
+
+fn concur_of(value: &Value) -> Option<Ask>
+    ensures value { result ≡ spec.concur_of (view value.now) }
+    ensures form { IfSome result IsCall }
+{
+    let Signed {
+        release,
+        revision,
+        digest,
+    } = signed_of(value)?;
+    Some(Ask::Concur {
+        release,
+        revision,
+        digest,
+    })
+}
+
+fn flown_of(value: &Value) -> Option<Flown>
+    ensures { result ≡ spec.flown_of (view value.now) }
+{
+    let release = id_at("release", value)?;
+    let leg = amount_at("leg", value)?;
+    if has_members(3, value) {
+        Some(Flown { release, leg })
+    } else {
+        None
+    }
+}
+
+fn depart_of(value: &Value) -> Option<Ask>
+    ensures value { result ≡ spec.depart_of (view value.now) }
+    ensures form { IfSome result IsCall }
+{
+    let Flown { release, leg } = flown_of(value)?;
+    Some(Ask::Depart { release, leg })
+}
+
+fn arrive_of(value: &Value) -> Option<Ask>
+    ensures value { result ≡ spec.arrive_of (view value.now) }
+    ensures form { IfSome result IsCall }
+{
+    let Flown { release, leg } = flown_of(value)?;
+    Some(Ask::Arrive { release, leg })
+}
+
+fn acknowledge_of(value: &Value) -> Option<Ask>
+    ensures value { result ≡ spec.acknowledge_of (view value.now) }
+    ensures form { IfSome result IsCall }
+{
+    let release = id_at("release", value)?;
+    let version = id_at("version", value)?;
+    if has_members(3, value) {
+        Some(Ask::Acknowledge { release, version })
+    } else {
+        None
+    }
+}
+
+fn board_of(value: &Value) -> Option<Ask>
+    ensures value { result ≡ spec.board_of (view value.now) }
+    ensures form { IfSome result IsCall }
+{
+    if has_members(1, value) {
+        Some(Ask::ViewBoard)
     } else {
         None
     }
@@ -151,21 +273,80 @@ fn alerts_of(value: &Value) -> Option<Ask>
     }
 }
 
+fn view_release_of(value: &Value) -> Option<Ask>
+    ensures value { result ≡ spec.view_release_of (view value.now) }
+    ensures form { IfSome result IsCall }
+{
+    Some(Ask::ViewRelease {
+        release: release_of(value)?,
+    })
+}
+
+fn weather_of(value: &Value) -> Option<Ask>
+    ensures value { result ≡ spec.weather_of (view value.now) }
+    ensures form { IfSome result IsCall }
+{
+    let station = station_at("station", value)?;
+    if has_members(2, value) {
+        Some(Ask::ViewWeather { station })
+    } else {
+        None
+    }
+}
+
+// Asks to see something, but for what takes a text.
+fn view_named(name: &str, value: &Value) -> Option<Ask>
+    ensures value { result ≡ spec.view_named name.now (view value.now) }
+    ensures form { IfSome result IsCall }
+{
+    if name == "board" {
+        board_of(value)
+    } else if name == "alerts" {
+        alerts_of(value)
+    } else if name == "release" {
+        view_release_of(value)
+    } else if name == "weather" {
+        weather_of(value)
+    } else {
+        None
+    }
+}
+
+// Asks about what is flown, and otherwise those to see something.
+fn ask_on_flight(name: &str, value: &Value) -> Option<Ask>
+    ensures value { result ≡ spec.ask_on_flight name.now (view value.now) }
+    ensures form { IfSome result IsCall }
+{
+    if name == "depart" {
+        depart_of(value)
+    } else if name == "arrive" {
+        arrive_of(value)
+    } else if name == "acknowledge" {
+        acknowledge_of(value)
+    } else {
+        view_named(name, value)
+    }
+}
+
+// Asks about a release before it is flown, and otherwise the next.
 fn ask_on_release(name: &str, value: &Value) -> Option<Ask>
     ensures value { result ≡ spec.ask_on_release name.now (view value.now) }
     ensures form { IfSome result IsCall }
 {
-    if name == "sign" {
+    if name == "prepare" {
+        prepare_of(value)
+    } else if name == "sign" {
         sign_of(value)
     } else if name == "concur" {
         concur_of(value)
     } else if name == "cancel" {
         cancel_of(value)
     } else {
-        None
+        ask_on_flight(name, value)
     }
 }
 
+// Asks about deferred equipment, and otherwise the next.
 fn ask_on_equipment(alloc: Global, name: &str, value: &Value) -> Result<Option<Ask>, OutOfMemory>
     ensures form { IfOk result (λ a. IfSome a IsCall) }
     ensures value { IfOk result (λ a. a ≡ spec.ask_on_equipment name.now (view value.now)) }
@@ -181,6 +362,7 @@ fn ask_on_equipment(alloc: Global, name: &str, value: &Value) -> Result<Option<A
     }
 }
 
+// Asks with a report or a plan, and otherwise the next.
 fn ask_named(alloc: Global, name: &str, value: &Value) -> Result<Option<Ask>, OutOfMemory>
     ensures form { IfOk result (λ a. IfSome a IsCall) }
     ensures value { IfOk result (λ a. a ≡ spec.ask_named name.now (view value.now)) }
@@ -189,8 +371,8 @@ fn ask_named(alloc: Global, name: &str, value: &Value) -> Result<Option<Ask>, Ou
         admit_of(alloc, value)
     } else if name == "draft" {
         draft_of(alloc, value)
-    } else if name == "alerts" {
-        Ok(alerts_of(value))
+    } else if name == "amend" {
+        amend_of(alloc, value)
     } else {
         ask_on_equipment(alloc, name, value)
     }

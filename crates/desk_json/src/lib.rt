@@ -2,6 +2,7 @@
 #![tactic(auto)]
 
 mod calls;
+mod digests;
 mod fields;
 mod legs;
 mod members;

@@ -5,6 +5,7 @@ ghost use Rattle.plan.specs.Texts.{HasMoment, phase_text};
 ghost use Rattle.asks.specs.Forms.{RefusalHasMoment};
 ghost use Rattle.desk_json.specs.Replies as spec;
 
+use crate::digests::with_digest;
 use crate::members::{
     Members, name_value, text_value, with_count, with_name, with_text, with_value,
 };
@@ -44,6 +45,8 @@ fn plan_why_name(why: PlanWhy) -> &'static str
         PlanWhy::Unjoined => "Unjoined",
         PlanWhy::Times => "Times",
         PlanWhy::Amount => "Amount",
+        PlanWhy::Changed => "Changed",
+        PlanWhy::Flown => "Flown",
     }
 }
 
@@ -64,9 +67,13 @@ fn refusal_number(refusal: &Refusal) -> u64
         Refusal::BadPlan { .. } => 12,
         Refusal::NotPending { .. } => 13,
         Refusal::WrongRevision { .. } => 14,
+        Refusal::WrongText { .. } => 15,
+        Refusal::WeatherNewer { .. } => 16,
         Refusal::RuleFails { .. } => 17,
         Refusal::WrongPhase { .. } => 18,
         Refusal::AlreadySigned => 19,
+        Refusal::NoSuchAlert => 20,
+        Refusal::AlertMoved { .. } => 21,
         Refusal::HistoryFull { .. } => 24,
         Refusal::NoSuchStation => 25,
         Refusal::UnknownItem => 28,
@@ -92,9 +99,13 @@ fn refusal_name(refusal: &Refusal) -> &'static str
         Refusal::BadPlan { .. } => "BadPlan",
         Refusal::NotPending { .. } => "NotPending",
         Refusal::WrongRevision { .. } => "WrongRevision",
+        Refusal::WrongText { .. } => "WrongText",
+        Refusal::WeatherNewer { .. } => "WeatherNewer",
         Refusal::RuleFails { .. } => "RuleFails",
         Refusal::WrongPhase { .. } => "WrongPhase",
         Refusal::AlreadySigned => "AlreadySigned",
+        Refusal::NoSuchAlert => "NoSuchAlert",
+        Refusal::AlertMoved { .. } => "AlertMoved",
         Refusal::HistoryFull { .. } => "HistoryFull",
         Refusal::NoSuchStation => "NoSuchStation",
         Refusal::UnknownItem => "UnknownItem",
@@ -176,8 +187,11 @@ fn with_fields(alloc: Global, refusal: &Refusal, members: Members) -> Result<Mem
         }
         Refusal::NotPending { stage } => with_count(alloc, members, "stage", *stage as u64),
         Refusal::WrongRevision { current } => with_count(alloc, members, "current", *current),
+        Refusal::WrongText { digest } => with_digest(alloc, members, digest),
+        Refusal::WeatherNewer { report } => with_count(alloc, members, "report", *report),
         Refusal::RuleFails { findings } => with_findings(alloc, members, findings.as_slice()),
         Refusal::WrongPhase { phase } => with_phase(alloc, members, *phase),
+        Refusal::AlertMoved { version } => with_count(alloc, members, "version", *version),
         Refusal::HistoryFull { entries } => with_count(alloc, members, "entries", *entries),
         Refusal::BadFound { moment } => with_text(alloc, members, "now", &show(*moment)),
         Refusal::DeferralsFull { held } => with_count(alloc, members, "held", *held),
@@ -188,6 +202,7 @@ fn with_fields(alloc: Global, refusal: &Refusal, members: Members) -> Result<Mem
         | Refusal::NoSuchDeferral
         | Refusal::NoSuchRelease
         | Refusal::AlreadySigned
+        | Refusal::NoSuchAlert
         | Refusal::NoSuchStation
         | Refusal::UnknownItem => Ok(members),
     }

@@ -1,40 +1,59 @@
-ghost use Rattle.std.specs.Prelude.{◌≡◌, IfOk};
-ghost use Rattle.serde_json.specs.View.{view};
+ghost use Rattle.std.specs.Prelude.{◌≡◌, codes, IfOk};
+ghost use Rattle.serde_json.specs.Data.{put};
+ghost use Rattle.serde_json.specs.View.{view, members_view};
 ghost use Rattle.asks.specs.Forms.{ReplyHasMoment};
 ghost use Rattle.desk_json.specs.Replies as spec;
 ghost use Rattle.desk_json.specs.Replies.{reply_text};
 
-use crate::members::text_value;
+use crate::digests::with_digest;
+use crate::members::{Members, text_value, with_count};
 use crate::refusals::refusal_value;
 use asks::{Done, Reply};
 use desk_io::{OutOfMemory, Text};
 use serde_json::{Map, Value};
-use std::alloc::{AllocError, Global};
+use std::alloc::Global;
 
-fn done_value(alloc: Global, done: Done) -> Result<Value, AllocError>
-    ensures { IfOk result (λ v. view v ≡ spec.done_data done) }
+// The number of a revision of a release.
+fn with_revision(
+    alloc: Global,
+    members: Members,
+    release: u64,
+    revision: u64,
+) -> Result<Members, OutOfMemory>
+    ensures { IfOk result (λ all. members_view all.entries ≡ put (codes "revision") (spec.count revision) (put (codes "release") (spec.count release) (members_view members.entries))) }
 {
-    let mut map = Map::new(alloc);
-    match done {
-        Done::Report(id) => {
-            map.insert(String::from_str(alloc, "report")?, Value::from(id))?;
-        }
-        Done::Deferral(id) => {
-            map.insert(String::from_str(alloc, "deferral")?, Value::from(id))?;
-        }
-        Done::Filed { release, revision } => {
-            map.insert(String::from_str(alloc, "release")?, Value::from(release))?;
-            map.insert(String::from_str(alloc, "revision")?, Value::from(revision))?;
-        }
-        Done::Release(id) => {
-            map.insert(String::from_str(alloc, "release")?, Value::from(id))?;
-        }
-    }
-    Ok(Value::Object(map))
+    let members = with_count(alloc, members, "release", release)?;
+    with_count(alloc, members, "revision", revision)
 }
 
-fn done_reply(alloc: Global, done: Done) -> Result<Value, OutOfMemory>
-    ensures { IfOk result (λ v. view v ≡ spec.reply_data (Reply.Done done)) }
+fn done_members(alloc: Global, done: &Done, members: Members) -> Result<Members, OutOfMemory>
+    ensures { IfOk result (λ all. members_view all.entries ≡ spec.with_done done.now (members_view members.entries)) }
+{
+    match done {
+        Done::Report(id) => with_count(alloc, members, "report", *id),
+        Done::Deferral(id) => with_count(alloc, members, "deferral", *id),
+        Done::Filed { release, revision } => with_revision(alloc, members, *release, *revision),
+        Done::Prepared {
+            release,
+            revision,
+            digest,
+        } => {
+            let members = with_digest(alloc, members, digest)?;
+            with_revision(alloc, members, *release, *revision)
+        }
+        Done::Release(id) => with_count(alloc, members, "release", *id),
+    }
+}
+
+fn done_value(alloc: Global, done: &Done) -> Result<Value, OutOfMemory>
+    ensures { IfOk result (λ v. view v ≡ spec.done_data done.now) }
+{
+    let members = done_members(alloc, done, Map::new(alloc))?;
+    Ok(Value::Object(members))
+}
+
+fn done_reply(alloc: Global, done: &Done) -> Result<Value, OutOfMemory>
+    ensures { IfOk result (λ v. view v ≡ spec.reply_data (Reply.Done done.now)) }
 {
     let mut map = Map::new(alloc);
     map.insert(String::from_str(alloc, "done")?, done_value(alloc, done)?)?;
@@ -57,7 +76,7 @@ fn reply_value(alloc: Global, reply: &Reply) -> Result<Value, OutOfMemory>
     ensures { IfOk result (λ v. view v ≡ spec.reply_data reply.now) }
 {
     match reply {
-        Reply::Done(done) => done_reply(alloc, *done),
+        Reply::Done(done) => done_reply(alloc, done),
         Reply::Seen(text) => seen_reply(alloc, text),
         Reply::Refused(refusal) => refusal_value(alloc, refusal),
     }
