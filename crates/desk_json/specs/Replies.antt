@@ -51,16 +51,16 @@ count n = number (unsigned n)
 abbrev pub text_data : List ℕ → Data
 text_data t = string (utf8_lossy t)
 
--- Some members and those that say what was done, each put where its key belongs in byte order.
-abbrev pub with_done : DoneType → Members → Members
-with_done (Report id) ms = put (codes "report") (count id) ms
-with_done (Deferral id) ms = put (codes "deferral") (count id) ms
-with_done (Filed release revision) ms = put (codes "revision") (count revision) (put (codes "release") (count release) ms)
-with_done (Prepared release revision digest) ms = put (codes "revision") (count revision) (put (codes "release") (count release) (put (codes "digest") (digest_data digest) ms))
-with_done (Release id) ms = put (codes "release") (count id) ms
+abbrev pub done_members : DoneType → Members
+done_members (Report id) = member (codes "report") (count id) no_members
+done_members (Deferral id) = member (codes "deferral") (count id) no_members
+done_members (Filed release revision) = member (codes "release") (count release) (member (codes "revision") (count revision) no_members)
+done_members (Prepared release revision digest) =
+    member (codes "digest") (digest_data digest) (member (codes "release") (count release) (member (codes "revision") (count revision) no_members))
+done_members (Release id) = member (codes "release") (count id) no_members
 
 abbrev pub done_data : DoneType → Data
-done_data done = object (with_done done no_members)
+done_data done = object (done_members done)
 
 -- the number of a refusal
 abbrev pub refusal_number : Refusal → ℕ

@@ -26,9 +26,10 @@ fn with_revision(
     with_count(alloc, members, "revision", revision)
 }
 
-fn done_members(alloc: Global, done: &Done, members: Members) -> Result<Members, OutOfMemory>
-    ensures { IfOk result (λ all. members_view all.entries ≡ spec.with_done done.now (members_view members.entries)) }
+fn done_members(alloc: Global, done: &Done) -> Result<Members, OutOfMemory>
+    ensures { IfOk result (λ all. members_view all.entries ≡ spec.done_members done.now) }
 {
+    let members = Map::new(alloc);
     match done {
         Done::Report(id) => with_count(alloc, members, "report", *id),
         Done::Deferral(id) => with_count(alloc, members, "deferral", *id),
@@ -48,8 +49,7 @@ fn done_members(alloc: Global, done: &Done, members: Members) -> Result<Members,
 fn done_value(alloc: Global, done: &Done) -> Result<Value, OutOfMemory>
     ensures { IfOk result (λ v. view v ≡ spec.done_data done.now) }
 {
-    let members = done_members(alloc, done, Map::new(alloc))?;
-    Ok(Value::Object(members))
+    Ok(Value::Object(done_members(alloc, done)?))
 }
 
 fn done_reply(alloc: Global, done: &Done) -> Result<Value, OutOfMemory>
