@@ -3,6 +3,7 @@ pub mod OpenLaws
 pub mod Needs
 pub mod DueLaws
 pub mod SightLaws
+pub mod NextDue
 pub mod Rising
 pub mod Order
 pub mod Truth

@@ -1,11 +1,13 @@
 -- What each rule says of a leg, where all that the rules need of a station is looked up once.
-use Rattle.std.specs.Prelude.{◌≡◌, ℕ, ◌+◌, ◌≤◌, Bool, true, false, ◌&&◌, if◌then◌else◌, List, [], ◌∷◌, ◌++◌, map, is_none}
+use Rattle.std.specs.Prelude.{◌≡◌, ℕ, ◌+◌, ◌≤◌, Bool, true, false, ◌&&◌, if◌then◌else◌, List, [], ◌∷◌, ◌++◌, map, Option, None, Some, is_none}
 use Rattle.std.specs.List.{list_all}
 use Rattle.std.specs.Option.{option_copied}
 use Rattle.codes.specs.Station.{Station}
+use Rattle.codes.specs.Cond.{lesser}
 use Rattle.facts.specs.Latest.{metar_latest, taf_latest}
 use Rattle.deferrals.specs.declared.items.Deferral.{Deferral}
 use Rattle.plan.specs.Phases.{standing}
+use Rattle.plan.specs.declared.flights.Plan.{Plan}
 use Rattle.plan.specs.declared.flights.Leg.{Leg}
 use Rattle.plan.specs.declared.flights.Alternate.{Alternate}
 use Rattle.plan.specs.declared.release.Phase.{Phase}
@@ -13,7 +15,7 @@ use Rattle.plan.specs.declared.release.Standing.{Standing}
 use Rattle.plan.specs.declared.release.Standing.TheVariants.{Ahead, InFlight, Flown}
 use Rattle.plan.specs.declared.findings.Finding.{Finding}
 use Rattle.plan.specs.declared.findings.Rule.{Rule}
-use Rattle.plan.specs.declared.findings.Rule.TheVariants.{No3, No4, No5, No6, No7, No8, No9, No10, No11, No12, No13, No14, No15, No16, No19}
+use Rattle.plan.specs.declared.findings.Rule.TheVariants.{No1, No2, No3, No4, No5, No6, No7, No8, No9, No10, No11, No12, No13, No14, No15, No16, No17, No18, No19}
 use Rattle.rules.specs.Grounds.{Grounds, grounds_of}
 use Rattle.rules.specs.Circumstances.{Case, is_below_alternate}
 use Rattle.rules.specs.Weather.{is_below_landing}
@@ -21,7 +23,9 @@ use Rattle.rules.specs.TakeoffAlternates.{needs_takeoff_alternate, is_far, is_be
 use Rattle.rules.specs.DestinationAlternates.{place_if, needs_alternate, lacks_domestic_alternate, lacks_second_alternate, lacks_flag_alternate, is_marginal_at, low_alternates}
 use Rattle.rules.specs.Equipment.{is_limiting, is_overdue, limiting, overdue, barred}
 use Rattle.rules.specs.Fuel.{does_without, is_short_domestic, is_short_flag, is_underfilled}
+use Rattle.rules.specs.Time.{limit_of, is_late}
 use Rattle.rules.specs.Judgement.{finding}
+use Rattle.rules.specs.Due.{due_after}
 use Rattle.rules.specs.declared.circumstances.Circumstances.{Circumstances}
 use Rattle.rules.specs.declared.weather.Reported.{Reported}
 use Rattle.rules.specs.declared.takeoff_alternates.Takeoff.{Takeoff}
@@ -33,6 +37,10 @@ use Rattle.rules.specs.declared.equipment.OfDeferral.{OfDeferral}
 use Rattle.rules.specs.declared.equipment.Deferred.{Deferred}
 use Rattle.rules.specs.declared.equipment.Equipment.{Equipment}
 use Rattle.rules.specs.declared.required_fuel.Fuel.{Fuel}
+use Rattle.rules.specs.declared.time.Limit.{Limit}
+use Rattle.rules.specs.declared.time.Times.{Times}
+use Rattle.rules.specs.declared.time.Late.{Late}
+use Rattle.rules.specs.declared.sights.Seen.{Seen}
 use Rattle.rules.specs.declared.sights.Sight.{Sight}
 
 -- the case that circumstances are
@@ -98,15 +106,15 @@ abbrev pub no_takeoff : Takeoff
 no_takeoff = record { lacks = false; is_far = false; is_low = false }
 
 -- a leg that isn't flown
-abbrev pub sight_of : Case → Bool → Leg → Sight
-sight_of c ahead leg =
+abbrev pub seen_of : Case → Bool → Leg → Seen
+seen_of c ahead leg =
     record { takeoff = if ahead then takeoff_of c leg else no_takeoff; arrival = arrival_of c leg; equipment = equipment_of c ahead leg; fuel = fuel_of c leg }
 
 abbrev pub no_need : Need
 no_need = record { is_needed = false; lacks_domestic = false; lacks_flag = false; does_without = false }
 
--- no rule speaks of a leg that is flown
-abbrev pub clear : Sight
+-- no rule speaks of a leg that is flown, or of one in a plan that fails its tests
+abbrev pub clear : Seen
 clear = record {
   takeoff = no_takeoff;
   arrival = record { is_below_landing = false; need = no_need; lacks_second = false; low = [] };
@@ -114,35 +122,76 @@ clear = record {
   fuel = record { is_short_domestic = false; is_short_flag = false; is_underfilled = false };
 }
 
-abbrev pub sight_at : Case → Standing → Leg → Sight
-sight_at c Ahead leg = sight_of c true leg
-sight_at c InFlight leg = sight_of c false leg
-sight_at c Flown leg = clear
+abbrev pub seen_at : Case → Standing → Leg → Seen
+seen_at c Ahead leg = seen_of c true leg
+seen_at c InFlight leg = seen_of c false leg
+seen_at c Flown leg = clear
+
+-- by the case, where there is one
+abbrev pub seen_in : Option Case → Standing → Leg → Seen
+seen_in None standing leg = clear
+seen_in (Some c) standing leg = seen_at c standing leg
+
+-- the last minute that a limit allows
+abbrev pub last_of : Limit → ℕ
+last_of limit = limit.since + limit.minutes
+
+-- which rules of time the leg of a number fails at a moment
+abbrev pub late_of : Times → ℕ → Leg → Late
+late_of times n leg = record {
+  domestic_stop = is_late No1 times.settings times.flight times.phase n leg times.moment;
+  flag_stop = is_late No2 times.settings times.flight times.phase n leg times.moment;
+  departure = is_late No17 times.settings times.flight times.phase n leg times.moment;
+  arrival = is_late No18 times.settings times.flight times.phase n leg times.moment;
+}
+
+abbrev pub times_of : Plan → Phase → Grounds → Times
+times_of plan phase g = record { settings = g.tables.settings; flight = plan.kind; phase = phase; moment = g.moment }
+
+-- the first minute after the moment at which the leg of a number begins to fail a rule of time
+abbrev pub due_by : Rule → Times → ℕ → Leg → Option ℕ
+due_by rule times n leg = due_after times.moment (limit_of rule times.settings times.flight times.phase n leg)
+
+abbrev pub due_of : Times → ℕ → Leg → Option ℕ
+due_of times n leg = lesser (due_by No1 times n leg) (lesser (due_by No2 times n leg) (lesser (due_by No17 times n leg) (due_by No18 times n leg)))
+
+-- the first of some legs, where the first of them has that number
+abbrev pub first_due : Times → ℕ → List Leg → Option ℕ
+first_due times n [] = None
+first_due times n (leg ∷ legs) = lesser (due_of times n leg) (first_due times (n + 1) legs)
+
+-- what each rule says of the leg of a number
+abbrev pub sight_of : Times → Option Case → ℕ → Leg → Sight
+sight_of times c n leg = record { late = late_of times n leg; seen = seen_in c (standing times.phase n) leg }
 
 -- what each rule says of each leg, where the first of them has that number
-abbrev pub sights_from : Case → Phase → ℕ → List Leg → List Sight
-sights_from c phase n [] = []
-sights_from c phase n (leg ∷ legs) = sight_at c (standing phase n) leg ∷ sights_from c phase (n + 1) legs
+abbrev pub sights_from : Times → Option Case → ℕ → List Leg → List Sight
+sights_from times c n [] = []
+sights_from times c n (leg ∷ legs) = sight_of times c n leg ∷ sights_from times c (n + 1) legs
 
 abbrev pub whole_if : Bool → List ℕ
 whole_if fails = place_if fails 0
 
 -- the places at which a leg fails a rule
 abbrev pub places_in : Rule → Sight → List ℕ
-places_in No3 s = whole_if s.arrival.is_below_landing
-places_in No4 s = whole_if s.takeoff.lacks
-places_in No5 s = whole_if s.takeoff.is_far
-places_in No6 s = whole_if s.takeoff.is_low
-places_in No7 s = whole_if s.arrival.need.lacks_domestic
-places_in No8 s = whole_if s.arrival.lacks_second
-places_in No9 s = whole_if s.arrival.need.lacks_flag
-places_in No10 s = s.arrival.low
-places_in No11 s = s.equipment.limiting
-places_in No12 s = s.equipment.overdue
-places_in No13 s = s.equipment.barred
-places_in No14 s = whole_if s.fuel.is_short_domestic
-places_in No15 s = whole_if s.fuel.is_short_flag
-places_in No16 s = whole_if s.fuel.is_underfilled
+places_in No1 s = whole_if s.late.domestic_stop
+places_in No2 s = whole_if s.late.flag_stop
+places_in No3 s = whole_if s.seen.arrival.is_below_landing
+places_in No4 s = whole_if s.seen.takeoff.lacks
+places_in No5 s = whole_if s.seen.takeoff.is_far
+places_in No6 s = whole_if s.seen.takeoff.is_low
+places_in No7 s = whole_if s.seen.arrival.need.lacks_domestic
+places_in No8 s = whole_if s.seen.arrival.lacks_second
+places_in No9 s = whole_if s.seen.arrival.need.lacks_flag
+places_in No10 s = s.seen.arrival.low
+places_in No11 s = s.seen.equipment.limiting
+places_in No12 s = s.seen.equipment.overdue
+places_in No13 s = s.seen.equipment.barred
+places_in No14 s = whole_if s.seen.fuel.is_short_domestic
+places_in No15 s = whole_if s.seen.fuel.is_short_flag
+places_in No16 s = whole_if s.seen.fuel.is_underfilled
+places_in No17 s = whole_if s.late.departure
+places_in No18 s = whole_if s.late.arrival
 places_in No19 s = []
 
 -- the findings of a rule, leg by leg, where the first of them has that number

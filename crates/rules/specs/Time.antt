@@ -1,6 +1,6 @@
 -- Rules of time: how long a flight may stop before it is released again (14 CFR 121.593, 121.595), and how late a leg
 -- may depart and arrive (the desk's own).
-use Rattle.std.specs.Prelude.{ℕ, ◌+◌, ◌==◌, nat_lt, Bool, true, false, if◌then◌else◌, List, Option, None, Some}
+use Rattle.std.specs.Prelude.{ℕ, ◌+◌, ◌==◌, nat_lt, Bool, true, false, List, Option, None, Some}
 use Rattle.ops_tables.specs.declared.rows.Settings.{Settings}
 use Rattle.plan.specs.declared.flights.Kind.{Kind}
 use Rattle.plan.specs.declared.flights.Leg.{Leg}

@@ -1,5 +1,6 @@
-ghost use Rattle.std.specs.Prelude.{◌≡◌, ◌≤◌, ◌+◌, ◌++◌, ◌∷◌, [], length, map, IfOk, OnOk};
+ghost use Rattle.std.specs.Prelude.{◌≡◌, ◌≤◌, ◌+◌, ◌++◌, ◌∷◌, [], length, map, IfOk, IfSome, OnOk, None, Some};
 ghost use Rattle.std.specs.List.{AllByRecursion};
+ghost use Rattle.std.specs.Option.{option_copied, option_map};
 ghost use Rattle.ops_tables.specs.Limits.{FitsType};
 ghost use Rattle.plan.specs.Check.{IsPlan};
 ghost use Rattle.plan.specs.Findings.{AreInOrder};
@@ -7,12 +8,14 @@ ghost use Rattle.deferrals.specs.Held.{AreRising};
 ghost use Rattle.rules.specs.Grounds.{deferrals_of, grounds_of, grounds_held};
 ghost use Rattle.rules.specs.Circumstances.{case_of};
 ghost use Rattle.rules.specs.Sights as seen;
+ghost use Rattle.rules.specs.Sights.{case_by, IsWithin};
 ghost use Rattle.rules.specs.Judgement as spec;
 ghost use Rattle.rules.specs.Judgement.{findings_of, IsTrueOf, NamesAll};
 
 use crate::circumstances::Circumstances;
 use crate::evidence::Evidence;
-use crate::sights::Sight;
+use crate::sights::{Sight, sights_of_legs};
+use crate::time::Times;
 use deferrals::{DEFERRAL_LIMIT, Deferrals};
 use desk_io::{Listed, OutOfMemory};
 use desk_time::Minute;
@@ -23,8 +26,10 @@ use std::alloc::Global;
 use std::sync::ledger::Ledger;
 use weather_window::Steps;
 
-/// The rules of a plan that passes its tests, in their order.
-const RULES: [Rule; 14] = [
+/// The rules of legs, in their order.
+const RULES: [Rule; 18] = [
+    Rule::No1,
+    Rule::No2,
     Rule::No3,
     Rule::No4,
     Rule::No5,
@@ -39,6 +44,8 @@ const RULES: [Rule; 14] = [
     Rule::No14,
     Rule::No15,
     Rule::No16,
+    Rule::No17,
+    Rule::No18,
 ];
 
 // Adds a finding of a rule and a leg for each place.
@@ -83,29 +90,49 @@ fn findings_in(alloc: Global, rules: &[Rule], sights: &[Sight]) -> Result<Findin
     Ok(findings)
 }
 
-// The findings of a plan that passes its tests, whose aircraft is of that type.
-fn findings_by<'a>(
+// The findings of the legs of a plan, in the circumstances where there are some.
+fn findings_of_legs(
     alloc: Global,
+    times: &Times,
+    circumstances: Option<&Circumstances<'_>>,
     plan: &Plan,
-    phase: Phase,
+) -> Result<Findings, OutOfMemory>
+    requires plan { IsPlan plan.now }
+    requires within { IfSome (option_copied circumstances) IsWithin }
+    ensures { IfOk result (λ f. f ≡ seen.findings_in_all spec.rules_of_legs (seen.sights_from times.now (option_map case_by (option_copied circumstances.entry)) 1 plan.now.legs)) }
+{
+    let sights = sights_of_legs(alloc, times, circumstances, plan.legs.as_slice())?;
+    findings_in(alloc, &RULES, &sights)
+}
+
+// The findings of a plan that passes its tests, whose aircraft is of that type.
+fn findings_in_case<'a>(
+    alloc: Global,
+    times: &Times,
+    plan: &Plan,
     evidence: Evidence<'a>,
     aircraft: &'a TypeRow,
 ) -> Result<Findings, OutOfMemory>
     requires plan { IsPlan plan.now }
     requires few { length (deferrals_of evidence) ≤ DEFERRAL_LIMIT }
     requires fits { FitsType aircraft.now }
-    ensures { IfOk result (λ f. f ≡ spec.findings_by spec.rules_of_legs (case_of (grounds_of evidence.entry) plan.now aircraft.now) phase plan.now.legs) }
+    ensures { IfOk result (λ f. f ≡ seen.findings_in_all spec.rules_of_legs (seen.sights_from times.now (Some (case_of (grounds_of evidence.entry) plan.now aircraft.now)) 1 plan.now.legs)) }
 {
     let circumstances = Circumstances::of(alloc, evidence, plan, aircraft)?;
-    let sights = circumstances.sights(alloc, phase, plan.legs.as_slice())?;
-    findings_in(alloc, &RULES, &sights)
+    findings_of_legs(alloc, times, Some(&circumstances), plan)
 }
 
-// The finding that a plan fails its tests, for a leg, or for the whole plan.
-fn only_tables(alloc: Global, leg: u32) -> Result<Findings, OutOfMemory>
-    ensures { IfOk result (λ f. f ≡ spec.finding Rule.No19 leg 0 ∷ []) }
+// The findings of a plan that fails its tests, for a leg, or for the whole plan.
+fn findings_with_tables(
+    alloc: Global,
+    times: &Times,
+    plan: &Plan,
+    leg: u32,
+) -> Result<Findings, OutOfMemory>
+    requires { IsPlan plan.now }
+    ensures { IfOk result (λ f. f ≡ seen.findings_in_all spec.rules_of_legs (seen.sights_from times.now None 1 plan.now.legs) ++ spec.finding Rule.No19 leg 0 ∷ []) }
 {
-    let mut findings = Listed::new(alloc);
+    let mut findings = findings_of_legs(alloc, times, None, plan)?;
     findings.push(Finding {
         rule: Rule::No19,
         leg,
@@ -114,8 +141,40 @@ fn only_tables(alloc: Global, leg: u32) -> Result<Findings, OutOfMemory>
     Ok(findings)
 }
 
+// The findings of a plan, by what is seen of its legs.
+fn findings_seen(
+    alloc: Global,
+    times: &Times,
+    plan: &Plan,
+    evidence: Evidence<'_>,
+) -> Result<Findings, OutOfMemory>
+    requires plan { IsPlan plan.now }
+    requires few { length (deferrals_of evidence) ≤ DEFERRAL_LIMIT }
+    ensures { IfOk result (λ f. f ≡ seen.findings_in_all spec.rules_of_legs (seen.sights_from times.now (spec.case_for plan.now (grounds_of evidence.entry)) 1 plan.now.legs) ++ spec.findings_of_tables plan.now (grounds_of evidence.entry)) }
+{
+    let tables = evidence.tables;
+    match check_plan(plan, tables) {
+        Err(bad) => findings_with_tables(alloc, times, plan, bad.leg),
+        Ok(()) => match tables.type_of(plan.tail.bytes()) {
+            None => findings_with_tables(alloc, times, plan, 0),
+            Some(aircraft) => findings_in_case(alloc, times, plan, evidence, aircraft),
+        },
+    }
+}
+
+fn times_of(plan: &Plan, phase: Phase, evidence: &Evidence<'_>) -> Times
+    ensures { result ≡ seen.times_of plan.now phase (grounds_of evidence.now) }
+{
+    Times {
+        settings: evidence.tables.settings(),
+        flight: plan.kind,
+        phase,
+        moment: evidence.moment,
+    }
+}
+
 // The rules that a plan fails in a phase.
-#[tactic(auto, unfolding(crate::specs::Judgement::findings_of))]
+
 fn findings(
     alloc: Global,
     plan: &Plan,
@@ -126,14 +185,8 @@ fn findings(
     requires few { length (deferrals_of evidence) ≤ DEFERRAL_LIMIT }
     ensures { IfOk result (λ f. f ≡ findings_of plan.now phase (grounds_of evidence.entry)) }
 {
-    let tables = evidence.tables;
-    match check_plan(plan, tables) {
-        Err(bad) => only_tables(alloc, bad.leg),
-        Ok(()) => match tables.type_of(plan.tail.bytes()) {
-            None => only_tables(alloc, 0),
-            Some(aircraft) => findings_by(alloc, plan, phase, evidence, aircraft),
-        },
-    }
+    let times = times_of(plan, phase, &evidence);
+    findings_seen(alloc, &times, plan, evidence)
 }
 
 /// The rules that a plan fails in a phase, by what is held and what is about to change of it, as `judge` finds
@@ -159,10 +212,11 @@ pub fn judge_by<L: Ledger>(
     findings(alloc, plan, phase, evidence)
 }
 
-/// The rules that a plan fails in a phase, in order of rule, leg and place, each once. A plan that fails its tests
-/// under the tables fails the rule of the tables alone. Otherwise each rule of weather, alternates, equipment and
-/// fuel fails for the legs that aren't flown, or that haven't departed, at which its predicate holds (14 CFR 121.613
-/// to 121.645). It counts one step.
+/// The rules that a plan fails in a phase, in order of rule, leg and place, each once. Each rule of time fails for the
+/// leg that departs next or is in flight, where the moment is past its limit (14 CFR 121.593, 121.595). Each rule of
+/// weather, alternates, equipment and fuel fails for the legs that aren't flown, or that haven't departed, at which
+/// its predicate holds (14 CFR 121.613 to 121.645); but of a plan that fails its tests under the tables only that is
+/// said beside the rules of time. It counts one step.
 #[tactic(auto, using(crate::proofs::OpenLaws::and_none))]
 pub fn judge<'a, L: Ledger>(
     alloc: Global,

@@ -3,14 +3,17 @@
 
 mod circumstances;
 mod destination_alternates;
+mod due;
 mod equipment;
 mod evidence;
 mod judgement;
 mod required_fuel;
 mod sights;
 mod takeoff_alternates;
+mod time;
 mod weather;
 
+pub use due::next_due;
 pub use evidence::Evidence;
 pub use judgement::{judge, judge_by};
 pub use weather_window::Steps;
