@@ -4,6 +4,7 @@ pub mod Needs
 pub mod DueLaws
 pub mod SightLaws
 pub mod NextDue
+pub mod UntilDue
 pub mod Rising
 pub mod Order
 pub mod Truth

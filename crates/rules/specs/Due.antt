@@ -1,5 +1,5 @@
 -- When a rule of time begins to fail.
-use Rattle.std.specs.Prelude.{◌≡◌, ℕ, ◌+◌, ◌-◌, ◌<◌, nat_lt, true, false, if◌then◌else◌, List, [], ◌∷◌, Option, None, Some}
+use Rattle.std.specs.Prelude.{◌≡◌, ℕ, ◌+◌, ◌-◌, ◌<◌, ◌≤◌, nat_lt, true, false, if◌then◌else◌, List, [], ◌∷◌, Option, None, Some}
 use Rattle.codes.specs.Cond.{lesser}
 use Rattle.ops_tables.specs.declared.rows.Settings.{Settings}
 use Rattle.plan.specs.declared.flights.Leg.{Leg}
@@ -7,7 +7,8 @@ use Rattle.plan.specs.declared.flights.Plan.{Plan}
 use Rattle.plan.specs.declared.findings.Rule.{Rule}
 use Rattle.plan.specs.declared.findings.Rule.TheVariants.{No1, No2, No17, No18}
 use Rattle.plan.specs.declared.release.Phase.{Phase}
-use Rattle.rules.specs.Judgement.{leg_numbered}
+use Rattle.rules.specs.Grounds.{Grounds}
+use Rattle.rules.specs.Judgement.{findings_of, leg_numbered}
 use Rattle.rules.specs.Time.{limit_of, is_late}
 
 -- the rules that begin to fail when time passes
@@ -51,3 +52,20 @@ NoneBegins plan phase settings after until = (minute : ℕ) → after < minute �
 abbrev pub IsNextDue : Plan → Phase → Settings → ℕ → Option ℕ → Type 0
 IsNextDue plan phase settings moment None = (until : ℕ) → NoneBegins plan phase settings moment until
 IsNextDue plan phase settings moment (Some due) = (moment < due) × Begins plan phase settings due × NoneBegins plan phase settings moment due
+
+-- the same tables, reports and deferrals at another moment
+abbrev pub at_moment : Grounds → ℕ → Grounds
+at_moment g moment = record { tables = g.tables; reports = g.reports; deferrals = g.deferrals; moment = moment }
+
+-- a minute before something is due
+abbrev pub IsBeforeDue : ℕ → Option ℕ → Type 0
+IsBeforeDue minute None = Unit {0}
+IsBeforeDue minute (Some due) = minute < due
+
+-- From the moment until something is due, a judgement finds the same.
+abbrev pub StaysUntil : Plan → Phase → Grounds → Option ℕ → Type 0
+StaysUntil plan phase g due = (minute : ℕ) → g.moment ≤ minute → IsBeforeDue minute due → findings_of plan phase (at_moment g minute) ≡ findings_of plan phase g
+
+-- whatever reports and deferrals there are
+abbrev pub Stays : Plan → Phase → Settings → ℕ → Option ℕ → Type 0
+Stays plan phase settings moment due = (g : Grounds) → g.tables.settings ≡ settings → g.moment ≡ moment → StaysUntil plan phase g due

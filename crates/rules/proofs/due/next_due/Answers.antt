@@ -1,7 +1,12 @@
 use Rattle.std.proofs.Common.{sym, subst}
-use Rattle.rules.specs.Due.{IsNextDue}
+use Rattle.rules.specs.Due.{IsNextDue, Stays}
 use Rattle.rules.proofs.NextDue.{next_due_is}
+use Rattle.rules.proofs.UntilDue.{stays}
 use Rattle.rules.proofs.due.next_due.Goals as goal
 
 pub returns-clause-due : goal.returns-clause-due
 returns-clause-due c = subst (IsNextDue c.args.plan.now c.args.phase c.args.tables.now.settings c.args.moment) (sym c.due_in.ensures) (next_due_is _ _ _ _)
+
+pub returns-clause-stays : goal.returns-clause-stays
+returns-clause-stays c =
+    subst (Stays c.args.plan.now c.args.phase c.args.tables.now.settings c.args.moment) (sym c.due_in.ensures) (stays _ _ _ _ _ (next_due_is _ _ _ _))
