@@ -2,7 +2,7 @@ use Rattle.std.proofs.Common.{◌≡◌, ◌++◌, drop}
 use Rattle.std.specs.List.{AllByRecursion}
 use Rattle.machine.specs.Texts.{release_lines}
 use Rattle.machine.specs.Sound.{ReleaseInBounds}
-use Rattle.board.proofs.texts.push_releases.Given as goal
+use Rattle.views.proofs.boards.push_releases.Given as goal
 
 abbrev pub invariant-loop-release : goal.invariant-loop-release
 invariant-loop-release l = record {

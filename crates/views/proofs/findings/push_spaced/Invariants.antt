@@ -1,6 +1,6 @@
 use Rattle.std.proofs.Common.{◌≡◌, ◌++◌, drop}
 use Rattle.machine.specs.Texts.{spaced_findings}
-use Rattle.board.proofs.texts.push_spaced.Given as goal
+use Rattle.views.proofs.findings.push_spaced.Given as goal
 
 abbrev pub invariant-loop-finding : goal.invariant-loop-finding
 invariant-loop-finding l = l.out.items ++ spaced_findings (drop l.finding-index l.findings) ≡ l.fn.out.items ++ spaced_findings l.findings

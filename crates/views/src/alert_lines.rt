@@ -1,0 +1,95 @@
+ghost use Rattle.std.specs.Prelude.{◌≡◌, ◌++◌, IfOk, OnOk};
+ghost use Rattle.std.specs.List.{AllByRecursion};
+ghost use Rattle.machine.specs.Texts as spec;
+ghost use Rattle.plan.specs.Texts.{IsMoment};
+ghost use Rattle.alerts.specs.Alerts.{IsAlert};
+
+use crate::findings::{findings_text, mark_text};
+use alerts::Alert;
+use desk_io::{OutOfMemory, Text, push_all};
+use desk_time::{Minute, show};
+use std::alloc::Global;
+
+fn push_alert_head(alloc: Global, out: &mut Vec<u8>, alert: &Alert) -> Result<(), OutOfMemory>
+    ensures { OnOk result (out.new.items ≡ out.old.items ++ spec.alert_head alert.now) }
+{
+    let release = alert.release.to_string(alloc)?;
+    let version = alert.version.to_string(alloc)?;
+    push_all(
+        out,
+        &[
+            release.as_bytes(),
+            b" ",
+            alert.desk.bytes(),
+            b" v",
+            version.as_bytes(),
+        ],
+    )
+}
+
+fn push_opening(out: &mut Vec<u8>, alert: &Alert) -> Result<(), OutOfMemory>
+    requires { IsMoment alert.now.opened }
+    ensures { OnOk result (out.new.items ≡ out.old.items ++ spec.opening_text alert.now) }
+{
+    push_all(
+        out,
+        &[
+            b" ",
+            &show(alert.opened),
+            b" ",
+            mark_text(alert.acknowledged),
+        ],
+    )
+}
+
+fn push_failing(alloc: Global, out: &mut Vec<u8>, alert: &Alert) -> Result<(), OutOfMemory>
+    ensures { OnOk result (out.new.items ≡ out.old.items ++ spec.failing_text alert.now) }
+{
+    let failing = findings_text(alloc, alert.failing.as_slice())?;
+    let ever = findings_text(alloc, alert.ever.as_slice())?;
+    push_all(out, &[&failing, b" ever", &ever, b"\n"])
+}
+
+#[tactic(auto, unfolding(machine::specs::Texts::alert_line))]
+fn push_alert(alloc: Global, out: &mut Vec<u8>, alert: &Alert) -> Result<(), OutOfMemory>
+    requires { IsMoment alert.now.opened }
+    ensures { OnOk result (out.new.items ≡ out.old.items ++ spec.alert_line alert.now) }
+{
+    push_alert_head(alloc, out, alert)?;
+    push_opening(out, alert)?;
+    push_failing(alloc, out, alert)
+}
+
+fn push_alerts(
+    alloc: Global,
+    out: &mut Vec<u8>,
+    most: u64,
+    alerts: &[Alert],
+) -> Result<(), OutOfMemory>
+    requires { AllByRecursion (IsAlert most) alerts.now }
+    ensures { OnOk result (out.new.items ≡ out.old.items ++ spec.alert_lines alerts.now) }
+{
+    for alert in alerts {
+        push_alert(alloc, out, alert)?;
+    }
+    Ok(())
+}
+
+/// The alerts that stand.
+#[tactic(auto, unfolding(machine::specs::Texts::alerts_view))]
+pub fn alerts_view(
+    alloc: Global,
+    moment: Minute,
+    most: u64,
+    alerts: &[Alert],
+) -> Result<Text, OutOfMemory>
+    requires moment { IsMoment moment }
+    requires open { AllByRecursion (IsAlert most) alerts.now }
+    ensures { IfOk result (λ t. t ≡ spec.alerts_view moment alerts.now) }
+{
+    let mut lines = Vec::new(alloc);
+    push_alerts(alloc, &mut lines, most, alerts)?;
+    let mut out = Vec::new(alloc);
+    push_all(&mut out, &[b"ALERTS ", &show(moment), b"\n", &lines])?;
+    Ok(Text::from_vec(out))
+}

@@ -1,0 +1,17 @@
+ghost use Rattle.std.specs.Prelude.{◌≡◌, IfOk};
+ghost use Rattle.facts.specs.Lines.{weather_at};
+
+use codes::Station;
+use desk_io::{OutOfMemory, Text};
+use facts::{Reports, push_weather_at};
+use std::alloc::Global;
+
+/// The latest weather of a station: the line of its latest METAR or SPECI, and then that of its latest TAF, where
+/// there are any.
+pub fn weather_view(alloc: Global, reports: &Reports, station: Station) -> Result<Text, OutOfMemory>
+    ensures { IfOk result (λ t. t ≡ weather_at reports.now.reports station) }
+{
+    let mut out = Vec::new(alloc);
+    push_weather_at(&mut out, reports, station)?;
+    Ok(Text::from_vec(out))
+}
