@@ -1,8 +1,8 @@
 -- What the tests of an ask answer.
 use Rattle.std.specs.Prelude.{◌≡◌, Option, None, Some, Result, Ok, Err}
 use Rattle.asks.specs.declared.reply.Refusal.{Refusal}
-use Rattle.board.specs.declared.chain.Stop.{Stop}
-use Rattle.board.specs.declared.chain.Stop.TheVariants as stop
+use Rattle.decisions.specs.declared.chain.Stop.{Stop}
+use Rattle.decisions.specs.declared.chain.Stop.TheVariants as stop
 
 -- the value, the refusal, or want of memory
 abbrev pub Answers : {T A : Type 0} → (T → A) → Result T Stop → Result A Refusal → Type 0

@@ -1,6 +1,6 @@
 ghost use Rattle.std.specs.Prelude.{◌≡◌};
 ghost use Rattle.machine.specs.Chain as spec;
-ghost use Rattle.board.specs.Answers.{Passes, IsWant};
+ghost use Rattle.decisions.specs.Answers.{Passes, IsWant};
 
 use asks::Refusal;
 use desk_io::OutOfMemory;
@@ -23,7 +23,7 @@ impl From<OutOfMemory> for Stop {
 }
 
 /// A test that refuses where something is so.
-pub fn refused_if(refuses: bool, refusal: Refusal) -> Result<(), Stop>
+pub(crate) fn refused_if(refuses: bool, refusal: Refusal) -> Result<(), Stop>
     ensures { Passes result (spec.refused_if refuses refusal) }
 {
     if refuses {

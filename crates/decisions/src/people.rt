@@ -2,7 +2,7 @@ ghost use Rattle.std.specs.Prelude.{◌≡◌};
 ghost use Rattle.std.specs.Option.{option_copied};
 ghost use Rattle.plan.specs.Check.{is_captain_role};
 ghost use Rattle.machine.specs.People as spec;
-ghost use Rattle.board.specs.Answers.{Passes};
+ghost use Rattle.decisions.specs.Answers.{Passes};
 
 use crate::chain::{Stop, refused_if};
 use asks::{Ask, Refusal};
@@ -17,7 +17,8 @@ fn is_dispatcher(role: Role) -> bool
     }
 }
 
-fn is_captain(role: Role) -> bool
+/// Whether he may be the pilot in command.
+pub(crate) fn is_captain(role: Role) -> bool
     ensures { result ≡ is_captain_role role }
 {
     match role {
@@ -51,9 +52,19 @@ fn may_ask(ask: &Ask, role: Role) -> bool
     match ask {
         Ask::Admit { .. } => is_feed(role) || is_dispatcher(role),
         Ask::Defer { .. } | Ask::Clear { .. } => is_maintenance(role),
-        Ask::Draft { .. } | Ask::Sign { .. } | Ask::Cancel { .. } => is_dispatcher(role),
+        Ask::Draft { .. }
+        | Ask::Prepare { .. }
+        | Ask::Sign { .. }
+        | Ask::Amend { .. }
+        | Ask::Cancel { .. }
+        | Ask::Acknowledge { .. } => is_dispatcher(role),
         Ask::Concur { .. } => is_captain(role),
-        Ask::ViewAlerts | Ask::ViewDeferred { .. } => true,
+        Ask::Depart { .. } | Ask::Arrive { .. } => is_dispatcher(role) || is_captain(role),
+        Ask::ViewBoard
+        | Ask::ViewAlerts
+        | Ask::ViewRelease { .. }
+        | Ask::ViewWeather { .. }
+        | Ask::ViewDeferred { .. } => true,
     }
 }
 
@@ -69,7 +80,7 @@ pub fn mistaken(person: Option<&Actor>, key: &[u8]) -> Option<Refusal>
 }
 
 /// Whether the ask is for the person's role.
-pub fn not_his_role(person: Option<&Actor>, ask: &Ask) -> Result<(), Stop>
+pub(crate) fn not_his_role(person: Option<&Actor>, ask: &Ask) -> Result<(), Stop>
     ensures { Passes result (spec.not_his_role (option_copied person.entry) ask.now) }
 {
     match person {

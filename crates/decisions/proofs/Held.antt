@@ -1,0 +1,26 @@
+-- What is known of a release that is held.
+use Rattle.std.proofs.Common.{ℕ, ◌≤◌, Option, None, Some, IfSome, arith}
+use Rattle.plan.specs.declared.release.Phase.{Phase}
+use Rattle.plan.specs.declared.release.Release.{Release}
+use Rattle.plan.specs.declared.release.Revision.{Revision}
+use Rattle.machine.specs.Sound.{InBounds, Fits, HasLegs, AreNumbered, RevisionInBounds}
+use Rattle.machine.specs.State.{State}
+use Rattle.machine.specs.Texts.{newest}
+use Rattle.decisions.specs.Newest.{IsNewest, HasNewest}
+
+newest_by : (most : ℕ) (phase : Phase) (pending active : Option Revision) → most ≤ 999_999_999_999_000 → AreNumbered most pending active
+    → IfSome pending (HasLegs phase) → IfSome active (HasLegs phase) → IfSome pending RevisionInBounds → IfSome active RevisionInBounds
+    → IfSome (newest pending active) (IsNewest phase)
+newest_by most phase None None few numbered one two three four = tt
+newest_by most phase None (Some w) few numbered one two three four = record { is_plan = four.is_plan; fits = two.fits; small = let least = numbered.1 in omega (arith, few, least) }
+newest_by most phase (Some v) None few numbered one two three four = record { is_plan = three.is_plan; fits = one.fits; small = let least = numbered.1 in omega (arith, few, least) }
+newest_by most phase (Some v) (Some w) few numbered one two three four = record { is_plan = three.is_plan; fits = one.fits; small = let least = numbered.2 in omega (arith, few, least) }
+
+-- the newest revision has a plan and a small number
+pub has_newest : (s : State) (r : Release) → InBounds s → Fits s.counters.events r → HasNewest r
+has_newest s r kept fits =
+    newest_by s.counters.events r.phase r.pending r.active kept.counters.events fits.valid.numbered fits.valid.pending_legs fits.valid.active_legs fits.kept.pending fits.kept.active
+
+pub found_newest : (s : State) (o : Option Release) → InBounds s → IfSome o (Fits s.counters.events) → IfSome o HasNewest
+found_newest s None kept fits = tt
+found_newest s (Some r) kept fits = has_newest s r kept fits

@@ -1,0 +1,14 @@
+-- What is known of a report that is admitted.
+use Rattle.std.specs.Prelude.{IfSome}
+use Rattle.facts.specs.Reading.{IsRead}
+use Rattle.machine.specs.declared.effect.Effect.{Effect}
+use Rattle.machine.specs.declared.effect.Decision.{Decision}
+use Rattle.machine.specs.declared.effect.Decision.TheVariants.{Show, Do}
+
+-- a report that is admitted is canonical, and its reading that of its text
+abbrev pub AdmitsRead : Effect → Type 0
+AdmitsRead e = IfSome e.report IsRead
+
+abbrev pub DecisionAdmitsRead : Decision → Type 0
+DecisionAdmitsRead (Show reply) = Unit {0}
+DecisionAdmitsRead (Do reply effect) = AdmitsRead effect

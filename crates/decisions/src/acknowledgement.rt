@@ -1,0 +1,57 @@
+ghost use Rattle.std.specs.Prelude.{IfOk};
+ghost use Rattle.machine.specs.Contents.{state_of};
+ghost use Rattle.machine.specs.Decide as spec;
+ghost use Rattle.machine.specs.Sound.{Sound, InBounds};
+ghost use Rattle.decisions.specs.Answers.{Answers, Passes};
+ghost use Rattle.decisions.specs.Reads.{DecisionAdmitsRead};
+
+use crate::chain::{Stop, refused_if};
+use crate::releases::{held, not_yours};
+use alerts::Alert;
+use asks::{Done, Refusal, Reply};
+use desk_io::Text;
+use machine::{Content, Decision, Effect};
+use std::alloc::Global;
+
+fn alert_of(content: &Content, release: u64) -> Result<&Alert, Stop>
+    ensures { Answers (λ a. a.now) result (spec.alert_of (state_of content.now) release) }
+{
+    match content.alert(release) {
+        None => Err(Stop::Refused(Refusal::NoSuchAlert)),
+        Some(alert) => Ok(alert),
+    }
+}
+
+fn moved(alert: &Alert, version: u64) -> Result<(), Stop>
+    ensures { Passes result (spec.moved alert.now version) }
+{
+    refused_if(
+        alert.version != version,
+        Refusal::AlertMoved {
+            version: alert.version,
+        },
+    )
+}
+
+/// The dispatcher who holds a release has seen its alert in a version.
+pub(crate) fn acknowledge(
+    alloc: Global,
+    content: &Content,
+    actor: &Text,
+    id: u64,
+    version: u64,
+) -> Result<Decision, Stop>
+    requires sound { Sound (state_of content.now) }
+    requires kept { InBounds (state_of content.now) }
+    ensures value { Answers (λ d. d) result (spec.decide_acknowledge (state_of content.now) actor.now id version) }
+    ensures read { IfOk result DecisionAdmitsRead }
+{
+    let release = held(content, id)?;
+    let alert = alert_of(content, release.id)?;
+    not_yours(alloc, &release.holder, actor)?;
+    moved(alert, version)?;
+    Ok(Decision::Do(
+        Reply::Done(Done::Release(release.id)),
+        Effect::acknowledge(release.id),
+    ))
+}

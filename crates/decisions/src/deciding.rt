@@ -1,0 +1,86 @@
+ghost use Rattle.std.specs.Prelude.{IfOk};
+ghost use Rattle.asks.specs.Forms.{IsCall};
+ghost use Rattle.machine.specs.Contents.{state_of};
+ghost use Rattle.machine.specs.Decide as spec;
+ghost use Rattle.machine.specs.Decide.{decide};
+ghost use Rattle.machine.specs.Sound.{Sound, InBounds};
+ghost use Rattle.decisions.specs.Answers.{Answers};
+ghost use Rattle.decisions.specs.Reads.{DecisionAdmitsRead};
+
+use crate::acknowledgement::acknowledge;
+use crate::chain::Stop;
+use crate::drafts::{amend, cancel, draft, prepare};
+use crate::equipment::{clear, defer, view_deferred};
+use crate::flights::{arrive, depart};
+use crate::people::not_his_role;
+use crate::reports::{admit, view_weather};
+use crate::shown::{view_alerts, view_board, view_release};
+use crate::signatures::{concur, sign};
+use asks::{Ask, Call};
+use machine::{Content, Decision};
+use rules::Steps;
+use std::alloc::Global;
+use std::sync::ledger::Ledger;
+
+fn decide_ask<L: Ledger>(
+    alloc: Global,
+    content: &Content,
+    call: &Call,
+    steps: &mut Steps<L>,
+) -> Result<Decision, Stop>
+    requires sound { Sound (state_of content.now) }
+    requires kept { InBounds (state_of content.now) }
+    requires call { IsCall call.now.ask }
+    ensures value { Answers (λ d. d) result (spec.decide_ask (state_of content.now) call.now.actor call.now.ask) }
+    ensures read { IfOk result DecisionAdmitsRead }
+{
+    let actor = &call.actor;
+    match &call.ask {
+        Ask::Admit { text } => admit(alloc, content, text),
+        Ask::Defer { tail, item, found } => defer(alloc, content, tail, item, *found),
+        Ask::Clear { deferral } => clear(content, *deferral),
+        Ask::Draft { plan } => draft(alloc, content, actor, plan),
+        Ask::Prepare { release } => prepare(alloc, content, actor, *release),
+        Ask::Sign {
+            release,
+            revision,
+            digest,
+        } => sign(alloc, content, actor, *release, *revision, digest, steps),
+        Ask::Concur {
+            release,
+            revision,
+            digest,
+        } => concur(alloc, content, actor, *release, *revision, digest, steps),
+        Ask::Amend { release, plan } => amend(alloc, content, actor, *release, plan),
+        Ask::Cancel { release } => cancel(alloc, content, actor, *release),
+        Ask::Depart { release, leg } => depart(alloc, content, actor, *release, *leg, steps),
+        Ask::Arrive { release, leg } => arrive(alloc, content, actor, *release, *leg),
+        Ask::Acknowledge { release, version } => {
+            acknowledge(alloc, content, actor, *release, *version)
+        }
+        Ask::ViewBoard => view_board(alloc, content),
+        Ask::ViewAlerts => view_alerts(alloc, content),
+        Ask::ViewRelease { release } => view_release(alloc, content, *release),
+        Ask::ViewWeather { station } => view_weather(alloc, content, *station),
+        Ask::ViewDeferred { tail } => view_deferred(alloc, content, tail),
+    }
+}
+
+/// What a call of a person comes to whose name and key are right: whether the ask is for his role, and then the tests
+/// of the ask in their order, of which the first that stops it answers.
+#[tactic(auto, unfolding(machine::specs::Decide::decide))]
+pub fn decide<L: Ledger>(
+    alloc: Global,
+    content: &Content,
+    call: &Call,
+    steps: &mut Steps<L>,
+) -> Result<Decision, Stop>
+    requires sound { Sound (state_of content.now) }
+    requires kept { InBounds (state_of content.now) }
+    requires call { IsCall call.now.ask }
+    ensures value { Answers (λ d. d) result (decide (state_of content.now) call.now) }
+    ensures read { IfOk result DecisionAdmitsRead }
+{
+    not_his_role(content.tables.actor(call.actor.bytes()), &call.ask)?;
+    decide_ask(alloc, content, call, steps)
+}

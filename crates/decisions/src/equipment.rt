@@ -1,0 +1,128 @@
+ghost use Rattle.std.specs.Prelude.{◌≡◌, IfOk};
+ghost use Rattle.std.specs.List.{list_any};
+ghost use Rattle.deferrals.specs.Held.{has_id};
+ghost use Rattle.machine.specs.Contents.{state_of};
+ghost use Rattle.machine.specs.Decide as spec;
+ghost use Rattle.machine.specs.Sound.{InBounds};
+ghost use Rattle.decisions.specs.Answers.{Answers, Passes};
+ghost use Rattle.decisions.specs.Reads.{DecisionAdmitsRead};
+
+use crate::chain::{Stop, refused_if};
+use asks::{Done, Refusal, Reply};
+use deferrals::{Deferral, open_on};
+use desk_io::{Copied, OutOfMemory, Text};
+use desk_time::Minute;
+use machine::{Content, Decision, Effect};
+use ops_tables::TypeRow;
+use std::alloc::Global;
+use views::deferral_lines;
+
+fn aircraft<'a>(content: &'a Content, tail: &[u8]) -> Result<&'a TypeRow, Stop>
+    ensures { Answers (λ k. k.now) result (spec.aircraft (state_of content.now) tail.now) }
+{
+    match content.tables.type_of(tail) {
+        None => Err(Stop::Refused(Refusal::UnknownTail)),
+        Some(kind) => Ok(kind),
+    }
+}
+
+fn unlisted(content: &Content, kind: &TypeRow, item: &[u8]) -> Result<(), Stop>
+    ensures { Passes result (spec.unlisted (state_of content.now) kind.now item.now) }
+{
+    let row = content.tables.item(kind.kind.bytes(), item);
+    refused_if(row.is_none(), Refusal::UnknownItem)
+}
+
+fn found_later(content: &Content, found: Minute) -> Result<(), Stop>
+    ensures { Passes result (spec.found_later (state_of content.now) found) }
+{
+    refused_if(
+        content.moment < found,
+        Refusal::BadFound {
+            moment: content.moment,
+        },
+    )
+}
+
+fn deferrals_full(content: &Content) -> Result<(), Stop>
+    ensures { Passes result (spec.deferrals_full (state_of content.now)) }
+{
+    let held = content.deferrals.as_slice().len();
+    refused_if(held >= 50_000, Refusal::DeferralsFull { held: held as u64 })
+}
+
+fn has_deferral(deferrals: &[Deferral], id: u64) -> bool
+    ensures { result ≡ list_any (has_id id) deferrals.now }
+{
+    deferrals.iter().any(|deferral| deferral.id == id)
+}
+
+fn not_open(content: &Content, id: u64) -> Result<(), Stop>
+    ensures { Passes result (spec.not_open (state_of content.now) id) }
+{
+    let is_open = has_deferral(content.deferrals.as_slice(), id);
+    refused_if(!is_open, Refusal::NoSuchDeferral)
+}
+
+fn new_deferral(
+    alloc: Global,
+    content: &Content,
+    tail: &Text,
+    item: &Text,
+    found: Minute,
+) -> Result<Deferral, OutOfMemory>
+    ensures { IfOk result (λ d. d ≡ record { id = (state_of content.now).counters.next_deferral; tail = tail.now; item = item.now; found = found }) }
+{
+    Ok(Deferral {
+        id: content.counters.next_deferral,
+        tail: tail.copy(alloc)?,
+        item: item.copy(alloc)?,
+        found,
+    })
+}
+
+/// An item of an aircraft is deferred.
+pub(crate) fn defer(
+    alloc: Global,
+    content: &Content,
+    tail: &Text,
+    item: &Text,
+    found: Minute,
+) -> Result<Decision, Stop>
+    ensures value { Answers (λ d. d) result (spec.decide_defer (state_of content.now) tail.now item.now found) }
+    ensures read { IfOk result DecisionAdmitsRead }
+{
+    let kind = aircraft(content, tail.bytes())?;
+    unlisted(content, kind, item.bytes())?;
+    found_later(content, found)?;
+    deferrals_full(content)?;
+    let deferral = new_deferral(alloc, content, tail, item, found)?;
+    Ok(Decision::Do(
+        Reply::Done(Done::Deferral(content.counters.next_deferral)),
+        Effect::defer(deferral),
+    ))
+}
+
+/// A deferred item is repaired.
+pub(crate) fn clear(content: &Content, deferral: u64) -> Result<Decision, Stop>
+    ensures value { Answers (λ d. d) result (spec.decide_clear (state_of content.now) deferral) }
+    ensures read { IfOk result DecisionAdmitsRead }
+{
+    not_open(content, deferral)?;
+    Ok(Decision::Do(
+        Reply::Done(Done::Deferral(deferral)),
+        Effect::clear(deferral),
+    ))
+}
+
+/// The open deferrals of an aircraft.
+pub(crate) fn view_deferred(alloc: Global, content: &Content, tail: &Text) -> Result<Decision, Stop>
+    requires { InBounds (state_of content.now) }
+    ensures value { Answers (λ d. d) result (spec.decide_deferred (state_of content.now) tail.now) }
+    ensures read { IfOk result DecisionAdmitsRead }
+{
+    let kind = aircraft(content, tail.bytes())?;
+    let open = open_on(alloc, content.deferrals.as_slice(), tail.bytes())?;
+    let text = deferral_lines(alloc, &content.tables, kind.kind.bytes(), &open)?;
+    Ok(Decision::Show(Reply::Seen(text)))
+}

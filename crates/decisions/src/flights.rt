@@ -1,0 +1,161 @@
+ghost use Rattle.std.specs.Prelude.{◌≡◌, ◌<◌, IsTrue, IfOk, IfSome};
+ghost use Rattle.std.specs.Option.{option_copied};
+ghost use Rattle.machine.specs.Contents.{state_of};
+ghost use Rattle.machine.specs.Decide as spec;
+ghost use Rattle.machine.specs.Sound.{Sound, InBounds, ReleaseInBounds, RevisionInBounds};
+ghost use Rattle.decisions.specs.Answers.{Answers, Passes};
+ghost use Rattle.decisions.specs.Reads.{DecisionAdmitsRead};
+
+use crate::chain::Stop;
+use crate::people::is_captain;
+use crate::releases::{held, in_phase, not_yours, out_of_phase};
+use crate::rulings::judged;
+use asks::{Done, Reply};
+use desk_io::{OutOfMemory, Text};
+use desk_time::Minute;
+use machine::{Content, Decision, Effect};
+use ops_tables::Actor;
+use plan::{Phase, Release, Revision, is_active};
+use rules::Steps;
+use std::alloc::Global;
+use std::sync::ledger::Ledger;
+
+fn may_depart(phase: Phase, leg: u32) -> bool
+    ensures { result ≡ spec.may_depart phase leg }
+{
+    match phase {
+        Phase::Ready => leg == 1,
+        Phase::Stopped { next, .. } => leg == next,
+        Phase::Drafted | Phase::Flying { .. } | Phase::Completed { .. } | Phase::Cancelled { .. } =>
+            false,
+    }
+}
+
+fn may_arrive(phase: Phase, leg: u32) -> bool
+    ensures { result ≡ spec.may_arrive phase leg }
+{
+    match phase {
+        Phase::Flying { leg: in_flight } => leg == in_flight,
+        Phase::Drafted
+        | Phase::Ready
+        | Phase::Stopped { .. }
+        | Phase::Completed { .. }
+        | Phase::Cancelled { .. } => false,
+    }
+}
+
+// The captain of the active plan.
+fn active_captain(release: &Release) -> &Text
+    ensures { result.now ≡ spec.captain_or release.now.active release.now.holder }
+{
+    match &release.active {
+        None => &release.holder,
+        Some(revision) => &revision.plan.captain,
+    }
+}
+
+fn flies_by<'a>(person: Option<&Actor>, release: &'a Release) -> &'a Text
+    ensures { result.now ≡ spec.flies_by (option_copied person.entry) release.now }
+{
+    match person {
+        Some(person) if is_captain(person.role) => active_captain(release),
+        _ => &release.holder,
+    }
+}
+
+fn fails_now<L: Ledger>(
+    alloc: Global,
+    content: &Content,
+    release: &Release,
+    steps: &mut Steps<L>,
+) -> Result<(), Stop>
+    requires { ReleaseInBounds release.now }
+    ensures { Passes result (spec.fails_now (state_of content.now) release.now) }
+{
+    match &release.active {
+        Some(revision) if is_active(release.phase) => {
+            judged(alloc, content, &revision.plan, release.phase, steps)
+        }
+        _ => Ok(()),
+    }
+}
+
+fn has_more(release: &Release, leg: u32) -> bool
+    requires { IfSome release.now.active RevisionInBounds }
+    ensures value { result ≡ spec.has_more release.now leg }
+    ensures small { IsTrue result → leg < 1000 }
+{
+    match &release.active {
+        None => false,
+        Some(revision) => (leg as usize) < revision.plan.legs.as_slice().len(),
+    }
+}
+
+fn arrival(
+    alloc: Global,
+    release: &Release,
+    leg: u32,
+    moment: Minute,
+) -> Result<Decision, OutOfMemory>
+    requires { ReleaseInBounds release.now }
+    ensures value { IfOk result (λ d. d ≡ spec.arrival (spec.has_more release.now leg) release.now leg moment) }
+    ensures read { IfOk result DecisionAdmitsRead }
+{
+    let reply = Reply::Done(Done::Release(release.id));
+    if has_more(release, leg) {
+        let phase = Phase::Stopped {
+            next: leg + 1,
+            since: moment,
+            again: false,
+        };
+        let stopped = in_phase(alloc, release, phase)?;
+        Ok(Decision::Do(reply, Effect::put(stopped)))
+    } else {
+        let completed = in_phase(alloc, release, Phase::Completed { at: moment })?;
+        Ok(Decision::Do(reply, Effect::put_afresh(completed)))
+    }
+}
+
+/// A leg departs.
+pub(crate) fn depart<L: Ledger>(
+    alloc: Global,
+    content: &Content,
+    actor: &Text,
+    id: u64,
+    leg: u32,
+    steps: &mut Steps<L>,
+) -> Result<Decision, Stop>
+    requires sound { Sound (state_of content.now) }
+    requires kept { InBounds (state_of content.now) }
+    ensures value { Answers (λ d. d) result (spec.decide_depart (state_of content.now) actor.now id leg) }
+    ensures read { IfOk result DecisionAdmitsRead }
+{
+    let release = held(content, id)?;
+    out_of_phase(may_depart(release.phase, leg), release.phase)?;
+    let person = content.tables.actor(actor.bytes());
+    not_yours(alloc, flies_by(person, release), actor)?;
+    fails_now(alloc, content, release, steps)?;
+    let reply = Reply::Done(Done::Release(release.id));
+    let departed = in_phase(alloc, release, Phase::Flying { leg })?;
+    Ok(Decision::Do(reply, Effect::put(departed)))
+}
+
+/// The leg in flight arrives. After the last leg the release is completed.
+pub(crate) fn arrive(
+    alloc: Global,
+    content: &Content,
+    actor: &Text,
+    id: u64,
+    leg: u32,
+) -> Result<Decision, Stop>
+    requires sound { Sound (state_of content.now) }
+    requires kept { InBounds (state_of content.now) }
+    ensures value { Answers (λ d. d) result (spec.decide_arrive (state_of content.now) actor.now id leg) }
+    ensures read { IfOk result DecisionAdmitsRead }
+{
+    let release = held(content, id)?;
+    out_of_phase(may_arrive(release.phase, leg), release.phase)?;
+    let person = content.tables.actor(actor.bytes());
+    not_yours(alloc, flies_by(person, release), actor)?;
+    Ok(arrival(alloc, release, leg, content.moment)?)
+}

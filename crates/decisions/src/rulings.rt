@@ -1,0 +1,48 @@
+ghost use Rattle.plan.specs.Check.{IsPlan};
+ghost use Rattle.rules.specs.Judgement.{findings_of};
+ghost use Rattle.machine.specs.Contents.{state_of};
+ghost use Rattle.machine.specs.Decide as spec;
+ghost use Rattle.machine.specs.State.{grounds_of};
+ghost use Rattle.decisions.specs.Answers.{Passes};
+
+use crate::chain::Stop;
+use asks::Refusal;
+use machine::Content;
+use plan::{Findings, Phase, Plan};
+use rules::{Steps, judge};
+use std::alloc::Global;
+use std::sync::ledger::Ledger;
+
+fn failing(findings: Findings) -> Result<(), Stop>
+    ensures { Passes result (spec.failing findings) }
+{
+    if findings.as_slice().is_empty() {
+        Ok(())
+    } else {
+        Err(Stop::Refused(Refusal::RuleFails { findings }))
+    }
+}
+
+/// Whether a plan fails rules in a phase, by what is held.
+pub(crate) fn judged<L: Ledger>(
+    alloc: Global,
+    content: &Content,
+    plan: &Plan,
+    phase: Phase,
+    steps: &mut Steps<L>,
+) -> Result<(), Stop>
+    requires { IsPlan plan.now }
+    ensures { Passes result (spec.failing (findings_of plan.now phase (grounds_of (state_of content.now)))) }
+{
+    let findings = judge(
+        alloc,
+        plan,
+        phase,
+        &content.reports,
+        &content.deferrals,
+        &content.tables,
+        content.moment,
+        steps,
+    )?;
+    failing(findings)
+}

@@ -1,0 +1,51 @@
+ghost use Rattle.std.specs.Prelude.{◌≡◌, [], IfOk};
+ghost use Rattle.machine.specs.Contents.{state_of};
+ghost use Rattle.machine.specs.Decide as spec;
+ghost use Rattle.machine.specs.Sound.{Sound, InBounds};
+ghost use Rattle.decisions.specs.Answers.{Answers};
+ghost use Rattle.decisions.specs.Reads.{DecisionAdmitsRead};
+
+use crate::chain::Stop;
+use crate::releases::held;
+use asks::{Ask, Reply};
+use machine::{Content, Decision};
+use std::alloc::Global;
+use views::{alerts_view, board_view, release_view};
+
+/// The releases.
+pub(crate) fn view_board(alloc: Global, content: &Content) -> Result<Decision, Stop>
+    requires { InBounds (state_of content.now) }
+    ensures value { Answers (λ d. d) result (spec.decide_ask (state_of content.now) [] Ask.ViewBoard) }
+    ensures read { IfOk result DecisionAdmitsRead }
+{
+    let text = board_view(alloc, content)?;
+    Ok(Decision::Show(Reply::Seen(text)))
+}
+
+/// The open alerts.
+pub(crate) fn view_alerts(alloc: Global, content: &Content) -> Result<Decision, Stop>
+    requires sound { Sound (state_of content.now) }
+    requires kept { InBounds (state_of content.now) }
+    ensures value { Answers (λ d. d) result (spec.decide_ask (state_of content.now) [] Ask.ViewAlerts) }
+    ensures read { IfOk result DecisionAdmitsRead }
+{
+    let text = alerts_view(
+        alloc,
+        content.moment,
+        content.counters.events,
+        &content.alerts,
+    )?;
+    Ok(Decision::Show(Reply::Seen(text)))
+}
+
+/// A release and its texts.
+pub(crate) fn view_release(alloc: Global, content: &Content, id: u64) -> Result<Decision, Stop>
+    requires sound { Sound (state_of content.now) }
+    requires kept { InBounds (state_of content.now) }
+    ensures value { Answers (λ d. d) result (spec.decide_release (state_of content.now) id) }
+    ensures read { IfOk result DecisionAdmitsRead }
+{
+    let release = held(content, id)?;
+    let text = release_view(alloc, release)?;
+    Ok(Decision::Show(Reply::Seen(text)))
+}
