@@ -25,7 +25,10 @@ use Rattle.release_text.specs.Revisions.{revision_digest}
 use Rattle.release_text.specs.Weather.{newer_than}
 use Rattle.rules.specs.Grounds.{Grounds}
 use Rattle.machine.proofs.Each.{found_each}
-use Rattle.machine.specs.Sound.{Sound, IsPhased, IsValid}
+use Rattle.machine.specs.Sound.{Sound, IsPhased, IsThere, IsValid}
+use Rattle.ops_tables.specs.declared.rows.Role.{Role}
+use Rattle.ops_tables.specs.declared.rows.Role.TheVariants.{D, C, F, M, S}
+use Rattle.plan.specs.Check.{is_captain_role}
 use Rattle.machine.specs.Texts.{newest}
 use Rattle.plan.specs.declared.check.BadPlan.{BadPlan}
 use Rattle.plan.specs.declared.findings.Finding.{Finding}
@@ -56,7 +59,7 @@ use Rattle.machine.specs.Chain.{◌>>-◌, unless, some_or, refused_if}
 use Rattle.machine.specs.People.{may_ask, mistaken, not_his_role}
 use Rattle.machine.specs.Decide as d
 use Rattle.machine.specs.Decide.{decide}
-use Rattle.machine.specs.Allowed.{MaySign, GainsDispatcher, GainsCaptain, GainsWeather, BothAre, IsPreparing, IsSigning, IsReleased, IsConcurring, HasNotEnded, IsCancelling, IsAmended, IsAmending, IsNextLeg, IsDeparting, IsStopping, IsCompleting, IsInVersion, IsAcknowledging, OfHeld, IsListed, IsEffectOf, admits, defers, clears, drafts, prepares, signs, concurs, amends, cancels, departs, stops, completes, acknowledges, DecisionOf, IsEntryOf, IsAfter, IsPermitted, MayLeadTo, MayTickTo}
+use Rattle.machine.specs.Allowed.{MaySign, GainsDispatcher, GainsCaptain, GainsWeather, BothAre, IsPreparing, IsSigning, IsReleased, IsConcurring, HasNotEnded, IsCancelling, IsAmended, IsAmending, IsNextLeg, IsCaptainOf, FliesAs, FliesBy, IsDeparting, IsStopping, IsCompleting, IsInVersion, IsAcknowledging, OfHeld, IsListed, IsEffectOf, admits, defers, clears, drafts, prepares, signs, concurs, amends, cancels, departs, stops, completes, acknowledges, DecisionOf, IsEntryOf, IsAfter, IsPermitted, MayLeadTo, MayTickTo}
 
 given : {A : Type 0} (s : State) (actor : List ℕ) (a : Ask) (m : Result A Refusal) (f : A → Result Decision Refusal) → ((x : A) → m ≡ Ok x → DecisionOf s actor a (f x)) → DecisionOf s actor a (m >>- f)
 given s actor a (Err x) f goes = tt
@@ -228,7 +231,22 @@ amending s q plan actor (Some v) is there own once passes follows = record {
 cancelling : (s : State) (q : Release) (actor : List ℕ) → q.holder ≡ actor → HasNotEnded q.phase → IsCancelling s actor q (d.cancelled q s.moment)
 cancelling s q actor own once = record { own = own; once = once; same = record { id = refl; holder = refl }; phase = refl; active = refl; pending = refl }
 
-departing : (s : State) (q : Release) (actor : List ℕ) (leg : ℕ) → d.flies_by (actor_of s.tables actor) q ≡ actor → IsNextLeg q.phase leg → failing_of (grounds_of s) q ≡ Some []
+captain_is : (actor holder : List ℕ) (active : Option Revision) → IsThere active → d.captain_or active holder ≡ actor → IsCaptainOf actor active
+captain_is actor holder None there e = absurd there
+captain_is actor holder (Some v) there e = e
+
+flies_as : (role : Role) (actor : List ℕ) (q : Release) → IsThere q.active → cond (is_captain_role role) (d.captain_or q.active q.holder) q.holder ≡ actor → FliesAs role actor q
+flies_as D actor q there e = e
+flies_as C actor q there e = captain_is actor q.holder q.active there e
+flies_as F actor q there e = e
+flies_as M actor q there e = e
+flies_as S actor q there e = e
+
+flies_by : (o : Option Actor) (actor : List ℕ) (q : Release) → IsThere q.active → d.not_yours (d.flies_by o q) actor ≡ None → FliesBy o actor q
+flies_by None actor q there e = his q.holder actor e
+flies_by (Some person) actor q there e = flies_as person.role actor q there (his (d.flies_by (Some person) q) actor e)
+
+departing : (s : State) (q : Release) (actor : List ℕ) (leg : ℕ) → FliesBy (actor_of s.tables actor) actor q → IsNextLeg q.phase leg → failing_of (grounds_of s) q ≡ Some []
     → IsDeparting s actor leg q (d.departed q leg)
 departing s q actor leg own next passes = record {
   own = own;
@@ -240,7 +258,7 @@ departing s q actor leg own next passes = record {
   pending = refl;
 }
 
-stopping : (s : State) (q : Release) (actor : List ℕ) (leg : ℕ) → d.flies_by (actor_of s.tables actor) q ≡ actor → q.phase ≡ Flying leg → d.has_more q leg ≡ true
+stopping : (s : State) (q : Release) (actor : List ℕ) (leg : ℕ) → FliesBy (actor_of s.tables actor) actor q → q.phase ≡ Flying leg → d.has_more q leg ≡ true
     → IsStopping s actor leg q (d.stopped q leg s.moment)
 stopping s q actor leg own flying more = record {
   arrives = record { own = own; flying = flying; same = record { id = refl; holder = refl }; active = refl; pending = refl };
@@ -248,7 +266,7 @@ stopping s q actor leg own flying more = record {
   phase = refl;
 }
 
-completing : (s : State) (q : Release) (actor : List ℕ) (leg : ℕ) → d.flies_by (actor_of s.tables actor) q ≡ actor → q.phase ≡ Flying leg → d.has_more q leg ≡ false
+completing : (s : State) (q : Release) (actor : List ℕ) (leg : ℕ) → FliesBy (actor_of s.tables actor) actor q → q.phase ≡ Flying leg → d.has_more q leg ≡ false
     → IsCompleting s actor leg q (d.completed q s.moment)
 completing s q actor leg own flying last = record {
   arrives = record { own = own; flying = flying; same = record { id = refl; holder = refl }; active = refl; pending = refl };
@@ -416,8 +434,9 @@ cancel s actor id =
     ))))
 
 depart : (s : State) (actor : List ℕ) (id leg : ℕ) → ((q : Release) → release_at id s.releases ≡ Some q → d.may_depart q.phase leg ≡ true → failing_of (grounds_of s) q ≡ None → ⊥)
+    → ((q : Release) → release_at id s.releases ≡ Some q → d.may_depart q.phase leg ≡ true → IsThere q.active)
     → DecisionOf s actor (ask.Depart id leg) (d.decide_depart s actor id leg)
-depart s actor id leg judged =
+depart s actor id leg judged there =
     let a : Ask = ask.Depart id leg in
     given s actor a (d.held s id) _ (λ q e. known s actor a (d.out_of_phase (d.may_depart q.phase leg) q.phase) _ (λ may.
     known s actor a (d.not_yours (d.flies_by (actor_of s.tables actor) q) actor) _ (λ own. known s actor a (d.fails_now s q) _
@@ -425,21 +444,22 @@ depart s actor id leg judged =
       _,
       refl,
       departs (of_held (IsDeparting s actor leg) (release_at id s.releases) q _ (some_given _ (release_at id s.releases) q e)
-          (departing s q actor leg (his (d.flies_by (actor_of s.tables actor) q) actor own) (next_leg q.phase leg (allowed (d.may_depart q.phase leg) q.phase may))
+          (departing s q actor leg (flies_by (actor_of s.tables actor) actor q (there q (some_given _ (release_at id s.releases) q e) (allowed (d.may_depart q.phase leg) q.phase may)) own) (next_leg q.phase leg (allowed (d.may_depart q.phase leg) q.phase may))
           (passes_by (failing_of (grounds_of s) q) passes (judged q (some_given _ (release_at id s.releases) q e) (allowed (d.may_depart q.phase leg) q.phase may))))),
     )))))
 
-arrival_is : (more : Bool) (s : State) (actor : List ℕ) (id leg : ℕ) (q : Release) → release_at id s.releases ≡ Some q → d.flies_by (actor_of s.tables actor) q ≡ actor → q.phase ≡ Flying leg
+arrival_is : (more : Bool) (s : State) (actor : List ℕ) (id leg : ℕ) (q : Release) → release_at id s.releases ≡ Some q → FliesBy (actor_of s.tables actor) actor q → q.phase ≡ Flying leg
     → d.has_more q leg ≡ more → DecisionOf s actor (ask.Arrive id leg) (Ok (d.arrival more q leg s.moment))
 arrival_is true s actor id leg q held own flying more = (_, refl, stops (of_held (IsStopping s actor leg) (release_at id s.releases) q _ held (stopping s q actor leg own flying more)))
 arrival_is false s actor id leg q held own flying more = (_, refl, completes (of_held (IsCompleting s actor leg) (release_at id s.releases) q _ held (completing s q actor leg own flying more)))
 
-arrive : (s : State) (actor : List ℕ) (id leg : ℕ) → DecisionOf s actor (ask.Arrive id leg) (d.decide_arrive s actor id leg)
-arrive s actor id leg =
+arrive : (s : State) (actor : List ℕ) (id leg : ℕ) → ((q : Release) → release_at id s.releases ≡ Some q → d.may_arrive q.phase leg ≡ true → IsThere q.active)
+    → DecisionOf s actor (ask.Arrive id leg) (d.decide_arrive s actor id leg)
+arrive s actor id leg there =
     let a : Ask = ask.Arrive id leg in
     given s actor a (d.held s id) _ (λ q e. known s actor a (d.out_of_phase (d.may_arrive q.phase leg) q.phase) _ (λ may.
     known s actor a (d.not_yours (d.flies_by (actor_of s.tables actor) q) actor) _
-    (λ own. arrival_is (d.has_more q leg) s actor id leg q (some_given _ (release_at id s.releases) q e) (his (d.flies_by (actor_of s.tables actor) q) actor own)
+    (λ own. arrival_is (d.has_more q leg) s actor id leg q (some_given _ (release_at id s.releases) q e) (flies_by (actor_of s.tables actor) actor q (there q (some_given _ (release_at id s.releases) q e) (allowed (d.may_arrive q.phase leg) q.phase may)) own)
     (in_flight q.phase leg (allowed (d.may_arrive q.phase leg) q.phase may)) refl)))
 
 in_version : (a : Alert) (version : ℕ) → d.moved a version ≡ None → a.version ≡ version
@@ -494,6 +514,22 @@ judged_by g (Stopped next since again) leg pending (Some v) e is none = absurd (
 judged_by g (Completed at) leg pending active e is none = absurd (cc)
 judged_by g (Cancelled at) leg pending active e is none = absurd (cc)
 
+depart_there : (phase : Phase) (leg : ℕ) (pending active : Option Revision) → d.may_depart phase leg ≡ true → IsPhased phase pending active → IsThere active
+depart_there Drafted leg pending active e is = absurd (cc)
+depart_there Ready leg pending active e is = is
+depart_there (Flying n) leg pending active e is = absurd (cc)
+depart_there (Stopped next since again) leg pending active e is = is
+depart_there (Completed at) leg pending active e is = absurd (cc)
+depart_there (Cancelled at) leg pending active e is = absurd (cc)
+
+arrive_there : (phase : Phase) (leg : ℕ) (pending active : Option Revision) → d.may_arrive phase leg ≡ true → IsPhased phase pending active → IsThere active
+arrive_there Drafted leg pending active e is = absurd (cc)
+arrive_there Ready leg pending active e is = absurd (cc)
+arrive_there (Flying n) leg pending active e is = is
+arrive_there (Stopped next since again) leg pending active e is = absurd (cc)
+arrive_there (Completed at) leg pending active e is = absurd (cc)
+arrive_there (Cancelled at) leg pending active e is = absurd (cc)
+
 ask_is : (s : State) (actor : List ℕ) (a : Ask) → Sound s → DecisionOf s actor a (d.decide_ask s actor a)
 ask_is s actor (ask.Admit text) sound = admit s actor text
 ask_is s actor (ask.Defer tail item found) sound = defer s actor tail item found
@@ -504,8 +540,10 @@ ask_is s actor (ask.Sign id number digest) sound = sign s actor id number digest
 ask_is s actor (ask.Concur id number digest) sound = concur s actor id number digest
 ask_is s actor (ask.Amend id plan) sound = amend s actor id plan (λ q e may. there_by q.phase q.pending q.active may (valid_held s id q sound e).phased)
 ask_is s actor (ask.Cancel id) sound = cancel s actor id
-ask_is s actor (ask.Depart id leg) sound = depart s actor id leg (λ q e may. judged_by (grounds_of s) q.phase leg q.pending q.active may (valid_held s id q sound e).phased)
-ask_is s actor (ask.Arrive id leg) sound = arrive s actor id leg
+ask_is s actor (ask.Depart id leg) sound =
+    depart s actor id leg (λ q e may. judged_by (grounds_of s) q.phase leg q.pending q.active may (valid_held s id q sound e).phased)
+    (λ q e may. depart_there q.phase leg q.pending q.active may (valid_held s id q sound e).phased)
+ask_is s actor (ask.Arrive id leg) sound = arrive s actor id leg (λ q e may. arrive_there q.phase leg q.pending q.active may (valid_held s id q sound e).phased)
 ask_is s actor (ask.Acknowledge id version) sound = acknowledge s actor id version
 ask_is s actor ask.ViewBoard sound = tt
 ask_is s actor ask.ViewAlerts sound = tt

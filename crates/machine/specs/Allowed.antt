@@ -5,6 +5,8 @@ use Rattle.codes.specs.Groups.{groups_of, canonical}
 use Rattle.ops_tables.specs.Tables.{TableRows, actor_of, type_of, has_airport, has_item}
 use Rattle.ops_tables.specs.declared.rows.TypeRow.{TypeRow}
 use Rattle.ops_tables.specs.declared.rows.Actor.{Actor}
+use Rattle.ops_tables.specs.declared.rows.Role.{Role}
+use Rattle.ops_tables.specs.declared.rows.Role.TheVariants.{D, C, F, M, S}
 use Rattle.deferrals.specs.declared.items.Deferral.{Deferral}
 use Rattle.deferrals.specs.Held.{has_id}
 use Rattle.facts.specs.Reading.{read_of}
@@ -39,7 +41,7 @@ use Rattle.machine.specs.declared.entry.What.{What}
 use Rattle.machine.specs.declared.entry.What.TheVariants as what
 use Rattle.machine.specs.State.{State, grounds_of, failing_of, release_at, alert_at}
 use Rattle.machine.specs.Events.{effected, moment_after, reports_after, deferrals_after, releases_after}
-use Rattle.machine.specs.Decide.{once_signed, flies_by, leg_count}
+use Rattle.machine.specs.Decide.{once_signed, leg_count}
 use Rattle.machine.specs.Texts.{newest}
 use Rattle.machine.specs.People.{may_ask}
 use Rattle.machine.specs.Step.{entered}
@@ -190,9 +192,25 @@ IsNextLeg (Stopped next since again) leg = leg ≡ next
 IsNextLeg (Completed at) leg = ⊥
 IsNextLeg (Cancelled at) leg = ⊥
 
+abbrev pub IsCaptainOf : List ℕ → Option Revision → Type 0
+IsCaptainOf actor None = ⊥
+IsCaptainOf actor (Some v) = v.plan.captain ≡ actor
+
+-- a person of a role flies by a release: a captain by the active plan that names him, a dispatcher by the release that he holds
+abbrev pub FliesAs : Role → List ℕ → Release → Type 0
+FliesAs D actor q = q.holder ≡ actor
+FliesAs C actor q = IsCaptainOf actor q.active
+FliesAs F actor q = q.holder ≡ actor
+FliesAs M actor q = q.holder ≡ actor
+FliesAs S actor q = q.holder ≡ actor
+
+abbrev pub FliesBy : Option Actor → List ℕ → Release → Type 0
+FliesBy None actor q = q.holder ≡ actor
+FliesBy (Some person) actor q = FliesAs person.role actor q
+
 -- A release of which a leg departs, where the active plan fails no rule. What is pending goes.
 pub record IsDeparting (s : State) (actor : List ℕ) (leg : ℕ) (q r : Release) : Type 0 where
-  pub own : flies_by (actor_of s.tables actor) q ≡ actor
+  pub own : FliesBy (actor_of s.tables actor) actor q
   pub next : IsNextLeg q.phase leg
   pub passes : failing_of (grounds_of s) q ≡ Some []
   pub same : IsSameRelease q r
@@ -202,7 +220,7 @@ pub record IsDeparting (s : State) (actor : List ℕ) (leg : ℕ) (q r : Release
 
 -- A release of which the leg in flight arrives. What is pending goes.
 pub record IsArriving (s : State) (actor : List ℕ) (leg : ℕ) (q r : Release) : Type 0 where
-  pub own : flies_by (actor_of s.tables actor) q ≡ actor
+  pub own : FliesBy (actor_of s.tables actor) actor q
   pub flying : q.phase ≡ Flying leg
   pub same : IsSameRelease q r
   pub active : r.active ≡ q.active
