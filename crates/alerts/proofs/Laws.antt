@@ -1,5 +1,5 @@
 -- What fails stays in order, each once, and among what ever failed.
-use Rattle.std.proofs.Common.{◌≡◌, ℕ, ◌+◌, Bool, true, false, cond, ◌||◌, List, [], ◌∷◌, Option, None, Some, IfSome, refl, arith}
+use Rattle.std.proofs.Common.{◌≡◌, ℕ, ◌+◌, Bool, true, false, cond, ◌||◌, List, [], ◌∷◌, Option, None, Some, IfSome, refl, sym, subst, ◌∙◌, arith}
 use Rattle.std.specs.List.{AllByRecursion}
 use Rattle.std.proofs.lemmas.Bool.Decides.{nat_tests}
 use Rattle.plan.specs.declared.findings.Finding.{Finding}
@@ -7,7 +7,9 @@ use Rattle.plan.specs.Findings.{is_same, is_before, is_among, AreInOrder, AreAmo
 use Rattle.plan.specs.Texts.{IsMoment}
 use Rattle.plan.proofs.Rows.{is_before_trans, is_before_other}
 use Rattle.alerts.specs.declared.alert.Alert.{Alert}
-use Rattle.alerts.specs.Alerts.{IsAlert, with_finding, with_findings, alert_once_open, alert_after}
+use Rattle.alerts.specs.Follows.{StaysOpen, Follows}
+use Rattle.alerts.proofs.Sameness.{same_is}
+use Rattle.alerts.specs.Alerts.{are_same, IsAlert, with_finding, with_findings, alert_once_open, alert_after}
 
 abbrev AreAfter : Finding → List Finding → Type 0
 AreAfter f gs = AllByRecursion (λ g. is_before f g ≡ true) gs
@@ -117,3 +119,46 @@ after_is None release desk (f ∷ fs) moment most shown order is = record {
   among = among_self (f ∷ fs);
 }
 after_is (Some a) release desk findings moment most shown order is = once_open_is _ a findings most order is
+
+-- What becomes of an alert.
+
+all_same : (fs : List Finding) → are_same fs fs ≡ true
+all_same [] = refl
+all_same (f ∷ fs) = rw (same_self f) (all_same fs)
+
+keeps_all : (ever hs fs : List Finding) → AreAmong ever hs → AreAmong (with_findings ever fs) hs
+keeps_all ever [] fs all = tt
+keeps_all ever (h ∷ hs) fs all = (still_among h ever fs all.0, keeps_all ever hs fs all.1)
+
+not_same : (fs gs : List Finding) → are_same fs gs ≡ false → fs ≡ gs → ⊥
+not_same fs gs e is = let other : are_same fs gs ≡ true = subst (λ (hs : List Finding). are_same fs hs ≡ true) is (all_same fs) in let bad : false ≡ true = sym e ∙ other in absurd (cc)
+
+stays_by : (b : Bool) (a : Alert) (findings : List Finding) → are_same a.failing findings ≡ b → StaysOpen a findings (alert_once_open b a findings)
+stays_by true a findings e = record {
+  release = refl;
+  desk = refl;
+  opened = refl;
+  failing = same_is a.failing findings e;
+  same = λ is. refl;
+  changed = λ ne. absurd (ne (same_is a.failing findings e));
+  keeps = among_self a.ever;
+}
+stays_by false a findings e = record {
+  release = refl;
+  desk = refl;
+  opened = refl;
+  failing = refl;
+  same = λ is. absurd (not_same a.failing findings e is);
+  changed = λ ne. (refl, refl);
+  keeps = keeps_all a.ever a.ever findings (among_self a.ever);
+}
+
+pub follows : (old : Option Alert) (release : ℕ) (desk : List ℕ) (findings : List Finding) (moment : ℕ) → Follows old release desk findings moment (alert_after old release desk findings moment)
+follows None release desk [] moment = tt
+follows None release desk (f ∷ fs) moment = record { release = refl; desk = refl; version = refl; opened = refl; failing = refl; ever = refl; acknowledged = refl }
+follows (Some a) release desk findings moment = stays_by (are_same a.failing findings) a findings refl
+
+-- the same of what is found
+pub follows_is : (old : Option Alert) (release : ℕ) (desk : List ℕ) (findings : List Finding) (moment : ℕ) (o : Option Alert)
+    → o ≡ alert_after old release desk findings moment → Follows old release desk findings moment o
+follows_is old release desk findings moment o is = subst (λ (x : Option Alert). Follows old release desk findings moment x) (sym is) (follows old release desk findings moment)

@@ -1,2 +1,3 @@
 pub mod Alerts
 pub mod Notices
+pub mod Follows

@@ -1,14 +1,15 @@
 ghost use Rattle.std.specs.Prelude.{◌≡◌, ◌<◌, ◌≤◌, ◌^◌, ◌++◌, insert, length, IfOk, IfSome, OnOk, MatchOption};
 ghost use Rattle.std.specs.Option.{option_copied};
 ghost use Rattle.alerts.specs.Alerts as spec;
+ghost use Rattle.alerts.specs.Follows.{Follows};
 
 use desk_io::{Copied, OutOfMemory, Text};
 use desk_time::Minute;
 use plan::{Finding, Findings, is_before, is_same};
 use std::alloc::Global;
 
-/// What stands open for a release from the first judgement on at which a rule fails, until it is
-/// amended, cancelled or flown.
+/// What stands open for a release from the first judgement on at which a rule fails, until a captain concurs with
+/// another revision, it is cancelled, or its last leg arrives.
 #[derive(Debug, Drop)]
 pub struct Alert {
     /// The release.
@@ -137,11 +138,7 @@ fn alert_once_open(alloc: Global, alert: &Alert, findings: &Findings) -> Result<
     }
 }
 
-/// The alert of a release after a judgement. There is none exactly where none was open and no rule
-/// fails. A new alert has version 1, was opened now, and names the findings. One that is open keeps
-/// its opening, and stays as it is where the same rules fail; otherwise its version rises by one, it
-/// names the findings, keeps those that it ever named, and its acknowledgement falls.
-pub fn after(
+fn judged(
     alloc: Global,
     old: Option<&Alert>,
     release: u64,
@@ -162,4 +159,24 @@ pub fn after(
             }
         }
     }
+}
+
+/// The alert of a release after a judgement. There is none exactly where none was open and no rule
+/// fails. A new alert has version 1, was opened now, and names the findings. One that is open keeps
+/// its opening, and stays as it is where the same rules fail; otherwise its version rises by one, it
+/// names the findings, keeps those that it ever named, and its acknowledgement falls.
+#[tactic(auto, using(crate::proofs::Laws::follows_is))]
+pub fn after(
+    alloc: Global,
+    old: Option<&Alert>,
+    release: u64,
+    desk: &Text,
+    findings: &Findings,
+    moment: Minute,
+) -> Result<Option<Alert>, OutOfMemory>
+    requires { IfSome (option_copied old) (λ a. a.version < 1_000_000_000_000_000) }
+    ensures value { IfOk result (λ a. a ≡ spec.alert_after (option_copied old.entry) release desk.now findings.now moment) }
+    ensures follows { IfOk result (λ a. Follows (option_copied old.entry) release desk.now findings.now moment a) }
+{
+    judged(alloc, old, release, desk, findings, moment)
 }

@@ -94,15 +94,17 @@ pub later_than : (before held : Shown) (to : ℕ) → held ≡ before → before
 later_than before held to is later = subst (λ (b : Shown). b.state.moment < to) (sym is) later
 
 -- what is prepared leads to no other state than the ask may
-pub prepared_leads : (opening : State) (before held : Shown) (p : Prepared) (lane : ℕ) (call : Call) → held ≡ before → IsBoard opening held.state → IsStepped held.state p (answer_call held.state lane call)
+pub prepared_leads : (opening : State) (before held : Shown) (p : Prepared) (lane : ℕ) (call : Call) → held ≡ before → IsBoard opening held.state → IsCall call.ask → IsStepped held.state p (answer_call held.state lane call)
     → MayLeadTo lane call before.state (installed p before.state) p.reply
-prepared_leads opening before held p lane call is board stepped =
-    subst (λ (b : Shown). MayLeadTo lane call b.state (installed p b.state) p.reply) is (call_leads held.state (installed p held.state) lane call p.reply board.sound stepped.state stepped.reply)
+prepared_leads opening before held p lane call is board form stepped =
+    subst (λ (b : Shown). MayLeadTo lane call b.state (installed p b.state) p.reply) is (call_leads held.state (installed p held.state) lane call p.reply board.sound board.kept form stepped.state stepped.reply)
 
-pub ticked_leads : (before held : Shown) (p : Prepared) (lane to : ℕ) → held ≡ before → IsStepped held.state p (tick_to held.state lane to)
-    → MayTickTo lane to before.state (installed p before.state) p.reply
-ticked_leads before held p lane to is stepped =
-    subst (λ (b : Shown). MayTickTo lane to b.state (installed p b.state) p.reply) is (tick_leads held.state (installed p held.state) lane to p.reply stepped.state stepped.reply)
+pub ticked_leads : (opening : State) (before held : Shown) (p : Prepared) (lane to : ℕ) → held ≡ before → IsBoard opening held.state → held.state.moment < to → to ≤ 68_374_079
+    → IsStepped held.state p (tick_to held.state lane to) → MayTickTo lane to before.state (installed p before.state) p.reply
+ticked_leads opening before held p lane to is board later within stepped =
+    let low = board.kept.moment.0 in
+    subst (λ (b : Shown). MayTickTo lane to b.state (installed p b.state) p.reply) is
+    (tick_leads held.state (installed p held.state) lane to p.reply board.sound (omega (arith, low, later), within) stepped.state stepped.reply)
 
 -- an entry of the history has its form
 pub entry_form : (before held : Shown) (i : ℕ) (e : Entry) → held ≡ before → AllByRecursion (λ x. IsEntered x.what) held.state.entries → i < length before.state.entries
@@ -169,3 +171,7 @@ tick_may_as s to effect is = subst (MayBeMade s) (sym is) (record { report = tt;
 pub applied_leads : (lane : ℕ) (call : Call) (s u t : State) (told reply : Option Reply) → u ≡ t → reply ≡ told → MayLeadTo lane call s u told → MayLeadTo lane call s t reply
 applied_leads lane call s u t told reply one two leads =
     subst (λ (v : State). MayLeadTo lane call s v reply) one (subst (λ (o : Option Reply). MayLeadTo lane call s u o) (sym two) leads)
+
+pub applied_ticks : (lane to : ℕ) (s u t : State) (told reply : Option Reply) → u ≡ t → reply ≡ told → MayTickTo lane to s u told → MayTickTo lane to s t reply
+applied_ticks lane to s u t told reply one two leads =
+    subst (λ (v : State). MayTickTo lane to s v reply) one (subst (λ (o : Option Reply). MayTickTo lane to s u o) (sym two) leads)

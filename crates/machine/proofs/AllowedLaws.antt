@@ -1,10 +1,10 @@
 -- Each ask changes no more than it may.
-use Rattle.std.proofs.Common.{◌≡◌, ℕ, ◌+◌, IfSome, Bool, true, false, List, Option, None, Some, Result, Ok, Err, inl, inr, refl, ap, subst, sym, not, cond, eqb, eq-eqb, ◌≢◌, ◌||◌, [], ◌∷◌, length, is_some, is_none, arith}
+use Rattle.std.proofs.Common.{◌≡◌, ℕ, ◌+◌, ◌∙◌, ◌&&◌, ltb, IfSome, Bool, true, false, List, Option, None, Some, Result, Ok, Err, inl, inr, refl, ap, subst, sym, not, cond, eqb, eq-eqb, ◌≢◌, ◌||◌, [], ◌∷◌, length, is_some, is_none, arith}
 use Rattle.std.specs.Prelude.{nat_le, nat_lt, find}
 use Rattle.std.specs.Option.{option_map}
-use Rattle.std.proofs.lemmas.Bool.{leb-false, ltb-true, ltb-false, eqb-true}
+use Rattle.std.proofs.lemmas.Bool.{leb-false, ltb-true, ltb-false, eqb-true, ne_eqb}
 use Rattle.std.specs.Str.{bytes_eq}
-use Rattle.std.specs.List.{list_any}
+use Rattle.std.specs.List.{AllByRecursion, list_any}
 use Rattle.std.proofs.lemmas.Slice.Eq.{bytes_eq-Decides}
 use Rattle.codes.specs.Groups.{groups_of, canonical}
 use Rattle.ops_tables.specs.declared.rows.Actor.{Actor}
@@ -25,7 +25,16 @@ use Rattle.release_text.specs.Revisions.{revision_digest}
 use Rattle.release_text.specs.Weather.{newer_than}
 use Rattle.rules.specs.Grounds.{Grounds}
 use Rattle.machine.proofs.Each.{found_each}
-use Rattle.machine.specs.Sound.{Sound, IsPhased, IsThere, IsValid}
+use Rattle.machine.specs.Sound.{Sound, InBounds, IsPhased, IsThere, IsValid, EffectFits, DecisionFits}
+use Rattle.asks.specs.Forms.{IsCall}
+use Rattle.plan.specs.Texts.{IsMoment}
+use Rattle.facts.specs.Same.{minute_of_report}
+use Rattle.alerts.proofs.Laws.{follows}
+use Rattle.machine.specs.declared.effect.OnAlerts.{OnAlerts}
+use Rattle.machine.specs.declared.effect.OnAlerts.TheVariants as on_alerts
+use Rattle.machine.proofs.Deciding.{decision_fits}
+use Rattle.machine.proofs.Judging.{IsOf, Agrees, agrees_all, alerts_kept, found_of, judged_is}
+use Rattle.machine.proofs.Parts.{releases_rise}
 use Rattle.ops_tables.specs.declared.rows.Role.{Role}
 use Rattle.ops_tables.specs.declared.rows.Role.TheVariants.{D, C, F, M, S}
 use Rattle.plan.specs.Check.{is_captain_role}
@@ -50,16 +59,16 @@ use Rattle.machine.specs.declared.entry.What.TheVariants as what
 use Rattle.machine.specs.declared.entry.Entry.{Entry}
 use Rattle.machine.specs.declared.effect.Effect.{Effect}
 use Rattle.machine.specs.Effects.{tick}
-use Rattle.machine.specs.Events.{effected}
+use Rattle.machine.specs.Events.{effected, acknowledged_if, kept_alert}
 use Rattle.machine.specs.declared.effect.Decision.{Decision}
 use Rattle.machine.specs.declared.effect.Decision.TheVariants.{Show, Do}
-use Rattle.machine.specs.State.{State, grounds_of, failing_in, failing_of, release_at, alert_at, is_full}
+use Rattle.machine.specs.State.{State, grounds_of, failing_in, failing_of, release_at, alert_at, alert_for, judged, judged_all, is_full}
 use Rattle.machine.specs.Step.{entry, entered, without_key, accepted, enter, finish, do_call, do_unless, answer_call, tick_unless, tick_to}
 use Rattle.machine.specs.Chain.{◌>>-◌, unless, some_or, refused_if}
 use Rattle.machine.specs.People.{may_ask, mistaken, not_his_role}
 use Rattle.machine.specs.Decide as d
 use Rattle.machine.specs.Decide.{decide}
-use Rattle.machine.specs.Allowed.{MaySign, GainsDispatcher, GainsCaptain, GainsWeather, BothAre, IsPreparing, IsSigning, IsReleased, IsConcurring, HasNotEnded, IsCancelling, IsAmended, IsAmending, IsNextLeg, IsCaptainOf, FliesAs, FliesBy, IsDeparting, IsStopping, IsCompleting, IsInVersion, IsAcknowledging, OfHeld, IsListed, IsEffectOf, admits, defers, clears, drafts, prepares, signs, concurs, amends, cancels, departs, stops, completes, acknowledges, DecisionOf, IsEntryOf, IsAfter, IsPermitted, MayLeadTo, MayTickTo}
+use Rattle.machine.specs.Allowed.{MaySign, GainsDispatcher, GainsCaptain, GainsWeather, BothAre, IsPreparing, IsSigning, IsReleased, IsConcurring, HasNotEnded, IsCancelling, IsNextRevision, IsAmending, HasMore, HasNoMore, has_text, IsAcknowledged, IsLeft, FollowsIf, IsAlertAfter, IsNextLeg, IsCaptainOf, FliesAs, FliesBy, IsDeparting, IsStopping, IsCompleting, IsInVersion, IsAcknowledging, OfHeld, IsListed, IsEffectOf, admits, defers, clears, drafts, prepares, signs, concurs, amends, cancels, departs, stops, completes, acknowledges, DecisionOf, IsEntryOf, IsAfter, IsPermitted, MayLeadTo, MayTickTo}
 
 given : {A : Type 0} (s : State) (actor : List ℕ) (a : Ask) (m : Result A Refusal) (f : A → Result Decision Refusal) → ((x : A) → m ≡ Ok x → DecisionOf s actor a (f x)) → DecisionOf s actor a (m >>- f)
 given s actor a (Err x) f goes = tt
@@ -215,17 +224,23 @@ concurring s q v actor number digest e own may signed = record {
   pending = refl;
 }
 
-amending : (s : State) (q : Release) (plan : Plan) (actor : List ℕ) (o : Option Revision) → newest q.pending q.active ≡ o → (o ≡ None → ⊥) → q.holder ≡ actor → HasNotEnded q.phase
-    → plan_fault s.tables plan ≡ None → d.bad_change plan o q.phase ≡ None → IsAmending s actor plan (d.newest_number o + 1) q (record q { pending = Some (d.fresh_revision (d.newest_number o + 1) plan) })
-amending s q plan actor None is there own once passes follows = absurd (there refl)
-amending s q plan actor (Some v) is there own once passes follows = record {
+next_revision : (s : State) (plan : Plan) (phase : Phase) (pending active : Option Revision) → (newest pending active ≡ None → ⊥) → plan_fault s.tables plan ≡ None
+    → d.bad_change plan (newest pending active) phase ≡ None
+    → IsNextRevision s plan phase pending active (Some (d.fresh_revision (d.newest_number (newest pending active) + 1) plan)) (d.newest_number (newest pending active) + 1)
+next_revision s plan phase (Some v) active there passes follows = (record { passes = passes; follows = good_change plan v phase follows }, refl, (refl, refl, refl, refl, refl, refl))
+next_revision s plan phase None (Some v) there passes follows = (record { passes = passes; follows = good_change plan v phase follows }, refl, (refl, refl, refl, refl, refl, refl))
+next_revision s plan phase None None there passes follows = absurd (there refl)
+
+amending : (s : State) (q : Release) (plan : Plan) (actor : List ℕ) → (newest q.pending q.active ≡ None → ⊥) → q.holder ≡ actor → HasNotEnded q.phase
+    → plan_fault s.tables plan ≡ None → d.bad_change plan (newest q.pending q.active) q.phase ≡ None
+    → IsAmending s actor plan (d.newest_number (newest q.pending q.active) + 1) q (d.amended q plan)
+amending s q plan actor there own once passes follows = record {
   own = own;
   once = once;
   same = record { id = refl; holder = refl };
   phase = refl;
   active = refl;
-  pending = subst (λ (o : Option Revision). IsAmended s plan q.phase o (Some (d.fresh_revision (v.number + 1) plan)) (v.number + 1)) (sym is)
-      (record { passes = passes; follows = good_change plan v q.phase follows }, refl, (refl, refl, refl, refl, refl, refl));
+  pending = next_revision s plan q.phase q.pending q.active there passes follows;
 }
 
 cancelling : (s : State) (q : Release) (actor : List ℕ) → q.holder ≡ actor → HasNotEnded q.phase → IsCancelling s actor q (d.cancelled q s.moment)
@@ -258,11 +273,19 @@ departing s q actor leg own next passes = record {
   pending = refl;
 }
 
+more_legs : (active : Option Revision) (leg : ℕ) → ltb leg (d.leg_count active) ≡ true → HasMore active leg
+more_legs None leg e = absurd (let less = ltb-true leg 0 e in omega (arith, less))
+more_legs (Some v) leg e = ltb-true leg (length v.plan.legs) e
+
+no_more_legs : (active : Option Revision) (leg : ℕ) → ltb leg (d.leg_count active) ≡ false → HasNoMore active leg
+no_more_legs None leg e = tt
+no_more_legs (Some v) leg e = ltb-false leg (length v.plan.legs) e
+
 stopping : (s : State) (q : Release) (actor : List ℕ) (leg : ℕ) → FliesBy (actor_of s.tables actor) actor q → q.phase ≡ Flying leg → d.has_more q leg ≡ true
     → IsStopping s actor leg q (d.stopped q leg s.moment)
 stopping s q actor leg own flying more = record {
   arrives = record { own = own; flying = flying; same = record { id = refl; holder = refl }; active = refl; pending = refl };
-  more = ltb-true leg (d.leg_count q.active) more;
+  more = more_legs q.active leg more;
   phase = refl;
 }
 
@@ -270,7 +293,7 @@ completing : (s : State) (q : Release) (actor : List ℕ) (leg : ℕ) → FliesB
     → IsCompleting s actor leg q (d.completed q s.moment)
 completing s q actor leg own flying last = record {
   arrives = record { own = own; flying = flying; same = record { id = refl; holder = refl }; active = refl; pending = refl };
-  last = ltb-false leg (d.leg_count q.active) last;
+  last = no_more_legs q.active leg last;
   phase = refl;
 }
 
@@ -282,23 +305,35 @@ read_given : (r : Result Read BadReport) (read : Read) → d.reading_or r ≡ Ok
 read_given (Err bad) read e = absurd (cc)
 read_given (Ok other) read e = cc
 
--- a report that is found is held
-id_by : (p : Report → Bool) (id : ℕ) (r : Report) (rs : List Report) (b : Bool) → option_map (λ x. x.id) (cond b (Some r) (find p rs)) ≡ Some id
-    → (option_map (λ x. x.id) (find p rs) ≡ Some id → list_any (λ x. eqb x.id id) rs ≡ true) → (eqb r.id id || list_any (λ x. eqb x.id id) rs) ≡ true
-id_by p id r rs true e later = let same : r.id ≡ id = cc in rw (eq-eqb r.id id same) refl
-id_by p id r rs false e later = or_later (eqb r.id id) (list_any (λ x. eqb x.id id) rs) (later e)
-  where
-    or_later : (a b : Bool) → b ≡ true → (a || b) ≡ true
-    or_later true b e = refl
-    or_later false b e = e
+-- a report that is found is held, with its text
 
-id_held : (p : Report → Bool) (id : ℕ) (rs : List Report) → option_map (λ x. x.id) (find p rs) ≡ Some id → list_any (λ x. eqb x.id id) rs ≡ true
-id_held p id [] e = absurd (cc)
-id_held p id (r ∷ rs) e = id_by p id r rs (p r) e (id_held p id rs)
+or_later : (a b : Bool) → b ≡ true → (a || b) ≡ true
+or_later true b e = refl
+or_later false b e = e
 
-same_held : (rs : List Report) (text : List ℕ) (minute id : ℕ) → same_id rs text minute ≡ Some id → list_any (λ x. eqb x.id id) rs ≡ true
+both_parts : (a b : Bool) → a ≡ true → b ≡ true → (a && b) ≡ true
+both_parts true b e f = f
+both_parts false b e f = absurd (cc)
+
+first_part : (a b : Bool) → (a && b) ≡ true → a ≡ true
+first_part true b e = refl
+first_part false b e = absurd (cc)
+
+id_by : (text : List ℕ) (minute id : ℕ) (r : Report) (rs : List Report) (b : Bool) → is_same text minute r ≡ b
+    → option_map (λ x. x.id) (cond b (Some r) (find (is_same text minute) rs)) ≡ Some id
+    → (option_map (λ x. x.id) (find (is_same text minute) rs) ≡ Some id → list_any (has_text id text) rs ≡ true) → (has_text id text r || list_any (has_text id text) rs) ≡ true
+id_by text minute id r rs true same e later =
+    let is : r.id ≡ id = cc in
+    rw (both_parts (eqb r.id id) (bytes_eq r.text text) (eq-eqb r.id id is) (first_part (bytes_eq r.text text) (eqb (minute_of_report r) minute) same)) refl
+id_by text minute id r rs false same e later = or_later (has_text id text r) (list_any (has_text id text) rs) (later e)
+
+id_held : (text : List ℕ) (minute id : ℕ) (rs : List Report) → option_map (λ x. x.id) (find (is_same text minute) rs) ≡ Some id → list_any (has_text id text) rs ≡ true
+id_held text minute id [] e = absurd (cc)
+id_held text minute id (r ∷ rs) e = id_by text minute id r rs (is_same text minute r) refl e (id_held text minute id rs)
+
+same_held : (rs : List Report) (text : List ℕ) (minute id : ℕ) → same_id rs text minute ≡ Some id → list_any (has_text id text) rs ≡ true
 unfolding same_id
-same_held rs text minute id e = id_held (is_same text minute) id rs e
+same_held rs text minute id e = id_held text minute id rs e
 
 admit_read : (o : Option ℕ) (s : State) (actor text : List ℕ) (read : Read) → same_id s.reports (canonical (groups_of text)) (minute_of_read read) ≡ o → read_of text s.moment ≡ Ok read
     → has_airport s.tables (station_of_read read) ≡ true → DecisionOf s actor (ask.Admit text) (d.admit_read o s (canonical (groups_of text)) read)
@@ -418,7 +453,7 @@ amend s actor id plan there =
       _,
       refl,
       amends (of_held (IsAmending s actor plan (d.newest_number (newest q.pending q.active) + 1)) (release_at id s.releases) q _ (some_given _ (release_at id s.releases) q e)
-          (amending s q plan actor (newest q.pending q.active) refl (there q (some_given _ (release_at id s.releases) q e) (allowed (d.may_change q.phase) q.phase may)) (his q.holder actor own)
+          (amending s q plan actor (there q (some_given _ (release_at id s.releases) q e) (allowed (d.may_change q.phase) q.phase may)) (his q.holder actor own)
           (not_ended q.phase (allowed (d.may_change q.phase) q.phase may)) (good_plan (plan_fault s.tables plan) passes) follows)),
     ))))))
 
@@ -591,52 +626,106 @@ permitted_by s call (Some person) is right has = record {
 
 -- What a step leaves.
 
-effect_after : (does : Effect) (e : Entry) (s : State) → IsAfter does e s (entered e (effected does s))
-effect_after does e s = record { judged = refl; tables = refl; moment = refl; reports = refl; deferrals = refl; releases = refl; entries = refl; events = refl }
+-- what an event leaves of an alert
+
+seen_left : (seen id : ℕ) (a : Alert) → a.release ≡ id → (id ≡ seen → Some (acknowledged_if seen a) ≡ Some (record a { acknowledged = true })) × (id ≢ seen → Some (acknowledged_if seen a) ≡ Some a)
+seen_left seen id a is = (λ e. rw (eq-eqb a.release seen (is ∙ e)) refl, λ ne. rw (ne_eqb a.release seen (λ e. ne (sym is ∙ e))) refl)
+
+option_left : (seen id : ℕ) (o : Option Alert) → IfSome o (IsOf id) → (id ≡ seen → IsAcknowledged o (option_map (acknowledged_if seen) o)) × (id ≢ seen → option_map (acknowledged_if seen) o ≡ o)
+option_left seen id None is = (λ e. refl, λ ne. refl)
+option_left seen id (Some a) is = seen_left seen id a is
+
+take_left : (id gone : ℕ) (o : Option Alert) → (id ≡ gone → cond (eqb id gone) None o ≡ None) × (id ≢ gone → cond (eqb id gone) None o ≡ o)
+take_left id gone o = (λ e. rw (eq-eqb id gone e) refl, λ ne. rw (ne_eqb id gone ne) refl)
+
+is_left : (on : OnAlerts) (id : ℕ) (o : Option Alert) → IfSome o (IsOf id) → IsLeft on id o (kept_alert on id o)
+is_left on_alerts.Nothing id o is = refl
+is_left (on_alerts.Take gone) id o is = take_left id gone o
+is_left (on_alerts.Acknowledge seen) id o is = option_left seen id o is
+
+follows_if : (failing : Option (List Finding)) (left : Option Alert) (r : Release) (moment : ℕ) → FollowsIf failing left r moment (alert_for failing left r moment)
+follows_if None left r moment = refl
+follows_if (Some findings) left r moment = follows left r.id r.holder findings moment
+
+alert_after_one : (does : Effect) (e : Entry) (s : State) (r : Release) → alert_at r.id (judged_all (effected does s)) ≡ judged (effected does s) r
+    → IsAlertAfter does s (entered e (effected does s)) r
+alert_after_one does e s r is =
+    let t : State = effected does s in
+    record {
+      left = kept_alert does.on_alerts r.id (alert_at r.id s.alerts);
+      is_left = is_left does.on_alerts r.id (alert_at r.id s.alerts) (found_of r.id s.alerts);
+      follows = subst (λ (o : Option Alert). FollowsIf (failing_of (grounds_of t) r) (kept_alert does.on_alerts r.id (alert_at r.id s.alerts)) r t.moment o) (sym is)
+          (subst (λ (left : Option Alert). FollowsIf (failing_of (grounds_of t) r) left r t.moment (alert_for (failing_of (grounds_of t) r) (alert_at r.id t.alerts) r t.moment))
+          (alerts_kept does.on_alerts r.id s.alerts) (follows_if (failing_of (grounds_of t) r) (alert_at r.id t.alerts) r t.moment));
+    }
+
+alerts_after_all : (does : Effect) (e : Entry) (s : State) (rs : List Release) → Agrees (judged (effected does s)) (judged_all (effected does s)) rs
+    → AllByRecursion (IsAlertAfter does s (entered e (effected does s))) rs
+alerts_after_all does e s [] agrees = tt
+alerts_after_all does e s (r ∷ rs) agrees = (alert_after_one does e s r agrees.0, alerts_after_all does e s rs agrees.1)
+
+effect_after : (does : Effect) (e : Entry) (s : State) → EffectFits s does → Sound s → IsAfter does e s (entered e (effected does s))
+effect_after does e s fits sound =
+    let t : State = effected does s in
+    record {
+      judged = refl;
+      tables = refl;
+      moment = refl;
+      reports = refl;
+      deferrals = refl;
+      releases = refl;
+      alerts = alerts_after_all does e s t.releases (agrees_all (judged t) 0 t.releases t.counters.next_release (judged_is t) (releases_rise s does.on_releases fits.releases sound.ids));
+      entries = refl;
+      events = refl;
+    }
 
 -- the entry of a call
 entry_is : (lane : ℕ) (call : Call) (reply : Reply) → IsEntryOf lane call reply (entry lane (what.Asked (without_key call) reply))
 entry_is lane call reply = record { its_lane = refl; its_call = (record { actor = refl; key = refl; number = refl; asked = refl }, refl) }
 
-accepted_leads : (s : State) (lane : ℕ) (call : Call) (reply : Reply) (effect : Effect) (made : DoneType) → IsPermitted s call → reply ≡ Done made → IsEffectOf s call.actor call.ask effect made
+accepted_leads : (s : State) (lane : ℕ) (call : Call) (reply : Reply) (effect : Effect) (made : DoneType) → EffectFits s effect → Sound s → IsPermitted s call → reply ≡ Done made → IsEffectOf s call.actor call.ask effect made
     → MayLeadTo lane call s (accepted s lane call reply effect).state (accepted s lane call reply effect).reply
-accepted_leads s lane call reply effect made permitted is does =
+accepted_leads s lane call reply effect made fits sound permitted is does =
     let e : Entry = entry lane (what.Asked (without_key call) reply) in
-    inr (permitted, effect, made, does, ap (λ (x : Reply). Some x) is, e, subst (λ (x : Reply). IsEntryOf lane call x e) is (entry_is lane call reply), effect_after effect e s)
+    inr (permitted, effect, made, does, ap (λ (x : Reply). Some x) is, e, subst (λ (x : Reply). IsEntryOf lane call x e) is (entry_is lane call reply), effect_after effect e s fits sound)
 
-enter_leads : (full : Bool) (s : State) (lane : ℕ) (call : Call) (reply : Reply) (effect : Effect) (made : DoneType) → IsPermitted s call → reply ≡ Done made
+enter_leads : (full : Bool) (s : State) (lane : ℕ) (call : Call) (reply : Reply) (effect : Effect) (made : DoneType) → EffectFits s effect → Sound s → IsPermitted s call → reply ≡ Done made
     → IsEffectOf s call.actor call.ask effect made → MayLeadTo lane call s (enter full s lane call reply effect).state (enter full s lane call reply effect).reply
-enter_leads true s lane call reply effect made permitted is does = inl (refl, tt)
-enter_leads false s lane call reply effect made permitted is does = accepted_leads s lane call reply effect made permitted is does
+enter_leads true s lane call reply effect made fits sound permitted is does = inl (refl, tt)
+enter_leads false s lane call reply effect made fits sound permitted is does = accepted_leads s lane call reply effect made fits sound permitted is does
 
-finish_leads : (s : State) (lane : ℕ) (call : Call) (decision : Result Decision Refusal) → (Does decision → IsPermitted s call) → DecisionOf s call.actor call.ask decision
+finish_leads : (s : State) (lane : ℕ) (call : Call) (decision : Result Decision Refusal) → DecisionFits s decision → Sound s → (Does decision → IsPermitted s call) → DecisionOf s call.actor call.ask decision
     → MayLeadTo lane call s (finish s lane call decision).state (finish s lane call decision).reply
-finish_leads s lane call (Err refusal) permitted is = inl (refl, tt)
-finish_leads s lane call (Ok (Show reply)) permitted is = inl (refl, is)
-finish_leads s lane call (Ok (Do reply effect)) permitted is = enter_leads (is_full s) s lane call reply effect is.0 (permitted tt) is.1 is.2
+finish_leads s lane call (Err refusal) fits sound permitted is = inl (refl, tt)
+finish_leads s lane call (Ok (Show reply)) fits sound permitted is = inl (refl, is)
+finish_leads s lane call (Ok (Do reply effect)) fits sound permitted is = enter_leads (is_full s) s lane call reply effect is.0 fits.1 sound (permitted tt) is.1 is.2
 
-do_leads : (s : State) (lane : ℕ) (call : Call) (o : Option Refusal) → Sound s → mistaken (actor_of s.tables call.actor) call.key ≡ o
+do_leads : (s : State) (lane : ℕ) (call : Call) (o : Option Refusal) → Sound s → InBounds s → IsCall call.ask → mistaken (actor_of s.tables call.actor) call.key ≡ o
     → MayLeadTo lane call s (do_unless o s lane call).state (do_unless o s lane call).reply
 unfolding do_call
-do_leads s lane call (Some refusal) sound is = inl (refl, tt)
-do_leads s lane call None sound is =
-    finish_leads s lane call (decide s call) (λ does. permitted_by s call (actor_of s.tables call.actor) refl is (decided_role s call does)) (decision_is s call sound)
+do_leads s lane call (Some refusal) sound kept form is = inl (refl, tt)
+do_leads s lane call None sound kept form is =
+    finish_leads s lane call (decide s call) (decision_fits s call sound kept form) sound (λ does. permitted_by s call (actor_of s.tables call.actor) refl is (decided_role s call does)) (decision_is s call sound)
 
 -- a call leads to no other state than its ask may
-pub call_leads : (s t : State) (lane : ℕ) (call : Call) (reply : Option Reply) → Sound s → t ≡ (answer_call s lane call).state → reply ≡ (answer_call s lane call).reply
+pub call_leads : (s t : State) (lane : ℕ) (call : Call) (reply : Option Reply) → Sound s → InBounds s → IsCall call.ask → t ≡ (answer_call s lane call).state → reply ≡ (answer_call s lane call).reply
     → MayLeadTo lane call s t reply
 unfolding answer_call
-call_leads s t lane call reply sound one two =
+call_leads s t lane call reply sound kept form one two =
     subst (λ (u : State). MayLeadTo lane call s u reply) (sym one)
-    (subst (λ (x : Option Reply). MayLeadTo lane call s (answer_call s lane call).state x) (sym two) (do_leads s lane call (mistaken (actor_of s.tables call.actor) call.key) sound refl))
+    (subst (λ (x : Option Reply). MayLeadTo lane call s (answer_call s lane call).state x) (sym two) (do_leads s lane call (mistaken (actor_of s.tables call.actor) call.key) sound kept form refl))
 
-tick_leads_by : (full : Bool) (s : State) (lane to : ℕ) → MayTickTo lane to s (tick_unless full s lane to).state (tick_unless full s lane to).reply
-tick_leads_by true s lane to = inl (refl, tt)
-tick_leads_by false s lane to = inr (refl, entry lane (what.Tick to), refl, refl, effect_after (tick to) (entry lane (what.Tick to)) s)
+tick_fits : (s : State) (to : ℕ) → IsMoment to → EffectFits s (tick to)
+tick_fits s to shown = record { moment = shown; report = tt; deferrals = tt; releases = tt }
+
+tick_leads_by : (full : Bool) (s : State) (lane to : ℕ) → is_full s ≡ full → Sound s → IsMoment to → MayTickTo lane to s (tick_unless full s lane to).state (tick_unless full s lane to).reply
+tick_leads_by true s lane to full sound shown = inl (refl, full, refl)
+tick_leads_by false s lane to full sound shown =
+    inr (refl, entry lane (what.Tick to), refl, refl, effect_after (tick to) (entry lane (what.Tick to)) s (tick_fits s to shown) sound)
 
 -- a tick leads to no other state than it may
-pub tick_leads : (s t : State) (lane to : ℕ) (reply : Option Reply) → t ≡ (tick_to s lane to).state → reply ≡ (tick_to s lane to).reply → MayTickTo lane to s t reply
+pub tick_leads : (s t : State) (lane to : ℕ) (reply : Option Reply) → Sound s → IsMoment to → t ≡ (tick_to s lane to).state → reply ≡ (tick_to s lane to).reply → MayTickTo lane to s t reply
 unfolding tick_to
-tick_leads s t lane to reply one two =
+tick_leads s t lane to reply sound shown one two =
     subst (λ (u : State). MayTickTo lane to s u reply) (sym one)
-    (subst (λ (x : Option Reply). MayTickTo lane to s (tick_to s lane to).state x) (sym two) (tick_leads_by (is_full s) s lane to))
+    (subst (λ (x : Option Reply). MayTickTo lane to s (tick_to s lane to).state x) (sym two) (tick_leads_by (is_full s) s lane to refl sound shown))

@@ -6,6 +6,7 @@ use Rattle.std.proofs.lemmas.List.Elements.{filter_map-append}
 use Rattle.std.specs.Option.{option_map}
 use Rattle.std.specs.List.{cons_option}
 use Rattle.plan.specs.declared.release.Release.{Release}
+use Rattle.plan.specs.declared.release.Revision.{Revision}
 use Rattle.alerts.specs.declared.alert.Alert.{Alert}
 use Rattle.alerts.specs.declared.notices.Notice.{Notice}
 use Rattle.alerts.specs.Notices.{notice_of}
@@ -32,7 +33,7 @@ use Rattle.machine.specs.Decide.{decide, leg_count}
 use Rattle.machine.specs.Step.{entry, entered, without_key, enter, finish, do_call, do_unless, answer_call, tick_unless, tick_to}
 use Rattle.machine.specs.People.{mistaken}
 use Rattle.machine.specs.Sound.{Sound, InBounds, EffectFits, DecisionFits}
-use Rattle.machine.specs.Allowed.{IsEffectOf, admits, defers, clears, drafts, prepares, signs, concurs, amends, cancels, departs, stops, completes, acknowledges, OfHeld, IsConcurring, IsCancelling, IsStopping, IsCompleting, DecisionOf}
+use Rattle.machine.specs.Allowed.{IsEffectOf, admits, defers, clears, drafts, prepares, signs, concurs, amends, cancels, departs, stops, completes, acknowledges, OfHeld, IsConcurring, IsCancelling, HasMore, HasNoMore, IsStopping, IsCompleting, DecisionOf}
 use Rattle.machine.specs.Told.{told_of, is_last, takes_alert, told_over, AreDifferences, takes_none}
 use Rattle.machine.proofs.Judging.{Agrees, agrees_all, alerts_kept, judged_is}
 use Rattle.machine.proofs.Parts.{releases_rise}
@@ -157,13 +158,22 @@ and_false true last e = sym e
 and_false false last e = refl
 
 -- it is the last leg, or it isn't
+
+none_more : (active : Option Revision) (leg : ℕ) → HasNoMore active leg → ltb leg (leg_count active) ≡ false
+none_more None leg is = grind (arith, nat_tests)
+none_more (Some v) leg is = grind (arith, nat_tests, is)
+
+one_more : (active : Option Revision) (leg : ℕ) → HasMore active leg → ltb leg (leg_count active) ≡ true
+one_more None leg is = absurd is
+one_more (Some v) leg is = grind (arith, nat_tests, is)
+
 is_over : (s : State) (actor : List ℕ) (leg : ℕ) (o : Option Release) (r : Release) → OfHeld (IsCompleting s actor leg) o r → is_last o leg ≡ true
 is_over s actor leg None r held = absurd held
-is_over s actor leg (Some q) r held = let most = held.last in let low : ltb leg (leg_count q.active) ≡ false = grind (arith, nat_tests, most) in rw low refl
+is_over s actor leg (Some q) r held = rw (none_more q.active leg held.last) refl
 
 goes_on : (s : State) (actor : List ℕ) (leg : ℕ) (o : Option Release) (r : Release) → OfHeld (IsStopping s actor leg) o r → is_last o leg ≡ false
 goes_on s actor leg None r held = absurd held
-goes_on s actor leg (Some q) r held = let less = held.more in let below : ltb leg (leg_count q.active) ≡ true = grind (arith, nat_tests, less) in rw below refl
+goes_on s actor leg (Some q) r held = rw (one_more q.active leg held.more) refl
 
 asked_takes : (s : State) (actor : List ℕ) {a : Ask} {effect : Effect} {made : Done} → IsEffectOf s actor a effect made → (id : ℕ) → takes_of effect.on_alerts id ≡ takes_alert s a id
 asked_takes s actor (admits is) id = refl

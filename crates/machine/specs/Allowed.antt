@@ -1,6 +1,7 @@
 -- What an accepted ask may change, beside what its own line says.
-use Rattle.std.specs.Prelude.{◌≡◌, ◌≢◌, ◌⊎◌, ℕ, ◌+◌, ◌<◌, ◌≤◌, ◌==◌, true, false, List, [], ◌∷◌, ◌++◌, length, Option, None, Some, Result, Ok, Err}
-use Rattle.std.specs.List.{list_any}
+use Rattle.std.specs.Prelude.{◌≡◌, ◌≢◌, ◌⊎◌, ℕ, ◌+◌, ◌<◌, ◌≤◌, ◌==◌, ◌&&◌, Bool, true, false, List, [], ◌∷◌, ◌++◌, length, Option, None, Some, Result, Ok, Err}
+use Rattle.std.specs.List.{AllByRecursion, list_any}
+use Rattle.std.specs.Str.{bytes_eq}
 use Rattle.codes.specs.Groups.{groups_of, canonical}
 use Rattle.ops_tables.specs.Tables.{TableRows, actor_of, type_of, has_airport, has_item}
 use Rattle.ops_tables.specs.declared.rows.TypeRow.{TypeRow}
@@ -39,12 +40,15 @@ use Rattle.machine.specs.declared.effect.Decision.TheVariants.{Show, Do}
 use Rattle.machine.specs.declared.entry.Entry.{Entry}
 use Rattle.machine.specs.declared.entry.What.{What}
 use Rattle.machine.specs.declared.entry.What.TheVariants as what
-use Rattle.machine.specs.State.{State, grounds_of, failing_of, release_at, alert_at}
+use Rattle.machine.specs.State.{State, grounds_of, failing_of, release_at, alert_at, is_full}
 use Rattle.machine.specs.Events.{effected, moment_after, reports_after, deferrals_after, releases_after}
-use Rattle.machine.specs.Decide.{once_signed, leg_count}
-use Rattle.machine.specs.Texts.{newest}
+use Rattle.machine.specs.Decide.{once_signed}
 use Rattle.machine.specs.People.{may_ask}
-use Rattle.machine.specs.Step.{entered}
+use Rattle.machine.specs.Step.{entered, full_reply}
+use Rattle.machine.specs.declared.effect.OnAlerts.{OnAlerts}
+use Rattle.machine.specs.declared.effect.OnAlerts.TheVariants as on_alerts
+use Rattle.alerts.specs.Follows.{Follows}
+use Rattle.plan.specs.declared.findings.Finding.{Finding}
 
 -- a signature of that person at that moment, on the text of that digest
 abbrev pub IsSignedBy : List ℕ → ℕ → List ℕ → Option Signature → Type 0
@@ -169,10 +173,15 @@ pub record MayAmend (s : State) (plan : Plan) (phase : Phase) (v : Revision) : T
   pub passes : plan_fault s.tables plan ≡ None
   pub follows : change_fault plan v.plan phase ≡ None
 
--- a plan that its holder files in the place of the newest one, in a revision of the next number
-abbrev pub IsAmended : State → Plan → Phase → Option Revision → Option Revision → ℕ → Type 0
-IsAmended s plan phase None pending number = ⊥
-IsAmended s plan phase (Some v) pending number = MayAmend s plan phase v × (number ≡ v.number + 1) × IsFresh number plan pending
+-- a plan that is filed in the place of a revision's, in one of the next number
+abbrev pub IsAmended : State → Plan → Phase → Revision → Option Revision → ℕ → Type 0
+IsAmended s plan phase v pending number = MayAmend s plan phase v × (number ≡ v.number + 1) × IsFresh number plan pending
+
+-- It takes the place of the pending revision's, or where none is pending of the active one's.
+abbrev pub IsNextRevision : State → Plan → Phase → Option Revision → Option Revision → Option Revision → ℕ → Type 0
+IsNextRevision s plan phase (Some v) active pending number = IsAmended s plan phase v pending number
+IsNextRevision s plan phase None (Some v) pending number = IsAmended s plan phase v pending number
+IsNextRevision s plan phase None None pending number = ⊥
 
 -- A release that its holder amends, which hasn't ended. What both have signed stays until a captain concurs again.
 pub record IsAmending (s : State) (actor : List ℕ) (plan : Plan) (number : ℕ) (q r : Release) : Type 0 where
@@ -181,7 +190,7 @@ pub record IsAmending (s : State) (actor : List ℕ) (plan : Plan) (number : ℕ
   pub same : IsSameRelease q r
   pub phase : r.phase ≡ q.phase
   pub active : r.active ≡ q.active
-  pub pending : IsAmended s plan q.phase (newest q.pending q.active) r.pending number
+  pub pending : IsNextRevision s plan q.phase q.pending q.active r.pending number
 
 -- The leg departs next: the first one of a release that is ready, or the one before which the flight has stopped.
 abbrev pub IsNextLeg : Phase → ℕ → Type 0
@@ -226,16 +235,26 @@ pub record IsArriving (s : State) (actor : List ℕ) (leg : ℕ) (q r : Release)
   pub active : r.active ≡ q.active
   pub pending : r.pending ≡ None
 
+-- a leg of the active plan comes after this one
+abbrev pub HasMore : Option Revision → ℕ → Type 0
+HasMore None leg = ⊥
+HasMore (Some v) leg = leg < length v.plan.legs
+
+-- no leg of the active plan does
+abbrev pub HasNoMore : Option Revision → ℕ → Type 0
+HasNoMore None leg = Unit {0}
+HasNoMore (Some v) leg = length v.plan.legs ≤ leg
+
 -- after the leg another one remains
 pub record IsStopping (s : State) (actor : List ℕ) (leg : ℕ) (q r : Release) : Type 0 where
   pub arrives : IsArriving s actor leg q r
-  pub more : leg < leg_count q.active
+  pub more : HasMore q.active leg
   pub phase : r.phase ≡ Stopped (leg + 1) s.moment false
 
 -- it was the last leg
 pub record IsCompleting (s : State) (actor : List ℕ) (leg : ℕ) (q r : Release) : Type 0 where
   pub arrives : IsArriving s actor leg q r
-  pub last : leg_count q.active ≤ leg
+  pub last : HasNoMore q.active leg
   pub phase : r.phase ≡ Completed s.moment
 
 -- an alert in that version
@@ -301,23 +320,48 @@ pub data IsEffectOf (s : State) (actor : List ℕ) : Ask → Effect → DoneType
   acknowledges : {id version : ℕ} {q : Release} → release_at id s.releases ≡ Some q → IsAcknowledging s actor version q
       → IsEffectOf s actor (ask.Acknowledge id version) (effect.acknowledge q.id) (done.Release q.id)
 
--- what may be answered where nothing changes: a refusal, a view, or the id of a report that is held
-abbrev pub IsAnswer : State → Reply → Type 0
-IsAnswer s (Refused refusal) = Unit {0}
-IsAnswer s (Seen text) = Unit {0}
-IsAnswer s (Done (done.Report id)) = list_any (λ r. r.id == id) s.reports ≡ true
-IsAnswer s (Done (done.Deferral id)) = ⊥
-IsAnswer s (Done (done.Filed release revision)) = ⊥
-IsAnswer s (Done (done.Prepared release revision digest)) = ⊥
-IsAnswer s (Done (done.Release id)) = ⊥
+-- an ask that only shows something
+abbrev pub IsView : Ask → Type 0
+IsView (ask.Admit text) = ⊥
+IsView (ask.Defer tail item found) = ⊥
+IsView (ask.Clear deferral) = ⊥
+IsView (ask.Draft plan) = ⊥
+IsView (ask.Prepare release) = ⊥
+IsView (ask.Sign release revision digest) = ⊥
+IsView (ask.Concur release revision digest) = ⊥
+IsView (ask.Amend release plan) = ⊥
+IsView (ask.Cancel release) = ⊥
+IsView (ask.Depart release leg) = ⊥
+IsView (ask.Arrive release leg) = ⊥
+IsView (ask.Acknowledge release version) = ⊥
+IsView ask.ViewBoard = Unit {0}
+IsView ask.ViewAlerts = Unit {0}
+IsView (ask.ViewRelease release) = Unit {0}
+IsView (ask.ViewWeather station) = Unit {0}
+IsView (ask.ViewDeferred tail) = Unit {0}
 
-abbrev pub Stays : State → Option Reply → Type 0
-Stays s None = ⊥
-Stays s (Some reply) = IsAnswer s reply
+-- a report of that id and that text
+abbrev pub has_text : ℕ → List ℕ → Report → Bool
+has_text id text r = (r.id == id) && bytes_eq r.text text
+
+-- the id of a report that is held, to one who hands in its text again
+abbrev pub IsHeldReport : State → DoneType → Ask → Type 0
+IsHeldReport s (done.Report id) (ask.Admit text) = list_any (has_text id (canonical (groups_of text))) s.reports ≡ true
+IsHeldReport s _ _ = ⊥
+
+-- what may be answered where nothing changes: a refusal, to a view what it shows, or the id of a report that is held
+abbrev pub IsAnswer : State → Ask → Reply → Type 0
+IsAnswer s a (Refused refusal) = Unit {0}
+IsAnswer s a (Seen text) = IsView a
+IsAnswer s a (Done made) = IsHeldReport s made a
+
+abbrev pub Stays : State → Ask → Option Reply → Type 0
+Stays s a None = ⊥
+Stays s a (Some reply) = IsAnswer s a reply
 
 abbrev pub DecisionOf : State → List ℕ → Ask → Result Decision Refusal → Type 0
 DecisionOf s actor a (Err refusal) = Unit {0}
-DecisionOf s actor a (Ok (Show reply)) = IsAnswer s reply
+DecisionOf s actor a (Ok (Show reply)) = IsAnswer s a reply
 DecisionOf s actor a (Ok (Do reply effect)) = (made : DoneType) × (reply ≡ Done made) × IsEffectOf s actor a effect made
 
 -- the same call, but for its key, which isn't kept
@@ -336,6 +380,28 @@ pub record IsEntryOf (lane : ℕ) (call : Call) (told : Reply) (e : Entry) : Typ
   pub its_lane : e.lane ≡ lane
   pub its_call : IsAsked call told e.what
 
+-- the alert of a release, acknowledged
+abbrev pub IsAcknowledged : Option Alert → Option Alert → Type 0
+IsAcknowledged None left = left ≡ None
+IsAcknowledged (Some a) left = left ≡ Some (record a { acknowledged = true })
+
+-- what an event leaves of the alert of a release: it takes it away, it acknowledges it, or it leaves it as it was
+abbrev pub IsLeft : OnAlerts → ℕ → Option Alert → Option Alert → Type 0
+IsLeft on_alerts.Nothing id before left = left ≡ before
+IsLeft (on_alerts.Take gone) id before left = (id ≡ gone → left ≡ None) × (id ≢ gone → left ≡ before)
+IsLeft (on_alerts.Acknowledge seen) id before left = (id ≡ seen → IsAcknowledged before left) × (id ≢ seen → left ≡ before)
+
+-- a release that isn't active has no alert; the alert of one that is follows from what its event left, by the rules that fail
+abbrev pub FollowsIf : Option (List Finding) → Option Alert → Release → ℕ → Option Alert → Type 0
+FollowsIf None left r moment after = after ≡ None
+FollowsIf (Some findings) left r moment after = Follows left r.id r.holder findings moment after
+
+-- the alert of a release after an event
+pub record IsAlertAfter (effect : Effect) (s t : State) (r : Release) : Type 0 where
+  pub left : Option Alert
+  pub is_left : IsLeft effect.on_alerts r.id (alert_at r.id s.alerts) left
+  pub follows : FollowsIf (failing_of (grounds_of t) r) left r t.moment (alert_at r.id t.alerts)
+
 -- what an event leaves of each part: only that changes which its effect names
 pub record IsAfter (effect : Effect) (e : Entry) (s t : State) : Type 0 where
   pub judged : t ≡ entered e (effected effect s)
@@ -344,6 +410,7 @@ pub record IsAfter (effect : Effect) (e : Entry) (s t : State) : Type 0 where
   pub reports : t.reports ≡ reports_after effect.report s.reports
   pub deferrals : t.deferrals ≡ deferrals_after effect.on_deferrals s.deferrals
   pub releases : t.releases ≡ releases_after effect.on_releases s.releases
+  pub alerts : AllByRecursion (IsAlertAfter effect s t) t.releases
   pub entries : t.entries ≡ s.entries ++ e ∷ []
   pub events : t.counters.events ≡ s.counters.events + 1
 
@@ -358,12 +425,12 @@ pub record IsPermitted (s : State) (call : Call) : Type 0 where
 -- every active release is then judged, and the call is entered with its reply.
 abbrev pub MayLeadTo : ℕ → Call → State → State → Option Reply → Type 0
 MayLeadTo lane call s t reply =
-    ((t ≡ s) × Stays s reply)
+    ((t ≡ s) × Stays s call.ask reply)
     ⊎ (IsPermitted s call × (does : Effect) × (made : DoneType) × IsEffectOf s call.actor call.ask does made × (reply ≡ Some (Done made))
     × (e : Entry) × IsEntryOf lane call (Done made) e × IsAfter does e s t)
 
--- A tick is refused and nothing changes; or the moment rises, every active release is then judged, and the tick entered.
+-- No event may come any more, the tick is refused and nothing changes; or the moment rises, every active release is then judged, and the tick entered.
 abbrev pub MayTickTo : ℕ → ℕ → State → State → Option Reply → Type 0
 MayTickTo lane to s t reply =
-    ((t ≡ s) × Stays s reply)
+    ((t ≡ s) × (is_full s ≡ true) × (reply ≡ Some (full_reply s)))
     ⊎ ((reply ≡ None) × (e : Entry) × (e.lane ≡ lane) × (e.what ≡ what.Tick to) × IsAfter (effect.tick to) e s t)

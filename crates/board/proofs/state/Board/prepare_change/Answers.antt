@@ -9,7 +9,7 @@ pub returns-clause-shown : goal.returns-clause-shown
 returns-clause-shown g c = call_reply _ _ _ _ _ c.self.invariant.0 c.requires c.in_ok-prepared.ensures.stepped
 
 pub returns-clause-own : goal.returns-clause-own
-returns-clause-own g c = prepared_leads _ _ _ _ _ _ c.self.view_is c.self.invariant.0 c.in_ok-prepared.ensures.stepped
+returns-clause-own g c = prepared_leads _ _ _ _ _ _ c.self.view_is c.self.invariant.0 c.requires c.in_ok-prepared.ensures.stepped
 
 pub returns-clause-told : goal.returns-clause-told
 returns-clause-told g c = prepared_told _ _ _ _ _ _ c.self.view_is c.self.invariant.0 c.requires c.in_ok-prepared.ensures.stepped

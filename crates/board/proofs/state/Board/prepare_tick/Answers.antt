@@ -14,4 +14,5 @@ returns-clause-told g c =
     ticked_told _ _ _ _ _ _ c.self.view_is c.self.invariant.0 (later_than _ _ _ c.self.view_is c.requires.later) c.requires.within c.in_ok-prepared.ensures.stepped
 
 pub returns-clause-own : goal.returns-clause-own
-returns-clause-own g c = ticked_leads _ _ _ _ _ c.self.view_is c.in_ok-prepared.ensures.stepped
+returns-clause-own g c =
+    ticked_leads _ _ _ _ _ _ c.self.view_is c.self.invariant.0 (later_than _ _ _ c.self.view_is c.requires.later) c.requires.within c.in_ok-prepared.ensures.stepped

@@ -1,11 +1,9 @@
-use Rattle.std.proofs.Common.{refl, ◌∙◌}
 use Rattle.machine.specs.Told.{takes_none}
-use Rattle.machine.proofs.AllowedLaws.{tick_leads}
-use Rattle.board.proofs.Kept.{installed_told}
+use Rattle.board.proofs.Kept.{applied_ticks, installed_told}
 use Rattle.board.proofs.state.Board.tick.Goals as goal
 
 pub returns-clause-own : goal.returns-clause-own
-returns-clause-own g c = tick_leads c.args.self.now.state _ c.args.lane c.args.to _ refl (c.install.ensures.reply ∙ c.in_ok-prepared.ensures.stepped.reply)
+returns-clause-own g c = applied_ticks _ _ _ _ _ _ _ c.in_ok-prepared.ensures.stepped.state c.install.ensures.reply c.in_ok-prepared.ensures.own
 
 pub returns-clause-told : goal.returns-clause-told
 returns-clause-told g c = installed_told takes_none _ _ _ _ _ c.in_ok-prepared.ensures.stepped.state c.install.ensures.notices c.in_ok-prepared.ensures.told

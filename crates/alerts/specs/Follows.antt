@@ -1,0 +1,35 @@
+-- What becomes of the alert of a release by a judgement.
+use Rattle.std.specs.Prelude.{◌≡◌, ◌≢◌, ℕ, ◌+◌, false, List, [], ◌∷◌, Option, None, Some}
+use Rattle.plan.specs.declared.findings.Finding.{Finding}
+use Rattle.plan.specs.Findings.{AreAmong}
+use Rattle.alerts.specs.declared.alert.Alert.{Alert}
+
+-- a new alert: its first version, opened now, told to a dispatcher, naming exactly the rules that fail
+pub record IsOpened (id moment : ℕ) (holder : List ℕ) (findings : List Finding) (a : Alert) : Type 0 where
+  pub release : a.release ≡ id
+  pub desk : a.desk ≡ holder
+  pub version : a.version ≡ 1
+  pub opened : a.opened ≡ moment
+  pub failing : a.failing ≡ findings
+  pub ever : a.ever ≡ findings
+  pub acknowledged : a.acknowledged ≡ false
+
+-- An alert that was open and stays: it names exactly the rules that fail now, and every rule that it ever named. Where the
+-- same rules fail it is as it was; where others do its version is one more, and nobody has acknowledged it.
+pub record StaysOpen (old : Alert) (findings : List Finding) (a : Alert) : Type 0 where
+  pub release : a.release ≡ old.release
+  pub desk : a.desk ≡ old.desk
+  pub opened : a.opened ≡ old.opened
+  pub failing : a.failing ≡ findings
+  pub same : old.failing ≡ findings → a ≡ old
+  pub changed : old.failing ≢ findings → (a.version ≡ old.version + 1) × (a.acknowledged ≡ false)
+  pub keeps : AreAmong a.ever old.ever
+
+-- None opens where no rule fails, and one that is open stays, also where no rule fails any more.
+abbrev pub Follows : Option Alert → ℕ → List ℕ → List Finding → ℕ → Option Alert → Type 0
+Follows None release desk [] moment None = Unit {0}
+Follows None release desk [] moment (Some a) = ⊥
+Follows None release desk (f ∷ fs) moment None = ⊥
+Follows None release desk (f ∷ fs) moment (Some a) = IsOpened release moment desk (f ∷ fs) a
+Follows (Some old) release desk findings moment None = ⊥
+Follows (Some old) release desk findings moment (Some a) = StaysOpen old findings a
