@@ -12,7 +12,10 @@ pub enum Done {
     /// A deferral stands under this id, or stood under it until it was cleared.
     Deferral(u64),
     /// A revision of a release was filed or signed.
-    Filed { release: u64, revision: u64 },
+    Filed {
+        release: u64,
+        revision: u64,
+    },
     /// A revision of a release has a text, of that SHA-256.
     Prepared {
         release: u64,

@@ -73,10 +73,7 @@ fn has_same_alternates(a: &Leg, b: &Leg) -> bool
 fn is_same_leg(a: &Leg, b: &Leg) -> bool
     ensures { result ≡ spec.is_same_leg a.now b.now }
 {
-    has_same_ends(a, b)
-        && has_same_times(a, b)
-        && has_same_fuel(a, b)
-        && has_same_alternates(a, b)
+    has_same_ends(a, b) && has_same_times(a, b) && has_same_fuel(a, b) && has_same_alternates(a, b)
 }
 
 fn departs_alike(a: &Leg, b: &Leg) -> bool
@@ -120,12 +117,7 @@ fn in_flight(phase: Phase) -> Option<u32>
     }
 }
 
-fn departed_otherwise(
-    in_flight: Option<u32>,
-    n: u32,
-    old: Option<&Leg>,
-    leg: &Leg,
-) -> Option<u32>
+fn departed_otherwise(in_flight: Option<u32>, n: u32, old: Option<&Leg>, leg: &Leg) -> Option<u32>
     ensures { result ≡ spec.departed_otherwise in_flight n (option_copied old.entry) leg.now }
 {
     match (in_flight, old) {
@@ -135,12 +127,7 @@ fn departed_otherwise(
     }
 }
 
-fn next_fault(
-    in_flight: Option<u32>,
-    n: u32,
-    old: Option<&Leg>,
-    leg: Option<&Leg>,
-) -> Option<u32>
+fn next_fault(in_flight: Option<u32>, n: u32, old: Option<&Leg>, leg: Option<&Leg>) -> Option<u32>
     ensures { result ≡ spec.next_fault in_flight n (option_copied old.entry) (option_copied leg.entry) }
 {
     match leg {

@@ -14,7 +14,9 @@ pub enum Phase {
     /// Both have signed, and no leg has departed.
     Ready,
     /// That leg has departed, and hasn't arrived.
-    Flying { leg: u32 },
+    Flying {
+        leg: u32,
+    },
     /// The legs before `next` have arrived, the last of them at `since`. `again` tells whether a captain has
     /// concurred since then.
     Stopped {
@@ -23,9 +25,13 @@ pub enum Phase {
         again: bool,
     },
     /// Its last leg arrived at that moment.
-    Completed { at: Minute },
+    Completed {
+        at: Minute,
+    },
     /// It was cancelled at that moment.
-    Cancelled { at: Minute },
+    Cancelled {
+        at: Minute,
+    },
 }
 
 /// Where a leg of a release stands.

@@ -23,12 +23,7 @@ pub fn written_text(alloc: Global, revision: &Revision) -> Result<Written, OutOf
     requires { IsPlan revision.now.plan }
     ensures { IfOk result (λ w. IsWritten revision.now w) }
 {
-    let text = text_of(
-        alloc,
-        &revision.plan,
-        revision.number,
-        &revision.attached,
-    )?;
+    let text = text_of(alloc, &revision.plan, revision.number, &revision.attached)?;
     let digest = digest_of(text.bytes());
     Ok(Written { text, digest })
 }

@@ -15,7 +15,9 @@ ghost use Rattle.release_text.specs.Laws.{IsNoneNewer};
 
 use codes::Station;
 use facts::{Report, Reports};
-use plan::{Alternate, Attached, AttachedList, Leg, Phase, Plan, Standing, TakeoffAlternate, standing_of};
+use plan::{
+    Alternate, Attached, AttachedList, Leg, Phase, Plan, Standing, TakeoffAlternate, standing_of,
+};
 
 fn lesser(a: Option<u64>, b: Option<u64>) -> Option<u64>
     ensures { result ≡ cond.lesser a b }
