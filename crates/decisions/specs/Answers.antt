@@ -16,5 +16,10 @@ Passes (Ok t) wanted = wanted ≡ None
 Passes (Err (stop.Refused x)) wanted = wanted ≡ Some x
 Passes (Err stop.OutOfMemory) wanted = Unit {0}
 
+-- one test, and another one after it
+abbrev pub in_turn : Option Refusal → Option Refusal → Option Refusal
+in_turn None later = later
+in_turn (Some refusal) later = Some refusal
+
 abbrev pub IsWant : Stop → Type 0
 IsWant s = s ≡ stop.OutOfMemory

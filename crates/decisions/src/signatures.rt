@@ -3,7 +3,7 @@ ghost use Rattle.plan.specs.Check.{IsPlan};
 ghost use Rattle.machine.specs.Contents.{state_of};
 ghost use Rattle.machine.specs.Decide as spec;
 ghost use Rattle.machine.specs.Sound.{Sound, InBounds};
-ghost use Rattle.decisions.specs.Answers.{Answers, Passes};
+ghost use Rattle.decisions.specs.Answers.{Answers, Passes, in_turn};
 ghost use Rattle.decisions.specs.Reads.{DecisionAdmitsRead};
 
 use crate::chain::{Stop, refused_if};
@@ -169,6 +169,15 @@ fn filed(release: &Release, revision: &Revision) -> Reply
     })
 }
 
+// The pending revision has another number, or its text another digest, than those that are to be signed.
+fn misnamed(alloc: Global, revision: &Revision, number: u64, digest: &[u8; 32]) -> Result<(), Stop>
+    requires { IsPlan revision.now.plan }
+    ensures { Passes result (in_turn (spec.misnumbered revision.now number) (spec.mistaken_text revision.now digest.now)) }
+{
+    misnumbered(revision, number)?;
+    mistaken_text(alloc, revision, digest)
+}
+
 /// The dispatcher who holds a release signs the text of its pending revision.
 pub(crate) fn sign<L: Ledger>(
     alloc: Global,
@@ -188,8 +197,7 @@ pub(crate) fn sign<L: Ledger>(
     let revision = pending(release)?;
     unprepared(revision)?;
     not_yours(alloc, &release.holder, actor)?;
-    misnumbered(revision, number)?;
-    mistaken_text(alloc, revision, digest)?;
+    misnamed(alloc, revision, number, digest)?;
     signed(revision)?;
     outdated(content, release, revision)?;
     fails(alloc, content, release, revision, steps)?;
@@ -200,6 +208,7 @@ pub(crate) fn sign<L: Ledger>(
 }
 
 /// The captain of the pending plan signs its text after the dispatcher, and it becomes the active one.
+#[tactic(auto, using(crate::proofs::Turns::both_pass))]
 pub(crate) fn concur<L: Ledger>(
     alloc: Global,
     content: &Content,
@@ -219,8 +228,7 @@ pub(crate) fn concur<L: Ledger>(
     unprepared(revision)?;
     unsigned(revision)?;
     not_yours(alloc, &revision.plan.captain, actor)?;
-    misnumbered(revision, number)?;
-    mistaken_text(alloc, revision, digest)?;
+    misnamed(alloc, revision, number, digest)?;
     outdated(content, release, revision)?;
     fails(alloc, content, release, revision, steps)?;
     let signature = signed_by(alloc, actor, content.moment, digest)?;
