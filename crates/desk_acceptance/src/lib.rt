@@ -3,10 +3,20 @@
 #![tactic(auto)]
 
 #[cfg(test)]
+mod answers;
+#[cfg(test)]
 mod boards;
+#[cfg(test)]
+mod flown;
 #[cfg(test)]
 mod lines;
 #[cfg(test)]
+mod lives;
+#[cfg(test)]
+mod phases;
+#[cfg(test)]
 mod scripts;
+#[cfg(test)]
+mod shown;
 #[cfg(test)]
 mod texts;

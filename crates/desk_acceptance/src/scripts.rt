@@ -1,3 +1,8 @@
+use crate::flown::{
+    FLAG_STOPPED, FLAG_STOPPED_SAID, FLOWN, FLOWN_SAID, RELEASED_AGAIN, RELEASED_AGAIN_SAID,
+    SIGNED, SIGNED_SAID, STOPPED, STOPPED_SAID,
+};
+use crate::shown::{DIGESTS, DIGESTS_SAID, SHOWN, SHOWN_SAID};
 use crate::texts::{
     ADMITTED, ADMITTED_SAID, AFTERNOON, AFTERNOON_SAID, DEFERRED, DEFERRED_SAID, DUE, DUE_SAID,
     FAULTY, FAULTY_SAID, FUEL, FUEL_SAID, PEOPLE, PEOPLE_SAID, WEATHER, WEATHER_SAID,
@@ -41,6 +46,15 @@ fn is_said(
     Ok(ended == status && sink.written() == text)
 }
 
+/// What a run of a script says, over the tables of the small airline.
+pub fn said_to(alloc: Global, script: &[u8]) -> Result<Vec<u8>, OutOfMemory> {
+    let words = words(alloc, "run script")?;
+    let mut shelf = shelf(alloc, script)?;
+    let mut sink = MemorySink::new(alloc, Vec::new(alloc));
+    let _ = desk_main(alloc, &words, &mut shelf, &mut sink);
+    Ok(Vec::from_slice(alloc, sink.written())?)
+}
+
 #[test]
 fn commands_are_answered(rt: HostRuntime) -> Result<(), Fail> {
     let usage = b"error 2 Usage\n".as_slice();
@@ -61,6 +75,13 @@ fn commands_are_answered(rt: HostRuntime) -> Result<(), Fail> {
         ("run script", PEOPLE, 0, PEOPLE_SAID),
         ("run script", FUEL, 0, FUEL_SAID),
         ("run script", DUE, 0, DUE_SAID),
+        ("run script", SIGNED, 0, SIGNED_SAID),
+        ("run script", FLOWN, 0, FLOWN_SAID),
+        ("run script", STOPPED, 0, STOPPED_SAID),
+        ("run script", RELEASED_AGAIN, 0, RELEASED_AGAIN_SAID),
+        ("run script", FLAG_STOPPED, 0, FLAG_STOPPED_SAID),
+        ("run script", SHOWN, 0, SHOWN_SAID),
+        ("run script", DIGESTS, 0, DIGESTS_SAID),
     ] {
         assert!(rt;
             is_said(rt.alloc(), command, script, status, text)?,

@@ -1,12 +1,9 @@
-ghost use Rattle.std.specs.Prelude.{IsTrue};
-ghost use Rattle.std.specs.List.{AllByRecursion};
-ghost use Rattle.plan.specs.Check.{HasMoments, IsPlan};
-
 use codes::Station;
 use desk_io::{Listed, OutOfMemory, Text};
-use desk_time::{FIRST, LAST, Minute};
+use desk_time::Minute;
 use ops_tables::Tables;
 use plan::{Kind, Leg, Legs, Plan, PlanWhy, check_plan};
+use small_airline::may_be_checked;
 use std::alloc::Global;
 
 /// 2025-03-12 18:00.
@@ -50,33 +47,6 @@ pub fn plan_of(
         captain: Text::of(alloc, captain)?,
         legs,
     })
-}
-
-fn has_moments(leg: &Leg) -> bool
-    ensures { IsTrue result → HasMoments leg.now }
-{
-    FIRST <= leg.etd && leg.etd <= LAST && FIRST <= leg.eta && leg.eta <= LAST
-}
-
-fn have_moments(legs: &[Leg]) -> bool
-    ensures { IsTrue result → AllByRecursion HasMoments legs.now }
-{
-    let mut left = legs;
-    while let [leg, after @ ..] = left {
-        if !has_moments(leg) {
-            return false;
-        }
-        left = after;
-    }
-    true
-}
-
-/// Whether a plan has at most 1,000 legs, and its moments can be read and shown.
-pub fn may_be_checked(plan: &Plan) -> bool
-    ensures { IsTrue result → IsPlan plan.now }
-{
-    let legs = plan.legs.as_slice();
-    legs.len() <= 1_000 && have_moments(legs)
 }
 
 /// The first test that a plan fails, and its leg. No plan fails a test of times at leg 0, which stands for a plan

@@ -1,7 +1,9 @@
-//! Tests of the airline's tables, deferred equipment, alternates, plans and the text of releases. The faults of
-//! each table, minima and fuel are tested by the cases of `call_vectors`.
+//! Tests of the airline's tables, deferred equipment, alternates, plans and their changes, the text of releases and
+//! the rules of time. The faults of each table, minima and fuel are tested by the cases of `call_vectors`.
 #![tactic(auto)]
 
+#[cfg(test)]
+mod changes;
 #[cfg(test)]
 mod deferred;
 #[cfg(test)]
@@ -18,3 +20,5 @@ mod plan_order;
 mod plans;
 #[cfg(test)]
 mod releases;
+#[cfg(test)]
+mod times;

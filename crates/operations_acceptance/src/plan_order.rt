@@ -29,9 +29,9 @@ fn takeoff_alternate(name: &[u8]) -> Option<TakeoffAlternate> {
     })
 }
 
-// The leg of an hour that a line says: where it begins, where it ends, its takeoff alternate or dashes for none,
-// and its alternates.
-fn leg_of(alloc: Global, line: &[u8], etd: Minute) -> Result<Option<Leg>, OutOfMemory> {
+/// The leg of an hour that a line says: where it begins, where it ends, its takeoff alternate or dashes for none,
+/// and its alternates.
+pub fn leg_of(alloc: Global, line: &[u8], etd: Minute) -> Result<Option<Leg>, OutOfMemory> {
     let words = runs_between::<Blanks>(alloc, line)?;
     let [from, to, takeoff, alternates @ ..] = words.as_slice() else {
         return Ok(None);
@@ -45,9 +45,9 @@ fn leg_of(alloc: Global, line: &[u8], etd: Minute) -> Result<Option<Leg>, OutOfM
     Ok(Some(leg))
 }
 
-// The legs of lines, each from the moment at which the one before ends. The last one is in the air for so many
-// minutes, and burns so much.
-fn legs_of(alloc: Global, text: &[u8], minutes: u32, burn: u32) -> Result<Legs, OutOfMemory> {
+/// The legs of lines, each from the moment at which the one before ends. The last one is in the air for so many
+/// minutes, and burns so much.
+pub fn legs_of(alloc: Global, text: &[u8], minutes: u32, burn: u32) -> Result<Legs, OutOfMemory> {
     let lines = runs_between::<LineFeeds>(alloc, text)?;
     let mut legs = Listed::new(alloc);
     let mut etd = ETD;

@@ -247,7 +247,9 @@ fn is_finding(alloc: Global, rule: Rule, text: &[u8]) -> Result<bool, OutOfMemor
 
 fn are_findings(alloc: Global) -> Result<bool, OutOfMemory> {
     for (rule, text) in [
-        (Rule::No3, b"121.613/2/7".as_slice()),
+        (Rule::No1, b"121.593/2/7".as_slice()),
+        (Rule::No2, b"121.595/2/7"),
+        (Rule::No3, b"121.613/2/7"),
         (Rule::No4, b"121.617-ALT/2/7"),
         (Rule::No5, b"121.617-RANGE/2/7"),
         (Rule::No6, b"121.617-WX/2/7"),
@@ -261,6 +263,8 @@ fn are_findings(alloc: Global) -> Result<bool, OutOfMemory> {
         (Rule::No14, b"121.639/2/7"),
         (Rule::No15, b"121.645/2/7"),
         (Rule::No16, b"DESK-BOARD/2/7"),
+        (Rule::No17, b"DESK-LATE-OFF/2/7"),
+        (Rule::No18, b"DESK-LATE-ON/2/7"),
         (Rule::No19, b"DESK-TABLES/2/7"),
     ] {
         if !is_finding(alloc, rule, text)? {

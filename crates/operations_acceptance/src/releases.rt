@@ -2,13 +2,14 @@ ghost use Rattle.std.specs.Prelude.{◌≡◌, ◌<◌, ◌≤◌, All, IfOk, Is
 ghost use Rattle.plan.specs.Check.{IsPlan};
 ghost use Rattle.facts.specs.Reading.{IsRead};
 
-use crate::flights::{ETD, leg_between, may_be_checked, plan_of};
+use crate::flights::{ETD, leg_between, plan_of};
 use codes::{ReportFault, Station};
 use desk_io::{Listed, OutOfMemory};
 use desk_time::{FIRST, LAST, Minute};
 use facts::{Received, Report, Reports, receive};
-use plan::{Alternate, Phase, Plan};
-use release_text::{AttachedList, attach, digest_of, digits_of, newer, text_of};
+use plan::{Alternate, AttachedList, Phase, Plan};
+use release_text::{attach, digest_of, digits_of, newer, text_of};
+use small_airline::may_be_checked;
 use std::alloc::Global;
 use std::test::Fail;
 

@@ -1,8 +1,12 @@
-//! A small airline for tests: the texts of its twelve tables.
+//! A small airline for tests: the texts of its twelve tables, and whether a plan has the form in which it may be
+//! checked.
 #![tactic(auto)]
+
+mod plans;
 
 use desk_io::{MemoryShelf, OutOfMemory, Text, push_all};
 use ops_tables::Tables;
+pub use plans::may_be_checked;
 use std::alloc::Global;
 use table_files::{TableFault, read_tables};
 

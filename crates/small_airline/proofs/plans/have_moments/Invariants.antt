@@ -1,7 +1,7 @@
 use Rattle.std.proofs.Common.{length}
 use Rattle.std.specs.List.{AllByRecursion}
 use Rattle.plan.specs.Check.{HasMoments}
-use Rattle.operations_acceptance.proofs.flights.have_moments.Given as goal
+use Rattle.small_airline.proofs.plans.have_moments.Given as goal
 
 abbrev pub invariant-loop-left : goal.invariant-loop-left
 invariant-loop-left l = AllByRecursion HasMoments l.left → AllByRecursion HasMoments l.legs

@@ -1,0 +1,128 @@
+use crate::answers::{
+    ALERTED, CANCELLED, CANCELLED_DRAFT, COMPLETED, DISPATCHED, DRAFTED, FLYING, FLYING_AMENDED,
+    FLYING_ON, PREPARED, READY, READY_AGAIN, STOPPED, STOPPED_AMENDED,
+};
+use crate::lives::{
+    AMENDED_FLYING, AMENDED_READY, AMENDED_STOPPED, ASKS, CANCELS, FIRST_SIGNATURES,
+    FLYING_SIGNATURES, LIFE, READY_SIGNATURES, STOPPED_SIGNATURES, WORSENS,
+};
+use crate::scripts::said_to;
+use desk_io::{LineFeeds, OutOfMemory, Run, push_all, runs_between};
+use std::alloc::Global;
+use std::test::Fail;
+
+fn line<'a>(lines: &[Run<'a>], n: usize) -> &'a [u8] {
+    match lines.get(n) {
+        Some(line) => line.bytes(),
+        None => b"",
+    }
+}
+
+// The first lines of the release's life, and then others.
+fn life(alloc: Global, count: usize, more: &[u8]) -> Result<Vec<u8>, OutOfMemory> {
+    let mut life = Vec::new(alloc);
+    for line in runs_between::<LineFeeds>(alloc, LIFE)?.iter().take(count) {
+        push_all(&mut life, &[line.bytes(), b"\n"])?;
+    }
+    push_all(&mut life, &[more])?;
+    Ok(life)
+}
+
+// How the first release stands after a script: its line of the board.
+fn standing(alloc: Global, script: &[u8]) -> Result<Vec<u8>, OutOfMemory> {
+    let count = runs_between::<LineFeeds>(alloc, script)?.len();
+    let said = said_to(alloc, script)?;
+    let lines = runs_between::<LineFeeds>(alloc, &said)?;
+    Ok(Vec::from_slice(alloc, line(&lines, count.saturating_add(1)))?)
+}
+
+// Adds what is said to an ask after a life, and how the first release stands then, where it didn't stand so.
+fn push_answer(
+    alloc: Global,
+    out: &mut Vec<u8>,
+    life: &[u8],
+    ask: &[u8],
+    standing: &[u8],
+) -> Result<(), OutOfMemory> {
+    let count = runs_between::<LineFeeds>(alloc, life)?.len();
+    let mut script = Vec::new(alloc);
+    push_all(&mut script, &[life, ask])?;
+    let said = said_to(alloc, &script)?;
+    let lines = runs_between::<LineFeeds>(alloc, &said)?;
+    push_all(out, &[line(&lines, count), b"\n"])?;
+    let stands = line(&lines, count.saturating_add(2));
+    if stands != standing {
+        push_all(out, &[stands, b"\n"])?;
+    }
+    Ok(())
+}
+
+// How the first release stands after a life, and what is said to each of some asks.
+fn answers(alloc: Global, life: &[u8], asks: &[u8]) -> Result<Vec<u8>, OutOfMemory> {
+    let mut out = Vec::new(alloc);
+    let standing = standing(alloc, life)?;
+    push_all(&mut out, &[&standing, b"\n"])?;
+    for ask in &runs_between::<LineFeeds>(alloc, asks)? {
+        push_answer(alloc, &mut out, life, ask.bytes(), &standing)?;
+    }
+    Ok(out)
+}
+
+// Whether the signatures, and then all other asks, are answered so at a point of the release's life.
+fn are_answered(
+    alloc: Global,
+    count: usize,
+    more: &[u8],
+    signatures: &[u8],
+    wanted: &[u8],
+) -> Result<bool, OutOfMemory> {
+    let life = life(alloc, count, more)?;
+    let mut asks = Vec::new(alloc);
+    push_all(&mut asks, &[signatures, ASKS])?;
+    Ok(answers(alloc, &life, &asks)?.as_slice() == wanted)
+}
+
+#[test]
+fn each_ask_is_answered_in_each_phase(rt: HostRuntime) -> Result<(), Fail> {
+    let first = FIRST_SIGNATURES;
+    for (point, count, more, signatures, wanted) in [
+        ("drafted", 4, b"".as_slice(), first, DRAFTED),
+        ("prepared", 5, b"", first, PREPARED),
+        ("dispatched", 6, b"", first, DISPATCHED),
+        ("ready", 7, b"", first, READY),
+        (
+            "ready again",
+            7,
+            AMENDED_READY,
+            READY_SIGNATURES,
+            READY_AGAIN,
+        ),
+        ("flying", 8, b"", first, FLYING),
+        (
+            "flying, amended",
+            8,
+            AMENDED_FLYING,
+            FLYING_SIGNATURES,
+            FLYING_AMENDED,
+        ),
+        ("flying, alerted", 8, WORSENS, first, ALERTED),
+        ("stopped", 9, b"", first, STOPPED),
+        (
+            "stopped, amended",
+            9,
+            AMENDED_STOPPED,
+            STOPPED_SIGNATURES,
+            STOPPED_AMENDED,
+        ),
+        ("flying on", 10, b"", first, FLYING_ON),
+        ("completed", 11, b"", first, COMPLETED),
+        ("cancelled draft", 4, CANCELS, first, CANCELLED_DRAFT),
+        ("cancelled", 7, CANCELS, first, CANCELLED),
+    ] {
+        assert!(rt;
+            are_answered(rt.alloc(), count, more, signatures, wanted)?,
+            "{point}"
+        );
+    }
+    Ok(())
+}

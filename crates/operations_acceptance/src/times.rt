@@ -1,0 +1,210 @@
+ghost use Rattle.std.specs.Prelude.{◌≡◌, ◌<◌, IsTrue};
+ghost use Rattle.plan.specs.Check.{IsPlan};
+ghost use Rattle.plan.specs.Texts.{HasMoment};
+
+use crate::flights::{ETD, plan_of};
+use crate::plan_order::legs_of;
+use deferrals::Deferrals;
+use desk_io::{OutOfMemory, push_all};
+use desk_time::{FIRST, LAST, Minute};
+use facts::Reports;
+use ops_tables::Tables;
+use plan::{Finding, Kind, Phase, Plan, Rule, finding_text};
+use rules::{Steps, judge, next_due};
+use small_airline::{may_be_checked, small_tables};
+use std::alloc::Global;
+use std::marker::Brand;
+use std::sync::ledger::{Blank, Ledger};
+use std::test::Fail;
+
+// A plan of two legs of an hour each.
+fn plan(alloc: Global, tail: &[u8], kind: Kind) -> Result<Plan, OutOfMemory> {
+    let legs = legs_of(alloc, b"KBOS KJFK ----\nKJFK KBOS ----", 55, 12_000)?;
+    let mut plan = plan_of(alloc, tail, b"C7", legs)?;
+    plan.kind = kind;
+    Ok(plan)
+}
+
+fn has_moment(phase: Phase) -> bool
+    ensures { IsTrue result → HasMoment phase }
+{
+    match phase {
+        Phase::Drafted | Phase::Ready | Phase::Flying { .. } => true,
+        Phase::Stopped { since, .. } => FIRST <= since && since <= LAST,
+        Phase::Completed { at } | Phase::Cancelled { at } => FIRST <= at && at <= LAST,
+    }
+}
+
+const fn stopped(since: Minute, again: bool) -> Phase {
+    Phase::Stopped {
+        next: 2,
+        since,
+        again,
+    }
+}
+
+// The minutes from the first etd to the next moment at which a rule of time begins to fail. No plan has one after no
+// minute, which stands for what may not be asked.
+fn due_after(tables: &Tables, plan: &Plan, phase: Phase, minutes: u64) -> Option<u64> {
+    if !may_be_checked(plan) || !has_moment(phase) {
+        return Some(0);
+    }
+    let due = next_due(plan, phase, tables, ETD.saturating_add(minutes))?;
+    Some(due.saturating_sub(ETD))
+}
+
+fn are_due(tables: &Tables, domestic: &Plan, flag: &Plan) -> bool {
+    for (plan, phase, minutes, due) in [
+        (domestic, Phase::Drafted, 0, Some(61)),
+        (domestic, Phase::Ready, 60, Some(61)),
+        (domestic, Phase::Ready, 61, None),
+        (domestic, Phase::Flying { leg: 1 }, 0, Some(91)),
+        (flag, Phase::Flying { leg: 1 }, 90, Some(91)),
+        (domestic, Phase::Flying { leg: 1 }, 91, None),
+        (domestic, Phase::Flying { leg: 2 }, 91, Some(151)),
+        (domestic, stopped(ETD + 50, false), 50, Some(111)),
+        (domestic, stopped(ETD + 50, false), 110, Some(111)),
+        (domestic, stopped(ETD + 50, false), 111, Some(121)),
+        (domestic, stopped(ETD + 50, false), 121, None),
+        (domestic, stopped(ETD + 50, true), 50, Some(121)),
+        (domestic, stopped(ETD + 70, false), 70, Some(121)),
+        (domestic, stopped(ETD + 70, false), 121, Some(131)),
+        (flag, stopped(ETD + 50, false), 50, Some(121)),
+        (flag, stopped(ETD + 50, false), 121, Some(411)),
+        (flag, stopped(ETD + 50, false), 410, Some(411)),
+        (flag, stopped(ETD + 50, false), 411, None),
+        (flag, stopped(ETD + 50, true), 121, None),
+        (domestic, Phase::Completed { at: ETD }, 0, None),
+        (domestic, Phase::Cancelled { at: ETD }, 0, None),
+    ] {
+        if due_after(tables, plan, phase, minutes) != due {
+            return false;
+        }
+    }
+    true
+}
+
+// A rule of time, or that a plan fails its tests.
+fn is_of_time(finding: &Finding) -> bool {
+    matches!(
+        finding.rule,
+        Rule::No1 | Rule::No2 | Rule::No17 | Rule::No18 | Rule::No19
+    )
+}
+
+fn push_findings(
+    alloc: Global,
+    out: &mut Vec<u8>,
+    findings: &[Finding],
+) -> Result<(), OutOfMemory> {
+    for finding in findings {
+        if is_of_time(finding) {
+            let text = finding_text(alloc, finding)?;
+            push_all(out, &[text.bytes(), b" "])?;
+        }
+    }
+    Ok(())
+}
+
+// The rules of time that a plan fails so many minutes after its first etd, each with a blank after it.
+fn late_text<L: Ledger>(
+    alloc: Global,
+    tables: &Tables,
+    plan: &Plan,
+    phase: Phase,
+    minutes: u64,
+    blank: Blank,
+) -> Result<Vec<u8>, OutOfMemory>
+    requires plan { IsPlan plan.now }
+    requires name { blank.name ≡ L.name }
+    requires parts { blank.parts ≡ L.parts }
+    requires some { 0 < blank.parts }
+{
+    let mut steps = Steps::<L>::new(blank);
+    let reports = Reports::new(alloc);
+    let deferrals = Deferrals::new(alloc);
+    let moment = ETD.saturating_add(minutes);
+    let findings = judge(
+        alloc, plan, phase, &reports, &deferrals, tables, moment, &mut steps,
+    )?;
+    let mut out = Vec::new(alloc);
+    push_findings(alloc, &mut out, findings.as_slice())?;
+    Ok(out)
+}
+
+// Whether these rules of time fail for a plan that passes its tests, and beside the test for one of no known aircraft.
+fn is_late(
+    alloc: Global,
+    tables: &Tables,
+    kind: Kind,
+    phase: Phase,
+    minutes: u64,
+    wanted: &[u8],
+) -> Result<bool, OutOfMemory> {
+    let known = plan(alloc, b"N801DK", kind)?;
+    let unknown = plan(alloc, b"N999DK", kind)?;
+    if !may_be_checked(&known) || !may_be_checked(&unknown) {
+        return Ok(false);
+    }
+    let one = late_text::<Brand>(alloc, tables, &known, phase, minutes, Blank::new(1))?;
+    let two = late_text::<Brand>(alloc, tables, &unknown, phase, minutes, Blank::new(1))?;
+    let mut both = Vec::new(alloc);
+    push_all(&mut both, &[wanted, b"DESK-TABLES/0/0 "])?;
+    Ok(one.as_slice() == wanted && two == both)
+}
+
+fn are_late(alloc: Global, tables: &Tables) -> Result<bool, OutOfMemory> {
+    let (domestic, flag) = (Kind::Domestic, Kind::Flag);
+    for (kind, phase, minutes, wanted) in [
+        (domestic, Phase::Drafted, 60, b"".as_slice()),
+        (domestic, Phase::Drafted, 61, b"DESK-LATE-OFF/1/0 "),
+        (flag, Phase::Ready, 60, b""),
+        (flag, Phase::Ready, 61, b"DESK-LATE-OFF/1/0 "),
+        (domestic, Phase::Flying { leg: 1 }, 90, b""),
+        (domestic, Phase::Flying { leg: 1 }, 91, b"DESK-LATE-ON/1/0 "),
+        (flag, Phase::Flying { leg: 2 }, 150, b""),
+        (flag, Phase::Flying { leg: 2 }, 151, b"DESK-LATE-ON/2/0 "),
+        (domestic, stopped(ETD + 50, false), 110, b""),
+        (domestic, stopped(ETD + 50, false), 111, b"121.593/2/0 "),
+        (domestic, stopped(ETD + 50, false), 120, b"121.593/2/0 "),
+        (
+            domestic,
+            stopped(ETD + 50, false),
+            121,
+            b"121.593/2/0 DESK-LATE-OFF/2/0 ",
+        ),
+        (domestic, stopped(ETD + 50, true), 120, b""),
+        (
+            domestic,
+            stopped(ETD + 50, true),
+            121,
+            b"DESK-LATE-OFF/2/0 ",
+        ),
+        (flag, stopped(ETD + 50, false), 410, b"DESK-LATE-OFF/2/0 "),
+        (
+            flag,
+            stopped(ETD + 50, false),
+            411,
+            b"121.595/2/0 DESK-LATE-OFF/2/0 ",
+        ),
+        (flag, stopped(ETD + 50, true), 411, b"DESK-LATE-OFF/2/0 "),
+        (domestic, Phase::Completed { at: ETD }, 500, b""),
+        (domestic, Phase::Cancelled { at: ETD }, 500, b""),
+    ] {
+        if !is_late(alloc, tables, kind, phase, minutes, wanted)? {
+            return Ok(false);
+        }
+    }
+    Ok(true)
+}
+
+#[test]
+fn rules_of_time_begin_to_fail(rt: HostRuntime) -> Result<(), Fail> {
+    let alloc = rt.alloc();
+    let tables = small_tables(alloc)?;
+    let domestic = plan(alloc, b"N801DK", Kind::Domestic)?;
+    let flag = plan(alloc, b"N801DK", Kind::Flag)?;
+    assert!(rt; are_due(&tables, &domestic, &flag));
+    assert!(rt; are_late(alloc, &tables)?);
+    Ok(())
+}
