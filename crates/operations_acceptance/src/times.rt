@@ -132,25 +132,33 @@ fn late_text<L: Ledger>(
     Ok(out)
 }
 
-// Whether these rules of time fail for a plan that passes its tests, and beside the test for one of no known aircraft.
+// The same of a plan that may be checked; a stroke for another.
+fn late(
+    alloc: Global,
+    tables: &Tables,
+    plan: &Plan,
+    phase: Phase,
+    minutes: u64,
+) -> Result<Vec<u8>, OutOfMemory> {
+    if may_be_checked(plan) {
+        late_text::<Brand>(alloc, tables, plan, phase, minutes, Blank::new(1))
+    } else {
+        Ok(Vec::from_slice(alloc, b"-")?)
+    }
+}
+
+// Whether these rules of time, and then something else, are all of them that an aircraft's plan fails.
 fn is_late(
     alloc: Global,
     tables: &Tables,
-    kind: Kind,
+    flight: (&[u8], Kind),
     phase: Phase,
     minutes: u64,
-    wanted: &[u8],
+    wanted: (&[u8], &[u8]),
 ) -> Result<bool, OutOfMemory> {
-    let known = plan(alloc, b"N801DK", kind)?;
-    let unknown = plan(alloc, b"N999DK", kind)?;
-    if !may_be_checked(&known) || !may_be_checked(&unknown) {
-        return Ok(false);
-    }
-    let one = late_text::<Brand>(alloc, tables, &known, phase, minutes, Blank::new(1))?;
-    let two = late_text::<Brand>(alloc, tables, &unknown, phase, minutes, Blank::new(1))?;
-    let mut both = Vec::new(alloc);
-    push_all(&mut both, &[wanted, b"DESK-TABLES/0/0 "])?;
-    Ok(one.as_slice() == wanted && two == both)
+    let plan = plan(alloc, flight.0, flight.1)?;
+    let text = late(alloc, tables, &plan, phase, minutes)?;
+    Ok(text.strip_prefix(wanted.0) == Some(wanted.1))
 }
 
 fn are_late(alloc: Global, tables: &Tables) -> Result<bool, OutOfMemory> {
@@ -191,20 +199,37 @@ fn are_late(alloc: Global, tables: &Tables) -> Result<bool, OutOfMemory> {
         (domestic, Phase::Completed { at: ETD }, 500, b""),
         (domestic, Phase::Cancelled { at: ETD }, 500, b""),
     ] {
-        if !is_late(alloc, tables, kind, phase, minutes, wanted)? {
+        if !is_late(
+            alloc,
+            tables,
+            (b"N801DK", kind),
+            phase,
+            minutes,
+            (wanted, b""),
+        )? || !is_late(
+            alloc,
+            tables,
+            (b"N999DK", kind),
+            phase,
+            minutes,
+            (wanted, b"DESK-TABLES/0/0 "),
+        )? {
             return Ok(false);
         }
     }
     Ok(true)
 }
 
+fn are_timely(alloc: Global, tables: &Tables) -> Result<bool, OutOfMemory> {
+    let domestic = plan(alloc, b"N801DK", Kind::Domestic)?;
+    let flag = plan(alloc, b"N801DK", Kind::Flag)?;
+    Ok(are_due(tables, &domestic, &flag) && are_late(alloc, tables)?)
+}
+
 #[test]
 fn rules_of_time_begin_to_fail(rt: HostRuntime) -> Result<(), Fail> {
     let alloc = rt.alloc();
     let tables = small_tables(alloc)?;
-    let domestic = plan(alloc, b"N801DK", Kind::Domestic)?;
-    let flag = plan(alloc, b"N801DK", Kind::Flag)?;
-    assert!(rt; are_due(&tables, &domestic, &flag));
-    assert!(rt; are_late(alloc, &tables)?);
+    assert!(rt; are_timely(alloc, &tables)?);
     Ok(())
 }
