@@ -62,6 +62,22 @@ fn make<L: Ledger>(
     Ok(())
 }
 
+// Makes the call of each line of a script.
+fn make_all<L: Ledger>(
+    alloc: Global,
+    board: &mut Board,
+    script: &[u8],
+    steps: &mut Steps<L>,
+    told: &mut Vec<u8>,
+) -> Result<(), OutOfMemory> {
+    for line in &runs_between::<LineFeeds>(alloc, script)? {
+        if let Some((at, call)) = read_line(alloc, line.bytes())? {
+            make(alloc, board, at, &call, steps, told)?;
+        }
+    }
+    Ok(())
+}
+
 fn play<L: Ledger>(
     alloc: Global,
     tables: Tables,
@@ -75,11 +91,7 @@ fn play<L: Ledger>(
 {
     let mut steps = Steps::<L>::new(blank);
     let mut board = Board::new(alloc, tables);
-    for line in &runs_between::<LineFeeds>(alloc, script)? {
-        if let Some((at, call)) = read_line(alloc, line.bytes())? {
-            make(alloc, &mut board, at, &call, &mut steps, told)?;
-        }
-    }
+    make_all(alloc, &mut board, script, &mut steps, told)?;
     Ok(board)
 }
 
@@ -211,6 +223,19 @@ fn notices_follow_the_alert(rt: HostRuntime) -> Result<(), Fail> {
     Ok(())
 }
 
+// The same after a script.
+fn are_signed_by_both(
+    alloc: Global,
+    tables: Tables,
+    script: &[u8],
+    at: (Minute, Minute),
+    digits: &[u8],
+) -> Result<bool, OutOfMemory> {
+    let mut told = Vec::new(alloc);
+    let board = played(alloc, tables, script, &mut told)?;
+    is_signed_by_both(alloc, &board, at, digits)
+}
+
 // 17:31 and 17:32, and 17:43 and 17:44, on 2025-03-12.
 #[test]
 fn both_sign_the_text(rt: HostRuntime) -> Result<(), Fail> {
@@ -228,8 +253,7 @@ fn both_sign_the_text(rt: HostRuntime) -> Result<(), Fail> {
         ),
     ] {
         let tables = small_tables(alloc)?;
-        let board = played(alloc, tables, script, &mut Vec::new(alloc))?;
-        assert!(rt; is_signed_by_both(alloc, &board, at, digits)?);
+        assert!(rt; are_signed_by_both(alloc, tables, script, at, digits)?);
     }
     Ok(())
 }
@@ -294,6 +318,23 @@ const PREPARED: &[u8] =
 {"actor":"D1","ask":{"do":"prepare","release":1},"at":"2025-03-12T17:00Z","key":"kD1","number":1}
 "#;
 
+// Whether a tick and each of these calls is.
+fn all_are_prepared<L: Ledger>(
+    alloc: Global,
+    board: &mut Board,
+    steps: &mut Steps<L>,
+) -> Result<bool, OutOfMemory> {
+    let mut are = is_tick_prepared(alloc, board, 29_029_980, steps)?;
+    let replies = [(b'D', true), (b'D', false), (b'S', false), (b'R', false)];
+    let lines = runs_between::<LineFeeds>(alloc, PREPARED)?;
+    for (line, (reply, changes)) in lines.iter().zip(replies) {
+        if let Some((_, call)) = read_line(alloc, line.bytes())? {
+            are = is_prepared(alloc, board, &call, steps, reply, changes)? && are;
+        }
+    }
+    Ok(are && board.entries() == 2)
+}
+
 fn are_prepared<L: Ledger>(alloc: Global, tables: Tables, blank: Blank) -> Result<bool, OutOfMemory>
     requires name { blank.name ≡ L.name }
     requires parts { blank.parts ≡ L.parts }
@@ -301,15 +342,7 @@ fn are_prepared<L: Ledger>(alloc: Global, tables: Tables, blank: Blank) -> Resul
 {
     let mut steps = Steps::<L>::new(blank);
     let mut board = Board::new(alloc, tables);
-    let mut are = is_tick_prepared(alloc, &mut board, 29_029_980, &mut steps)?;
-    let replies = [(b'D', true), (b'D', false), (b'S', false), (b'R', false)];
-    let lines = runs_between::<LineFeeds>(alloc, PREPARED)?;
-    for (line, (reply, changes)) in lines.iter().zip(replies) {
-        if let Some((_, call)) = read_line(alloc, line.bytes())? {
-            are = is_prepared(alloc, &mut board, &call, &mut steps, reply, changes)? && are;
-        }
-    }
-    Ok(are && board.entries() == 2)
+    all_are_prepared(alloc, &mut board, &mut steps)
 }
 
 #[test]
