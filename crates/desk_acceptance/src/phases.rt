@@ -18,11 +18,15 @@ fn line<'a>(lines: &[Run<'a>], n: usize) -> &'a [u8] {
     }
 }
 
+fn push_line(out: &mut Vec<u8>, line: &[u8]) -> Result<(), OutOfMemory> {
+    push_all(out, &[line, b"\n"])
+}
+
 // The first lines of the release's life, and then others.
 fn life(alloc: Global, count: usize, more: &[u8]) -> Result<Vec<u8>, OutOfMemory> {
     let mut life = Vec::new(alloc);
     for line in runs_between::<LineFeeds>(alloc, LIFE)?.iter().take(count) {
-        push_all(&mut life, &[line.bytes(), b"\n"])?;
+        push_line(&mut life, line.bytes())?;
     }
     push_all(&mut life, &[more])?;
     Ok(life)
