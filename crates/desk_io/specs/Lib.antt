@@ -4,3 +4,4 @@ pub mod Whole
 pub mod Runs
 pub mod Planned
 pub mod Grown
+pub mod Rows
