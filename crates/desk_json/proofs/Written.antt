@@ -6,22 +6,14 @@ use Rattle.serde_json.specs.Written.{has_float, items_have_float}
 use Rattle.plan.specs.declared.findings.Finding.{Finding}
 use Rattle.asks.specs.declared.reply.Reply.{Reply}
 use Rattle.asks.specs.declared.reply.Reply.TheVariants.{Done, Seen, Refused}
-use Rattle.asks.specs.declared.reply.Done.TheVariants.{Report, Deferral, Filed, Prepared, Release}
-use Rattle.asks.specs.declared.reply.Done.{Done as DoneType}
 use Rattle.asks.specs.declared.reply.Refusal.{Refusal}
 use Rattle.asks.specs.declared.reply.Refusal.TheVariants.{UnknownActor, WrongKey, NotYourRole, BadReport, DayOutOfReach, ReportsFull, UnknownTail, NoSuchDeferral, NoSuchRelease, NotYours, BadPlan, NotPending, WrongRevision, WrongText, WeatherNewer, RuleFails, WrongPhase, AlreadySigned, NoSuchAlert, AlertMoved, HistoryFull, NoSuchStation, UnknownItem, BadFound, DeferralsFull}
-use Rattle.desk_json.specs.Replies.{finding_data, done_data, refusal_data, reply_data}
+use Rattle.plan_json.proofs.Whole.{done_whole}
+use Rattle.desk_json.specs.Replies.{finding_data, refusal_data, reply_data}
 
 findings_whole : (fs : List Finding) → items_have_float (items_of (map finding_data fs)) ≡ false
 findings_whole [] = refl
 findings_whole (f ∷ fs) = findings_whole fs
-
-done_whole : (d : DoneType) → has_float (done_data d) ≡ false
-done_whole (Report id) = refl
-done_whole (Deferral id) = refl
-done_whole (Filed release revision) = refl
-done_whole (Prepared release revision digest) = refl
-done_whole (Release id) = refl
 
 refusal_whole : (r : Refusal) → has_float (refusal_data r) ≡ false
 refusal_whole UnknownActor = refl

@@ -11,17 +11,13 @@ use Rattle.asks.specs.declared.call.Ask.{Ask}
 use Rattle.asks.specs.declared.call.Ask.TheVariants.{Admit, Defer, Clear, Draft, Prepare, Sign, Concur, Amend, Cancel, Depart, Arrive, Acknowledge, ViewBoard, ViewAlerts, ViewRelease, ViewWeather, ViewDeferred}
 use Rattle.desk_json.specs.declared.calls.Signed.{Signed}
 use Rattle.desk_json.specs.declared.calls.Flown.{Flown}
-use Rattle.desk_json.specs.Digests.{digest_at}
-use Rattle.desk_json.specs.Plans.{plan_of}
-use Rattle.desk_json.specs.Fields.{data_of, text_at, number_at, amount_at, short_at, station_at, moment_at, has_members}
+use Rattle.plan_json.specs.Digests.{digest_at}
+use Rattle.plan_json.specs.Plans.{plan_of}
+use Rattle.plan_json.specs.Fields.{data_of, text_at, number_at, id_at, amount_at, short_at, station_at, moment_at, has_members}
 
 -- to admit a text, which may be any
 abbrev pub admit_of : Data → Option Ask
 admit_of d = text_at (codes "text") d >>= λ text. if has_members 2 d then Some (Admit text) else None
-
--- an id, or the number of a revision or of the version of an alert
-abbrev pub id_at : List ℕ → Data → Option ℕ
-id_at key d = number_at key 1_000_000_000_000_000 d
 
 abbrev pub plan_at : Data → Option Plan
 plan_at d = option_and_then plan_of (get (codes "plan") d)

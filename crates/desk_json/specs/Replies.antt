@@ -1,7 +1,6 @@
 -- The texts of replies: JSON without blanks, its keys in byte order.
 use Rattle.std.specs.Prelude.{ℕ, List, map, codes}
-use Rattle.std.specs.Str.Lossy.{utf8_lossy}
-use Rattle.serde_json.specs.Data.{Data, object, Members, member, no_members, put, number, unsigned, string, array}
+use Rattle.serde_json.specs.Data.{Data, object, Members, member, no_members, put, string, array}
 use Rattle.serde_json.specs.View.{items_of}
 use Rattle.serde_json.specs.Written.{compact_text}
 use Rattle.desk_time.specs.Moments.{shown}
@@ -13,11 +12,10 @@ use Rattle.plan.specs.declared.check.PlanWhy.TheVariants as plan_why
 use Rattle.plan.specs.declared.findings.Finding.{Finding}
 use Rattle.asks.specs.declared.reply.Reply.{Reply}
 use Rattle.asks.specs.declared.reply.Reply.TheVariants.{Done, Seen, Refused}
-use Rattle.asks.specs.declared.reply.Done.{Done as DoneType}
-use Rattle.asks.specs.declared.reply.Done.TheVariants.{Report, Deferral, Filed, Prepared, Release}
 use Rattle.asks.specs.declared.reply.Refusal.{Refusal}
 use Rattle.asks.specs.declared.reply.Refusal.TheVariants.{UnknownActor, WrongKey, NotYourRole, BadReport, DayOutOfReach, ReportsFull, UnknownTail, NoSuchDeferral, NoSuchRelease, NotYours, BadPlan, NotPending, WrongRevision, WrongText, WeatherNewer, RuleFails, WrongPhase, AlreadySigned, NoSuchAlert, AlertMoved, HistoryFull, NoSuchStation, UnknownItem, BadFound, DeferralsFull}
-use Rattle.desk_json.specs.Digests.{digest_data}
+use Rattle.plan_json.specs.Digests.{digest_data}
+use Rattle.plan_json.specs.Canonical.{count, text_data, done_data}
 
 -- the name of a reason
 abbrev pub why_name : Why → List ℕ
@@ -42,25 +40,6 @@ plan_why_name plan_why.Times = codes "Times"
 plan_why_name plan_why.Amount = codes "Amount"
 plan_why_name plan_why.Changed = codes "Changed"
 plan_why_name plan_why.Flown = codes "Flown"
-
-abbrev pub count : ℕ → Data
-count n = number (unsigned n)
-
--- A text as a JSON string. Every text of the desk is UTF-8; bytes that weren't would show as the
--- replacement character.
-abbrev pub text_data : List ℕ → Data
-text_data t = string (utf8_lossy t)
-
-abbrev pub done_members : DoneType → Members
-done_members (Report id) = member (codes "report") (count id) no_members
-done_members (Deferral id) = member (codes "deferral") (count id) no_members
-done_members (Filed release revision) = member (codes "release") (count release) (member (codes "revision") (count revision) no_members)
-done_members (Prepared release revision digest) =
-    member (codes "digest") (digest_data digest) (member (codes "release") (count release) (member (codes "revision") (count revision) no_members))
-done_members (Release id) = member (codes "release") (count id) no_members
-
-abbrev pub done_data : DoneType → Data
-done_data done = object (done_members done)
 
 -- the number of a refusal
 abbrev pub refusal_number : Refusal → ℕ

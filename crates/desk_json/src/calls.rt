@@ -6,15 +6,14 @@ ghost use Rattle.desk_json.specs.Calls as spec;
 ghost use Rattle.desk_json.specs.Calls.{line_of};
 ghost use Rattle.desk_json.specs.Canonical.{IsReadAgain};
 
-use crate::digests::digest_at;
-use crate::fields::{
-    amount_at, data_of, has_members, moment_at, number_at, short_at, station_at, text_at,
-};
-use crate::plans::read_plan;
 use asks::{Ask, Call};
 use desk_io::{OutOfMemory, Text};
 use desk_time::{FIRST, LAST, Minute};
 use plan::Plan;
+use plan_json::{
+    amount_at, data_of, digest_at, has_members, id_at, moment_at, number_at, read_plan, short_at,
+    station_at, text_at,
+};
 use serde_json::Value;
 use std::alloc::Global;
 
@@ -43,12 +42,6 @@ fn admit_of(alloc: Global, value: &Value) -> Result<Option<Ask>, OutOfMemory>
         })),
         _ => Ok(None),
     }
-}
-
-fn id_at(key: &str, value: &Value) -> Option<u64>
-    ensures { result ≡ spec.id_at key.now (view value.now) }
-{
-    number_at(key, 1_000_000_000_000_000, value)
 }
 
 fn plan_at(alloc: Global, value: &Value) -> Result<Option<Plan>, OutOfMemory>

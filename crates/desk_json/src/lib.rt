@@ -2,11 +2,6 @@
 #![tactic(auto)]
 
 mod calls;
-mod digests;
-mod fields;
-mod legs;
-mod members;
-mod plans;
 mod refusals;
 mod replies;
 

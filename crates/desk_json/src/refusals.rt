@@ -5,15 +5,14 @@ ghost use Rattle.plan.specs.Texts.{HasMoment, phase_text};
 ghost use Rattle.asks.specs.Forms.{RefusalHasMoment};
 ghost use Rattle.desk_json.specs.Replies as spec;
 
-use crate::digests::with_digest;
-use crate::members::{
-    Members, name_value, text_value, with_count, with_name, with_text, with_value,
-};
 use asks::Refusal;
 use codes::Why;
 use desk_io::OutOfMemory;
 use desk_time::show;
 use plan::{Finding, Phase, PlanWhy, finding_text, phase_text};
+use plan_json::{
+    Members, name_value, text_value, with_count, with_digest, with_name, with_text, with_value,
+};
 use serde_json::{Map, Value};
 use std::alloc::Global;
 

@@ -1,0 +1,5 @@
+pub mod Fields
+pub mod Digests
+pub mod Legs
+pub mod Plans
+pub mod Canonical
