@@ -46,7 +46,8 @@ pub enum Ask {
         /// The SHA-256 of the text.
         digest: [u8; 32],
     },
-    /// A plan takes the place of the one of a release (14 CFR 121.631).
+    /// A plan is filed as the pending revision of a release, under the next number. What both have
+    /// signed stays until a concurrence (14 CFR 121.631).
     Amend {
         release: u64,
         plan: Plan,
@@ -74,7 +75,7 @@ pub enum Ask {
     },
     /// The releases are shown.
     ViewBoard,
-    /// The open alerts are shown.
+    /// The alerts of all releases are shown, acknowledged ones too.
     ViewAlerts,
     /// The texts of a release are shown.
     ViewRelease {

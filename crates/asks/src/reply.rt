@@ -35,8 +35,8 @@ pub enum Refusal {
     WrongKey,
     /// 3: the ask isn't for the person's role.
     NotYourRole,
-    /// 5: the text has no reading, for another reason than 6. `group` is the first group that doesn't
-    /// read.
+    /// 5: the text has no reading, for another reason than 6. `group` is the number, from 1, of the first
+    /// group that doesn't read, and 0 where the text is too long.
     BadReport { group: u32, what: Why },
     /// 6: the day at that group lies in none of the five days in reach.
     DayOutOfReach { group: u32 },
@@ -58,7 +58,8 @@ pub enum Refusal {
     WrongRevision { current: u64 },
     /// 15: the text of the pending revision has that other digest.
     WrongText { digest: [u8; 32] },
-    /// 16: that report is newer than what is attached to the pending revision.
+    /// 16: of the latest reports of the stations that the release concerns, one isn't attached to the
+    /// pending revision; that is the least number of such a report.
     WeatherNewer { report: u64 },
     /// 17: these rules fail.
     RuleFails { findings: Findings },

@@ -58,6 +58,17 @@ pub fn lesser(a: Option<u32>, b: Option<u32>) -> Option<u32>
     }
 }
 
+/// The lesser of two moments or ids, where both are there.
+pub fn least_of(a: Option<u64>, b: Option<u64>) -> Option<u64>
+    ensures { result ≡ spec.lesser a b }
+{
+    match (a, b) {
+        (Some(x), Some(y)) => Some(x.min(y)),
+        (Some(_), None) => a,
+        (None, _) => b,
+    }
+}
+
 fn value_of(named: Named) -> Option<u32>
     ensures { result ≡ spec.value_of named }
 {

@@ -23,7 +23,7 @@ pub enum Why {
     NotStation,
     /// A group isn't a time, or names none.
     NotTime,
-    /// A day lies in none of the five days in reach.
+    /// None of the five days in reach has that day of the month, or the moment isn't from 2000 to 2099.
     DayOutOfReach,
     /// A group ends as a visibility and has the shape of none.
     BadVisibility,

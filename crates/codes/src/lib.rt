@@ -13,7 +13,7 @@ mod shapes;
 mod station;
 
 pub use class::{Class, class_at};
-pub use cond::{Cond, Stretch, cond_in, cond_of, is_period, lesser, stretch_in};
+pub use cond::{Cond, Stretch, cond_in, cond_of, is_period, least_of, lesser, stretch_in};
 pub use fault::{BadReport, Form, REPORT_LIMIT, ReportFault, TOO_LONG, Why};
 pub use groups::{Group, Groups, first_of};
 pub use moment::{moment_or, time_of, written_moment};

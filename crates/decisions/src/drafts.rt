@@ -1,7 +1,6 @@
 ghost use Rattle.std.specs.Prelude.{◌≡◌, ◌<◌, ◌≤◌, IfOk, IfSome};
 ghost use Rattle.std.specs.Option.{option_copied};
 ghost use Rattle.plan.specs.Check.{IsPlan, plan_fault};
-ghost use Rattle.release_text.specs.Revisions.{revision_digest};
 ghost use Rattle.machine.specs.Contents.{state_of};
 ghost use Rattle.machine.specs.Decide as spec;
 ghost use Rattle.machine.specs.Sound.{Sound, InBounds};
@@ -17,7 +16,7 @@ use desk_io::{Copied, Listed, OutOfMemory, Text};
 use machine::{Content, Decision, Effect};
 use ops_tables::Tables;
 use plan::{BadPlan, Phase, Plan, Release, Revision, check_change, check_plan};
-use release_text::{attach, written_text};
+use release_text::{attach, revision_digest};
 use std::alloc::Global;
 
 fn refused_plan(bad: BadPlan) -> Stop
@@ -130,13 +129,6 @@ fn with_weather(
     })
 }
 
-fn digest_of(alloc: Global, revision: &Revision) -> Result<[u8; 32], OutOfMemory>
-    requires { IsPlan revision.now.plan }
-    ensures { IfOk result (λ d. d ≡ revision_digest revision.now) }
-{
-    Ok(written_text(alloc, revision)?.digest)
-}
-
 /// A release is drafted.
 pub(crate) fn draft(
     alloc: Global,
@@ -176,7 +168,7 @@ pub(crate) fn prepare(
     let revision = pending(release)?;
     not_yours(alloc, &release.holder, actor)?;
     let prepared = with_weather(alloc, content, release.phase, revision)?;
-    let digest = digest_of(alloc, &prepared)?;
+    let digest = revision_digest(alloc, &prepared)?;
     let reply = Reply::Done(Done::Prepared {
         release: release.id,
         revision: revision.number,
@@ -186,7 +178,7 @@ pub(crate) fn prepare(
     Ok(Decision::Do(reply, Effect::put(release)))
 }
 
-/// A plan takes the place of the newest one, in a revision of the next number.
+/// A plan is filed as the pending revision, under the number after the newest. The active one stays.
 pub(crate) fn amend(
     alloc: Global,
     content: &Content,

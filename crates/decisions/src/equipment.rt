@@ -9,7 +9,7 @@ ghost use Rattle.decisions.specs.Reads.{DecisionAdmitsRead};
 
 use crate::chain::{Stop, refused_if};
 use asks::{Done, Refusal, Reply};
-use deferrals::{Deferral, open_on};
+use deferrals::{DEFERRAL_LIMIT, Deferral, open_on};
 use desk_io::{Copied, OutOfMemory, Text};
 use desk_time::Minute;
 use machine::{Content, Decision, Effect};
@@ -48,7 +48,7 @@ fn deferrals_full(content: &Content) -> Result<(), Stop>
     ensures { Passes result (spec.deferrals_full (state_of content.now)) }
 {
     let held = content.deferrals.as_slice().len();
-    refused_if(held >= 50_000, Refusal::DeferralsFull { held: held as u64 })
+    refused_if(held >= DEFERRAL_LIMIT, Refusal::DeferralsFull { held: held as u64 })
 }
 
 fn has_deferral(deferrals: &[Deferral], id: u64) -> bool

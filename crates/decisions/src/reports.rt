@@ -12,7 +12,7 @@ use crate::chain::{Stop, refused_if};
 use asks::{Done, Refusal, Reply};
 use codes::{BadReport, ReportFault, Station, Why};
 use desk_io::Text;
-use facts::{Received, Report, receive};
+use facts::{HELD_LIMIT, Received, Report, receive};
 use machine::{Content, Decision, Effect};
 use std::alloc::Global;
 use views::weather_view;
@@ -55,7 +55,7 @@ fn reports_full(content: &Content) -> Result<(), Stop>
     ensures { Passes result (spec.reports_full (state_of content.now)) }
 {
     let held = content.reports.len();
-    refused_if(held >= 200_000, Refusal::ReportsFull { held: held as u64 })
+    refused_if(held >= HELD_LIMIT, Refusal::ReportsFull { held: held as u64 })
 }
 
 fn admit_new(content: &Content, received: Received) -> Result<Decision, Stop>

@@ -22,7 +22,7 @@ pub(crate) fn view_board(alloc: Global, content: &Content) -> Result<Decision, S
     Ok(Decision::Show(Reply::Seen(text)))
 }
 
-/// The open alerts.
+/// The alerts of all releases.
 pub(crate) fn view_alerts(alloc: Global, content: &Content) -> Result<Decision, Stop>
     requires sound { Sound (state_of content.now) }
     requires kept { InBounds (state_of content.now) }

@@ -14,7 +14,7 @@ use desk_io::{Copied, OutOfMemory, Text};
 use desk_time::Minute;
 use machine::{Content, Decision, Effect};
 use plan::{Phase, Release, Revision, Signature};
-use release_text::{newer, written_text};
+use release_text::{newer, revision_digest};
 use rules::Steps;
 use std::alloc::Global;
 use std::sync::ledger::Ledger;
@@ -63,7 +63,7 @@ fn mistaken_text(alloc: Global, revision: &Revision, digest: &[u8; 32]) -> Resul
     requires { IsPlan revision.now.plan }
     ensures { Passes result (spec.mistaken_text revision.now digest.now) }
 {
-    let current = written_text(alloc, revision)?.digest;
+    let current = revision_digest(alloc, revision)?;
     refused_if(
         current.as_slice() != digest.as_slice(),
         Refusal::WrongText { digest: current },

@@ -135,6 +135,23 @@ pub const ALERTED: &[u8] = br#"1 DK101 N801DK FLYING 1 rev 1 pending 0 D1 ALERT 
 1 DK101 N801DK FLYING 1 rev 1 pending 0 D1 ALERT v1 ack 121.625/1/1
 "#;
 
+/// Of a release that was released again at its stop.
+pub const STOPPED_AGAIN: &[u8] = br#"1 DK101 N801DK STOPPED 2 2025-03-12T19:00Z AGAIN rev 2 pending 0 D1 -
+{"refused":13,"stage":0,"why":"NotPending"}
+{"refused":13,"stage":0,"why":"NotPending"}
+{"refused":13,"stage":0,"why":"NotPending"}
+{"done":{"release":1,"revision":3}}
+1 DK101 N801DK STOPPED 2 2025-03-12T19:00Z AGAIN rev 2 pending 3 D1 -
+{"done":{"release":1}}
+1 DK101 N801DK CANCELLED 2025-03-12T19:00Z rev 2 pending 0 D1 -
+{"phase":"STOPPED 2 2025-03-12T19:00Z AGAIN","refused":18,"why":"WrongPhase"}
+{"done":{"release":1}}
+1 DK101 N801DK FLYING 2 rev 2 pending 0 D1 -
+{"phase":"STOPPED 2 2025-03-12T19:00Z AGAIN","refused":18,"why":"WrongPhase"}
+{"phase":"STOPPED 2 2025-03-12T19:00Z AGAIN","refused":18,"why":"WrongPhase"}
+{"refused":20,"why":"NoSuchAlert"}
+"#;
+
 /// Of a release at its stop.
 pub const STOPPED: &[u8] = br#"1 DK101 N801DK STOPPED 2 2025-03-12T19:00Z rev 1 pending 0 D1 -
 {"refused":13,"stage":0,"why":"NotPending"}

@@ -45,30 +45,22 @@ pub const READY_SIGNATURES: &[u8] =
 {"actor":"C7","ask":{"digest":"904f78cd7e9843794557240ab16f073620459c990b2173dbd7fb7d3649f01226","do":"concur","release":1,"revision":2},"at":"2025-03-12T17:00Z","key":"kC7","number":30}
 "#;
 
-/// The release is amended by its own plan in flight, and signed by the dispatcher.
-pub const AMENDED_FLYING: &[u8] =
+/// The release is amended by its own plan in flight or at its stop, and signed by the dispatcher.
+pub const AMENDED_ON_THE_WAY: &[u8] =
     br#"{"actor":"D1","ask":{"do":"amend","plan":{"captain":"C7","flight":"DK101","kind":"domestic","legs":[{"alternates":[{"fuel":3000,"minutes":35,"station":"KPHL"}],"burn":12000,"eta":"2025-03-12T19:00Z","etd":"2025-03-12T18:00Z","extra":0,"from":"KBOS","minimum":19500,"minutes":55,"onboard":20000,"takeoff_alternate":null,"to":"KJFK"},{"alternates":[{"fuel":3000,"minutes":45,"station":"KBOS"}],"burn":5000,"eta":"2025-03-12T20:40Z","etd":"2025-03-12T19:50Z","extra":0,"from":"KJFK","minimum":12500,"minutes":45,"onboard":13000,"takeoff_alternate":null,"to":"KPHL"}],"tail":"N801DK"},"release":1},"at":"2025-03-12T17:00Z","key":"kD1","number":20}
 {"actor":"D1","ask":{"do":"prepare","release":1},"at":"2025-03-12T17:00Z","key":"kD1","number":21}
 {"actor":"D1","ask":{"digest":"83ea921e570168df8cd13012ec67652702377eb2e4f3296896a757f90c08049e","do":"sign","release":1,"revision":2},"at":"2025-03-12T17:00Z","key":"kD1","number":22}
 "#;
 
 /// The signatures on that revision.
-pub const FLYING_SIGNATURES: &[u8] =
+pub const ON_THE_WAY_SIGNATURES: &[u8] =
     br#"{"actor":"D1","ask":{"digest":"83ea921e570168df8cd13012ec67652702377eb2e4f3296896a757f90c08049e","do":"sign","release":1,"revision":2},"at":"2025-03-12T17:00Z","key":"kD1","number":30}
 {"actor":"C7","ask":{"digest":"83ea921e570168df8cd13012ec67652702377eb2e4f3296896a757f90c08049e","do":"concur","release":1,"revision":2},"at":"2025-03-12T17:00Z","key":"kC7","number":30}
 "#;
 
-/// The release is amended by its own plan at its stop, and signed by the dispatcher.
-pub const AMENDED_STOPPED: &[u8] =
-    br#"{"actor":"D1","ask":{"do":"amend","plan":{"captain":"C7","flight":"DK101","kind":"domestic","legs":[{"alternates":[{"fuel":3000,"minutes":35,"station":"KPHL"}],"burn":12000,"eta":"2025-03-12T19:00Z","etd":"2025-03-12T18:00Z","extra":0,"from":"KBOS","minimum":19500,"minutes":55,"onboard":20000,"takeoff_alternate":null,"to":"KJFK"},{"alternates":[{"fuel":3000,"minutes":45,"station":"KBOS"}],"burn":5000,"eta":"2025-03-12T20:40Z","etd":"2025-03-12T19:50Z","extra":0,"from":"KJFK","minimum":12500,"minutes":45,"onboard":13000,"takeoff_alternate":null,"to":"KPHL"}],"tail":"N801DK"},"release":1},"at":"2025-03-12T17:00Z","key":"kD1","number":20}
-{"actor":"D1","ask":{"do":"prepare","release":1},"at":"2025-03-12T17:00Z","key":"kD1","number":21}
-{"actor":"D1","ask":{"digest":"83ea921e570168df8cd13012ec67652702377eb2e4f3296896a757f90c08049e","do":"sign","release":1,"revision":2},"at":"2025-03-12T17:00Z","key":"kD1","number":22}
-"#;
-
-/// The signatures on that revision.
-pub const STOPPED_SIGNATURES: &[u8] =
-    br#"{"actor":"D1","ask":{"digest":"83ea921e570168df8cd13012ec67652702377eb2e4f3296896a757f90c08049e","do":"sign","release":1,"revision":2},"at":"2025-03-12T17:00Z","key":"kD1","number":30}
-{"actor":"C7","ask":{"digest":"83ea921e570168df8cd13012ec67652702377eb2e4f3296896a757f90c08049e","do":"concur","release":1,"revision":2},"at":"2025-03-12T17:00Z","key":"kC7","number":30}
+/// The captain concurs with that revision.
+pub const CONCURS: &[u8] =
+    br#"{"actor":"C7","ask":{"digest":"83ea921e570168df8cd13012ec67652702377eb2e4f3296896a757f90c08049e","do":"concur","release":1,"revision":2},"at":"2025-03-12T17:00Z","key":"kC7","number":23}
 "#;
 
 /// The release is cancelled.

@@ -1,10 +1,10 @@
 use crate::answers::{
     ALERTED, CANCELLED, CANCELLED_DRAFT, COMPLETED, DISPATCHED, DRAFTED, FLYING, FLYING_AMENDED,
-    FLYING_ON, PREPARED, READY, READY_AGAIN, STOPPED, STOPPED_AMENDED,
+    FLYING_ON, PREPARED, READY, READY_AGAIN, STOPPED, STOPPED_AGAIN, STOPPED_AMENDED,
 };
 use crate::lives::{
-    AMENDED_FLYING, AMENDED_READY, AMENDED_STOPPED, ASKS, CANCELS, FIRST_SIGNATURES,
-    FLYING_SIGNATURES, LIFE, READY_SIGNATURES, STOPPED_SIGNATURES, WORSENS,
+    AMENDED_ON_THE_WAY, AMENDED_READY, ASKS, CANCELS, CONCURS, FIRST_SIGNATURES, LIFE,
+    ON_THE_WAY_SIGNATURES, READY_SIGNATURES, WORSENS,
 };
 use crate::scripts::said_to;
 use desk_io::{LineFeeds, OutOfMemory, Run, push_all, runs_between};
@@ -22,13 +22,18 @@ fn push_line(out: &mut Vec<u8>, line: &[u8]) -> Result<(), OutOfMemory> {
     push_all(out, &[line, b"\n"])
 }
 
-// The first lines of the release's life, and then others.
-fn life(alloc: Global, count: usize, more: &[u8]) -> Result<Vec<u8>, OutOfMemory> {
+// The first lines of the release's life, then some, and then others.
+fn life(
+    alloc: Global,
+    count: usize,
+    more: &[u8],
+    then: &[u8],
+) -> Result<Vec<u8>, OutOfMemory> {
     let mut life = Vec::new(alloc);
     for line in runs_between::<LineFeeds>(alloc, LIFE)?.iter().take(count) {
         push_line(&mut life, line.bytes())?;
     }
-    push_all(&mut life, &[more])?;
+    push_all(&mut life, &[more, then])?;
     Ok(life)
 }
 
@@ -76,11 +81,11 @@ fn answers(alloc: Global, life: &[u8], asks: &[u8]) -> Result<Vec<u8>, OutOfMemo
 fn are_answered(
     alloc: Global,
     count: usize,
-    more: &[u8],
+    life_then: (&[u8], &[u8]),
     signatures: &[u8],
     wanted: &[u8],
 ) -> Result<bool, OutOfMemory> {
-    let life = life(alloc, count, more)?;
+    let life = life(alloc, count, life_then.0, life_then.1)?;
     let mut asks = Vec::new(alloc);
     push_all(&mut asks, &[signatures, ASKS])?;
     Ok(answers(alloc, &life, &asks)?.as_slice() == wanted)
@@ -89,42 +94,27 @@ fn are_answered(
 #[test]
 fn each_ask_is_answered_in_each_phase(rt: HostRuntime) -> Result<(), Fail> {
     let first = FIRST_SIGNATURES;
-    for (point, count, more, signatures, wanted) in [
-        ("drafted", 4, b"".as_slice(), first, DRAFTED),
-        ("prepared", 5, b"", first, PREPARED),
-        ("dispatched", 6, b"", first, DISPATCHED),
-        ("ready", 7, b"", first, READY),
-        (
-            "ready again",
-            7,
-            AMENDED_READY,
-            READY_SIGNATURES,
-            READY_AGAIN,
-        ),
-        ("flying", 8, b"", first, FLYING),
-        (
-            "flying, amended",
-            8,
-            AMENDED_FLYING,
-            FLYING_SIGNATURES,
-            FLYING_AMENDED,
-        ),
-        ("flying, alerted", 8, WORSENS, first, ALERTED),
-        ("stopped", 9, b"", first, STOPPED),
-        (
-            "stopped, amended",
-            9,
-            AMENDED_STOPPED,
-            STOPPED_SIGNATURES,
-            STOPPED_AMENDED,
-        ),
-        ("flying on", 10, b"", first, FLYING_ON),
-        ("completed", 11, b"", first, COMPLETED),
-        ("cancelled draft", 4, CANCELS, first, CANCELLED_DRAFT),
-        ("cancelled", 7, CANCELS, first, CANCELLED),
+    let amended = AMENDED_ON_THE_WAY;
+    let second = ON_THE_WAY_SIGNATURES;
+    for (point, count, more, then, signatures, wanted) in [
+        ("drafted", 4, b"".as_slice(), b"".as_slice(), first, DRAFTED),
+        ("prepared", 5, b"", b"", first, PREPARED),
+        ("dispatched", 6, b"", b"", first, DISPATCHED),
+        ("ready", 7, b"", b"", first, READY),
+        ("ready again", 7, AMENDED_READY, b"", READY_SIGNATURES, READY_AGAIN),
+        ("flying", 8, b"", b"", first, FLYING),
+        ("flying, amended", 8, amended, b"", second, FLYING_AMENDED),
+        ("flying, alerted", 8, WORSENS, b"", first, ALERTED),
+        ("stopped", 9, b"", b"", first, STOPPED),
+        ("stopped, amended", 9, amended, b"", second, STOPPED_AMENDED),
+        ("stopped, released again", 9, amended, CONCURS, second, STOPPED_AGAIN),
+        ("flying on", 10, b"", b"", first, FLYING_ON),
+        ("completed", 11, b"", b"", first, COMPLETED),
+        ("cancelled draft", 4, CANCELS, b"", first, CANCELLED_DRAFT),
+        ("cancelled", 7, CANCELS, b"", first, CANCELLED),
     ] {
         assert!(rt;
-            are_answered(rt.alloc(), count, more, signatures, wanted)?,
+            are_answered(rt.alloc(), count, (more, then), signatures, wanted)?,
             "{point}"
         );
     }

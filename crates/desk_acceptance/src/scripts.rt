@@ -162,3 +162,69 @@ fn tables_come_before_the_script(rt: HostRuntime) -> Result<(), Fail> {
     }
     Ok(())
 }
+
+// The status and the text of a run of an empty script where calls of the shelf and of the sink fail, by their numbers.
+fn is_said_at_faults(
+    alloc: Global,
+    reads: &[u64],
+    writes: &[u64],
+    status: u8,
+    text: &[u8],
+) -> Result<bool, OutOfMemory> {
+    let words = words(alloc, "run script")?;
+    let mut sources = Vec::new(alloc);
+    sources.push((Text::of(alloc, b"script")?, Text::of(alloc, b"")?))?;
+    push_small(alloc, &mut sources)?;
+    let mut shelf = MemoryShelf::new(sources, Vec::from_slice(alloc, reads)?);
+    let mut sink = MemorySink::new(alloc, Vec::from_slice(alloc, writes)?);
+    let ended = desk_main(alloc, &words, &mut shelf, &mut sink);
+    Ok(ended == status && sink.written() == text)
+}
+
+// Each table takes two reads, of which the second finds its end.
+#[test]
+fn a_fault_of_the_outside_ends_a_run(rt: HostRuntime) -> Result<(), Fail> {
+    for (reads, writes, status, text) in [
+        (
+            [0].as_slice(),
+            [].as_slice(),
+            3,
+            b"error 3 ReadFault settings.csv\n".as_slice(),
+        ),
+        (&[3], &[], 3, b"error 3 ReadFault airports.csv\n"),
+        (&[24], &[], 3, b"error 3 ReadFault script\n"),
+        (&[25], &[], 0, b"BOARD 2000-01-01T00:00Z\nEND\n"),
+        (&[], &[0], 4, b""),
+        (&[24], &[0], 4, b""),
+        (&[], &[1], 0, b"BOARD 2000-01-01T00:00Z\nEND\n"),
+    ] {
+        assert!(rt; is_said_at_faults(rt.alloc(), reads, writes, status, text)?);
+    }
+    Ok(())
+}
+
+// What is said to a script of so many line feeds.
+fn is_said_to_feeds(
+    alloc: Global,
+    count: usize,
+    status: u8,
+    text: &[u8],
+) -> Result<bool, OutOfMemory> {
+    let script = vec![in alloc; b'\n'; count]?;
+    is_said(alloc, "run script", &script, status, text)
+}
+
+#[test]
+fn a_source_has_at_most_64_mebibytes(rt: HostRuntime) -> Result<(), Fail> {
+    for (count, status, text) in [
+        (
+            67_108_864,
+            0,
+            b"BOARD 2000-01-01T00:00Z\nEND\n".as_slice(),
+        ),
+        (67_108_865, 10, b"error 10 InputTooLong script\n"),
+    ] {
+        assert!(rt; is_said_to_feeds(rt.alloc(), count, status, text)?);
+    }
+    Ok(())
+}

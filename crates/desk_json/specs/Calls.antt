@@ -94,7 +94,7 @@ acknowledge_of d =
 abbrev pub board_of : Data → Option Ask
 board_of d = if has_members 1 d then Some ViewBoard else None
 
--- to see the open alerts
+-- to see the alerts of all releases
 abbrev pub alerts_of : Data → Option Ask
 alerts_of d = if has_members 1 d then Some ViewAlerts else None
 

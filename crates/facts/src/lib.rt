@@ -12,6 +12,6 @@ mod sorted;
 pub use latest::Kind;
 pub use lines::{push_line, push_weather, push_weather_at};
 pub use reader::{read_groups, read_report, receive};
-pub use report::{Read, Received, Report};
+pub use report::{HELD_LIMIT, Read, Received, Report};
 pub use reports::Reports;
 pub use sorted::Sorted;

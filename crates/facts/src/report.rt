@@ -9,6 +9,9 @@ use metar::Metar;
 use std::alloc::Global;
 use taf::Taf;
 
+/// The most reports that may be held.
+pub const HELD_LIMIT: usize = 200_000;
+
 /// What a report says.
 #[derive(Debug, Drop)]
 pub enum Read {
@@ -18,10 +21,11 @@ pub enum Read {
     Taf(Taf),
 }
 
-/// The canonical text of a report that was received, and what it says.
+/// A report that was received, before it has a number: its canonical text, and what it says by its
+/// moment of receipt.
 #[derive(Debug, Drop)]
 pub struct Received {
-    /// Its groups, joined by one blank.
+    /// Its groups, joined by one blank, with `=` behind them where the last ends in `=`.
     pub text: Text,
     /// What it says.
     pub read: Read,

@@ -14,16 +14,28 @@ use ops_tables::Tables;
 use plan::Release;
 use std::alloc::Global;
 
+/// The most entries that a history may have.
+pub const ENTRY_LIMIT: usize = 400_000;
+
+/// How many events there may be before no further one may come.
+pub const EVENT_LIMIT: u64 = 999_999_999_999_000;
+
 /// The state in code: what the desk holds.
 #[derive(Drop)]
 pub struct Content {
     pub tables: Tables,
+    /// The greatest moment so far.
     pub moment: Minute,
     pub counters: Counters,
+    /// In order of admission.
     pub reports: Reports,
+    /// Those that are open, in order of their ids.
     pub deferrals: Deferrals,
+    /// In order of their ids.
     pub releases: Vec<Release>,
+    /// In order of their releases.
     pub alerts: Vec<Alert>,
+    /// The history.
     pub entries: Vec<Entry>,
 }
 
@@ -54,7 +66,7 @@ impl Content {
     pub fn is_full(&self) -> bool
         ensures { result ≡ is_full (state_of self.now) }
     {
-        self.entries.len() >= 400_000 || self.counters.events >= 999_999_999_999_000
+        self.entries.len() >= ENTRY_LIMIT || self.counters.events >= EVENT_LIMIT
     }
 
     /// The release of an id.

@@ -10,6 +10,6 @@ mod written;
 
 pub use attached::attach;
 pub use digest::{digest_of, digits_of};
-pub use revision::{Written, written_text};
+pub use revision::{Written, revision_digest, written_text};
 pub use unattached::newer;
 pub use written::text_of;

@@ -1,6 +1,6 @@
-ghost use Rattle.std.specs.Prelude.{IfOk};
+ghost use Rattle.std.specs.Prelude.{◌≡◌, IfOk};
 ghost use Rattle.plan.specs.Check.{IsPlan};
-ghost use Rattle.release_text.specs.Revisions.{IsWritten};
+ghost use Rattle.release_text.specs.Revisions.{IsWritten, revision_digest};
 
 use crate::digest::digest_of;
 use crate::written::text_of;
@@ -26,4 +26,12 @@ pub fn written_text(alloc: Global, revision: &Revision) -> Result<Written, OutOf
     let text = text_of(alloc, &revision.plan, revision.number, &revision.attached)?;
     let digest = digest_of(text.bytes());
     Ok(Written { text, digest })
+}
+
+/// The SHA-256 of the text of a revision.
+pub fn revision_digest(alloc: Global, revision: &Revision) -> Result<[u8; 32], OutOfMemory>
+    requires { IsPlan revision.now.plan }
+    ensures { IfOk result (λ d. d ≡ revision_digest revision.now) }
+{
+    Ok(written_text(alloc, revision)?.digest)
 }

@@ -1,6 +1,5 @@
 ghost use Rattle.std.specs.Prelude.{◌≡◌, ◌≤◌, ◌++◌, length};
 ghost use Rattle.std.specs.Option.{option_copied};
-ghost use Rattle.codes.specs.Cond as cond;
 ghost use Rattle.plan.specs.Check.{IsPlan};
 ghost use Rattle.release_text.specs.Concerned.{
   takeoff_station,
@@ -13,21 +12,11 @@ ghost use Rattle.release_text.specs.Concerned.{
 ghost use Rattle.release_text.specs.Weather as spec;
 ghost use Rattle.release_text.specs.Laws.{IsNoneNewer};
 
-use codes::Station;
+use codes::{Station, least_of};
 use facts::{Report, Reports};
 use plan::{
     Alternate, Attached, AttachedList, Leg, Phase, Plan, Standing, TakeoffAlternate, standing_of,
 };
-
-fn lesser(a: Option<u64>, b: Option<u64>) -> Option<u64>
-    ensures { result ≡ cond.lesser a b }
-{
-    match (a, b) {
-        (None, b) => b,
-        (Some(a), None) => Some(a),
-        (Some(a), Some(b)) => Some(a.min(b)),
-    }
-}
 
 fn is_attached(attached: &[Attached], id: u64) -> bool
     ensures { result ≡ spec.is_attached attached.now id }
@@ -54,7 +43,7 @@ fn new_id(attached: &[Attached], report: Option<&Report>) -> Option<u64>
 fn newer_at(reports: &Reports, attached: &[Attached], station: Station) -> Option<u64>
     ensures { result ≡ spec.least_new attached.now (spec.latest_at reports.now.reports station) }
 {
-    lesser(
+    least_of(
         new_id(attached, reports.latest_metar(station)),
         new_id(attached, reports.latest_taf(station)),
     )
@@ -76,7 +65,7 @@ fn newer_at_takeoff(
 fn newer_at_departure(reports: &Reports, attached: &[Attached], leg: &Leg) -> Option<u64>
     ensures { result ≡ spec.newer_of reports.now.reports attached.now (departure_stations leg.now) }
 {
-    lesser(
+    least_of(
         newer_at(reports, attached, leg.from),
         newer_at_takeoff(reports, attached, leg.takeoff_alternate),
     )
@@ -92,7 +81,7 @@ fn newer_at_alternates(
 {
     let mut least = None;
     for alternate in alternates {
-        least = lesser(least, newer_at(reports, attached, alternate.station));
+        least = least_of(least, newer_at(reports, attached, alternate.station));
     }
     least
 }
@@ -100,7 +89,7 @@ fn newer_at_alternates(
 fn newer_at_arrival(reports: &Reports, attached: &[Attached], leg: &Leg) -> Option<u64>
     ensures { result ≡ spec.newer_of reports.now.reports attached.now (arrival_stations leg.now) }
 {
-    lesser(
+    least_of(
         newer_at(reports, attached, leg.to),
         newer_at_alternates(reports, attached, leg.alternates.as_slice()),
     )
@@ -110,7 +99,7 @@ fn newer_at_arrival(reports: &Reports, attached: &[Attached], leg: &Leg) -> Opti
 fn newer_at_both(reports: &Reports, attached: &[Attached], leg: &Leg) -> Option<u64>
     ensures { result ≡ spec.newer_of reports.now.reports attached.now (departure_stations leg.now ++ arrival_stations leg.now) }
 {
-    lesser(
+    least_of(
         newer_at_departure(reports, attached, leg),
         newer_at_arrival(reports, attached, leg),
     )
@@ -143,7 +132,7 @@ fn newer_on_legs(
     let mut least = None;
     for (i, leg) in legs.iter().enumerate() {
         let standing = standing_of(phase, i as u32 + 1);
-        least = lesser(least, newer_on_leg(reports, attached, standing, leg));
+        least = least_of(least, newer_on_leg(reports, attached, standing, leg));
     }
     least
 }

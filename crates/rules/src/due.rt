@@ -1,7 +1,6 @@
 ghost use Rattle.std.specs.Prelude.{◌≡◌, ◌≤◌, length, IfSome};
 ghost use Rattle.std.specs.List.{AllByRecursion};
 ghost use Rattle.std.specs.Option.{option_map};
-ghost use Rattle.codes.specs.Cond as cond;
 ghost use Rattle.plan.specs.Check.{HasMoments, IsPlan};
 ghost use Rattle.plan.specs.Texts.{IsMoment, HasMoment};
 ghost use Rattle.rules.specs.Due as spec;
@@ -10,20 +9,10 @@ ghost use Rattle.rules.specs.Sights as seen;
 ghost use Rattle.rules.specs.Sights.{last_of};
 
 use crate::time::{Limit, Times};
+use codes::least_of;
 use desk_time::Minute;
 use ops_tables::Tables;
 use plan::{Leg, Phase, Plan};
-
-// The lesser of two moments, where both are there.
-fn lesser(a: Option<Minute>, b: Option<Minute>) -> Option<Minute>
-    ensures { result ≡ cond.lesser a b }
-{
-    match (a, b) {
-        (Some(x), Some(y)) => Some(x.min(y)),
-        (Some(x), None) => Some(x),
-        (None, b) => b,
-    }
-}
 
 // The first minute past a limit, where it lies after a moment.
 fn due_after(moment: Minute, limit: Option<Limit>) -> Option<Minute>
@@ -48,7 +37,7 @@ fn due_of(times: &Times, number: u32, leg: &Leg) -> Option<Minute>
     let flag_stop = due_after(times.moment, times.flag_stop(number));
     let departure = due_after(times.moment, times.departure(number, leg));
     let arrival = due_after(times.moment, times.arrival(number, leg));
-    lesser(domestic_stop, lesser(flag_stop, lesser(departure, arrival)))
+    least_of(domestic_stop, least_of(flag_stop, least_of(departure, arrival)))
 }
 
 fn first_due(times: &Times, legs: &[Leg]) -> Option<Minute>
@@ -59,7 +48,7 @@ fn first_due(times: &Times, legs: &[Leg]) -> Option<Minute>
 {
     let mut least = None;
     for (i, leg) in legs.iter().enumerate() {
-        least = lesser(least, due_of(times, i as u32 + 1, leg));
+        least = least_of(least, due_of(times, i as u32 + 1, leg));
     }
     least
 }

@@ -14,7 +14,7 @@ pub(crate) enum Change {
     During(PartKind),
     // `PROB30` or `PROB40`: a chance, whose period follows, perhaps after `TEMPO`.
     Chance,
-    // A word that begins as one of these and has none of their shapes.
+    // `FM` and a digit but not six digits, or `PROB` without 30 or 40: it begins as a change word and is none.
     Misshaped,
 }
 
