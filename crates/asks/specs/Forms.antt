@@ -1,4 +1,5 @@
 -- What holds of calls that are made and of replies that are written.
+use Rattle.std.specs.Prelude.{ℕ, ◌≤◌}
 use Rattle.plan.specs.Check.{IsPlan}
 use Rattle.plan.specs.Texts.{IsMoment, HasMoment}
 use Rattle.asks.specs.declared.call.Ask.{Ask}
@@ -6,7 +7,7 @@ use Rattle.asks.specs.declared.call.Ask.TheVariants as ask
 use Rattle.asks.specs.declared.reply.Reply.{Reply}
 use Rattle.asks.specs.declared.reply.Reply.TheVariants.{Done, Seen, Refused}
 use Rattle.asks.specs.declared.reply.Refusal.{Refusal}
-use Rattle.asks.specs.declared.reply.Refusal.TheVariants.{UnknownActor, WrongKey, NotYourRole, BadReport, DayOutOfReach, ReportsFull, UnknownTail, NoSuchDeferral, NoSuchRelease, NotYours, BadPlan, NotPending, WrongRevision, WrongText, WeatherNewer, RuleFails, WrongPhase, AlreadySigned, NoSuchAlert, AlertMoved, HistoryFull, NoSuchStation, UnknownItem, BadFound, DeferralsFull}
+use Rattle.asks.specs.declared.reply.Refusal.TheVariants.{UnknownActor, WrongKey, NotYourRole, BadReport, DayOutOfReach, ReportsFull, UnknownTail, NoSuchDeferral, NoSuchRelease, NotYours, BadPlan, NotPending, WrongRevision, WrongText, WeatherNewer, RuleFails, WrongPhase, AlreadySigned, NoSuchAlert, AlertMoved, TooYoung, ReleasesFull, HistoryFull, NoSuchStation, UnknownItem, BadFound, DeferralsFull}
 
 -- a call whose plan has at most 1,000 legs, and whose moments are such as can be read
 abbrev pub IsCall : Ask → Type 0
@@ -22,11 +23,16 @@ IsCall (ask.Cancel release) = Unit {0}
 IsCall (ask.Depart release leg) = Unit {0}
 IsCall (ask.Arrive release leg) = Unit {0}
 IsCall (ask.Acknowledge release version) = Unit {0}
+IsCall (ask.Purge release) = Unit {0}
 IsCall ask.ViewBoard = Unit {0}
 IsCall ask.ViewAlerts = Unit {0}
 IsCall (ask.ViewRelease release) = Unit {0}
 IsCall (ask.ViewWeather station) = Unit {0}
 IsCall (ask.ViewDeferred tail) = Unit {0}
+
+-- a moment that has a text: until a year after the last that can be read
+abbrev pub CanBeShown : ℕ → Type 0
+CanBeShown at = (15_778_080 ≤ at) × (at ≤ 69_000_000)
 
 -- the moment that a refusal names can be shown
 abbrev pub RefusalHasMoment : Refusal → Type 0
@@ -50,6 +56,8 @@ RefusalHasMoment (WrongPhase phase) = HasMoment phase
 RefusalHasMoment AlreadySigned = Unit {0}
 RefusalHasMoment NoSuchAlert = Unit {0}
 RefusalHasMoment (AlertMoved version) = Unit {0}
+RefusalHasMoment (TooYoung until) = CanBeShown until
+RefusalHasMoment (ReleasesFull held) = Unit {0}
 RefusalHasMoment (HistoryFull entries) = Unit {0}
 RefusalHasMoment NoSuchStation = Unit {0}
 RefusalHasMoment UnknownItem = Unit {0}

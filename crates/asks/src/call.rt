@@ -73,6 +73,10 @@ pub enum Ask {
         release: u64,
         version: u64,
     },
+    /// A release that ended is removed, once three months and a day have passed (14 CFR 121.695).
+    Purge {
+        release: u64,
+    },
     /// The releases are shown.
     ViewBoard,
     /// The alerts of all releases are shown, acknowledged ones too.
@@ -158,6 +162,7 @@ impl Copied for Ask {
                 release: *release,
                 version: *version,
             },
+            Ask::Purge { release } => Ask::Purge { release: *release },
             Ask::ViewBoard => Ask::ViewBoard,
             Ask::ViewAlerts => Ask::ViewAlerts,
             Ask::ViewRelease { release } => Ask::ViewRelease { release: *release },

@@ -71,6 +71,10 @@ pub enum Refusal {
     NoSuchAlert,
     /// 21: the alert has that other version.
     AlertMoved { version: u64 },
+    /// 22: it may be done from that moment on.
+    TooYoung { until: Minute },
+    /// 23: 20,000 releases are held.
+    ReleasesFull { held: u64 },
     /// 24: the history has 400,000 entries.
     HistoryFull { entries: u64 },
     /// 25: the station isn't an airport of the tables.
@@ -127,6 +131,8 @@ impl Copied for Refusal {
             Refusal::AlreadySigned => Ok(Refusal::AlreadySigned),
             Refusal::NoSuchAlert => Ok(Refusal::NoSuchAlert),
             Refusal::AlertMoved { version } => Ok(Refusal::AlertMoved { version: *version }),
+            Refusal::TooYoung { until } => Ok(Refusal::TooYoung { until: *until }),
+            Refusal::ReleasesFull { held } => Ok(Refusal::ReleasesFull { held: *held }),
             Refusal::HistoryFull { entries } => Ok(Refusal::HistoryFull { entries: *entries }),
             Refusal::NoSuchStation => Ok(Refusal::NoSuchStation),
             Refusal::UnknownItem => Ok(Refusal::UnknownItem),

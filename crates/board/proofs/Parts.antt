@@ -52,6 +52,7 @@ may_file : (s : State) (on : OnReleases) → ReleasesFit s on → InBounds s →
 may_file s on_releases.Nothing fits kept = tt
 may_file s (on_releases.File r) fits kept = let is = fits.numbered in let one = kept.counters.release in let most = kept.counters.events in omega (arith, is, one, most)
 may_file s (on_releases.Put r) fits kept = tt
+may_file s (on_releases.Remove id) fits kept = tt
 
 -- an effect that fits may be made
 pub may_come : (s : State) (e : Effect) → EffectFits s e → AdmitsRead e → InBounds s → MayBeMade s e

@@ -33,6 +33,7 @@ abbrev pub HasPlace : Vec Release → OnReleases → Type 0
 HasPlace held on_releases.Nothing = Unit {0}
 HasPlace held (on_releases.File r) = vec_len held < vec_capacity held
 HasPlace held (on_releases.Put r) = Unit {0}
+HasPlace held (on_releases.Remove id) = Unit {0}
 
 abbrev pub HasReleaseRoom : Content → OnReleases → Type 0
 HasReleaseRoom c on = HasPlace c.releases on
@@ -70,6 +71,7 @@ abbrev pub MayFile : OnReleases → Type 0
 MayFile on_releases.Nothing = Unit {0}
 MayFile (on_releases.File r) = IsSmall r.id
 MayFile (on_releases.Put r) = Unit {0}
+MayFile (on_releases.Remove id) = Unit {0}
 
 -- an effect that may be made
 pub record MayBeMade (s : State) (e : Effect) : Type 0 where

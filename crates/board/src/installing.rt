@@ -12,7 +12,7 @@ use crate::held_alerts::put_changes;
 use crate::prepared::Event;
 use deferrals::Deferrals;
 use facts::{Report, Reports};
-use machine::{Content, Effect, Entry, OnDeferrals, OnReleases, What, place_of};
+use machine::{Content, Effect, Entry, OnDeferrals, OnReleases, What, place_of, place_of_id};
 use plan::Release;
 
 // Puts a release in the place of the first of its id.
@@ -22,6 +22,15 @@ fn put_release(releases: &mut Vec<Release>, release: Release)
 {
     if let Some(i) = place_of(releases.as_slice(), &release) {
         releases[i] = release;
+    }
+}
+
+// Takes out the first release of an id.
+fn remove_release(releases: &mut Vec<Release>, id: u64)
+    ensures { releases.new.items ≡ events.without_release id releases.old.items }
+{
+    if let Some(i) = place_of_id(releases.as_slice(), id) {
+        let _ = releases.remove(i);
     }
 }
 
@@ -68,6 +77,7 @@ fn change_releases(releases: &mut Vec<Release>, next: &mut u64, on: OnReleases)
             releases.push_reserved(release);
         }
         OnReleases::Put(release) => put_release(releases, release),
+        OnReleases::Remove { release } => remove_release(releases, release),
     }
 }
 

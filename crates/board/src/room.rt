@@ -45,7 +45,7 @@ fn reserve_release(content: &mut Content, on: &OnReleases) -> Result<(), OutOfMe
 {
     match on {
         OnReleases::File(_) => Ok(content.releases.reserve(1)?),
-        OnReleases::Nothing | OnReleases::Put(_) => Ok(()),
+        OnReleases::Nothing | OnReleases::Put(_) | OnReleases::Remove { .. } => Ok(()),
     }
 }
 

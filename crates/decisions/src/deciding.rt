@@ -14,6 +14,7 @@ use crate::equipment::{clear, defer, view_deferred};
 use crate::flights::{arrive, depart};
 use crate::people::not_his_role;
 use crate::reports::{admit, view_weather};
+use crate::retention::purge;
 use crate::shown::{view_alerts, view_board, view_release};
 use crate::signatures::{concur, sign};
 use asks::{Ask, Call};
@@ -58,6 +59,7 @@ fn decide_ask<L: Ledger>(
         Ask::Acknowledge { release, version } => {
             acknowledge(alloc, content, actor, *release, *version)
         }
+        Ask::Purge { release } => purge(content, *release),
         Ask::ViewBoard => view_board(alloc, content),
         Ask::ViewAlerts => view_alerts(alloc, content),
         Ask::ViewRelease { release } => view_release(alloc, content, *release),

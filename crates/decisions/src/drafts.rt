@@ -9,11 +9,11 @@ ghost use Rattle.decisions.specs.Answers.{Answers, Passes};
 ghost use Rattle.decisions.specs.Newest.{IsNewest, HasNewest};
 ghost use Rattle.decisions.specs.Reads.{DecisionAdmitsRead};
 
-use crate::chain::Stop;
+use crate::chain::{Stop, refused_if};
 use crate::releases::{held, in_phase, not_yours, out_of_phase, pending, with_pending};
 use asks::{Done, Refusal, Reply};
 use desk_io::{Copied, Listed, OutOfMemory, Text};
-use machine::{Content, Decision, Effect};
+use machine::{Content, Decision, Effect, RELEASE_LIMIT};
 use ops_tables::Tables;
 use plan::{BadPlan, Phase, Plan, Release, Revision, check_change, check_plan};
 use release_text::{attach, revision_digest};
@@ -129,6 +129,13 @@ fn with_weather(
     })
 }
 
+fn releases_full(content: &Content) -> Result<(), Stop>
+    ensures { Passes result (spec.releases_full (state_of content.now)) }
+{
+    let held = content.releases.len();
+    refused_if(held >= RELEASE_LIMIT, Refusal::ReleasesFull { held: held as u64 })
+}
+
 /// A release is drafted.
 pub(crate) fn draft(
     alloc: Global,
@@ -141,6 +148,7 @@ pub(crate) fn draft(
     ensures read { IfOk result DecisionAdmitsRead }
 {
     bad_plan(plan, &content.tables)?;
+    releases_full(content)?;
     let id = content.counters.next_release;
     let release = drafted(alloc, id, actor, plan)?;
     Ok(Decision::Do(

@@ -10,6 +10,7 @@ mod flights;
 mod people;
 mod releases;
 mod reports;
+mod retention;
 mod rulings;
 mod shown;
 mod signatures;

@@ -45,6 +45,15 @@ fn is_maintenance(role: Role) -> bool
     }
 }
 
+fn is_records(role: Role) -> bool
+    ensures { result ≡ spec.is_records role }
+{
+    match role {
+        Role::S => true,
+        Role::D | Role::C | Role::F | Role::M => false,
+    }
+}
+
 // Whether an ask is for a role.
 fn may_ask(ask: &Ask, role: Role) -> bool
     ensures { result ≡ spec.may_ask ask.now role }
@@ -60,6 +69,7 @@ fn may_ask(ask: &Ask, role: Role) -> bool
         | Ask::Acknowledge { .. } => is_dispatcher(role),
         Ask::Concur { .. } => is_captain(role),
         Ask::Depart { .. } | Ask::Arrive { .. } => is_dispatcher(role) || is_captain(role),
+        Ask::Purge { .. } => is_records(role),
         Ask::ViewBoard
         | Ask::ViewAlerts
         | Ask::ViewRelease { .. }

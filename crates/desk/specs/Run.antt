@@ -9,7 +9,7 @@ use Rattle.desk_json.specs.Replies.{reply_text}
 use Rattle.machine.specs.declared.lanes.Item.{Item}
 use Rattle.machine.specs.declared.lanes.Item.TheVariants as item
 use Rattle.machine.specs.declared.lanes.Outcome.{Outcome}
-use Rattle.machine.specs.State.{start}
+use Rattle.machine.specs.State.{State, start}
 use Rattle.machine.specs.Lanes.{outcomes, after_items}
 use Rattle.machine.specs.Texts.{closing}
 
@@ -40,6 +40,10 @@ abbrev pub texts_of : List Outcome → List ℕ
 texts_of [] = []
 texts_of (o ∷ rest) = outcome_text o ++ texts_of rest
 
--- the text of a run of a script over the tables; its lines are the items of lane 1
-unfoldable pub run_text : TableRows → List ℕ → List ℕ
-run_text tables bytes = texts_of (outcomes 1 (start tables) (items_of (lines_of bytes))) ++ closing (after_items 1 (start tables) (items_of (lines_of bytes)))
+-- the text of a run of a script from a state; its lines are the items of lane 1
+unfoldable pub run_from : State → List ℕ → List ℕ
+run_from s bytes = texts_of (outcomes 1 s (items_of (lines_of bytes))) ++ closing (after_items 1 s (items_of (lines_of bytes)))
+
+-- the text of a run of a script over the tables, where nothing is held yet
+abbrev pub run_text : TableRows → List ℕ → List ℕ
+run_text tables bytes = run_from (start tables) bytes

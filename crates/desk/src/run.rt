@@ -2,11 +2,10 @@ ghost use Rattle.std.specs.Prelude.{◌≡◌, ◌<◌, ◌≤◌, ◌++◌, IfO
 ghost use Rattle.std.specs.List.{AllByRecursion};
 ghost use Rattle.asks.specs.Forms.{IsCall, ReplyHasMoment};
 ghost use Rattle.desk_json.specs.Calls.{line_of};
-ghost use Rattle.machine.specs.State.{start};
 ghost use Rattle.machine.specs.Lanes as lanes;
 ghost use Rattle.machine.specs.Texts.{closing};
 ghost use Rattle.desk.specs.Run as spec;
-ghost use Rattle.desk.specs.Run.{items_of, texts_of, run_text};
+ghost use Rattle.desk.specs.Run.{items_of, texts_of, run_from, run_text};
 ghost use Rattle.desk.specs.Shown.{IsItem, IsShown};
 
 use asks::{Call, Reply};
@@ -129,6 +128,22 @@ fn read_item(alloc: Global, line: &[u8]) -> Result<Item, OutOfMemory>
     Ok(item_of(read_line(alloc, line)?))
 }
 
+// What comes of a line of a script.
+fn answer_line<L: Ledger>(
+    alloc: Global,
+    board: &mut Board,
+    lane: u32,
+    line: &[u8],
+    steps: &mut Steps<L>,
+) -> Result<Outcome, OutOfMemory>
+    ensures outcome { IfOk result (λ o. o ≡ (lanes.answer_item lane board.old.state (spec.item_of (line_of line.now))).outcome) }
+    ensures state { OnOk result (board.new.state ≡ (lanes.answer_item lane board.old.state (spec.item_of (line_of line.now))).state) }
+    ensures shown { IfOk result IsShown }
+{
+    let item = read_item(alloc, line)?;
+    answer_item(alloc, board, lane, &item, steps)
+}
+
 /// What comes of the lines of a script.
 pub(crate) fn outcomes_of<L: Ledger>(
     alloc: Global,
@@ -142,8 +157,7 @@ pub(crate) fn outcomes_of<L: Ledger>(
 {
     let mut outcomes = Vec::new(alloc);
     for line in lines {
-        let item = read_item(alloc, line.bytes())?;
-        outcomes.push(answer_item(alloc, board, LANE, &item, steps)?)?;
+        outcomes.push(answer_line(alloc, board, LANE, line.bytes(), steps)?)?;
     }
     Ok(outcomes)
 }
@@ -186,7 +200,31 @@ fn push_closing(alloc: Global, board: &Board, out: &mut Vec<u8>) -> Result<(), O
     Ok(())
 }
 
-#[tactic(auto, unfolding(crate::specs::Run::run_text))]
+fn text_of(alloc: Global, board: &Board, outcomes: &[Outcome]) -> Result<Vec<u8>, OutOfMemory>
+    requires { AllByRecursion IsShown outcomes.now }
+    ensures { IfOk result (λ v. v.items ≡ texts_of outcomes.now ++ closing board.now.state) }
+{
+    let mut out = Vec::new(alloc);
+    push_outcomes(alloc, &mut out, outcomes)?;
+    push_closing(alloc, board, &mut out)?;
+    Ok(out)
+}
+
+// The text of a run that goes on from what a board holds.
+#[tactic(auto, unfolding(crate::specs::Run::run_from))]
+fn text_from<L: Ledger>(
+    alloc: Global,
+    board: &mut Board,
+    script: &[u8],
+    steps: &mut Steps<L>,
+) -> Result<Vec<u8>, OutOfMemory>
+    ensures { IfOk result (λ v. v.items ≡ run_from board.old.state script.now) }
+{
+    let lines = runs_between::<LineFeeds>(alloc, script)?;
+    let outcomes = outcomes_of(alloc, board, &lines, steps)?;
+    text_of(alloc, board, &outcomes)
+}
+
 fn text_with<L: Ledger>(
     alloc: Global,
     tables: Tables,
@@ -200,12 +238,7 @@ fn text_with<L: Ledger>(
 {
     let mut steps = Steps::<L>::new(blank);
     let mut board = Board::new(alloc, tables);
-    let lines = runs_between::<LineFeeds>(alloc, script)?;
-    let outcomes = outcomes_of(alloc, &mut board, &lines, &mut steps)?;
-    let mut out = Vec::new(alloc);
-    push_outcomes(alloc, &mut out, &outcomes)?;
-    push_closing(alloc, &board, &mut out)?;
-    Ok(out)
+    text_from(alloc, &mut board, script, &mut steps)
 }
 
 /// The text of a run of a script over the tables: a reply for each line that has a byte, and the closing text.

@@ -16,7 +16,9 @@ use deferrals::Deferral;
 use desk_io::{Copied, OutOfMemory};
 use desk_time::Minute;
 use facts::Report;
-use machine::{AlertChange, Content, Effect, OnAlerts, OnDeferrals, OnReleases, place_of};
+use machine::{
+    AlertChange, Content, Effect, OnAlerts, OnDeferrals, OnReleases, place_of, place_of_id,
+};
 use plan::{Findings, Release, is_active};
 use rules::{Evidence, Steps, judge_by};
 use std::alloc::Global;
@@ -118,6 +120,19 @@ impl<'a> Prospect<'a> {
         }
     }
 
+    fn push_rest(&self, out: &mut Vec<&'a Release>, id: u64) -> Result<(), OutOfMemory>
+        ensures { OnOk result (map (λ r. r.now) out.new.items ≡ map (λ r. r.now) out.old.items ++ events.without_release id (state_of self.now.content.now).releases) }
+    {
+        let releases = self.content.releases.as_slice();
+        match place_of_id(releases, id) {
+            None => push_releases(out, releases),
+            Some(i) => {
+                push_releases(out, &releases[..i])?;
+                push_releases(out, &releases[i + 1..])
+            }
+        }
+    }
+
     // The releases once the effect is there.
     fn releases(&self, alloc: Global) -> Result<Vec<&'a Release>, OutOfMemory>
         ensures { IfOk result (λ v. map (λ r. r.now) v.items ≡ (prospect self.now).releases) }
@@ -130,6 +145,7 @@ impl<'a> Prospect<'a> {
                 out.push(release)?;
             }
             OnReleases::Put(release) => self.push_put(&mut out, release)?,
+            OnReleases::Remove { release } => self.push_rest(&mut out, *release)?,
         }
         Ok(out)
     }

@@ -68,7 +68,7 @@ use Rattle.machine.specs.Chain.{◌>>-◌, unless, some_or, refused_if}
 use Rattle.machine.specs.People.{may_ask, mistaken, not_his_role}
 use Rattle.machine.specs.Decide as d
 use Rattle.machine.specs.Decide.{decide}
-use Rattle.machine.specs.Allowed.{MaySign, GainsDispatcher, GainsCaptain, GainsWeather, BothAre, IsPreparing, IsSigning, IsReleased, IsConcurring, HasNotEnded, IsCancelling, IsNextRevision, IsAmending, HasMore, HasNoMore, has_text, IsAcknowledged, IsLeft, FollowsIf, IsAlertAfter, IsNextLeg, IsCaptainOf, FliesAs, FliesBy, IsDeparting, IsStopping, IsCompleting, IsInVersion, IsAcknowledging, OfHeld, IsListed, IsEffectOf, admits, defers, clears, drafts, prepares, signs, concurs, amends, cancels, departs, stops, completes, acknowledges, DecisionOf, IsEntryOf, IsAfter, IsPermitted, MayLeadTo, MayTickTo}
+use Rattle.machine.specs.Allowed.{MaySign, GainsDispatcher, GainsCaptain, GainsWeather, BothAre, IsPreparing, IsSigning, IsReleased, IsConcurring, HasNotEnded, IsCancelling, IsNextRevision, IsAmending, HasMore, HasNoMore, has_text, IsAcknowledged, IsLeft, FollowsIf, IsAlertAfter, IsNextLeg, IsCaptainOf, FliesAs, FliesBy, IsDeparting, IsStopping, IsCompleting, IsInVersion, IsAcknowledging, OfHeld, IsListed, IsEffectOf, admits, defers, clears, drafts, prepares, signs, concurs, amends, cancels, departs, stops, completes, acknowledges, purges, HasEndedAt, DecisionOf, IsEntryOf, IsAfter, IsPermitted, MayLeadTo, MayTickTo}
 
 given : {A : Type 0} (s : State) (actor : List ℕ) (a : Ask) (m : Result A Refusal) (f : A → Result Decision Refusal) → ((x : A) → m ≡ Ok x → DecisionOf s actor a (f x)) → DecisionOf s actor a (m >>- f)
 given s actor a (Err x) f goes = tt
@@ -389,18 +389,20 @@ deferred s actor tail = given s actor (ask.ViewDeferred tail) (d.aircraft s tail
 draft : (s : State) (actor : List ℕ) (plan : Plan) → DecisionOf s actor (ask.Draft plan) (d.decide_draft s actor plan)
 draft s actor plan =
     known s actor (ask.Draft plan) (d.bad_plan (plan_fault s.tables plan)) _
-    (λ good. (
+    (λ good. known s actor (ask.Draft plan) (d.releases_full s) _
+    (λ few. (
       _,
       refl,
       drafts (record {
         passes = good_plan (plan_fault s.tables plan) good;
+        few = leb-false 20_000 (length s.releases) (no_more (nat_le 20_000 (length s.releases)) _ few);
         is_new = refl;
         holder = refl;
         phase = refl;
         pending = (refl, refl, refl, refl, refl, refl);
         active = refl;
       }),
-    ))
+    )))
 
 filed_as : (r n m : ℕ) → n ≡ m → Done (done.Filed r n) ≡ Done (done.Filed r m)
 filed_as r n m e = ap (λ k. Done (done.Filed r k)) e
@@ -511,6 +513,28 @@ acknowledge s actor id version =
           (acknowledging s q actor version a (some_given _ (alert_at q.id s.alerts) a f) (his q.holder actor own) (in_version a version seen)),
     )))))
 
+has_ended : (phase : Phase) (at : ℕ) → d.ended_at phase ≡ Some at → HasEndedAt phase at
+has_ended Drafted at e = absurd (cc)
+has_ended Ready at e = absurd (cc)
+has_ended (Flying leg) at e = absurd (cc)
+has_ended (Stopped next since again) at e = absurd (cc)
+has_ended (Completed since) at e = inl (let same : since ≡ at = cc in ap (λ m. Completed m) same)
+has_ended (Cancelled since) at e = inr (let same : since ≡ at = cc in ap (λ m. Cancelled m) same)
+
+purge : (s : State) (actor : List ℕ) (id : ℕ) → DecisionOf s actor (ask.Purge id) (d.decide_purge s id)
+purge s actor id =
+    let a : Ask = ask.Purge id in
+    given s actor a (d.held s id) _ (λ q e. given s actor a (d.ended q.phase) _ (λ at f. known s actor a (d.too_young s (d.kept_until at)) _
+    (λ passed. (
+      _,
+      refl,
+      purges (some_given _ (release_at id s.releases) q e) (record {
+        at = at;
+        ended = has_ended q.phase at (some_given _ (d.ended_at q.phase) at f);
+        passed = ltb-false s.moment (d.kept_until at) (no_more (nat_lt s.moment (d.kept_until at)) _ passed);
+      }),
+    ))))
+
 view_release : (s : State) (actor : List ℕ) (id : ℕ) → DecisionOf s actor (ask.ViewRelease id) (d.decide_release s id)
 view_release s actor id = given s actor (ask.ViewRelease id) (d.held s id) _ (λ r e. tt)
 
@@ -580,6 +604,7 @@ ask_is s actor (ask.Depart id leg) sound =
     (λ q e may. depart_there q.phase leg q.pending q.active may (valid_held s id q sound e).phased)
 ask_is s actor (ask.Arrive id leg) sound = arrive s actor id leg (λ q e may. arrive_there q.phase leg q.pending q.active may (valid_held s id q sound e).phased)
 ask_is s actor (ask.Acknowledge id version) sound = acknowledge s actor id version
+ask_is s actor (ask.Purge id) sound = purge s actor id
 ask_is s actor ask.ViewBoard sound = tt
 ask_is s actor ask.ViewAlerts sound = tt
 ask_is s actor (ask.ViewRelease id) sound = view_release s actor id

@@ -34,7 +34,7 @@ use Rattle.machine.specs.Sound.{Sound, InBounds, ReleaseInBounds, IsValid, IsBoa
 use Rattle.asks.specs.Forms.{IsCall, RefusalHasMoment, ReplyHasMoment}
 use Rattle.machine.proofs.Each.{each_push, each_weaker}
 use Rattle.machine.proofs.Judging.{AreTold, alerts_have, all_own, are_alerted, are_alerts, told_kept}
-use Rattle.machine.proofs.Parts.{moment_shown, reports_unlike, reports_numbered, reports_few, report_next, deferrals_open, deferral_next, releases_rise, releases_valid, releases_kept, releases_told, release_next}
+use Rattle.machine.proofs.Parts.{moment_shown, reports_unlike, reports_numbered, reports_few, report_next, deferrals_open, deferral_next, releases_rise, releases_valid, releases_kept, releases_held, releases_told, release_next}
 use Rattle.machine.proofs.Deciding.{decision_fits}
 
 -- an entry more keeps a history legal
@@ -73,6 +73,7 @@ record IsEffected (t : State) : Type 0 where
   pub few : length t.reports ≤ 200_000
   pub deferrals : AreOpen t.counters.next_deferral t.deferrals
   pub kept : AllByRecursion ReleaseInBounds t.releases
+  pub held : length t.releases ≤ 20_000
   pub entries : length t.entries < 400_000
   pub forms : AllByRecursion (λ e. IsEntered e.what) t.entries
 
@@ -113,6 +114,7 @@ effect_is s e fits sound kept room = record {
   few = reports_few s e.report fits.report kept.few;
   deferrals = deferrals_open s e.on_deferrals fits.deferrals kept.deferrals;
   kept = releases_kept s e.on_releases fits.releases kept.releases;
+  held = releases_held s e.on_releases fits.releases kept.held;
   entries = few_entries s room;
   forms = kept.forms;
 }
@@ -150,6 +152,7 @@ event_kept t e is form = record {
   few = is.few;
   deferrals = is.deferrals;
   releases = is.kept;
+  held = is.held;
   entries = let more = one_more t.entries e in let few = is.entries in omega (arith, more, few);
   forms = each_push (λ x. IsEntered x.what) t.entries e is.forms form;
 }
@@ -242,6 +245,7 @@ start_board tables = record {
     forms = tt;
     deferrals = record { each = tt; rising = λ i j d before within. absurd (omega (arith, before, within)); few = omega arith };
     releases = tt;
+    held = omega arith;
     entries = omega arith;
   };
 }

@@ -2,7 +2,7 @@
 use Rattle.std.specs.Str.{bytes_eq}
 use Rattle.std.proofs.lemmas.Bool.{eqb-true, leb-false, leb-true, ltb-true}
 use Rattle.std.proofs.lemmas.Slice.Eq.{bytes_eq-Decides}
-use Rattle.std.proofs.Common.{◌≡◌, ℕ, ◌+◌, ◌≤◌, ◌==◌, not, ◌&&◌, Bool, true, false, cond, ltb, is_some, List, [], ◌∷◌, length, Option, None, Some, IfSome, Result, Ok, Err, refl, subst, sym, ◌∙◌, arith}
+use Rattle.std.proofs.Common.{◌≡◌, ℕ, ◌+◌, ◌*◌, ◌/◌, ◌<◌, ◌≤◌, ◌==◌, not, ◌&&◌, Bool, true, false, cond, ltb, is_some, List, [], ◌∷◌, length, Option, None, Some, IfSome, Result, Ok, Err, refl, subst, sym, ◌∙◌, arith}
 use Rattle.std.specs.Prelude.{nat_le}
 use Rattle.std.specs.List.{AllByRecursion}
 use Rattle.codes.specs.Groups.{groups_of, canonical}
@@ -36,16 +36,19 @@ use Rattle.asks.specs.declared.call.Ask.TheVariants as ask
 use Rattle.asks.specs.declared.call.Call.{Call}
 use Rattle.asks.specs.declared.reply.Refusal.{Refusal}
 use Rattle.machine.specs.declared.effect.Decision.{Decision}
-use Rattle.machine.specs.State.{State, grounds_of, release_at, alert_at}
+use Rattle.desk_time.proofs.MonthLaws.{three_months_within}
+use Rattle.alerts.specs.declared.alert.Alert.{Alert}
+use Rattle.rules.specs.Grounds.{Grounds}
+use Rattle.machine.specs.State.{State, grounds_of, failing_in, failing_of, release_at, alert_at}
 use Rattle.machine.specs.Chain.{◌>>-◌, unless, some_or, refused_if}
 use Rattle.machine.specs.Decide as d
 use Rattle.machine.specs.Decide.{decide}
 use Rattle.machine.specs.People.{may_ask, not_his_role}
 use Rattle.plan.specs.Texts.{HasMoment, IsMoment}
-use Rattle.machine.specs.Sound.{Sound, InBounds, ReleaseInBounds, IsValid, IsPhased, IsThere, AreNumbered, Waits, MaySigned, HasLegs, RevisionInBounds, IsSigned, IsNew, Fits, MayReplace, IsToldTo, IsAlerted, EffectFits, DecisionFits}
+use Rattle.machine.specs.Sound.{Sound, InBounds, ReleaseInBounds, IsValid, IsPhased, IsThere, AreNumbered, Waits, MaySigned, HasLegs, RevisionInBounds, IsSigned, IsNew, Fits, MayReplace, IsToldTo, Matches, IsAlerted, EffectFits, DecisionFits}
 use Rattle.machine.specs.Effects as effect
 use Rattle.machine.specs.Texts.{newest}
-use Rattle.asks.specs.Forms.{IsCall, RefusalHasMoment}
+use Rattle.asks.specs.Forms.{IsCall, CanBeShown, RefusalHasMoment}
 use Rattle.machine.proofs.Each.{found_each}
 
 -- Chains.
@@ -505,9 +508,9 @@ clear s id = passed s (d.not_open s id) _ (if_stops _ _ tt) (λ e. (tt, record {
 deferred : (s : State) (tail : List ℕ) → DecisionFits s (d.decide_deferred s tail)
 deferred s tail = given s (d.aircraft s tail) _ (some_stops _ (type_of s.tables tail) tt) (λ kind e. tt)
 
-drafted_fits : (s : State) (actor : List ℕ) (plan : Plan) → IsPlan plan → plan_fault s.tables plan ≡ None
-    → IsNew (s.counters.events + 1) s.counters.next_release (d.drafted s.counters.next_release actor plan)
-drafted_fits s actor plan form passes = record {
+drafted_fits : (s : State) (actor : List ℕ) (plan : Plan) → IsPlan plan → plan_fault s.tables plan ≡ None → length s.releases < 20_000
+    → IsNew (s.counters.events + 1) s.counters.next_release (length s.releases) (d.drafted s.counters.next_release actor plan)
+drafted_fits s actor plan form passes few = record {
   fits = record {
     valid = record {
       phased = (tt, tt);
@@ -520,11 +523,18 @@ drafted_fits s actor plan form passes = record {
     kept = record { moment = tt; pending = record { is_plan = form; dispatcher = tt; captain = tt }; active = tt };
   };
   numbered = refl;
+  few = few;
 }
 
 draft : (s : State) (actor : List ℕ) (plan : Plan) → IsPlan plan → DecisionFits s (d.decide_draft s actor plan)
 draft s actor plan form = passed s (d.bad_plan (plan_fault s.tables plan)) _ (plan_stops (plan_fault s.tables plan))
-    (λ e. (tt, record { moment = tt; report = tt; deferrals = tt; releases = drafted_fits s actor plan form (no_plan_fault (plan_fault s.tables plan) e) }))
+    (λ e. passed s (d.releases_full s) _ (if_stops (nat_le 20_000 (length s.releases)) _ tt)
+    (λ f. (tt, record {
+      moment = tt;
+      report = tt;
+      deferrals = tt;
+      releases = drafted_fits s actor plan form (no_plan_fault (plan_fault s.tables plan) e) (leb-false 20_000 (length s.releases) (not_so (nat_le 20_000 (length s.releases)) _ f));
+    })))
 
 prepare : (s : State) (actor : List ℕ) (id : ℕ) → Sound s → InBounds s → DecisionFits s (d.decide_prepare s actor id)
 prepare s actor id sound kept =
@@ -592,6 +602,69 @@ acknowledge s actor id version sound kept =
     (λ a e. passed s (d.not_yours r.holder actor) _ (if_stops _ _ tt) (λ own. passed s (d.moved a version) _ (if_stops _ _ tt)
     (λ f. (tt, record { moment = tt; report = tt; deferrals = tt; releases = tt })))))
 
+-- a release that ended has no alert
+
+ended_alone : (g : Grounds) (phase : Phase) (active : Option Revision) (at : ℕ) → d.ended_at phase ≡ Some at → failing_in g active phase ≡ None
+ended_alone g phase None at e = refl
+ended_alone g Drafted (Some v) at e = absurd (cc)
+ended_alone g Ready (Some v) at e = absurd (cc)
+ended_alone g (Flying leg) (Some v) at e = absurd (cc)
+ended_alone g (Stopped next since again) (Some v) at e = absurd (cc)
+ended_alone g (Completed since) (Some v) at e = refl
+ended_alone g (Cancelled since) (Some v) at e = refl
+
+none_matches : (o : Option Alert) (failing : Option (List Finding)) → failing ≡ None → Matches o failing → o ≡ None
+none_matches None failing e is = refl
+none_matches (Some a) None e is = absurd is
+none_matches (Some a) (Some fs) e is = absurd (cc)
+
+alerted_is : (s : State) (o : Option Release) (r : Release) → IfSome o (IsAlerted (grounds_of s) s.alerts) → o ≡ Some r → IsAlerted (grounds_of s) s.alerts r
+alerted_is s None r is e = absurd (cc)
+alerted_is s (Some q) r is e = subst (λ (p : Option Release). IfSome p (IsAlerted (grounds_of s) s.alerts)) e is
+
+found_alerted : (s : State) (id : ℕ) (r : Release) → Sound s → release_at id s.releases ≡ Some r → IsAlerted (grounds_of s) s.alerts r
+found_alerted s id r sound e = alerted_is s (release_at id s.releases) r (found_each (IsAlerted (grounds_of s) s.alerts) (λ q. q.id == id) s.releases sound.alerted) e
+
+removed_fits : (s : State) (id : ℕ) (r : Release) (at : ℕ) → Sound s → release_at id s.releases ≡ Some r → d.ended_at r.phase ≡ Some at → EffectFits s (effect.remove r.id)
+removed_fits s id r at sound is ended = record {
+  moment = tt;
+  report = tt;
+  deferrals = tt;
+  releases = none_matches (alert_at r.id s.alerts) (failing_of (grounds_of s) r) (ended_alone (grounds_of s) r.phase r.active at ended) (found_alerted s id r sound is).0;
+}
+
+-- until when a release is kept, from the moment at which it ended
+
+ended_moment : (phase : Phase) (at : ℕ) → d.ended_at phase ≡ Some at → HasMoment phase → IsMoment at
+ended_moment Drafted at e has = absurd (cc)
+ended_moment Ready at e has = absurd (cc)
+ended_moment (Flying leg) at e has = absurd (cc)
+ended_moment (Stopped next since again) at e has = absurd (cc)
+ended_moment (Completed since) at e has = subst IsMoment (cc) has
+ended_moment (Cancelled since) at e has = subst IsMoment (cc) has
+
+kept_shown : (at : ℕ) → IsMoment at → CanBeShown (d.kept_until at)
+kept_shown at is =
+    let low = is.0 in
+    let high = is.1 in
+    let within = three_months_within (at / 1440) (omega (arith, high)) in
+    let least = within.0 in
+    let most = within.1 in
+    (omega (arith, low, least), omega (arith, high, most))
+
+ended_stops : (phase : Phase) (x : Refusal) → HasMoment phase → d.ended phase ≡ Err x → RefusalHasMoment x
+ended_stops phase x has e = some_stops _ (d.ended_at phase) has x e
+
+purge : (s : State) (id : ℕ) → Sound s → InBounds s → DecisionFits s (d.decide_purge s id)
+purge s id sound kept =
+    given s (d.held s id) _ (some_stops _ (release_at id s.releases) tt)
+    (λ r e. let is : release_at id s.releases ≡ Some r = some_given _ (release_at id s.releases) r e in
+    let held = held_is s (release_at id s.releases) r (found_held s id sound kept) is in
+    given s (d.ended r.phase) _ (λ x f. ended_stops r.phase x held.fits.kept.moment f)
+    (λ at f. let ended : d.ended_at r.phase ≡ Some at = some_given _ (d.ended_at r.phase) at f in
+    passed s (d.too_young s (d.kept_until at)) _ (if_stops _ _ (kept_shown at (ended_moment r.phase at ended held.fits.kept.moment)))
+    (λ g. (tt, removed_fits s id r at sound is ended))))
+
 view_release : (s : State) (id : ℕ) → Sound s → InBounds s → DecisionFits s (d.decide_release s id)
 view_release s id sound kept = held_by s id _ sound kept (λ r held. tt)
 
@@ -611,6 +684,7 @@ ask_fits s actor (ask.Cancel release) sound kept is = cancel s actor release sou
 ask_fits s actor (ask.Depart release leg) sound kept is = depart s actor release leg sound kept
 ask_fits s actor (ask.Arrive release leg) sound kept is = arrive s actor release leg sound kept
 ask_fits s actor (ask.Acknowledge release version) sound kept is = acknowledge s actor release version sound kept
+ask_fits s actor (ask.Purge release) sound kept is = purge s release sound kept
 ask_fits s actor ask.ViewBoard sound kept is = tt
 ask_fits s actor ask.ViewAlerts sound kept is = tt
 ask_fits s actor (ask.ViewRelease release) sound kept is = view_release s release sound kept

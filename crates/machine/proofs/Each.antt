@@ -1,9 +1,9 @@
 -- What holds of each item of a list holds after a change.
-use Rattle.std.proofs.Common.{◌≡◌, ℕ, zero, suc, take, drop, Bool, true, false, cond, List, [], ◌∷◌, ◌++◌, length, Option, Some, IfSome, refl, ap}
+use Rattle.std.proofs.Common.{◌≡◌, ℕ, ◌≤◌, arith, zero, suc, take, drop, Bool, true, false, cond, List, [], ◌∷◌, ◌++◌, length, Option, Some, IfSome, refl, ap}
 use Rattle.std.specs.Prelude.{find}
 use Rattle.std.specs.List.{AllByRecursion}
 use Rattle.plan.specs.declared.release.Release.{Release}
-use Rattle.machine.specs.Events.{put}
+use Rattle.machine.specs.Events.{put, without_release}
 
 pub each_push : {A : Type 0} (P : A → Type 0) (xs : List A) (x : A) → AllByRecursion P xs → P x → AllByRecursion P (xs ++ x ∷ [])
 each_push P [] x all here = (here, tt)
@@ -47,3 +47,20 @@ pub each_drop : {A : Type 0} (P : A → Type 0) (i : ℕ) (xs : List A) → AllB
 each_drop P zero xs all = all
 each_drop P (suc i) [] all = tt
 each_drop P (suc i) (x ∷ xs) all = each_drop P i xs all.1
+
+without_by : (P : Release → Type 0) (q : Release) (qs more : List Release) (b : Bool) → P q → AllByRecursion P qs → AllByRecursion P more → AllByRecursion P (cond b qs (q ∷ more))
+without_by P q qs more true here all rest = all
+without_by P q qs more false here all rest = (here, rest)
+
+-- what holds of all releases holds of those that stay
+pub without_each : (P : Release → Type 0) (id : ℕ) (rs : List Release) → AllByRecursion P rs → AllByRecursion P (without_release id rs)
+without_each P id [] all = tt
+without_each P id (q ∷ qs) all = without_by P q qs (without_release id qs) _ all.0 all.1 (without_each P id qs all.1)
+
+shorter_by : (q : Release) (qs more : List Release) (b : Bool) → length more ≤ length qs → length (cond b qs (q ∷ more)) ≤ length (q ∷ qs)
+shorter_by q qs more true few = omega arith
+shorter_by q qs more false few = omega (arith, few)
+
+pub without_shorter : (id : ℕ) (rs : List Release) → length (without_release id rs) ≤ length rs
+without_shorter id [] = omega arith
+without_shorter id (q ∷ qs) = shorter_by q qs (without_release id qs) _ (without_shorter id qs)

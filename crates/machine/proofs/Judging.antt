@@ -21,7 +21,7 @@ use Rattle.rules.proofs.Laws.{findings_in_order}
 use Rattle.machine.specs.State.{State, grounds_of, failing_if, failing_in, failing_of, alert_at, alert_for, judged, judged_all}
 use Rattle.machine.specs.declared.effect.OnAlerts.{OnAlerts}
 use Rattle.machine.specs.declared.effect.OnAlerts.TheVariants as on_alerts
-use Rattle.machine.specs.Events.{put, without_alert, acknowledged_if, alerts_after, kept_alert}
+use Rattle.machine.specs.Events.{put, without_alert, acknowledged_if, alerts_after, kept_alert, without_release}
 use Rattle.machine.specs.Sound.{Matches, IsToldTo, IsAlerted, Rise}
 use Rattle.machine.proofs.Each.{found_each}
 
@@ -236,6 +236,14 @@ rise_put_by low q r qs more next false e less rest later = (less, later)
 pub rise_put : (low : ℕ) (r : Release) (rs : List Release) (next : ℕ) → Rise low rs next → Rise low (put r rs) next
 rise_put low r [] next rise = rise
 rise_put low r (q ∷ qs) next rise = rise_put_by low q r qs (put r qs) next _ refl rise.0 rise.1 (rise_put q.id r qs next rise.1)
+
+rise_without_by : (low : ℕ) (q : Release) (qs more : List Release) (next : ℕ) (b : Bool) → low < q.id → Rise q.id qs next → Rise q.id more next → Rise low (cond b qs (q ∷ more)) next
+rise_without_by low q qs more next true less rest later = rise_lower low q.id qs next less rest
+rise_without_by low q qs more next false less rest later = (less, later)
+
+pub rise_without : (low id : ℕ) (rs : List Release) (next : ℕ) → Rise low rs next → Rise low (without_release id rs) next
+rise_without low id [] next rise = rise
+rise_without low id (q ∷ qs) next rise = rise_without_by low q qs (without_release id qs) next _ rise.0 rise.1 (rise_without q.id id qs next rise.1)
 
 -- an alert that is acknowledged
 

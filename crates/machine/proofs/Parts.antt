@@ -19,11 +19,11 @@ use Rattle.machine.specs.declared.effect.OnDeferrals.{OnDeferrals}
 use Rattle.machine.specs.declared.effect.OnDeferrals.TheVariants as on_deferrals
 use Rattle.machine.specs.declared.effect.OnReleases.{OnReleases}
 use Rattle.machine.specs.declared.effect.OnReleases.TheVariants as on_releases
-use Rattle.machine.specs.Events.{put, moment_after, reports_after, deferrals_after, releases_after, next_report, next_deferral, next_release}
+use Rattle.machine.specs.Events.{put, without_release, moment_after, reports_after, deferrals_after, releases_after, next_report, next_deferral, next_release}
 use Rattle.machine.specs.Sound.{Sound, ReleaseInBounds, IsValid, AreNumbered, IsNumbered, IsOpen, AreOpen, MayOpen, IsNext, AreUnlike, IsToldTo, Rise, DeferralsFit, ReleasesFit}
 use Rattle.machine.specs.State.{State, alert_at}
-use Rattle.machine.proofs.Each.{each_push, each_weaker, put_each}
-use Rattle.machine.proofs.Judging.{AreTold, none_next, rise_push, rise_put}
+use Rattle.machine.proofs.Each.{each_push, each_weaker, put_each, put_length, without_each, without_shorter}
+use Rattle.machine.proofs.Judging.{AreTold, none_next, rise_push, rise_put, rise_without}
 
 pub moment_shown : (o : Option ℕ) (moment : ℕ) → IfSome o IsMoment → IsMoment moment → IsMoment (moment_after o moment)
 moment_shown None moment fits is = is
@@ -135,12 +135,20 @@ releases_rise s on_releases.Nothing fits rise = rise
 releases_rise s (on_releases.File r) fits rise =
     subst (λ (n : ℕ). Rise 0 (s.releases ++ r ∷ []) (n + 1)) (sym fits.numbered) (rise_push 0 s.releases s.counters.next_release r rise fits.numbered)
 releases_rise s (on_releases.Put r) fits rise = rise_put 0 r s.releases s.counters.next_release rise
+releases_rise s (on_releases.Remove id) fits rise = rise_without 0 id s.releases s.counters.next_release rise
+
+pub releases_held : (s : State) (on : OnReleases) → ReleasesFit s on → length s.releases ≤ 20_000 → length (releases_after on s.releases) ≤ 20_000
+releases_held s on_releases.Nothing fits few = few
+releases_held s (on_releases.File r) fits few = let long = length-append s.releases (r ∷ []) in let room = fits.few in omega (arith, long, room)
+releases_held s (on_releases.Put r) fits few = rw (put_length r s.releases) few
+releases_held s (on_releases.Remove id) fits few = let less = without_shorter id s.releases in omega (arith, less, few)
 
 pub release_next : (s : State) (on : OnReleases) → ReleasesFit s on → s.counters.next_release ≤ s.counters.events + 1
     → next_release on s.counters.next_release ≤ s.counters.events + 2
 release_next s on_releases.Nothing fits least = omega (arith, least)
 release_next s (on_releases.File r) fits least = let same = fits.numbered in omega (arith, same, least)
 release_next s (on_releases.Put r) fits least = omega (arith, least)
+release_next s (on_releases.Remove id) fits least = omega (arith, least)
 
 more_numbers : (most : ℕ) (pending active : Option Revision) → AreNumbered most pending active → AreNumbered (most + 1) pending active
 more_numbers most None None is = tt
@@ -165,11 +173,13 @@ pub releases_valid : (s : State) (on : OnReleases) → ReleasesFit s on → AllB
     → AllByRecursion (IsValid (s.counters.events + 1)) (releases_after on s.releases)
 releases_valid s on_releases.Nothing fits all = all_valid s.counters.events s.releases all
 releases_valid s (on_releases.File r) fits all = each_push (IsValid (s.counters.events + 1)) s.releases r (all_valid s.counters.events s.releases all) fits.fits.valid
+releases_valid s (on_releases.Remove id) fits all = without_each (IsValid (s.counters.events + 1)) id s.releases (all_valid s.counters.events s.releases all)
 releases_valid s (on_releases.Put r) fits all = put_each (IsValid (s.counters.events + 1)) r s.releases (all_valid s.counters.events s.releases all) fits.fits.valid
 
 pub releases_kept : (s : State) (on : OnReleases) → ReleasesFit s on → AllByRecursion ReleaseInBounds s.releases → AllByRecursion ReleaseInBounds (releases_after on s.releases)
 releases_kept s on_releases.Nothing fits all = all
 releases_kept s (on_releases.File r) fits all = each_push ReleaseInBounds s.releases r all fits.fits.kept
+releases_kept s (on_releases.Remove id) fits all = without_each ReleaseInBounds id s.releases all
 releases_kept s (on_releases.Put r) fits all = put_each ReleaseInBounds r s.releases all fits.fits.kept
 
 told_none : (holder : List ℕ) (o : Option Alert) → o ≡ None → IsToldTo holder o
@@ -184,6 +194,7 @@ pub releases_told : (s : State) (on : OnReleases) → ReleasesFit s on → Sound
 releases_told s on_releases.Nothing fits sound told = told
 releases_told s (on_releases.File r) fits sound told =
     each_push (λ q. IsToldTo q.holder (alert_at q.id s.alerts)) s.releases r told (told_none r.holder (alert_at r.id s.alerts) (none_filed s r fits.numbered sound))
+releases_told s (on_releases.Remove id) fits sound told = without_each (λ q. IsToldTo q.holder (alert_at q.id s.alerts)) id s.releases told
 releases_told s (on_releases.Put r) fits sound told = put_each (λ q. IsToldTo q.holder (alert_at q.id s.alerts)) r s.releases told fits.holder
 
 put_own_by : (alerts : List Alert) (q r : Release) (b : Bool) (qs more : List Release) → eqb q.id r.id ≡ b
@@ -199,6 +210,18 @@ put_own alerts r (q ∷ qs) = put_own_by alerts q r _ qs (put r qs) refl (put_ow
 none_more : (alerts : List Alert) (r : Release) → alert_at r.id alerts ≡ None → filter_map (λ x. alert_at x.id alerts) (r ∷ []) ≡ []
 none_more alerts r none = rw none refl
 
+without_own_by : (alerts : List Alert) (id : ℕ) (q : Release) (b : Bool) (qs more : List Release) → eqb q.id id ≡ b → alert_at id alerts ≡ None
+    → filter_map (λ x. alert_at x.id alerts) more ≡ filter_map (λ x. alert_at x.id alerts) qs
+    → filter_map (λ x. alert_at x.id alerts) (cond b qs (q ∷ more)) ≡ filter_map (λ x. alert_at x.id alerts) (q ∷ qs)
+without_own_by alerts id q true qs more e none same = rw (eqb-true q.id id e, none) refl
+without_own_by alerts id q false qs more e none same = ap (λ rest. cons_option (alert_at q.id alerts) rest) same
+
+-- a release without an alert takes none away
+without_own : (alerts : List Alert) (id : ℕ) (rs : List Release) → alert_at id alerts ≡ None
+    → filter_map (λ x. alert_at x.id alerts) (without_release id rs) ≡ filter_map (λ x. alert_at x.id alerts) rs
+without_own alerts id [] none = refl
+without_own alerts id (q ∷ qs) none = without_own_by alerts id q _ qs (without_release id qs) refl none (without_own alerts id qs none)
+
 -- the alerts of the releases are found in the releases after the effect
 pub releases_own : (s : State) (on : OnReleases) → ReleasesFit s on → Sound s → s.alerts ≡ filter_map (λ r. alert_at r.id s.alerts) (releases_after on s.releases)
 releases_own s on_releases.Nothing fits sound = sound.own
@@ -208,3 +231,4 @@ releases_own s (on_releases.File r) fits sound =
     ∙ ap (λ rest. filter_map (λ x. alert_at x.id s.alerts) s.releases ++ rest) (none_more s.alerts r (none_filed s r fits.numbered sound))
     ∙ append-nil (filter_map (λ x. alert_at x.id s.alerts) s.releases))
 releases_own s (on_releases.Put r) fits sound = sound.own ∙ sym (put_own s.alerts r s.releases)
+releases_own s (on_releases.Remove id) fits sound = sound.own ∙ sym (without_own s.alerts id s.releases fits)

@@ -33,7 +33,7 @@ use Rattle.machine.specs.Decide.{decide, leg_count}
 use Rattle.machine.specs.Step.{entry, entered, without_key, enter, finish, do_call, do_unless, answer_call, tick_unless, tick_to}
 use Rattle.machine.specs.People.{mistaken}
 use Rattle.machine.specs.Sound.{Sound, InBounds, EffectFits, DecisionFits}
-use Rattle.machine.specs.Allowed.{IsEffectOf, admits, defers, clears, drafts, prepares, signs, concurs, amends, cancels, departs, stops, completes, acknowledges, OfHeld, IsConcurring, IsCancelling, HasMore, HasNoMore, IsStopping, IsCompleting, DecisionOf}
+use Rattle.machine.specs.Allowed.{IsEffectOf, admits, defers, clears, drafts, prepares, signs, concurs, amends, cancels, departs, stops, completes, acknowledges, purges, OfHeld, IsConcurring, IsCancelling, HasMore, HasNoMore, IsStopping, IsCompleting, DecisionOf}
 use Rattle.machine.specs.Told.{told_of, is_last, takes_alert, told_over, AreDifferences, takes_none}
 use Rattle.machine.proofs.Judging.{Agrees, agrees_all, alerts_kept, judged_is}
 use Rattle.machine.proofs.Parts.{releases_rise}
@@ -192,6 +192,7 @@ asked_takes s actor (completes {id = release} {leg = leg} {r = r} is) id =
     same_or id r.id release (is_last (release_at release s.releases) leg) (of_found (IsCompleting s actor leg) s release r (λ q has. has.arrives.same.id) is)
     (is_over s actor leg (release_at release s.releases) r is)
 asked_takes s actor (acknowledges is has) id = refl
+asked_takes s actor (purges is has) id = refl
 
 -- Calls and ticks.
 

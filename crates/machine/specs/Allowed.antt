@@ -42,7 +42,7 @@ use Rattle.machine.specs.declared.entry.What.{What}
 use Rattle.machine.specs.declared.entry.What.TheVariants as what
 use Rattle.machine.specs.State.{State, grounds_of, failing_of, release_at, alert_at, is_full}
 use Rattle.machine.specs.Events.{effected, moment_after, reports_after, deferrals_after, releases_after}
-use Rattle.machine.specs.Decide.{once_signed}
+use Rattle.machine.specs.Decide.{once_signed, kept_until}
 use Rattle.machine.specs.People.{may_ask}
 use Rattle.machine.specs.Step.{entered, full_reply}
 use Rattle.machine.specs.declared.effect.OnAlerts.{OnAlerts}
@@ -159,9 +159,10 @@ abbrev pub IsFresh : ℕ → Plan → Option Revision → Type 0
 IsFresh number plan None = ⊥
 IsFresh number plan (Some v) = (v.number ≡ number) × (v.plan ≡ plan) × (v.prepared ≡ false) × (v.attached ≡ []) × (v.dispatcher ≡ None) × (v.captain ≡ None)
 
--- a new release of a plan that passes its tests, held by a dispatcher
+-- a new release of a plan that passes its tests, held by a dispatcher, where fewer than 20,000 are
 pub record IsDrafted (s : State) (actor : List ℕ) (plan : Plan) (r : Release) : Type 0 where
   pub passes : plan_fault s.tables plan ≡ None
+  pub few : length s.releases < 20_000
   pub is_new : r.id ≡ s.counters.next_release
   pub holder : r.holder ≡ actor
   pub phase : r.phase ≡ Drafted
@@ -267,6 +268,16 @@ pub record IsAcknowledging (s : State) (actor : List ℕ) (version : ℕ) (q : R
   pub own : q.holder ≡ actor
   pub seen : IsInVersion version (alert_at q.id s.alerts)
 
+-- the moment at which a release ended
+abbrev pub HasEndedAt : Phase → ℕ → Type 0
+HasEndedAt phase at = (phase ≡ Completed at) ⊎ (phase ≡ Cancelled at)
+
+-- a release that ended, and needn't be kept any longer
+pub record IsPurging (s : State) (q : Release) : Type 0 where
+  pub at : ℕ
+  pub ended : HasEndedAt q.phase at
+  pub passed : kept_until at ≤ s.moment
+
 -- a new report of an airport, received now: the canonical form of a text, and what is read of the text
 pub record IsReceived (s : State) (text : List ℕ) (report : Report) : Type 0 where
   pub is_new : report.id ≡ s.counters.next_report
@@ -319,6 +330,7 @@ pub data IsEffectOf (s : State) (actor : List ℕ) : Ask → Effect → DoneType
       → IsEffectOf s actor (ask.Arrive id leg) (effect.put_afresh r) (done.Release r.id)
   acknowledges : {id version : ℕ} {q : Release} → release_at id s.releases ≡ Some q → IsAcknowledging s actor version q
       → IsEffectOf s actor (ask.Acknowledge id version) (effect.acknowledge q.id) (done.Release q.id)
+  purges : {id : ℕ} {q : Release} → release_at id s.releases ≡ Some q → IsPurging s q → IsEffectOf s actor (ask.Purge id) (effect.remove q.id) (done.Release q.id)
 
 -- an ask that only shows something
 abbrev pub IsView : Ask → Type 0
@@ -334,6 +346,7 @@ IsView (ask.Cancel release) = ⊥
 IsView (ask.Depart release leg) = ⊥
 IsView (ask.Arrive release leg) = ⊥
 IsView (ask.Acknowledge release version) = ⊥
+IsView (ask.Purge release) = ⊥
 IsView ask.ViewBoard = Unit {0}
 IsView ask.ViewAlerts = Unit {0}
 IsView (ask.ViewRelease release) = Unit {0}

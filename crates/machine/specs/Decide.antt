@@ -1,7 +1,8 @@
 -- What a call comes to in a state, ask by ask: a line of tests in their order, and the decision after them.
-use Rattle.std.specs.Prelude.{ℕ, ◌+◌, ◌==◌, nat_le, nat_lt, Bool, true, false, not, if◌then◌else◌, is_none, List, [], ◌∷◌, length, Option, None, Some, Result, Ok, Err}
+use Rattle.std.specs.Prelude.{ℕ, ◌+◌, ◌*◌, ◌/◌, ◌==◌, nat_le, nat_lt, Bool, true, false, not, if◌then◌else◌, is_none, List, [], ◌∷◌, length, Option, None, Some, Result, Ok, Err}
 use Rattle.std.specs.Str.{bytes_eq}
 use Rattle.std.specs.List.{list_any}
+use Rattle.desk_time.specs.Calendar.{three_months}
 use Rattle.codes.specs.Groups.{groups_of, canonical}
 use Rattle.codes.specs.Station.{Station}
 use Rattle.codes.specs.declared.fault.BadReport.{BadReport}
@@ -189,6 +190,31 @@ may_arrive (Cancelled at) leg = false
 abbrev pub out_of_phase : Bool → Phase → Option Refusal
 out_of_phase allowed phase = refused_if (not allowed) (refusal.WrongPhase phase)
 
+-- when a release ended
+abbrev pub ended_at : Phase → Option ℕ
+ended_at Drafted = None
+ended_at Ready = None
+ended_at (Flying leg) = None
+ended_at (Stopped next since again) = None
+ended_at (Completed at) = Some at
+ended_at (Cancelled at) = Some at
+
+-- it hasn't ended (18)
+abbrev pub ended : Phase → Result ℕ Refusal
+ended phase = some_or (refusal.WrongPhase phase) (ended_at phase)
+
+-- A release is kept for three months from the day on which it ended (14 CFR 121.695), to the end of the last day.
+abbrev pub kept_until : ℕ → ℕ
+kept_until at = 1440 * (three_months (at / 1440) + 1)
+
+-- that moment hasn't come (22)
+abbrev pub too_young : State → ℕ → Option Refusal
+too_young s until = refused_if (nat_lt s.moment until) (refusal.TooYoung until)
+
+-- 20,000 releases are held (23)
+abbrev pub releases_full : State → Option Refusal
+releases_full s = refused_if (nat_le 20_000 (length s.releases)) (refusal.ReleasesFull (length s.releases))
+
 -- the dispatcher has signed (19)
 abbrev pub signed : Option Signature → Option Refusal
 signed None = None
@@ -304,8 +330,8 @@ decide_deferred s tail = aircraft s tail >>- λ kind. Ok (Show (Seen (deferral_l
 
 abbrev pub decide_draft : State → List ℕ → Plan → Result Decision Refusal
 decide_draft s actor plan =
-    unless (bad_plan (plan_fault s.tables plan))
-    (Ok (Do (Done (done.Filed s.counters.next_release 1)) (effect.file (drafted s.counters.next_release actor plan))))
+    unless (bad_plan (plan_fault s.tables plan)) (unless (releases_full s)
+    (Ok (Do (Done (done.Filed s.counters.next_release 1)) (effect.file (drafted s.counters.next_release actor plan)))))
 
 abbrev pub decide_prepare : State → List ℕ → ℕ → Result Decision Refusal
 decide_prepare s actor id =
@@ -357,6 +383,11 @@ decide_acknowledge s actor id version =
     held s id >>- λ r. alert_of s r.id >>- λ a. unless (not_yours r.holder actor) (unless (moved a version)
     (Ok (Do (Done (done.Release r.id)) (effect.acknowledge r.id))))
 
+abbrev pub decide_purge : State → ℕ → Result Decision Refusal
+decide_purge s id =
+    held s id >>- λ r. ended r.phase >>- λ at. unless (too_young s (kept_until at))
+    (Ok (Do (Done (done.Release r.id)) (effect.remove r.id)))
+
 -- the release and its texts
 abbrev pub decide_release : State → ℕ → Result Decision Refusal
 decide_release s id = held s id >>- λ r. Ok (Show (Seen (release_view r)))
@@ -378,6 +409,7 @@ decide_ask s actor (ask.Cancel release) = decide_cancel s actor release
 decide_ask s actor (ask.Depart release leg) = decide_depart s actor release leg
 decide_ask s actor (ask.Arrive release leg) = decide_arrive s actor release leg
 decide_ask s actor (ask.Acknowledge release version) = decide_acknowledge s actor release version
+decide_ask s actor (ask.Purge release) = decide_purge s release
 decide_ask s actor ask.ViewBoard = Ok (Show (Seen (board_view s)))
 decide_ask s actor ask.ViewAlerts = Ok (Show (Seen (alerts_view s.moment s.alerts)))
 decide_ask s actor (ask.ViewRelease release) = decide_release s release

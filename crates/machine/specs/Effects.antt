@@ -42,3 +42,7 @@ put_afresh r = record nothing { on_releases = releases.Put r; on_alerts = alerts
 -- the alert of a release is acknowledged
 abbrev pub acknowledge : ℕ → Effect
 acknowledge release = record nothing { on_alerts = alerts.Acknowledge release }
+
+-- the release of an id goes
+abbrev pub remove : ℕ → Effect
+remove release = record nothing { on_releases = releases.Remove release }

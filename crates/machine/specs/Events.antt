@@ -40,10 +40,16 @@ abbrev pub put : Release → List Release → List Release
 put r [] = []
 put r (q ∷ qs) = if q.id == r.id then r ∷ qs else q ∷ put r qs
 
+-- the releases but for the first of an id
+abbrev pub without_release : ℕ → List Release → List Release
+without_release id [] = []
+without_release id (q ∷ qs) = if q.id == id then qs else q ∷ without_release id qs
+
 abbrev pub releases_after : OnReleases → List Release → List Release
 releases_after releases.Nothing list = list
 releases_after (releases.File r) list = list ++ r ∷ []
 releases_after (releases.Put r) list = put r list
+releases_after (releases.Remove id) list = without_release id list
 
 -- the alerts but for those of a release
 abbrev pub without_alert : ℕ → List Alert → List Alert
@@ -79,6 +85,7 @@ abbrev pub next_release : OnReleases → ℕ → ℕ
 next_release releases.Nothing next = next
 next_release (releases.File r) next = r.id + 1
 next_release (releases.Put r) next = next
+next_release (releases.Remove id) next = next
 
 abbrev pub counters_after : Effect → Counters → Counters
 counters_after e c = record c {

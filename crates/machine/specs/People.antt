@@ -32,9 +32,17 @@ is_maintenance F = false
 is_maintenance M = true
 is_maintenance S = false
 
+abbrev pub is_records : Role → Bool
+is_records D = false
+is_records C = false
+is_records F = false
+is_records M = false
+is_records S = true
+
 -- Reports come from a feed or a dispatcher, deferrals from maintenance. Dispatchers draft, prepare, sign, amend and cancel
 -- releases and acknowledge alerts, captains concur, and either says that a leg has departed or arrived (14 CFR 121.593,
--- 121.595, 121.663). Everybody may see what the desk holds.
+-- 121.595, 121.663). Who keeps the records removes what need not be
+-- kept any longer (14 CFR 121.695). Everybody may see what the desk holds.
 abbrev pub may_ask : Ask → Role → Bool
 may_ask (ask.Admit text) role = is_feed role || is_dispatcher role
 may_ask (ask.Defer tail item found) role = is_maintenance role
@@ -48,6 +56,7 @@ may_ask (ask.Cancel release) role = is_dispatcher role
 may_ask (ask.Depart release leg) role = is_dispatcher role || is_captain_role role
 may_ask (ask.Arrive release leg) role = is_dispatcher role || is_captain_role role
 may_ask (ask.Acknowledge release version) role = is_dispatcher role
+may_ask (ask.Purge release) role = is_records role
 may_ask ask.ViewBoard role = true
 may_ask ask.ViewAlerts role = true
 may_ask (ask.ViewRelease release) role = true

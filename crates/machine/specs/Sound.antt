@@ -181,13 +181,15 @@ pub record InBounds (s : State) : Type 0 where
   pub few : length s.reports ≤ 200_000
   pub deferrals : AreOpen s.counters.next_deferral s.deferrals
   pub releases : AllByRecursion ReleaseInBounds s.releases
+  pub held : length s.releases ≤ 20_000
   pub entries : length s.entries ≤ 400_000
   pub forms : AllByRecursion (λ e. IsEntered e.what) s.entries
 
--- a release that is filed, with that id
-pub record IsNew (most id : ℕ) (r : Release) : Type 0 where
+-- a release that is filed, with that id, where so many are held
+pub record IsNew (most id held : ℕ) (r : Release) : Type 0 where
   pub fits : Fits most r
   pub numbered : r.id ≡ id
+  pub few : held < 20_000
 
 -- a release that takes the place of another keeps its holder
 pub record MayReplace (s : State) (r : Release) : Type 0 where
@@ -215,8 +217,9 @@ DeferralsFit s (on_deferrals.Clear id) = Unit {0}
 
 abbrev pub ReleasesFit : State → OnReleases → Type 0
 ReleasesFit s on_releases.Nothing = Unit {0}
-ReleasesFit s (on_releases.File r) = IsNew (s.counters.events + 1) s.counters.next_release r
+ReleasesFit s (on_releases.File r) = IsNew (s.counters.events + 1) s.counters.next_release (length s.releases) r
 ReleasesFit s (on_releases.Put r) = MayReplace s r
+ReleasesFit s (on_releases.Remove id) = alert_at id s.alerts ≡ None
 
 -- an effect that keeps what holds of the desk
 pub record EffectFits (s : State) (e : Effect) : Type 0 where

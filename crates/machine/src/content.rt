@@ -14,6 +14,9 @@ use ops_tables::Tables;
 use plan::Release;
 use std::alloc::Global;
 
+/// The most releases that may be held.
+pub const RELEASE_LIMIT: usize = 20_000;
+
 /// The most entries that a history may have.
 pub const ENTRY_LIMIT: usize = 400_000;
 

@@ -25,6 +25,8 @@ pub enum OnReleases {
     File(Release),
     /// A release takes the place of the one of its id.
     Put(Release),
+    /// The release of an id goes.
+    Remove { release: u64 },
 }
 
 /// What an event changes of the alerts, before every active release is judged.
@@ -141,6 +143,16 @@ impl Effect {
     {
         Effect {
             on_alerts: OnAlerts::Acknowledge { release },
+            ..Effect::nothing()
+        }
+    }
+
+    /// The release of an id goes.
+    pub fn remove(release: u64) -> Effect
+        ensures { result ≡ spec.remove release }
+    {
+        Effect {
+            on_releases: OnReleases::Remove { release },
             ..Effect::nothing()
         }
     }

@@ -1,6 +1,6 @@
 ghost use Rattle.std.specs.Prelude.{◌≡◌, ◌+◌, ◌++◌, ◌<◌, ◌∷◌, take, drop, length, IfSome, MatchOption};
 ghost use Rattle.std.specs.Option.{option_copied};
-ghost use Rattle.machine.specs.Events.{put};
+ghost use Rattle.machine.specs.Events.{put, without_release};
 ghost use Rattle.machine.specs.State.{release_at, alert_at};
 
 use alerts::Alert;
@@ -27,6 +27,19 @@ pub fn place_of(releases: &[Release], other: &Release) -> Option<usize>
 {
     for (i, release) in releases.iter().enumerate() {
         if release.id == other.id {
+            return Some(i);
+        }
+    }
+    None
+}
+
+/// The place of the first release of an id, which may be taken out.
+pub fn place_of_id(releases: &[Release], id: u64) -> Option<usize>
+    ensures place { MatchOption result (without_release id releases.now ≡ releases.now) (λ i. without_release id releases.now ≡ take i releases.now ++ drop (i + 1) releases.now) }
+    ensures within { IfSome result (λ i. i < length releases.now) }
+{
+    for (i, release) in releases.iter().enumerate() {
+        if release.id == id {
             return Some(i);
         }
     }

@@ -10,9 +10,9 @@ mod held;
 mod lanes;
 
 pub use change::AlertChange;
-pub use content::Content;
+pub use content::{Content, RELEASE_LIMIT};
 pub use counters::Counters;
 pub use effect::{Decision, Effect, OnAlerts, OnDeferrals, OnReleases};
 pub use entry::{Entry, What};
-pub use held::{find_alert, place_of};
+pub use held::{find_alert, place_of, place_of_id};
 pub use lanes::{Item, Outcome};

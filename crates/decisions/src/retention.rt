@@ -1,0 +1,65 @@
+ghost use Rattle.std.specs.Prelude.{◌≡◌, ◌≤◌, IfOk};
+ghost use Rattle.plan.specs.Texts.{HasMoment, IsMoment};
+ghost use Rattle.machine.specs.Contents.{state_of};
+ghost use Rattle.machine.specs.Decide as spec;
+ghost use Rattle.machine.specs.Sound.{Sound, InBounds};
+ghost use Rattle.decisions.specs.Answers.{Answers, Passes};
+ghost use Rattle.decisions.specs.Reads.{DecisionAdmitsRead};
+
+use crate::chain::{Stop, refused_if};
+use crate::releases::held;
+use asks::{Done, Refusal, Reply};
+use desk_time::{Minute, three_months};
+use machine::{Content, Decision, Effect};
+use plan::Phase;
+
+fn ended_at(phase: Phase) -> Option<Minute>
+    ensures { result ≡ spec.ended_at phase }
+{
+    match phase {
+        Phase::Completed { at } | Phase::Cancelled { at } => Some(at),
+        Phase::Drafted | Phase::Ready | Phase::Flying { .. } | Phase::Stopped { .. } => None,
+    }
+}
+
+// When it ended. Refuses (18) where it hasn't.
+fn ended(phase: Phase) -> Result<Minute, Stop>
+    requires { HasMoment phase }
+    ensures value { Answers (λ at. at) result (spec.ended phase) }
+    ensures moment { IfOk result IsMoment }
+{
+    match ended_at(phase) {
+        None => Err(Stop::Refused(Refusal::WrongPhase { phase })),
+        Some(at) => Ok(at),
+    }
+}
+
+fn kept_until(at: Minute) -> Minute
+    requires { IsMoment at }
+    ensures { result ≡ spec.kept_until at }
+{
+    1440 * (three_months(at / 1440) + 1)
+}
+
+// Refuses (22) where that moment hasn't come.
+fn too_young(content: &Content, until: Minute) -> Result<(), Stop>
+    ensures { Passes result (spec.too_young (state_of content.now) until) }
+{
+    refused_if(content.moment < until, Refusal::TooYoung { until })
+}
+
+/// A release that ended is removed. Refuses by 10, 18, 22.
+pub(crate) fn purge(content: &Content, id: u64) -> Result<Decision, Stop>
+    requires sound { Sound (state_of content.now) }
+    requires kept { InBounds (state_of content.now) }
+    ensures value { Answers (λ d. d) result (spec.decide_purge (state_of content.now) id) }
+    ensures read { IfOk result DecisionAdmitsRead }
+{
+    let release = held(content, id)?;
+    let at = ended(release.phase)?;
+    too_young(content, kept_until(at))?;
+    Ok(Decision::Do(
+        Reply::Done(Done::Release(release.id)),
+        Effect::remove(release.id),
+    ))
+}
