@@ -3,8 +3,8 @@ use Rattle.std.proofs.Common.{◌≡◌, ℕ, zero, suc, ◌+◌, ◌-◌, ◌*�
 use Rattle.std.proofs.lemmas.Bool.{ltb-true, ltb-false}
 use Rattle.jiff_core.proofs.SignedLemmas.{signed_arith}
 use Rattle.jiff_core.specs.Calendar.{days_in_year, days_in_month, day_count, days_of_months, IsCivilDate}
-use Rattle.jiff_core.proofs.CalendarLemmas.{day_of_year_bound, days_in_year_bounds, day_count-next_year, day_count-next_month, day_count-day, days_of_months_all, days_of_months_more, day_count-epoch, days_of_months-zero, day_count-day_of_year}
-use Rattle.jiff_core.specs.Calendar.{days_from_civil, day_of_year}
+use Rattle.jiff_core.proofs.CalendarLemmas.{days_in_year_bounds, day_count-next_year, day_count-next_month, day_count-day, days_of_months_all, days_of_months_more, day_count-epoch, days_of_months-zero, day_count-day_of_year, day_count-lt_year}
+use Rattle.jiff_core.specs.Calendar.{days_from_civil}
 use Rattle.jiff_core.specs.Date.{epoch_day}
 use Rattle.jiff_core.specs.declared.civil.date.Date.{Date}
 use Rattle.jiff_core.proofs.DateLemmas.{epoch_day_injective}
@@ -76,6 +76,7 @@ in_months-law (suc k) y m n count low sum within e =
 pub record IsDateOf (day : ℕ) (d : Civil) : Type 0 where
   pub civil : IsCivilDate (pos d.year) d.month d.day
   pub counted : day_count (pos d.year) d.month d.day ≡ 4_371_953 + day
+  pub early : d.year ≤ 2170
 
 pub in_year-law : (count : ℕ) (a : ℕ × ℕ) → InYear count 1970 2170 a → InMonth (pos a.0) count (in_months 11 a.0 1 a.1)
 in_year-law count a k = in_months-law 11 a.0 1 a.1 count (omega arith) (omega arith)
@@ -91,6 +92,7 @@ civil_of-law day small =
     record {
       civil = (let l = y.later in let h = y.early in (omega (arith, signed_arith), omega (arith, signed_arith)), (m.month_low, m.month_high), (m.day_low, m.day_high));
       counted = m.counted;
+      early = y.early;
     }
 
 pub days_are : (y : ℤ) (m d day : ℕ) → day_count y m d ≡ 4_371_953 + day → days_from_civil y m d ≡ pos day
@@ -132,30 +134,53 @@ pub years_30 : days_of_years 30 ≡ 10_957
 unfolding days_of_years
 years_30 = refl
 
-years_130 : days_of_years 130 ≡ 47_482
+pub years_130 : days_of_years 130 ≡ 47_482
 unfolding days_of_years
 years_130 = refl
 
-days_of_years-mono : (a n : ℕ) → days_of_years a ≤ days_of_years (a + n)
+pub days_of_years-mono : (a n : ℕ) → days_of_years a ≤ days_of_years (a + n)
 unfolding days_of_years
 days_of_years-mono a zero = let e : a + 0 ≡ a = omega arith in rw e (omega arith)
 days_of_years-mono a (suc n) = let ih = days_of_years-mono a n in let e : a + suc n ≡ suc (a + n) = omega arith in rw e (omega (arith, ih))
 
--- the number of a day of the calendar from 2000 to 2099
-pub number_is : (d : Date) (y m n days : ℕ) → d.year ≡ pos y → d.month ≡ m → d.day ≡ n → 2000 ≤ y → y ≤ 2099 → epoch_day d +ℤ pos 4_371_587 ≡ pos days
-    → (days ≡ day_number y m n + 4_371_587) × (10_957 ≤ day_number y m n) × (day_number y m n ≤ 47_481)
+-- the number of a day of the calendar from 2000 on
+pub number_is : (d : Date) (y m n days : ℕ) → d.year ≡ pos y → d.month ≡ m → d.day ≡ n → 2000 ≤ y → epoch_day d +ℤ pos 4_371_587 ≡ pos days
+    → (days ≡ day_number y m n + 4_371_587) × (10_957 ≤ day_number y m n)
 unfolding day_number days_of_years
-number_is d y m n days ey em en low high e =
+number_is d y m n days ey em en low e =
     let low_day : 1 ≤ n = let l = d.day_in.0 in omega arith in
     let count : day_count d.year d.month d.day ≡ 4_371_953 + day_number y m n = rw (ey, em, en) (day_number-count y m n (omega arith) low_day) in
     let at : epoch_day d ≡ pos (day_number y m n) = days_are d.year d.month d.day (day_number y m n) count in
     let sum : pos (day_number y m n) +ℤ pos 4_371_587 ≡ pos days = rw at at e in
-    let db = day_of_year_bound d.year d.month d.day (d.year_in, d.month_in, d.day_in) in
-    let ob : day_of_year (pos y) m n ≤ days_in_year (pos y) = rw (ey, em, en) at db in
     let start : 30 + (y - 2000) ≡ y - 1970 = omega arith in
-    let end : suc (y - 1970) + (2099 - y) ≡ 130 = omega arith in
     let lo = subst (λ (z : ℕ). days_of_years 30 ≤ days_of_years z) start (days_of_years-mono 30 (y - 2000)) in
-    let hi = subst (λ (z : ℕ). days_of_years (suc (y - 1970)) ≤ days_of_years z) end (days_of_years-mono (suc (y - 1970)) (2099 - y)) in
-    let same : 1970 + (y - 1970) ≡ y = omega arith in
-    let year : days_of_years (suc (y - 1970)) ≡ days_of_years (y - 1970) + days_in_year (pos y) = ap (λ (z : ℕ). days_of_years (y - 1970) + days_in_year (pos z)) same in
-    (omega (arith, signed_arith, sum), omega (arith, lo, years_30), omega (arith, hi, year, years_130, ob, low_day))
+    (omega (arith, signed_arith, sum), omega (arith, lo, years_30))
+
+-- the first and the last years of the days that are read
+not_before : (y m d day : ℕ) → IsDateOf day (record { year = y; month = m; day = d }) → 10_957 ≤ day → y < 2000 → ⊥
+not_before y m d day law low before =
+    let first = days_of_years-law 30 ∙ ap (λ (n : ℕ). 4_371_953 + n) years_30 in
+    let less = day_count-lt_year (pos y) m d (pos 2000) 1 1 law.civil (omega arith) (omega (arith, signed_arith)) in
+    let c = law.counted in
+    omega (arith, first, less, c)
+
+pub year_from : (day : ℕ) → 10_957 ≤ day → day ≤ 60_000 → 2000 ≤ (civil_of day).year
+year_from day low high =
+    let b : (civil_of day).year < 2000 → ⊥ = not_before _ _ _ day (civil_of-law day high) low in
+    omega (arith, b)
+
+last_of_2099 : day_number 2099 12 31 ≡ 47_481
+unfolding day_number days_of_years days_of_months
+last_of_2099 = refl
+
+not_after : (y m d day : ℕ) → IsDateOf day (record { year = y; month = m; day = d }) → day < 47_482 → 2099 < y → ⊥
+not_after y m d day law high after =
+    let last = day_number-count 2099 12 31 (omega arith) (omega arith) ∙ ap (λ (n : ℕ). 4_371_953 + n) last_of_2099 in
+    let less = day_count-lt_year (pos 2099) 12 31 (pos y) m d ((omega (arith, signed_arith), omega (arith, signed_arith)), (omega arith, omega arith), (omega arith, omega arith)) law.civil.2.0 (omega (arith, signed_arith)) in
+    let c = law.counted in
+    omega (arith, last, less, c)
+
+pub year_until : (day : ℕ) → day ≤ 47_481 → (civil_of day).year ≤ 2099
+year_until day high =
+    let a : 2099 < (civil_of day).year → ⊥ = not_after _ _ _ day (civil_of-law day (omega arith)) (omega arith) in
+    omega (arith, a)

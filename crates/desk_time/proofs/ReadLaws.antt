@@ -1,12 +1,12 @@
 -- A text that is read is the shown text of its moment.
-use Rattle.std.proofs.Common.{◌≡◌, ℕ, ◌+◌, ◌-◌, ◌*◌, ◌/◌, ◌%◌, ◌<◌, ◌≤◌, ◌&&◌, nat_le, nat_lt, Bool, true, false, cond, pos, ◌==◌, Option, Some, None, List, [], ◌∷◌, refl, sym, ap, subst, arith}
+use Rattle.std.proofs.Common.{◌≡◌, ℕ, ◌+◌, ◌-◌, ◌*◌, ◌/◌, ◌%◌, ◌<◌, ◌≤◌, ◌&&◌, nat_le, nat_lt, Bool, true, false, cond, pos, ◌==◌, Option, Some, None, List, [], ◌∷◌, refl, sym, ◌∙◌, ap, subst, arith}
 use Rattle.std.proofs.lemmas.Bool.{leb-true, ltb-true, eqb-true}
 use Rattle.jiff_core.proofs.SignedLemmas.{signed_arith}
 use Rattle.jiff_core.specs.Calendar.{days_in_month}
 use Rattle.jiff_core.specs.declared.civil.date.Date.{Date}
 use Rattle.desk_time.specs.Calendar.{civil_of, day_number, day_at, is_date}
 use Rattle.desk_time.specs.Digits.{digit, pair, ◌>>=◌}
-use Rattle.desk_time.specs.Moments.{shown, date_at, time_at, time_of, minute_of}
+use Rattle.desk_time.specs.Moments.{shown, date_at, time_at, time_of, written, up_to, minute_of, shown_of}
 use Rattle.desk_time.proofs.CalendarLaws.{day_number-count, days_are, date_is}
 
 abbrev Missing : Option ℕ → Type 0
@@ -57,13 +57,13 @@ day_is : (y m d day : ℕ) → day_at y m d ≡ Some day → day ≤ 60_000
 unfolding day_at
 day_is y m d day e small =
     let t = tested (is_date y m d) (day_number y m d) day e in
-    let s1 = both (nat_le 2000 y && nat_le y 2099 && nat_le 1 m && nat_le m 12 && nat_le 1 d) (nat_le d (days_in_month (pos y) m)) t.0 in
-    let s2 = both (nat_le 2000 y && nat_le y 2099 && nat_le 1 m && nat_le m 12) (nat_le 1 d) s1.0 in
-    let s3 = both (nat_le 2000 y && nat_le y 2099 && nat_le 1 m) (nat_le m 12) s2.0 in
-    let s4 = both (nat_le 2000 y && nat_le y 2099) (nat_le 1 m) s3.0 in
-    let s5 = both (nat_le 2000 y) (nat_le y 2099) s4.0 in
+    let s1 = both (nat_le 2000 y && nat_le y 9999 && nat_le 1 m && nat_le m 12 && nat_le 1 d) (nat_le d (days_in_month (pos y) m)) t.0 in
+    let s2 = both (nat_le 2000 y && nat_le y 9999 && nat_le 1 m && nat_le m 12) (nat_le 1 d) s1.0 in
+    let s3 = both (nat_le 2000 y && nat_le y 9999 && nat_le 1 m) (nat_le m 12) s2.0 in
+    let s4 = both (nat_le 2000 y && nat_le y 9999) (nat_le 1 m) s3.0 in
+    let s5 = both (nat_le 2000 y) (nat_le y 9999) s4.0 in
     let yl = leb-true 2000 y s5.0 in
-    let yh = leb-true y 2099 s5.1 in
+    let yh = leb-true y 9999 s5.1 in
     let ml = leb-true 1 m s4.1 in
     let mh = leb-true m 12 s3.1 in
     let dl = leb-true 1 d s2.1 in
@@ -172,26 +172,26 @@ signs_are m1 m2 m3 m4 m5 e =
     }
 
 -- a text that is read is what is shown of its moment
-pub minute_is_shown : (text : List ℕ) (m : ℕ) → minute_of text ≡ Some m → m ≤ 68_374_079 → text ≡ shown m
-unfolding minute_of
-minute_is_shown [] m is small = absurd (none_is_some m is)
-minute_is_shown (a ∷ []) m is small = absurd (none_is_some m is)
-minute_is_shown (a ∷ b ∷ []) m is small = absurd (none_is_some m is)
-minute_is_shown (a ∷ b ∷ c ∷ []) m is small = absurd (none_is_some m is)
-minute_is_shown (a ∷ b ∷ c ∷ d ∷ []) m is small = absurd (none_is_some m is)
-minute_is_shown (a ∷ b ∷ c ∷ d ∷ m1 ∷ []) m is small = absurd (none_is_some m is)
-minute_is_shown (a ∷ b ∷ c ∷ d ∷ m1 ∷ e ∷ []) m is small = absurd (none_is_some m is)
-minute_is_shown (a ∷ b ∷ c ∷ d ∷ m1 ∷ e ∷ f ∷ []) m is small = absurd (none_is_some m is)
-minute_is_shown (a ∷ b ∷ c ∷ d ∷ m1 ∷ e ∷ f ∷ m2 ∷ []) m is small = absurd (none_is_some m is)
-minute_is_shown (a ∷ b ∷ c ∷ d ∷ m1 ∷ e ∷ f ∷ m2 ∷ g ∷ []) m is small = absurd (none_is_some m is)
-minute_is_shown (a ∷ b ∷ c ∷ d ∷ m1 ∷ e ∷ f ∷ m2 ∷ g ∷ h ∷ []) m is small = absurd (none_is_some m is)
-minute_is_shown (a ∷ b ∷ c ∷ d ∷ m1 ∷ e ∷ f ∷ m2 ∷ g ∷ h ∷ m3 ∷ []) m is small = absurd (none_is_some m is)
-minute_is_shown (a ∷ b ∷ c ∷ d ∷ m1 ∷ e ∷ f ∷ m2 ∷ g ∷ h ∷ m3 ∷ i ∷ []) m is small = absurd (none_is_some m is)
-minute_is_shown (a ∷ b ∷ c ∷ d ∷ m1 ∷ e ∷ f ∷ m2 ∷ g ∷ h ∷ m3 ∷ i ∷ j ∷ []) m is small = absurd (none_is_some m is)
-minute_is_shown (a ∷ b ∷ c ∷ d ∷ m1 ∷ e ∷ f ∷ m2 ∷ g ∷ h ∷ m3 ∷ i ∷ j ∷ m4 ∷ []) m is small = absurd (none_is_some m is)
-minute_is_shown (a ∷ b ∷ c ∷ d ∷ m1 ∷ e ∷ f ∷ m2 ∷ g ∷ h ∷ m3 ∷ i ∷ j ∷ m4 ∷ k ∷ []) m is small = absurd (none_is_some m is)
-minute_is_shown (a ∷ b ∷ c ∷ d ∷ m1 ∷ e ∷ f ∷ m2 ∷ g ∷ h ∷ m3 ∷ i ∷ j ∷ m4 ∷ k ∷ l ∷ []) m is small = absurd (none_is_some m is)
-minute_is_shown (a ∷ b ∷ c ∷ d ∷ m1 ∷ e ∷ f ∷ m2 ∷ g ∷ h ∷ m3 ∷ i ∷ j ∷ m4 ∷ k ∷ l ∷ m5 ∷ []) m is small =
+written_is_shown : (text : List ℕ) (m : ℕ) → written text ≡ Some m → m ≤ 69_000_000 → text ≡ shown m
+unfolding written
+written_is_shown [] m is small = absurd (none_is_some m is)
+written_is_shown (a ∷ []) m is small = absurd (none_is_some m is)
+written_is_shown (a ∷ b ∷ []) m is small = absurd (none_is_some m is)
+written_is_shown (a ∷ b ∷ c ∷ []) m is small = absurd (none_is_some m is)
+written_is_shown (a ∷ b ∷ c ∷ d ∷ []) m is small = absurd (none_is_some m is)
+written_is_shown (a ∷ b ∷ c ∷ d ∷ m1 ∷ []) m is small = absurd (none_is_some m is)
+written_is_shown (a ∷ b ∷ c ∷ d ∷ m1 ∷ e ∷ []) m is small = absurd (none_is_some m is)
+written_is_shown (a ∷ b ∷ c ∷ d ∷ m1 ∷ e ∷ f ∷ []) m is small = absurd (none_is_some m is)
+written_is_shown (a ∷ b ∷ c ∷ d ∷ m1 ∷ e ∷ f ∷ m2 ∷ []) m is small = absurd (none_is_some m is)
+written_is_shown (a ∷ b ∷ c ∷ d ∷ m1 ∷ e ∷ f ∷ m2 ∷ g ∷ []) m is small = absurd (none_is_some m is)
+written_is_shown (a ∷ b ∷ c ∷ d ∷ m1 ∷ e ∷ f ∷ m2 ∷ g ∷ h ∷ []) m is small = absurd (none_is_some m is)
+written_is_shown (a ∷ b ∷ c ∷ d ∷ m1 ∷ e ∷ f ∷ m2 ∷ g ∷ h ∷ m3 ∷ []) m is small = absurd (none_is_some m is)
+written_is_shown (a ∷ b ∷ c ∷ d ∷ m1 ∷ e ∷ f ∷ m2 ∷ g ∷ h ∷ m3 ∷ i ∷ []) m is small = absurd (none_is_some m is)
+written_is_shown (a ∷ b ∷ c ∷ d ∷ m1 ∷ e ∷ f ∷ m2 ∷ g ∷ h ∷ m3 ∷ i ∷ j ∷ []) m is small = absurd (none_is_some m is)
+written_is_shown (a ∷ b ∷ c ∷ d ∷ m1 ∷ e ∷ f ∷ m2 ∷ g ∷ h ∷ m3 ∷ i ∷ j ∷ m4 ∷ []) m is small = absurd (none_is_some m is)
+written_is_shown (a ∷ b ∷ c ∷ d ∷ m1 ∷ e ∷ f ∷ m2 ∷ g ∷ h ∷ m3 ∷ i ∷ j ∷ m4 ∷ k ∷ []) m is small = absurd (none_is_some m is)
+written_is_shown (a ∷ b ∷ c ∷ d ∷ m1 ∷ e ∷ f ∷ m2 ∷ g ∷ h ∷ m3 ∷ i ∷ j ∷ m4 ∷ k ∷ l ∷ []) m is small = absurd (none_is_some m is)
+written_is_shown (a ∷ b ∷ c ∷ d ∷ m1 ∷ e ∷ f ∷ m2 ∷ g ∷ h ∷ m3 ∷ i ∷ j ∷ m4 ∷ k ∷ l ∷ m5 ∷ []) m is small =
     let at_signs = chosen ((m1 == 45) && (m2 == 45) && (m3 == 84) && (m4 == 58) && (m5 == 90)) (date_at (a ∷ b ∷ c ∷ d ∷ e ∷ f ∷ g ∷ h ∷ []) >>= (λ day. time_at (i ∷ j ∷ k ∷ l ∷ []) >>= (λ time. Some (1440 * day + time)))) m is in
     let day = found (date_at (a ∷ b ∷ c ∷ d ∷ e ∷ f ∷ g ∷ h ∷ [])) (λ day. time_at (i ∷ j ∷ k ∷ l ∷ []) >>= (λ time. Some (1440 * day + time))) m at_signs.1 in
     let time = found (time_at (i ∷ j ∷ k ∷ l ∷ [])) (λ time. Some (1440 * day.0 + time)) m day.2 in
@@ -199,4 +199,20 @@ minute_is_shown (a ∷ b ∷ c ∷ d ∷ m1 ∷ e ∷ f ∷ m2 ∷ g ∷ h ∷ m
     let signs = signs_are m1 m2 m3 m4 m5 at_signs.0 in
     rw (signs.first, signs.second, signs.third, signs.fourth, signs.fifth)
     (text_is_shown a b c d e f g h i j k l day.0 time.0 m day.1 time.1 (omega (arith, sum, small)) sum)
-minute_is_shown (a ∷ b ∷ c ∷ d ∷ m1 ∷ e ∷ f ∷ m2 ∷ g ∷ h ∷ m3 ∷ i ∷ j ∷ m4 ∷ k ∷ l ∷ m5 ∷ n ∷ more) m is small = absurd (none_is_some m is)
+written_is_shown (a ∷ b ∷ c ∷ d ∷ m1 ∷ e ∷ f ∷ m2 ∷ g ∷ h ∷ m3 ∷ i ∷ j ∷ m4 ∷ k ∷ l ∷ m5 ∷ n ∷ more) m is small = absurd (none_is_some m is)
+
+reached_is_shown : (last : ℕ) (text : List ℕ) (m : ℕ) → (written text >>= up_to last) ≡ Some m → last ≤ 69_000_000 → text ≡ shown m
+reached_is_shown last text m is few =
+    let at = found (written text) (up_to last) m is in
+    let within = tested (nat_le at.0 last) at.0 m at.2 in
+    let small = leb-true at.0 last within.0 in
+    let same = within.1 in
+    written_is_shown text m (at.1 ∙ ap (λ (n : ℕ). Some n) same) (omega (arith, small, same))
+
+pub minute_is_shown : (text : List ℕ) (m : ℕ) → minute_of text ≡ Some m → text ≡ shown m
+unfolding minute_of
+minute_is_shown text m is = reached_is_shown 68_374_079 text m is (omega arith)
+
+pub shown_is_shown : (text : List ℕ) (m : ℕ) → shown_of text ≡ Some m → text ≡ shown m
+unfolding shown_of
+shown_is_shown text m is = reached_is_shown 69_000_000 text m is (omega arith)

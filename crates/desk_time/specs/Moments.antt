@@ -4,7 +4,7 @@ use Rattle.desk_time.specs.Digits.{pair, ◌>>=◌}
 use Rattle.desk_time.specs.Calendar.{Civil, civil_of, day_of_month, day_at}
 use Rattle.desk_time.specs.declared.moments.BadDay.{BadDay}
 use Rattle.desk_time.specs.declared.moments.BadDay.TheVariants.{BadTime, OutOfReach}
-use Rattle.desk_time.specs.Limits.{first_moment, last_moment}
+use Rattle.desk_time.specs.Limits.{first_moment, last_moment, last_shown}
 
 -- the first of that many days with that day of the month
 abbrev pub day_named : ℕ → ℕ → ℕ → Option ℕ
@@ -77,11 +77,22 @@ time_at (a ∷ b ∷ c ∷ d ∷ []) = do
   time_of hour minute
 time_at _ = None
 
--- the moment of a text such as 2025-03-12T17:00Z
-unfoldable pub minute_of : List ℕ → Option ℕ
-minute_of (a ∷ b ∷ c ∷ d ∷ m1 ∷ e ∷ f ∷ m2 ∷ g ∷ h ∷ m3 ∷ i ∷ j ∷ m4 ∷ k ∷ l ∷ m5 ∷ []) =
+-- the moment of a text such as 2025-03-12T17:00Z, from 2000 to 9999
+unfoldable pub written : List ℕ → Option ℕ
+written (a ∷ b ∷ c ∷ d ∷ m1 ∷ e ∷ f ∷ m2 ∷ g ∷ h ∷ m3 ∷ i ∷ j ∷ m4 ∷ k ∷ l ∷ m5 ∷ []) =
     if (m1 == 45) && (m2 == 45) && (m3 == 84) && (m4 == 58) && (m5 == 90) then (do
       day ← date_at (a ∷ b ∷ c ∷ d ∷ e ∷ f ∷ g ∷ h ∷ [])
       time ← time_at (i ∷ j ∷ k ∷ l ∷ [])
       Some (1440 * day + time)) else None
-minute_of _ = None
+written _ = None
+
+abbrev pub up_to : ℕ → ℕ → Option ℕ
+up_to last at = if nat_le at last then Some at else None
+
+-- the moment of a text such as 2025-03-12T17:00Z, from the first to the last that is read
+unfoldable pub minute_of : List ℕ → Option ℕ
+minute_of text = written text >>= up_to last_moment
+
+-- the same, from the first that is read to the last that is shown
+unfoldable pub shown_of : List ℕ → Option ℕ
+shown_of text = written text >>= up_to last_shown

@@ -5,7 +5,9 @@ mod calendar;
 mod digits;
 mod moments;
 
+pub use calendar::three_months;
 pub use digits::{digit, pair};
 pub use moments::{
-    BadDay, FIRST, LAST, Minute, PLAN_FIRST, PLAN_LAST, SHOWN_LAST, read_minute, resolve, show,
+    BadDay, FIRST, LAST, Minute, PLAN_FIRST, PLAN_LAST, SHOWN_LAST, read_minute, read_shown,
+    resolve, show,
 };

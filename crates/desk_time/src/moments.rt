@@ -1,6 +1,6 @@
 ghost use Rattle.std.specs.Prelude.{ℕ, Some, ◌↔◌, ◌≡◌, ◌+◌, ◌*◌, ◌<◌, ◌≤◌, pos, IfSome, IfOk};
 ghost use Rattle.desk_time.specs.Moments as spec;
-ghost use Rattle.desk_time.specs.Moments.{Resolves, resolved, shown, minute_of};
+ghost use Rattle.desk_time.specs.Moments.{Resolves, resolved, shown, written, minute_of, shown_of};
 ghost use Rattle.desk_time.specs.Calendar.{day_of_month};
 
 use crate::calendar::{day_at, day_of_month, parts_of};
@@ -136,7 +136,7 @@ fn time_of(hour: u8, minute: u8) -> Option<u64>
 
 fn date_at(text: [u8; 8]) -> Option<u64>
     ensures value { result ≡ spec.date_at text }
-    ensures bound { IfSome result (λ d. (10_957 ≤ d) × (d ≤ 47_481)) }
+    ensures bound { IfSome result (λ d. (10_957 ≤ d) × (d ≤ 2_932_896)) }
 {
     let [a, b, c, d, e, f, g, h] = text;
     let year = 100 * pair(a, b)? as u16 + pair(c, d)? as u16;
@@ -155,10 +155,10 @@ fn time_at(text: [u8; 4]) -> Option<u64>
     time_of(hour, minute)
 }
 
-#[tactic(auto, unfolding(crate::specs::Moments::minute_of))]
-fn minute_in(text: &[u8]) -> Option<Minute>
-    ensures value { result ≡ minute_of text.now }
-    ensures range { IfSome result (λ m. (FIRST ≤ m) × (m ≤ LAST)) }
+#[tactic(auto, unfolding(crate::specs::Moments::written))]
+fn written(text: &[u8]) -> Option<Minute>
+    ensures value { result ≡ written text.now }
+    ensures low { IfSome result (λ m. FIRST ≤ m) }
 {
     let [
         a,
@@ -187,6 +187,28 @@ fn minute_in(text: &[u8]) -> Option<Minute>
     Some(1440 * day + time)
 }
 
+fn up_to(last: Minute, at: Minute) -> Option<Minute>
+    ensures { result ≡ spec.up_to last at }
+{
+    if at <= last { Some(at) } else { None }
+}
+
+#[tactic(auto, unfolding(crate::specs::Moments::minute_of))]
+fn minute_in(text: &[u8]) -> Option<Minute>
+    ensures value { result ≡ minute_of text.now }
+    ensures range { IfSome result (λ m. (FIRST ≤ m) × (m ≤ LAST)) }
+{
+    up_to(LAST, written(text)?)
+}
+
+#[tactic(auto, unfolding(crate::specs::Moments::shown_of))]
+fn shown_in(text: &[u8]) -> Option<Minute>
+    ensures value { result ≡ shown_of text.now }
+    ensures range { IfSome result (λ m. (FIRST ≤ m) × (m ≤ SHOWN_LAST)) }
+{
+    up_to(SHOWN_LAST, written(text)?)
+}
+
 /// The moment of a text such as `2025-03-12T17:00Z`: a real date from 2000 to 2099, and a time from
 /// 00:00 to 23:59. It reads what `show` prints of a moment from `FIRST` to `LAST`, and nothing else.
 pub fn read_minute(text: &[u8]) -> Option<Minute>
@@ -195,4 +217,13 @@ pub fn read_minute(text: &[u8]) -> Option<Minute>
     ensures exact { (m : ℕ) → (result ≡ Some m) ↔ ((FIRST ≤ m) × (m ≤ LAST) × (text.now ≡ shown m)) }
 {
     minute_in(text)
+}
+
+/// The moment that `show` prints as that text, from `FIRST` to `SHOWN_LAST`; no other text has one.
+pub fn read_shown(text: &[u8]) -> Option<Minute>
+    ensures value { result ≡ shown_of text.now }
+    ensures range { IfSome result (λ m. (FIRST ≤ m) × (m ≤ SHOWN_LAST)) }
+    ensures exact { (m : ℕ) → (result ≡ Some m) ↔ ((FIRST ≤ m) × (m ≤ SHOWN_LAST) × (text.now ≡ shown m)) }
+{
+    shown_in(text)
 }
