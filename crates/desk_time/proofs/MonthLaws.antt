@@ -6,7 +6,7 @@ use Rattle.jiff_core.specs.Calendar.{days_in_year, days_in_month, days_of_months
 use Rattle.jiff_core.proofs.CalendarLemmas.{day_of_year_bound, days_in_month_bounds, days_of_months_mono}
 use Rattle.jiff_core.specs.declared.civil.date.Date.{Date}
 use Rattle.desk_time.specs.Calendar.{Civil, civil_of, days_of_years, day_number, third_month, third_year, three_months, AreThreeMonths}
-use Rattle.desk_time.proofs.CalendarLaws.{civil_of-law, date_is, days_are, day_number-count, days_of_years-mono, years_130, year_from, year_until}
+use Rattle.desk_time.proofs.CalendarLaws.{civil_of-law, date_is, days_are, day_number-count, days_of_years-mono, years_30, years_130, year_from, year_until}
 
 is_civil : (y m d : ℕ) → y ≤ 9999 → 1 ≤ m → m ≤ 12 → 1 ≤ d → d ≤ days_in_month (pos y) m → IsCivilDate (pos y) m d
 is_civil y m d yh ml mh dl dh = ((omega (arith, signed_arith), omega (arith, signed_arith)), (ml, mh), (dl, dh))
@@ -83,6 +83,17 @@ unfolding three_months
 three_months_range day low high =
     let t = third_of day low high in
     until_march _ _ _ t.year_low t.civil t.early
+
+from_2000 : (y m d : ℕ) → 2000 ≤ y → 10_957 ≤ day_number y m d
+unfolding day_number days_of_years
+from_2000 y m d low =
+    let start : 30 + (y - 2000) ≡ y - 1970 = omega arith in
+    let least = subst (λ (z : ℕ). days_of_years 30 ≤ days_of_years z) start (days_of_years-mono 30 (y - 2000)) in
+    omega (arith, least, years_30)
+
+pub three_months_low : (day : ℕ) → 10_957 ≤ day → day ≤ 47_481 → 10_957 ≤ three_months day
+unfolding three_months
+three_months_low day low high = from_2000 _ _ _ (third_of day low high).year_low
 
 pub three_months_later : (day : ℕ) → 10_957 ≤ day → day ≤ 47_481 → AreThreeMonths (civil_of day) (civil_of (three_months day))
 unfolding three_months

@@ -36,7 +36,7 @@ use Rattle.asks.specs.declared.call.Ask.TheVariants as ask
 use Rattle.asks.specs.declared.call.Call.{Call}
 use Rattle.asks.specs.declared.reply.Refusal.{Refusal}
 use Rattle.machine.specs.declared.effect.Decision.{Decision}
-use Rattle.desk_time.proofs.MonthLaws.{three_months_within}
+use Rattle.desk_time.proofs.MonthLaws.{three_months_low, three_months_range}
 use Rattle.alerts.specs.declared.alert.Alert.{Alert}
 use Rattle.rules.specs.Grounds.{Grounds}
 use Rattle.machine.specs.State.{State, grounds_of, failing_in, failing_of, release_at, alert_at}
@@ -647,10 +647,9 @@ kept_shown : (at : ℕ) → IsMoment at → CanBeShown (d.kept_until at)
 kept_shown at is =
     let low = is.0 in
     let high = is.1 in
-    let within = three_months_within (at / 1440) (omega (arith, high)) in
-    let least = within.0 in
-    let most = within.1 in
-    (omega (arith, low, least), omega (arith, high, most))
+    let least = three_months_low (at / 1440) (omega (arith, low)) (omega (arith, high)) in
+    let most = three_months_range (at / 1440) (omega (arith, low)) (omega (arith, high)) in
+    (omega (arith, least), omega (arith, most))
 
 ended_stops : (phase : Phase) (x : Refusal) → HasMoment phase → d.ended phase ≡ Err x → RefusalHasMoment x
 ended_stops phase x has e = some_stops _ (d.ended_at phase) has x e
