@@ -12,6 +12,7 @@ pub const DRAFTED: &[u8] = br#"1 DK101 N801DK DRAFTED rev 0 pending 1 D1 -
 {"phase":"DRAFTED","refused":18,"why":"WrongPhase"}
 {"phase":"DRAFTED","refused":18,"why":"WrongPhase"}
 {"refused":20,"why":"NoSuchAlert"}
+{"phase":"DRAFTED","refused":18,"why":"WrongPhase"}
 "#;
 
 /// Of a draft that is prepared.
@@ -28,6 +29,7 @@ pub const PREPARED: &[u8] = br#"1 DK101 N801DK DRAFTED rev 0 pending 1 D1 -
 {"phase":"DRAFTED","refused":18,"why":"WrongPhase"}
 {"phase":"DRAFTED","refused":18,"why":"WrongPhase"}
 {"refused":20,"why":"NoSuchAlert"}
+{"phase":"DRAFTED","refused":18,"why":"WrongPhase"}
 "#;
 
 /// Of a draft that its dispatcher has signed.
@@ -45,6 +47,7 @@ pub const DISPATCHED: &[u8] = br#"1 DK101 N801DK DRAFTED rev 0 pending 1 D1 -
 {"phase":"DRAFTED","refused":18,"why":"WrongPhase"}
 {"phase":"DRAFTED","refused":18,"why":"WrongPhase"}
 {"refused":20,"why":"NoSuchAlert"}
+{"phase":"DRAFTED","refused":18,"why":"WrongPhase"}
 "#;
 
 /// Of a release that is ready.
@@ -62,6 +65,7 @@ pub const READY: &[u8] = br#"1 DK101 N801DK READY 1 rev 1 pending 0 D1 -
 {"phase":"READY 1","refused":18,"why":"WrongPhase"}
 {"phase":"READY 1","refused":18,"why":"WrongPhase"}
 {"refused":20,"why":"NoSuchAlert"}
+{"phase":"READY 1","refused":18,"why":"WrongPhase"}
 "#;
 
 /// Of a release that is ready, with an amendment that its dispatcher has signed.
@@ -80,6 +84,7 @@ pub const READY_AGAIN: &[u8] = br#"1 DK101 N801DK READY 1 rev 1 pending 2 D1 -
 {"phase":"READY 1","refused":18,"why":"WrongPhase"}
 {"phase":"READY 1","refused":18,"why":"WrongPhase"}
 {"refused":20,"why":"NoSuchAlert"}
+{"phase":"READY 1","refused":18,"why":"WrongPhase"}
 "#;
 
 /// Of a release in flight.
@@ -97,6 +102,7 @@ pub const FLYING: &[u8] = br#"1 DK101 N801DK FLYING 1 rev 1 pending 0 D1 -
 1 DK101 N801DK STOPPED 2 2025-03-12T18:02Z rev 1 pending 0 D1 -
 {"phase":"FLYING 1","refused":18,"why":"WrongPhase"}
 {"refused":20,"why":"NoSuchAlert"}
+{"phase":"FLYING 1","refused":18,"why":"WrongPhase"}
 "#;
 
 /// Of a release in flight, with such an amendment.
@@ -115,6 +121,7 @@ pub const FLYING_AMENDED: &[u8] = br#"1 DK101 N801DK FLYING 1 rev 1 pending 2 D1
 1 DK101 N801DK STOPPED 2 2025-03-12T18:02Z rev 1 pending 0 D1 -
 {"phase":"FLYING 1","refused":18,"why":"WrongPhase"}
 {"refused":20,"why":"NoSuchAlert"}
+{"phase":"FLYING 1","refused":18,"why":"WrongPhase"}
 "#;
 
 /// Of a release in flight, with an alert.
@@ -133,6 +140,7 @@ pub const ALERTED: &[u8] = br#"1 DK101 N801DK FLYING 1 rev 1 pending 0 D1 ALERT 
 {"phase":"FLYING 1","refused":18,"why":"WrongPhase"}
 {"done":{"release":1}}
 1 DK101 N801DK FLYING 1 rev 1 pending 0 D1 ALERT v1 ack 121.625/1/1
+{"phase":"FLYING 1","refused":18,"why":"WrongPhase"}
 "#;
 
 /// Of a release that was released again at its stop.
@@ -150,6 +158,7 @@ pub const STOPPED_AGAIN: &[u8] = br#"1 DK101 N801DK STOPPED 2 2025-03-12T19:00Z 
 {"phase":"STOPPED 2 2025-03-12T19:00Z AGAIN","refused":18,"why":"WrongPhase"}
 {"phase":"STOPPED 2 2025-03-12T19:00Z AGAIN","refused":18,"why":"WrongPhase"}
 {"refused":20,"why":"NoSuchAlert"}
+{"phase":"STOPPED 2 2025-03-12T19:00Z AGAIN","refused":18,"why":"WrongPhase"}
 "#;
 
 /// Of a release at its stop.
@@ -167,6 +176,7 @@ pub const STOPPED: &[u8] = br#"1 DK101 N801DK STOPPED 2 2025-03-12T19:00Z rev 1 
 {"phase":"STOPPED 2 2025-03-12T19:00Z","refused":18,"why":"WrongPhase"}
 {"phase":"STOPPED 2 2025-03-12T19:00Z","refused":18,"why":"WrongPhase"}
 {"refused":20,"why":"NoSuchAlert"}
+{"phase":"STOPPED 2 2025-03-12T19:00Z","refused":18,"why":"WrongPhase"}
 "#;
 
 /// Of a release at its stop, with such an amendment.
@@ -186,6 +196,7 @@ pub const STOPPED_AMENDED: &[u8] =
 {"phase":"STOPPED 2 2025-03-12T19:00Z","refused":18,"why":"WrongPhase"}
 {"phase":"STOPPED 2 2025-03-12T19:00Z","refused":18,"why":"WrongPhase"}
 {"refused":20,"why":"NoSuchAlert"}
+{"phase":"STOPPED 2 2025-03-12T19:00Z","refused":18,"why":"WrongPhase"}
 "#;
 
 /// Of a release in its second flight.
@@ -203,6 +214,7 @@ pub const FLYING_ON: &[u8] = br#"1 DK101 N801DK FLYING 2 rev 1 pending 0 D1 -
 {"done":{"release":1}}
 1 DK101 N801DK COMPLETED 2025-03-12T19:52Z rev 1 pending 0 D1 -
 {"refused":20,"why":"NoSuchAlert"}
+{"phase":"FLYING 2","refused":18,"why":"WrongPhase"}
 "#;
 
 /// Of a release that was flown to its end.
@@ -217,6 +229,7 @@ pub const COMPLETED: &[u8] = br#"1 DK101 N801DK COMPLETED 2025-03-12T20:41Z rev 
 {"phase":"COMPLETED 2025-03-12T20:41Z","refused":18,"why":"WrongPhase"}
 {"phase":"COMPLETED 2025-03-12T20:41Z","refused":18,"why":"WrongPhase"}
 {"refused":20,"why":"NoSuchAlert"}
+{"refused":22,"until":"2025-06-13T00:00Z","why":"TooYoung"}
 "#;
 
 /// Of a draft that was cancelled.
@@ -231,6 +244,7 @@ pub const CANCELLED_DRAFT: &[u8] = br#"1 - - CANCELLED 2025-03-12T17:30Z rev 0 p
 {"phase":"CANCELLED 2025-03-12T17:30Z","refused":18,"why":"WrongPhase"}
 {"phase":"CANCELLED 2025-03-12T17:30Z","refused":18,"why":"WrongPhase"}
 {"refused":20,"why":"NoSuchAlert"}
+{"refused":22,"until":"2025-06-13T00:00Z","why":"TooYoung"}
 "#;
 
 /// Of a release that was cancelled.
@@ -245,4 +259,5 @@ pub const CANCELLED: &[u8] = br#"1 DK101 N801DK CANCELLED 2025-03-12T17:33Z rev 
 {"phase":"CANCELLED 2025-03-12T17:33Z","refused":18,"why":"WrongPhase"}
 {"phase":"CANCELLED 2025-03-12T17:33Z","refused":18,"why":"WrongPhase"}
 {"refused":20,"why":"NoSuchAlert"}
+{"refused":22,"until":"2025-06-13T00:00Z","why":"TooYoung"}
 "#;

@@ -24,6 +24,7 @@ pub const ASKS: &[u8] =
 {"actor":"C7","ask":{"do":"arrive","leg":1,"release":1},"at":"2025-03-12T17:00Z","key":"kC7","number":30}
 {"actor":"C7","ask":{"do":"arrive","leg":2,"release":1},"at":"2025-03-12T17:00Z","key":"kC7","number":30}
 {"actor":"D1","ask":{"do":"acknowledge","release":1,"version":1},"at":"2025-03-12T17:00Z","key":"kD1","number":30}
+{"actor":"S1","ask":{"do":"purge","release":1},"at":"2025-03-12T17:00Z","key":"kS1","number":30}
 "#;
 
 /// The signatures on the first revision.

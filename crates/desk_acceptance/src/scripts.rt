@@ -2,6 +2,7 @@ use crate::flown::{
     FLAG_STOPPED, FLAG_STOPPED_SAID, FLOWN, FLOWN_SAID, RELEASED_AGAIN, RELEASED_AGAIN_SAID,
     SIGNED, SIGNED_SAID, STOPPED, STOPPED_SAID,
 };
+use crate::retention::{PURGED, PURGED_SAID};
 use crate::shown::{DIGESTS, DIGESTS_SAID, SHOWN, SHOWN_SAID};
 use crate::texts::{
     ADMITTED, ADMITTED_SAID, AFTERNOON, AFTERNOON_SAID, DEFERRED, DEFERRED_SAID, DUE, DUE_SAID,
@@ -82,6 +83,7 @@ fn commands_are_answered(rt: HostRuntime) -> Result<(), Fail> {
         ("run script", FLAG_STOPPED, 0, FLAG_STOPPED_SAID),
         ("run script", SHOWN, 0, SHOWN_SAID),
         ("run script", DIGESTS, 0, DIGESTS_SAID),
+        ("run script", PURGED, 0, PURGED_SAID),
     ] {
         assert!(rt;
             is_said(rt.alloc(), command, script, status, text)?,
