@@ -2,7 +2,9 @@
 #![tactic(auto)]
 
 mod call;
+mod kept;
 mod reply;
 
 pub use call::{Ask, Call};
+pub use kept::{Floor, Floors, KeptReply};
 pub use reply::{Done, Refusal, Reply};
