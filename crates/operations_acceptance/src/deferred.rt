@@ -4,10 +4,9 @@ use deferrals::{DEFERRAL_LIMIT, Deferral, Deferrals, due, limits_of};
 use desk_io::{Copied, LineFeeds, OutOfMemory, Text, push_all, runs_between};
 use desk_time::Minute;
 use ops_tables::Tables;
-use small_airline::tables_of;
+use small_airline::holds_with;
 use std::alloc::Global;
 use std::test::Fail;
-use table_files::TableFault;
 
 // 2025-03-10 00:00.
 const DAY: Minute = 29_026_080;
@@ -15,13 +14,8 @@ const DAY: Minute = 29_026_080;
 const FOUND: Minute = DAY + 860;
 
 // A list of an item of each category, three of which limit the aircraft.
-fn tables(alloc: Global) -> Result<Tables, TableFault> {
-    tables_of(
-        alloc,
-        "mel.csv",
-        b"A320,34-1,B,0,,300,1,0\nA320,22-1,C,0,ILS,40,1,0\nA320,34-2,D,0,GPS,0,1,0\nA320,34-3,A,7,,0,1,0\n",
-    )
-}
+const ITEMS: &[u8] =
+    b"A320,34-1,B,0,,300,1,0\nA320,22-1,C,0,ILS,40,1,0\nA320,34-2,D,0,GPS,0,1,0\nA320,34-3,A,7,,0,1,0\n";
 
 fn is_due(tables: &Tables, item: &[u8], end: Minute) -> bool {
     match tables.item(b"A320", item) {
@@ -32,17 +26,18 @@ fn is_due(tables: &Tables, item: &[u8], end: Minute) -> bool {
     }
 }
 
+fn are_due(_: Global, tables: &Tables) -> Result<bool, OutOfMemory> {
+    Ok(
+        is_due(tables, b"34-3", DAY + 11_520)
+            && is_due(tables, b"34-1", DAY + 5_760)
+            && is_due(tables, b"22-1", DAY + 15_840)
+            && is_due(tables, b"34-2", DAY + 174_240),
+    )
+}
+
 #[test]
 fn days_count_from_the_day_after(rt: HostRuntime) -> Result<(), Fail> {
-    let tables = tables(rt.alloc())?;
-    for (item, end) in [
-        (b"34-3", DAY + 11_520),
-        (b"34-1", DAY + 5_760),
-        (b"22-1", DAY + 15_840),
-        (b"34-2", DAY + 174_240),
-    ] {
-        assert!(rt; is_due(&tables, item, end));
-    }
+    assert!(rt; holds_with(rt.alloc(), "mel.csv", ITEMS, are_due)?);
     Ok(())
 }
 
@@ -126,17 +121,22 @@ fn is_cleared(alloc: Global) -> Result<bool, OutOfMemory> {
     )
 }
 
+fn are_limits(alloc: Global, tables: &Tables) -> Result<bool, OutOfMemory> {
+    Ok(
+        limits_are(alloc, tables, b"N801DK", b"380 GPS ILS")?
+            && limits_are(alloc, tables, b"N901DK", b"0")?
+            && limits_are(alloc, tables, b"N999DK", b"0")?,
+    )
+}
+
 #[test]
 fn open_deferrals_limit_their_aircraft(rt: HostRuntime) -> Result<(), Fail> {
-    let alloc = rt.alloc();
-    let tables = tables(alloc)?;
-    for (tail, text) in [
-        (b"N801DK", b"380 GPS ILS".as_slice()),
-        (b"N901DK", b"0"),
-        (b"N999DK", b"0"),
-    ] {
-        assert!(rt; limits_are(alloc, &tables, tail, text)?);
-    }
-    assert!(rt; is_cleared(alloc)?);
+    assert!(rt; holds_with(rt.alloc(), "mel.csv", ITEMS, are_limits)?);
+    Ok(())
+}
+
+#[test]
+fn a_cleared_deferral_goes(rt: HostRuntime) -> Result<(), Fail> {
+    assert!(rt; is_cleared(rt.alloc())?);
     Ok(())
 }

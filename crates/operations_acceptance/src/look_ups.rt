@@ -1,6 +1,8 @@
 use codes::Station;
+use desk_io::OutOfMemory;
 use ops_tables::{Category, Role, Tables};
-use small_airline::tables_of;
+use small_airline::holds_with;
+use std::alloc::Global;
 use std::test::Fail;
 
 fn has_stations(tables: &Tables, boston: Station, kennedy: Station) -> bool {
@@ -47,9 +49,12 @@ fn has_all(tables: &Tables) -> Option<[bool; 4]> {
     ])
 }
 
+fn are_looked_up(_: Global, tables: &Tables) -> Result<bool, OutOfMemory> {
+    Ok(has_all(tables) == Some([true; 4]))
+}
+
 #[test]
-fn tables_are_looked_up(rt: HostRuntime) -> Result<(), Fail> {
-    let tables = tables_of(rt.alloc(), "routes.csv", b"KJFK,KBOS\n")?;
-    assert!(rt; has_all(&tables) == Some([true; 4]));
+fn rows_are_found_in_tables(rt: HostRuntime) -> Result<(), Fail> {
+    assert!(rt; holds_with(rt.alloc(), "routes.csv", b"KJFK,KBOS\n", are_looked_up)?);
     Ok(())
 }

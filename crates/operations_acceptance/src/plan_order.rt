@@ -4,7 +4,7 @@ use desk_io::{Blanks, LineFeeds, Listed, OutOfMemory, Run, runs_between};
 use desk_time::Minute;
 use ops_tables::Tables;
 use plan::{Alternate, Leg, Legs, PlanWhy, TakeoffAlternate};
-use small_airline::tables_of;
+use small_airline::holds;
 use std::alloc::Global;
 use std::test::Fail;
 
@@ -188,8 +188,6 @@ fn has_faults(alloc: Global, tables: &Tables) -> Result<bool, OutOfMemory> {
 
 #[test]
 fn plans_are_tested_in_order(rt: HostRuntime) -> Result<(), Fail> {
-    let alloc = rt.alloc();
-    let tables = tables_of(alloc, "routes.csv", b"")?;
-    assert!(rt; has_faults(alloc, &tables)?);
+    assert!(rt; holds(rt.alloc(), has_faults)?);
     Ok(())
 }

@@ -178,17 +178,23 @@ fn a_release_has_its_text(rt: HostRuntime) -> Result<(), Fail> {
     Ok(())
 }
 
+// The same, and then a special report of Kennedy.
+fn held_later(alloc: Global) -> Result<Reports, ReportFault> {
+    let mut reports = held(alloc)?;
+    let special = b"SPECI KJFK 121738Z 24012KT 4SM BR BKN015 11/09 A3008";
+    admit(alloc, &mut reports, 4, special)?;
+    Ok(reports)
+}
+
+fn is_found_newer(alloc: Global, reports: &Reports) -> Result<bool, ReportFault> {
+    let others = held_later(alloc)?;
+    Ok(has_newer(alloc, reports, &others)?)
+}
+
 #[test]
 fn a_newer_report_is_found(rt: HostRuntime) -> Result<(), Fail> {
     let alloc = rt.alloc();
     let reports = held(alloc)?;
-    let mut others = held(alloc)?;
-    admit(
-        alloc,
-        &mut others,
-        4,
-        b"SPECI KJFK 121738Z 24012KT 4SM BR BKN015 11/09 A3008",
-    )?;
-    assert!(rt; has_newer(alloc, &reports, &others)?);
+    assert!(rt; is_found_newer(alloc, &reports)?);
     Ok(())
 }

@@ -11,7 +11,7 @@ use facts::Reports;
 use ops_tables::Tables;
 use plan::{Finding, Kind, Phase, Plan, Rule, finding_text};
 use rules::{Steps, judge, next_due};
-use small_airline::{may_be_checked, small_tables};
+use small_airline::{holds, may_be_checked};
 use std::alloc::Global;
 use std::marker::Brand;
 use std::sync::ledger::{Blank, Ledger};
@@ -228,8 +228,6 @@ fn are_timely(alloc: Global, tables: &Tables) -> Result<bool, OutOfMemory> {
 
 #[test]
 fn rules_of_time_begin_to_fail(rt: HostRuntime) -> Result<(), Fail> {
-    let alloc = rt.alloc();
-    let tables = small_tables(alloc)?;
-    assert!(rt; are_timely(alloc, &tables)?);
+    assert!(rt; holds(rt.alloc(), are_timely)?);
     Ok(())
 }

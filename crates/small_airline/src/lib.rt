@@ -60,7 +60,26 @@ pub fn tables_of(alloc: Global, other: &str, records: &[u8]) -> Result<Tables, T
     read_tables(alloc, &mut shelf)
 }
 
-/// Its tables.
+/// The tables of the small airline.
 pub fn small_tables(alloc: Global) -> Result<Tables, TableFault> {
     tables_of(alloc, "routes.csv", b"")
+}
+
+/// Whether a test holds of the tables of the small airline, with other records in one of them.
+pub fn holds_with(
+    alloc: Global,
+    other: &str,
+    records: &[u8],
+    test: fn(Global, &Tables) -> Result<bool, OutOfMemory>,
+) -> Result<bool, TableFault> {
+    let tables = tables_of(alloc, other, records)?;
+    Ok(test(alloc, &tables)?)
+}
+
+/// Whether a test holds of the tables of the small airline.
+pub fn holds(
+    alloc: Global,
+    test: fn(Global, &Tables) -> Result<bool, OutOfMemory>,
+) -> Result<bool, TableFault> {
+    holds_with(alloc, "routes.csv", b"", test)
 }
