@@ -34,7 +34,7 @@ at_place : (kind : Kind) (station : Station) (rs : List Report) (o : Option ℕ)
 at_place kind station rs None is = sym is
 at_place kind station rs (Some place) is = is.1
 
-place_or : (kind : Kind) (o : Option Places) → place_of kind (places_or o) ≡ place_in kind o
+pub place_or : (kind : Kind) (o : Option Places) → place_of kind (places_or o) ≡ place_in kind o
 place_or kind.Observation None = refl
 place_or kind.Forecast None = refl
 place_or kind (Some p) = refl
@@ -136,21 +136,21 @@ same_either_way q s false e = other (bytes_eq s q) refl
     other false f = refl
     other true f = let same = (bytes_eq-Decides s q).0 f in absurd (let f' : bytes_eq q s ≡ true = subst (λ x. bytes_eq x s ≡ true) same (subst (λ x. bytes_eq s x ≡ true) (sym same) f) in cc)
 
-updated : (kind : Kind) (station : Station) (before after : List (Station × Places)) (rs : List Report) (r : Report) (b : Bool)
-    → bytes_eq station (station_of_report r) ≡ b → IsLatestIndex before rs
+pub updated : (kind : Kind) (station : Station) (before after : List (Station × Places)) (rs : List Report) (r : Report) (b : Bool)
+    → bytes_eq station (station_of_report r) ≡ b → ((s : List ℕ) → IsAtPlace kind s rs (place_in kind (of_station before s)))
     → of_station after station ≡ cond b (Some (places_with rs (places_or (of_station before (station_of_report r))) r r.read (length rs))) (of_station before station)
     → IsAtPlace kind station (rs ++ r ∷ []) (place_in kind (of_station after station))
 updated kind station before after rs r true e is with_it =
     let same = (bytes_eq-Decides station (station_of_report r)).0 e in
     let was : IsAtPlace kind station rs (place_of kind (places_or (of_station before (station_of_report r)))) =
     subst (λ s. IsAtPlace kind station rs (place_of kind (places_or (of_station before s)))) same
-    (subst (IsAtPlace kind station rs) (sym (place_or kind (of_station before station))) (is.latest kind station)) in
+    (subst (IsAtPlace kind station rs) (sym (place_or kind (of_station before station))) (is station)) in
     subst (λ o. IsAtPlace kind station (rs ++ r ∷ []) (place_in kind o)) (sym with_it)
     (with_report kind station rs r (places_or (of_station before (station_of_report r))) r.read refl (same_either_way station (station_of_report r) true e) was)
 updated kind station before after rs r false e is with_it =
     subst (λ o. IsAtPlace kind station (rs ++ r ∷ []) (place_in kind o)) (sym with_it)
     (stays kind station rs r (place_in kind (of_station before station))
-    (not_there kind station r (is_kind kind r.read) refl (same_either_way station (station_of_report r) false e)) (is.latest kind station))
+    (not_there kind station r (is_kind kind r.read) refl (same_either_way station (station_of_report r) false e)) (is station))
 
 -- the index with the places of one more report
 pub latest_with : (rs : List Report) (r : Report) (before after : List (Station × Places)) (places : Places) → IsLatestIndex before rs
@@ -161,7 +161,7 @@ pub latest_with : (rs : List Report) (r : Report) (before after : List (Station 
 latest_with rs r before after places is new put each = record {
   stations = ap keys_of put ∙ keys_with (station_of_report r) places before ∙ ap (with_station (station_of_report r)) is.stations ∙ sym (stations_of_push rs r);
   latest = λ kind station.
-      updated kind station before after rs r (bytes_eq station (station_of_report r)) refl is
+      updated kind station before after rs r (bytes_eq station (station_of_report r)) refl (is.latest kind)
       (each station ∙ (λ i. cond (is_eq-slice_cmp station (station_of_report r) i) (Some (new i)) (of_station before station)));
 }
 

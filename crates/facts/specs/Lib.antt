@@ -5,3 +5,4 @@ pub mod Latest
 pub mod Lines
 pub mod Index
 pub mod Sorted
+pub mod Swept

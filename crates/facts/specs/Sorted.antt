@@ -1,5 +1,5 @@
 -- Entries of keys and values, in rising order of the keys.
-use Rattle.std.specs.Prelude.{◌≡◌, ℕ, suc, zero, ◌-◌, ◌<◌, ◌≤◌, List, [], ◌∷◌, length, Vec, vec_len}
+use Rattle.std.specs.Prelude.{◌≡◌, ℕ, suc, zero, ◌-◌, ◌<◌, ◌≤◌, nat_lt, if◌then◌else◌, List, [], ◌∷◌, length, Option, None, Some, Vec, vec_len}
 use Rattle.std.specs.declared.cmp.Ordering.{Ordering}
 use Rattle.std.specs.declared.cmp.Ordering.TheVariants.{Less, Equal, Greater}
 use Rattle.std.specs.declared.alloc.Global.{Global}
@@ -13,6 +13,11 @@ pub record Entries (K V : Type 0) : Type 0 where
 
 abbrev pub entries_in : {K V : Type 0} → Vec (K × V) Global → Entries K V
 entries_in held = record { entries = held.items; room = vec_capacity held - vec_len held }
+
+-- a number where it is below the limit
+abbrev pub if_below : ℕ → Option ℕ → Option ℕ
+if_below limit None = None
+if_below limit (Some n) = if nat_lt n limit then Some n else None
 
 module _ {K V : Type 0} (cmp : K → K → Ordering) (k : K) where
   -- the key is above the first keys, so many

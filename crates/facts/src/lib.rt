@@ -8,6 +8,7 @@ mod reader;
 mod report;
 mod reports;
 mod sorted;
+mod sweeping;
 
 pub use latest::Kind;
 pub use lines::{push_line, push_weather, push_weather_at};

@@ -1,4 +1,5 @@
-ghost use Rattle.std.specs.Prelude.{◌≡◌, ◌==◌, ◌<◌, All, Some, OnOk, OnErr, IfSome, drop, length};
+ghost use Rattle.std.specs.Prelude.{◌≡◌, ◌==◌, ◌<◌, ◌+◌, List, ℕ, All, Some, OnOk, OnErr, IfSome, drop, length};
+ghost use Rattle.std.specs.List.Sorted.{IsNonDecreasing};
 ghost use Rattle.std.specs.List.{find, slice_get};
 ghost use Rattle.std.specs.Option.{option_copied, option_map, option_and_then};
 ghost use Rattle.taf.specs.Parts.{IsMoment};
@@ -7,6 +8,7 @@ ghost use Rattle.facts.specs.Reading.{HasMoments, TafHasMoments, IsRead};
 ghost use Rattle.facts.specs.Reports.{room_for, no_reports, reserved, admitted, AreHeld};
 ghost use Rattle.facts.specs.Index.{IsLatestIndex, IsFirstIndex, id_from};
 ghost use Rattle.facts.specs.Lines.{AreStations, stations_of};
+ghost use Rattle.facts.specs.Swept.{with_swept};
 ghost use Rattle.std.specs.Map.{keys_of};
 ghost use Rattle.facts.specs.Latest.{
   latest,
@@ -22,6 +24,7 @@ use crate::index::{Places, fingerprint, first_place, key_of, place_of, places_at
 use crate::latest::Kind;
 use crate::report::Report;
 use crate::sorted::Sorted;
+use crate::sweeping::{index_firsts, index_latest, sweep_held};
 use codes::Station;
 use desk_io::OutOfMemory;
 use desk_time::Minute;
@@ -184,6 +187,23 @@ impl Reports {
         self.firsts.put_reserved(key, first);
         self.held.push_reserved(report);
         self.room = None;
+    }
+
+    /// Takes away the reports that were observed or issued before that moment, but for the latest of
+    /// each kind and station and those with a number among `keep`, which doesn't fall. It answers how
+    /// many went, leaves no room, and takes no memory.
+    pub fn sweep(&mut self, before: Minute, keep: &[u64]) -> u64
+        requires { IsNonDecreasing keep.now }
+        ensures reports { self.new ≡ with_swept before keep.now self.old }
+        ensures count { result + length self.new.reports ≡ length self.old.reports }
+        ensures latest { (kind : Kind) (station : List ℕ) → latest kind station self.new.reports ≡ latest kind station self.old.reports }
+    {
+        let count = self.len();
+        sweep_held(&mut self.held, &self.stations, before, keep);
+        index_latest(&mut self.stations, &self.held);
+        index_firsts(&mut self.firsts, &self.held);
+        self.room = None;
+        (count - self.held.len()) as u64
     }
 
     /// The latest METAR or SPECI of the station with those characters.

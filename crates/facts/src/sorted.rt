@@ -1,9 +1,9 @@
 ghost use Rattle.std.specs.Prelude.{◌≡◌, ◌≤◌, ◌+◌, [], IfOk, IfErr, OnOk, length, if◌then◌else◌, Some};
-ghost use Rattle.std.specs.Option.{option_copied};
+ghost use Rattle.std.specs.Option.{option_copied, option_map};
 ghost use Rattle.std.specs.List.Sorted.{IsStrictlySortedBy};
 ghost use Rattle.std.specs.Map.{lookup, keys_of, remove_entry};
 ghost use Rattle.std.specs.BTreeMap.{insert_entry, is_at};
-ghost use Rattle.facts.specs.Sorted.{IsFoundAt, IsGapAt};
+ghost use Rattle.facts.specs.Sorted.{IsFoundAt, IsGapAt, if_below};
 
 use desk_io::OutOfMemory;
 use std::alloc::Global;
@@ -95,6 +95,28 @@ impl<K: Ord + Drop, V: Drop> Sorted<K, V> {
         }
     }
 
+    /// Puts the value in place of the one at that key, where the key is there. It takes no memory.
+    pub(crate) fn replace(&mut self, key: &K, value: V)
+        ensures keys { keys_of self.new.entries ≡ keys_of self.old.entries }
+        ensures each { (q : K) → lookup (is_at (K.cmp q)) self.new.entries ≡ (if is_at (K.cmp q) key.now then option_map (λ _. value) (lookup (is_at (K.cmp q)) self.old.entries) else lookup (is_at (K.cmp q)) self.old.entries) }
+    {
+        if let Ok(i) = self.place(key) {
+            self.held[i].1 = value;
+        }
+    }
+
+    /// Puts the value in place of every other. It takes no memory.
+    pub(crate) fn set_all(&mut self, value: V)
+    where
+        V: Copy,
+        ensures keys { keys_of self.new.entries ≡ keys_of self.old.entries }
+        ensures each { (q : K) → lookup (is_at (K.cmp q)) self.new.entries ≡ option_map (λ _. value) (lookup (is_at (K.cmp q)) self.old.entries) }
+    {
+        for place in 0..self.held.len() {
+            self.held[place].1 = value;
+        }
+    }
+
     // Where the key is, or where it would go.
     fn place(&self, key: &K) -> Result<usize, usize>
         ensures found { IfOk result (IsFoundAt K.cmp key.now self.now.entries) }
@@ -105,5 +127,21 @@ impl<K: Ord + Drop, V: Drop> Sorted<K, V> {
                 ensures { result ≡ K.cmp entry.now.0 key.entry.now }
             { entry.0.cmp(key) },
         )
+    }
+}
+
+impl<K: Ord + Drop> Sorted<K, usize> {
+    /// Takes away each entry whose value isn't below the limit. It takes no memory.
+    pub(crate) fn keep_below(&mut self, limit: usize)
+        ensures { (q : K) → lookup (is_at (K.cmp q)) self.new.entries ≡ if_below limit (lookup (is_at (K.cmp q)) self.old.entries) }
+    {
+        let mut to = 0;
+        for from in 0..self.held.len() {
+            if self.held[from].1 < limit {
+                self.held.swap(to, from);
+                to += 1;
+            }
+        }
+        self.held.truncate(to);
     }
 }

@@ -1,0 +1,120 @@
+ghost use Rattle.std.specs.Prelude.{ℕ, ◌≡◌, ◌==◌, ◌<◌, AllPairs, length};
+ghost use Rattle.std.specs.List.{list_any};
+ghost use Rattle.std.specs.List.Sorted.{IsNonDecreasing};
+ghost use Rattle.std.specs.Map.{lookup, keys_of};
+ghost use Rattle.std.specs.BTreeMap.{is_at};
+ghost use Rattle.std.specs.Option.{option_map, option_and_then, unwrap_or};
+ghost use Rattle.facts.specs.Index.{IsLatestIndex, key_cmp, first_from};
+ghost use Rattle.facts.specs.Lines.{stations_of};
+ghost use Rattle.facts.specs.Swept as spec;
+ghost use Rattle.facts.specs.Swept.{swept};
+
+use crate::index::{Places, key_of, place_of, places_at, places_with};
+use crate::latest::Kind;
+use crate::report::{Read, Report};
+use crate::sorted::Sorted;
+use desk_time::Minute;
+
+fn kind_of(read: &Read) -> Kind
+    ensures { result ≡ spec.kind_of read.now }
+{
+    match read {
+        Read::Metar(_) => Kind::Observation,
+        Read::Taf(_) => Kind::Forecast,
+    }
+}
+
+fn is_place(latest: Option<usize>, place: usize) -> bool
+    ensures { result ≡ spec.is_place latest place }
+{
+    match latest {
+        Some(at) => at == place,
+        None => false,
+    }
+}
+
+fn stands_latest(stations: &Sorted<[u8; 4], Places>, report: &Report, place: usize) -> bool
+    ensures { result ≡ spec.stands_latest stations.now.entries report.now place }
+{
+    let places = places_at(stations, report.station().bytes());
+    is_place(place_of(kind_of(&report.read), places), place)
+}
+
+fn is_kept(keep: &[u64], id: u64) -> bool
+    requires { IsNonDecreasing keep.now }
+    ensures { result ≡ list_any (λ kept. kept == id) keep.now }
+{
+    keep.binary_search(&id).is_ok()
+}
+
+fn stays_at(
+    before: Minute,
+    keep: &[u64],
+    stations: &Sorted<[u8; 4], Places>,
+    report: &Report,
+    place: usize,
+) -> bool
+    requires { IsNonDecreasing keep.now }
+    ensures { result ≡ spec.stays_at before keep.now stations.now.entries report.now place }
+{
+    before <= report.minute() || stands_latest(stations, report, place) || is_kept(keep, report.id)
+}
+
+/// Takes away the reports that don't stay, where the index is that of the reports.
+#[tactic(auto, unfolding(crate::specs::Swept::swept))]
+pub(crate) fn sweep_held(
+    held: &mut Vec<Report>,
+    stations: &Sorted<[u8; 4], Places>,
+    before: Minute,
+    keep: &[u64],
+)
+    requires rising { AllPairs (λ a b. a.id < b.id) held.old.items }
+    requires index { IsLatestIndex stations.now.entries held.old.items }
+    requires keep { IsNonDecreasing keep.now }
+    ensures { held.new.items ≡ swept before keep.now held.old.items }
+{
+    let mut to = 0;
+    for from in 0..held.len() {
+        if stays_at(before, keep, stations, &held[from], from) {
+            held.swap(to, from);
+            to += 1;
+        }
+    }
+    held.truncate(to);
+}
+
+/// Makes the places those of the latest of these reports, which are of the same stations. It takes no
+/// memory.
+pub(crate) fn index_latest(stations: &mut Sorted<[u8; 4], Places>, held: &[Report])
+    requires { keys_of stations.old.entries ≡ stations_of held.now }
+    ensures { IsLatestIndex stations.new.entries held.now }
+{
+    stations.set_all(Places {
+        observation: None,
+        forecast: None,
+    });
+    for (place, report) in held.iter().enumerate() {
+        let station = report.station().bytes();
+        let places = places_at(stations, station);
+        let places = places_with(&held[..place], places, report, place);
+        stations.replace(&station, places);
+    }
+}
+
+fn place_firsts(firsts: &mut Sorted<(Minute, u64), usize>, held: &[Report])
+    ensures { (key : ℕ × ℕ) → lookup (is_at (key_cmp key)) firsts.new.entries ≡ option_map (λ _. unwrap_or (first_from key 0 held.now) (length held.now)) (lookup (is_at (key_cmp key)) firsts.old.entries) }
+{
+    firsts.set_all(held.len());
+    for place in (0..held.len()).rev() {
+        firsts.replace(&key_of(&held[place]), place);
+    }
+}
+
+/// Makes the place of each key that is there its first among these reports, and takes away the keys that
+/// none has. It takes no memory.
+pub(crate) fn index_firsts(firsts: &mut Sorted<(Minute, u64), usize>, held: &[Report])
+    ensures { (key : ℕ × ℕ) → lookup (is_at (key_cmp key)) firsts.new.entries ≡ option_and_then (λ _. first_from key 0 held.now) (lookup (is_at (key_cmp key)) firsts.old.entries) }
+{
+    place_firsts(firsts, held);
+    firsts.keep_below(held.len());
+}
