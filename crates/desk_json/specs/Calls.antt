@@ -8,7 +8,7 @@ use Rattle.desk_time.specs.Digits.{◌>>=◌}
 use Rattle.plan.specs.declared.flights.Plan.{Plan}
 use Rattle.asks.specs.declared.call.Call.{Call}
 use Rattle.asks.specs.declared.call.Ask.{Ask}
-use Rattle.asks.specs.declared.call.Ask.TheVariants.{Admit, Defer, Clear, Draft, Prepare, Sign, Concur, Amend, Cancel, Depart, Arrive, Acknowledge, ViewBoard, ViewAlerts, ViewRelease, ViewWeather, ViewDeferred}
+use Rattle.asks.specs.declared.call.Ask.TheVariants.{Admit, Defer, Clear, Draft, Prepare, Sign, Concur, Amend, Cancel, Depart, Arrive, Acknowledge, Purge, ViewBoard, ViewAlerts, ViewRelease, ViewWeather, ViewDeferred}
 use Rattle.desk_json.specs.declared.calls.Signed.{Signed}
 use Rattle.desk_json.specs.declared.calls.Flown.{Flown}
 use Rattle.plan_json.specs.Digests.{digest_at}
@@ -90,6 +90,10 @@ acknowledge_of d =
     id_at (codes "release") d >>= λ release. id_at (codes "version") d >>= λ version.
     if has_members 3 d then Some (Acknowledge release version) else None
 
+-- to remove a release
+abbrev pub purge_of : Data → Option Ask
+purge_of d = release_of d >>= λ release. Some (Purge release)
+
 -- to see the releases
 abbrev pub board_of : Data → Option Ask
 board_of d = if has_members 1 d then Some ViewBoard else None
@@ -114,14 +118,15 @@ view_named name d =
     else (if bytes_eq name (codes "release") then view_release_of d
     else (if bytes_eq name (codes "weather") then weather_of d else None)))
 
--- asks about what is flown, and otherwise those to see something
+-- the names depart, arrive, acknowledge and purge, and else those of views
 abbrev pub ask_on_flight : List ℕ → Data → Option Ask
 ask_on_flight name d =
     if bytes_eq name (codes "depart") then depart_of d
     else (if bytes_eq name (codes "arrive") then arrive_of d
-    else (if bytes_eq name (codes "acknowledge") then acknowledge_of d else view_named name d))
+    else (if bytes_eq name (codes "acknowledge") then acknowledge_of d
+    else (if bytes_eq name (codes "purge") then purge_of d else view_named name d)))
 
--- asks about a release before it is flown, and otherwise the next
+-- the names prepare, sign, concur and cancel, and else the next
 abbrev pub ask_on_release : List ℕ → Data → Option Ask
 ask_on_release name d =
     if bytes_eq name (codes "prepare") then prepare_of d
@@ -129,14 +134,14 @@ ask_on_release name d =
     else (if bytes_eq name (codes "concur") then concur_of d
     else (if bytes_eq name (codes "cancel") then cancel_of d else ask_on_flight name d)))
 
--- asks about deferred equipment, and otherwise the next
+-- the names defer, clear and deferred, and else the next
 abbrev pub ask_on_equipment : List ℕ → Data → Option Ask
 ask_on_equipment name d =
     if bytes_eq name (codes "defer") then defer_of d
     else (if bytes_eq name (codes "clear") then clear_of d
     else (if bytes_eq name (codes "deferred") then deferred_of d else ask_on_release name d))
 
--- asks with a report or a plan, and otherwise the next
+-- the names admit, draft and amend, and else the next
 abbrev pub ask_named : List ℕ → Data → Option Ask
 ask_named name d =
     if bytes_eq name (codes "admit") then admit_of d

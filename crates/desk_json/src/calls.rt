@@ -244,6 +244,15 @@ fn acknowledge_of(value: &Value) -> Option<Ask>
     }
 }
 
+fn purge_of(value: &Value) -> Option<Ask>
+    ensures value { result ≡ spec.purge_of (view value.now) }
+    ensures form { IfSome result IsCall }
+{
+    Some(Ask::Purge {
+        release: release_of(value)?,
+    })
+}
+
 fn board_of(value: &Value) -> Option<Ask>
     ensures value { result ≡ spec.board_of (view value.now) }
     ensures form { IfSome result IsCall }
@@ -305,7 +314,7 @@ fn view_named(name: &str, value: &Value) -> Option<Ask>
     }
 }
 
-// Asks about what is flown, and otherwise those to see something.
+// The names `depart`, `arrive`, `acknowledge` and `purge`, and else those of views.
 fn ask_on_flight(name: &str, value: &Value) -> Option<Ask>
     ensures value { result ≡ spec.ask_on_flight name.now (view value.now) }
     ensures form { IfSome result IsCall }
@@ -316,12 +325,14 @@ fn ask_on_flight(name: &str, value: &Value) -> Option<Ask>
         arrive_of(value)
     } else if name == "acknowledge" {
         acknowledge_of(value)
+    } else if name == "purge" {
+        purge_of(value)
     } else {
         view_named(name, value)
     }
 }
 
-// Asks about a release before it is flown, and otherwise the next.
+// The names `prepare`, `sign`, `concur` and `cancel`, and else the next.
 fn ask_on_release(name: &str, value: &Value) -> Option<Ask>
     ensures value { result ≡ spec.ask_on_release name.now (view value.now) }
     ensures form { IfSome result IsCall }
@@ -339,7 +350,7 @@ fn ask_on_release(name: &str, value: &Value) -> Option<Ask>
     }
 }
 
-// Asks about deferred equipment, and otherwise the next.
+// The names `defer`, `clear` and `deferred`, and else the next.
 fn ask_on_equipment(alloc: Global, name: &str, value: &Value) -> Result<Option<Ask>, OutOfMemory>
     ensures form { IfOk result (λ a. IfSome a IsCall) }
     ensures value { IfOk result (λ a. a ≡ spec.ask_on_equipment name.now (view value.now)) }
@@ -355,7 +366,7 @@ fn ask_on_equipment(alloc: Global, name: &str, value: &Value) -> Result<Option<A
     }
 }
 
-// Asks with a report or a plan, and otherwise the next.
+// The names `admit`, `draft` and `amend`, and else the next.
 fn ask_named(alloc: Global, name: &str, value: &Value) -> Result<Option<Ask>, OutOfMemory>
     ensures form { IfOk result (λ a. IfSome a IsCall) }
     ensures value { IfOk result (λ a. a ≡ spec.ask_named name.now (view value.now)) }
