@@ -25,7 +25,10 @@ pub enum Done {
     /// A release was changed.
     Release(u64),
     /// So many old reports and kept replies were swept away.
-    Swept { reports: u64, kept: u64 },
+    Swept {
+        reports: u64,
+        kept: u64,
+    },
 }
 
 /// Why a request was refused, with its number.

@@ -133,7 +133,10 @@ fn releases_full(content: &Content) -> Result<(), Stop>
     ensures { Passes result (spec.releases_full (state_of content.now)) }
 {
     let held = content.releases.len();
-    refused_if(held >= RELEASE_LIMIT, Refusal::ReleasesFull { held: held as u64 })
+    refused_if(
+        held >= RELEASE_LIMIT,
+        Refusal::ReleasesFull { held: held as u64 },
+    )
 }
 
 /// A release is drafted.

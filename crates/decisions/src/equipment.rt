@@ -48,7 +48,10 @@ fn deferrals_full(content: &Content) -> Result<(), Stop>
     ensures { Passes result (spec.deferrals_full (state_of content.now)) }
 {
     let held = content.deferrals.as_slice().len();
-    refused_if(held >= DEFERRAL_LIMIT, Refusal::DeferralsFull { held: held as u64 })
+    refused_if(
+        held >= DEFERRAL_LIMIT,
+        Refusal::DeferralsFull { held: held as u64 },
+    )
 }
 
 fn has_deferral(deferrals: &[Deferral], id: u64) -> bool

@@ -55,7 +55,10 @@ fn reports_full(content: &Content) -> Result<(), Stop>
     ensures { Passes result (spec.reports_full (state_of content.now)) }
 {
     let held = content.reports.len();
-    refused_if(held >= HELD_LIMIT, Refusal::ReportsFull { held: held as u64 })
+    refused_if(
+        held >= HELD_LIMIT,
+        Refusal::ReportsFull { held: held as u64 },
+    )
 }
 
 fn admit_new(content: &Content, received: Received) -> Result<Decision, Stop>

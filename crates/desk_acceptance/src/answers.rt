@@ -144,7 +144,8 @@ pub const ALERTED: &[u8] = br#"1 DK101 N801DK FLYING 1 rev 1 pending 0 D1 ALERT 
 "#;
 
 /// Of a release that was released again at its stop.
-pub const STOPPED_AGAIN: &[u8] = br#"1 DK101 N801DK STOPPED 2 2025-03-12T19:00Z AGAIN rev 2 pending 0 D1 -
+pub const STOPPED_AGAIN: &[u8] =
+    br#"1 DK101 N801DK STOPPED 2 2025-03-12T19:00Z AGAIN rev 2 pending 0 D1 -
 {"refused":13,"stage":0,"why":"NotPending"}
 {"refused":13,"stage":0,"why":"NotPending"}
 {"refused":13,"stage":0,"why":"NotPending"}

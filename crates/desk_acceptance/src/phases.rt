@@ -23,12 +23,7 @@ fn push_line(out: &mut Vec<u8>, line: &[u8]) -> Result<(), OutOfMemory> {
 }
 
 // The first lines of the release's life, then some, and then others.
-fn life(
-    alloc: Global,
-    count: usize,
-    more: &[u8],
-    then: &[u8],
-) -> Result<Vec<u8>, OutOfMemory> {
+fn life(alloc: Global, count: usize, more: &[u8], then: &[u8]) -> Result<Vec<u8>, OutOfMemory> {
     let mut life = Vec::new(alloc);
     for line in runs_between::<LineFeeds>(alloc, LIFE)?.iter().take(count) {
         push_line(&mut life, line.bytes())?;
@@ -101,13 +96,27 @@ fn each_ask_is_answered_in_each_phase(rt: HostRuntime) -> Result<(), Fail> {
         ("prepared", 5, b"", b"", first, PREPARED),
         ("dispatched", 6, b"", b"", first, DISPATCHED),
         ("ready", 7, b"", b"", first, READY),
-        ("ready again", 7, AMENDED_READY, b"", READY_SIGNATURES, READY_AGAIN),
+        (
+            "ready again",
+            7,
+            AMENDED_READY,
+            b"",
+            READY_SIGNATURES,
+            READY_AGAIN,
+        ),
         ("flying", 8, b"", b"", first, FLYING),
         ("flying, amended", 8, amended, b"", second, FLYING_AMENDED),
         ("flying, alerted", 8, WORSENS, b"", first, ALERTED),
         ("stopped", 9, b"", b"", first, STOPPED),
         ("stopped, amended", 9, amended, b"", second, STOPPED_AMENDED),
-        ("stopped, released again", 9, amended, CONCURS, second, STOPPED_AGAIN),
+        (
+            "stopped, released again",
+            9,
+            amended,
+            CONCURS,
+            second,
+            STOPPED_AGAIN,
+        ),
         ("flying on", 10, b"", b"", first, FLYING_ON),
         ("completed", 11, b"", b"", first, COMPLETED),
         ("cancelled draft", 4, CANCELS, b"", first, CANCELLED_DRAFT),

@@ -219,11 +219,7 @@ fn is_said_to_feeds(
 #[test]
 fn a_source_has_at_most_64_mebibytes(rt: HostRuntime) -> Result<(), Fail> {
     for (count, status, text) in [
-        (
-            67_108_864,
-            0,
-            b"BOARD 2000-01-01T00:00Z\nEND\n".as_slice(),
-        ),
+        (67_108_864, 0, b"BOARD 2000-01-01T00:00Z\nEND\n".as_slice()),
         (67_108_865, 10, b"error 10 InputTooLong script\n"),
     ] {
         assert!(rt; is_said_to_feeds(rt.alloc(), count, status, text)?);

@@ -529,12 +529,15 @@ drafted_fits s actor plan form passes few = record {
 draft : (s : State) (actor : List ℕ) (plan : Plan) → IsPlan plan → DecisionFits s (d.decide_draft s actor plan)
 draft s actor plan form = passed s (d.bad_plan (plan_fault s.tables plan)) _ (plan_stops (plan_fault s.tables plan))
     (λ e. passed s (d.releases_full s) _ (if_stops (nat_le 20_000 (length s.releases)) _ tt)
-    (λ f. (tt, record {
-      moment = tt;
-      report = tt;
-      deferrals = tt;
-      releases = drafted_fits s actor plan form (no_plan_fault (plan_fault s.tables plan) e) (leb-false 20_000 (length s.releases) (not_so (nat_le 20_000 (length s.releases)) _ f));
-    })))
+    (λ f. (
+      tt,
+      record {
+        moment = tt;
+        report = tt;
+        deferrals = tt;
+        releases = drafted_fits s actor plan form (no_plan_fault (plan_fault s.tables plan) e) (leb-false 20_000 (length s.releases) (not_so (nat_le 20_000 (length s.releases)) _ f));
+      },
+    )))
 
 prepare : (s : State) (actor : List ℕ) (id : ℕ) → Sound s → InBounds s → DecisionFits s (d.decide_prepare s actor id)
 prepare s actor id sound kept =

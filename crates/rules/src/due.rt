@@ -37,7 +37,10 @@ fn due_of(times: &Times, number: u32, leg: &Leg) -> Option<Minute>
     let flag_stop = due_after(times.moment, times.flag_stop(number));
     let departure = due_after(times.moment, times.departure(number, leg));
     let arrival = due_after(times.moment, times.arrival(number, leg));
-    least_of(domestic_stop, least_of(flag_stop, least_of(departure, arrival)))
+    least_of(
+        domestic_stop,
+        least_of(flag_stop, least_of(departure, arrival)),
+    )
 }
 
 fn first_due(times: &Times, legs: &[Leg]) -> Option<Minute>
