@@ -20,7 +20,7 @@ use Rattle.plan_json.specs.Fields.{each_read}
 use Rattle.plan_json.proofs.Again.{each_again}
 use Rattle.release_json.specs.Numbers.{number_of, leg_of, cut}
 use Rattle.release_json.specs.Findings.{rule_of, finding_at, finding_with, finding_of, finding_data, finding_in, comes_before, are_in_order, in_order, findings_of, IsFinding}
-use Rattle.release_json.proofs.Chains.{bind_if, bind_any, under, then_if}
+use Rattle.plan_json.proofs.Chains.{bind_if, bind_any, under, then_if}
 use Rattle.release_json.proofs.Digits.{leg_again, number_again, number_within, decimal_free, is_free, cut_at}
 
 rule_again : (r : Rule) → rule_of (code_of r) ≡ Some r

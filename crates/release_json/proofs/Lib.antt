@@ -1,9 +1,6 @@
 pub mod Digits
-pub mod Chains
-pub mod MomentRange
 pub mod PhaseLaws
 pub mod FindingLaws
 pub mod KeptLaws
-pub mod PlanForms
 pub mod ReleaseForms
 pub mod ReleaseLaws

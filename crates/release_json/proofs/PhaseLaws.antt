@@ -1,5 +1,6 @@
 -- The text of a phase is read as it, and what is read of a phase has its form.
 use Rattle.std.proofs.Common.{◌≡◌, ℕ, ◌<◌, ◌≤◌, ◌^◌, Bool, true, false, List, [], ◌∷◌, ◌++◌, length, take, drop, Option, None, Some, IfSome, codes, decimal, refl, ap, ◌∙◌, arith, length-append, le-leb}
+use Rattle.std.specs.Prelude.{nat_le}
 use Rattle.std.specs.Str.{bytes_eq}
 use Rattle.desk_time.specs.Digits.{◌>>=◌}
 use Rattle.desk_time.specs.Moments.{shown, minute_of}
@@ -8,10 +9,10 @@ use Rattle.plan.specs.Texts.{IsMoment, phase_text, again_text}
 use Rattle.plan.specs.declared.release.Phase.{Phase}
 use Rattle.plan.specs.declared.release.Phase.TheVariants.{Drafted, Ready, Flying, Stopped, Completed, Cancelled}
 use Rattle.release_json.specs.Numbers.{leg_of, cut}
-use Rattle.release_json.specs.Phases.{ready_of, flying_of, again_of, stopped_before, stopped_with, stopped_of, completed_of, cancelled_of, phase_with, phase_in, phase_of, IsPhase}
-use Rattle.release_json.proofs.Chains.{bind_if, bind_any, under, either}
+use Rattle.release_json.specs.Phases.{ready_of, flying_of, again_of, stopped_since, stopped_before, stopped_with, stopped_of, completed_of, cancelled_of, phase_with, phase_in, phase_of, IsPhase}
+use Rattle.plan_json.proofs.Chains.{bind_if, bind_any, under, either}
 use Rattle.release_json.proofs.Digits.{leg_again, number_within, decimal_free, cut_at}
-use Rattle.release_json.proofs.MomentRange.{minute_within}
+use Rattle.plan_json.proofs.MomentRange.{minute_within}
 
 -- a word and what stands after it
 named : (word rest text : List ℕ) → text ≡ word ++ 32 ∷ rest → cut 32 (word ++ 32 ∷ rest) ≡ Some (word, rest) → phase_in text (cut 32 text) ≡ phase_with (word, rest)
@@ -47,9 +48,16 @@ leg_within text = number_within 4_294_967_295 text
 flying_formed : (rest : List ℕ) → IfSome (flying_of rest) IsPhase
 flying_formed rest = bind_if (leg_of rest) _ (λ leg. leg ≤ 4_294_967_295) IsPhase (leg_within rest) (λ leg few. few)
 
+again_formed : (next since : ℕ) (rest : List ℕ) → next ≤ 4_294_967_295 → IsMoment since → IfSome (again_of rest >>= λ again. Some (Stopped next since again)) IsPhase
+again_formed next since rest few is = bind_any (again_of rest) (λ again. Some (Stopped next since again)) IsPhase (λ again. let parts : IsPhase (Stopped next since again) = (few, is) in parts)
+
+since_formed : (next : ℕ) (moment rest : List ℕ) → next ≤ 4_294_967_295 → IfSome (stopped_since next moment rest) IsPhase
+since_formed next moment rest few =
+    bind_if (minute_of moment) (λ since. again_of rest >>= λ again. Some (Stopped next since again)) IsMoment IsPhase (minute_within moment) (λ since is. again_formed next since rest few is)
+
 before_formed : (next : ℕ) (rest : List ℕ) → next ≤ 4_294_967_295 → IfSome (stopped_before next rest) IsPhase
 before_formed next rest few =
-    under _ _ IsPhase (λ long. bind_if (minute_of (take 17 rest)) _ IsMoment IsPhase (minute_within (take 17 rest)) (λ since is. bind_any (again_of (drop 17 rest)) _ IsPhase (λ again. (few, is))))
+    under (nat_le 17 (length rest)) (stopped_since next (take 17 rest) (drop 17 rest)) IsPhase (λ long. since_formed next (take 17 rest) (drop 17 rest) few)
 
 stopped_formed : (rest : List ℕ) → IfSome (stopped_of rest) IsPhase
 stopped_formed rest =

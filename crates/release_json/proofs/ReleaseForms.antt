@@ -32,10 +32,10 @@ use Rattle.release_json.specs.Releases.{utf8, utf8_at, bool_at, person, person_a
 use Rattle.release_json.specs.declared.revisions.Head.{Head}
 use Rattle.release_json.specs.declared.revisions.Signatures.{Signatures}
 use Rattle.release_json.specs.declared.releases.Revisions.{Revisions}
-use Rattle.release_json.proofs.Chains.{bind_if, bind_any, then_if, under, either, weaker}
+use Rattle.plan_json.proofs.Chains.{bind_if, bind_any, then_if, under, either, weaker}
 use Rattle.release_json.proofs.KeptLaws.{valid_from_test}
 use Rattle.release_json.proofs.PhaseLaws.{phase_formed}
-use Rattle.release_json.proofs.PlanForms.{id_formed, moment_formed, each_formed, plan_formed, plan_from_forms}
+use Rattle.plan_json.proofs.PlanForms.{id_formed, moment_formed, each_formed, plan_formed, plan_from_forms}
 
 -- ---- fields
 

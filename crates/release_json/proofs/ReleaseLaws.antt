@@ -1,5 +1,5 @@
 -- The JSON of a valid release is read as it.
-use Rattle.std.proofs.Common.{◌≡◌, ℕ, ◌<◌, ◌≤◌, ◌%◌, ◌/◌, ◌+◌, ◌&&◌, Bool, true, List, [], ◌∷◌, ◌++◌, length, Option, None, Some, IfSome, IsUtf8, codes, decimal, pos, refl, ap, ◌∙◌, arith}
+use Rattle.std.proofs.Common.{◌≡◌, ℕ, ◌<◌, ◌≤◌, ◌%◌, ◌/◌, ◌+◌, ◌&&◌, Bool, true, false, List, [], ◌∷◌, ◌++◌, length, Option, None, Some, IfSome, IsUtf8, codes, decimal, pos, refl, ap, ◌∙◌, arith}
 use Rattle.std.specs.Prelude.{nat_le}
 use Rattle.std.specs.List.{AllByRecursion, list_all}
 use Rattle.std.specs.Str.{IsAscii}
@@ -50,7 +50,7 @@ person_again : (t : List ℕ) → is_person t ≡ true → person (utf8_lossy t)
 person_again t is = rw (name_lossy t is, is) refl
 
 two_ascii : (n : ℕ) → n < 100 → IsAscii (two n)
-two_ascii n few = IsAscii-cons (48 + n / 10) _ (omega arith) (IsAscii-cons (48 + n % 10) [] (omega arith) IsAscii-nil)
+two_ascii n few = IsAscii-cons (48 + n / 10) ((48 + n % 10) ∷ []) (omega arith) (IsAscii-cons (48 + n % 10) [] (omega arith) IsAscii-nil)
 
 date_ascii : (d : Civil) → d.year < 10_000 → d.month < 100 → d.day < 100 → IsAscii (date_text d)
 date_ascii d year month day =

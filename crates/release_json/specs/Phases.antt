@@ -19,10 +19,12 @@ flying_of rest = leg_of rest >>= λ leg. Some (Flying leg)
 abbrev pub again_of : List ℕ → Option Bool
 again_of rest = if bytes_eq rest [] then Some false else (if bytes_eq rest (codes " AGAIN") then Some true else None)
 
+abbrev pub stopped_since : ℕ → List ℕ → List ℕ → Option Phase
+stopped_since next moment rest = minute_of moment >>= λ since. again_of rest >>= λ again. Some (Stopped next since again)
+
 -- a moment is written in 17 characters
 abbrev pub stopped_before : ℕ → List ℕ → Option Phase
-stopped_before next rest =
-    if nat_le 17 (length rest) then (minute_of (take 17 rest) >>= λ since. again_of (drop 17 rest) >>= λ again. Some (Stopped next since again)) else None
+stopped_before next rest = if nat_le 17 (length rest) then stopped_since next (take 17 rest) (drop 17 rest) else None
 
 abbrev pub stopped_with : List ℕ × List ℕ → Option Phase
 stopped_with halves = leg_of halves.0 >>= λ next. stopped_before next halves.1

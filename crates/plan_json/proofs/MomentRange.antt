@@ -10,7 +10,7 @@ use Rattle.desk_time.specs.Digits.{pair, ◌>>=◌}
 use Rattle.desk_time.specs.Moments.{minute_of, date_at, time_at, time_of}
 use Rattle.desk_time.proofs.CalendarLaws.{days_of_years-law, day_number-count, years_30}
 use Rattle.plan.specs.Texts.{IsMoment}
-use Rattle.release_json.proofs.Chains.{bind_if, bind_any, under}
+use Rattle.plan_json.proofs.Chains.{bind_if, bind_any, under}
 
 years_130 : days_of_years 130 ≡ 47_482
 unfolding days_of_years

@@ -16,6 +16,7 @@ use Rattle.plan.specs.declared.flights.Alternate.{Alternate}
 use Rattle.plan.specs.declared.flights.TakeoffAlternate.{TakeoffAlternate}
 use Rattle.plan.specs.declared.flights.Leg.{Leg}
 use Rattle.plan.specs.declared.flights.Plan.{Plan}
+use Rattle.plan_json.specs.declared.legs.Route.{Route}
 use Rattle.plan_json.specs.declared.legs.Times.{Times}
 use Rattle.plan_json.specs.declared.legs.Fuel.{Fuel}
 use Rattle.plan_json.specs.declared.plans.Form.{Form}
@@ -24,8 +25,8 @@ use Rattle.plan_json.specs.Canonical.{IsAmount, IsId, IsAlternate, IsTakeoff, Ma
 use Rattle.plan_json.specs.Fields.{text_at, up_to, number_at, amount_at, id_at, station_at, moment_at, list_at, each_read, has_members}
 use Rattle.plan_json.specs.Legs.{alternate_of, alternates_at, takeoff_of, takeoff_in, takeoff_at, route_of, times_of, fuel_of, leg_of_parts, leg_of, legs_of, legs_at}
 use Rattle.plan_json.specs.Plans.{has_form, formed, name_at, kind_at, named_plan, plan_of}
-use Rattle.release_json.proofs.Chains.{bind_if, bind_any, then_if, under, either, weaker}
-use Rattle.release_json.proofs.MomentRange.{minute_within}
+use Rattle.plan_json.proofs.Chains.{bind_if, bind_any, then_if, under, either, weaker}
+use Rattle.plan_json.proofs.MomentRange.{minute_within}
 
 -- ---- fields
 
