@@ -1,5 +1,5 @@
 -- Numbers in decimal are read as they are written, and a text is cut at its first sign.
-use Rattle.std.proofs.Common.{◌≡◌, ℕ, suc, ◌+◌, ◌*◌, ◌-◌, ◌^◌, ◌<◌, ◌≤◌, Bool, true, false, not, ◌&&◌, ◌||◌, ◌==◌, inl, inr, if◌then◌else◌, List, [], ◌∷◌, ◌++◌, length, take, drop, get_or, Option, None, Some, IfSome, decimal, refl, sym, ap, ◌∙◌, rules, arith, length-append, add-one, eq-eqb, ne_eqb, le-leb, lt-ltb}
+use Rattle.std.proofs.Common.{◌≡◌, ◌↔◌, ℕ, suc, ◌+◌, ◌*◌, ◌-◌, ◌^◌, ◌<◌, ◌≤◌, Bool, true, false, not, ◌&&◌, ◌||◌, ◌==◌, inl, inr, if◌then◌else◌, List, [], ◌∷◌, ◌++◌, length, take, drop, get_or, Option, None, Some, IfSome, decimal, refl, sym, ap, ◌∙◌, rules, arith, length-append, add-one, eq-eqb, ne_eqb, le-leb, lt-ltb}
 use Rattle.std.specs.Prelude.{nat_le}
 use Rattle.std.specs.List.{list_all, position, position_or_len}
 use Rattle.std.proofs.lemmas.Bool.{and_parts, cases_eq, eqb-true, leb-true}
@@ -84,6 +84,17 @@ number_back limit text few =
     let parts = and_parts (is_decimal text) (nat_le (digits_after 0 text) limit) is in
     let most = leb-true (digits_after 0 text) limit parts.1 in
     back text parts.0 (omega arith))
+
+of_some : (limit : ℕ) (text : List ℕ) (o : Option ℕ) (n : ℕ) → o ≡ Some n → IfSome o (λ k. k ≤ limit) → IfSome o (λ k. decimal k ≡ text) → (n ≤ limit) × (text ≡ decimal n)
+of_some limit text None n is few same = absurd (cc is)
+of_some limit text (Some k) n is few same = let e : k ≡ n = cc is in rw (← e) (few, sym same)
+
+-- a text is read as a number exactly where it writes it
+pub number_exact : (limit : ℕ) (text : List ℕ) (read : Option ℕ) → limit ≤ 1_000_000_000_000_000 → read ≡ number_of limit text → (n : ℕ) → (read ≡ Some n) ↔ ((n ≤ limit) × (text ≡ decimal n))
+number_exact limit text read small is n = (
+  λ found. of_some limit text (number_of limit text) n (sym is ∙ found) (number_within limit text) (number_back limit text (omega arith)),
+  λ all. is ∙ ap (number_of limit) all.1 ∙ number_again limit n all.0 (omega (arith, all.0)),
+)
 
 -- ---- texts that are cut
 
