@@ -1,5 +1,5 @@
 -- The fields of a release that is read have their forms, and it is valid.
-use Rattle.std.proofs.Common.{◌≡◌, ℕ, ◌<◌, ◌≤◌, Bool, true, List, length, Option, None, Some, IfSome, Result, Ok, Err, IsUtf8, codes, refl, sym, subst, ◌∙◌, arith}
+use Rattle.std.proofs.Common.{◌≡◌, ℕ, true, List, Option, None, Some, IfSome, Result, Ok, Err, IsUtf8, codes, refl, sym, ◌∙◌, arith}
 use Rattle.std.specs.Prelude.{is_some}
 use Rattle.std.specs.List.{AllByRecursion}
 use Rattle.std.specs.Result.{result_ok}
@@ -10,12 +10,8 @@ use Rattle.hex.specs.Hex.{decode_sized}
 use Rattle.hex.proofs.HexLemmas.{decode_sized-ok, decode_sized-twice, decode_of-ok}
 use Rattle.serde_json.specs.Data.{Data}
 use Rattle.serde_json.specs.Find.{get, as_null}
-use Rattle.desk_time.specs.Digits.{◌>>=◌}
 use Rattle.ops_tables.specs.Forms.{is_person}
-use Rattle.plan.specs.Check.{IsPlan}
 use Rattle.plan.specs.Texts.{IsMoment, HasMoment}
-use Rattle.plan.specs.declared.flights.Plan.{Plan}
-use Rattle.plan.specs.declared.release.Attached.{Attached}
 use Rattle.plan.specs.declared.release.Phase.{Phase}
 use Rattle.plan.specs.declared.release.Phase.TheVariants.{Drafted, Ready, Flying, Stopped, Completed, Cancelled}
 use Rattle.plan.specs.declared.release.Release.{Release}
