@@ -24,7 +24,7 @@ use Rattle.plan_json.specs.Plans.{plan_of}
 use Rattle.release_json.specs.Kept.{IsAttached, IsSignature, IsRevision, IsFormed, IsKept, is_valid}
 use Rattle.release_json.specs.Phases.{IsPhase, phase_of}
 use Rattle.release_json.specs.Plans.{MayHavePlan, HasPlans}
-use Rattle.release_json.specs.Releases.{utf8, utf8_at, bool_at, person, person_at, attached_of, attached_at, signature_of, signature_in, signature_at, signatures_of, head_of, plan_at, revision_of, revision_in, revision_at, revisions_of, phase_at, release_in, release_of}
+use Rattle.release_json.specs.Releases.{bool_at, person, person_at, attached_with, attached_of, attached_at, signature_of, signature_in, signature_at, signatures_of, head_of, plan_at, revision_of, revision_in, revision_at, revisions_of, phase_at, release_in, release_of}
 use Rattle.release_json.specs.Rows.{SignedAtMoment, RevisionHasMoments, ReleaseHasMoments}
 use Rattle.release_json.specs.declared.revisions.Head.{Head}
 use Rattle.release_json.specs.declared.revisions.Signatures.{Signatures}
@@ -56,19 +56,15 @@ IsPerson t = is_person t ≡ true
 person_formed : (key : List ℕ) (d : Data) → IfSome (person_at key d) IsPerson
 person_formed key d = then_if person (text_at key d) IsPerson (λ t. under (is_person t) (Some t) IsPerson (λ is. is))
 
-utf8_formed : (t : List ℕ) → IfSome (utf8 t) IsUtf8
-utf8_formed t = under (is_utf8 t) (Some t) IsUtf8 (IsUtf8-from_is_utf8 t)
-
-utf8_at_formed : (key : List ℕ) (d : Data) → IfSome (utf8_at key d) IsUtf8
-utf8_at_formed key d = then_if utf8 (text_at key d) IsUtf8 utf8_formed
-
 -- ---- revisions
+
+with_formed : (report : ℕ) (text : List ℕ) → IsId report → IfSome (attached_with report text) IsAttached
+with_formed report text is = under (is_utf8 text) _ IsAttached (λ good. record { report = is; text = IsUtf8-from_is_utf8 text good })
 
 attached_formed : (d : Data) → IfSome (attached_of d) IsAttached
 attached_formed d =
-    bind_if (id_at (codes "report") d) _ IsId IsAttached (id_formed (codes "report") d) (λ report is_report.
-    bind_if (utf8_at (codes "text") d) _ IsUtf8 IsAttached (utf8_at_formed (codes "text") d) (λ text is_text.
-    under (has_members 2 d) _ IsAttached (λ exact. record { report = is_report; text = is_text })))
+    bind_if (id_at (codes "report") d) _ IsId IsAttached (id_formed (codes "report") d) (λ report is.
+    bind_any (text_at (codes "text") d) _ IsAttached (λ text. under (has_members 2 d) (attached_with report text) IsAttached (λ exact. with_formed report text is)))
 
 all_formed : (d : Data) → IfSome (attached_at d) (AllByRecursion IsAttached)
 all_formed d = bind_any (list_at (codes "attached") d) _ (AllByRecursion IsAttached) (λ ds. each_formed IsAttached attached_of attached_formed ds)

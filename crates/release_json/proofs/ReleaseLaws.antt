@@ -8,6 +8,7 @@ use Rattle.std.proofs.lemmas.Bool.Decides.{nat_tests}
 use Rattle.std.proofs.lemmas.Fmt.{IsAscii-decimal}
 use Rattle.std.proofs.lemmas.Str.{IsUtf8-append, IsUtf8-from_ascii, utf8_lossy-IsUtf8, is_utf8-from_IsUtf8}
 use Rattle.json.proofs.Printed.Utf8.{IsUtf8-are_ascii}
+use Rattle.serde_json.specs.Data.{Data}
 use Rattle.desk_time.specs.Moments.{shown}
 use Rattle.ops_tables.specs.Forms.{in_person, is_person}
 use Rattle.plan.specs.Texts.{HasMoment, phase_text, again_text}
@@ -22,7 +23,7 @@ use Rattle.plan_json.proofs.Texts.{passing_utf8, moment_utf8}
 use Rattle.plan_json.proofs.DigestLaws.{digest_again}
 use Rattle.release_json.specs.Kept.{IsAttached, IsSignature, IsRevision, IsFormed, IsKept, IsPhased, HasLegs}
 use Rattle.release_json.specs.Phases.{IsPhase, phase_of}
-use Rattle.release_json.specs.Releases.{utf8, person, attached_of, signature_in, revision_in, release_in, release_of}
+use Rattle.release_json.specs.Releases.{person, attached_with, attached_of, signature_in, revision_in, release_in, release_of}
 use Rattle.release_json.specs.Rows.{attached_data, signature_data, revision_data, release_data}
 use Rattle.release_json.proofs.KeptLaws.{test_from_valid}
 use Rattle.release_json.proofs.PhaseLaws.{phase_again}
@@ -59,8 +60,8 @@ phase_utf8 (Stopped next since again) is =
 phase_utf8 (Completed at) is = IsUtf8-append (codes "COMPLETED ") (shown at) (IsUtf8-are_ascii _ refl) (moment_utf8 at is)
 phase_utf8 (Cancelled at) is = IsUtf8-append (codes "CANCELLED ") (shown at) (IsUtf8-are_ascii _ refl) (moment_utf8 at is)
 
-text_again : (t : List ℕ) → IsUtf8 t → utf8 (utf8_lossy t) ≡ Some t
-text_again t is = rw (utf8_lossy-IsUtf8 t is, is_utf8-from_IsUtf8 t is) refl
+text_again : (report : ℕ) (t : List ℕ) → IsUtf8 t → attached_with report (utf8_lossy t) ≡ Some (record { report = report; text = t })
+text_again report t is = rw (utf8_lossy-IsUtf8 t is, is_utf8-from_IsUtf8 t is) refl
 
 phase_text_again : (p : Phase) → IsPhase p → phase_of (utf8_lossy (phase_text p)) ≡ Some p
 phase_text_again p is = ap phase_of (utf8_lossy-IsUtf8 (phase_text p) (phase_utf8 p is)) ∙ phase_again p is
@@ -68,7 +69,7 @@ phase_text_again p is = ap phase_of (utf8_lossy-IsUtf8 (phase_text p) (phase_utf
 -- ---- revisions
 
 attached_again : (a : Attached) → IsAttached a → attached_of (attached_data a) ≡ Some a
-attached_again a is = rw (id_again a.report is.report, text_again a.text is.text) refl
+attached_again a is = rw (id_again a.report is.report, text_again a.report a.text is.text) refl
 
 signature_again : (s : Option Signature) → IfSome s IsSignature → signature_in (signature_data s) ≡ Some s
 unfolding signature_in signature_data
@@ -111,3 +112,6 @@ in_again r is phase =
 pub release_again : (r : Release) → IsKept r → release_of r.id (release_data r) ≡ Some r
 unfolding release_of
 release_again r is = rw (in_again r is.formed (phase_kept r is), test_from_valid r is.valid) refl
+
+pub release_at_again : (id : ℕ) (d : Data) (r : Release) → IsKept r → r.id ≡ id → d ≡ release_data r → release_of id d ≡ Some r
+release_at_again id d r is same says = rw (says, ← same) (release_again r is)
