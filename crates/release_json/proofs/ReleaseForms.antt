@@ -1,13 +1,9 @@
 -- The fields of a release that is read have their forms, and it is valid.
-use Rattle.std.proofs.Common.{◌≡◌, ℕ, true, List, Option, None, Some, IfSome, Result, Ok, Err, IsUtf8, codes, refl, sym, ◌∙◌, arith}
+use Rattle.std.proofs.Common.{◌≡◌, ℕ, true, List, Option, None, Some, IfSome, codes, refl}
 use Rattle.std.specs.Prelude.{is_some}
 use Rattle.std.specs.List.{AllByRecursion}
-use Rattle.std.specs.Result.{result_ok}
 use Rattle.std.specs.Str.{is_utf8}
 use Rattle.std.proofs.lemmas.Str.{IsUtf8-from_is_utf8}
-use Rattle.hex.specs.declared.error.FromHexError.{FromHexError}
-use Rattle.hex.specs.Hex.{decode_sized}
-use Rattle.hex.proofs.HexLemmas.{decode_sized-ok, decode_sized-twice, decode_of-ok}
 use Rattle.serde_json.specs.Data.{Data}
 use Rattle.serde_json.specs.Find.{get, as_null}
 use Rattle.ops_tables.specs.Forms.{is_person}
@@ -18,7 +14,7 @@ use Rattle.plan.specs.declared.release.Release.{Release}
 use Rattle.plan.specs.declared.release.Revision.{Revision}
 use Rattle.plan.specs.declared.release.Signature.{Signature}
 use Rattle.plan_json.specs.Canonical.{IsId, HasForms}
-use Rattle.plan_json.specs.Digests.{are_digits, digest_of, digest_at, IsDigest}
+use Rattle.plan_json.specs.Digests.{digest_of, digest_at, IsDigest}
 use Rattle.plan_json.specs.Fields.{text_at, id_at, moment_at, list_at, has_members}
 use Rattle.plan_json.specs.Plans.{plan_of}
 use Rattle.release_json.specs.Kept.{IsAttached, IsSignature, IsRevision, IsFormed, IsKept, is_valid}
@@ -32,20 +28,10 @@ use Rattle.release_json.specs.declared.releases.Revisions.{Revisions}
 use Rattle.plan_json.proofs.Chains.{bind_if, bind_any, then_if, under, either, weaker}
 use Rattle.release_json.proofs.KeptLaws.{valid_from_test}
 use Rattle.release_json.proofs.PhaseLaws.{phase_formed}
+use Rattle.plan_json.proofs.DigestLaws.{digest_formed}
 use Rattle.plan_json.proofs.PlanForms.{id_formed, moment_formed, each_formed, plan_formed, plan_from_forms}
 
 -- ---- fields
-
-decoded : (text : List ℕ) (r : Result (List ℕ) FromHexError) → decode_sized text 32 ≡ r → IfSome (result_ok r) IsDigest
-decoded text (Ok bytes) is =
-    let twice = decode_sized-ok text 32 bytes is in
-    let ok = decode_of-ok text bytes (sym (decode_sized-twice text 32 twice) ∙ is) in
-    record { long = omega (arith, twice, ok.2); bytes = ok.3 }
-decoded text (Err e) is = tt
-
-digest_formed : (text : List ℕ) → IfSome (digest_of text) IsDigest
-unfolding digest_of
-digest_formed text = under (are_digits text) (result_ok (decode_sized text 32)) IsDigest (λ is. decoded text (decode_sized text 32) refl)
 
 digest_at_formed : (key : List ℕ) (d : Data) → IfSome (digest_at key d) IsDigest
 digest_at_formed key d = then_if digest_of (text_at key d) IsDigest digest_formed

@@ -56,9 +56,9 @@ phase_utf8 (Stopped next since again) is =
     IsUtf8-append (codes "STOPPED ") (decimal next ++ (codes " " ++ (shown since ++ (again_text again ++ [])))) (IsUtf8-are_ascii _ refl)
     (IsUtf8-append (decimal next) (codes " " ++ (shown since ++ (again_text again ++ []))) (decimal_utf8 next is.0)
     (IsUtf8-append (codes " ") (shown since ++ (again_text again ++ [])) (IsUtf8-are_ascii _ refl)
-    (IsUtf8-append (shown since) (again_text again ++ []) (moment_utf8 since is.1) (again_utf8 again))))
-phase_utf8 (Completed at) is = IsUtf8-append (codes "COMPLETED ") (shown at) (IsUtf8-are_ascii _ refl) (moment_utf8 at is)
-phase_utf8 (Cancelled at) is = IsUtf8-append (codes "CANCELLED ") (shown at) (IsUtf8-are_ascii _ refl) (moment_utf8 at is)
+    (IsUtf8-append (shown since) (again_text again ++ []) (moment_utf8 since (omega (arith, is.1))) (again_utf8 again))))
+phase_utf8 (Completed at) is = IsUtf8-append (codes "COMPLETED ") (shown at) (IsUtf8-are_ascii _ refl) (moment_utf8 at (omega (arith, is)))
+phase_utf8 (Cancelled at) is = IsUtf8-append (codes "CANCELLED ") (shown at) (IsUtf8-are_ascii _ refl) (moment_utf8 at (omega (arith, is)))
 
 text_again : (report : ℕ) (t : List ℕ) → IsUtf8 t → attached_with report (utf8_lossy t) ≡ Some (record { report = report; text = t })
 text_again report t is = rw (utf8_lossy-IsUtf8 t is, is_utf8-from_IsUtf8 t is) refl
