@@ -10,12 +10,12 @@ use sqlite::{Connection, File, FileStore};
 use std::alloc::Global;
 
 /// Keeps rows in the table `kept` of a file of SQLite. It tells no rows, and each failure but want of
-/// memory is a counted fault. It opens the file when it is loaded, and holds its lock from then on, so
-/// that no other program opens or changes it. A commit is one transaction, on the disk once it is
-/// answered.
+/// memory is a counted fault. The first load opens the file, and from then on it holds the file's lock,
+/// so that no other program opens or changes it. A commit is one transaction, and on the disk once it
+/// is answered.
 ///
-/// Before it was loaded it takes no commit. One whose file failed is broken, since what became of the
-/// latest commit isn't known: it takes none until it is loaded again, which finds that out.
+/// Before a load that succeeds it takes no commit. Where the file fails it is let go, since what became
+/// of the latest commit isn't known: no commit is taken until a load has opened it and found that out.
 #[derive(Drop)]
 pub struct KeeperOver<C: Drop> {
     rt: HostRuntime,
@@ -73,11 +73,13 @@ impl KeeperOver<Connection<FileStore<File>>> {
         }
     }
 
-    fn load_anew(&mut self, alloc: Global) -> Result<Vec<Row>, Trouble>
+    fn load_rows(&mut self, alloc: Global) -> Result<Vec<Row>, Trouble>
         ensures rising { IfOk result (λ rows. IsTrue (rising rows.items)) }
         ensures faults { self.new.faults ≡ self.old.faults }
     {
-        self.conn = None;
+        if let Some(conn) = &mut self.conn {
+            return all_rows(alloc, conn);
+        }
         let mut conn = opened(&self.rt, self.path.as_str())?;
         let rows = all_rows(alloc, &mut conn)?;
         self.conn = Some(conn);
@@ -102,7 +104,7 @@ impl Keeper for KeeperOver<Connection<FileStore<File>>> {
     ghost sound = { λ k. ⊥ };
 
     fn load(&mut self, alloc: Global) -> Result<Vec<Row>, KeepFault> {
-        match self.load_anew(alloc) {
+        match self.load_rows(alloc) {
             Ok(rows) => Ok(rows),
             Err(trouble) => Err(self.trouble(trouble)),
         }

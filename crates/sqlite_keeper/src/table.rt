@@ -29,7 +29,7 @@ fn is_text(line: &Line, text: &str) -> bool {
     }
 }
 
-/// Makes the table where nothing has its name, and refuses whatever else has it.
+/// Makes the table where nothing has its name. Whatever else has it isn't the desk's.
 pub fn make_table<S: Alter>(conn: &mut Connection<S>) -> Result<(), Trouble> {
     let found = conn.query_all(TEXT_OF_TABLE, &[])?;
     match found.as_slice() {
@@ -38,7 +38,7 @@ pub fn make_table<S: Alter>(conn: &mut Connection<S>) -> Result<(), Trouble> {
             Ok(())
         }
         [line] if is_text(line, TABLE) => Ok(()),
-        _ => Err(Trouble::Refused),
+        _ => Err(Trouble::Lost),
     }
 }
 
@@ -46,10 +46,10 @@ fn row_of(alloc: Global, line: &Line) -> Result<Row, Trouble> {
     let kind: u32 = line.get(0)?;
     let key: u64 = line.get(1)?;
     let (Ok(kind), ValueRef::Text(body)) = (u8::try_from(kind), line.get_ref(2)?) else {
-        return Err(Trouble::Refused);
+        return Err(Trouble::Lost);
     };
     if str::from_utf8(body).is_err() {
-        return Err(Trouble::Refused);
+        return Err(Trouble::Lost);
     }
     let body = Text::of(alloc, body)?;
     Ok(Row { kind, key, body })
@@ -76,7 +76,7 @@ pub fn all_rows<S: Alter>(alloc: Global, conn: &mut Connection<S>) -> Result<Vec
     if is_rising(&rows) {
         Ok(rows)
     } else {
-        Err(Trouble::Refused)
+        Err(Trouble::Lost)
     }
 }
 

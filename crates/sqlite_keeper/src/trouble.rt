@@ -9,9 +9,9 @@ use std::alloc::AllocFailed;
 pub enum Trouble {
     /// Memory ran out. Nothing was written.
     OutOfMemory,
-    /// A row can't stand in the table, or a table isn't the desk's. Nothing was written.
+    /// A change can't be made. Nothing was written.
     Refused,
-    /// The file failed. What stands in it has to be read again.
+    /// The file failed, or what it holds isn't the desk's. It has to be opened and read anew.
     Lost,
 }
 
