@@ -1,0 +1,4 @@
+pub mod Crossing
+mod OrderLaws
+mod PlaceLaws
+mod Places
