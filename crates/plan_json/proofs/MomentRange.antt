@@ -7,21 +7,19 @@ use Rattle.jiff_core.specs.Calendar.{days_in_month, days_of_months}
 use Rattle.jiff_core.proofs.CalendarLemmas.{day_count-lt_year}
 use Rattle.desk_time.specs.Calendar.{days_of_years, day_number, day_at, is_date}
 use Rattle.desk_time.specs.Digits.{pair, ◌>>=◌}
-use Rattle.desk_time.specs.Moments.{minute_of, date_at, time_at, time_of}
-use Rattle.desk_time.proofs.CalendarLaws.{days_of_years-law, day_number-count}
+use Rattle.desk_time.specs.Limits.{last_moment}
+use Rattle.desk_time.specs.Moments.{written, up_to, minute_of, date_at, time_at, time_of}
+use Rattle.desk_time.proofs.CalendarLaws.{day_number-count}
 use Rattle.plan.specs.Texts.{IsMoment}
 use Rattle.plan_json.proofs.Chains.{bind_if, bind_any, under}
-
-years_130 : days_of_years 130 ≡ 47_482
-unfolding days_of_years
-years_130 = refl
 
 last_of_1999 : day_number 1999 12 31 ≡ 10_956
 unfolding day_number days_of_years days_of_months
 last_of_1999 = refl
 
+-- a day from 2000 on
 abbrev IsDay : ℕ → Type 0
-IsDay day = (10_957 ≤ day) × (day ≤ 47_481)
+IsDay day = 10_957 ≤ day
 
 not_before : (y m d : ℕ) → 2000 ≤ y → 1 ≤ d → 10_957 ≤ day_number y m d
 not_before y m d year day =
@@ -29,22 +27,14 @@ not_before y m d year day =
     let less = day_count-lt_year (pos 1999) 12 31 (pos y) m d ((omega (arith, signed_arith), omega (arith, signed_arith)), (omega arith, omega arith), (omega arith, omega arith)) day (omega (arith, signed_arith)) in
     omega (arith, last, less, day_number-count y m d (omega arith) day)
 
-not_after : (y m d : ℕ) → 2000 ≤ y → y ≤ 2099 → 1 ≤ m → m ≤ 12 → 1 ≤ d → d ≤ days_in_month (pos y) m → day_number y m d ≤ 47_481
-not_after y m d low high one twelve first last =
-    let end = days_of_years-law 130 ∙ ap (λ (n : ℕ). 4_371_953 + n) years_130 in
-    let less = day_count-lt_year (pos y) m d (pos 2100) 1 1 ((omega (arith, signed_arith), omega (arith, signed_arith)), (one, twelve), (first, last)) (omega arith) (omega (arith, signed_arith)) in
-    omega (arith, end, less, day_number-count y m d (omega arith) first)
-
 date_within : (y m d : ℕ) → is_date y m d ≡ true → IsDay (day_number y m d)
 date_within y m d is =
     let a = and_parts _ (nat_le d (days_in_month (pos y) m)) is in
     let b = and_parts _ (nat_le 1 d) a.0 in
     let e = and_parts _ (nat_le m 12) b.0 in
     let f = and_parts _ (nat_le 1 m) e.0 in
-    let g = and_parts (nat_le 2000 y) (nat_le y 2099) f.0 in
-    let low = leb-true 2000 y g.0 in
-    let first = leb-true 1 d b.1 in
-    (not_before y m d low first, not_after y m d low (leb-true y 2099 g.1) (leb-true 1 m f.1) (leb-true m 12 e.1) first (leb-true d (days_in_month (pos y) m) a.1))
+    let g = and_parts (nat_le 2000 y) (nat_le y 9999) f.0 in
+    not_before y m d (leb-true 2000 y g.0) (leb-true 1 d b.1)
 
 day_within : (y m d : ℕ) → IfSome (day_at y m d) IsDay
 unfolding day_at
@@ -57,6 +47,10 @@ date_read a b c d e f g h =
 abbrev IsTime : ℕ → Type 0
 IsTime time = time < 1440
 
+-- a moment from 2000 on
+abbrev IsLate : ℕ → Type 0
+IsLate at = 15_778_080 ≤ at
+
 time_within : (hour minute : ℕ) → IfSome (time_of hour minute) IsTime
 time_within hour minute = under (nat_lt hour 24 && nat_lt minute 60) (Some (60 * hour + minute)) IsTime (λ is.
     let parts = and_parts (nat_lt hour 24) (nat_lt minute 60) is in
@@ -68,30 +62,37 @@ time_read : (i j k l : ℕ) → IfSome (time_at (i ∷ j ∷ k ∷ l ∷ [])) Is
 time_read i j k l = bind_any (pair i j) _ IsTime (λ hour. bind_any (pair k l) _ IsTime (λ minute. time_within hour minute))
 
 both_within : (a b c d e f g h i j k l : ℕ)
-    → IfSome (date_at (a ∷ b ∷ c ∷ d ∷ e ∷ f ∷ g ∷ h ∷ []) >>= (λ day. time_at (i ∷ j ∷ k ∷ l ∷ []) >>= (λ time. Some (1440 * day + time)))) IsMoment
+    → IfSome (date_at (a ∷ b ∷ c ∷ d ∷ e ∷ f ∷ g ∷ h ∷ []) >>= (λ day. time_at (i ∷ j ∷ k ∷ l ∷ []) >>= (λ time. Some (1440 * day + time)))) IsLate
 both_within a b c d e f g h i j k l =
-    bind_if (date_at (a ∷ b ∷ c ∷ d ∷ e ∷ f ∷ g ∷ h ∷ [])) _ IsDay IsMoment (date_read a b c d e f g h) (λ day is.
-    bind_if (time_at (i ∷ j ∷ k ∷ l ∷ [])) _ IsTime IsMoment (time_read i j k l) (λ time few. (omega arith, omega arith)))
+    bind_if (date_at (a ∷ b ∷ c ∷ d ∷ e ∷ f ∷ g ∷ h ∷ [])) _ IsDay IsLate (date_read a b c d e f g h) (λ day is.
+    bind_if (time_at (i ∷ j ∷ k ∷ l ∷ [])) _ IsTime IsLate (time_read i j k l) (λ time few. omega arith))
+
+written_late : (text : List ℕ) → IfSome (written text) IsLate
+unfolding written
+written_late [] = tt
+written_late (a ∷ []) = tt
+written_late (a ∷ b ∷ []) = tt
+written_late (a ∷ b ∷ c ∷ []) = tt
+written_late (a ∷ b ∷ c ∷ d ∷ []) = tt
+written_late (a ∷ b ∷ c ∷ d ∷ m1 ∷ []) = tt
+written_late (a ∷ b ∷ c ∷ d ∷ m1 ∷ e ∷ []) = tt
+written_late (a ∷ b ∷ c ∷ d ∷ m1 ∷ e ∷ f ∷ []) = tt
+written_late (a ∷ b ∷ c ∷ d ∷ m1 ∷ e ∷ f ∷ m2 ∷ []) = tt
+written_late (a ∷ b ∷ c ∷ d ∷ m1 ∷ e ∷ f ∷ m2 ∷ g ∷ []) = tt
+written_late (a ∷ b ∷ c ∷ d ∷ m1 ∷ e ∷ f ∷ m2 ∷ g ∷ h ∷ []) = tt
+written_late (a ∷ b ∷ c ∷ d ∷ m1 ∷ e ∷ f ∷ m2 ∷ g ∷ h ∷ m3 ∷ []) = tt
+written_late (a ∷ b ∷ c ∷ d ∷ m1 ∷ e ∷ f ∷ m2 ∷ g ∷ h ∷ m3 ∷ i ∷ []) = tt
+written_late (a ∷ b ∷ c ∷ d ∷ m1 ∷ e ∷ f ∷ m2 ∷ g ∷ h ∷ m3 ∷ i ∷ j ∷ []) = tt
+written_late (a ∷ b ∷ c ∷ d ∷ m1 ∷ e ∷ f ∷ m2 ∷ g ∷ h ∷ m3 ∷ i ∷ j ∷ m4 ∷ []) = tt
+written_late (a ∷ b ∷ c ∷ d ∷ m1 ∷ e ∷ f ∷ m2 ∷ g ∷ h ∷ m3 ∷ i ∷ j ∷ m4 ∷ k ∷ []) = tt
+written_late (a ∷ b ∷ c ∷ d ∷ m1 ∷ e ∷ f ∷ m2 ∷ g ∷ h ∷ m3 ∷ i ∷ j ∷ m4 ∷ k ∷ l ∷ []) = tt
+written_late (a ∷ b ∷ c ∷ d ∷ m1 ∷ e ∷ f ∷ m2 ∷ g ∷ h ∷ m3 ∷ i ∷ j ∷ m4 ∷ k ∷ l ∷ m5 ∷ []) =
+    under ((m1 == 45) && (m2 == 45) && (m3 == 84) && (m4 == 58) && (m5 == 90)) _ IsLate (λ signs. both_within a b c d e f g h i j k l)
+written_late (a ∷ b ∷ c ∷ d ∷ m1 ∷ e ∷ f ∷ m2 ∷ g ∷ h ∷ m3 ∷ i ∷ j ∷ m4 ∷ k ∷ l ∷ m5 ∷ n ∷ more) = tt
+
+up_to_last : (at : ℕ) → IsLate at → IfSome (up_to last_moment at) IsMoment
+up_to_last at late = under (nat_le at last_moment) (Some at) IsMoment (λ is. (late, leb-true at last_moment is))
 
 pub minute_within : (text : List ℕ) → IfSome (minute_of text) IsMoment
 unfolding minute_of
-minute_within [] = tt
-minute_within (a ∷ []) = tt
-minute_within (a ∷ b ∷ []) = tt
-minute_within (a ∷ b ∷ c ∷ []) = tt
-minute_within (a ∷ b ∷ c ∷ d ∷ []) = tt
-minute_within (a ∷ b ∷ c ∷ d ∷ m1 ∷ []) = tt
-minute_within (a ∷ b ∷ c ∷ d ∷ m1 ∷ e ∷ []) = tt
-minute_within (a ∷ b ∷ c ∷ d ∷ m1 ∷ e ∷ f ∷ []) = tt
-minute_within (a ∷ b ∷ c ∷ d ∷ m1 ∷ e ∷ f ∷ m2 ∷ []) = tt
-minute_within (a ∷ b ∷ c ∷ d ∷ m1 ∷ e ∷ f ∷ m2 ∷ g ∷ []) = tt
-minute_within (a ∷ b ∷ c ∷ d ∷ m1 ∷ e ∷ f ∷ m2 ∷ g ∷ h ∷ []) = tt
-minute_within (a ∷ b ∷ c ∷ d ∷ m1 ∷ e ∷ f ∷ m2 ∷ g ∷ h ∷ m3 ∷ []) = tt
-minute_within (a ∷ b ∷ c ∷ d ∷ m1 ∷ e ∷ f ∷ m2 ∷ g ∷ h ∷ m3 ∷ i ∷ []) = tt
-minute_within (a ∷ b ∷ c ∷ d ∷ m1 ∷ e ∷ f ∷ m2 ∷ g ∷ h ∷ m3 ∷ i ∷ j ∷ []) = tt
-minute_within (a ∷ b ∷ c ∷ d ∷ m1 ∷ e ∷ f ∷ m2 ∷ g ∷ h ∷ m3 ∷ i ∷ j ∷ m4 ∷ []) = tt
-minute_within (a ∷ b ∷ c ∷ d ∷ m1 ∷ e ∷ f ∷ m2 ∷ g ∷ h ∷ m3 ∷ i ∷ j ∷ m4 ∷ k ∷ []) = tt
-minute_within (a ∷ b ∷ c ∷ d ∷ m1 ∷ e ∷ f ∷ m2 ∷ g ∷ h ∷ m3 ∷ i ∷ j ∷ m4 ∷ k ∷ l ∷ []) = tt
-minute_within (a ∷ b ∷ c ∷ d ∷ m1 ∷ e ∷ f ∷ m2 ∷ g ∷ h ∷ m3 ∷ i ∷ j ∷ m4 ∷ k ∷ l ∷ m5 ∷ []) =
-    under ((m1 == 45) && (m2 == 45) && (m3 == 84) && (m4 == 58) && (m5 == 90)) _ IsMoment (λ signs. both_within a b c d e f g h i j k l)
-minute_within (a ∷ b ∷ c ∷ d ∷ m1 ∷ e ∷ f ∷ m2 ∷ g ∷ h ∷ m3 ∷ i ∷ j ∷ m4 ∷ k ∷ l ∷ m5 ∷ n ∷ more) = tt
+minute_within text = bind_if (written text) (up_to last_moment) IsLate IsMoment (written_late text) up_to_last
