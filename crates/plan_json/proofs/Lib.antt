@@ -4,3 +4,6 @@ pub mod LegCounts
 pub mod DigestLaws
 pub mod Again
 pub mod Whole
+pub mod Chains
+pub mod MomentRange
+pub mod PlanForms

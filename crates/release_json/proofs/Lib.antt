@@ -1,0 +1,6 @@
+pub mod Digits
+pub mod PhaseLaws
+pub mod FindingLaws
+pub mod KeptLaws
+pub mod ReleaseForms
+pub mod ReleaseLaws
