@@ -3,6 +3,7 @@ ghost use Rattle.serde_json.specs.Data.{string, array, put};
 ghost use Rattle.serde_json.specs.View.{view, items_of, members_view};
 ghost use Rattle.plan.specs.Texts.{HasMoment, phase_text};
 ghost use Rattle.asks.specs.Forms.{RefusalHasMoment};
+ghost use Rattle.plan_json.specs.Canonical.{count, text_data};
 ghost use Rattle.desk_json.specs.Replies as spec;
 
 use asks::Refusal;
@@ -121,7 +122,7 @@ fn with_reason(
     place: u32,
     what: &str,
 ) -> Result<Members, OutOfMemory>
-    ensures { IfOk result (λ all. members_view all.entries ≡ put (codes "what") (string what.now) (put key.now (spec.count place) (members_view members.entries))) }
+    ensures { IfOk result (λ all. members_view all.entries ≡ put (codes "what") (string what.now) (put key.now (count place) (members_view members.entries))) }
 {
     let members = with_count(alloc, members, key, place as u64)?;
     with_name(alloc, members, "what", what)
@@ -163,7 +164,7 @@ fn with_findings(
 
 fn with_phase(alloc: Global, members: Members, phase: Phase) -> Result<Members, OutOfMemory>
     requires { HasMoment phase }
-    ensures { IfOk result (λ all. members_view all.entries ≡ put (codes "phase") (spec.text_data (phase_text phase)) (members_view members.entries)) }
+    ensures { IfOk result (λ all. members_view all.entries ≡ put (codes "phase") (text_data (phase_text phase)) (members_view members.entries)) }
 {
     let text = phase_text(alloc, phase)?;
     with_text(alloc, members, "phase", text.bytes())
