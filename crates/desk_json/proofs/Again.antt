@@ -1,5 +1,6 @@
 -- What is written of an ask or a call is read again.
 use Rattle.std.proofs.Common.{◌≡◌, ℕ, List, Some, refl}
+use Rattle.std.proofs.lemmas.Str.{utf8_lossy-IsUtf8}
 use Rattle.plan.specs.Texts.{IsMoment}
 use Rattle.asks.specs.declared.call.Call.{Call}
 use Rattle.asks.specs.declared.call.Ask.{Ask}
@@ -14,7 +15,7 @@ use Rattle.desk_json.specs.Canonical.{line_data, CallHasForms}
 -- the ask that is written is read
 pub ask_again : (a : Ask) → AskHasForms a → ask_of (ask_data a) ≡ Some a
 unfolding ask_data
-ask_again (Admit text) is = refl
+ask_again (Admit text) is = rw (utf8_lossy-IsUtf8 text is) refl
 ask_again (Defer tail item found) is = rw (short_again tail is.0, short_again item is.1, moment_again found is.2) refl
 ask_again (Clear deferral) is = rw (id_again deferral is) refl
 ask_again (Draft plan) is = rw (plan_again plan is) refl

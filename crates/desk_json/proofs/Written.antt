@@ -1,19 +1,17 @@
 -- No reply has a number with a fraction, so its text is the one that is written.
-use Rattle.std.proofs.Common.{◌≡◌, List, [], ◌∷◌, map, false, refl, ap, ◌∙◌}
+use Rattle.std.proofs.Common.{◌≡◌, false, refl, ap, ◌∙◌}
 use Rattle.serde_json.specs.Data.{Data}
-use Rattle.serde_json.specs.View.{items_of}
-use Rattle.serde_json.specs.Written.{has_float, items_have_float}
+use Rattle.serde_json.specs.Written.{has_float}
 use Rattle.plan.specs.declared.findings.Finding.{Finding}
 use Rattle.asks.specs.declared.reply.Reply.{Reply}
 use Rattle.asks.specs.declared.reply.Reply.TheVariants.{Done, Seen, Refused}
 use Rattle.asks.specs.declared.reply.Refusal.{Refusal}
 use Rattle.asks.specs.declared.reply.Refusal.TheVariants.{UnknownActor, WrongKey, NotYourRole, BadReport, DayOutOfReach, ReportsFull, UnknownTail, NoSuchDeferral, NoSuchRelease, NotYours, BadPlan, NotPending, WrongRevision, WrongText, WeatherNewer, RuleFails, WrongPhase, AlreadySigned, NoSuchAlert, AlertMoved, HistoryFull, NoSuchStation, UnknownItem, BadFound, DeferralsFull}
-use Rattle.plan_json.proofs.Whole.{done_whole}
+use Rattle.plan_json.proofs.Whole.{list_whole, done_whole}
 use Rattle.desk_json.specs.Replies.{finding_data, refusal_data, reply_data}
 
-findings_whole : (fs : List Finding) → items_have_float (items_of (map finding_data fs)) ≡ false
-findings_whole [] = refl
-findings_whole (f ∷ fs) = findings_whole fs
+finding_whole : (f : Finding) → has_float (finding_data f) ≡ false
+finding_whole f = refl
 
 refusal_whole : (r : Refusal) → has_float (refusal_data r) ≡ false
 refusal_whole UnknownActor = refl
@@ -31,7 +29,7 @@ refusal_whole (NotPending stage) = refl
 refusal_whole (WrongRevision current) = refl
 refusal_whole (WrongText digest) = refl
 refusal_whole (WeatherNewer report) = refl
-refusal_whole (RuleFails findings) = rw (findings_whole findings) refl
+refusal_whole (RuleFails findings) = rw (list_whole finding_data finding_whole findings) refl
 refusal_whole (WrongPhase phase) = refl
 refusal_whole AlreadySigned = refl
 refusal_whole NoSuchAlert = refl

@@ -1,24 +1,24 @@
 -- The lines of scripts as JSON, each key in its place in byte order.
-use Rattle.std.specs.Prelude.{◌≡◌, ℕ, ◌≤◌, List, length, Option, Some, codes}
-use Rattle.serde_json.specs.Data.{Data, object, member, no_members, string}
+use Rattle.std.specs.Prelude.{◌≡◌, ℕ, ◌≤◌, List, Option, Some, codes}
+use Rattle.serde_json.specs.Data.{Data, object, member, no_members}
 use Rattle.plan.specs.Texts.{IsMoment}
 use Rattle.asks.specs.declared.call.Call.{Call}
 use Rattle.plan_json.specs.Fields.{data_of}
-use Rattle.plan_json.specs.Canonical.{count, moment_data, ask_data, AskHasForms}
+use Rattle.plan_json.specs.Canonical.{count, text_data, moment_data, ask_data, IsShort, AskHasForms}
 
 -- the JSON of a moment and a call, as a line of a script has it
 unfoldable pub line_data : ℕ → Call → Data
 line_data at c = object
-    (member (codes "actor") (string c.actor)
+    (member (codes "actor") (text_data c.actor)
     (member (codes "ask") (ask_data c.ask)
     (member (codes "at") (moment_data at)
-    (member (codes "key") (string c.key)
+    (member (codes "key") (text_data c.key)
     (member (codes "number") (count c.number) no_members)))))
 
 -- a call whose fields have their forms
 pub record CallHasForms (c : Call) : Type 0 where
-  pub actor : length c.actor ≤ 64
-  pub key : length c.key ≤ 64
+  pub actor : IsShort c.actor
+  pub key : IsShort c.key
   pub number : c.number ≤ 1_000_000_000_000
   pub ask : AskHasForms c.ask
 

@@ -1,9 +1,7 @@
 -- The texts of replies: JSON without blanks, its keys in byte order.
-use Rattle.std.specs.Prelude.{ℕ, List, map, codes}
-use Rattle.serde_json.specs.Data.{Data, object, Members, member, no_members, put, string, array}
-use Rattle.serde_json.specs.View.{items_of}
+use Rattle.std.specs.Prelude.{ℕ, List, codes}
+use Rattle.serde_json.specs.Data.{Data, object, Members, member, no_members, put, string}
 use Rattle.serde_json.specs.Written.{compact_text}
-use Rattle.desk_time.specs.Moments.{shown}
 use Rattle.codes.specs.declared.fault.Why.{Why}
 use Rattle.codes.specs.declared.fault.Why.TheVariants as why
 use Rattle.plan.specs.Texts.{finding_text, phase_text}
@@ -15,7 +13,7 @@ use Rattle.asks.specs.declared.reply.Reply.TheVariants.{Done, Seen, Refused}
 use Rattle.asks.specs.declared.reply.Refusal.{Refusal}
 use Rattle.asks.specs.declared.reply.Refusal.TheVariants.{UnknownActor, WrongKey, NotYourRole, BadReport, DayOutOfReach, ReportsFull, UnknownTail, NoSuchDeferral, NoSuchRelease, NotYours, BadPlan, NotPending, WrongRevision, WrongText, WeatherNewer, RuleFails, WrongPhase, AlreadySigned, NoSuchAlert, AlertMoved, HistoryFull, NoSuchStation, UnknownItem, BadFound, DeferralsFull}
 use Rattle.plan_json.specs.Digests.{digest_data}
-use Rattle.plan_json.specs.Canonical.{count, text_data, done_data}
+use Rattle.plan_json.specs.Canonical.{count, text_data, moment_data, list_data, done_data}
 
 -- the name of a reason
 abbrev pub why_name : Why → List ℕ
@@ -118,7 +116,7 @@ with_fields (NotPending stage) ms = put (codes "stage") (count stage) ms
 with_fields (WrongRevision current) ms = put (codes "current") (count current) ms
 with_fields (WrongText digest) ms = put (codes "digest") (digest_data digest) ms
 with_fields (WeatherNewer report) ms = put (codes "report") (count report) ms
-with_fields (RuleFails findings) ms = put (codes "findings") (array (items_of (map finding_data findings))) ms
+with_fields (RuleFails findings) ms = put (codes "findings") (list_data finding_data findings) ms
 with_fields (WrongPhase phase) ms = put (codes "phase") (text_data (phase_text phase)) ms
 with_fields AlreadySigned ms = ms
 with_fields NoSuchAlert ms = ms
@@ -126,7 +124,7 @@ with_fields (AlertMoved version) ms = put (codes "version") (count version) ms
 with_fields (HistoryFull entries) ms = put (codes "entries") (count entries) ms
 with_fields NoSuchStation ms = ms
 with_fields UnknownItem ms = ms
-with_fields (BadFound moment) ms = put (codes "now") (text_data (shown moment)) ms
+with_fields (BadFound moment) ms = put (codes "now") (moment_data moment) ms
 with_fields (DeferralsFull held) ms = put (codes "held") (count held) ms
 
 -- the members that every refusal has

@@ -1,18 +1,18 @@
 ghost use Rattle.std.specs.Prelude.{◌≡◌, map, codes, IfOk};
-ghost use Rattle.serde_json.specs.Data.{string, array, put};
-ghost use Rattle.serde_json.specs.View.{view, items_of, members_view};
+ghost use Rattle.serde_json.specs.Data.{string, put};
+ghost use Rattle.serde_json.specs.View.{view, members_view};
 ghost use Rattle.plan.specs.Texts.{HasMoment, phase_text};
 ghost use Rattle.asks.specs.Forms.{RefusalHasMoment};
-ghost use Rattle.plan_json.specs.Canonical.{count, text_data};
+ghost use Rattle.plan_json.specs.Canonical.{count, text_data, list_data};
 ghost use Rattle.desk_json.specs.Replies as spec;
 
 use asks::Refusal;
 use codes::Why;
 use desk_io::OutOfMemory;
-use desk_time::show;
 use plan::{Finding, Phase, PlanWhy, finding_text, phase_text};
 use plan_json::{
-    Members, name_value, text_value, with_count, with_digest, with_name, with_text, with_value,
+    Members, name_value, text_value, with_count, with_digest, with_moment, with_name, with_text,
+    with_value,
 };
 use serde_json::{Map, Value};
 use std::alloc::Global;
@@ -132,7 +132,7 @@ fn finding_value(alloc: Global, finding: &Finding) -> Result<Value, OutOfMemory>
     ensures { IfOk result (λ v. view v ≡ spec.finding_data finding.now) }
 {
     let text = finding_text(alloc, finding)?;
-    Ok(text_value(alloc, text.bytes())?)
+    text_value(alloc, text.bytes())
 }
 
 fn finding_values(alloc: Global, findings: &[Finding]) -> Result<Vec<Value>, OutOfMemory>
@@ -146,7 +146,7 @@ fn finding_values(alloc: Global, findings: &[Finding]) -> Result<Vec<Value>, Out
 }
 
 fn findings_value(alloc: Global, findings: &[Finding]) -> Result<Value, OutOfMemory>
-    ensures { IfOk result (λ v. view v ≡ array (items_of (map spec.finding_data findings.now))) }
+    ensures { IfOk result (λ v. view v ≡ list_data spec.finding_data findings.now) }
 {
     Ok(Value::Array(finding_values(alloc, findings)?))
 }
@@ -156,7 +156,7 @@ fn with_findings(
     members: Members,
     findings: &[Finding],
 ) -> Result<Members, OutOfMemory>
-    ensures { IfOk result (λ all. members_view all.entries ≡ put (codes "findings") (array (items_of (map spec.finding_data findings.now))) (members_view members.entries)) }
+    ensures { IfOk result (λ all. members_view all.entries ≡ put (codes "findings") (list_data spec.finding_data findings.now) (members_view members.entries)) }
 {
     let value = findings_value(alloc, findings)?;
     with_value(alloc, members, "findings", value)
@@ -193,7 +193,7 @@ fn with_fields(alloc: Global, refusal: &Refusal, members: Members) -> Result<Mem
         Refusal::WrongPhase { phase } => with_phase(alloc, members, *phase),
         Refusal::AlertMoved { version } => with_count(alloc, members, "version", *version),
         Refusal::HistoryFull { entries } => with_count(alloc, members, "entries", *entries),
-        Refusal::BadFound { moment } => with_text(alloc, members, "now", &show(*moment)),
+        Refusal::BadFound { moment } => with_moment(alloc, members, "now", *moment),
         Refusal::DeferralsFull { held } => with_count(alloc, members, "held", *held),
         Refusal::UnknownActor
         | Refusal::WrongKey

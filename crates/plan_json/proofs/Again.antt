@@ -1,6 +1,8 @@
--- What is written of a plan is read again.
-use Rattle.std.proofs.Common.{◌≡◌, ℕ, suc, ◌≤◌, true, List, [], ◌∷◌, length, map, Option, None, Some, refl, ap, le-leb}
+-- What is written of a plan, and of what was done, is read again.
+use Rattle.std.proofs.Common.{◌≡◌, ℕ, suc, ◌≤◌, true, List, [], ◌∷◌, length, map, Option, None, Some, IsUtf8, refl, ap, ◌∙◌, le-leb}
 use Rattle.std.specs.List.{AllByRecursion}
+use Rattle.std.specs.Str.Lossy.{utf8_lossy}
+use Rattle.std.proofs.lemmas.Str.{utf8_lossy-IsUtf8}
 use Rattle.serde_json.specs.Data.{Data}
 use Rattle.serde_json.specs.Events.{items_len}
 use Rattle.serde_json.specs.View.{items_of}
@@ -14,11 +16,16 @@ use Rattle.plan.specs.declared.flights.Alternate.{Alternate}
 use Rattle.plan.specs.declared.flights.TakeoffAlternate.{TakeoffAlternate}
 use Rattle.plan.specs.declared.flights.Leg.{Leg}
 use Rattle.plan.specs.declared.flights.Plan.{Plan}
+use Rattle.asks.specs.declared.reply.Done.{Done}
+use Rattle.asks.specs.declared.reply.Done.TheVariants.{Report, Deferral, Filed, Prepared, Release}
 use Rattle.plan_json.specs.declared.plans.Form.{Form}
 use Rattle.plan_json.specs.Fields.{each_read, up_to, short}
 use Rattle.plan_json.specs.Legs.{alternate_of, takeoff_in, leg_of, legs_of}
 use Rattle.plan_json.specs.Plans.{has_form, formed, kind_of, plan_of}
-use Rattle.plan_json.specs.Canonical.{alternate_data, takeoff_data, leg_data, kind_name, plan_data, IsAmount, IsId, IsAlternate, MayBeTakeoff, IsLeg, HasForms}
+use Rattle.plan_json.specs.Dones.{done_of}
+use Rattle.plan_json.specs.Canonical.{option_data, alternate_data, takeoff_data, leg_data, kind_name, plan_data, done_data, IsAmount, IsId, IsShort, IsAlternate, MayBeTakeoff, IsLeg, HasForms, DoneHasForms}
+use Rattle.plan_json.proofs.Texts.{name_utf8, station_utf8, moment_utf8}
+use Rattle.plan_json.proofs.DigestLaws.{digest_again}
 
 pub small_again : (n limit : ℕ) → n ≤ limit → up_to limit n ≡ Some n
 small_again n limit few = rw (le-leb n limit few) refl
@@ -26,22 +33,22 @@ small_again n limit few = rw (le-leb n limit few) refl
 pub amount_again : (n : ℕ) → IsAmount n → up_to 4_294_967_295 n ≡ Some n
 amount_again n few = small_again n 4_294_967_295 few
 
-pub short_again : (t : List ℕ) → length t ≤ 64 → short t ≡ Some t
-short_again t few = rw (le-leb (length t) 64 few) refl
+pub short_again : (t : List ℕ) → IsShort t → short (utf8_lossy t) ≡ Some t
+short_again t is = rw (utf8_lossy-IsUtf8 t is.text, le-leb (length t) 64 is.few) refl
 
-pub station_again : (s : Station) → is_station s ≡ true → station_of s ≡ Some s
-station_again s is = rw is refl
+pub station_again : (s : Station) → is_station s ≡ true → station_of (utf8_lossy s) ≡ Some s
+station_again s is = rw (utf8_lossy-IsUtf8 s (station_utf8 s is), is) refl
 
-pub moment_again : (m : ℕ) → IsMoment m → minute_of (shown m) ≡ Some m
-moment_again m is = minute_again m is.0 is.1
+pub moment_again : (m : ℕ) → IsMoment m → minute_of (utf8_lossy (shown m)) ≡ Some m
+moment_again m is = ap minute_of (utf8_lossy-IsUtf8 (shown m) (moment_utf8 m is)) ∙ minute_again m is.0 is.1
 
-pub name_again : (form : Form) (t : List ℕ) → has_form form t ≡ true → formed form t ≡ Some t
-name_again form t is = rw is refl
+pub name_again : (form : Form) (t : List ℕ) → has_form form t ≡ true → formed form (utf8_lossy t) ≡ Some t
+name_again form t is = rw (utf8_lossy-IsUtf8 t (name_utf8 form t is), is) refl
 
 alternate_again : (a : Alternate) → IsAlternate a → alternate_of (alternate_data a) ≡ Some a
 alternate_again a is = rw (amount_again a.fuel is.fuel, amount_again a.minutes is.minutes, station_again a.station is.station) refl
 
-takeoff_again : (t : Option TakeoffAlternate) → MayBeTakeoff t → takeoff_in (takeoff_data t) ≡ Some t
+takeoff_again : (t : Option TakeoffAlternate) → MayBeTakeoff t → takeoff_in (option_data takeoff_data t) ≡ Some t
 takeoff_again None is = refl
 takeoff_again (Some t) is = rw (amount_again t.minutes is.minutes, station_again t.station is.station) refl
 
@@ -86,3 +93,12 @@ plan_again p is =
 
 pub id_again : (n : ℕ) → IsId n → up_to 1_000_000_000_000_000 n ≡ Some n
 id_again n few = small_again n 1_000_000_000_000_000 few
+
+-- what was done is read of what is written of it
+pub done_again : (d : Done) → DoneHasForms d → done_of (done_data d) ≡ Some d
+unfolding done_of
+done_again (Report id) is = rw (id_again id is) refl
+done_again (Deferral id) is = rw (id_again id is) refl
+done_again (Filed release revision) is = rw (id_again release is.0, id_again revision is.1) refl
+done_again (Prepared release revision digest) is = rw (id_again release is.0, id_again revision is.1, digest_again digest is.2) refl
+done_again (Release id) is = rw (id_again id is) refl

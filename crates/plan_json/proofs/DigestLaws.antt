@@ -30,7 +30,7 @@ small_at t (suc n) k all below =
 small_digit : (k : ℕ) → k < 16 → is_small_digit (slice_index lower_digits k) ≡ true
 small_digit k below = small_at lower_digits 16 k refl below
 
-small_written : (xs : List ℕ) → IsBytes xs → list_all is_small_digit (encode_lower xs) ≡ true
+pub small_written : (xs : List ℕ) → IsBytes xs → list_all is_small_digit (encode_lower xs) ≡ true
 unfolding encode_with
 small_written [] is = refl
 small_written (b ∷ rest) is =

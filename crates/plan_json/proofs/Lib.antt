@@ -2,8 +2,11 @@ pub mod Puts
 pub mod Lists
 pub mod LegCounts
 pub mod DigestLaws
+pub mod Texts
 pub mod Again
 pub mod Whole
 pub mod Chains
 pub mod MomentRange
 pub mod PlanForms
+pub mod Compact
+pub mod Plain

@@ -1,7 +1,7 @@
 -- Lists whose items are read one after another.
-use Rattle.std.proofs.Common.{◌≡◌, ℕ, suc, ◌+◌, ◌<◌, ◌≤◌, List, [], ◌∷◌, ◌++◌, length, get_or, drop, Option, None, Some, IfSome, refl, ap, sym, append_assoc, add-one, arith, drop-cons}
+use Rattle.std.proofs.Common.{◌≡◌, ℕ, suc, ◌+◌, ◌<◌, ◌≤◌, List, [], ◌∷◌, ◌++◌, length, get_or, map, drop, Option, None, Some, IfSome, refl, ap, sym, subst, append_assoc, add-one, arith, drop-cons}
 use Rattle.std.proofs.Math.Seq.{drop-length}
-use Rattle.std.proofs.lemmas.List.{append-nil}
+use Rattle.std.proofs.lemmas.List.{append-nil, map-append}
 use Rattle.std.specs.List.{AllByRecursion}
 use Rattle.serde_json.specs.Data.{Data, Items, no_items, item}
 use Rattle.serde_json.specs.Events.{items_len}
@@ -63,3 +63,17 @@ few_read read_one vs limit few = at_most _ (items_len (items_view vs)) limit (as
 pub all_and : {A : Type 0} (P : A → Type 0) (xs : List A) (x : A) → AllByRecursion P xs → P x → AllByRecursion P (xs ++ x ∷ [])
 all_and P [] x all here = (here, tt)
 all_and P (y ∷ ys) x all here = (all.0, all_and P ys x all.1 here)
+
+first_is : {A : Type 0} (xs : List A) (i : ℕ) (x : A) → i < length xs → get_or xs i x ≡ x → drop i xs ≡ x ∷ drop (i + 1) xs
+first_is xs i x within is = rw (add-one, drop-cons xs i x, is) refl
+
+-- what holds of what is left holds of the first of it and of the others
+pub all_left : {A : Type 0} (P : A → Type 0) (xs : List A) (i : ℕ) (x : A) → i < length xs → get_or xs i x ≡ x → AllByRecursion P (drop i xs) → P x × AllByRecursion P (drop (i + 1) xs)
+all_left P xs i x within is all = subst (AllByRecursion P) (first_is xs i x within is) all
+
+-- one more is written
+pub written_on : {A B D : Type 0} (seen : B → D) (written : A → D) (values : List B) (v : B) (xs : List A) (i : ℕ) (x : A)
+    → i < length xs → get_or xs i x ≡ x → seen v ≡ written x → map seen values ++ map written (drop i xs) ≡ map written xs
+    → map seen (values ++ v ∷ []) ++ map written (drop (i + 1) xs) ≡ map written xs
+written_on seen written values v xs i x within is same before =
+    rw (map-append seen values (v ∷ []), same, append_assoc (map seen values) (written x ∷ []) _) (rw (first_is xs i x within is) at before)

@@ -1,9 +1,11 @@
 -- Plans, asks and what was done, as JSON, each key in its place in byte order.
-use Rattle.std.specs.Prelude.{◌≡◌, ℕ, ◌≤◌, true, List, length, map, Option, None, Some, codes}
+use Rattle.std.specs.Prelude.{◌≡◌, ℕ, ◌≤◌, true, List, length, map, Option, None, Some, codes, IsUtf8}
 use Rattle.std.specs.List.{AllByRecursion}
 use Rattle.std.specs.Str.Lossy.{utf8_lossy}
-use Rattle.serde_json.specs.Data.{Data, null, object, Members, member, no_members, number, unsigned, string, array}
+use Rattle.serde_json.specs.Data.{Data, null, object, Members, member, no_members, put, number, unsigned, string, array}
 use Rattle.serde_json.specs.View.{items_of}
+use Rattle.serde_json.specs.Written.{compact_text}
+use Rattle.sha2.specs.Sha256.{sha256}
 use Rattle.desk_time.specs.Moments.{shown}
 use Rattle.codes.specs.Station.{is_station}
 use Rattle.plan.specs.Texts.{IsMoment}
@@ -21,6 +23,8 @@ use Rattle.plan_json.specs.declared.plans.Form.TheVariants.{Flight, Tail, Captai
 use Rattle.plan_json.specs.Digests.{digest_data, IsDigest}
 use Rattle.plan_json.specs.Plans.{has_form}
 
+-- ---- numbers, texts, lists
+
 abbrev pub count : ℕ → Data
 count n = number (unsigned n)
 
@@ -29,65 +33,123 @@ count n = number (unsigned n)
 abbrev pub text_data : List ℕ → Data
 text_data t = string (utf8_lossy t)
 
+-- a moment, as 2025-03-12T17:00Z
 abbrev pub moment_data : ℕ → Data
-moment_data at = string (shown at)
+moment_data at = text_data (shown at)
 
+-- null where there is nothing
+abbrev pub option_data : {A : Type 0} → (A → Data) → Option A → Data
+option_data written None = null
+option_data written (Some x) = written x
+
+abbrev pub list_data : {A : Type 0} → (A → Data) → List A → Data
+list_data written xs = array (items_of (map written xs))
+
+-- ---- plans
+
+abbrev pub alternate_members : Alternate → Members
+alternate_members a = member (codes "fuel") (count a.fuel) (member (codes "minutes") (count a.minutes) (member (codes "station") (text_data a.station) no_members))
+
+-- the JSON of an alternate of the destination
 abbrev pub alternate_data : Alternate → Data
-alternate_data a = object (member (codes "fuel") (count a.fuel) (member (codes "minutes") (count a.minutes) (member (codes "station") (string a.station) no_members)))
+alternate_data a = object (alternate_members a)
 
-abbrev pub takeoff_data : Option TakeoffAlternate → Data
-takeoff_data None = null
-takeoff_data (Some t) = object (member (codes "minutes") (count t.minutes) (member (codes "station") (string t.station) no_members))
+abbrev pub takeoff_members : TakeoffAlternate → Members
+takeoff_members t = member (codes "minutes") (count t.minutes) (member (codes "station") (text_data t.station) no_members)
 
-abbrev pub leg_data : Leg → Data
-leg_data l = object
-    (member (codes "alternates") (array (items_of (map alternate_data l.alternates)))
+-- the JSON of an alternate of the airport of departure
+abbrev pub takeoff_data : TakeoffAlternate → Data
+takeoff_data t = object (takeoff_members t)
+
+abbrev pub leg_members : Leg → Members
+leg_members l =
+    member (codes "alternates") (list_data alternate_data l.alternates)
     (member (codes "burn") (count l.burn)
     (member (codes "eta") (moment_data l.eta)
     (member (codes "etd") (moment_data l.etd)
     (member (codes "extra") (count l.extra)
-    (member (codes "from") (string l.from)
+    (member (codes "from") (text_data l.from)
     (member (codes "minimum") (count l.minimum)
     (member (codes "minutes") (count l.minutes)
     (member (codes "onboard") (count l.onboard)
-    (member (codes "takeoff_alternate") (takeoff_data l.takeoff_alternate)
-    (member (codes "to") (string l.to) no_members)))))))))))
+    (member (codes "takeoff_alternate") (option_data takeoff_data l.takeoff_alternate)
+    (member (codes "to") (text_data l.to) no_members))))))))))
+
+-- the JSON of a leg
+abbrev pub leg_data : Leg → Data
+leg_data l = object (leg_members l)
 
 abbrev pub kind_name : Kind → List ℕ
 kind_name Domestic = codes "domestic"
 kind_name Flag = codes "flag"
 
+abbrev pub plan_members : Plan → Members
+plan_members p =
+    member (codes "captain") (text_data p.captain)
+    (member (codes "flight") (text_data p.flight)
+    (member (codes "kind") (string (kind_name p.kind))
+    (member (codes "legs") (list_data leg_data p.legs)
+    (member (codes "tail") (text_data p.tail) no_members))))
+
 -- the JSON of a plan
 unfoldable pub plan_data : Plan → Data
-plan_data p = object
-    (member (codes "captain") (string p.captain)
-    (member (codes "flight") (string p.flight)
-    (member (codes "kind") (string (kind_name p.kind))
-    (member (codes "legs") (array (items_of (map leg_data p.legs)))
-    (member (codes "tail") (string p.tail) no_members)))))
+plan_data p = object (plan_members p)
+
+-- ---- asks
+
+-- the name of an ask
+abbrev pub ask_name : Ask → List ℕ
+ask_name (Admit text) = codes "admit"
+ask_name (Defer tail item found) = codes "defer"
+ask_name (Clear deferral) = codes "clear"
+ask_name (Draft plan) = codes "draft"
+ask_name (Prepare release) = codes "prepare"
+ask_name (Sign release revision digest) = codes "sign"
+ask_name (Concur release revision digest) = codes "concur"
+ask_name (Amend release plan) = codes "amend"
+ask_name (Cancel release) = codes "cancel"
+ask_name (Depart release leg) = codes "depart"
+ask_name (Arrive release leg) = codes "arrive"
+ask_name (Acknowledge release version) = codes "acknowledge"
+ask_name ViewBoard = codes "board"
+ask_name ViewAlerts = codes "alerts"
+ask_name (ViewRelease release) = codes "release"
+ask_name (ViewWeather station) = codes "weather"
+ask_name (ViewDeferred tail) = codes "deferred"
+
+-- Some members and those of an ask beside its name, each put where its key belongs in byte order.
+abbrev pub with_asked : Ask → Members → Members
+with_asked (Admit text) ms = put (codes "text") (text_data text) ms
+with_asked (Defer tail item found) ms = put (codes "tail") (text_data tail) (put (codes "item") (text_data item) (put (codes "found") (moment_data found) ms))
+with_asked (Clear deferral) ms = put (codes "deferral") (count deferral) ms
+with_asked (Draft plan) ms = put (codes "plan") (plan_data plan) ms
+with_asked (Prepare release) ms = put (codes "release") (count release) ms
+with_asked (Sign release revision digest) ms = put (codes "digest") (digest_data digest) (put (codes "revision") (count revision) (put (codes "release") (count release) ms))
+with_asked (Concur release revision digest) ms = put (codes "digest") (digest_data digest) (put (codes "revision") (count revision) (put (codes "release") (count release) ms))
+with_asked (Amend release plan) ms = put (codes "plan") (plan_data plan) (put (codes "release") (count release) ms)
+with_asked (Cancel release) ms = put (codes "release") (count release) ms
+with_asked (Depart release leg) ms = put (codes "leg") (count leg) (put (codes "release") (count release) ms)
+with_asked (Arrive release leg) ms = put (codes "leg") (count leg) (put (codes "release") (count release) ms)
+with_asked (Acknowledge release version) ms = put (codes "version") (count version) (put (codes "release") (count release) ms)
+with_asked ViewBoard ms = ms
+with_asked ViewAlerts ms = ms
+with_asked (ViewRelease release) ms = put (codes "release") (count release) ms
+with_asked (ViewWeather station) ms = put (codes "station") (text_data station) ms
+with_asked (ViewDeferred tail) ms = put (codes "tail") (text_data tail) ms
+
+-- the members of an ask
+abbrev pub ask_members : Ask → Members
+ask_members a = with_asked a (member (codes "do") (string (ask_name a)) no_members)
 
 -- the JSON of an ask
 unfoldable pub ask_data : Ask → Data
-ask_data (Admit text) = object (member (codes "do") (string (codes "admit")) (member (codes "text") (string text) no_members))
-ask_data (Defer tail item found) =
-    object (member (codes "do") (string (codes "defer")) (member (codes "found") (moment_data found) (member (codes "item") (string item) (member (codes "tail") (string tail) no_members))))
-ask_data (Clear deferral) = object (member (codes "deferral") (count deferral) (member (codes "do") (string (codes "clear")) no_members))
-ask_data (Draft plan) = object (member (codes "do") (string (codes "draft")) (member (codes "plan") (plan_data plan) no_members))
-ask_data (Prepare release) = object (member (codes "do") (string (codes "prepare")) (member (codes "release") (count release) no_members))
-ask_data (Sign release revision digest) =
-    object (member (codes "digest") (digest_data digest) (member (codes "do") (string (codes "sign")) (member (codes "release") (count release) (member (codes "revision") (count revision) no_members))))
-ask_data (Concur release revision digest) =
-    object (member (codes "digest") (digest_data digest) (member (codes "do") (string (codes "concur")) (member (codes "release") (count release) (member (codes "revision") (count revision) no_members))))
-ask_data (Amend release plan) = object (member (codes "do") (string (codes "amend")) (member (codes "plan") (plan_data plan) (member (codes "release") (count release) no_members)))
-ask_data (Cancel release) = object (member (codes "do") (string (codes "cancel")) (member (codes "release") (count release) no_members))
-ask_data (Depart release leg) = object (member (codes "do") (string (codes "depart")) (member (codes "leg") (count leg) (member (codes "release") (count release) no_members)))
-ask_data (Arrive release leg) = object (member (codes "do") (string (codes "arrive")) (member (codes "leg") (count leg) (member (codes "release") (count release) no_members)))
-ask_data (Acknowledge release version) = object (member (codes "do") (string (codes "acknowledge")) (member (codes "release") (count release) (member (codes "version") (count version) no_members)))
-ask_data ViewBoard = object (member (codes "do") (string (codes "board")) no_members)
-ask_data ViewAlerts = object (member (codes "do") (string (codes "alerts")) no_members)
-ask_data (ViewRelease release) = object (member (codes "do") (string (codes "release")) (member (codes "release") (count release) no_members))
-ask_data (ViewWeather station) = object (member (codes "do") (string (codes "weather")) (member (codes "station") (string station) no_members))
-ask_data (ViewDeferred tail) = object (member (codes "do") (string (codes "deferred")) (member (codes "tail") (string tail) no_members))
+ask_data a = object (ask_members a)
+
+-- the SHA-256 of that JSON without blanks
+unfoldable pub ask_digest : Ask → List ℕ
+ask_digest a = sha256 (compact_text (ask_data a))
+
+-- ---- what was done
 
 -- the members of what was done
 abbrev pub done_members : Done → Members
@@ -102,9 +164,19 @@ done_members (Release id) = member (codes "release") (count id) no_members
 abbrev pub done_data : Done → Data
 done_data done = object (done_members done)
 
+-- ---- forms
+
 -- a number of 32 bits
 abbrev pub IsAmount : ℕ → Type 0
 IsAmount n = n ≤ 4_294_967_295
+
+abbrev pub IsId : ℕ → Type 0
+IsId n = n ≤ 1_000_000_000_000_000
+
+-- a text of at most 64 bytes
+pub record IsShort (t : List ℕ) : Type 0 where
+  pub text : IsUtf8 t
+  pub few : length t ≤ 64
 
 -- an alternate whose fields have their forms
 pub record IsAlternate (a : Alternate) : Type 0 where
@@ -142,13 +214,10 @@ pub record HasForms (p : Plan) : Type 0 where
   pub few : length p.legs ≤ 1000
   pub legs : AllByRecursion IsLeg p.legs
 
-abbrev pub IsId : ℕ → Type 0
-IsId n = n ≤ 1_000_000_000_000_000
-
 -- an ask whose fields have their forms
 abbrev pub AskHasForms : Ask → Type 0
-AskHasForms (Admit text) = Unit {0}
-AskHasForms (Defer tail item found) = (length tail ≤ 64) × (length item ≤ 64) × IsMoment found
+AskHasForms (Admit text) = IsUtf8 text
+AskHasForms (Defer tail item found) = IsShort tail × IsShort item × IsMoment found
 AskHasForms (Clear deferral) = IsId deferral
 AskHasForms (Draft plan) = HasForms plan
 AskHasForms (Prepare release) = IsId release
@@ -163,4 +232,12 @@ AskHasForms ViewBoard = Unit {0}
 AskHasForms ViewAlerts = Unit {0}
 AskHasForms (ViewRelease release) = IsId release
 AskHasForms (ViewWeather station) = is_station station ≡ true
-AskHasForms (ViewDeferred tail) = length tail ≤ 64
+AskHasForms (ViewDeferred tail) = IsShort tail
+
+-- what was done, with its numbers and its digest in their forms
+abbrev pub DoneHasForms : Done → Type 0
+DoneHasForms (Report id) = IsId id
+DoneHasForms (Deferral id) = IsId id
+DoneHasForms (Filed release revision) = IsId release × IsId revision
+DoneHasForms (Prepared release revision digest) = IsId release × IsId revision × IsDigest digest
+DoneHasForms (Release id) = IsId id

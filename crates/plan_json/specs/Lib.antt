@@ -3,3 +3,5 @@ pub mod Digests
 pub mod Legs
 pub mod Plans
 pub mod Canonical
+pub mod Dones
+pub mod Plain

@@ -11,7 +11,7 @@ use crate::members::{Members, with_value};
 use desk_io::OutOfMemory;
 use hex::FromHex;
 use serde_json::Value;
-use std::alloc::{AllocError, Global};
+use std::alloc::Global;
 
 fn is_small_digit(b: u8) -> bool
     ensures { result ≡ spec.is_small_digit b }
@@ -60,8 +60,8 @@ pub fn digest_at(key: &str, value: &Value) -> Option<[u8; 32]>
     read_digest(text_at(key, value)?.as_bytes())
 }
 
-// A digest as a JSON string.
-fn digest_value(alloc: Global, digest: &[u8; 32]) -> Result<Value, AllocError>
+/// A digest as a JSON string: 64 hexadecimal digits, with small letters.
+pub fn digest_value(alloc: Global, digest: &[u8; 32]) -> Result<Value, OutOfMemory>
     ensures { IfOk result (λ v. view v ≡ spec.digest_data digest.now) }
 {
     Ok(Value::String(hex::encode(alloc, digest.as_slice())?))

@@ -2,8 +2,11 @@ ghost use Rattle.std.specs.Prelude.{◌≡◌, codes, IfOk};
 ghost use Rattle.serde_json.specs.Data.{put};
 ghost use Rattle.serde_json.specs.View.{view, members_view};
 ghost use Rattle.plan_json.specs.Canonical as spec;
+ghost use Rattle.plan_json.specs.Dones as dones;
+ghost use Rattle.plan_json.specs.Dones.{done_of};
 
-use crate::digests::with_digest;
+use crate::digests::{digest_at, with_digest};
+use crate::fields::{has_members, id_at};
 use crate::members::{Members, with_count};
 use asks::Done;
 use desk_io::OutOfMemory;
@@ -48,4 +51,79 @@ pub fn done_value(alloc: Global, done: &Done) -> Result<Value, OutOfMemory>
     ensures { IfOk result (λ v. view v ≡ spec.done_data done.now) }
 {
     Ok(Value::Object(done_members(alloc, done)?))
+}
+
+fn report_of(value: &Value) -> Option<Done>
+    ensures { result ≡ dones.report_of (view value.now) }
+{
+    let id = id_at("report", value)?;
+    if has_members(1, value) {
+        Some(Done::Report(id))
+    } else {
+        None
+    }
+}
+
+fn deferral_of(value: &Value) -> Option<Done>
+    ensures { result ≡ dones.deferral_of (view value.now) }
+{
+    let id = id_at("deferral", value)?;
+    if has_members(1, value) {
+        Some(Done::Deferral(id))
+    } else {
+        None
+    }
+}
+
+fn filed_of(value: &Value) -> Option<Done>
+    ensures { result ≡ dones.filed_of (view value.now) }
+{
+    let release = id_at("release", value)?;
+    let revision = id_at("revision", value)?;
+    if has_members(2, value) {
+        Some(Done::Filed { release, revision })
+    } else {
+        None
+    }
+}
+
+fn prepared_of(value: &Value) -> Option<Done>
+    ensures { result ≡ dones.prepared_of (view value.now) }
+{
+    let release = id_at("release", value)?;
+    let revision = id_at("revision", value)?;
+    let digest = digest_at("digest", value)?;
+    if has_members(3, value) {
+        Some(Done::Prepared {
+            release,
+            revision,
+            digest,
+        })
+    } else {
+        None
+    }
+}
+
+fn release_of(value: &Value) -> Option<Done>
+    ensures { result ≡ dones.release_of (view value.now) }
+{
+    let id = id_at("release", value)?;
+    if has_members(1, value) {
+        Some(Done::Release(id))
+    } else {
+        None
+    }
+}
+
+/// What was done, where an object has exactly the keys of one kind, and each field its form: numbers of at
+/// most 10^15, and 64 hexadecimal digits, none of them a capital letter.
+#[tactic(auto, unfolding(crate::specs::Dones::done_of))]
+pub fn read_done(value: &Value) -> Option<Done>
+    ensures { result ≡ done_of (view value.now) }
+{
+    report_of(value)
+        .or(deferral_of(value))
+        .or(filed_of(value))
+        .or(prepared_of(value))
+        .or(release_of(value))
 }

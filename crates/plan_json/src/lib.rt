@@ -1,18 +1,25 @@
 //! Plans, asks and what was done, as JSON.
 #![tactic(auto)]
 
+mod ask_values;
 mod digests;
 mod dones;
 mod fields;
+mod leg_values;
 mod legs;
 mod members;
+mod plan_values;
 mod plans;
+mod values;
 
-pub use digests::{digest_at, with_digest};
-pub use dones::done_value;
+pub use ask_values::{ask_digest, ask_text, ask_value};
+pub use digests::{digest_at, digest_value, with_digest};
+pub use dones::{done_value, read_done};
 pub use fields::{
     amount_at, data_of, has_members, id_at, list_at, moment_at, number_at, short_at, station_at,
     text_at,
 };
-pub use members::{Members, name_value, text_value, with_count, with_name, with_text, with_value};
+pub use members::{Members, with_count, with_moment, with_name, with_text, with_value};
+pub use plan_values::{plan_text, plan_value};
 pub use plans::read_plan;
+pub use values::{count_value, moment_value, name_value, option_value, text_value};

@@ -1,28 +1,16 @@
-ghost use Rattle.std.specs.Prelude.{◌≡◌, IfOk};
+ghost use Rattle.std.specs.Prelude.{◌≡◌, ◌≤◌, IfOk};
 ghost use Rattle.serde_json.specs.Data.{string, put};
 ghost use Rattle.serde_json.specs.View.{view, members_view};
 ghost use Rattle.plan_json.specs.Canonical as spec;
 
+use crate::values::{count_value, moment_value, name_value, text_value};
 use desk_io::OutOfMemory;
+use desk_time::{FIRST, Minute, SHOWN_LAST};
 use serde_json::{Map, Value};
-use std::alloc::{AllocError, Global};
+use std::alloc::Global;
 
 /// The members of a JSON object.
 pub type Members = Map<String, Value>;
-
-/// A name as a JSON string.
-pub fn name_value(alloc: Global, name: &str) -> Result<Value, AllocError>
-    ensures { IfOk result (λ v. view v ≡ string name.now) }
-{
-    Ok(Value::String(String::from_str(alloc, name)?))
-}
-
-/// A text as a JSON string.
-pub fn text_value(alloc: Global, text: &[u8]) -> Result<Value, AllocError>
-    ensures { IfOk result (λ v. view v ≡ spec.text_data text.now) }
-{
-    Ok(Value::String(String::from_utf8_lossy(alloc, text)?))
-}
 
 /// Some members with one more.
 #[tactic(auto, using(crate::proofs::Puts::put_member))]
@@ -47,7 +35,7 @@ pub fn with_count(
 ) -> Result<Members, OutOfMemory>
     ensures { IfOk result (λ all. members_view all.entries ≡ put key.now (spec.count count) (members_view members.entries)) }
 {
-    with_value(alloc, members, key, Value::from(count))
+    with_value(alloc, members, key, count_value(count))
 }
 
 /// Some members with a name more.
@@ -73,5 +61,20 @@ pub fn with_text(
     ensures { IfOk result (λ all. members_view all.entries ≡ put key.now (spec.text_data text.now) (members_view members.entries)) }
 {
     let value = text_value(alloc, text)?;
+    with_value(alloc, members, key, value)
+}
+
+/// Some members with a moment more.
+pub fn with_moment(
+    alloc: Global,
+    members: Members,
+    key: &str,
+    at: Minute,
+) -> Result<Members, OutOfMemory>
+    requires low { FIRST ≤ at }
+    requires high { at ≤ SHOWN_LAST }
+    ensures { IfOk result (λ all. members_view all.entries ≡ put key.now (spec.moment_data at) (members_view members.entries)) }
+{
+    let value = moment_value(alloc, at)?;
     with_value(alloc, members, key, value)
 }
