@@ -28,3 +28,12 @@ either false o p Q one two = two
 pub weaker : {A : Type 0} (o : Option A) {P Q : A → Type 0} → IfSome o P → ((x : A) → P x → Q x) → IfSome o Q
 weaker None held next = tt
 weaker (Some x) held next = next x held
+
+-- with what is known of the step before, and of a test
+pub bind_known : {A B : Type 0} (o : Option A) (f : A → Option B) (Q : B → Type 0) → ((x : A) → o ≡ Some x → IfSome (f x) Q) → IfSome (o >>= f) Q
+bind_known None f Q next = tt
+bind_known (Some x) f Q next = next x refl
+
+pub either_known : {A : Type 0} (b : Bool) (o p : Option A) (Q : A → Type 0) → (b ≡ true → IfSome o Q) → IfSome p Q → IfSome (if b then o else p) Q
+either_known true o p Q one two = one refl
+either_known false o p Q one two = two

@@ -5,8 +5,8 @@ pub mod DigestLaws
 pub mod Texts
 pub mod Again
 pub mod Whole
+pub mod Compact
+pub mod Plain
 pub mod Chains
 pub mod MomentRange
 pub mod PlanForms
-pub mod Compact
-pub mod Plain

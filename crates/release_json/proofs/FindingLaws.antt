@@ -1,11 +1,13 @@
 -- The text of a finding is read as it, and lists of findings in order, each once, are read again.
-use Rattle.std.proofs.Common.{◌≡◌, ◌↔◌, ℕ, ◌<◌, ◌≤◌, ◌^◌, Bool, true, false, ◌&&◌, List, [], ◌∷◌, ◌++◌, map, Option, None, Some, IfSome, codes, decimal, IsUtf8, refl, ap, sym, ◌∙◌, arith}
+use Rattle.std.proofs.Common.{◌≡◌, ◌↔◌, ℕ, ◌<◌, ◌≤◌, ◌^◌, Bool, true, false, ◌&&◌, List, [], ◌∷◌, ◌++◌, map, Option, None, Some, IfSome, codes, decimal, IsUtf8, refl, ap, sym, subst, ◌∙◌, arith}
 use Rattle.std.specs.List.{AllByRecursion}
+use Rattle.std.specs.Str.{bytes_eq}
 use Rattle.std.specs.Str.Lossy.{utf8_lossy}
 use Rattle.std.proofs.lemmas.Bool.{and_parts}
 use Rattle.std.proofs.lemmas.Fmt.{IsAscii-decimal}
 use Rattle.std.proofs.lemmas.List.{append-nil}
 use Rattle.std.proofs.lemmas.Str.{IsUtf8-append, IsUtf8-from_ascii, utf8_lossy-IsUtf8}
+use Rattle.std.proofs.lemmas.Slice.Eq.{bytes_eq-Decides}
 use Rattle.json.proofs.Printed.Utf8.{IsUtf8-are_ascii}
 use Rattle.serde_json.specs.Data.{Items}
 use Rattle.serde_json.specs.View.{items_of}
@@ -19,9 +21,9 @@ use Rattle.plan.specs.declared.findings.Finding.{Finding}
 use Rattle.plan_json.specs.Fields.{each_read}
 use Rattle.plan_json.proofs.Again.{each_again}
 use Rattle.release_json.specs.Numbers.{number_of, leg_of, cut}
-use Rattle.release_json.specs.Findings.{rule_of, finding_at, finding_with, finding_of, finding_data, finding_in, comes_before, are_in_order, in_order, findings_of, IsFinding}
-use Rattle.plan_json.proofs.Chains.{bind_if, bind_any, under, then_if}
-use Rattle.release_json.proofs.Digits.{leg_again, number_again, number_within, decimal_free, is_free, cut_at}
+use Rattle.release_json.specs.Findings.{every_rule, rule_among, rule_of, finding_at, finding_with, finding_of, finding_data, finding_in, comes_before, are_in_order, in_order, findings_of, IsFinding}
+use Rattle.plan_json.proofs.Chains.{bind_if, bind_any, under, then_if, either_known}
+use Rattle.release_json.proofs.Digits.{leg_again, number_again, number_within, number_back, decimal_free, is_free, IsCut, cut_at, cut_back}
 
 rule_again : (r : Rule) → rule_of (code_of r) ≡ Some r
 rule_again No1 = refl
@@ -167,3 +169,53 @@ pub finding_formed : (text : List ℕ) → IfSome (finding_of text) IsFinding
 unfolding finding_of
 finding_formed text =
     bind_any (cut 47 text) _ IsFinding (λ halves. bind_any (rule_of halves.0) _ IsFinding (λ r. bind_any (cut 47 halves.1) _ IsFinding (λ both. at_formed r both)))
+
+-- ---- only the text of a finding is read
+
+abbrev Writes : List ℕ → Finding → Type 0
+Writes text f = finding_text f ≡ text
+
+code_back : (code : List ℕ) (rules : List Rule) → IfSome (rule_among rules code) (λ r. code_of r ≡ code)
+code_back code [] = tt
+code_back code (r ∷ rs) = either_known (bytes_eq (code_of r) code) (Some r) (rule_among rs code) (λ r. code_of r ≡ code) (λ is. (bytes_eq-Decides (code_of r) code).0 is) (code_back code rs)
+
+written : (r : Rule) (leg place : ℕ) (code number last : List ℕ) → code_of r ≡ code → decimal leg ≡ number → decimal place ≡ last
+    → Writes (code ++ 47 ∷ (number ++ 47 ∷ last)) (record { rule = r; leg = leg; place = place })
+unfolding finding_text
+written r leg place code number last one two three =
+    ap (λ (l : List ℕ). l ++ 47 ∷ (decimal leg ++ 47 ∷ (decimal place ++ []))) one
+    ∙ ap (λ (l : List ℕ). code ++ 47 ∷ (l ++ 47 ∷ (decimal place ++ []))) two
+    ∙ ap (λ (l : List ℕ). code ++ 47 ∷ (number ++ 47 ∷ l)) (append-nil (decimal place) ∙ three)
+
+at_back : (r : Rule) (code : List ℕ) (both : List ℕ × List ℕ) → code_of r ≡ code → IfSome (finding_at r both) (Writes (code ++ 47 ∷ (both.0 ++ 47 ∷ both.1)))
+at_back r code both one =
+    let Q = Writes (code ++ 47 ∷ (both.0 ++ 47 ∷ both.1)) in
+    bind_if (leg_of both.0) (λ leg. number_of 1_000_000_000_000_000 both.1 >>= λ place. Some (record { rule = r; leg = leg; place = place })) (λ leg. decimal leg ≡ both.0) Q (number_back 4_294_967_295 both.0 (omega arith)) (λ leg two.
+    bind_if (number_of 1_000_000_000_000_000 both.1) (λ place. Some (record { rule = r; leg = leg; place = place })) (λ place. decimal place ≡ both.1) Q (number_back 1_000_000_000_000_000 both.1 (omega arith)) (λ place three.
+    written r leg place code both.0 both.1 one two three))
+
+rest_back : (r : Rule) (code rest : List ℕ) → code_of r ≡ code → IfSome (cut 47 rest >>= λ both. finding_at r both) (Writes (code ++ 47 ∷ rest))
+rest_back r code rest one =
+    bind_if (cut 47 rest) (λ both. finding_at r both) (IsCut 47 rest) (Writes (code ++ 47 ∷ rest)) (cut_back 47 rest) (λ both is.
+    subst (λ (l : List ℕ). IfSome (finding_at r both) (Writes (code ++ 47 ∷ l))) (sym is) (at_back r code both one))
+
+with_back : (halves : List ℕ × List ℕ) → IfSome (finding_with halves) (Writes (halves.0 ++ 47 ∷ halves.1))
+with_back halves =
+    bind_if (rule_of halves.0) (λ r. cut 47 halves.1 >>= λ both. finding_at r both) (λ r. code_of r ≡ halves.0) (Writes (halves.0 ++ 47 ∷ halves.1)) (code_back halves.0 every_rule) (λ r one. rest_back r halves.0 halves.1 one)
+
+-- what is read of a text is the finding whose text it is
+pub finding_back : (text : List ℕ) → IfSome (finding_of text) (λ f. finding_text f ≡ text)
+unfolding finding_of
+finding_back text =
+    bind_if (cut 47 text) finding_with (IsCut 47 text) (Writes text) (cut_back 47 text) (λ halves is. subst (λ (l : List ℕ). IfSome (finding_with halves) (Writes l)) (sym is) (with_back halves))
+
+of_some : (text : List ℕ) (o : Option Finding) (f : Finding) → o ≡ Some f → IfSome o IsFinding → IfSome o (λ g. finding_text g ≡ text) → IsFinding f × (text ≡ finding_text f)
+of_some text None f is formed same = absurd (cc is)
+of_some text (Some g) f is formed same = let e : g ≡ f = cc is in rw (← e) (formed, sym same)
+
+-- a text is read as a finding exactly where it is its text
+pub finding_exact : (text : List ℕ) (read : Option Finding) → read ≡ finding_of text → (f : Finding) → (read ≡ Some f) ↔ (IsFinding f × (text ≡ finding_text f))
+finding_exact text read is f = (
+  λ found. of_some text (finding_of text) f (sym is ∙ found) (finding_formed text) (finding_back text),
+  λ all. is ∙ ap finding_of all.1 ∙ finding_again f all.0,
+)

@@ -29,6 +29,7 @@ use Rattle.release_json.specs.Kept.{IsAttached, IsSignature, IsRevision, IsForme
 use Rattle.release_json.specs.Phases.{IsPhase, phase_of}
 use Rattle.release_json.specs.Plans.{MayHavePlan, HasPlans}
 use Rattle.release_json.specs.Releases.{utf8, utf8_at, bool_at, person, person_at, attached_of, attached_at, signature_of, signature_in, signature_at, signatures_of, head_of, plan_at, revision_of, revision_in, revision_at, revisions_of, phase_at, release_in, release_of}
+use Rattle.release_json.specs.Rows.{SignedAtMoment, RevisionHasMoments, ReleaseHasMoments}
 use Rattle.release_json.specs.declared.revisions.Head.{Head}
 use Rattle.release_json.specs.declared.revisions.Signatures.{Signatures}
 use Rattle.release_json.specs.declared.releases.Revisions.{Revisions}
@@ -189,3 +190,15 @@ in_named id d =
 pub release_named : (id : ℕ) (d : Data) → IfSome (release_of id d) (IsNamed id)
 unfolding release_of
 release_named id d = bind_if (release_in id d) _ (IsNamed id) (IsNamed id) (in_named id d) (λ r same. under (is_valid r) (Some r) (IsNamed id) (λ is. same))
+
+signed_at : (s : Option Signature) → IfSome s IsSignature → SignedAtMoment s
+signed_at None is = tt
+signed_at (Some s) is = is.at
+
+revision_moments : (v : Option Revision) → IfSome v IsRevision → IfSome v RevisionHasMoments
+revision_moments None is = tt
+revision_moments (Some v) is = record { is_plan = plan_from_forms v.plan is.plan; dispatcher = signed_at v.dispatcher is.dispatcher; captain = signed_at v.captain is.captain }
+
+-- the moments of a release whose fields have their forms can be shown
+pub moments_formed : (r : Release) → IsFormed r → ReleaseHasMoments r
+moments_formed r is = record { moment = is.moment; pending = revision_moments r.pending is.pending; active = revision_moments r.active is.active }

@@ -1,7 +1,7 @@
-ghost use Rattle.std.specs.Prelude.{◌≡◌, IfOk, IfSome, map, List, ℕ, find};
-ghost use Rattle.std.specs.Str.{bytes_eq};
+ghost use Rattle.std.specs.Prelude.{◌≡◌, ◌↔◌, Some, IfOk, IfSome, map};
+ghost use Rattle.plan.specs.Findings.{AreInOrder};
 ghost use Rattle.serde_json.specs.View.{view, items_view};
-ghost use Rattle.plan.specs.Findings.{code_of};
+ghost use Rattle.plan.specs.Texts.{finding_text};
 ghost use Rattle.plan_json.specs.Fields.{each_read};
 ghost use Rattle.release_json.specs.Findings as spec;
 
@@ -68,13 +68,20 @@ fn finding_with(code: &[u8], rest: &[u8]) -> Option<Finding>
     finding_at(rule, leg, place)
 }
 
-/// The finding of a text.
 #[tactic(auto, unfolding(crate::specs::Findings::finding_of))]
-pub fn read_finding(text: &[u8]) -> Option<Finding>
+fn finding_of(text: &[u8]) -> Option<Finding>
     ensures { result ≡ spec.finding_of text.now }
 {
     let (code, rest) = cut(b'/', text)?;
     finding_with(code, rest)
+}
+
+/// The finding whose text this is: a leg is at most 4,294,967,295, a place at most 10^15.
+pub fn read_finding(text: &[u8]) -> Option<Finding>
+    ensures value { result ≡ spec.finding_of text.now }
+    ensures exact { (f : Finding) → (result ≡ Some f) ↔ (spec.IsFinding f × (text.now ≡ finding_text f)) }
+{
+    finding_of(text)
 }
 
 fn finding_in(value: &Value) -> Option<Finding>
@@ -111,15 +118,22 @@ fn findings_in(alloc: Global, items: &[Value]) -> Result<Option<Findings>, OutOf
     Ok(Some(findings))
 }
 
-/// The findings of a list, where each item is the text of one, and they stand in order, each once.
 #[tactic(auto, unfolding(crate::specs::Findings::findings_of))]
-pub fn read_findings(alloc: Global, items: &[Value]) -> Result<Option<Findings>, OutOfMemory>
+fn findings_of(alloc: Global, items: &[Value]) -> Result<Option<Findings>, OutOfMemory>
     ensures { IfOk result (λ findings. findings ≡ spec.findings_of (items_view items.now)) }
 {
     match findings_in(alloc, items)? {
         Some(findings) if are_in_order(findings.as_slice()) => Ok(Some(findings)),
         _ => Ok(None),
     }
+}
+
+/// The findings of a list, where each item is the text of one, and they stand in order, each once.
+pub fn read_findings(alloc: Global, items: &[Value]) -> Result<Option<Findings>, OutOfMemory>
+    ensures value { IfOk result (λ findings. findings ≡ spec.findings_of (items_view items.now)) }
+    ensures order { IfOk result (λ findings. IfSome findings AreInOrder) }
+{
+    findings_of(alloc, items)
 }
 
 fn finding_values(alloc: Global, findings: &[Finding]) -> Result<Vec<Value>, OutOfMemory>

@@ -81,8 +81,10 @@ fn bears_both(alloc: Global, revision: &Option<Revision>) -> Result<bool, OutOfM
         None => Ok(true),
         Some(revision) if revision.prepared => {
             let written = written_text(alloc, revision)?;
-            Ok(has_digest(&written.digest, &revision.dispatcher)
-                && has_digest(&written.digest, &revision.captain))
+            Ok(
+                has_digest(&written.digest, &revision.dispatcher)
+                    && has_digest(&written.digest, &revision.captain),
+            )
         }
         Some(_) => Ok(false),
     }

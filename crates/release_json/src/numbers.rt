@@ -1,4 +1,4 @@
-ghost use Rattle.std.specs.Prelude.{◌≡◌, ◌<◌, ◌≤◌, ◌==◌, length, drop, IfSome, nat_le, if◌then◌else◌, Some, None};
+ghost use Rattle.std.specs.Prelude.{◌≡◌, ◌↔◌, ℕ, decimal, ◌<◌, ◌≤◌, ◌==◌, length, drop, IfSome, nat_le, if◌then◌else◌, Some, None};
 ghost use Rattle.std.specs.List.{list_all, position};
 ghost use Rattle.std.specs.Option.{option_map};
 ghost use Rattle.release_json.specs.Numbers as spec;
@@ -39,17 +39,25 @@ fn number_up_to(limit: u64, digits: &[u8]) -> Option<u64>
     Some(number)
 }
 
-/// The number of a text in decimal, at most the limit. It has no sign, and begins with no zero but its own.
-pub fn read_number(limit: u64, text: &[u8]) -> Option<u64>
+fn number_of(limit: u64, text: &[u8]) -> Option<u64>
     requires { limit ≤ 1_000_000_000_000_000 }
-    ensures value { result ≡ spec.number_of limit text.now }
-    ensures bound { IfSome result (λ n. n ≤ limit) }
+    ensures { result ≡ spec.number_of limit text.now }
 {
     if is_decimal(text) {
         number_up_to(limit, text)
     } else {
         None
     }
+}
+
+/// The number that this text writes in decimal, at most the limit.
+pub fn read_number(limit: u64, text: &[u8]) -> Option<u64>
+    requires { limit ≤ 1_000_000_000_000_000 }
+    ensures value { result ≡ spec.number_of limit text.now }
+    ensures bound { IfSome result (λ n. n ≤ limit) }
+    ensures exact { (n : ℕ) → (result ≡ Some n) ↔ ((n ≤ limit) × (text.now ≡ decimal n)) }
+{
+    number_of(limit, text)
 }
 
 /// The number of a leg.

@@ -1,4 +1,5 @@
-ghost use Rattle.std.specs.Prelude.{◌≡◌, IfSome};
+ghost use Rattle.std.specs.Prelude.{◌≡◌, ◌↔◌, Some};
+ghost use Rattle.plan.specs.Texts.{phase_text};
 ghost use Rattle.release_json.specs.Phases as spec;
 
 use crate::numbers::{cut, leg_of};
@@ -85,9 +86,8 @@ fn phase_with(word: &[u8], rest: &[u8]) -> Option<Phase>
     }
 }
 
-/// The phase of a text.
 #[tactic(auto, unfolding(crate::specs::Phases::phase_of))]
-pub fn read_phase(text: &[u8]) -> Option<Phase>
+fn phase_of(text: &[u8]) -> Option<Phase>
     ensures { result ≡ spec.phase_of text.now }
 {
     match cut(b' ', text) {
@@ -100,4 +100,12 @@ pub fn read_phase(text: &[u8]) -> Option<Phase>
             }
         }
     }
+}
+
+/// The phase whose text this is: a leg is at most 4,294,967,295, a moment from 2000 to 2099.
+pub fn read_phase(text: &[u8]) -> Option<Phase>
+    ensures value { result ≡ spec.phase_of text.now }
+    ensures exact { (p : Phase) → (result ≡ Some p) ↔ (spec.IsPhase p × (text.now ≡ phase_text p)) }
+{
+    phase_of(text)
 }

@@ -196,12 +196,7 @@ fn plan_at(alloc: Global, value: &Value) -> Result<Option<Plan>, OutOfMemory>
     }
 }
 
-fn revision_with(
-    head: Head,
-    plan: Plan,
-    signatures: Signatures,
-    attached: AttachedList,
-) -> Revision
+fn revision_with(head: Head, plan: Plan, signatures: Signatures, attached: AttachedList) -> Revision
     ensures { result ≡ spec.revision_with head plan signatures attached }
 {
     let Signatures {
