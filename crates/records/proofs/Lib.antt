@@ -1,2 +1,9 @@
 mod Places
 mod MarkLaws
+mod Whole
+mod NameLaws
+mod FloorLaws
+mod PlainRows
+mod AgainRows
+mod Formed
+mod RowLaws

@@ -1,3 +1,6 @@
 pub mod Kinds
+pub mod Bodies
+pub mod Valid
+pub mod Reading
 pub mod Faults
 pub mod Marks

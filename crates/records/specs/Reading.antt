@@ -1,6 +1,7 @@
 -- The record of a row. A body has the keys that are named here, and no other.
 use Rattle.std.specs.Prelude.{◌≡◌, ℕ, ◌==◌, nat_le, ◌&&◌, Bool, false, if◌then◌else◌, List, [], ◌∷◌, Option, None, Some, Result, Ok, Err, codes, option_and_then}
 use Rattle.std.specs.Option.{option_map}
+use Rattle.std.specs.Str.{bytes_eq}
 use Rattle.serde_json.specs.Data.{Data, Members, no_members, member}
 use Rattle.serde_json.specs.Find.{get, as_number, as_u64, as_object, as_bool}
 use Rattle.desk_time.specs.Digits.{◌>>=◌}
@@ -13,7 +14,7 @@ use Rattle.deferrals.specs.declared.items.Deferral.{Deferral as DeferralOf}
 use Rattle.desk_io.specs.declared.rows.Row.{Row}
 use Rattle.plan_json.specs.Digests.{digest_at}
 use Rattle.plan_json.specs.Dones.{done_of}
-use Rattle.plan_json.specs.Fields.{text_at, up_to, number_at, id_at, moment_at, list_at, has_members}
+use Rattle.plan_json.specs.Fields.{data_of, text_at, up_to, number_at, id_at, moment_at, list_at, has_members}
 use Rattle.release_json.specs.Findings.{findings_of}
 use Rattle.release_json.specs.Releases.{utf8_at, bool_at, person, person_at, release_of}
 use Rattle.records.specs.Bodies.{row_of}
@@ -169,6 +170,20 @@ record_in kind id d =
 -- the record of a kind, a key and a body, where there is a valid one
 unfoldable pub record_of : ℕ → ℕ → Data → Option Record
 record_of kind key d = up_to 1_000_000_000_000_000 key >>= λ id. record_in kind id d
+
+-- the record that a row says, whatever its blanks and the order of its keys
+unfoldable pub found_in : Row → Option Record
+found_in row = data_of row.body >>= record_of row.kind row.key
+
+abbrev pub is_same_row : Row → Row → Bool
+is_same_row one two = (one.kind == two.kind) && (one.key == two.key) && bytes_eq one.body two.body
+
+abbrev pub if_has : Row → Record → Option Record
+if_has row r = if is_same_row (row_of r) row then Some r else None
+
+-- the record that is found in a row, where the row is that record's
+unfoldable pub record_with : Row → Option Record
+record_with row = found_in row >>= if_has row
 
 -- What is read of a row: the valid record that has it, or that no valid record has it, or want of memory.
 abbrev pub ReadsRow : Row → Result Record RowFault → Type 0

@@ -1,7 +1,10 @@
-ghost use Rattle.std.specs.Prelude.{◌≡◌, IfOk, IfSome};
+ghost use Rattle.std.specs.Prelude.{◌≡◌, codes, IfOk, option_and_then};
 ghost use Rattle.std.specs.Option.{option_map};
 ghost use Rattle.plan.specs.Texts.{IsMoment};
+ghost use Rattle.plan_json.specs.Dones.{done_of};
+ghost use Rattle.plan_json.specs.Fields.{text_at};
 ghost use Rattle.release_json.specs.Releases.{utf8, utf8_at, person_at};
+ghost use Rattle.serde_json.specs.Find.{get};
 ghost use Rattle.serde_json.specs.View.{view};
 ghost use Rattle.records.specs.Reading as spec;
 ghost use Rattle.records.specs.Valid as valid;

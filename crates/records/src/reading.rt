@@ -1,8 +1,10 @@
-ghost use Rattle.std.specs.Prelude.{◌≡◌, IfOk};
+ghost use Rattle.std.specs.Prelude.{◌≡◌, IfOk, IfSome};
 ghost use Rattle.std.specs.Option.{option_map};
+ghost use Rattle.release_json.specs.Releases.{release_of};
+ghost use Rattle.records.specs.Bodies.{HasMoments};
 ghost use Rattle.serde_json.specs.View.{view};
 ghost use Rattle.records.specs.Reading as spec;
-ghost use Rattle.records.specs.Reading.{record_of};
+ghost use Rattle.records.specs.Reading.{record_of, ReadsRow};
 
 use crate::alert_rows::alert_of;
 use crate::bodies::row_of;
@@ -116,5 +118,61 @@ fn record_of(
         record_in(alloc, kind, key, value)
     } else {
         Ok(None)
+    }
+}
+
+// The record that a row says, whatever its blanks and the order of its keys.
+#[tactic(auto, unfolding(crate::specs::Reading::found_in))]
+fn found_in(alloc: Global, row: &Row) -> Result<Option<Record>, OutOfMemory>
+    ensures { IfOk result (λ r. r ≡ spec.found_in row.now) }
+{
+    match data_of(alloc, row.body.bytes())? {
+        Some(value) => record_of(alloc, row.kind, row.key, &value),
+        None => Ok(None),
+    }
+}
+
+#[tactic(auto, using(crate::proofs::RowLaws::found_moments))]
+fn shown_in(alloc: Global, row: &Row) -> Result<Option<Record>, OutOfMemory>
+    ensures value { IfOk result (λ r. r ≡ spec.found_in row.now) }
+    ensures moments { IfOk result (λ r. IfSome r HasMoments) }
+{
+    found_in(alloc, row)
+}
+
+fn is_same_row(one: &Row, two: &Row) -> bool
+    ensures { result ≡ spec.is_same_row one.now two.now }
+{
+    one.kind == two.kind && one.key == two.key && one.body.bytes() == two.body.bytes()
+}
+
+fn if_has(alloc: Global, row: &Row, record: Record) -> Result<Option<Record>, OutOfMemory>
+    requires { HasMoments record }
+    ensures { IfOk result (λ r. r ≡ spec.if_has row.now record) }
+{
+    if is_same_row(&row_of(alloc, &record)?, row) {
+        Ok(Some(record))
+    } else {
+        Ok(None)
+    }
+}
+
+#[tactic(auto, unfolding(crate::specs::Reading::record_with))]
+fn record_with(alloc: Global, row: &Row) -> Result<Option<Record>, OutOfMemory>
+    ensures { IfOk result (λ r. r ≡ spec.record_with row.now) }
+{
+    match shown_in(alloc, row)? {
+        Some(record) => if_has(alloc, row, record),
+        None => Ok(None),
+    }
+}
+
+/// The record of a row: the only valid one that has it. `NotCanonical` comes exactly where there is none.
+pub fn read_row(alloc: Global, row: &Row) -> Result<Record, RowFault>
+    ensures { ReadsRow row.now result }
+{
+    match record_with(alloc, row)? {
+        Some(record) => Ok(record),
+        None => Err(RowFault::NotCanonical),
     }
 }
