@@ -39,9 +39,13 @@ pub body_plain : (r : Record) → IsRecord r → IsPlain (body_data r)
 unfolding body_data IsRecord
 body_plain (Meta m) is = (
   order_of (meta_members m) refl,
-  (id_plain m.events is.events,
-  (floors_plain m.floors is.floors is.rising,
-  (id_plain m.next_deferral is.next_deferral, (id_plain m.next_kept is.next_kept, (id_plain m.next_release is.next_release, (id_plain m.next_report is.next_report, (tt, ((omega arith), tt)))))))),
+  (
+    id_plain m.events is.events,
+    (
+      floors_plain m.floors is.floors is.rising,
+      (id_plain m.next_deferral is.next_deferral, (id_plain m.next_kept is.next_kept, (id_plain m.next_release is.next_release, (id_plain m.next_report is.next_report, (tt, ((omega arith), tt)))))),
+    ),
+  ),
 )
 body_plain (Report r) is = (order_of (report_members r) refl, (tt, (tt, tt)))
 body_plain (Deferral d) is = (order_of (deferral_members d) refl, (tt, (tt, (tt, tt))))

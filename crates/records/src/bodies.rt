@@ -11,9 +11,7 @@ use crate::record::{KeptAlert, KeptReport, Meta, Record};
 use asks::{Floor, Floors, KeptReply};
 use deferrals::Deferral;
 use desk_io::{OutOfMemory, Row, Text};
-use plan_json::{
-    Members, done_value, with_count, with_digest, with_moment, with_text, with_value,
-};
+use plan_json::{Members, done_value, with_count, with_digest, with_moment, with_text, with_value};
 use release_json::{findings_value, release_value};
 use serde_json::{Map, Value};
 use std::alloc::Global;
@@ -79,12 +77,7 @@ fn reply_value(alloc: Global, kept: &KeptReply) -> Result<Value, OutOfMemory>
     ensures { IfOk result (λ v. view v ≡ object (spec.reply_members kept.now)) }
 {
     let done = done_value(alloc, &kept.done)?;
-    Ok(Value::Object(with_value(
-        alloc,
-        Map::new(alloc),
-        "done",
-        done,
-    )?))
+    Ok(Value::Object(with_value(alloc, Map::new(alloc), "done", done)?))
 }
 
 fn kept_members(alloc: Global, kept: &KeptReply) -> Result<Members, OutOfMemory>

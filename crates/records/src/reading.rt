@@ -146,12 +146,12 @@ fn is_same_row(one: &Row, two: &Row) -> bool
     one.kind == two.kind && one.key == two.key && one.body.bytes() == two.body.bytes()
 }
 
-fn if_has(alloc: Global, row: &Row, record: Record) -> Result<Option<Record>, OutOfMemory>
-    requires { HasMoments record }
-    ensures { IfOk result (λ r. r ≡ spec.if_has row.now record) }
+fn if_has(alloc: Global, row: &Row, found: Record) -> Result<Option<Record>, OutOfMemory>
+    requires { HasMoments found }
+    ensures { IfOk result (λ r. r ≡ spec.if_has row.now found) }
 {
-    if is_same_row(&row_of(alloc, &record)?, row) {
-        Ok(Some(record))
+    if is_same_row(&row_of(alloc, &found)?, row) {
+        Ok(Some(found))
     } else {
         Ok(None)
     }
