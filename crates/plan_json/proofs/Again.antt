@@ -1,5 +1,5 @@
 -- What is written of a plan, and of what was done, is read again.
-use Rattle.std.proofs.Common.{◌≡◌, ℕ, suc, ◌≤◌, true, List, [], ◌∷◌, length, map, Option, None, Some, IsUtf8, refl, ap, ◌∙◌, le-leb}
+use Rattle.std.proofs.Common.{◌≡◌, ℕ, suc, ◌≤◌, true, List, [], ◌∷◌, length, map, Option, None, Some, refl, ap, ◌∙◌, arith, le-leb}
 use Rattle.std.specs.List.{AllByRecursion}
 use Rattle.std.specs.Str.Lossy.{utf8_lossy}
 use Rattle.std.proofs.lemmas.Str.{utf8_lossy-IsUtf8}
@@ -40,7 +40,7 @@ pub station_again : (s : Station) → is_station s ≡ true → station_of (utf8
 station_again s is = rw (utf8_lossy-IsUtf8 s (station_utf8 s is), is) refl
 
 pub moment_again : (m : ℕ) → IsMoment m → minute_of (utf8_lossy (shown m)) ≡ Some m
-moment_again m is = ap minute_of (utf8_lossy-IsUtf8 (shown m) (moment_utf8 m is)) ∙ minute_again m is.0 is.1
+moment_again m is = ap minute_of (utf8_lossy-IsUtf8 (shown m) (moment_utf8 m (let last = is.1 in omega arith))) ∙ minute_again m is.0 is.1
 
 pub name_again : (form : Form) (t : List ℕ) → has_form form t ≡ true → formed form (utf8_lossy t) ≡ Some t
 name_again form t is = rw (utf8_lossy-IsUtf8 t (name_utf8 form t is), is) refl

@@ -6,7 +6,7 @@ use Rattle.std.proofs.lemmas.Bool.{and_parts, cases_lt, eqb-true}
 use Rattle.std.proofs.lemmas.Bool.Decides.{nat_tests}
 use Rattle.hex.specs.declared.error.FromHexError.{FromHexError}
 use Rattle.hex.specs.Hex.{IsBytes, decode_sized, decode_pairs, digit_or_error, encode_lower, encode_with, hex_digit_value, lower_digits, pair_value, value_at, ◌>>=◌}
-use Rattle.hex.proofs.HexLemmas.{length-encode_with, decode_sized-encode_lower, decode_sized-twice, decode_of-even}
+use Rattle.hex.proofs.HexLemmas.{length-encode_with, decode_sized-encode_lower, decode_sized-ok, decode_sized-twice, decode_of-even, decode_of-ok}
 use Rattle.plan_json.specs.Digests.{is_small_digit, are_digits, digest_of, IsDigest, IsDigestAgain}
 
 -- ---- the digits that are written
@@ -135,3 +135,19 @@ tested_back text false is = tt
 pub digits_of_read : (text : List ℕ) (read : Option (List ℕ)) → read ≡ digest_of text → IfSome read (λ digest. encode_lower digest ≡ text)
 unfolding digest_of
 digits_of_read text read is = rw is (tested_back text (are_digits text) refl)
+
+-- what is read is a digest
+decoded : (text : List ℕ) (r : Result (List ℕ) FromHexError) → decode_sized text 32 ≡ r → IfSome (result_ok r) IsDigest
+decoded text (Ok bytes) is =
+    let twice = decode_sized-ok text 32 bytes is in
+    let ok = decode_of-ok text bytes (sym (decode_sized-twice text 32 twice) ∙ is) in
+    record { long = omega (arith, twice, ok.2); bytes = ok.3 }
+decoded text (Err e) is = tt
+
+decoded_by : (text : List ℕ) (digits : Bool) → IfSome (if digits then result_ok (decode_sized text 32) else None) IsDigest
+decoded_by text true = decoded text (decode_sized text 32) refl
+decoded_by text false = tt
+
+pub digest_formed : (text : List ℕ) → IfSome (digest_of text) IsDigest
+unfolding digest_of
+digest_formed text = decoded_by text (are_digits text)

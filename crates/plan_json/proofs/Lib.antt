@@ -3,6 +3,7 @@ pub mod Lists
 pub mod LegCounts
 pub mod DigestLaws
 pub mod Texts
+pub mod DoneForms
 pub mod Again
 pub mod Whole
 pub mod Compact

@@ -1,5 +1,5 @@
 -- Every moment that is read lies from 2000 to 2099.
-use Rattle.std.proofs.Common.{◌≡◌, ℕ, ◌+◌, ◌-◌, ◌*◌, ◌<◌, ◌≤◌, Bool, true, ◌&&◌, ◌==◌, List, [], ◌∷◌, Option, None, Some, IfSome, pos, refl, ap, ◌∙◌, arith}
+use Rattle.std.proofs.Common.{◌≡◌, ℕ, ◌+◌, ◌*◌, ◌<◌, ◌≤◌, true, ◌&&◌, ◌==◌, List, [], ◌∷◌, Some, IfSome, pos, refl, ap, ◌∙◌, arith}
 use Rattle.std.specs.Prelude.{nat_le, nat_lt}
 use Rattle.std.proofs.lemmas.Bool.{and_parts, leb-true, ltb-true}
 use Rattle.jiff_core.proofs.SignedLemmas.{signed_arith}
@@ -8,7 +8,7 @@ use Rattle.jiff_core.proofs.CalendarLemmas.{day_count-lt_year}
 use Rattle.desk_time.specs.Calendar.{days_of_years, day_number, day_at, is_date}
 use Rattle.desk_time.specs.Digits.{pair, ◌>>=◌}
 use Rattle.desk_time.specs.Moments.{minute_of, date_at, time_at, time_of}
-use Rattle.desk_time.proofs.CalendarLaws.{days_of_years-law, day_number-count, years_30}
+use Rattle.desk_time.proofs.CalendarLaws.{days_of_years-law, day_number-count}
 use Rattle.plan.specs.Texts.{IsMoment}
 use Rattle.plan_json.proofs.Chains.{bind_if, bind_any, under}
 

@@ -1,12 +1,11 @@
 -- What is written of plans and of what was done is plain data.
-use Rattle.std.proofs.Common.{◌≡◌, ℕ, ◌^◌, ◌<◌, ◌≤◌, max, nat_cmp, Ordering, Less, Bool, true, false, ◌&&◌, List, [], ◌∷◌, map, Option, None, Some, codes, IsUtf8, refl, arith, is_lt}
+use Rattle.std.proofs.Common.{◌≡◌, ℕ, ◌^◌, ◌<◌, ◌≤◌, max, nat_cmp, Ordering, Less, Bool, true, ◌&&◌, List, [], ◌∷◌, map, Option, None, Some, IsUtf8, refl, arith, is_lt}
 use Rattle.std.specs.Prelude.{⊤}
 use Rattle.std.specs.List.{AllByRecursion}
 use Rattle.std.specs.Cmp.Lexicographic.{slice_cmp}
 use Rattle.std.proofs.lemmas.Bool.{and_parts}
 use Rattle.json.proofs.Printed.Utf8.{are_ascii, IsUtf8-are_ascii}
-use Rattle.hex.specs.Hex.{encode_lower}
-use Rattle.serde_json.specs.Data.{Data, object, Items, Members, no_members, member, depth, items_depth}
+use Rattle.serde_json.specs.Data.{Data, Members, no_members, member, depth, items_depth}
 use Rattle.serde_json.specs.View.{items_of}
 use Rattle.plan.specs.declared.flights.Kind.{Kind}
 use Rattle.plan.specs.declared.flights.Kind.TheVariants.{Domestic, Flag}
@@ -17,7 +16,6 @@ use Rattle.plan.specs.declared.flights.Plan.{Plan}
 use Rattle.asks.specs.declared.reply.Done.{Done}
 use Rattle.asks.specs.declared.reply.Done.TheVariants.{Report, Deferral, Filed, Prepared, Release}
 use Rattle.plan_json.specs.Plain.{IsBefore, AreInOrder, IsPlain, ItemsArePlain, HasText, ItemsHaveText, MembersHaveText}
-use Rattle.plan_json.specs.Digests.{IsDigest}
 use Rattle.plan_json.specs.Canonical.{option_data, alternate_members, alternate_data, takeoff_members, takeoff_data, leg_members, leg_data, kind_name, plan_members, plan_data, done_members, done_data, IsAmount, IsId, IsAlternate, MayBeTakeoff, IsLeg, HasForms, DoneHasForms}
 use Rattle.plan_json.proofs.Texts.{written_utf8, digest_utf8}
 

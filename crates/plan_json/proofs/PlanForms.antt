@@ -1,19 +1,16 @@
 -- The fields of a plan that is read have their forms.
-use Rattle.std.proofs.Common.{◌≡◌, ℕ, suc, ◌≤◌, Bool, true, List, [], ◌∷◌, length, Option, None, Some, IfSome, codes, refl, ap, subst, arith}
+use Rattle.std.proofs.Common.{◌≡◌, ℕ, suc, ◌≤◌, true, List, [], ◌∷◌, length, Option, None, Some, IfSome, codes, refl, ap, arith}
 use Rattle.std.specs.Prelude.{option_and_then, is_some, nat_le}
 use Rattle.std.specs.List.{AllByRecursion}
 use Rattle.std.proofs.lemmas.Bool.{leb-true}
 use Rattle.serde_json.specs.Data.{Data, Items, no_items, item}
 use Rattle.serde_json.specs.Events.{items_len}
-use Rattle.serde_json.specs.Find.{get, as_null, as_array, as_number, as_u64}
-use Rattle.desk_time.specs.Digits.{◌>>=◌}
+use Rattle.serde_json.specs.Find.{get, as_null, as_number, as_u64}
 use Rattle.desk_time.specs.Moments.{minute_of}
 use Rattle.codes.specs.Station.{Station, is_station, station_of}
 use Rattle.plan.specs.Check.{HasMoments, IsPlan}
 use Rattle.plan.specs.Texts.{IsMoment}
 use Rattle.plan.specs.declared.flights.Kind.{Kind}
-use Rattle.plan.specs.declared.flights.Alternate.{Alternate}
-use Rattle.plan.specs.declared.flights.TakeoffAlternate.{TakeoffAlternate}
 use Rattle.plan.specs.declared.flights.Leg.{Leg}
 use Rattle.plan.specs.declared.flights.Plan.{Plan}
 use Rattle.plan_json.specs.declared.legs.Route.{Route}

@@ -1,5 +1,5 @@
 -- Texts as JSON: what is UTF-8 is written as it is, and all that is written is UTF-8.
-use Rattle.std.proofs.Common.{◌≡◌, ℕ, pos, zero, suc, ◌+◌, ◌/◌, ◌%◌, ◌<◌, ◌≤◌, ◌==◌, nat_lt, Bool, true, false, ◌&&◌, if◌then◌else◌, List, [], ◌∷◌, ◌++◌, length, slice_index, take, drop, take_all, length-drop, IsUtf8, refl, ap, subst, arith, eqb-true, lt-ltb, unwrap_or, Option, None, Some}
+use Rattle.std.proofs.Common.{◌≡◌, ℕ, pos, zero, suc, ◌+◌, ◌/◌, ◌%◌, ◌<◌, ◌≤◌, ◌==◌, nat_lt, Bool, true, false, if◌then◌else◌, List, [], ◌∷◌, ◌++◌, length, slice_index, take, drop, take_all, length-drop, IsUtf8, refl, ap, subst, arith, eqb-true, lt-ltb, unwrap_or, Option, None, Some}
 use Rattle.std.specs.Char.{encode_utf8}
 use Rattle.std.specs.Int.{is_in_range}
 use Rattle.std.specs.List.{list_all}
@@ -11,18 +11,17 @@ use Rattle.std.proofs.lemmas.Str.{IsUtf8-append, IsUtf8-nil, IsUtf8-from_is_utf8
 use Rattle.json.proofs.Printed.Utf8.{are_ascii, IsUtf8-are_ascii}
 use Rattle.serde_json.specs.Data.{string}
 use Rattle.jiff_core.proofs.CalendarLemmas.{days_in_month_bounds}
+use Rattle.jiff_core.proofs.SignedLemmas.{signed_arith}
 use Rattle.desk_time.specs.Calendar.{civil_of}
 use Rattle.desk_time.specs.Moments.{two, shown}
 use Rattle.desk_time.proofs.CalendarLaws.{civil_of-law}
-use Rattle.desk_time.proofs.MomentLaws.{year_range}
 use Rattle.codes.specs.Station.{is_station, is_capital_or_digit}
-use Rattle.plan.specs.Texts.{IsMoment}
 use Rattle.plan_json.specs.declared.plans.Form.{Form}
 use Rattle.plan_json.specs.declared.plans.Form.TheVariants.{Flight, Tail, Captain}
 use Rattle.hex.specs.Hex.{encode_lower}
 use Rattle.plan_json.specs.Canonical.{text_data}
 use Rattle.plan_json.specs.Digests.{is_small_digit, IsDigest}
-use Rattle.plan_json.specs.Plans.{is_of_form, longest, has_form}
+use Rattle.plan_json.specs.Plans.{is_of_form, has_form}
 use Rattle.plan_json.proofs.DigestLaws.{small_written}
 
 -- a text that is UTF-8 is written as it is
@@ -132,18 +131,17 @@ two_utf8 n small = IsUtf8-are_ascii (two n) (rw (lt-ltb (48 + n / 10) 128 (omega
 sign_then : (sign : ℕ) (t : List ℕ) → sign < 128 → IsUtf8 t → IsUtf8 (sign ∷ t)
 sign_then sign t small is = IsUtf8-append (sign ∷ []) t (IsUtf8-are_ascii (sign ∷ []) (rw (lt-ltb sign 128 small) refl)) is
 
-pub moment_utf8 : (at : ℕ) → IsMoment at → IsUtf8 (shown at)
-moment_utf8 at is =
-    let low = is.0 in
-    let high = is.1 in
-    let year = year_range (at / 1440) (omega arith) (omega arith) in
+pub moment_utf8 : (at : ℕ) → at ≤ 69_000_000 → IsUtf8 (shown at)
+moment_utf8 at high =
     let law = civil_of-law (at / 1440) (omega arith) in
+    let d = civil_of (at / 1440) in
+    let last = law.civil.0.1 in
+    let year : d.year ≤ 9999 = omega (arith, signed_arith, last) in
     let month = law.civil.1.1 in
     let day = law.civil.2.1 in
-    let d = civil_of (at / 1440) in
     let longest = days_in_month_bounds (pos d.year) d.month in
     IsUtf8-append _ _
-    (IsUtf8-append _ _ (two_utf8 (d.year / 100) (omega (arith, year.1)))
+    (IsUtf8-append _ _ (two_utf8 (d.year / 100) (omega (arith, year)))
     (IsUtf8-append _ _ (two_utf8 (d.year % 100) (omega arith))
     (IsUtf8-append _ _ (sign_then 45 _ (omega arith) (two_utf8 d.month (omega (arith, month))))
     (sign_then 45 _ (omega arith) (two_utf8 d.day (omega (arith, day, longest.0)))))))

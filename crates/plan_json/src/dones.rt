@@ -1,4 +1,4 @@
-ghost use Rattle.std.specs.Prelude.{◌≡◌, codes, IfOk};
+ghost use Rattle.std.specs.Prelude.{◌≡◌, codes, IfOk, IfSome};
 ghost use Rattle.serde_json.specs.Data.{put};
 ghost use Rattle.serde_json.specs.View.{view, members_view};
 ghost use Rattle.plan_json.specs.Canonical as spec;
@@ -115,10 +115,8 @@ fn release_of(value: &Value) -> Option<Done>
     }
 }
 
-/// What was done, where an object has exactly the keys of one kind, and each field its form: numbers of at
-/// most 10^15, and 64 hexadecimal digits, none of them a capital letter.
 #[tactic(auto, unfolding(crate::specs::Dones::done_of))]
-pub fn read_done(value: &Value) -> Option<Done>
+fn done_in(value: &Value) -> Option<Done>
     ensures { result ≡ done_of (view value.now) }
 {
     report_of(value)
@@ -126,4 +124,13 @@ pub fn read_done(value: &Value) -> Option<Done>
         .or(filed_of(value))
         .or(prepared_of(value))
         .or(release_of(value))
+}
+
+/// What was done, where an object has exactly the keys of one kind, and each field its form: numbers of at
+/// most 10^15, and 64 hexadecimal digits, none of them a capital letter.
+pub fn read_done(value: &Value) -> Option<Done>
+    ensures value { result ≡ done_of (view value.now) }
+    ensures form { IfSome result spec.DoneHasForms }
+{
+    done_in(value)
 }

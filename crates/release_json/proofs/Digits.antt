@@ -8,7 +8,6 @@ use Rattle.std.proofs.lemmas.Fmt.{decimal_nonempty, decimal_digit, first_decimal
 use Rattle.std.proofs.lemmas.List.{take_at, take-append-drop, drop_more}
 use Rattle.std.proofs.lemmas.List.Quantifiers.{position-Some}
 use Rattle.std.proofs.lemmas.Str.Parse.{IsDigitsTest, FoldsDigits, IsNumeralModel, numerals_by_fold}
-use Rattle.desk_time.specs.Digits.{◌>>=◌}
 use Rattle.plan_json.proofs.Chains.{bind_known, under}
 use Rattle.release_json.specs.Numbers.{is_digit, digits_after, is_decimal, number_of, leg_of, cut}
 

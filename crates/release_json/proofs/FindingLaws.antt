@@ -1,8 +1,7 @@
 -- The text of a finding is read as it, and lists of findings in order, each once, are read again.
-use Rattle.std.proofs.Common.{◌≡◌, ◌↔◌, ℕ, ◌<◌, ◌≤◌, ◌^◌, Bool, true, false, ◌&&◌, List, [], ◌∷◌, ◌++◌, map, Option, None, Some, IfSome, codes, decimal, IsUtf8, refl, ap, sym, subst, ◌∙◌, arith}
+use Rattle.std.proofs.Common.{◌≡◌, ◌↔◌, ℕ, ◌≤◌, true, List, [], ◌∷◌, ◌++◌, map, Option, None, Some, IfSome, decimal, IsUtf8, refl, ap, sym, subst, ◌∙◌, arith}
 use Rattle.std.specs.List.{AllByRecursion}
 use Rattle.std.specs.Str.{bytes_eq}
-use Rattle.std.specs.Str.Lossy.{utf8_lossy}
 use Rattle.std.proofs.lemmas.Bool.{and_parts}
 use Rattle.std.proofs.lemmas.Fmt.{IsAscii-decimal}
 use Rattle.std.proofs.lemmas.List.{append-nil}
@@ -21,8 +20,8 @@ use Rattle.plan.specs.declared.findings.Finding.{Finding}
 use Rattle.plan_json.specs.Fields.{each_read}
 use Rattle.plan_json.proofs.Again.{each_again}
 use Rattle.release_json.specs.Numbers.{number_of, leg_of, cut}
-use Rattle.release_json.specs.Findings.{every_rule, rule_among, rule_of, finding_at, finding_with, finding_of, finding_data, finding_in, comes_before, are_in_order, in_order, findings_of, IsFinding}
-use Rattle.plan_json.proofs.Chains.{bind_if, bind_any, under, then_if, either_known}
+use Rattle.release_json.specs.Findings.{every_rule, rule_among, rule_of, finding_at, finding_with, finding_of, finding_data, finding_in, comes_before, are_in_order, findings_of, IsFinding}
+use Rattle.plan_json.proofs.Chains.{bind_if, bind_any, under, either_known}
 use Rattle.release_json.proofs.Digits.{leg_again, number_again, number_within, number_back, decimal_free, is_free, IsCut, cut_at, cut_back}
 
 rule_again : (r : Rule) → rule_of (code_of r) ≡ Some r

@@ -4,3 +4,4 @@ pub mod FindingLaws
 pub mod KeptLaws
 pub mod ReleaseForms
 pub mod ReleaseLaws
+pub mod PlainLaws

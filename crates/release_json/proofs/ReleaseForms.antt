@@ -1,34 +1,26 @@
 -- The fields of a release that is read have their forms, and it is valid.
-use Rattle.std.proofs.Common.{◌≡◌, ℕ, ◌<◌, ◌≤◌, Bool, true, List, length, Option, None, Some, IfSome, Result, Ok, Err, IsUtf8, codes, refl, sym, subst, ◌∙◌, arith}
+use Rattle.std.proofs.Common.{◌≡◌, ℕ, true, List, Option, None, Some, IfSome, codes, refl}
 use Rattle.std.specs.Prelude.{is_some}
 use Rattle.std.specs.List.{AllByRecursion}
-use Rattle.std.specs.Result.{result_ok}
 use Rattle.std.specs.Str.{is_utf8}
 use Rattle.std.proofs.lemmas.Str.{IsUtf8-from_is_utf8}
-use Rattle.hex.specs.declared.error.FromHexError.{FromHexError}
-use Rattle.hex.specs.Hex.{decode_sized}
-use Rattle.hex.proofs.HexLemmas.{decode_sized-ok, decode_sized-twice, decode_of-ok}
 use Rattle.serde_json.specs.Data.{Data}
 use Rattle.serde_json.specs.Find.{get, as_null}
-use Rattle.desk_time.specs.Digits.{◌>>=◌}
 use Rattle.ops_tables.specs.Forms.{is_person}
-use Rattle.plan.specs.Check.{IsPlan}
 use Rattle.plan.specs.Texts.{IsMoment, HasMoment}
-use Rattle.plan.specs.declared.flights.Plan.{Plan}
-use Rattle.plan.specs.declared.release.Attached.{Attached}
 use Rattle.plan.specs.declared.release.Phase.{Phase}
 use Rattle.plan.specs.declared.release.Phase.TheVariants.{Drafted, Ready, Flying, Stopped, Completed, Cancelled}
 use Rattle.plan.specs.declared.release.Release.{Release}
 use Rattle.plan.specs.declared.release.Revision.{Revision}
 use Rattle.plan.specs.declared.release.Signature.{Signature}
 use Rattle.plan_json.specs.Canonical.{IsId, HasForms}
-use Rattle.plan_json.specs.Digests.{are_digits, digest_of, digest_at, IsDigest}
+use Rattle.plan_json.specs.Digests.{digest_of, digest_at, IsDigest}
 use Rattle.plan_json.specs.Fields.{text_at, id_at, moment_at, list_at, has_members}
 use Rattle.plan_json.specs.Plans.{plan_of}
 use Rattle.release_json.specs.Kept.{IsAttached, IsSignature, IsRevision, IsFormed, IsKept, is_valid}
 use Rattle.release_json.specs.Phases.{IsPhase, phase_of}
 use Rattle.release_json.specs.Plans.{MayHavePlan, HasPlans}
-use Rattle.release_json.specs.Releases.{utf8, utf8_at, bool_at, person, person_at, attached_of, attached_at, signature_of, signature_in, signature_at, signatures_of, head_of, plan_at, revision_of, revision_in, revision_at, revisions_of, phase_at, release_in, release_of}
+use Rattle.release_json.specs.Releases.{bool_at, person, person_at, attached_with, attached_of, attached_at, signature_of, signature_in, signature_at, signatures_of, head_of, plan_at, revision_of, revision_in, revision_at, revisions_of, phase_at, release_in, release_of}
 use Rattle.release_json.specs.Rows.{SignedAtMoment, RevisionHasMoments, ReleaseHasMoments}
 use Rattle.release_json.specs.declared.revisions.Head.{Head}
 use Rattle.release_json.specs.declared.revisions.Signatures.{Signatures}
@@ -36,20 +28,10 @@ use Rattle.release_json.specs.declared.releases.Revisions.{Revisions}
 use Rattle.plan_json.proofs.Chains.{bind_if, bind_any, then_if, under, either, weaker}
 use Rattle.release_json.proofs.KeptLaws.{valid_from_test}
 use Rattle.release_json.proofs.PhaseLaws.{phase_formed}
+use Rattle.plan_json.proofs.DigestLaws.{digest_formed}
 use Rattle.plan_json.proofs.PlanForms.{id_formed, moment_formed, each_formed, plan_formed, plan_from_forms}
 
 -- ---- fields
-
-decoded : (text : List ℕ) (r : Result (List ℕ) FromHexError) → decode_sized text 32 ≡ r → IfSome (result_ok r) IsDigest
-decoded text (Ok bytes) is =
-    let twice = decode_sized-ok text 32 bytes is in
-    let ok = decode_of-ok text bytes (sym (decode_sized-twice text 32 twice) ∙ is) in
-    record { long = omega (arith, twice, ok.2); bytes = ok.3 }
-decoded text (Err e) is = tt
-
-digest_formed : (text : List ℕ) → IfSome (digest_of text) IsDigest
-unfolding digest_of
-digest_formed text = under (are_digits text) (result_ok (decode_sized text 32)) IsDigest (λ is. decoded text (decode_sized text 32) refl)
 
 digest_at_formed : (key : List ℕ) (d : Data) → IfSome (digest_at key d) IsDigest
 digest_at_formed key d = then_if digest_of (text_at key d) IsDigest digest_formed
@@ -60,19 +42,15 @@ IsPerson t = is_person t ≡ true
 person_formed : (key : List ℕ) (d : Data) → IfSome (person_at key d) IsPerson
 person_formed key d = then_if person (text_at key d) IsPerson (λ t. under (is_person t) (Some t) IsPerson (λ is. is))
 
-utf8_formed : (t : List ℕ) → IfSome (utf8 t) IsUtf8
-utf8_formed t = under (is_utf8 t) (Some t) IsUtf8 (IsUtf8-from_is_utf8 t)
-
-utf8_at_formed : (key : List ℕ) (d : Data) → IfSome (utf8_at key d) IsUtf8
-utf8_at_formed key d = then_if utf8 (text_at key d) IsUtf8 utf8_formed
-
 -- ---- revisions
+
+with_formed : (report : ℕ) (text : List ℕ) → IsId report → IfSome (attached_with report text) IsAttached
+with_formed report text is = under (is_utf8 text) _ IsAttached (λ good. record { report = is; text = IsUtf8-from_is_utf8 text good })
 
 attached_formed : (d : Data) → IfSome (attached_of d) IsAttached
 attached_formed d =
-    bind_if (id_at (codes "report") d) _ IsId IsAttached (id_formed (codes "report") d) (λ report is_report.
-    bind_if (utf8_at (codes "text") d) _ IsUtf8 IsAttached (utf8_at_formed (codes "text") d) (λ text is_text.
-    under (has_members 2 d) _ IsAttached (λ exact. record { report = is_report; text = is_text })))
+    bind_if (id_at (codes "report") d) _ IsId IsAttached (id_formed (codes "report") d) (λ report is.
+    bind_any (text_at (codes "text") d) _ IsAttached (λ text. under (has_members 2 d) (attached_with report text) IsAttached (λ exact. with_formed report text is)))
 
 all_formed : (d : Data) → IfSome (attached_at d) (AllByRecursion IsAttached)
 all_formed d = bind_any (list_at (codes "attached") d) _ (AllByRecursion IsAttached) (λ ds. each_formed IsAttached attached_of attached_formed ds)

@@ -1,16 +1,15 @@
 -- The findings that texts say, and lists of them in order, each once.
-use Rattle.std.specs.Prelude.{ℕ, Bool, true, ◌&&◌, if◌then◌else◌, List, [], ◌∷◌, map, find, Option, None, Some, option_and_then}
+use Rattle.std.specs.Prelude.{ℕ, Bool, true, ◌&&◌, if◌then◌else◌, List, [], ◌∷◌, find, Option, None, Some, option_and_then}
 use Rattle.std.specs.Str.{bytes_eq}
-use Rattle.serde_json.specs.Data.{Data, Items, array}
+use Rattle.serde_json.specs.Data.{Data, Items}
 use Rattle.serde_json.specs.Find.{as_str}
-use Rattle.serde_json.specs.View.{items_of}
 use Rattle.desk_time.specs.Digits.{◌>>=◌}
 use Rattle.plan.specs.Findings.{code_of, is_before}
 use Rattle.plan.specs.Texts.{finding_text}
 use Rattle.plan.specs.declared.findings.Rule.{Rule}
 use Rattle.plan.specs.declared.findings.Rule.TheVariants.{No1, No2, No3, No4, No5, No6, No7, No8, No9, No10, No11, No12, No13, No14, No15, No16, No17, No18, No19}
 use Rattle.plan.specs.declared.findings.Finding.{Finding}
-use Rattle.plan_json.specs.Canonical.{text_data, IsAmount, IsId}
+use Rattle.plan_json.specs.Canonical.{text_data, list_data, IsAmount, IsId}
 use Rattle.plan_json.specs.Fields.{each_read}
 use Rattle.release_json.specs.Numbers.{number_of, leg_of, cut}
 
@@ -41,7 +40,7 @@ abbrev pub finding_data : Finding → Data
 finding_data f = text_data (finding_text f)
 
 abbrev pub findings_data : List Finding → Data
-findings_data fs = array (items_of (map finding_data fs))
+findings_data fs = list_data finding_data fs
 
 abbrev pub comes_before : Finding → List Finding → Bool
 comes_before f [] = true

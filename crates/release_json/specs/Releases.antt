@@ -1,5 +1,5 @@
 -- The release of a JSON object. It has the keys that are named here, and no other.
-use Rattle.std.specs.Prelude.{ℕ, Bool, if◌then◌else◌, List, Option, None, Some, codes, option_and_then, is_some}
+use Rattle.std.specs.Prelude.{◌≡◌, ℕ, Bool, if◌then◌else◌, List, Option, None, Some, codes, option_and_then, is_some}
 use Rattle.std.specs.Str.{is_utf8}
 use Rattle.serde_json.specs.Data.{Data}
 use Rattle.serde_json.specs.Find.{get, as_null, as_bool}
@@ -14,18 +14,12 @@ use Rattle.plan.specs.declared.release.Signature.{Signature}
 use Rattle.plan_json.specs.Digests.{digest_at}
 use Rattle.plan_json.specs.Fields.{text_at, id_at, moment_at, list_at, each_read, has_members}
 use Rattle.plan_json.specs.Plans.{plan_of}
-use Rattle.release_json.specs.Kept.{is_valid}
+use Rattle.release_json.specs.Kept.{is_valid, IsKept}
 use Rattle.release_json.specs.Phases.{phase_of}
+use Rattle.release_json.specs.Rows.{release_data}
 use Rattle.release_json.specs.declared.revisions.Head.{Head}
 use Rattle.release_json.specs.declared.revisions.Signatures.{Signatures}
 use Rattle.release_json.specs.declared.releases.Revisions.{Revisions}
-
--- a text that is UTF-8
-abbrev pub utf8 : List ℕ → Option (List ℕ)
-utf8 t = if is_utf8 t then Some t else None
-
-abbrev pub utf8_at : List ℕ → Data → Option (List ℕ)
-utf8_at key d = option_and_then utf8 (text_at key d)
 
 abbrev pub bool_at : List ℕ → Data → Option Bool
 bool_at key d = option_and_then as_bool (get key d)
@@ -37,11 +31,13 @@ person t = if is_person t then Some t else None
 abbrev pub person_at : List ℕ → Data → Option (List ℕ)
 person_at key d = option_and_then person (text_at key d)
 
--- an attached report
+-- an attached report, whose text is UTF-8
+abbrev pub attached_with : ℕ → List ℕ → Option Attached
+attached_with report text = if is_utf8 text then Some (record { report = report; text = text }) else None
+
 abbrev pub attached_of : Data → Option Attached
 attached_of d =
-    id_at (codes "report") d >>= λ report. utf8_at (codes "text") d >>= λ text.
-    if has_members 2 d then Some (record { report = report; text = text }) else None
+    id_at (codes "report") d >>= λ report. text_at (codes "text") d >>= λ text. if has_members 2 d then attached_with report text else None
 
 abbrev pub attached_at : Data → Option (List Attached)
 attached_at d = list_at (codes "attached") d >>= λ ds. each_read attached_of ds
@@ -118,3 +114,7 @@ if_valid r = if is_valid r then Some r else None
 -- the release of that id, where an object says one that is valid
 unfoldable pub release_of : ℕ → Data → Option Release
 release_of id d = release_in id d >>= λ r. if_valid r
+
+-- What is read of some JSON. Where it is that of a valid release with that id, it is this release.
+abbrev pub IsReleaseAgain : ℕ → Data → Option Release → Type 0
+IsReleaseAgain id d read = (r : Release) → IsKept r → r.id ≡ id → d ≡ release_data r → read ≡ Some r

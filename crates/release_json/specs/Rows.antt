@@ -1,14 +1,13 @@
 -- A release as JSON, each key in its place in byte order. Its id is the key of its row, and no part of this.
-use Rattle.std.specs.Prelude.{List, map, Option, None, Some, IfSome, codes}
-use Rattle.serde_json.specs.Data.{Data, null, boolean, object, Members, member, no_members, array}
-use Rattle.serde_json.specs.View.{items_of}
+use Rattle.std.specs.Prelude.{Option, None, Some, IfSome, codes}
+use Rattle.serde_json.specs.Data.{Data, null, boolean, object, Members, member, no_members}
 use Rattle.plan.specs.Check.{IsPlan}
 use Rattle.plan.specs.Texts.{IsMoment, HasMoment, phase_text}
 use Rattle.plan.specs.declared.release.Attached.{Attached}
 use Rattle.plan.specs.declared.release.Release.{Release}
 use Rattle.plan.specs.declared.release.Revision.{Revision}
 use Rattle.plan.specs.declared.release.Signature.{Signature}
-use Rattle.plan_json.specs.Canonical.{count, text_data, moment_data, plan_data}
+use Rattle.plan_json.specs.Canonical.{count, text_data, moment_data, list_data, plan_data}
 use Rattle.plan_json.specs.Digests.{digest_data}
 
 abbrev pub signature_members : Signature → Members
@@ -28,7 +27,7 @@ attached_data a = object (attached_members a)
 
 abbrev pub revision_members : Revision → Members
 revision_members v =
-    member (codes "attached") (array (items_of (map attached_data v.attached)))
+    member (codes "attached") (list_data attached_data v.attached)
     (member (codes "captain") (signature_data v.captain)
     (member (codes "dispatcher") (signature_data v.dispatcher)
     (member (codes "number") (count v.number)

@@ -7,8 +7,10 @@ mod numbers;
 mod phases;
 mod releases;
 mod revisions;
+mod rows;
 
 pub use findings::{findings_value, read_finding, read_findings};
 pub use numbers::read_number;
 pub use phases::read_phase;
 pub use releases::read_release;
+pub use rows::release_value;

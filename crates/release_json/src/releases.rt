@@ -99,6 +99,7 @@ fn valid_release(alloc: Global, id: u64, value: &Value) -> Result<Option<Release
 pub fn read_release(alloc: Global, id: u64, value: &Value) -> Result<Option<Release>, OutOfMemory>
     ensures value { IfOk result (λ r. r ≡ spec.release_of id (view value.now)) }
     ensures kept { IfOk result (λ r. IfSome r IsKept) }
+    ensures again { IfOk result (spec.IsReleaseAgain id (view value.now)) }
 {
     valid_release(alloc, id, value)
 }

@@ -1,4 +1,4 @@
-ghost use Rattle.std.specs.Prelude.{◌≡◌, IfOk};
+ghost use Rattle.std.specs.Prelude.{◌≡◌, IfOk, Some};
 ghost use Rattle.std.specs.List.{list_all};
 ghost use Rattle.std.specs.Option.{option_map};
 ghost use Rattle.serde_json.specs.View.{view, items_view};
@@ -55,20 +55,6 @@ pub(crate) fn person_at<'a>(key: &str, value: &'a Value) -> Option<&'a str>
     }
 }
 
-// Every `str` is UTF-8.
-fn utf8(text: &str) -> Option<&str>
-    ensures { option_map (λ t. t.now) result ≡ spec.utf8 text.now }
-{
-    Some(text)
-}
-
-// The text at a key, which is UTF-8.
-fn utf8_at<'a>(key: &str, value: &'a Value) -> Option<&'a str>
-    ensures { option_map (λ t. t.now) result ≡ spec.utf8_at key.now (view value.now) }
-{
-    utf8(text_at(key, value)?)
-}
-
 fn bool_at(key: &str, value: &Value) -> Option<bool>
     ensures { result ≡ spec.bool_at key.now (view value.now) }
 {
@@ -78,17 +64,24 @@ fn bool_at(key: &str, value: &Value) -> Option<bool>
     }
 }
 
+// Every `str` is UTF-8, so this is a report that may be attached.
+fn attached_with(alloc: Global, report: u64, text: &str) -> Result<Attached, OutOfMemory>
+    ensures { IfOk result (λ a. Some a ≡ spec.attached_with report text.now) }
+{
+    Ok(Attached {
+        report,
+        text: Text::of(alloc, text.as_bytes())?,
+    })
+}
+
 fn attached_of(alloc: Global, value: &Value) -> Result<Option<Attached>, OutOfMemory>
     ensures { IfOk result (λ a. a ≡ spec.attached_of (view value.now)) }
 {
     let Some(report) = id_at("report", value) else {
         return Ok(None);
     };
-    match utf8_at("text", value) {
-        Some(text) if has_members(2, value) => Ok(Some(Attached {
-            report,
-            text: Text::of(alloc, text.as_bytes())?,
-        })),
+    match text_at("text", value) {
+        Some(text) if has_members(2, value) => Ok(Some(attached_with(alloc, report, text)?)),
         _ => Ok(None),
     }
 }
