@@ -3,6 +3,7 @@ use Rattle.std.proofs.Common.{◌≡◌, ℕ, ◌≤◌, Bool, true, ◌&&◌, L
 use Rattle.std.specs.List.{AllByRecursion}
 use Rattle.std.specs.Str.{bytes_eq}
 use Rattle.std.proofs.lemmas.Slice.Eq.{bytes_eq-Decides}
+use Rattle.std.proofs.lemmas.Str.{is_utf8-from_IsUtf8}
 use Rattle.serde_json.specs.Data.{Data, object, Members, no_members}
 use Rattle.serde_json.specs.Read.{read, max_depth}
 use Rattle.serde_json.specs.Written.{compact_text}
@@ -23,7 +24,7 @@ use Rattle.records.specs.declared.record.KeptReport.{KeptReport}
 use Rattle.records.specs.declared.record.Record.{Record}
 use Rattle.records.specs.declared.record.Record.TheVariants.{Meta, Report, Deferral, Release, Kept, Alert}
 use Rattle.records.proofs.FloorLaws.{in_turn, floors_in_turn, floors_again, rising_tested}
-use Rattle.records.proofs.NameLaws.{person_again, tail_again, item_again, text_again}
+use Rattle.records.proofs.NameLaws.{person_again, tail_again, item_again, text_lossy}
 
 -- ---- floors
 
@@ -34,13 +35,9 @@ floors_read fs all rising =
 
 -- ---- reports
 
-ok_tested : {A E : Type 0} (r : Result A E) → IsOk r → is_ok r ≡ true
-ok_tested (Ok a) is = refl
-ok_tested (Err e) is = absurd is
-
 report_passes : (r : KeptReport) → IsReport r → is_report r ≡ true
 unfolding is_report
-report_passes r is = rw ((bytes_eq-Decides (canonical (groups_of r.text)) r.text).1 is.canonical, ok_tested (read_of r.text r.received) is.read) refl
+report_passes r is = rw ((bytes_eq-Decides (canonical (groups_of r.text)) r.text).1 is.canonical, is.read) refl
 
 -- ---- alerts
 
@@ -65,7 +62,7 @@ in_again (Meta m) is =
       id_again m.next_kept is.next_kept,
       floors_read m.floors is.floors is.rising,
     ) refl
-in_again (Report r) is = rw (moment_again r.received is.received, text_again r.text is.text, report_passes r is) refl
+in_again (Report r) is = rw (moment_again r.received is.received, text_lossy r.text is.text, is_utf8-from_IsUtf8 r.text is.text, report_passes r is) refl
 in_again (Deferral d) is = rw (moment_again d.found is.found, item_again d.item is.item, tail_again d.tail is.tail) refl
 in_again (Release r) is = rw (release_again r is.1) refl
 in_again (Kept k) is =

@@ -3,12 +3,7 @@ use Rattle.std.proofs.Common.{◌≡◌, ℕ, ◌≤◌, Bool, true, false, ◌&
 use Rattle.std.specs.Prelude.{◌==◌, option_and_then}
 use Rattle.std.specs.List.{AllByRecursion, list_all}
 use Rattle.std.specs.Option.{option_map, option_or}
-use Rattle.std.specs.Result.{result_ok}
-use Rattle.hex.specs.declared.error.FromHexError.{FromHexError}
-use Rattle.hex.specs.Hex.{decode_sized}
-use Rattle.hex.proofs.HexLemmas.{decode_sized-ok, decode_sized-twice, decode_of-ok}
-use Rattle.std.specs.Str.{bytes_eq}
-use Rattle.std.specs.Prelude.{is_utf8}
+use Rattle.std.specs.Str.{bytes_eq, is_utf8}
 use Rattle.std.proofs.lemmas.Bool.{and_parts, leb-true, eqb-true}
 use Rattle.std.proofs.lemmas.Slice.Eq.{bytes_eq-Decides}
 use Rattle.std.proofs.lemmas.Str.{IsUtf8-from_is_utf8}
@@ -24,15 +19,16 @@ use Rattle.plan.specs.declared.findings.Finding.{Finding}
 use Rattle.plan.specs.declared.release.Release.{Release as ReleaseOf}
 use Rattle.asks.specs.declared.kept.Floor.{Floor}
 use Rattle.plan_json.specs.Canonical.{IsId, DoneHasForms}
-use Rattle.plan_json.specs.Digests.{are_digits, digest_of, digest_at, IsDigest}
+use Rattle.plan_json.specs.Digests.{digest_of, digest_at, IsDigest}
 use Rattle.plan_json.specs.Dones.{report_of as done_report, deferral_of as done_deferral, filed_of, prepared_of, release_of as done_release, done_of}
 use Rattle.plan_json.specs.Fields.{text_at, up_to, number_at, id_at, moment_at, list_at, each_read, has_members}
+use Rattle.plan_json.proofs.DigestLaws.{digest_formed}
 use Rattle.plan_json.proofs.Chains.{bind_if, bind_any, then_if, under, either}
 use Rattle.plan_json.proofs.PlanForms.{id_formed, moment_formed, each_formed}
 use Rattle.release_json.specs.Findings.{finding_of, finding_in, are_in_order, findings_of, IsFinding}
 use Rattle.release_json.proofs.FindingLaws.{finding_formed, order_tested}
 use Rattle.release_json.specs.Kept.{IsKept}
-use Rattle.release_json.specs.Releases.{utf8, utf8_at, bool_at, person, person_at, release_of}
+use Rattle.release_json.specs.Releases.{bool_at, person, person_at, release_of}
 use Rattle.release_json.proofs.ReleaseForms.{release_kept, release_named}
 use Rattle.records.specs.Reading as read
 use Rattle.records.specs.Valid.{IsRequest, IsFloor, AreRising, IsMeta, IsReport, IsDeferral, IsKeptReply, AreFindings, IsKeptAlert, IsRecord, are_rising, is_report, are_among}
@@ -57,9 +53,6 @@ person_formed t = under (is_person t) (Some t) IsPerson (λ is. is)
 
 person_at_formed : (key : List ℕ) (d : Data) → IfSome (person_at key d) IsPerson
 person_at_formed key d = then_if person (text_at key d) IsPerson person_formed
-
-utf8_at_formed : (key : List ℕ) (d : Data) → IfSome (utf8_at key d) IsUtf8
-utf8_at_formed key d = then_if utf8 (text_at key d) IsUtf8 (λ t. under (is_utf8 t) (Some t) IsUtf8 (IsUtf8-from_is_utf8 t))
 
 abbrev IsTail : List ℕ → Type 0
 IsTail t = is_tail t ≡ true
@@ -136,22 +129,19 @@ meta_formed key d =
 
 -- ---- reports and deferrals
 
-ok_from_test : {A E : Type 0} (r : Result A E) → is_ok r ≡ true → IsOk r
-ok_from_test (Ok a) is = tt
-ok_from_test (Err e) is = absurd cc
-
 report_tested : (r : KeptReport) → IsId r.id → IsMoment r.received → IsUtf8 r.text → is_report r ≡ true → IsReport r
 unfolding is_report
 report_tested r id at utf8 is =
     let parts = and_parts (bytes_eq (canonical (groups_of r.text)) r.text) (is_ok (read_of r.text r.received)) is in
-    record { id = id; received = at; text = utf8; canonical = (bytes_eq-Decides (canonical (groups_of r.text)) r.text).0 parts.0; read = ok_from_test _ parts.1 }
+    record { id = id; received = at; text = utf8; canonical = (bytes_eq-Decides (canonical (groups_of r.text)) r.text).0 parts.0; read = parts.1 }
 
 report_formed : (id : ℕ) (d : Data) → IsId id → IfSome (read.report_of id d) IsReport
 report_formed id d few =
     bind_if (moment_at (codes "received") d) _ IsMoment IsReport (moment_formed (codes "received") d) (λ received at.
-    bind_if (utf8_at (codes "text") d) _ IsUtf8 IsReport (utf8_at_formed (codes "text") d) (λ text good.
+    bind_any (text_at (codes "text") d) _ IsReport (λ text.
     under (has_members 2 d) _ IsReport (λ exact.
-    under (is_report (read.report_with id received text)) (Some (read.report_with id received text)) IsReport (report_tested (read.report_with id received text) few at good))))
+    under (is_utf8 text) _ IsReport (λ good.
+    under (is_report (read.report_with id received text)) (Some (read.report_with id received text)) IsReport (report_tested (read.report_with id received text) few at (IsUtf8-from_is_utf8 text good))))))
 
 deferral_formed : (id : ℕ) (d : Data) → IsId id → IfSome (read.deferral_of id d) IsDeferral
 deferral_formed id d few =
@@ -161,17 +151,6 @@ deferral_formed id d few =
     under (has_members 3 d) _ IsDeferral (λ exact. record { id = few; tail = two; item = one; found = at }))))
 
 -- ---- kept replies
-
-decoded : (text : List ℕ) (r : Result (List ℕ) FromHexError) → decode_sized text 32 ≡ r → IfSome (result_ok r) IsDigest
-decoded text (Ok bytes) is =
-    let twice = decode_sized-ok text 32 bytes is in
-    let ok = decode_of-ok text bytes (sym (decode_sized-twice text 32 twice) ∙ is) in
-    record { long = omega (arith, twice, ok.2); bytes = ok.3 }
-decoded text (Err e) is = tt
-
-digest_formed : (text : List ℕ) → IfSome (digest_of text) IsDigest
-unfolding digest_of
-digest_formed text = under (are_digits text) (result_ok (decode_sized text 32)) IsDigest (λ is. decoded text (decode_sized text 32) refl)
 
 digest_at_formed : (key : List ℕ) (d : Data) → IfSome (digest_at key d) IsDigest
 digest_at_formed key d = then_if digest_of (text_at key d) IsDigest digest_formed

@@ -3,6 +3,7 @@ mod MarkLaws
 mod Whole
 mod NameLaws
 mod FloorLaws
+mod MapLaws
 mod PlainRows
 mod AgainRows
 mod Formed

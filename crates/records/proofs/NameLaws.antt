@@ -1,5 +1,5 @@
 -- Names and texts are read as they are written.
-use Rattle.std.proofs.Common.{◌≡◌, ℕ, Bool, true, ◌&&◌, nat_lt, List, Option, Some, IsUtf8, refl, ap, ◌∙◌, arith}
+use Rattle.std.proofs.Common.{◌≡◌, ℕ, Bool, true, ◌&&◌, nat_lt, if◌then◌else◌, List, Option, None, Some, IsUtf8, refl, sym, ap, ◌∙◌, arith}
 use Rattle.std.specs.List.{list_all}
 use Rattle.std.specs.Str.Lossy.{utf8_lossy}
 use Rattle.std.proofs.lemmas.Bool.{and_parts}
@@ -7,8 +7,9 @@ use Rattle.std.proofs.lemmas.Bool.Decides.{nat_tests}
 use Rattle.std.proofs.lemmas.Str.{utf8_lossy-IsUtf8, is_utf8-from_IsUtf8}
 use Rattle.ops_tables.specs.Forms.{in_mark, in_person, is_word, is_tail, is_item, is_person}
 use Rattle.plan_json.proofs.Texts.{passing_utf8}
-use Rattle.release_json.specs.Releases.{utf8, person}
-use Rattle.records.specs.Reading.{tail, item}
+use Rattle.release_json.specs.Releases.{person}
+use Rattle.records.specs.Reading.{tail, item, if_report, report_with, utf8_report}
+use Rattle.records.specs.declared.record.KeptReport.{KeptReport}
 
 small_mark : (b : ℕ) → in_mark b ≡ true → nat_lt b 128 ≡ true
 small_mark b is = grind (arith, nat_tests, is)
@@ -46,5 +47,10 @@ tail_again t is = rw (utf8_lossy-IsUtf8 t (tail_utf8 t is), is) refl
 pub item_again : (t : List ℕ) → is_item t ≡ true → item (utf8_lossy t) ≡ Some t
 item_again t is = rw (utf8_lossy-IsUtf8 t (item_utf8 t is), is) refl
 
-pub text_again : (t : List ℕ) → IsUtf8 t → utf8 (utf8_lossy t) ≡ Some t
-text_again t is = rw (utf8_lossy-IsUtf8 t is, is_utf8-from_IsUtf8 t is) refl
+pub text_lossy : (t : List ℕ) → IsUtf8 t → utf8_lossy t ≡ t
+text_lossy t is = utf8_lossy-IsUtf8 t is
+
+-- a report whose text is UTF-8 is tested on
+pub utf8_passes : (id received : ℕ) (made t : List ℕ) (r : Option KeptReport) → IsUtf8 t → made ≡ t → r ≡ if_report (report_with id received made) → r ≡ utf8_report (report_with id received t)
+utf8_passes id received made t r utf8 same is =
+    is ∙ ap (λ x. if_report (report_with id received x)) same ∙ sym (ap (λ b. if b then if_report (report_with id received t) else None) (is_utf8-from_IsUtf8 t utf8))

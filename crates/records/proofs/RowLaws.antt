@@ -1,10 +1,11 @@
 -- A row is read as the valid record that has it.
-use Rattle.std.proofs.Common.{◌≡◌, ℕ, ◌≤◌, Bool, true, false, ◌&&◌, List, Option, None, Some, IfSome, IsUtf8, refl, sym, ap, ◌∙◌, subst, arith, length}
-use Rattle.std.specs.Prelude.{◌==◌}
+use Rattle.std.proofs.Common.{◌≡◌, ℕ, ◌≤◌, Bool, true, false, ◌&&◌, List, Option, None, Some, IfSome, IsUtf8, refl, sym, ap, ◌∙◌, subst, arith, length, eq-eqb}
+use Rattle.std.specs.Prelude.{◌==◌, if◌then◌else◌}
 use Rattle.std.specs.Str.{bytes_eq}
 use Rattle.std.specs.Str.Lossy.{utf8_valid_len}
-use Rattle.std.proofs.lemmas.Bool.{and_parts, eqb-true, eqb-refl}
+use Rattle.std.proofs.lemmas.Bool.{and_parts, eqb-true}
 use Rattle.std.proofs.lemmas.Slice.Eq.{bytes_eq-Decides}
+use Rattle.std.proofs.lemmas.Str.{utf8_valid_len-IsUtf8}
 use Rattle.serde_json.specs.Read.{read, max_depth}
 use Rattle.serde_json.specs.Written.{compact_text}
 use Rattle.desk_io.specs.declared.rows.Row.{Row}
@@ -35,7 +36,7 @@ valid_moments (Alert a) is = is.opened
 -- the body of a valid record is JSON
 body_again : (r : Record) → IsRecord r → data_of (compact_text (body_data r)) ≡ Some (body_data r)
 body_again r is =
-    rw (utf8_valid_len-IsUtf8 (compact_text (body_data r)) (utf8_compact (body_data r) (body_plain r is) (body_has_text r is)), eqb-refl (length (compact_text (body_data r))))
+    rw (utf8_valid_len-IsUtf8 (compact_text (body_data r)) (utf8_compact (body_data r) (body_plain r is) (body_has_text r is)), eq-eqb (length (compact_text (body_data r))) (length (compact_text (body_data r))) refl)
     (read_compact (body_data r) (body_plain r is) (let few = body_depth r is in omega (arith, few)))
 
 -- a valid record is found in its row
@@ -71,7 +72,7 @@ row_from_test one two is =
     λ i. record { kind = kind i; key = key i; body = body i }
 
 row_itself : (row : Row) → spec.is_same_row row row ≡ true
-row_itself row = rw (eqb-refl row.kind, eqb-refl row.key, (bytes_eq-Decides row.body row.body).1 refl) refl
+row_itself row = rw (eq-eqb row.kind row.kind refl, eq-eqb row.key row.key refl, (bytes_eq-Decides row.body row.body).1 refl) refl
 
 -- ---- the record of a row
 
@@ -87,7 +88,7 @@ bind_if None f P Q held next = tt
 bind_if (Some x) f P Q held next = next x held
 
 -- what is read is valid, and has the row
-pub read_has_row : (row : Row) → IfSome (spec.record_with row) (λ r. IsRecord r × (row_of r ≡ row))
+read_has_row : (row : Row) → IfSome (spec.record_with row) (λ r. IsRecord r × (row_of r ≡ row))
 unfolding spec.record_with
 read_has_row row = bind_if (spec.found_in row) (spec.if_has row) IsRecord (λ r. IsRecord r × (row_of r ≡ row)) (found_valid row) (if_same row)
 
@@ -99,3 +100,7 @@ record_read r is = ap (λ o. o >>= spec.if_has (row_of r)) (found_again r is) �
 -- a row of which nothing is read is no valid record's
 pub none_has_row : (row : Row) → spec.record_with row ≡ None → (r : Record) → IsRecord r → row_of r ≡ row → ⊥
 none_has_row row none r is has = let read_it = ap spec.record_with (sym has) ∙ record_read r is in cc
+
+-- the same of what was found in code
+pub some_has_row : (row : Row) (found : Option Record) (r : Record) → found ≡ spec.record_with row → found ≡ Some r → IsRecord r × (row_of r ≡ row)
+some_has_row row found r is some = subst (λ o. IfSome o (λ x. IsRecord x × (row_of x ≡ row))) (sym is ∙ some) (read_has_row row)

@@ -1,7 +1,7 @@
 -- The record of a row. A body has the keys that are named here, and no other.
 use Rattle.std.specs.Prelude.{◌≡◌, ℕ, ◌==◌, nat_le, ◌&&◌, Bool, false, if◌then◌else◌, List, [], ◌∷◌, Option, None, Some, Result, Ok, Err, codes, option_and_then}
 use Rattle.std.specs.Option.{option_map}
-use Rattle.std.specs.Str.{bytes_eq}
+use Rattle.std.specs.Str.{bytes_eq, is_utf8}
 use Rattle.serde_json.specs.Data.{Data, Members, no_members, member}
 use Rattle.serde_json.specs.Find.{get, as_number, as_u64, as_object, as_bool}
 use Rattle.desk_time.specs.Digits.{◌>>=◌}
@@ -16,7 +16,7 @@ use Rattle.plan_json.specs.Digests.{digest_at}
 use Rattle.plan_json.specs.Dones.{done_of}
 use Rattle.plan_json.specs.Fields.{data_of, text_at, up_to, number_at, id_at, moment_at, list_at, has_members}
 use Rattle.release_json.specs.Findings.{findings_of}
-use Rattle.release_json.specs.Releases.{utf8_at, bool_at, person, person_at, release_of}
+use Rattle.release_json.specs.Releases.{bool_at, person, person_at, release_of}
 use Rattle.records.specs.Bodies.{row_of}
 use Rattle.records.specs.Valid.{IsRecord, are_rising, is_report, are_among}
 use Rattle.records.specs.declared.meta_rows.Numbers.{Numbers}
@@ -96,10 +96,14 @@ if_report r = if is_report r then Some r else None
 abbrev pub report_with : ℕ → ℕ → List ℕ → KeptReport
 report_with id received text = record { id = id; received = received; text = text }
 
+-- a report whose text is UTF-8
+abbrev pub utf8_report : KeptReport → Option KeptReport
+utf8_report r = if is_utf8 r.text then if_report r else None
+
 abbrev pub report_of : ℕ → Data → Option KeptReport
 report_of id d =
-    moment_at (codes "received") d >>= λ received. utf8_at (codes "text") d >>= λ text.
-    if has_members 2 d then if_report (report_with id received text) else None
+    moment_at (codes "received") d >>= λ received. text_at (codes "text") d >>= λ text.
+    if has_members 2 d then utf8_report (report_with id received text) else None
 
 abbrev pub tail : List ℕ → Option (List ℕ)
 tail t = if is_tail t then Some t else None

@@ -3,7 +3,7 @@ ghost use Rattle.std.specs.Option.{option_map};
 ghost use Rattle.plan.specs.Texts.{IsMoment};
 ghost use Rattle.plan_json.specs.Dones.{done_of};
 ghost use Rattle.plan_json.specs.Fields.{text_at};
-ghost use Rattle.release_json.specs.Releases.{utf8, utf8_at, person_at};
+ghost use Rattle.release_json.specs.Releases.{person_at};
 ghost use Rattle.serde_json.specs.Find.{get};
 ghost use Rattle.serde_json.specs.View.{view};
 ghost use Rattle.records.specs.Reading as spec;
@@ -30,19 +30,6 @@ struct Stamp {
     done: Done,
 }
 
-// Every `str` is UTF-8.
-fn utf8(text: &str) -> Option<&str>
-    ensures { option_map (λ t. t.now) result ≡ utf8 text.now }
-{
-    Some(text)
-}
-
-fn utf8_at<'a>(key: &str, value: &'a Value) -> Option<&'a str>
-    ensures { option_map (λ t. t.now) result ≡ utf8_at key.now (view value.now) }
-{
-    utf8(text_at(key, value)?)
-}
-
 // Whether the text of a report is canonical, and is read as one that was received then.
 #[tactic(auto, unfolding(crate::specs::Valid::is_report))]
 fn is_report(alloc: Global, report: &KeptReport) -> Result<bool, OutOfMemory>
@@ -67,6 +54,20 @@ fn if_report(alloc: Global, report: KeptReport) -> Result<Option<KeptReport>, Ou
     }
 }
 
+// Every `str` is UTF-8, so this is the report where the text is canonical and read.
+fn utf8_report(
+    alloc: Global,
+    id: u64,
+    received: Minute,
+    text: &str,
+) -> Result<Option<KeptReport>, OutOfMemory>
+    requires { IsMoment received }
+    ensures { IfOk result (λ report. report ≡ spec.utf8_report (spec.report_with id received text.now)) }
+{
+    let text = Text::of(alloc, text.as_bytes())?;
+    if_report(alloc, KeptReport { id, received, text })
+}
+
 /// The report that the JSON of its row says.
 pub(crate) fn report_of(
     alloc: Global,
@@ -78,11 +79,8 @@ pub(crate) fn report_of(
     let Some(received) = moment_at("received", value) else {
         return Ok(None);
     };
-    match utf8_at("text", value) {
-        Some(text) if has_members(2, value) => {
-            let text = Text::of(alloc, text.as_bytes())?;
-            if_report(alloc, KeptReport { id, received, text })
-        }
+    match text_at("text", value) {
+        Some(text) if has_members(2, value) => utf8_report(alloc, id, received, text),
         _ => Ok(None),
     }
 }
@@ -191,13 +189,19 @@ fn stamp_of(value: &Value) -> Option<Stamp>
 fn kept_with(id: u64, actor: Text, stamp: Stamp) -> KeptReply
     ensures { result ≡ spec.kept_with id actor stamp }
 {
+    let Stamp {
+        at,
+        digest,
+        number,
+        done,
+    } = stamp;
     KeptReply {
         id,
         actor,
-        number: stamp.number,
-        digest: stamp.digest,
-        at: stamp.at,
-        done: stamp.done,
+        number,
+        digest,
+        at,
+        done,
     }
 }
 
