@@ -8,3 +8,4 @@ mod PlainRows
 mod AgainRows
 mod Formed
 mod RowLaws
+mod CheckLaws

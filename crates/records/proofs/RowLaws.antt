@@ -97,10 +97,14 @@ pub record_read : (r : Record) → IsRecord r → spec.record_with (row_of r) �
 unfolding spec.record_with
 record_read r is = ap (λ o. o >>= spec.if_has (row_of r)) (found_again r is) ∙ rw (row_itself (row_of r)) refl
 
--- a row of which nothing is read is no valid record's
-pub none_has_row : (row : Row) → spec.record_with row ≡ None → (r : Record) → IsRecord r → row_of r ≡ row → ⊥
-none_has_row row none r is has = let read_it = ap spec.record_with (sym has) ∙ record_read r is in cc
-
--- the same of what was found in code
+-- what was read in code is valid, and has the row
 pub some_has_row : (row : Row) (found : Option Record) (r : Record) → found ≡ spec.record_with row → found ≡ Some r → IsRecord r × (row_of r ≡ row)
 some_has_row row found r is some = subst (λ o. IfSome o (λ x. IsRecord x × (row_of x ≡ row))) (sym is ∙ some) (read_has_row row)
+
+-- a row of which nothing was read is no valid record's
+pub none_has_row : (row : Row) (found : Option Record) → found ≡ spec.record_with row → found ≡ None → (r : Record) → IsRecord r → row_of r ≡ row → ⊥
+none_has_row row found is none r valid has = let read_it = ap spec.record_with (sym has) ∙ record_read r valid in cc
+
+-- what was read is the valid record that has the row
+pub some_again : (row : Row) (found : Option Record) (x : Record) → found ≡ spec.record_with row → found ≡ Some x → (r : Record) → IsRecord r → row_of r ≡ row → x ≡ r
+some_again row found x is some r valid has = let read_it = ap spec.record_with (sym has) ∙ record_read r valid in cc

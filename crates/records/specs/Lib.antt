@@ -4,3 +4,4 @@ pub mod Valid
 pub mod Reading
 pub mod Faults
 pub mod Marks
+pub mod Checks

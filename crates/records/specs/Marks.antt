@@ -7,7 +7,6 @@ use Rattle.std.specs.Map.{lookup}
 use Rattle.std.specs.BTreeMap.{is_at}
 use Rattle.plan.specs.Phases.{is_active}
 use Rattle.records.specs.Kinds.{kind_of, key_of}
-use Rattle.plan.specs.Texts.{IsMoment}
 use Rattle.records.specs.Faults.{minute_of}
 use Rattle.records.specs.declared.marks.Marks.{Marks}
 use Rattle.records.specs.declared.record.Record.{Record}
@@ -57,12 +56,3 @@ place_at entries mark = lookup (is_at (mark_cmp mark)) entries
 -- the first place of each mark
 abbrev pub IsIndex : List (Mark × ℕ) → List Marks → Type 0
 IsIndex entries ms = (mark : ℕ × ℕ) → place_at entries mark ≡ position_from (is_marked mark) 0 ms
-
--- what says when a report was received can be read
-abbrev pub MayBeRead : Record → Type 0
-MayBeRead (Meta m) = Unit {0}
-MayBeRead (Report r) = IsMoment r.received
-MayBeRead (Deferral d) = Unit {0}
-MayBeRead (Release r) = Unit {0}
-MayBeRead (Kept k) = Unit {0}
-MayBeRead (Alert a) = Unit {0}

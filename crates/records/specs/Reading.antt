@@ -194,3 +194,9 @@ abbrev pub ReadsRow : Row → Result Record RowFault → Type 0
 ReadsRow row (Ok r) = IsRecord r × (row_of r ≡ row)
 ReadsRow row (Err NotCanonical) = (r : Record) → IsRecord r → row_of r ≡ row → ⊥
 ReadsRow row (Err OutOfMemory) = Unit {0}
+
+-- a valid record's row is read as that record, or memory runs out
+abbrev pub IsAgain : Record → Result Record RowFault → Type 0
+IsAgain r (Ok x) = x ≡ r
+IsAgain r (Err NotCanonical) = ⊥
+IsAgain r (Err OutOfMemory) = Unit {0}

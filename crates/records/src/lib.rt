@@ -4,6 +4,7 @@
 mod alert_rows;
 mod alone;
 mod bodies;
+mod checking;
 mod counters;
 mod faults;
 mod fitting;
@@ -18,6 +19,7 @@ mod reading;
 mod record;
 
 pub use bodies::row_of;
+pub use checking::check_rows;
 pub use faults::{RowWhy, RowsFault};
 pub use reading::{RowFault, read_row};
 pub use record::{KeptAlert, KeptReport, Meta, Record};

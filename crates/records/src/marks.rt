@@ -3,6 +3,7 @@ ghost use Rattle.std.specs.BTreeMap.{is_at};
 ghost use Rattle.plan.specs.Texts.{IsMoment};
 ghost use Rattle.records.specs.Faults.{minute_of};
 ghost use Rattle.records.specs.Marks as spec;
+ghost use Rattle.records.specs.Valid.{IsRecord};
 
 use crate::kinds::{key_of, kind_of};
 use crate::record::{KeptReport, Record};
@@ -68,8 +69,9 @@ fn release_mark(active: bool, id: u64) -> Mark
     if active { (3, id) } else { (6, id) }
 }
 
+#[tactic(auto, unfolding(crate::specs::Valid::IsRecord))]
 fn other_mark(alloc: Global, record: &Record) -> Result<Mark, OutOfMemory>
-    requires { spec.MayBeRead record.now }
+    requires { IsRecord record.now }
     ensures { IfOk result (λ mark. mark ≡ spec.other_mark record.now) }
 {
     match record {
@@ -84,7 +86,7 @@ fn other_mark(alloc: Global, record: &Record) -> Result<Mark, OutOfMemory>
 
 /// The marks of a record.
 pub(crate) fn marks_of(alloc: Global, record: &Record) -> Result<Marks, OutOfMemory>
-    requires { spec.MayBeRead record.now }
+    requires { IsRecord record.now }
     ensures { IfOk result (λ marks. marks ≡ spec.marks_of record.now) }
 {
     Ok(Marks {

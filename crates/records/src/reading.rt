@@ -1,10 +1,12 @@
 ghost use Rattle.std.specs.Prelude.{◌≡◌, IfOk, IfSome};
 ghost use Rattle.std.specs.Option.{option_map};
 ghost use Rattle.release_json.specs.Releases.{release_of};
-ghost use Rattle.records.specs.Bodies.{HasMoments};
+ghost use Rattle.records.specs.Bodies.{HasMoments, row_of as spec_row_of};
+ghost use Rattle.records.specs.Valid.{IsRecord};
+ghost use Rattle.records.specs.declared.record.Record.{Record as Held};
 ghost use Rattle.serde_json.specs.View.{view};
 ghost use Rattle.records.specs.Reading as spec;
-ghost use Rattle.records.specs.Reading.{record_of, ReadsRow};
+ghost use Rattle.records.specs.Reading.{record_of, ReadsRow, IsAgain};
 
 use crate::alert_rows::alert_of;
 use crate::bodies::row_of;
@@ -169,7 +171,8 @@ fn record_with(alloc: Global, row: &Row) -> Result<Option<Record>, OutOfMemory>
 
 /// The record of a row: the only valid one that has it. `NotCanonical` comes exactly where there is none.
 pub fn read_row(alloc: Global, row: &Row) -> Result<Record, RowFault>
-    ensures { ReadsRow row.now result }
+    ensures reads { ReadsRow row.now result }
+    ensures again { (r : Held) → IsRecord r → spec_row_of r ≡ row.now → IsAgain r result }
 {
     match record_with(alloc, row)? {
         Some(record) => Ok(record),
