@@ -1,29 +1,25 @@
 -- The body of a valid record is read as that record.
-use Rattle.std.proofs.Common.{◌≡◌, ℕ, ◌≤◌, Bool, true, ◌&&◌, List, [], ◌∷◌, Option, None, Some, IfSome, Result, Ok, Err, IsOk, IsUtf8, refl, sym, ap, ◌∙◌, subst, arith, le-leb, is_ok}
+use Rattle.std.proofs.Common.{◌≡◌, ℕ, ◌≤◌, true, List, [], ◌∷◌, Some, refl, ap, ◌∙◌, arith, le-leb}
 use Rattle.std.specs.List.{AllByRecursion}
-use Rattle.std.specs.Str.{bytes_eq}
 use Rattle.std.proofs.lemmas.Slice.Eq.{bytes_eq-Decides}
 use Rattle.std.proofs.lemmas.Str.{is_utf8-from_IsUtf8}
-use Rattle.serde_json.specs.Data.{Data, object, Members, no_members}
-use Rattle.serde_json.specs.Read.{read, max_depth}
-use Rattle.serde_json.specs.Written.{compact_text}
+use Rattle.serde_json.specs.Data.{object}
 use Rattle.codes.specs.Groups.{groups_of, canonical}
-use Rattle.facts.specs.Reading.{read_of}
 use Rattle.asks.specs.declared.kept.Floor.{Floor}
-use Rattle.plan.specs.Findings.{AreAmong, is_among}
+use Rattle.plan.specs.Findings.{AreAmong}
 use Rattle.plan.specs.declared.findings.Finding.{Finding}
 use Rattle.plan_json.proofs.Again.{small_again, id_again, moment_again, done_again}
 use Rattle.plan_json.proofs.DigestLaws.{digest_again}
 use Rattle.release_json.proofs.FindingLaws.{findings_again}
 use Rattle.release_json.proofs.ReleaseLaws.{release_again}
 use Rattle.records.specs.Kinds.{kind_of, key_of}
-use Rattle.records.specs.Bodies.{with_floors, floors_data, meta_members, report_members, deferral_members, kept_members, alert_members, body_data}
+use Rattle.records.specs.Bodies.{floors_data, body_data}
 use Rattle.records.specs.Reading as spec
-use Rattle.records.specs.Valid.{IsFloor, AreRising, IsMeta, IsReport, IsDeferral, IsKeptReply, IsKeptAlert, IsRecord, are_rising, is_report, are_among}
+use Rattle.records.specs.Valid.{IsFloor, AreRising, IsReport, IsRecord, is_report, are_among}
 use Rattle.records.specs.declared.record.KeptReport.{KeptReport}
 use Rattle.records.specs.declared.record.Record.{Record}
 use Rattle.records.specs.declared.record.Record.TheVariants.{Meta, Report, Deferral, Release, Kept, Alert}
-use Rattle.records.proofs.FloorLaws.{in_turn, floors_in_turn, floors_again, rising_tested}
+use Rattle.records.proofs.FloorLaws.{floors_in_turn, floors_again, rising_tested}
 use Rattle.records.proofs.NameLaws.{person_again, tail_again, item_again, text_lossy}
 
 -- ---- floors

@@ -1,14 +1,15 @@
 -- Rows that are checked, and the rows that a fault names.
-use Rattle.std.proofs.Common.{◌≡◌, ℕ, zero, suc, ◌+◌, ◌<◌, ◌≤◌, All, List, [], ◌∷◌, ◌++◌, length, map, take, drop, get_or, Option, None, Some, Result, Ok, Err, refl, sym, ap, ◌∙◌, subst, arith, append-nil}
-use Rattle.std.specs.List.{slice_get, position_from, list_any}
+use Rattle.std.proofs.Common.{◌≡◌, ℕ, zero, suc, ◌+◌, ◌<◌, All, List, [], ◌∷◌, ◌++◌, length, map, take, drop, get_or, Option, None, Some, Result, Ok, Err, refl, sym, ap, ◌∙◌, subst, arith}
+use Rattle.std.specs.List.{slice_get}
 use Rattle.std.specs.Option.{option_map}
+use Rattle.std.specs.Result.{MatchResult, IsErr, IsErrAnd}
 use Rattle.std.proofs.lemmas.List.{take_more, map-append, length-map}
 use Rattle.std.proofs.lemmas.List.Elements.{All-push}
 use Rattle.desk_io.specs.declared.rows.Row.{Row}
 use Rattle.desk_time.specs.Digits.{◌>>=◌}
 use Rattle.records.specs.Bodies.{row_of}
-use Rattle.records.specs.Checks.{AreRowsOf, IsFirstBad, Misfit, IsMisfit, IsBadPair, IsBadRow, IsFaultOf, IsDesk, OrMemory, named, Names, HasNone, IsUnread, IsReadOf}
-use Rattle.records.specs.Faults.{fit, has_meta, within_limits, have_releases, agree, are_counted, lacks_meta, first_after, is_over, place_of, is_orphan, pair_after, is_bad_pair, ahead_of, meta_from, bad, pair, ◌>>◌, IsWithin}
+use Rattle.records.specs.Checks.{AreRowsOf, IsBadPair, IsBadRow, IsFaultOf, OrMemory, Names, IsUnread, IsReadOf}
+use Rattle.records.specs.Faults.{fit, has_meta, within_limits, have_releases, agree, are_counted, lacks_meta, first_after, is_over, place_of, is_orphan, pair_after, is_bad_pair, ahead_of, meta_from, bad, pair, ◌>>◌}
 use Rattle.records.specs.Valid.{IsRecord}
 use Rattle.records.specs.declared.faults.Fault.{Fault}
 use Rattle.records.specs.declared.faults.Fault.TheVariants.{Bad, Pair}
@@ -127,3 +128,8 @@ goes_on rows records made i row r are within is read more = record {
 
 pub same_length : (rows : List Row) (records : List Record) → AreRowsOf rows records → length rows ≡ length records
 same_length rows records are = sym (ap length are.made) ∙ length-map records row_of
+
+-- a fault that is passed on
+pub passed_on : {T : Type 0} (r : Result T RowsFault) (fault : RowsFault) (P : T → Type 0) (Q : RowsFault → Type 0) → IsErr r → IsErrAnd r (λ e. e ≡ fault) → Q fault → MatchResult r P Q
+passed_on (Ok t) fault P Q fails is held = cc
+passed_on (Err e) fault P Q fails is held = subst Q (sym is) held

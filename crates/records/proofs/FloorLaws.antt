@@ -1,20 +1,17 @@
 -- Floors as members of an object, in the order of their names.
-use Rattle.std.proofs.Common.{◌≡◌, ℕ, ◌≤◌, ◌^◌, ◌<◌, Bool, true, false, ◌&&◌, List, [], ◌∷◌, Option, None, Some, IsUtf8, refl, sym, ap, ◌∙◌, subst, arith, nat_cmp, Less, Greater, Ordering, is_lt}
+use Rattle.std.proofs.Common.{◌≡◌, ℕ, true, List, [], ◌∷◌, Some, refl, sym, ap, ◌∙◌, subst, arith, nat_cmp, Less, Greater, Ordering, is_lt}
 use Rattle.std.specs.List.{AllByRecursion}
 use Rattle.std.specs.Ordering.{ordering_reverse}
 use Rattle.std.specs.Cmp.Lexicographic.{slice_cmp}
-use Rattle.std.specs.Str.Lossy.{utf8_lossy}
 use Rattle.std.proofs.lemmas.Bool.{and_parts}
 use Rattle.std.proofs.lemmas.Cmp.{nat_list_cmp_total}
-use Rattle.std.proofs.lemmas.Str.{utf8_lossy-IsUtf8}
-use Rattle.serde_json.specs.Data.{Data, object, Members, no_members, member, put, members_depth}
-use Rattle.ops_tables.specs.Forms.{is_person}
+use Rattle.serde_json.specs.Data.{Data, Members, no_members, member, put, members_depth}
 use Rattle.asks.specs.declared.kept.Floor.{Floor}
 use Rattle.plan_json.specs.Canonical.{count}
 use Rattle.plan_json.specs.Plain.{IsBefore, AreInOrder, MembersArePlain, MembersHaveText}
 use Rattle.plan_json.proofs.Again.{small_again}
 use Rattle.records.specs.Bodies.{with_floors}
-use Rattle.records.specs.Reading.{request_in, floor_of, floors_in}
+use Rattle.records.specs.Reading.{floor_of, floors_in}
 use Rattle.records.specs.Valid.{IsFloor, AreRising, comes_before, are_rising}
 use Rattle.records.proofs.NameLaws.{person_utf8, person_lossy, person_known}
 

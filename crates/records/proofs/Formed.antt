@@ -1,22 +1,20 @@
 -- A record that is read is valid.
-use Rattle.std.proofs.Common.{◌≡◌, ℕ, ◌≤◌, Bool, true, false, ◌&&◌, nat_le, if◌then◌else◌, List, [], ◌∷◌, Option, None, Some, IfSome, Result, Ok, Err, IsOk, IsUtf8, codes, refl, sym, ◌∙◌, subst, arith, is_ok}
+use Rattle.std.proofs.Common.{◌≡◌, ℕ, ◌≤◌, true, nat_le, List, [], ◌∷◌, Option, None, Some, IfSome, IsUtf8, codes, sym, subst, is_ok}
 use Rattle.std.specs.Prelude.{◌==◌, option_and_then}
-use Rattle.std.specs.List.{AllByRecursion, list_all}
+use Rattle.std.specs.List.{AllByRecursion}
 use Rattle.std.specs.Option.{option_map, option_or}
 use Rattle.std.specs.Str.{bytes_eq, is_utf8}
-use Rattle.std.proofs.lemmas.Bool.{and_parts, leb-true, eqb-true}
+use Rattle.std.proofs.lemmas.Bool.{and_parts, leb-true}
 use Rattle.std.proofs.lemmas.Slice.Eq.{bytes_eq-Decides}
 use Rattle.std.proofs.lemmas.Str.{IsUtf8-from_is_utf8}
 use Rattle.serde_json.specs.Data.{Data, Items, Members, no_members, member}
 use Rattle.serde_json.specs.Find.{get, as_number, as_str, as_u64, as_object}
-use Rattle.desk_time.specs.Digits.{◌>>=◌}
 use Rattle.codes.specs.Groups.{groups_of, canonical}
 use Rattle.ops_tables.specs.Forms.{is_tail, is_item, is_person}
 use Rattle.facts.specs.Reading.{read_of}
 use Rattle.plan.specs.Findings.{AreAmong, is_among}
 use Rattle.plan.specs.Texts.{IsMoment}
 use Rattle.plan.specs.declared.findings.Finding.{Finding}
-use Rattle.plan.specs.declared.release.Release.{Release as ReleaseOf}
 use Rattle.asks.specs.declared.kept.Floor.{Floor}
 use Rattle.plan_json.specs.Canonical.{IsId, DoneHasForms}
 use Rattle.plan_json.specs.Digests.{digest_of, digest_at, IsDigest}
@@ -36,7 +34,6 @@ use Rattle.records.specs.declared.alert_rows.Opening.{Opening}
 use Rattle.records.specs.declared.kept_rows.Stamp.{Stamp}
 use Rattle.records.specs.declared.meta_rows.Numbers.{Numbers}
 use Rattle.records.specs.declared.record.KeptReport.{KeptReport}
-use Rattle.records.specs.declared.record.Record.{Record}
 use Rattle.records.specs.declared.record.Record.TheVariants.{Meta, Report, Deferral, Release, Kept, Alert}
 use Rattle.records.proofs.FloorLaws.{rising_from_test}
 

@@ -8,19 +8,18 @@ use Rattle.std.specs.Cmp.{IsTotalOrder}
 use Rattle.std.specs.Str.{bytes_eq}
 use Rattle.std.specs.List.{list_any, position_from}
 use Rattle.std.specs.Option.{unwrap_or}
-use Rattle.std.specs.Map.{lookup}
 use Rattle.std.specs.BTreeMap.{is_at}
 use Rattle.std.proofs.lemmas.Bool.{eqb-true}
 use Rattle.std.proofs.lemmas.List.{take_more, length-take-le}
 use Rattle.std.proofs.lemmas.Cmp.{nat_cmp_total, on_total, then_total, tied_itself, ranked}
 use Rattle.std.proofs.lemmas.Slice.Eq.{bytes_eq-Decides}
 use Rattle.plan.specs.Phases.{is_active}
-use Rattle.records.specs.Kinds.{kind_of, key_of, is_kind}
+use Rattle.records.specs.Kinds.{kind_of, key_of}
 use Rattle.records.specs.Faults.{minute_of, is_same_row, are_at_odds, is_bad_pair, is_release_of}
-use Rattle.records.specs.Marks.{Mark, fingerprint, own_mark, other_mark, marks_of, mark_cmp, is_marked, place_at, IsIndex}
+use Rattle.records.specs.Marks.{fingerprint, own_mark, other_mark, marks_of, mark_cmp, is_marked, place_at, IsIndex}
 use Rattle.records.specs.declared.marks.Marks.{Marks}
 use Rattle.records.specs.declared.record.Record.{Record}
-use Rattle.records.specs.declared.record.Record.TheVariants.{Meta, Report, Deferral, Release, Kept, Alert}
+use Rattle.records.specs.declared.record.Record.TheVariants.{Report, Release, Kept, Alert}
 use Rattle.records.proofs.Places.{place_through, clear_before, neither, place_push}
 
 mark_total : IsTotalOrder mark_cmp

@@ -1,20 +1,18 @@
 -- The body of a valid record is plain data.
 use Rattle.std.proofs.Common.{ℕ, ◌^◌, ◌<◌, ◌≤◌, List, refl, sym, arith, subst}
 use Rattle.std.specs.List.{AllByRecursion}
-use Rattle.std.specs.Str.Lossy.{utf8_lossy}
-use Rattle.serde_json.specs.Data.{object, no_members, depth, members_depth}
-use Rattle.serde_json.specs.Read.{max_depth}
+use Rattle.serde_json.specs.Data.{object, depth}
 use Rattle.asks.specs.declared.kept.Floor.{Floor}
 use Rattle.plan_json.specs.Canonical.{IsId}
 use Rattle.plan_json.specs.Plain.{IsPlain, HasText}
 use Rattle.plan_json.proofs.Plain.{order_of, text_of, done_plain, done_has_text, done_depth}
 use Rattle.plan_json.proofs.Texts.{written_utf8, digest_utf8}
 use Rattle.release_json.proofs.PlainLaws.{release_plain, release_has_text, release_depth, findings_plain, findings_have_text, findings_depth}
-use Rattle.records.specs.Bodies.{with_floors, floors_data, meta_members, report_members, deferral_members, reply_members, kept_members, alert_members, body_data}
+use Rattle.records.specs.Bodies.{floors_data, meta_members, report_members, deferral_members, reply_members, kept_members, alert_members, body_data}
 use Rattle.records.specs.Valid.{IsFloor, AreRising, IsRecord}
 use Rattle.records.specs.declared.record.Record.{Record}
 use Rattle.records.specs.declared.record.Record.TheVariants.{Meta, Report, Deferral, Release, Kept, Alert}
-use Rattle.records.proofs.FloorLaws.{in_turn, floors_in_turn, turn_order, turn_plain, turn_has_text, turn_depth}
+use Rattle.records.proofs.FloorLaws.{floors_in_turn, turn_order, turn_plain, turn_has_text, turn_depth}
 
 id_plain : (n : ℕ) → IsId n → n < 2 ^ 64
 id_plain n few = omega arith

@@ -3,7 +3,7 @@ use Rattle.std.specs.Prelude.{◌≡◌, ℕ, ◌==◌, nat_le, ◌&&◌, Bool, 
 use Rattle.std.specs.Option.{option_map}
 use Rattle.std.specs.Str.{bytes_eq, is_utf8}
 use Rattle.serde_json.specs.Data.{Data, Members, no_members, member}
-use Rattle.serde_json.specs.Find.{get, as_number, as_u64, as_object, as_bool}
+use Rattle.serde_json.specs.Find.{get, as_number, as_u64, as_object}
 use Rattle.desk_time.specs.Digits.{◌>>=◌}
 use Rattle.ops_tables.specs.Forms.{is_tail, is_item}
 use Rattle.plan.specs.declared.findings.Finding.{Finding}

@@ -1,5 +1,4 @@
-use Rattle.std.proofs.Common.{◌≡◌, ◌∙◌, sym, ap, refl, false, take, ℕ, ◌+◌, arith, Some}
-use Rattle.std.proofs.lemmas.List.{take-take}
+use Rattle.std.proofs.Common.{◌≡◌, ◌∙◌, sym, ap, take, ◌+◌, arith, Some}
 use Rattle.std.specs.List.{list_any}
 use Rattle.records.specs.Faults.{is_bad_pair}
 use Rattle.records.proofs.Places.{found_at, nowhere}

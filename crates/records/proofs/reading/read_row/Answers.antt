@@ -1,4 +1,3 @@
-use Rattle.std.proofs.Common.{◌∙◌, sym}
 use Rattle.records.proofs.RowLaws.{some_has_row, none_has_row, some_again}
 use Rattle.records.proofs.reading.read_row.Goals as goal
 
