@@ -7,10 +7,10 @@ ghost use Rattle.records.specs.Marks.{marks_of, IsIndex};
 use crate::marks::{Firsts, place_at};
 use crate::record::Record;
 
-fn is_meta(record: &Record) -> bool
-    ensures { result ≡ is_kind 0 record.now }
+fn is_meta(held: &Record) -> bool
+    ensures { result ≡ is_kind 0 held.now }
 {
-    match record {
+    match held {
         Record::Meta(_) => true,
         _ => false,
     }
@@ -34,10 +34,10 @@ pub(crate) fn lacks_meta(records: &[Record]) -> Option<usize>
     }
 }
 
-fn is_release_of(record: &Record, id: u64) -> bool
-    ensures { result ≡ spec.is_release_of id record.now }
+fn is_release_of(held: &Record, id: u64) -> bool
+    ensures { result ≡ spec.is_release_of id held.now }
 {
-    match record {
+    match held {
         Record::Release(release) => release.id == id,
         _ => false,
     }
@@ -57,11 +57,11 @@ fn has_release(records: &[Record], firsts: &Firsts, id: u64) -> bool
     false
 }
 
-fn is_orphan(records: &[Record], firsts: &Firsts, record: &Record) -> bool
+fn is_orphan(records: &[Record], firsts: &Firsts, held: &Record) -> bool
     requires { IsIndex firsts.now.entries (map marks_of records.now) }
-    ensures { result ≡ spec.is_orphan records.now record.now }
+    ensures { result ≡ spec.is_orphan records.now held.now }
 {
-    match record {
+    match held {
         Record::Alert(alert) => !has_release(records, firsts, alert.release),
         _ => false,
     }

@@ -107,11 +107,11 @@ fn alert_members(alloc: Global, alert: &KeptAlert) -> Result<Members, OutOfMemor
 }
 
 #[tactic(auto, unfolding(crate::specs::Bodies::body_data))]
-fn body_value(alloc: Global, record: &Record) -> Result<Value, OutOfMemory>
-    requires { spec.HasMoments record.now }
-    ensures { IfOk result (λ v. view v ≡ spec.body_data record.now) }
+fn body_value(alloc: Global, held: &Record) -> Result<Value, OutOfMemory>
+    requires { spec.HasMoments held.now }
+    ensures { IfOk result (λ v. view v ≡ spec.body_data held.now) }
 {
-    match record {
+    match held {
         Record::Meta(meta) => Ok(Value::Object(meta_members(alloc, meta)?)),
         Record::Report(report) => Ok(Value::Object(report_members(alloc, report)?)),
         Record::Deferral(deferral) => Ok(Value::Object(deferral_members(alloc, deferral)?)),
@@ -122,23 +122,23 @@ fn body_value(alloc: Global, record: &Record) -> Result<Value, OutOfMemory>
 }
 
 #[tactic(auto, using(crate::proofs::Whole::body_is_whole))]
-fn body_text(alloc: Global, record: &Record) -> Result<Text, OutOfMemory>
-    requires { spec.HasMoments record.now }
-    ensures { IfOk result (λ t. t ≡ compact_text (spec.body_data record.now)) }
+fn body_text(alloc: Global, held: &Record) -> Result<Text, OutOfMemory>
+    requires { spec.HasMoments held.now }
+    ensures { IfOk result (λ t. t ≡ compact_text (spec.body_data held.now)) }
 {
-    let value = body_value(alloc, record)?;
+    let value = body_value(alloc, held)?;
     Ok(Text::from_vec(value.to_vec(alloc)?))
 }
 
 /// The row of a record.
 #[tactic(auto, unfolding(crate::specs::Bodies::row_of))]
-pub fn row_of(alloc: Global, record: &Record) -> Result<Row, OutOfMemory>
-    requires { spec.HasMoments record.now }
-    ensures { IfOk result (λ row. row ≡ spec.row_of record.now) }
+pub fn row_of(alloc: Global, held: &Record) -> Result<Row, OutOfMemory>
+    requires { spec.HasMoments held.now }
+    ensures { IfOk result (λ row. row ≡ spec.row_of held.now) }
 {
     Ok(Row {
-        kind: kind_of(record),
-        key: key_of(record),
-        body: body_text(alloc, record)?,
+        kind: kind_of(held),
+        key: key_of(held),
+        body: body_text(alloc, held)?,
     })
 }

@@ -24,10 +24,10 @@ fn outruns(meta: &Meta) -> bool
         || bound < meta.next_kept
 }
 
-fn is_ahead(meta: &Meta, record: &Record) -> bool
-    ensures { result ≡ spec.is_ahead meta.now record.now }
+fn is_ahead(meta: &Meta, held: &Record) -> bool
+    ensures { result ≡ spec.is_ahead meta.now held.now }
 {
-    match record {
+    match held {
         Record::Meta(own) => outruns(own),
         Record::Report(report) => meta.next_report <= report.id,
         Record::Deferral(deferral) => meta.next_deferral <= deferral.id,

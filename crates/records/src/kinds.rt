@@ -4,11 +4,11 @@ ghost use Rattle.records.specs.Kinds as spec;
 use crate::record::Record;
 
 /// The kind of a record's row.
-pub(crate) fn kind_of(record: &Record) -> u8
-    ensures value { result ≡ spec.kind_of record.now }
+pub(crate) fn kind_of(held: &Record) -> u8
+    ensures value { result ≡ spec.kind_of held.now }
     ensures bound { result ≤ 5 }
 {
-    match record {
+    match held {
         Record::Meta(_) => 0,
         Record::Report(_) => 1,
         Record::Deferral(_) => 2,
@@ -19,10 +19,10 @@ pub(crate) fn kind_of(record: &Record) -> u8
 }
 
 /// The key of a record's row.
-pub(crate) fn key_of(record: &Record) -> u64
-    ensures { result ≡ spec.key_of record.now }
+pub(crate) fn key_of(held: &Record) -> u64
+    ensures { result ≡ spec.key_of held.now }
 {
-    match record {
+    match held {
         Record::Meta(_) => 0,
         Record::Report(report) => report.id,
         Record::Deferral(deferral) => deferral.id,

@@ -14,10 +14,10 @@ pub(crate) struct Counts {
 }
 
 // Whether one more is too many after so many, or counts too many events.
-fn is_past(before: Counts, record: &Record) -> bool
-    ensures { result ≡ spec.is_past before record.now }
+fn is_past(before: Counts, held: &Record) -> bool
+    ensures { result ≡ spec.is_past before held.now }
 {
-    match record {
+    match held {
         Record::Meta(meta) => meta.events >= 999_999_999_999_999,
         Record::Report(_) => before.reports >= 200_000,
         Record::Deferral(_) => before.deferrals >= 50_000,
@@ -27,12 +27,12 @@ fn is_past(before: Counts, record: &Record) -> bool
     }
 }
 
-fn with_one(before: Counts, record: &Record) -> Counts
-    requires { spec.is_past before record.now ≡ false }
-    ensures { (earlier : List Held) → before ≡ spec.counts_of earlier → result ≡ spec.counts_of (earlier ++ record.now ∷ []) }
+fn with_one(before: Counts, held: &Record) -> Counts
+    requires { spec.is_past before held.now ≡ false }
+    ensures { (earlier : List Held) → before ≡ spec.counts_of earlier → result ≡ spec.counts_of (earlier ++ held.now ∷ []) }
 {
     let mut counts = before;
-    match record {
+    match held {
         Record::Report(_) => counts.reports += 1,
         Record::Deferral(_) => counts.deferrals += 1,
         Record::Release(_) => counts.releases += 1,

@@ -44,10 +44,10 @@ fn fingerprint(text: &[u8]) -> u64
     number
 }
 
-fn own_mark(record: &Record) -> Mark
-    ensures { result ≡ spec.own_mark record.now }
+fn own_mark(held: &Record) -> Mark
+    ensures { result ≡ spec.own_mark held.now }
 {
-    (u64::from(kind_of(record)), key_of(record))
+    (u64::from(kind_of(held)), key_of(held))
 }
 
 // When a report was observed or issued.
@@ -70,11 +70,11 @@ fn release_mark(active: bool, id: u64) -> Mark
 }
 
 #[tactic(auto, unfolding(crate::specs::Valid::IsRecord))]
-fn other_mark(alloc: Global, record: &Record) -> Result<Mark, OutOfMemory>
-    requires { IsRecord record.now }
-    ensures { IfOk result (λ mark. mark ≡ spec.other_mark record.now) }
+fn other_mark(alloc: Global, held: &Record) -> Result<Mark, OutOfMemory>
+    requires { IsRecord held.now }
+    ensures { IfOk result (λ mark. mark ≡ spec.other_mark held.now) }
 {
-    match record {
+    match held {
         Record::Meta(_) => Ok((0, 0)),
         Record::Report(report) => Ok((minute_of(alloc, report)?, fingerprint(report.text.bytes()))),
         Record::Deferral(deferral) => Ok((2, deferral.id)),
@@ -85,13 +85,13 @@ fn other_mark(alloc: Global, record: &Record) -> Result<Mark, OutOfMemory>
 }
 
 /// The marks of a record.
-pub(crate) fn marks_of(alloc: Global, record: &Record) -> Result<Marks, OutOfMemory>
-    requires { IsRecord record.now }
-    ensures { IfOk result (λ marks. marks ≡ spec.marks_of record.now) }
+pub(crate) fn marks_of(alloc: Global, held: &Record) -> Result<Marks, OutOfMemory>
+    requires { IsRecord held.now }
+    ensures { IfOk result (λ marks. marks ≡ spec.marks_of held.now) }
 {
     Ok(Marks {
-        own: own_mark(record),
-        other: other_mark(alloc, record)?,
+        own: own_mark(held),
+        other: other_mark(alloc, held)?,
     })
 }
 

@@ -91,22 +91,22 @@ fn start_for(records: &[Record], firsts: &Firsts, marks: Marks, place: usize) ->
 fn first_against(
     records: &[Record],
     marks: &[Marks],
-    record: &Record,
-    marks_of_record: Marks,
+    held: &Record,
+    marks_of_held: Marks,
     start: usize,
     end: usize,
 ) -> Option<usize>
     requires same { marks.now ≡ map marks_of records.now }
-    requires record { marks_of_record ≡ marks_of record.now }
+    requires held { marks_of_held ≡ marks_of held.now }
     requires within { end ≤ length records.now }
     requires before { start ≤ end }
-    requires none { list_any (spec.is_bad_pair record.now) (take start records.now) ≡ false }
-    ensures value { result ≡ spec.place_of (spec.is_bad_pair record.now) (take end records.now) }
+    requires none { list_any (spec.is_bad_pair held.now) (take start records.now) ≡ false }
+    ensures value { result ≡ spec.place_of (spec.is_bad_pair held.now) (take end records.now) }
     ensures bound { IfSome result (λ place. place < end) }
 {
     for place in start..end {
         let others = marks_at(marks, place, records);
-        if is_bad_pair(record, &records[place], marks_of_record, others) {
+        if is_bad_pair(held, &records[place], marks_of_held, others) {
             return Some(place);
         }
     }

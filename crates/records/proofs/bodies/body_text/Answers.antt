@@ -6,4 +6,4 @@ use Rattle.records.proofs.bodies.body_text.Goals as goal
 
 pub returns : goal.returns
 returns c =
-    c.from_vec.ensures ∙ c.in_ok-to_vec.ensures.text (body_is_whole c.args.record.now (view c.in_ok-value.value) c.in_ok-value.ensures) ∙ ap compact_text c.in_ok-value.ensures
+    c.from_vec.ensures ∙ c.in_ok-to_vec.ensures.text (body_is_whole c.args.held.now (view c.in_ok-value.value) c.in_ok-value.ensures) ∙ ap compact_text c.in_ok-value.ensures
