@@ -96,12 +96,12 @@ phase_formed text = in_formed text (cut 32 text)
 abbrev Writes : List ℕ → Phase → Type 0
 Writes text p = phase_text p ≡ text
 
-read_back : (text : List ℕ) (o : Option ℕ) → minute_of text ≡ o → IfSome o IsMoment → IfSome o (λ at. shown at ≡ text)
-read_back text None is within = tt
-read_back text (Some at) is within = sym (minute_is_shown text at is within.1)
+read_back : (text : List ℕ) (o : Option ℕ) → minute_of text ≡ o → IfSome o (λ at. shown at ≡ text)
+read_back text None is = tt
+read_back text (Some at) is = sym (minute_is_shown text at is)
 
 minute_back : (text : List ℕ) → IfSome (minute_of text) (λ at. shown at ≡ text)
-minute_back text = read_back text (minute_of text) refl (minute_within text)
+minute_back text = read_back text (minute_of text) refl
 
 ready_back : (rest : List ℕ) → IfSome (ready_of rest) (Writes (codes "READY " ++ rest))
 unfolding phase_text
