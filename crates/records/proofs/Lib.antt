@@ -7,5 +7,5 @@ mod MapLaws
 mod PlainRows
 mod AgainRows
 mod Formed
-mod RowLaws
+pub mod RowLaws
 mod CheckLaws

@@ -22,7 +22,7 @@ use Rattle.records.proofs.Formed.{record_formed}
 use Rattle.records.proofs.PlainRows.{body_plain, body_has_text, body_depth}
 
 -- the moments of a valid record can be shown
-valid_moments : (r : Record) → IsRecord r → HasMoments r
+pub valid_moments : (r : Record) → IsRecord r → HasMoments r
 unfolding IsRecord
 valid_moments (Meta m) is = is.moment
 valid_moments (Report r) is = is.received
@@ -86,7 +86,7 @@ bind_if None f P Q held next = tt
 bind_if (Some x) f P Q held next = next x held
 
 -- what is read is valid, and has the row
-read_has_row : (row : Row) → IfSome (spec.record_with row) (λ r. IsRecord r × (row_of r ≡ row))
+pub read_has_row : (row : Row) → IfSome (spec.record_with row) (λ r. IsRecord r × (row_of r ≡ row))
 unfolding spec.record_with
 read_has_row row = bind_if (spec.found_in row) (spec.if_has row) IsRecord (λ r. IsRecord r × (row_of r ≡ row)) (found_valid row) (if_same row)
 
