@@ -5,6 +5,7 @@ pub mod DigestLaws
 pub mod Texts
 pub mod DoneForms
 pub mod Again
+pub mod TextsAgain
 pub mod Whole
 pub mod Compact
 pub mod Plain
