@@ -2,7 +2,7 @@
 use Rattle.std.proofs.Common.{◌≡◌, ℕ, ◌≤◌, true, nat_le, List, [], ◌∷◌, Option, None, Some, IfSome, IsUtf8, codes, sym, subst, is_ok}
 use Rattle.std.specs.Prelude.{◌==◌, option_and_then}
 use Rattle.std.specs.List.{AllByRecursion}
-use Rattle.std.specs.Option.{option_map, option_or}
+use Rattle.std.specs.Option.{option_map}
 use Rattle.std.specs.Str.{bytes_eq, is_utf8}
 use Rattle.std.proofs.lemmas.Bool.{and_parts, leb-true}
 use Rattle.std.proofs.lemmas.Slice.Eq.{bytes_eq-Decides}
@@ -18,9 +18,10 @@ use Rattle.plan.specs.declared.findings.Finding.{Finding}
 use Rattle.asks.specs.declared.kept.Floor.{Floor}
 use Rattle.plan_json.specs.Canonical.{IsId, DoneHasForms}
 use Rattle.plan_json.specs.Digests.{digest_of, digest_at, IsDigest}
-use Rattle.plan_json.specs.Dones.{report_of as done_report, deferral_of as done_deferral, filed_of, prepared_of, release_of as done_release, done_of}
+use Rattle.plan_json.specs.Dones.{done_of}
 use Rattle.plan_json.specs.Fields.{text_at, up_to, number_at, id_at, moment_at, list_at, each_read, has_members}
 use Rattle.plan_json.proofs.DigestLaws.{digest_formed}
+use Rattle.plan_json.proofs.DoneForms.{done_formed}
 use Rattle.plan_json.proofs.Chains.{bind_if, bind_any, then_if, under, either}
 use Rattle.plan_json.proofs.PlanForms.{id_formed, moment_formed, each_formed}
 use Rattle.release_json.specs.Findings.{finding_of, finding_in, are_in_order, findings_of, IsFinding}
@@ -151,38 +152,6 @@ deferral_formed id d few =
 
 digest_at_formed : (key : List ℕ) (d : Data) → IfSome (digest_at key d) IsDigest
 digest_at_formed key d = then_if digest_of (text_at key d) IsDigest digest_formed
-
-one_or : {A : Type 0} (o p : Option A) (Q : A → Type 0) → IfSome o Q → IfSome p Q → IfSome (option_or o p) Q
-one_or None p Q one two = two
-one_or (Some x) p Q one two = one
-
-done_report_formed : (d : Data) → IfSome (done_report d) DoneHasForms
-done_report_formed d = bind_if (id_at (codes "report") d) _ IsId DoneHasForms (id_formed (codes "report") d) (λ id few. under (has_members 1 d) _ DoneHasForms (λ exact. few))
-
-done_deferral_formed : (d : Data) → IfSome (done_deferral d) DoneHasForms
-done_deferral_formed d = bind_if (id_at (codes "deferral") d) _ IsId DoneHasForms (id_formed (codes "deferral") d) (λ id few. under (has_members 1 d) _ DoneHasForms (λ exact. few))
-
-filed_formed : (d : Data) → IfSome (filed_of d) DoneHasForms
-filed_formed d =
-    bind_if (id_at (codes "release") d) _ IsId DoneHasForms (id_formed (codes "release") d) (λ release one.
-    bind_if (id_at (codes "revision") d) _ IsId DoneHasForms (id_formed (codes "revision") d) (λ revision two. under (has_members 2 d) _ DoneHasForms (λ exact. (one, two))))
-
-prepared_formed : (d : Data) → IfSome (prepared_of d) DoneHasForms
-prepared_formed d =
-    bind_if (id_at (codes "release") d) _ IsId DoneHasForms (id_formed (codes "release") d) (λ release one.
-    bind_if (id_at (codes "revision") d) _ IsId DoneHasForms (id_formed (codes "revision") d) (λ revision two.
-    bind_if (digest_at (codes "digest") d) _ IsDigest DoneHasForms (digest_at_formed (codes "digest") d) (λ digest three. under (has_members 3 d) _ DoneHasForms (λ exact. (one, two, three)))))
-
-done_release_formed : (d : Data) → IfSome (done_release d) DoneHasForms
-done_release_formed d = bind_if (id_at (codes "release") d) _ IsId DoneHasForms (id_formed (codes "release") d) (λ id few. under (has_members 1 d) _ DoneHasForms (λ exact. few))
-
-done_formed : (d : Data) → IfSome (done_of d) DoneHasForms
-unfolding done_of
-done_formed d =
-    one_or _ (done_release d) DoneHasForms
-    (one_or _ (prepared_of d) DoneHasForms
-    (one_or _ (filed_of d) DoneHasForms (one_or _ (done_deferral d) DoneHasForms (done_report_formed d) (done_deferral_formed d)) (filed_formed d)) (prepared_formed d))
-    (done_release_formed d)
 
 reply_formed : (d : Data) → IfSome (read.reply_of d) DoneHasForms
 reply_formed d =
