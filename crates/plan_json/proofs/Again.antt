@@ -102,4 +102,4 @@ done_again (Deferral id) is = rw (id_again id is) refl
 done_again (Filed release revision) is = rw (id_again release is.0, id_again revision is.1) refl
 done_again (Prepared release revision digest) is = rw (id_again release is.0, id_again revision is.1, digest_again digest is.2) refl
 done_again (Release id) is = rw (id_again id is) refl
-done_again (Swept reports kept) is = rw (id_again reports is.0, id_again kept is.1) refl
+done_again (Swept reports kept) is = rw (amount_again reports is.0, amount_again kept is.1) refl

@@ -1,17 +1,17 @@
 -- What is read of what was done has its forms.
-use Rattle.std.proofs.Common.{◌≡◌, ℕ, nat_le, Bool, true, false, if◌then◌else◌, List, Option, None, Some, IfSome, codes, refl, subst, sym, leb-true}
+use Rattle.std.proofs.Common.{◌≡◌, ℕ, Bool, true, false, if◌then◌else◌, List, Option, None, Some, IfSome, codes, subst, sym}
 use Rattle.std.specs.Prelude.{option_and_then}
 use Rattle.std.specs.Option.{option_or}
 use Rattle.serde_json.specs.Data.{Data}
-use Rattle.serde_json.specs.Find.{get, as_number, as_u64}
 use Rattle.desk_time.specs.Digits.{◌>>=◌}
 use Rattle.asks.specs.declared.reply.Done.{Done}
 use Rattle.asks.specs.declared.reply.Done.TheVariants.{Report, Deferral, Filed, Prepared, Release, Swept}
 use Rattle.plan_json.specs.Digests.{digest_of, digest_at, IsDigest}
-use Rattle.plan_json.specs.Fields.{text_at, up_to, id_at, has_members}
-use Rattle.plan_json.specs.Canonical.{IsId, DoneHasForms}
+use Rattle.plan_json.specs.Fields.{text_at, id_at, amount_at, has_members}
+use Rattle.plan_json.specs.Canonical.{IsId, IsAmount, DoneHasForms}
 use Rattle.plan_json.specs.Dones.{report_of, deferral_of, filed_of, prepared_of, release_of, swept_of, done_of}
 use Rattle.plan_json.proofs.DigestLaws.{digest_formed}
+use Rattle.plan_json.proofs.PlanForms.{id_formed, amount_formed}
 
 found_then : {A B : Type 0} (P : A → Type 0) (Q : B → Type 0) (o : Option A) (next : A → Option B) → IfSome o P → ((x : A) → P x → IfSome (next x) Q) → IfSome (o >>= next) Q
 found_then P Q None next has each = tt
@@ -25,17 +25,6 @@ one_or : (first second : Option Done) → IfSome first DoneHasForms → IfSome s
 one_or None second one other = other
 one_or (Some done) second one other = one
 
-few_by : (n : ℕ) (few : Bool) → nat_le n 1_000_000_000_000_000 ≡ few → IfSome (if few then Some n else None) IsId
-few_by n true is = leb-true n 1_000_000_000_000_000 is
-few_by n false is = tt
-
-id_within : (o : Option ℕ) → IfSome (option_and_then (up_to 1_000_000_000_000_000) o) IsId
-id_within None = tt
-id_within (Some n) = few_by n (nat_le n 1_000_000_000_000_000) refl
-
-id_is : (key : List ℕ) (d : Data) → IfSome (id_at key d) IsId
-id_is key d = id_within (option_and_then as_u64 (option_and_then as_number (get key d)))
-
 digest_in : (o : Option (List ℕ)) → IfSome (option_and_then digest_of o) IsDigest
 digest_in None = tt
 digest_in (Some text) = digest_formed text
@@ -44,31 +33,31 @@ digest_is : (key : List ℕ) (d : Data) → IfSome (digest_at key d) IsDigest
 digest_is key d = digest_in (text_at key d)
 
 report_is : (d : Data) → IfSome (report_of d) DoneHasForms
-report_is d = found_then IsId DoneHasForms (id_at (codes "report") d) _ (id_is (codes "report") d) (λ id is. tested (has_members 1 d) (Report id) is)
+report_is d = found_then IsId DoneHasForms (id_at (codes "report") d) _ (id_formed (codes "report") d) (λ id is. tested (has_members 1 d) (Report id) is)
 
 deferral_is : (d : Data) → IfSome (deferral_of d) DoneHasForms
-deferral_is d = found_then IsId DoneHasForms (id_at (codes "deferral") d) _ (id_is (codes "deferral") d) (λ id is. tested (has_members 1 d) (Deferral id) is)
+deferral_is d = found_then IsId DoneHasForms (id_at (codes "deferral") d) _ (id_formed (codes "deferral") d) (λ id is. tested (has_members 1 d) (Deferral id) is)
 
 filed_is : (d : Data) → IfSome (filed_of d) DoneHasForms
 filed_is d =
-    found_then IsId DoneHasForms (id_at (codes "release") d) _ (id_is (codes "release") d) (λ release is_release.
-    found_then IsId DoneHasForms (id_at (codes "revision") d) _ (id_is (codes "revision") d) (λ revision is_revision.
+    found_then IsId DoneHasForms (id_at (codes "release") d) _ (id_formed (codes "release") d) (λ release is_release.
+    found_then IsId DoneHasForms (id_at (codes "revision") d) _ (id_formed (codes "revision") d) (λ revision is_revision.
     tested (has_members 2 d) (Filed release revision) (is_release, is_revision)))
 
 prepared_is : (d : Data) → IfSome (prepared_of d) DoneHasForms
 prepared_is d =
-    found_then IsId DoneHasForms (id_at (codes "release") d) _ (id_is (codes "release") d) (λ release is_release.
-    found_then IsId DoneHasForms (id_at (codes "revision") d) _ (id_is (codes "revision") d) (λ revision is_revision.
+    found_then IsId DoneHasForms (id_at (codes "release") d) _ (id_formed (codes "release") d) (λ release is_release.
+    found_then IsId DoneHasForms (id_at (codes "revision") d) _ (id_formed (codes "revision") d) (λ revision is_revision.
     found_then IsDigest DoneHasForms (digest_at (codes "digest") d) _ (digest_is (codes "digest") d) (λ digest is_digest.
     tested (has_members 3 d) (Prepared release revision digest) (is_release, is_revision, is_digest))))
 
 release_is : (d : Data) → IfSome (release_of d) DoneHasForms
-release_is d = found_then IsId DoneHasForms (id_at (codes "release") d) _ (id_is (codes "release") d) (λ id is. tested (has_members 1 d) (Release id) is)
+release_is d = found_then IsId DoneHasForms (id_at (codes "release") d) _ (id_formed (codes "release") d) (λ id is. tested (has_members 1 d) (Release id) is)
 
 swept_is : (d : Data) → IfSome (swept_of d) DoneHasForms
 swept_is d =
-    found_then IsId DoneHasForms (id_at (codes "reports") d) _ (id_is (codes "reports") d) (λ reports is_reports.
-    found_then IsId DoneHasForms (id_at (codes "kept") d) _ (id_is (codes "kept") d) (λ kept is_kept.
+    found_then IsAmount DoneHasForms (amount_at (codes "reports") d) _ (amount_formed (codes "reports") d) (λ reports is_reports.
+    found_then IsAmount DoneHasForms (amount_at (codes "kept") d) _ (amount_formed (codes "kept") d) (λ kept is_kept.
     tested (has_members 2 d) (Swept reports kept) (is_reports, is_kept)))
 
 pub done_formed : (d : Data) → IfSome (done_of d) DoneHasForms

@@ -208,7 +208,7 @@ done_plain (Deferral id) is = (order_of (done_members (Deferral id)) refl, (id_p
 done_plain (Filed release revision) is = (order_of (done_members (Filed release revision)) refl, (id_plain release is.0, (id_plain revision is.1, tt)))
 done_plain (Prepared release revision digest) is = (order_of (done_members (Prepared release revision digest)) refl, (tt, (id_plain release is.0, (id_plain revision is.1, tt))))
 done_plain (Release id) is = (order_of (done_members (Release id)) refl, (id_plain id is, tt))
-done_plain (Swept reports kept) is = (order_of (done_members (Swept reports kept)) refl, (id_plain kept is.1, (id_plain reports is.0, tt)))
+done_plain (Swept reports kept) is = (order_of (done_members (Swept reports kept)) refl, (amount_plain kept is.1, (amount_plain reports is.0, tt)))
 
 pub done_has_text : (d : Done) → DoneHasForms d → HasText (done_data d)
 done_has_text (Report id) is = text_of (done_members (Report id)) refl (tt, tt)

@@ -31,7 +31,7 @@ number_formed : (key : List ℕ) (limit : ℕ) (d : Data) → IfSome (number_at 
 number_formed key limit d =
     then_if (up_to limit) (option_and_then as_u64 (option_and_then as_number (get key d))) (λ n. n ≤ limit) (λ n. under (nat_le n limit) (Some n) (λ n. n ≤ limit) (leb-true n limit))
 
-amount_formed : (key : List ℕ) (d : Data) → IfSome (amount_at key d) IsAmount
+pub amount_formed : (key : List ℕ) (d : Data) → IfSome (amount_at key d) IsAmount
 amount_formed key d = number_formed key 4_294_967_295 d
 
 pub id_formed : (key : List ℕ) (d : Data) → IfSome (id_at key d) IsId

@@ -245,4 +245,4 @@ DoneHasForms (Deferral id) = IsId id
 DoneHasForms (Filed release revision) = IsId release × IsId revision
 DoneHasForms (Prepared release revision digest) = IsId release × IsId revision × IsDigest digest
 DoneHasForms (Release id) = IsId id
-DoneHasForms (Swept reports kept) = IsId reports × IsId kept
+DoneHasForms (Swept reports kept) = IsAmount reports × IsAmount kept

@@ -6,7 +6,7 @@ use Rattle.desk_time.specs.Digits.{◌>>=◌}
 use Rattle.asks.specs.declared.reply.Done.{Done}
 use Rattle.asks.specs.declared.reply.Done.TheVariants.{Report, Deferral, Filed, Prepared, Release, Swept}
 use Rattle.plan_json.specs.Digests.{digest_at}
-use Rattle.plan_json.specs.Fields.{id_at, has_members}
+use Rattle.plan_json.specs.Fields.{id_at, amount_at, has_members}
 
 abbrev pub report_of : Data → Option Done
 report_of d = id_at (codes "report") d >>= λ id. if has_members 1 d then Some (Report id) else None
@@ -26,7 +26,7 @@ abbrev pub release_of : Data → Option Done
 release_of d = id_at (codes "release") d >>= λ id. if has_members 1 d then Some (Release id) else None
 
 abbrev pub swept_of : Data → Option Done
-swept_of d = id_at (codes "reports") d >>= λ reports. id_at (codes "kept") d >>= λ kept. if has_members 2 d then Some (Swept reports kept) else None
+swept_of d = amount_at (codes "reports") d >>= λ reports. amount_at (codes "kept") d >>= λ kept. if has_members 2 d then Some (Swept reports kept) else None
 
 infixl 10 ◌otherwise◌
 abbrev pub ◌otherwise◌ : Option Done → Option Done → Option Done

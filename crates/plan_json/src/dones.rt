@@ -6,7 +6,7 @@ ghost use Rattle.plan_json.specs.Dones as dones;
 ghost use Rattle.plan_json.specs.Dones.{done_of};
 
 use crate::digests::{digest_at, with_digest};
-use crate::fields::{has_members, id_at};
+use crate::fields::{amount_at, has_members, id_at};
 use crate::members::{Members, with_count};
 use asks::Done;
 use desk_io::OutOfMemory;
@@ -122,8 +122,8 @@ fn release_of(value: &Value) -> Option<Done>
 fn swept_of(value: &Value) -> Option<Done>
     ensures { result ≡ dones.swept_of (view value.now) }
 {
-    let reports = id_at("reports", value)?;
-    let kept = id_at("kept", value)?;
+    let reports = amount_at("reports", value)? as u64;
+    let kept = amount_at("kept", value)? as u64;
     if has_members(2, value) {
         Some(Done::Swept { reports, kept })
     } else {
@@ -143,8 +143,9 @@ fn done_in(value: &Value) -> Option<Done>
         .or(swept_of(value))
 }
 
-/// What was done, where an object has exactly the keys of one kind, and each field its form: numbers of at
-/// most 10^15, and 64 hexadecimal digits, none of them a capital letter.
+/// What was done, where an object has exactly the keys of one kind, and each field its form: ids and numbers of
+/// revisions of at most 10^15, counts of at most 4,294,967,295, and 64 hexadecimal digits, none of them a
+/// capital letter.
 pub fn read_done(value: &Value) -> Option<Done>
     ensures value { result ≡ done_of (view value.now) }
     ensures form { IfSome result spec.DoneHasForms }
