@@ -1,0 +1,3 @@
+mod OrderLaws
+mod PlaceLaws
+mod Places

@@ -1,0 +1,27 @@
+-- What a keeper tells of its rows, and what its calls do to them.
+use Rattle.std.specs.Prelude.{◌≡◌, ℕ, Bool, true, false, List, Option, None, Some, Result, IsErrOf}
+use Rattle.desk_io.specs.declared.rows.Row.{Row}
+use Rattle.desk_io.specs.declared.rows.Change.{Change}
+use Rattle.desk_io.specs.Rows.{Rows, rows_of, changed_by}
+use Rattle.keeper.specs.declared.keeping.KeepFault.{KeepFault}
+use Rattle.keeper.specs.declared.keeping.KeepFault.TheVariants.{Failed}
+
+-- the same body, or none, under every kind and key
+abbrev pub AreSame : Rows → Rows → Type 0
+AreSame rows others = (kind key : ℕ) → rows kind key ≡ others kind key
+
+-- the list has exactly the rows that are told
+abbrev pub Lists : Option Rows → List Row → Type 0
+Lists None list = Unit {0}
+Lists (Some rows) list = AreSame (rows_of list) rows
+
+-- The changes lead from the rows that were told to those that are. A keeper tells after them exactly where it told before.
+abbrev pub Leads : Option Rows → List Change → Option Rows → Type 0
+Leads None changes None = Unit {0}
+Leads (Some old) changes (Some new) = AreSame new (changed_by changes old)
+Leads _ _ _ = ⊥
+
+-- it fails where that is planned, and nowhere else
+abbrev pub Fails : {T : Type 0} → Bool → Result T KeepFault → Type 0
+Fails true r = IsErrOf r Failed
+Fails false r = IsErrOf r Failed → ⊥

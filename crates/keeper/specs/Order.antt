@@ -1,0 +1,51 @@
+-- Rows in order of kind and then of key, and changes of a list of rows in that order.
+use Rattle.std.specs.Prelude.{ℕ, zero, suc, ◌==◌, nat_lt, ◌&&◌, ◌||◌, Bool, true, false, if◌then◌else◌, List, [], ◌∷◌, Option, None, Some}
+use Rattle.std.specs.List.{cons_option}
+use Rattle.desk_io.specs.declared.rows.Row.{Row}
+use Rattle.desk_io.specs.declared.rows.Change.{Change}
+use Rattle.desk_io.specs.declared.rows.Change.TheVariants.{Put, Remove}
+use Rattle.desk_io.specs.Rows.{is_row}
+
+-- the first kind and key come before the second
+abbrev pub comes_before : ℕ → ℕ → ℕ → ℕ → Bool
+comes_before k q kind key = nat_lt k kind || ((k == kind) && nat_lt q key)
+
+-- the row comes before that kind and key
+abbrev pub is_below : ℕ → ℕ → Row → Bool
+is_below kind key row = comes_before row.kind row.key kind key
+
+-- the row at that place is of that kind and key
+abbrev pub stands_at : ℕ → ℕ → ℕ → List Row → Bool
+stands_at place kind key [] = false
+stands_at zero kind key (row ∷ rows) = is_row kind key row
+stands_at (suc place) kind key (row ∷ rows) = stands_at place kind key rows
+
+-- the first row comes before the next, and each before the one after it
+abbrev pub rises_from : Row → List Row → Bool
+rises_from row [] = true
+rises_from row (next ∷ rows) = is_below next.kind next.key row && rises_from next rows
+
+-- Each row comes before the next. So there is one row of a kind and a key at most.
+abbrev pub rising : List Row → Bool
+rising [] = true
+rising (row ∷ rows) = rises_from row rows
+
+abbrev pub put_here : Bool → Option Row → Row → List Row → List Row
+put_here true put row rows = cons_option put rows
+put_here false put row rows = cons_option put (row ∷ rows)
+
+-- In rows in order, what stands under a kind and a key: that row, or none. A row that stood there goes.
+abbrev pub put_at : ℕ → ℕ → Option Row → List Row → List Row
+put_at kind key put [] = cons_option put []
+put_at kind key put (row ∷ rows) =
+    if is_below kind key row then row ∷ put_at kind key put rows else put_here (is_row kind key row) put row rows
+
+-- the list of rows after a change
+abbrev pub list_changed : Change → List Row → List Row
+list_changed (Put row) rows = put_at row.kind row.key (Some row) rows
+list_changed (Remove kind key) rows = put_at kind key None rows
+
+-- the list of rows after changes, each in its turn
+abbrev pub list_changed_by : List Change → List Row → List Row
+list_changed_by [] rows = rows
+list_changed_by (change ∷ changes) rows = list_changed_by changes (list_changed change rows)

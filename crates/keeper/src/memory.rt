@@ -1,0 +1,98 @@
+ghost use Rattle.std.specs.Prelude.{◌≡◌, [], Some, IsTrue, IfOk, OnOk, OnErr, IsErrOf};
+ghost use Rattle.desk_io.specs.Causes.{HasCause};
+ghost use Rattle.desk_io.specs.Planned.{is_planned, after};
+ghost use Rattle.desk_io.specs.Rows.{rows_of};
+ghost use Rattle.keeper.specs.Order.{rising};
+ghost use Rattle.keeper.specs.Kept.{Lists, Leads, Fails};
+ghost use Rattle.keeper.specs.declared.keeping.KeepFault.TheVariants.{Failed as KeepFailed};
+
+use crate::order::{copied_changes, make_all};
+use crate::{KeepFault, Keeper};
+use desk_io::{Change, Row, copied_items};
+use std::alloc::Global;
+
+/// Rows in memory. Its commits are numbered from 0, and those in `fail` fail with nothing changed. With
+/// an empty `fail` it is sound. It may be loaded at any time, and again.
+#[derive(Drop)]
+pub struct MemoryKeeper {
+    rows: Vec<Row>,
+    fail: Vec<u64>,
+    calls: u64,
+    faults: u64,
+    ghost in_order: { IsTrue (rising rows.items) },
+}
+
+impl MemoryKeeper {
+    /// A keeper of rows in order of kind and then of key (`is_rising`). It takes no memory.
+    pub fn new(rows: Vec<Row>, fail: Vec<u64>) -> Self
+        requires { IsTrue (rising rows.items) }
+        ensures rows { result.rows.items ≡ rows.items }
+        ensures fail { result.fail.items ≡ fail.items }
+        ensures calls { result.calls ≡ 0 }
+        ensures faults { result.faults ≡ 0 }
+    {
+        MemoryKeeper {
+            rows,
+            fail,
+            calls: 0,
+            faults: 0,
+        }
+    }
+
+    /// The rows, in order of kind and then of key.
+    pub fn rows(&self) -> &[Row]
+        ensures rows { result.now ≡ self.now.rows.items }
+        ensures rising { IsTrue (rising result.now) }
+    {
+        &self.rows
+    }
+}
+
+impl Keeper for MemoryKeeper {
+    ghost told = { λ k. Some (rows_of k.rows.items) };
+
+    ghost fault_count = { λ k. k.faults };
+
+    ghost sound = { λ k. k.fail.items ≡ [] };
+
+    fn load(&mut self, alloc: Global) -> Result<Vec<Row>, KeepFault>
+        ensures rising { IfOk result (λ rows. IsTrue (rising rows.items)) }
+        ensures rows { IfOk result (λ rows. Lists (Some (rows_of self.old.rows.items)) rows.items) }
+        ensures same { Some (rows_of self.new.rows.items) ≡ Some (rows_of self.old.rows.items) }
+        ensures cause { HasCause KeepFailed self.old.faults self.new.faults result }
+        ensures sound { self.old.fail.items ≡ [] → (self.new.fail.items ≡ []) × (IsErrOf result KeepFailed → ⊥) × (self.new.faults ≡ self.old.faults) }
+        // Only memory can fail it, and nothing changes.
+        ensures value { IfOk result (λ rows. rows.items ≡ self.old.rows.items) }
+        ensures never { IsErrOf result KeepFailed → ⊥ }
+        ensures unchanged { self.new ≡ self.old }
+    {
+        Ok(copied_items(&self.rows, alloc)?)
+    }
+
+    fn commit(&mut self, alloc: Global, changes: &[Change]) -> Result<(), KeepFault>
+        ensures ok { OnOk result (Leads (Some (rows_of self.old.rows.items)) changes.now (Some (rows_of self.new.rows.items))) }
+        ensures err { OnErr result (Some (rows_of self.new.rows.items) ≡ Some (rows_of self.old.rows.items)) }
+        ensures cause { HasCause KeepFailed self.old.faults self.new.faults result }
+        ensures sound { self.old.fail.items ≡ [] → (self.new.fail.items ≡ []) × (IsErrOf result KeepFailed → ⊥) × (self.new.faults ≡ self.old.faults) }
+        // It fails exactly where its number is planned.
+        ensures planned { Fails (is_planned self.old.fail.items self.old.calls) result }
+        ensures kept { OnErr result (self.new.rows.items ≡ self.old.rows.items) }
+        ensures fail { self.new.fail.items ≡ self.old.fail.items }
+        ensures calls { self.new.calls ≡ after self.old.calls }
+    {
+        let call = self.calls;
+        self.calls = call.saturating_add(1);
+        if self.fail.contains(&call) {
+            self.faults = self.faults.saturating_add(1);
+            return Err(KeepFault::Failed);
+        }
+        let changes = copied_changes(changes, alloc)?;
+        self.rows.reserve(changes.len())?;
+        make_all(&mut self.rows, changes);
+        Ok(())
+    }
+
+    fn faults(&self) -> u64 {
+        self.faults
+    }
+}

@@ -1,0 +1,8 @@
+//! The desk's rows in one table of a file that sqlite3 reads.
+#![tactic(auto)]
+
+mod file;
+mod table;
+mod trouble;
+
+pub use file::{KeeperOver, SqliteKeeper};
