@@ -71,7 +71,9 @@ pub fn holds_with(
     other: &str,
     records: &[u8],
     test: fn(Global, &Tables) -> Result<bool, OutOfMemory>,
-) -> Result<bool, TableFault> {
+) -> Result<bool, TableFault>
+    requires { IsAlwaysCallable test }
+{
     let tables = tables_of(alloc, other, records)?;
     Ok(test(alloc, &tables)?)
 }
@@ -80,6 +82,8 @@ pub fn holds_with(
 pub fn holds(
     alloc: Global,
     test: fn(Global, &Tables) -> Result<bool, OutOfMemory>,
-) -> Result<bool, TableFault> {
+) -> Result<bool, TableFault>
+    requires { IsAlwaysCallable test }
+{
     holds_with(alloc, "routes.csv", b"", test)
 }
