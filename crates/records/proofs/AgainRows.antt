@@ -1,0 +1,87 @@
+-- The body of a valid record is read as that record.
+use Rattle.std.proofs.Common.{◌≡◌, ℕ, ◌≤◌, true, List, [], ◌∷◌, Some, refl, ap, ◌∙◌, arith, le-leb}
+use Rattle.std.specs.List.{AllByRecursion}
+use Rattle.std.proofs.lemmas.Slice.Eq.{bytes_eq-Decides}
+use Rattle.std.proofs.lemmas.Str.{is_utf8-from_IsUtf8}
+use Rattle.serde_json.specs.Data.{object}
+use Rattle.codes.specs.Groups.{groups_of, canonical}
+use Rattle.asks.specs.declared.kept.Floor.{Floor}
+use Rattle.plan.specs.Findings.{AreAmong}
+use Rattle.plan.specs.declared.findings.Finding.{Finding}
+use Rattle.plan_json.proofs.Again.{small_again, id_again, moment_again, done_again}
+use Rattle.plan_json.proofs.DigestLaws.{digest_again}
+use Rattle.release_json.proofs.FindingLaws.{findings_again}
+use Rattle.release_json.proofs.ReleaseLaws.{release_again}
+use Rattle.records.specs.Kinds.{kind_of, key_of}
+use Rattle.records.specs.Bodies.{floors_data, body_data}
+use Rattle.records.specs.Reading as spec
+use Rattle.records.specs.Valid.{IsFloor, AreRising, IsReport, IsRecord, is_report, are_among}
+use Rattle.records.specs.declared.record.KeptReport.{KeptReport}
+use Rattle.records.specs.declared.record.Record.{Record}
+use Rattle.records.specs.declared.record.Record.TheVariants.{Meta, Report, Deferral, Release, Kept, Alert}
+use Rattle.records.proofs.FloorLaws.{floors_in_turn, floors_again, rising_tested}
+use Rattle.records.proofs.NameLaws.{person_again, tail_again, item_again, text_lossy}
+
+-- ---- floors
+
+floors_read : (fs : List Floor) → AllByRecursion IsFloor fs → AreRising fs → spec.floors_of (floors_data fs) ≡ Some fs
+unfolding floors_data
+floors_read fs all rising =
+    ap (λ ms. spec.floors_of (object ms)) (floors_in_turn fs all rising) ∙ rw (floors_again fs all, rising_tested fs rising) refl
+
+-- ---- reports
+
+report_passes : (r : KeptReport) → IsReport r → is_report r ≡ true
+unfolding is_report
+report_passes r is = rw ((bytes_eq-Decides (canonical (groups_of r.text)) r.text).1 is.canonical, is.read) refl
+
+-- ---- alerts
+
+among_tested : (others fs : List Finding) → AreAmong others fs → are_among others fs ≡ true
+among_tested others [] all = refl
+among_tested others (f ∷ fs) all = rw (all.0, among_tested others fs all.1) refl
+
+version_again : (version : ℕ) → 1 ≤ version → spec.from_one version ≡ Some version
+version_again version first = rw (le-leb 1 version first) refl
+
+-- ---- records
+
+in_again : (r : Record) → IsRecord r → spec.record_in (kind_of r) (key_of r) (body_data r) ≡ Some r
+unfolding body_data IsRecord spec.floors_at spec.numbers_at spec.stamp_of spec.opening_of
+in_again (Meta m) is =
+    rw (
+      moment_again m.moment is.moment,
+      id_again m.events is.events,
+      id_again m.next_report is.next_report,
+      id_again m.next_deferral is.next_deferral,
+      id_again m.next_release is.next_release,
+      id_again m.next_kept is.next_kept,
+      floors_read m.floors is.floors is.rising,
+    ) refl
+in_again (Report r) is = rw (moment_again r.received is.received, text_lossy r.text is.text, is_utf8-from_IsUtf8 r.text is.text, report_passes r is) refl
+in_again (Deferral d) is = rw (moment_again d.found is.found, item_again d.item is.item, tail_again d.tail is.tail) refl
+in_again (Release r) is = rw (release_again r is.1) refl
+in_again (Kept k) is =
+    rw (moment_again k.at is.at, digest_again k.digest is.digest, small_again k.number 1_000_000_000_000 is.number, done_again k.done is.done, person_again k.actor is.actor) refl
+in_again (Alert a) is =
+    rw (
+      moment_again a.opened is.opened,
+      id_again a.version is.version,
+      version_again a.version is.first,
+      findings_again a.failing is.failing.order is.failing.forms,
+      findings_again a.ever is.ever.order is.ever.forms,
+      among_tested a.ever a.failing is.among,
+    ) refl
+
+key_small : (r : Record) → IsRecord r → key_of r ≤ 1_000_000_000_000_000
+unfolding IsRecord
+key_small (Meta m) is = omega arith
+key_small (Report r) is = is.id
+key_small (Deferral d) is = is.id
+key_small (Release r) is = is.0
+key_small (Kept k) is = is.id
+key_small (Alert a) is = is.release
+
+pub record_again : (r : Record) → IsRecord r → spec.record_of (kind_of r) (key_of r) (body_data r) ≡ Some r
+unfolding spec.record_of
+record_again r is = rw (id_again (key_of r) (key_small r is)) (in_again r is)

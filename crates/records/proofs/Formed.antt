@@ -1,0 +1,301 @@
+-- A record that is read is valid.
+use Rattle.std.proofs.Common.{◌≡◌, ℕ, ◌≤◌, true, nat_le, List, [], ◌∷◌, Option, None, Some, IfSome, IsUtf8, codes, sym, subst, is_ok}
+use Rattle.std.specs.Prelude.{◌==◌, option_and_then}
+use Rattle.std.specs.List.{AllByRecursion}
+use Rattle.std.specs.Option.{option_map, option_or}
+use Rattle.std.specs.Str.{bytes_eq, is_utf8}
+use Rattle.std.proofs.lemmas.Bool.{and_parts, leb-true}
+use Rattle.std.proofs.lemmas.Slice.Eq.{bytes_eq-Decides}
+use Rattle.std.proofs.lemmas.Str.{IsUtf8-from_is_utf8}
+use Rattle.serde_json.specs.Data.{Data, Items, Members, no_members, member}
+use Rattle.serde_json.specs.Find.{get, as_number, as_str, as_u64, as_object}
+use Rattle.codes.specs.Groups.{groups_of, canonical}
+use Rattle.ops_tables.specs.Forms.{is_tail, is_item, is_person}
+use Rattle.facts.specs.Reading.{read_of}
+use Rattle.plan.specs.Findings.{AreAmong, is_among}
+use Rattle.plan.specs.Texts.{IsMoment}
+use Rattle.plan.specs.declared.findings.Finding.{Finding}
+use Rattle.asks.specs.declared.kept.Floor.{Floor}
+use Rattle.plan_json.specs.Canonical.{IsId, DoneHasForms}
+use Rattle.plan_json.specs.Digests.{digest_of, digest_at, IsDigest}
+use Rattle.plan_json.specs.Dones.{report_of as done_report, deferral_of as done_deferral, filed_of, prepared_of, release_of as done_release, done_of}
+use Rattle.plan_json.specs.Fields.{text_at, up_to, number_at, id_at, moment_at, list_at, each_read, has_members}
+use Rattle.plan_json.proofs.DigestLaws.{digest_formed}
+use Rattle.plan_json.proofs.Chains.{bind_if, bind_any, then_if, under, either}
+use Rattle.plan_json.proofs.PlanForms.{id_formed, moment_formed, each_formed}
+use Rattle.release_json.specs.Findings.{finding_of, finding_in, are_in_order, findings_of, IsFinding}
+use Rattle.release_json.proofs.FindingLaws.{finding_formed, order_tested}
+use Rattle.release_json.specs.Kept.{IsKept}
+use Rattle.release_json.specs.Releases.{bool_at, person, person_at, release_of}
+use Rattle.release_json.proofs.ReleaseForms.{release_kept, release_named}
+use Rattle.records.specs.Reading as read
+use Rattle.records.specs.Valid.{IsRequest, IsFloor, AreRising, IsMeta, IsReport, IsDeferral, IsKeptReply, AreFindings, IsKeptAlert, IsRecord, are_rising, is_report, are_among}
+use Rattle.records.specs.declared.alert_rows.Opening.{Opening}
+use Rattle.records.specs.declared.kept_rows.Stamp.{Stamp}
+use Rattle.records.specs.declared.meta_rows.Numbers.{Numbers}
+use Rattle.records.specs.declared.record.KeptReport.{KeptReport}
+use Rattle.records.specs.declared.record.Record.TheVariants.{Meta, Report, Deferral, Release, Kept, Alert}
+use Rattle.records.proofs.FloorLaws.{rising_from_test}
+
+-- ---- fields
+
+small_formed : (limit : ℕ) (o : Option ℕ) → IfSome (option_and_then (up_to limit) o) (λ n. n ≤ limit)
+small_formed limit o = then_if (up_to limit) o (λ n. n ≤ limit) (λ n. under (nat_le n limit) (Some n) (λ n. n ≤ limit) (leb-true n limit))
+
+abbrev IsPerson : List ℕ → Type 0
+IsPerson t = is_person t ≡ true
+
+person_formed : (t : List ℕ) → IfSome (person t) IsPerson
+person_formed t = under (is_person t) (Some t) IsPerson (λ is. is)
+
+person_at_formed : (key : List ℕ) (d : Data) → IfSome (person_at key d) IsPerson
+person_at_formed key d = then_if person (text_at key d) IsPerson person_formed
+
+abbrev IsTail : List ℕ → Type 0
+IsTail t = is_tail t ≡ true
+
+tail_formed : (d : Data) → IfSome (option_and_then read.tail (text_at (codes "tail") d)) IsTail
+tail_formed d = then_if read.tail (text_at (codes "tail") d) IsTail (λ t. under (is_tail t) (Some t) IsTail (λ is. is))
+
+abbrev IsItem : List ℕ → Type 0
+IsItem t = is_item t ≡ true
+
+item_formed : (d : Data) → IfSome (option_and_then read.item (text_at (codes "item") d)) IsItem
+item_formed d = then_if read.item (text_at (codes "item") d) IsItem (λ t. under (is_item t) (Some t) IsItem (λ is. is))
+
+-- ---- the meta row
+
+floor_formed : (key : List ℕ) (d : Data) → IfSome (read.floor_of key d) IsFloor
+floor_formed key d =
+    bind_if (person key) _ IsPerson IsFloor (person_formed key) (λ actor is.
+    bind_if (read.request_in d) _ IsRequest IsFloor (small_formed 1_000_000_000_000 (option_and_then as_u64 (as_number d))) (λ number few. record { actor = is; number = few }))
+
+floors_formed : (ms : Members) → IfSome (read.floors_in ms) (AllByRecursion IsFloor)
+floors_formed no_members = tt
+floors_formed (member key d ms) =
+    bind_if (read.floor_of key d) _ IsFloor (AllByRecursion IsFloor) (floor_formed key d) (λ f is.
+    bind_if (read.floors_in ms) _ (AllByRecursion IsFloor) (AllByRecursion IsFloor) (floors_formed ms) (λ fs all. (is, all)))
+
+record AreFloors (floors : List Floor) : Type 0 where
+  forms : AllByRecursion IsFloor floors
+  rising : AreRising floors
+
+floors_of_formed : (d : Data) → IfSome (read.floors_of d) AreFloors
+floors_of_formed d =
+    bind_any (as_object d) _ AreFloors (λ ms.
+    bind_if (read.floors_in ms) _ (AllByRecursion IsFloor) AreFloors (floors_formed ms) (λ floors all.
+    under (are_rising floors) (Some floors) AreFloors (λ is. record { forms = all; rising = rising_from_test floors is })))
+
+floors_at_formed : (d : Data) → IfSome (read.floors_at d) AreFloors
+unfolding read.floors_at
+floors_at_formed d = then_if read.floors_of (get (codes "floors") d) AreFloors floors_of_formed
+
+record AreNumbers (n : Numbers) : Type 0 where
+  events : IsId n.events
+  next_report : IsId n.next_report
+  next_deferral : IsId n.next_deferral
+  next_release : IsId n.next_release
+  next_kept : IsId n.next_kept
+
+numbers_formed : (d : Data) → IfSome (read.numbers_at d) AreNumbers
+unfolding read.numbers_at
+numbers_formed d =
+    bind_if (id_at (codes "events") d) _ IsId AreNumbers (id_formed (codes "events") d) (λ events one.
+    bind_if (id_at (codes "next_report") d) _ IsId AreNumbers (id_formed (codes "next_report") d) (λ next_report two.
+    bind_if (id_at (codes "next_deferral") d) _ IsId AreNumbers (id_formed (codes "next_deferral") d) (λ next_deferral three.
+    bind_if (id_at (codes "next_release") d) _ IsId AreNumbers (id_formed (codes "next_release") d) (λ next_release four.
+    bind_if (id_at (codes "next_kept") d) _ IsId AreNumbers (id_formed (codes "next_kept") d) (λ next_kept five.
+    record { events = one; next_report = two; next_deferral = three; next_release = four; next_kept = five })))))
+
+meta_formed : (key : ℕ) (d : Data) → IfSome (read.meta_in key d) IsMeta
+meta_formed key d =
+    under (key == 0) (read.meta_of d) IsMeta (λ nought.
+    bind_if (moment_at (codes "now") d) _ IsMoment IsMeta (moment_formed (codes "now") d) (λ moment at.
+    bind_if (read.numbers_at d) _ AreNumbers IsMeta (numbers_formed d) (λ n are.
+    bind_if (read.floors_at d) _ AreFloors IsMeta (floors_at_formed d) (λ floors good.
+    under (read.is_meta d) _ IsMeta (λ is. record {
+      moment = at;
+      events = are.events;
+      next_report = are.next_report;
+      next_deferral = are.next_deferral;
+      next_release = are.next_release;
+      next_kept = are.next_kept;
+      floors = good.forms;
+      rising = good.rising;
+    })))))
+
+-- ---- reports and deferrals
+
+report_tested : (r : KeptReport) → IsId r.id → IsMoment r.received → IsUtf8 r.text → is_report r ≡ true → IsReport r
+unfolding is_report
+report_tested r id at utf8 is =
+    let parts = and_parts (bytes_eq (canonical (groups_of r.text)) r.text) (is_ok (read_of r.text r.received)) is in
+    record { id = id; received = at; text = utf8; canonical = (bytes_eq-Decides (canonical (groups_of r.text)) r.text).0 parts.0; read = parts.1 }
+
+report_formed : (id : ℕ) (d : Data) → IsId id → IfSome (read.report_of id d) IsReport
+report_formed id d few =
+    bind_if (moment_at (codes "received") d) _ IsMoment IsReport (moment_formed (codes "received") d) (λ received at.
+    bind_any (text_at (codes "text") d) _ IsReport (λ text.
+    under (has_members 2 d) _ IsReport (λ exact.
+    under (is_utf8 text) _ IsReport (λ good.
+    under (is_report (read.report_with id received text)) (Some (read.report_with id received text)) IsReport (report_tested (read.report_with id received text) few at (IsUtf8-from_is_utf8 text good))))))
+
+deferral_formed : (id : ℕ) (d : Data) → IsId id → IfSome (read.deferral_of id d) IsDeferral
+deferral_formed id d few =
+    bind_if (moment_at (codes "found") d) _ IsMoment IsDeferral (moment_formed (codes "found") d) (λ found at.
+    bind_if (option_and_then read.item (text_at (codes "item") d)) _ IsItem IsDeferral (item_formed d) (λ item one.
+    bind_if (option_and_then read.tail (text_at (codes "tail") d)) _ IsTail IsDeferral (tail_formed d) (λ tail two.
+    under (has_members 3 d) _ IsDeferral (λ exact. record { id = few; tail = two; item = one; found = at }))))
+
+-- ---- kept replies
+
+digest_at_formed : (key : List ℕ) (d : Data) → IfSome (digest_at key d) IsDigest
+digest_at_formed key d = then_if digest_of (text_at key d) IsDigest digest_formed
+
+one_or : {A : Type 0} (o p : Option A) (Q : A → Type 0) → IfSome o Q → IfSome p Q → IfSome (option_or o p) Q
+one_or None p Q one two = two
+one_or (Some x) p Q one two = one
+
+done_report_formed : (d : Data) → IfSome (done_report d) DoneHasForms
+done_report_formed d = bind_if (id_at (codes "report") d) _ IsId DoneHasForms (id_formed (codes "report") d) (λ id few. under (has_members 1 d) _ DoneHasForms (λ exact. few))
+
+done_deferral_formed : (d : Data) → IfSome (done_deferral d) DoneHasForms
+done_deferral_formed d = bind_if (id_at (codes "deferral") d) _ IsId DoneHasForms (id_formed (codes "deferral") d) (λ id few. under (has_members 1 d) _ DoneHasForms (λ exact. few))
+
+filed_formed : (d : Data) → IfSome (filed_of d) DoneHasForms
+filed_formed d =
+    bind_if (id_at (codes "release") d) _ IsId DoneHasForms (id_formed (codes "release") d) (λ release one.
+    bind_if (id_at (codes "revision") d) _ IsId DoneHasForms (id_formed (codes "revision") d) (λ revision two. under (has_members 2 d) _ DoneHasForms (λ exact. (one, two))))
+
+prepared_formed : (d : Data) → IfSome (prepared_of d) DoneHasForms
+prepared_formed d =
+    bind_if (id_at (codes "release") d) _ IsId DoneHasForms (id_formed (codes "release") d) (λ release one.
+    bind_if (id_at (codes "revision") d) _ IsId DoneHasForms (id_formed (codes "revision") d) (λ revision two.
+    bind_if (digest_at (codes "digest") d) _ IsDigest DoneHasForms (digest_at_formed (codes "digest") d) (λ digest three. under (has_members 3 d) _ DoneHasForms (λ exact. (one, two, three)))))
+
+done_release_formed : (d : Data) → IfSome (done_release d) DoneHasForms
+done_release_formed d = bind_if (id_at (codes "release") d) _ IsId DoneHasForms (id_formed (codes "release") d) (λ id few. under (has_members 1 d) _ DoneHasForms (λ exact. few))
+
+done_formed : (d : Data) → IfSome (done_of d) DoneHasForms
+unfolding done_of
+done_formed d =
+    one_or _ (done_release d) DoneHasForms
+    (one_or _ (prepared_of d) DoneHasForms
+    (one_or _ (filed_of d) DoneHasForms (one_or _ (done_deferral d) DoneHasForms (done_report_formed d) (done_deferral_formed d)) (filed_formed d)) (prepared_formed d))
+    (done_release_formed d)
+
+reply_formed : (d : Data) → IfSome (read.reply_of d) DoneHasForms
+reply_formed d =
+    bind_if (option_and_then done_of (get (codes "done") d)) _ DoneHasForms DoneHasForms (then_if done_of (get (codes "done") d) DoneHasForms done_formed) (λ done has.
+    under (has_members 1 d) (Some done) DoneHasForms (λ exact. has))
+
+done_at_formed : (d : Data) → IfSome (read.done_at d) DoneHasForms
+done_at_formed d = then_if read.reply_of (get (codes "reply") d) DoneHasForms reply_formed
+
+record IsStamp (s : Stamp) : Type 0 where
+  at : IsMoment s.at
+  digest : IsDigest s.digest
+  number : IsRequest s.number
+  done : DoneHasForms s.done
+
+stamp_formed : (d : Data) → IfSome (read.stamp_of d) IsStamp
+unfolding read.stamp_of
+stamp_formed d =
+    bind_if (moment_at (codes "at") d) _ IsMoment IsStamp (moment_formed (codes "at") d) (λ at one.
+    bind_if (digest_at (codes "digest") d) _ IsDigest IsStamp (digest_at_formed (codes "digest") d) (λ digest two.
+    bind_if (number_at (codes "number") 1_000_000_000_000 d) _ IsRequest IsStamp (small_formed 1_000_000_000_000 (option_and_then as_u64 (option_and_then as_number (get (codes "number") d)))) (λ number three.
+    bind_if (read.done_at d) _ DoneHasForms IsStamp (done_at_formed d) (λ done four.
+    under (has_members 5 d) _ IsStamp (λ exact. record { at = one; digest = two; number = three; done = four })))))
+
+kept_formed : (id : ℕ) (d : Data) → IsId id → IfSome (read.kept_of id d) IsKeptReply
+kept_formed id d few =
+    bind_if (read.stamp_of d) _ IsStamp IsKeptReply (stamp_formed d) (λ s is.
+    bind_if (person_at (codes "actor") d) _ IsPerson IsKeptReply (person_at_formed (codes "actor") d) (λ actor person.
+    record { id = few; actor = person; number = is.number; digest = is.digest; at = is.at; done = is.done }))
+
+-- ---- alerts
+
+record IsOpening (o : Opening) : Type 0 where
+  opened : IsMoment o.opened
+  version : IsId o.version
+  first : 1 ≤ o.version
+
+record IsVersion (version : ℕ) : Type 0 where
+  few : IsId version
+  first : 1 ≤ version
+
+version_formed : (o : Option ℕ) → IfSome o IsId → IfSome (option_and_then read.from_one o) IsVersion
+version_formed None few = tt
+version_formed (Some version) few = under (nat_le 1 version) (Some version) IsVersion (λ is. record { few = few; first = leb-true 1 version is })
+
+opening_formed : (d : Data) → IfSome (read.opening_of d) IsOpening
+unfolding read.opening_of
+opening_formed d =
+    bind_any (bool_at (codes "acknowledged") d) _ IsOpening (λ acknowledged.
+    bind_if (moment_at (codes "opened") d) _ IsMoment IsOpening (moment_formed (codes "opened") d) (λ opened at.
+    bind_if (option_and_then read.from_one (id_at (codes "version") d)) _ IsVersion IsOpening (version_formed (id_at (codes "version") d) (id_formed (codes "version") d)) (λ version is.
+    under (has_members 5 d) _ IsOpening (λ exact. record { opened = at; version = is.few; first = is.first }))))
+
+finding_in_formed : (d : Data) → IfSome (finding_in d) IsFinding
+finding_in_formed d = then_if finding_of (as_str d) IsFinding finding_formed
+
+findings_formed : (ds : Items) → IfSome (findings_of ds) AreFindings
+unfolding findings_of
+findings_formed ds =
+    bind_if (each_read finding_in ds) _ (AllByRecursion IsFinding) AreFindings (each_formed IsFinding finding_in finding_in_formed ds) (λ fs all.
+    under (are_in_order fs) (Some fs) AreFindings (λ is. record { forms = all; order = (order_tested fs).0 is }))
+
+findings_at_formed : (key : List ℕ) (d : Data) → IfSome (read.findings_at key d) AreFindings
+findings_at_formed key d = then_if findings_of (list_at key d) AreFindings findings_formed
+
+among_from_test : (others fs : List Finding) → are_among others fs ≡ true → AreAmong others fs
+among_from_test others [] is = tt
+among_from_test others (f ∷ fs) is =
+    let parts = and_parts (is_among others f) (are_among others fs) is in
+    (parts.0, among_from_test others fs parts.1)
+
+alert_formed : (id : ℕ) (d : Data) → IsId id → IfSome (read.alert_of id d) IsKeptAlert
+alert_formed id d few =
+    bind_if (read.opening_of d) _ IsOpening IsKeptAlert (opening_formed d) (λ o is.
+    bind_if (read.findings_at (codes "failing") d) _ AreFindings IsKeptAlert (findings_at_formed (codes "failing") d) (λ failing one.
+    bind_if (read.findings_at (codes "ever") d) _ AreFindings IsKeptAlert (findings_at_formed (codes "ever") d) (λ ever two.
+    under (are_among ever failing) _ IsKeptAlert (λ among. record {
+      release = few;
+      version = is.version;
+      first = is.first;
+      opened = is.opened;
+      failing = one;
+      ever = two;
+      among = among_from_test ever failing among;
+    }))))
+
+-- ---- records
+
+mapped : {A B : Type 0} (f : A → B) (o : Option A) (P : A → Type 0) (Q : B → Type 0) → IfSome o P → ((x : A) → P x → Q (f x)) → IfSome (option_map f o) Q
+mapped f None P Q held next = tt
+mapped f (Some x) P Q held next = next x held
+
+both_held : {A : Type 0} (o : Option A) (P Q : A → Type 0) → IfSome o P → IfSome o Q → IfSome o (λ x. P x × Q x)
+both_held None P Q one two = tt
+both_held (Some x) P Q one two = (one, two)
+
+release_formed : (id : ℕ) (d : Data) → IsId id → IfSome (option_map Release (release_of id d)) IsRecord
+unfolding IsRecord
+release_formed id d few =
+    mapped Release (release_of id d) (λ r. IsKept r × (r.id ≡ id)) IsRecord (both_held (release_of id d) IsKept (λ r. r.id ≡ id) (release_kept id d) (release_named id d)) (λ r held.
+    (subst IsId (sym held.1) few, held.0))
+
+in_formed : (kind id : ℕ) (d : Data) → IsId id → IfSome (read.record_in kind id d) IsRecord
+unfolding IsRecord
+in_formed kind id d few =
+    either (kind == 0) _ _ IsRecord (mapped Meta (read.meta_in id d) IsMeta IsRecord (meta_formed id d) (λ m is. is))
+    (either (kind == 1) _ _ IsRecord (mapped Report (read.report_of id d) IsReport IsRecord (report_formed id d few) (λ r is. is))
+    (either (kind == 2) _ _ IsRecord (mapped Deferral (read.deferral_of id d) IsDeferral IsRecord (deferral_formed id d few) (λ f is. is))
+    (either (kind == 3) _ _ IsRecord (release_formed id d few)
+    (either (kind == 4) _ _ IsRecord (mapped Kept (read.kept_of id d) IsKeptReply IsRecord (kept_formed id d few) (λ k is. is))
+    (either (kind == 5) _ _ IsRecord (mapped Alert (read.alert_of id d) IsKeptAlert IsRecord (alert_formed id d few) (λ a is. is)) tt)))))
+
+pub record_formed : (kind key : ℕ) (d : Data) → IfSome (read.record_of kind key d) IsRecord
+unfolding read.record_of
+record_formed kind key d =
+    bind_if (up_to 1_000_000_000_000_000 key) _ IsId IsRecord (under (nat_le key 1_000_000_000_000_000) (Some key) IsId (leb-true key 1_000_000_000_000_000)) (λ id few. in_formed kind id d few)

@@ -1,0 +1,80 @@
+-- The body of a valid record is plain data.
+use Rattle.std.proofs.Common.{ℕ, ◌^◌, ◌<◌, ◌≤◌, List, refl, sym, arith, subst}
+use Rattle.std.specs.List.{AllByRecursion}
+use Rattle.serde_json.specs.Data.{object, depth}
+use Rattle.asks.specs.declared.kept.Floor.{Floor}
+use Rattle.plan_json.specs.Canonical.{IsId}
+use Rattle.plan_json.specs.Plain.{IsPlain, HasText}
+use Rattle.plan_json.proofs.Plain.{order_of, text_of, done_plain, done_has_text, done_depth}
+use Rattle.plan_json.proofs.Texts.{written_utf8, digest_utf8}
+use Rattle.release_json.proofs.PlainLaws.{release_plain, release_has_text, release_depth, findings_plain, findings_have_text, findings_depth}
+use Rattle.records.specs.Bodies.{floors_data, meta_members, report_members, deferral_members, reply_members, kept_members, alert_members, body_data}
+use Rattle.records.specs.Valid.{IsFloor, AreRising, IsRecord}
+use Rattle.records.specs.declared.record.Record.{Record}
+use Rattle.records.specs.declared.record.Record.TheVariants.{Meta, Report, Deferral, Release, Kept, Alert}
+use Rattle.records.proofs.FloorLaws.{floors_in_turn, turn_order, turn_plain, turn_has_text, turn_depth}
+
+id_plain : (n : ℕ) → IsId n → n < 2 ^ 64
+id_plain n few = omega arith
+
+-- ---- floors
+
+floors_plain : (fs : List Floor) → AllByRecursion IsFloor fs → AreRising fs → IsPlain (floors_data fs)
+unfolding floors_data
+floors_plain fs all rising = subst (λ ms. IsPlain (object ms)) (sym (floors_in_turn fs all rising)) (turn_order fs rising, turn_plain fs all)
+
+floors_have_text : (fs : List Floor) → AllByRecursion IsFloor fs → AreRising fs → HasText (floors_data fs)
+unfolding floors_data
+floors_have_text fs all rising = subst (λ ms. HasText (object ms)) (sym (floors_in_turn fs all rising)) (turn_has_text fs all)
+
+floors_depth : (fs : List Floor) → AllByRecursion IsFloor fs → AreRising fs → depth (floors_data fs) ≤ 1
+unfolding floors_data
+floors_depth fs all rising = subst (λ ms. depth (object ms) ≤ 1) (sym (floors_in_turn fs all rising)) (let flat = turn_depth fs in omega arith)
+
+-- ---- bodies
+
+pub body_plain : (r : Record) → IsRecord r → IsPlain (body_data r)
+unfolding body_data IsRecord
+body_plain (Meta m) is = (
+  order_of (meta_members m) refl,
+  (
+    id_plain m.events is.events,
+    (
+      floors_plain m.floors is.floors is.rising,
+      (id_plain m.next_deferral is.next_deferral, (id_plain m.next_kept is.next_kept, (id_plain m.next_release is.next_release, (id_plain m.next_report is.next_report, (tt, ((omega arith), tt)))))),
+    ),
+  ),
+)
+body_plain (Report r) is = (order_of (report_members r) refl, (tt, (tt, tt)))
+body_plain (Deferral d) is = (order_of (deferral_members d) refl, (tt, (tt, (tt, tt))))
+body_plain (Release r) is = release_plain r is.1.formed
+body_plain (Kept k) is = (
+  order_of (kept_members k) refl,
+  (tt, (tt, (tt, ((let few = is.number in omega arith), ((order_of (reply_members k) refl, (done_plain k.done is.done, tt)), tt))))),
+)
+body_plain (Alert a) is = (
+  order_of (alert_members a) refl,
+  (tt, (findings_plain a.ever, (findings_plain a.failing, (tt, (id_plain a.version is.version, tt))))),
+)
+
+pub body_has_text : (r : Record) → IsRecord r → HasText (body_data r)
+unfolding body_data IsRecord
+body_has_text (Meta m) is = text_of (meta_members m) refl (tt, (floors_have_text m.floors is.floors is.rising, (tt, (tt, (tt, (tt, (written_utf8 _, (tt, tt))))))))
+body_has_text (Report r) is = text_of (report_members r) refl (written_utf8 _, (written_utf8 r.text, tt))
+body_has_text (Deferral d) is = text_of (deferral_members d) refl (written_utf8 _, (written_utf8 d.item, (written_utf8 d.tail, tt)))
+body_has_text (Release r) is = release_has_text r is.1.formed
+body_has_text (Kept k) is =
+    text_of (kept_members k) refl (written_utf8 k.actor, (written_utf8 _, (digest_utf8 k.digest is.digest, (tt, (text_of (reply_members k) refl (done_has_text k.done is.done, tt), tt)))))
+body_has_text (Alert a) is = text_of (alert_members a) refl (tt, (findings_have_text a.ever, (findings_have_text a.failing, (written_utf8 _, (tt, tt)))))
+
+pub body_depth : (r : Record) → IsRecord r → depth (body_data r) ≤ 7
+unfolding body_data IsRecord
+body_depth (Meta m) is = let floors = floors_depth m.floors is.floors is.rising in omega (arith, floors)
+body_depth (Report r) is = omega arith
+body_depth (Deferral d) is = omega arith
+body_depth (Release r) is = release_depth r
+body_depth (Kept k) is = let done = done_depth k.done in omega (arith, done)
+body_depth (Alert a) is =
+    let ever = findings_depth a.ever in
+    let failing = findings_depth a.failing in
+    omega (arith, ever, failing)

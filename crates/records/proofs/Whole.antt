@@ -1,0 +1,66 @@
+-- No body has a number with a fraction.
+use Rattle.std.proofs.Common.{◌≡◌, ℕ, Bool, true, false, ◌||◌, List, [], ◌∷◌, Option, None, Some, refl, ap, ◌∙◌, nat_cmp, Ordering, Less, Equal, Greater}
+use Rattle.std.specs.Ordering.{match_ordering}
+use Rattle.std.specs.Cmp.Lexicographic.{slice_cmp}
+use Rattle.std.specs.Str.Lossy.{utf8_lossy}
+use Rattle.serde_json.specs.Data.{Data, Members, no_members, member, put}
+use Rattle.serde_json.specs.Written.{has_float, members_have_float}
+use Rattle.asks.specs.declared.kept.Floor.{Floor}
+use Rattle.plan.specs.declared.release.Attached.{Attached}
+use Rattle.plan.specs.declared.release.Release.{Release as ReleaseOf}
+use Rattle.plan.specs.declared.release.Revision.{Revision}
+use Rattle.plan.specs.declared.release.Signature.{Signature}
+use Rattle.plan_json.specs.Canonical.{count}
+use Rattle.plan_json.proofs.Whole.{list_whole, plan_whole, done_whole}
+use Rattle.release_json.specs.Findings.{finding_data}
+use Rattle.release_json.specs.Rows.{signature_data, attached_data, revision_data, release_data}
+use Rattle.records.specs.Bodies.{with_floors, floors_data, body_data}
+use Rattle.records.specs.declared.record.Record.{Record}
+use Rattle.records.specs.declared.record.Record.TheVariants.{Meta, Report, Deferral, Release, Kept, Alert}
+
+both_false : (a b : Bool) → a || b ≡ false → (a ≡ false) × (b ≡ false)
+both_false true b e = absurd cc
+both_false false b e = (refl, e)
+
+put_whole : (k : List ℕ) (d : Data) (ms : Members) → has_float d ≡ false → members_have_float ms ≡ false → members_have_float (put k d ms) ≡ false
+put_whole k d no_members e f = rw e refl
+put_whole k d (member l x ms) e f = by (slice_cmp nat_cmp k l) (both_false (has_float x) (members_have_float ms) f) (put_whole k d ms e)
+  where
+    by : (o : Ordering) → (has_float x ≡ false) × (members_have_float ms ≡ false) → (members_have_float ms ≡ false → members_have_float (put k d ms) ≡ false)
+        → members_have_float (match_ordering o (member k d (member l x ms)) (member l d ms) (member l x (put k d ms))) ≡ false
+    by Less two rest = rw (e, two.0) two.1
+    by Equal two rest = rw e two.1
+    by Greater two rest = rw two.0 (rest two.1)
+
+floors_whole : (ms : Members) (fs : List Floor) → members_have_float ms ≡ false → members_have_float (with_floors ms fs) ≡ false
+floors_whole ms [] e = e
+floors_whole ms (f ∷ fs) e = floors_whole (put (utf8_lossy f.actor) (count f.number) ms) fs (put_whole (utf8_lossy f.actor) (count f.number) ms refl e)
+
+signature_whole : (s : Option Signature) → has_float (signature_data s) ≡ false
+unfolding signature_data
+signature_whole None = refl
+signature_whole (Some s) = refl
+
+attached_whole : (a : Attached) → has_float (attached_data a) ≡ false
+attached_whole a = refl
+
+revision_whole : (v : Option Revision) → has_float (revision_data v) ≡ false
+unfolding revision_data
+revision_whole None = refl
+revision_whole (Some v) = rw (list_whole attached_data attached_whole v.attached, signature_whole v.captain, signature_whole v.dispatcher, plan_whole v.plan) refl
+
+release_whole : (r : ReleaseOf) → has_float (release_data r) ≡ false
+unfolding release_data
+release_whole r = rw (revision_whole r.active, revision_whole r.pending) refl
+
+body_whole : (r : Record) → has_float (body_data r) ≡ false
+unfolding body_data floors_data
+body_whole (Meta m) = rw (floors_whole no_members m.floors refl) refl
+body_whole (Report r) = refl
+body_whole (Deferral d) = refl
+body_whole (Release r) = release_whole r
+body_whole (Kept k) = rw (done_whole k.done) refl
+body_whole (Alert a) = rw (list_whole finding_data (λ f. refl) a.ever, list_whole finding_data (λ f. refl) a.failing) refl
+
+pub body_is_whole : (r : Record) (d : Data) → d ≡ body_data r → has_float d ≡ false
+body_is_whole r d is = ap has_float is ∙ body_whole r

@@ -1,0 +1,89 @@
+-- Records as rows. A body is canonical JSON: no blank, each key in its place in byte order.
+use Rattle.std.specs.Prelude.{List, [], ◌∷◌, codes}
+use Rattle.std.specs.Str.Lossy.{utf8_lossy}
+use Rattle.serde_json.specs.Data.{Data, boolean, object, Members, member, no_members, put}
+use Rattle.serde_json.specs.Written.{compact_text}
+use Rattle.asks.specs.declared.kept.Floor.{Floor}
+use Rattle.asks.specs.declared.kept.KeptReply.{KeptReply}
+use Rattle.deferrals.specs.declared.items.Deferral.{Deferral as DeferralOf}
+use Rattle.desk_io.specs.declared.rows.Row.{Row}
+use Rattle.plan.specs.Texts.{IsMoment}
+use Rattle.plan_json.specs.Canonical.{count, text_data, moment_data, done_data}
+use Rattle.plan_json.specs.Digests.{digest_data}
+use Rattle.release_json.specs.Findings.{findings_data}
+use Rattle.release_json.specs.Rows.{release_data, ReleaseHasMoments}
+use Rattle.records.specs.Kinds.{kind_of, key_of}
+use Rattle.records.specs.declared.record.KeptAlert.{KeptAlert}
+use Rattle.records.specs.declared.record.KeptReport.{KeptReport}
+use Rattle.records.specs.declared.record.Meta.{Meta as Counters}
+use Rattle.records.specs.declared.record.Record.{Record}
+use Rattle.records.specs.declared.record.Record.TheVariants.{Meta, Report, Deferral, Release, Kept, Alert}
+
+-- Some members, and the number of each person under his name, where it belongs in byte order.
+abbrev pub with_floors : Members → List Floor → Members
+with_floors ms [] = ms
+with_floors ms (f ∷ fs) = with_floors (put (utf8_lossy f.actor) (count f.number) ms) fs
+
+-- an object from persons to numbers
+unfoldable pub floors_data : List Floor → Data
+floors_data floors = object (with_floors no_members floors)
+
+abbrev pub meta_members : Counters → Members
+meta_members m =
+    member (codes "events") (count m.events)
+    (member (codes "floors") (floors_data m.floors)
+    (member (codes "next_deferral") (count m.next_deferral)
+    (member (codes "next_kept") (count m.next_kept)
+    (member (codes "next_release") (count m.next_release)
+    (member (codes "next_report") (count m.next_report)
+    (member (codes "now") (moment_data m.moment)
+    (member (codes "version") (count 1) no_members)))))))
+
+abbrev pub report_members : KeptReport → Members
+report_members r = member (codes "received") (moment_data r.received) (member (codes "text") (text_data r.text) no_members)
+
+abbrev pub deferral_members : DeferralOf → Members
+deferral_members d =
+    member (codes "found") (moment_data d.found) (member (codes "item") (text_data d.item) (member (codes "tail") (text_data d.tail) no_members))
+
+-- what was done, as a reply
+abbrev pub reply_members : KeptReply → Members
+reply_members k = member (codes "done") (done_data k.done) no_members
+
+abbrev pub kept_members : KeptReply → Members
+kept_members k =
+    member (codes "actor") (text_data k.actor)
+    (member (codes "at") (moment_data k.at)
+    (member (codes "digest") (digest_data k.digest)
+    (member (codes "number") (count k.number)
+    (member (codes "reply") (object (reply_members k)) no_members))))
+
+abbrev pub alert_members : KeptAlert → Members
+alert_members a =
+    member (codes "acknowledged") (boolean a.acknowledged)
+    (member (codes "ever") (findings_data a.ever)
+    (member (codes "failing") (findings_data a.failing)
+    (member (codes "opened") (moment_data a.opened)
+    (member (codes "version") (count a.version) no_members))))
+
+-- the JSON of a record's row
+unfoldable pub body_data : Record → Data
+body_data (Meta m) = object (meta_members m)
+body_data (Report r) = object (report_members r)
+body_data (Deferral d) = object (deferral_members d)
+body_data (Release r) = release_data r
+body_data (Kept k) = object (kept_members k)
+body_data (Alert a) = object (alert_members a)
+
+-- the row of a record
+unfoldable pub row_of : Record → Row
+row_of r = record { kind = kind_of r; key = key_of r; body = compact_text (body_data r) }
+
+-- a record whose moments can be shown
+abbrev pub HasMoments : Record → Type 0
+HasMoments (Meta m) = IsMoment m.moment
+HasMoments (Report r) = IsMoment r.received
+HasMoments (Deferral d) = IsMoment d.found
+HasMoments (Release r) = ReleaseHasMoments r
+HasMoments (Kept k) = IsMoment k.at
+HasMoments (Alert a) = IsMoment a.opened

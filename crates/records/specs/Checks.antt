@@ -1,0 +1,106 @@
+-- Which rows are the rows of a desk, and what is the first fault of others.
+use Rattle.std.specs.Prelude.{◌≡◌, ℕ, All, List, ◌∷◌, ◌++◌, length, map, Option, Some, Result, Ok, Err, IfErr}
+use Rattle.std.specs.List.{slice_get}
+use Rattle.std.specs.Option.{option_map}
+use Rattle.desk_time.specs.Digits.{◌>>=◌}
+use Rattle.desk_io.specs.declared.rows.Row.{Row}
+use Rattle.records.specs.Bodies.{row_of}
+use Rattle.records.specs.Faults.{fit, IsWithin}
+use Rattle.records.specs.Valid.{IsRecord}
+use Rattle.records.specs.declared.faults.Fault.{Fault}
+use Rattle.records.specs.declared.faults.Fault.TheVariants.{Bad, Pair}
+use Rattle.records.specs.declared.faults.RowWhy.{RowWhy}
+use Rattle.records.specs.declared.faults.RowWhy.TheVariants.{NotCanonical, NoMeta, Orphan, OverLimit}
+use Rattle.records.specs.declared.faults.RowsFault.{RowsFault}
+use Rattle.records.specs.declared.faults.RowsFault.TheVariants.{BadRow, BadPair, OutOfMemory}
+use Rattle.records.specs.declared.record.Record.{Record}
+
+-- the rows of valid records, in their order
+pub record AreRowsOf (rows : List Row) (records : List Record) : Type 0 where
+  pub valid : All IsRecord records
+  pub made : map row_of records ≡ rows
+
+-- the first row that no valid record has
+pub record IsFirstBad (rows : List Row) (row : Row) : Type 0 where
+  pub before : List Row
+  pub after : List Row
+  pub stands : rows ≡ before ++ row ∷ after
+  pub records : List Record
+  pub good : AreRowsOf before records
+  pub bad : (r : Record) → IsRecord r → row_of r ≡ row → ⊥
+
+-- the rows of valid records, of which that is the first test that fails
+pub record Misfit (rows : List Row) (fault : Fault) : Type 0 where
+  pub records : List Record
+  pub are : AreRowsOf rows records
+  pub fails : fit records ≡ Err fault
+
+-- the row that fails the first test that fails
+pub record IsMisfit (rows : List Row) (row : Row) (why : RowWhy) : Type 0 where
+  pub place : ℕ
+  pub there : slice_get rows place ≡ Some row
+  pub misfit : Misfit rows (Bad place why)
+
+-- the rows that don't fit one another, where that is the first test that fails
+pub record IsBadPair (rows : List Row) (one two : Row) : Type 0 where
+  pub first : ℕ
+  pub second : ℕ
+  pub first_row : slice_get rows first ≡ Some one
+  pub second_row : slice_get rows second ≡ Some two
+  pub misfit : Misfit rows (Pair first second)
+
+abbrev pub IsBadRow : List Row → Row → RowWhy → Type 0
+IsBadRow rows row NotCanonical = IsFirstBad rows row
+IsBadRow rows row NoMeta = IsMisfit rows row NoMeta
+IsBadRow rows row Orphan = IsMisfit rows row Orphan
+IsBadRow rows row OverLimit = IsMisfit rows row OverLimit
+
+-- the first fault of some rows; want of memory is free
+abbrev pub IsFaultOf : List Row → RowsFault → Type 0
+IsFaultOf rows (BadRow row why) = IsBadRow rows row why
+IsFaultOf rows (BadPair one two) = IsBadPair rows one two
+IsFaultOf rows OutOfMemory = Unit {0}
+
+-- the valid records of rows, where these fit together
+pub record IsDesk (rows : List Row) (records : List Record) : Type 0 where
+  pub are : AreRowsOf rows records
+  pub fit : fit records ≡ Ok tt
+
+-- ---- what the parts of the code answer
+
+-- that fault, or want of memory
+abbrev pub OrMemory : RowsFault → RowsFault → Type 0
+OrMemory wanted (BadRow row why) = BadRow row why ≡ wanted
+OrMemory wanted (BadPair one two) = BadPair one two ≡ wanted
+OrMemory wanted OutOfMemory = Unit {0}
+
+-- the rows at the places that a fault names
+abbrev pub named : List Row → Fault → Option RowsFault
+named rows (Bad place why) = option_map (λ row. BadRow row why) (slice_get rows place)
+named rows (Pair first second) = slice_get rows first >>= λ one. slice_get rows second >>= λ two. Some (BadPair one two)
+
+pub record Names (rows : List Row) (fault : Fault) (answer : RowsFault) : Type 0 where
+  pub wanted : RowsFault
+  pub named : named rows fault ≡ Some wanted
+  pub answered : OrMemory wanted answer
+
+-- that very row, which no valid record has
+pub record HasNone (row bad : Row) (why : RowWhy) : Type 0 where
+  pub same : bad ≡ row
+  pub reason : why ≡ NotCanonical
+  pub none : (r : Record) → IsRecord r → row_of r ≡ row → ⊥
+
+-- that no valid record has a row, or want of memory
+abbrev pub IsUnread : Row → RowsFault → Type 0
+IsUnread row (BadRow bad why) = HasNone row bad why
+IsUnread row (BadPair one two) = ⊥
+IsUnread row OutOfMemory = Unit {0}
+
+pub record IsReadOf (row : Row) (r : Record) : Type 0 where
+  pub valid : IsRecord r
+  pub has : row_of r ≡ row
+
+-- what the tests of some records come to, and that a fault is at places that there are
+pub record IsFitting (records : List Record) (answer : Result (Unit {0}) Fault) : Type 0 where
+  pub value : answer ≡ fit records
+  pub within : IfErr answer (IsWithin (length records))

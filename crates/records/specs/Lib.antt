@@ -1,0 +1,7 @@
+pub mod Kinds
+pub mod Bodies
+pub mod Valid
+pub mod Reading
+pub mod Faults
+pub mod Marks
+pub mod Checks

@@ -1,0 +1,202 @@
+-- The record of a row. A body has the keys that are named here, and no other.
+use Rattle.std.specs.Prelude.{◌≡◌, ℕ, ◌==◌, nat_le, ◌&&◌, Bool, false, if◌then◌else◌, List, [], ◌∷◌, Option, None, Some, Result, Ok, Err, codes, option_and_then}
+use Rattle.std.specs.Option.{option_map}
+use Rattle.std.specs.Str.{bytes_eq, is_utf8}
+use Rattle.serde_json.specs.Data.{Data, Members, no_members, member}
+use Rattle.serde_json.specs.Find.{get, as_number, as_u64, as_object}
+use Rattle.desk_time.specs.Digits.{◌>>=◌}
+use Rattle.ops_tables.specs.Forms.{is_tail, is_item}
+use Rattle.plan.specs.declared.findings.Finding.{Finding}
+use Rattle.asks.specs.declared.kept.Floor.{Floor}
+use Rattle.asks.specs.declared.kept.KeptReply.{KeptReply}
+use Rattle.asks.specs.declared.reply.Done.{Done}
+use Rattle.deferrals.specs.declared.items.Deferral.{Deferral as DeferralOf}
+use Rattle.desk_io.specs.declared.rows.Row.{Row}
+use Rattle.plan_json.specs.Digests.{digest_at}
+use Rattle.plan_json.specs.Dones.{done_of}
+use Rattle.plan_json.specs.Fields.{data_of, text_at, up_to, number_at, id_at, moment_at, list_at, has_members}
+use Rattle.release_json.specs.Findings.{findings_of}
+use Rattle.release_json.specs.Releases.{bool_at, person, person_at, release_of}
+use Rattle.records.specs.Bodies.{row_of}
+use Rattle.records.specs.Valid.{IsRecord, are_rising, is_report, are_among}
+use Rattle.records.specs.declared.meta_rows.Numbers.{Numbers}
+use Rattle.records.specs.declared.alert_rows.Opening.{Opening}
+use Rattle.records.specs.declared.kept_rows.Stamp.{Stamp}
+use Rattle.records.specs.declared.record.KeptAlert.{KeptAlert}
+use Rattle.records.specs.declared.record.KeptReport.{KeptReport}
+use Rattle.records.specs.declared.record.Meta.{Meta as Counters}
+use Rattle.records.specs.declared.record.Record.{Record}
+use Rattle.records.specs.declared.record.Record.TheVariants.{Meta, Report, Deferral, Release, Kept, Alert}
+use Rattle.records.specs.declared.reading.RowFault.{RowFault}
+use Rattle.records.specs.declared.reading.RowFault.TheVariants.{NotCanonical, OutOfMemory}
+
+-- ---- the meta row
+
+abbrev pub request_in : Data → Option ℕ
+request_in d = option_and_then (up_to 1_000_000_000_000) (option_and_then as_u64 (as_number d))
+
+-- the number of a person under his name
+abbrev pub floor_of : List ℕ → Data → Option Floor
+floor_of key d = person key >>= λ actor. request_in d >>= λ number. Some (record { actor = actor; number = number })
+
+abbrev pub floors_in : Members → Option (List Floor)
+floors_in no_members = Some []
+floors_in (member key d ms) = floor_of key d >>= λ f. floors_in ms >>= λ fs. Some (f ∷ fs)
+
+abbrev pub in_order : List Floor → Option (List Floor)
+in_order floors = if are_rising floors then Some floors else None
+
+abbrev pub floors_of : Data → Option (List Floor)
+floors_of d = as_object d >>= λ ms. floors_in ms >>= λ floors. in_order floors
+
+unfoldable pub floors_at : Data → Option (List Floor)
+floors_at d = option_and_then floors_of (get (codes "floors") d)
+
+unfoldable pub numbers_at : Data → Option Numbers
+numbers_at d =
+    id_at (codes "events") d >>= λ events.
+    id_at (codes "next_report") d >>= λ next_report.
+    id_at (codes "next_deferral") d >>= λ next_deferral.
+    id_at (codes "next_release") d >>= λ next_release.
+    id_at (codes "next_kept") d >>= λ next_kept.
+    Some (record { events = events; next_report = next_report; next_deferral = next_deferral; next_release = next_release; next_kept = next_kept })
+
+abbrev pub meta_with : ℕ → Numbers → List Floor → Counters
+meta_with moment c floors = record {
+  moment = moment;
+  events = c.events;
+  next_report = c.next_report;
+  next_deferral = c.next_deferral;
+  next_release = c.next_release;
+  next_kept = c.next_kept;
+  floors = floors;
+}
+
+abbrev pub is_one : Option ℕ → Bool
+is_one None = false
+is_one (Some version) = version == 1
+
+-- eight members, one of them version 1
+abbrev pub is_meta : Data → Bool
+is_meta d = has_members 8 d && is_one (id_at (codes "version") d)
+
+abbrev pub meta_of : Data → Option Counters
+meta_of d =
+    moment_at (codes "now") d >>= λ moment. numbers_at d >>= λ c. floors_at d >>= λ floors.
+    if is_meta d then Some (meta_with moment c floors) else None
+
+abbrev pub meta_in : ℕ → Data → Option Counters
+meta_in key d = if key == 0 then meta_of d else None
+
+-- ---- reports and deferrals
+
+abbrev pub if_report : KeptReport → Option KeptReport
+if_report r = if is_report r then Some r else None
+
+abbrev pub report_with : ℕ → ℕ → List ℕ → KeptReport
+report_with id received text = record { id = id; received = received; text = text }
+
+-- a report whose text is UTF-8
+abbrev pub utf8_report : KeptReport → Option KeptReport
+utf8_report r = if is_utf8 r.text then if_report r else None
+
+abbrev pub report_of : ℕ → Data → Option KeptReport
+report_of id d =
+    moment_at (codes "received") d >>= λ received. text_at (codes "text") d >>= λ text.
+    if has_members 2 d then utf8_report (report_with id received text) else None
+
+abbrev pub tail : List ℕ → Option (List ℕ)
+tail t = if is_tail t then Some t else None
+
+abbrev pub item : List ℕ → Option (List ℕ)
+item t = if is_item t then Some t else None
+
+abbrev pub deferral_of : ℕ → Data → Option DeferralOf
+deferral_of id d =
+    moment_at (codes "found") d >>= λ found. option_and_then item (text_at (codes "item") d) >>= λ item. option_and_then tail (text_at (codes "tail") d) >>= λ tail.
+    if has_members 3 d then Some (record { id = id; tail = tail; item = item; found = found }) else None
+
+-- ---- kept replies
+
+abbrev pub reply_of : Data → Option Done
+reply_of d = option_and_then done_of (get (codes "done") d) >>= λ done. if has_members 1 d then Some done else None
+
+abbrev pub done_at : Data → Option Done
+done_at d = option_and_then reply_of (get (codes "reply") d)
+
+-- all but who asked
+unfoldable pub stamp_of : Data → Option Stamp
+stamp_of d =
+    moment_at (codes "at") d >>= λ at. digest_at (codes "digest") d >>= λ digest. number_at (codes "number") 1_000_000_000_000 d >>= λ number. done_at d >>= λ done.
+    if has_members 5 d then Some (record { at = at; digest = digest; number = number; done = done }) else None
+
+abbrev pub kept_with : ℕ → List ℕ → Stamp → KeptReply
+kept_with id actor s = record { id = id; actor = actor; number = s.number; digest = s.digest; at = s.at; done = s.done }
+
+abbrev pub kept_of : ℕ → Data → Option KeptReply
+kept_of id d = stamp_of d >>= λ s. person_at (codes "actor") d >>= λ actor. Some (kept_with id actor s)
+
+-- ---- alerts
+
+abbrev pub from_one : ℕ → Option ℕ
+from_one version = if nat_le 1 version then Some version else None
+
+-- all but the findings
+unfoldable pub opening_of : Data → Option Opening
+opening_of d =
+    bool_at (codes "acknowledged") d >>= λ acknowledged. moment_at (codes "opened") d >>= λ opened. option_and_then from_one (id_at (codes "version") d) >>= λ version.
+    if has_members 5 d then Some (record { acknowledged = acknowledged; opened = opened; version = version }) else None
+
+abbrev pub findings_at : List ℕ → Data → Option (List Finding)
+findings_at key d = option_and_then findings_of (list_at key d)
+
+abbrev pub alert_with : ℕ → Opening → List Finding → List Finding → KeptAlert
+alert_with release o failing ever =
+    record { release = release; version = o.version; opened = o.opened; failing = failing; ever = ever; acknowledged = o.acknowledged }
+
+abbrev pub alert_of : ℕ → Data → Option KeptAlert
+alert_of release d =
+    opening_of d >>= λ o. findings_at (codes "failing") d >>= λ failing. findings_at (codes "ever") d >>= λ ever.
+    if are_among ever failing then Some (alert_with release o failing ever) else None
+
+-- ---- records
+
+-- the record of a kind, a number and a body
+abbrev pub record_in : ℕ → ℕ → Data → Option Record
+record_in kind id d =
+    if kind == 0 then option_map Meta (meta_in id d)
+    else (if kind == 1 then option_map Report (report_of id d)
+    else (if kind == 2 then option_map Deferral (deferral_of id d)
+    else (if kind == 3 then option_map Release (release_of id d)
+    else (if kind == 4 then option_map Kept (kept_of id d)
+    else (if kind == 5 then option_map Alert (alert_of id d) else None)))))
+
+-- the record of a kind, a key and a body, where there is a valid one
+unfoldable pub record_of : ℕ → ℕ → Data → Option Record
+record_of kind key d = up_to 1_000_000_000_000_000 key >>= λ id. record_in kind id d
+
+-- the record that a row says, whatever its blanks and the order of its keys
+unfoldable pub found_in : Row → Option Record
+found_in row = data_of row.body >>= record_of row.kind row.key
+
+abbrev pub is_same_row : Row → Row → Bool
+is_same_row one two = (one.kind == two.kind) && (one.key == two.key) && bytes_eq one.body two.body
+
+abbrev pub if_has : Row → Record → Option Record
+if_has row r = if is_same_row (row_of r) row then Some r else None
+
+-- the record that is found in a row, where the row is that record's
+unfoldable pub record_with : Row → Option Record
+record_with row = found_in row >>= if_has row
+
+-- What is read of a row: the valid record that has it, or that no valid record has it, or want of memory.
+abbrev pub ReadsRow : Row → Result Record RowFault → Type 0
+ReadsRow row (Ok r) = IsRecord r × (row_of r ≡ row)
+ReadsRow row (Err NotCanonical) = (r : Record) → IsRecord r → row_of r ≡ row → ⊥
+ReadsRow row (Err OutOfMemory) = Unit {0}
+
+-- a valid record's row is read as that record, or memory runs out
+abbrev pub IsAgain : Record → Result Record RowFault → Type 0
+IsAgain r (Ok x) = x ≡ r
+IsAgain r (Err NotCanonical) = ⊥
+IsAgain r (Err OutOfMemory) = Unit {0}

@@ -1,0 +1,114 @@
+-- Which records are valid.
+use Rattle.std.specs.Prelude.{◌≡◌, ℕ, ◌≤◌, Bool, true, ◌&&◌, List, [], ◌∷◌, IsUtf8, IsOk, is_ok}
+use Rattle.std.specs.List.{AllByRecursion, list_all}
+use Rattle.std.specs.Ordering.{nat_cmp, is_lt}
+use Rattle.std.specs.declared.cmp.Ordering.TheVariants.{Less}
+use Rattle.std.specs.Cmp.Lexicographic.{slice_cmp}
+use Rattle.std.specs.Str.{bytes_eq}
+use Rattle.codes.specs.Groups.{groups_of, canonical}
+use Rattle.ops_tables.specs.Forms.{is_tail, is_item, is_person}
+use Rattle.plan.specs.Findings.{AreInOrder, AreAmong, is_among}
+use Rattle.plan.specs.Texts.{IsMoment}
+use Rattle.plan.specs.declared.findings.Finding.{Finding}
+use Rattle.asks.specs.declared.kept.Floor.{Floor}
+use Rattle.asks.specs.declared.kept.KeptReply.{KeptReply}
+use Rattle.deferrals.specs.declared.items.Deferral.{Deferral as DeferralOf}
+use Rattle.facts.specs.Reading.{read_of}
+use Rattle.plan_json.specs.Canonical.{IsId, DoneHasForms}
+use Rattle.plan_json.specs.Digests.{IsDigest}
+use Rattle.release_json.specs.Findings.{IsFinding}
+use Rattle.release_json.specs.Kept.{IsKept}
+use Rattle.records.specs.declared.record.KeptAlert.{KeptAlert}
+use Rattle.records.specs.declared.record.KeptReport.{KeptReport}
+use Rattle.records.specs.declared.record.Meta.{Meta as Counters}
+use Rattle.records.specs.declared.record.Record.{Record}
+use Rattle.records.specs.declared.record.Record.TheVariants.{Meta, Report, Deferral, Release, Kept, Alert}
+
+-- the number of a request
+abbrev pub IsRequest : ℕ → Type 0
+IsRequest n = n ≤ 1_000_000_000_000
+
+-- the name of a person and the number of a request
+pub record IsFloor (f : Floor) : Type 0 where
+  pub actor : is_person f.actor ≡ true
+  pub number : IsRequest f.number
+
+-- names in byte order, each once
+abbrev pub AreRising : List Floor → Type 0
+AreRising [] = Unit {0}
+AreRising (f ∷ fs) = AllByRecursion (λ (g : Floor). slice_cmp nat_cmp f.actor g.actor ≡ Less) fs × AreRising fs
+
+-- counters of at most 10^15, and floors of persons
+pub record IsMeta (m : Counters) : Type 0 where
+  pub moment : IsMoment m.moment
+  pub events : IsId m.events
+  pub next_report : IsId m.next_report
+  pub next_deferral : IsId m.next_deferral
+  pub next_release : IsId m.next_release
+  pub next_kept : IsId m.next_kept
+  pub floors : AllByRecursion IsFloor m.floors
+  pub rising : AreRising m.floors
+
+-- a report whose text is canonical, and is read as one that was received then
+pub record IsReport (r : KeptReport) : Type 0 where
+  pub id : IsId r.id
+  pub received : IsMoment r.received
+  pub text : IsUtf8 r.text
+  pub canonical : canonical (groups_of r.text) ≡ r.text
+  pub read : IsOk (read_of r.text r.received)
+
+pub record IsDeferral (d : DeferralOf) : Type 0 where
+  pub id : IsId d.id
+  pub tail : is_tail d.tail ≡ true
+  pub item : is_item d.item ≡ true
+  pub found : IsMoment d.found
+
+pub record IsKeptReply (k : KeptReply) : Type 0 where
+  pub id : IsId k.id
+  pub actor : is_person k.actor ≡ true
+  pub number : IsRequest k.number
+  pub digest : IsDigest k.digest
+  pub at : IsMoment k.at
+  pub done : DoneHasForms k.done
+
+-- findings in order, each once, with their numbers in their forms
+pub record AreFindings (findings : List Finding) : Type 0 where
+  pub forms : AllByRecursion IsFinding findings
+  pub order : AreInOrder findings
+
+-- an alert that names what fails among what has failed
+pub record IsKeptAlert (a : KeptAlert) : Type 0 where
+  pub release : IsId a.release
+  pub version : IsId a.version
+  pub first : 1 ≤ a.version
+  pub opened : IsMoment a.opened
+  pub failing : AreFindings a.failing
+  pub ever : AreFindings a.ever
+  pub among : AreAmong a.ever a.failing
+
+-- a record whose parts have their forms
+unfoldable pub IsRecord : Record → Type 0
+IsRecord (Meta m) = IsMeta m
+IsRecord (Report r) = IsReport r
+IsRecord (Deferral d) = IsDeferral d
+IsRecord (Release r) = IsId r.id × IsKept r
+IsRecord (Kept k) = IsKeptReply k
+IsRecord (Alert a) = IsKeptAlert a
+
+-- ---- the same as tests
+
+-- a name that comes before the next one
+abbrev pub comes_before : List ℕ → List Floor → Bool
+comes_before name [] = true
+comes_before name (f ∷ fs) = is_lt (slice_cmp nat_cmp name f.actor)
+
+abbrev pub are_rising : List Floor → Bool
+are_rising [] = true
+are_rising (f ∷ fs) = comes_before f.actor fs && are_rising fs
+
+-- a text that is canonical and is read
+unfoldable pub is_report : KeptReport → Bool
+is_report r = bytes_eq (canonical (groups_of r.text)) r.text && is_ok (read_of r.text r.received)
+
+abbrev pub are_among : List Finding → List Finding → Bool
+are_among others findings = list_all (is_among others) findings

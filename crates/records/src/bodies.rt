@@ -1,0 +1,144 @@
+ghost use Rattle.std.specs.Prelude.{◌≡◌, ◌∷◌, [], IfOk};
+ghost use Rattle.plan.specs.Texts.{IsMoment};
+ghost use Rattle.release_json.specs.Rows.{ReleaseHasMoments};
+ghost use Rattle.serde_json.specs.Data.{object, no_members};
+ghost use Rattle.serde_json.specs.View.{view, members_view};
+ghost use Rattle.serde_json.specs.Written.{compact_text};
+ghost use Rattle.records.specs.Bodies as spec;
+
+use crate::kinds::{key_of, kind_of};
+use crate::record::{KeptAlert, KeptReport, Meta, Record};
+use asks::{Floor, Floors, KeptReply};
+use deferrals::Deferral;
+use desk_io::{OutOfMemory, Row, Text};
+use plan_json::{Members, done_value, with_count, with_digest, with_moment, with_text, with_value};
+use release_json::{findings_value, release_value};
+use serde_json::{Map, Value};
+use std::alloc::Global;
+
+// Some members with the number of a person more.
+fn with_floor(alloc: Global, members: Members, floor: &Floor) -> Result<Members, OutOfMemory>
+    ensures { IfOk result (λ all. members_view all.entries ≡ spec.with_floors (members_view members.entries) (floor.now ∷ [])) }
+{
+    let name = String::from_utf8_lossy(alloc, floor.actor.bytes())?;
+    with_count(alloc, members, name.as_str(), floor.number)
+}
+
+fn floor_members(alloc: Global, floors: &[Floor]) -> Result<Members, OutOfMemory>
+    ensures { IfOk result (λ all. members_view all.entries ≡ spec.with_floors no_members floors.now) }
+{
+    let mut members = Map::new(alloc);
+    for floor in floors {
+        members = with_floor(alloc, members, floor)?;
+    }
+    Ok(members)
+}
+
+#[tactic(auto, unfolding(crate::specs::Bodies::floors_data))]
+fn floors_value(alloc: Global, floors: &Floors) -> Result<Value, OutOfMemory>
+    ensures { IfOk result (λ v. view v ≡ spec.floors_data floors.now) }
+{
+    Ok(Value::Object(floor_members(alloc, floors.as_slice())?))
+}
+
+fn meta_members(alloc: Global, meta: &Meta) -> Result<Members, OutOfMemory>
+    requires { IsMoment meta.now.moment }
+    ensures { IfOk result (λ all. members_view all.entries ≡ spec.meta_members meta.now) }
+{
+    let members = with_count(alloc, Map::new(alloc), "events", meta.events)?;
+    let floors = floors_value(alloc, &meta.floors)?;
+    let members = with_value(alloc, members, "floors", floors)?;
+    let members = with_count(alloc, members, "next_deferral", meta.next_deferral)?;
+    let members = with_count(alloc, members, "next_kept", meta.next_kept)?;
+    let members = with_count(alloc, members, "next_release", meta.next_release)?;
+    let members = with_count(alloc, members, "next_report", meta.next_report)?;
+    let members = with_moment(alloc, members, "now", meta.moment)?;
+    with_count(alloc, members, "version", 1)
+}
+
+fn report_members(alloc: Global, report: &KeptReport) -> Result<Members, OutOfMemory>
+    requires { IsMoment report.now.received }
+    ensures { IfOk result (λ all. members_view all.entries ≡ spec.report_members report.now) }
+{
+    let members = with_moment(alloc, Map::new(alloc), "received", report.received)?;
+    with_text(alloc, members, "text", report.text.bytes())
+}
+
+fn deferral_members(alloc: Global, deferral: &Deferral) -> Result<Members, OutOfMemory>
+    requires { IsMoment deferral.now.found }
+    ensures { IfOk result (λ all. members_view all.entries ≡ spec.deferral_members deferral.now) }
+{
+    let members = with_moment(alloc, Map::new(alloc), "found", deferral.found)?;
+    let members = with_text(alloc, members, "item", deferral.item.bytes())?;
+    with_text(alloc, members, "tail", deferral.tail.bytes())
+}
+
+fn reply_value(alloc: Global, kept: &KeptReply) -> Result<Value, OutOfMemory>
+    ensures { IfOk result (λ v. view v ≡ object (spec.reply_members kept.now)) }
+{
+    let done = done_value(alloc, &kept.done)?;
+    Ok(Value::Object(with_value(alloc, Map::new(alloc), "done", done)?))
+}
+
+fn kept_members(alloc: Global, kept: &KeptReply) -> Result<Members, OutOfMemory>
+    requires { IsMoment kept.now.at }
+    ensures { IfOk result (λ all. members_view all.entries ≡ spec.kept_members kept.now) }
+{
+    let members = with_text(alloc, Map::new(alloc), "actor", kept.actor.bytes())?;
+    let members = with_moment(alloc, members, "at", kept.at)?;
+    let members = with_digest(alloc, members, &kept.digest)?;
+    let members = with_count(alloc, members, "number", kept.number)?;
+    let reply = reply_value(alloc, kept)?;
+    with_value(alloc, members, "reply", reply)
+}
+
+fn alert_members(alloc: Global, alert: &KeptAlert) -> Result<Members, OutOfMemory>
+    requires { IsMoment alert.now.opened }
+    ensures { IfOk result (λ all. members_view all.entries ≡ spec.alert_members alert.now) }
+{
+    let acknowledged = Value::Bool(alert.acknowledged);
+    let members = with_value(alloc, Map::new(alloc), "acknowledged", acknowledged)?;
+    let ever = findings_value(alloc, &alert.ever)?;
+    let members = with_value(alloc, members, "ever", ever)?;
+    let failing = findings_value(alloc, &alert.failing)?;
+    let members = with_value(alloc, members, "failing", failing)?;
+    let members = with_moment(alloc, members, "opened", alert.opened)?;
+    with_count(alloc, members, "version", alert.version)
+}
+
+#[tactic(auto, unfolding(crate::specs::Bodies::body_data))]
+fn body_value(alloc: Global, held: &Record) -> Result<Value, OutOfMemory>
+    requires { spec.HasMoments held.now }
+    ensures { IfOk result (λ v. view v ≡ spec.body_data held.now) }
+{
+    match held {
+        Record::Meta(meta) => Ok(Value::Object(meta_members(alloc, meta)?)),
+        Record::Report(report) => Ok(Value::Object(report_members(alloc, report)?)),
+        Record::Deferral(deferral) => Ok(Value::Object(deferral_members(alloc, deferral)?)),
+        Record::Release(release) => release_value(alloc, release),
+        Record::Kept(kept) => Ok(Value::Object(kept_members(alloc, kept)?)),
+        Record::Alert(alert) => Ok(Value::Object(alert_members(alloc, alert)?)),
+    }
+}
+
+#[tactic(auto, using(crate::proofs::Whole::body_is_whole))]
+fn body_text(alloc: Global, held: &Record) -> Result<Text, OutOfMemory>
+    requires { spec.HasMoments held.now }
+    ensures { IfOk result (λ t. t ≡ compact_text (spec.body_data held.now)) }
+{
+    let value = body_value(alloc, held)?;
+    Ok(Text::from_vec(value.to_vec(alloc)?))
+}
+
+/// The row of a record.
+#[tactic(auto, unfolding(crate::specs::Bodies::row_of))]
+pub fn row_of(alloc: Global, held: &Record) -> Result<Row, OutOfMemory>
+    requires { spec.HasMoments held.now }
+    ensures { IfOk result (λ row. row ≡ spec.row_of held.now) }
+{
+    Ok(Row {
+        kind: kind_of(held),
+        key: key_of(held),
+        body: body_text(alloc, held)?,
+    })
+}

@@ -1,0 +1,123 @@
+ghost use Rattle.std.specs.Prelude.{◌≡◌, ◌++◌, ◌∷◌, [], All, length, map, IfOk, OnOk, MatchResult};
+ghost use Rattle.records.specs.Checks as spec;
+ghost use Rattle.records.specs.Faults.{IsWithin};
+ghost use Rattle.records.specs.Marks.{marks_of as spec_marks_of};
+ghost use Rattle.records.specs.Valid.{IsRecord};
+
+use crate::faults::{Fault, RowWhy, RowsFault};
+use crate::fitting::fit;
+use crate::marks::{Marks, index_of, marks_of};
+use crate::reading::{RowFault, read_row};
+use crate::record::Record;
+use desk_io::{Copied, OutOfMemory, Row};
+use std::alloc::Global;
+
+fn bad_row(alloc: Global, row: &Row, why: RowWhy) -> RowsFault
+    ensures { spec.OrMemory (RowsFault.BadRow row.now why) result }
+{
+    match row.copy(alloc) {
+        Ok(row) => RowsFault::BadRow { row, why },
+        Err(OutOfMemory) => RowsFault::OutOfMemory,
+    }
+}
+
+fn copied_pair(alloc: Global, one: &Row, two: &Row) -> Result<RowsFault, OutOfMemory>
+    ensures { IfOk result (λ fault. fault ≡ RowsFault.BadPair one.now two.now) }
+{
+    Ok(RowsFault::BadPair {
+        one: one.copy(alloc)?,
+        two: two.copy(alloc)?,
+    })
+}
+
+fn bad_pair(alloc: Global, one: &Row, two: &Row) -> RowsFault
+    ensures { spec.OrMemory (RowsFault.BadPair one.now two.now) result }
+{
+    match copied_pair(alloc, one, two) {
+        Ok(fault) => fault,
+        Err(OutOfMemory) => RowsFault::OutOfMemory,
+    }
+}
+
+// The fault, with the rows at its places.
+fn fault_at(alloc: Global, rows: &[Row], fault: Fault) -> RowsFault
+    requires { IsWithin (length rows.now) fault }
+    ensures { spec.Names rows.now fault result }
+{
+    match fault {
+        Fault::Bad { place, why } => bad_row(alloc, &rows[place], why),
+        Fault::Pair { one, two } => bad_pair(alloc, &rows[one], &rows[two]),
+    }
+}
+
+fn record_of(alloc: Global, row: &Row) -> Result<Record, RowsFault>
+    ensures { MatchResult result (spec.IsReadOf row.now) (spec.IsUnread row.now) }
+{
+    match read_row(alloc, row) {
+        Ok(record) => Ok(record),
+        Err(RowFault::NotCanonical) => Err(bad_row(alloc, row, RowWhy::NotCanonical)),
+        Err(RowFault::OutOfMemory) => Err(RowsFault::OutOfMemory),
+    }
+}
+
+fn push(records: &mut Vec<Record>, found: Record) -> Result<(), OutOfMemory>
+    ensures { OnOk result (records.new.items ≡ records.old.items ++ found ∷ []) }
+{
+    records.push(found)?;
+    Ok(())
+}
+
+// The records of rows, in their order, or the first row that no valid record has.
+fn read_rows(alloc: Global, rows: &[Row]) -> Result<Vec<Record>, RowsFault>
+    ensures { MatchResult result (λ records. spec.AreRowsOf rows.now records.items) (spec.IsFaultOf rows.now) }
+{
+    let mut records = Vec::new(alloc);
+    for row in rows {
+        let found = record_of(alloc, row)?;
+        push(&mut records, found)?;
+    }
+    Ok(records)
+}
+
+fn all_marks(alloc: Global, records: &[Record]) -> Result<Vec<Marks>, OutOfMemory>
+    requires { All IsRecord records.now }
+    ensures { IfOk result (λ marks. marks.items ≡ map spec_marks_of records.now) }
+{
+    let mut marks = Vec::new(alloc);
+    for record in records {
+        marks.push(marks_of(alloc, record)?)?;
+    }
+    Ok(marks)
+}
+
+// Whether the records of rows fit together.
+fn check(alloc: Global, records: &[Record]) -> Result<Result<(), Fault>, OutOfMemory>
+    requires { All IsRecord records.now }
+    ensures { IfOk result (λ answer. spec.IsFitting records.now answer) }
+{
+    let marks = all_marks(alloc, records)?;
+    let firsts = index_of(alloc, &marks)?;
+    Ok(fit(records, &marks, &firsts))
+}
+
+fn fitted(alloc: Global, rows: &[Row], records: Vec<Record>) -> Result<Vec<Record>, RowsFault>
+    requires { spec.AreRowsOf rows.now records.items }
+    ensures { MatchResult result (λ fitting. spec.IsDesk rows.now fitting.items) (spec.IsFaultOf rows.now) }
+{
+    match check(alloc, &records)? {
+        Ok(()) => Ok(records),
+        Err(fault) => Err(fault_at(alloc, rows, fault)),
+    }
+}
+
+/// The records of rows, where each row is that of a valid record and all fit together; no rows have none. Otherwise
+/// the first of these: `NotCanonical`, the first row that no valid record has; `NoMeta`, the first row, where none is
+/// the meta row; `OverLimit`, the first row that is one too many of its kind, or counts too many events; `Orphan`, the
+/// first alert without a release; `BadPair`, the first row that doesn't go with one before it, and the first such one;
+/// `BadPair`, the first row that is ahead of the counters of the meta row, and that row.
+pub fn check_rows(alloc: Global, rows: &[Row]) -> Result<Vec<Record>, RowsFault>
+    ensures { MatchResult result (λ records. spec.IsDesk rows.now records.items) (spec.IsFaultOf rows.now) }
+{
+    let records = read_rows(alloc, rows)?;
+    fitted(alloc, rows, records)
+}

@@ -1,0 +1,25 @@
+//! What is kept, as rows, both ways, and whether rows fit together.
+#![tactic(auto)]
+
+mod alert_rows;
+mod alone;
+mod bodies;
+mod checking;
+mod counters;
+mod faults;
+mod fitting;
+mod kept_rows;
+mod kinds;
+mod limits;
+mod marks;
+mod meta_rows;
+mod names;
+mod pairs;
+mod reading;
+mod record;
+
+pub use bodies::row_of;
+pub use checking::check_rows;
+pub use faults::{RowWhy, RowsFault};
+pub use reading::{RowFault, read_row};
+pub use record::{KeptAlert, KeptReport, Meta, Record};

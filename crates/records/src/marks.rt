@@ -1,0 +1,131 @@
+ghost use Rattle.std.specs.Prelude.{◌≡◌, ◌≤◌, ◌<◌, ℕ, if◌then◌else◌, Some, map, length, unwrap_or, IfOk, OnOk};
+ghost use Rattle.std.specs.BTreeMap.{is_at};
+ghost use Rattle.plan.specs.Texts.{IsMoment};
+ghost use Rattle.records.specs.Faults.{minute_of};
+ghost use Rattle.records.specs.Marks as spec;
+ghost use Rattle.records.specs.Valid.{IsRecord};
+
+use crate::kinds::{key_of, kind_of};
+use crate::record::{KeptReport, Record};
+use codes::ReportFault;
+use desk_io::OutOfMemory;
+use desk_time::Minute;
+use facts::read_report;
+use plan::is_active;
+use std::alloc::Global;
+use std::collections::BTreeMap;
+
+/// What two records share that make a bad pair.
+pub(crate) type Mark = (u64, u64);
+
+/// Where each mark stands first.
+pub(crate) type Firsts = BTreeMap<Mark, usize>;
+
+/// The marks of a record.
+#[derive(Clone, Copy)]
+pub(crate) struct Marks {
+    /// That of its row.
+    pub(crate) own: Mark,
+    /// That of what it says.
+    pub(crate) other: Mark,
+}
+
+// A number of a text that texts seldom share.
+#[tactic(auto, unfolding(crate::specs::Marks::fingerprint))]
+fn fingerprint(text: &[u8]) -> u64
+    ensures { result ≡ spec.fingerprint text.now }
+{
+    let mut number: u64 = 1;
+    for byte in text {
+        number = number
+            .wrapping_mul(1_099_511_628_211)
+            .wrapping_add(*byte as u64);
+    }
+    number
+}
+
+fn own_mark(held: &Record) -> Mark
+    ensures { result ≡ spec.own_mark held.now }
+{
+    (u64::from(kind_of(held)), key_of(held))
+}
+
+// When a report was observed or issued.
+#[tactic(auto, unfolding(crate::specs::Faults::minute_of))]
+fn minute_of(alloc: Global, report: &KeptReport) -> Result<Minute, OutOfMemory>
+    requires { IsMoment report.now.received }
+    ensures { IfOk result (λ minute. minute ≡ minute_of report.now) }
+{
+    match read_report(alloc, report.text.bytes(), report.received) {
+        Ok(read) => Ok(read.minute()),
+        Err(ReportFault::Bad(_)) => Ok(0),
+        Err(ReportFault::OutOfMemory) => Err(OutOfMemory),
+    }
+}
+
+fn release_mark(active: bool, id: u64) -> Mark
+    ensures { result ≡ spec.release_mark active id }
+{
+    if active { (3, id) } else { (6, id) }
+}
+
+#[tactic(auto, unfolding(crate::specs::Valid::IsRecord))]
+fn other_mark(alloc: Global, held: &Record) -> Result<Mark, OutOfMemory>
+    requires { IsRecord held.now }
+    ensures { IfOk result (λ mark. mark ≡ spec.other_mark held.now) }
+{
+    match held {
+        Record::Meta(_) => Ok((0, 0)),
+        Record::Report(report) => Ok((minute_of(alloc, report)?, fingerprint(report.text.bytes()))),
+        Record::Deferral(deferral) => Ok((2, deferral.id)),
+        Record::Release(release) => Ok(release_mark(is_active(release.phase), release.id)),
+        Record::Kept(kept) => Ok((fingerprint(kept.actor.bytes()), kept.number)),
+        Record::Alert(alert) => Ok((6, alert.release)),
+    }
+}
+
+/// The marks of a record.
+pub(crate) fn marks_of(alloc: Global, held: &Record) -> Result<Marks, OutOfMemory>
+    requires { IsRecord held.now }
+    ensures { IfOk result (λ marks. marks ≡ spec.marks_of held.now) }
+{
+    Ok(Marks {
+        own: own_mark(held),
+        other: other_mark(alloc, held)?,
+    })
+}
+
+/// The place where a mark stands first.
+pub(crate) fn place_at(firsts: &Firsts, mark: Mark) -> Option<usize>
+    ensures { result ≡ spec.place_at firsts.now.entries mark }
+{
+    firsts.get(&mark).copied()
+}
+
+// A mark stands at that place, and maybe at one before it.
+fn note(firsts: &mut Firsts, mark: Mark, place: usize) -> Result<(), OutOfMemory>
+    ensures { OnOk result ((q : ℕ × ℕ) → spec.place_at firsts.new.entries q ≡ (if is_at (spec.mark_cmp mark) q then Some (unwrap_or (spec.place_at firsts.old.entries q) place) else spec.place_at firsts.old.entries q)) }
+{
+    if place_at(firsts, mark).is_none() {
+        firsts.insert(mark, place)?;
+    }
+    Ok(())
+}
+
+fn note_both(firsts: &mut Firsts, marks: Marks, place: usize) -> Result<(), OutOfMemory>
+    ensures { OnOk result ((q : ℕ × ℕ) → spec.place_at firsts.new.entries q ≡ (if spec.is_marked q marks then Some (unwrap_or (spec.place_at firsts.old.entries q) place) else spec.place_at firsts.old.entries q)) }
+{
+    note(firsts, marks.own, place)?;
+    note(firsts, marks.other, place)
+}
+
+/// Where each mark of some records stands first.
+pub(crate) fn index_of(alloc: Global, marks: &[Marks]) -> Result<Firsts, OutOfMemory>
+    ensures { IfOk result (λ firsts. spec.IsIndex firsts.entries marks.now) }
+{
+    let mut firsts = BTreeMap::new(alloc);
+    for (place, marked) in marks.iter().enumerate() {
+        note_both(&mut firsts, *marked, place)?;
+    }
+    Ok(firsts)
+}

@@ -1,0 +1,181 @@
+ghost use Rattle.std.specs.Prelude.{◌≡◌, IfOk, IfSome};
+ghost use Rattle.std.specs.Option.{option_map};
+ghost use Rattle.release_json.specs.Releases.{release_of};
+ghost use Rattle.records.specs.Bodies.{HasMoments, row_of as spec_row_of};
+ghost use Rattle.records.specs.Valid.{IsRecord};
+ghost use Rattle.records.specs.declared.record.Record.{Record as Held};
+ghost use Rattle.serde_json.specs.View.{view};
+ghost use Rattle.records.specs.Reading as spec;
+ghost use Rattle.records.specs.Reading.{record_of, ReadsRow, IsAgain};
+
+use crate::alert_rows::alert_of;
+use crate::bodies::row_of;
+use crate::kept_rows::{deferral_of, kept_of, report_of};
+use crate::meta_rows::meta_in;
+use crate::record::Record;
+use desk_io::{OutOfMemory, Row};
+use plan_json::data_of;
+use release_json::read_release;
+use serde_json::Value;
+use std::alloc::Global;
+
+/// Why no record was read of a row.
+#[derive(Clone, Copy, Debug, PartialEq, Eq)]
+pub enum RowFault {
+    /// No valid record has the row.
+    NotCanonical,
+    /// Memory ran out.
+    OutOfMemory,
+}
+
+impl From<OutOfMemory> for RowFault {
+    ghost use Rattle.records.specs.declared.reading.RowFault.TheVariants.{OutOfMemory as RowMemory};
+
+    ghost from_gives = { λ _ e. e ≡ RowMemory };
+
+    fn from(_: OutOfMemory) -> Self {
+        RowFault::OutOfMemory
+    }
+}
+
+fn meta(alloc: Global, key: u64, value: &Value) -> Result<Option<Record>, OutOfMemory>
+    ensures { IfOk result (λ r. r ≡ option_map Record.Meta (spec.meta_in key (view value.now))) }
+{
+    match meta_in(alloc, key, value)? {
+        Some(meta) => Ok(Some(Record::Meta(meta))),
+        None => Ok(None),
+    }
+}
+
+fn report(alloc: Global, id: u64, value: &Value) -> Result<Option<Record>, OutOfMemory>
+    ensures { IfOk result (λ r. r ≡ option_map Record.Report (spec.report_of id (view value.now))) }
+{
+    match report_of(alloc, id, value)? {
+        Some(report) => Ok(Some(Record::Report(report))),
+        None => Ok(None),
+    }
+}
+
+fn deferral(alloc: Global, id: u64, value: &Value) -> Result<Option<Record>, OutOfMemory>
+    ensures { IfOk result (λ r. r ≡ option_map Record.Deferral (spec.deferral_of id (view value.now))) }
+{
+    match deferral_of(alloc, id, value)? {
+        Some(deferral) => Ok(Some(Record::Deferral(deferral))),
+        None => Ok(None),
+    }
+}
+
+fn release(alloc: Global, id: u64, value: &Value) -> Result<Option<Record>, OutOfMemory>
+    ensures { IfOk result (λ r. r ≡ option_map Record.Release (release_of id (view value.now))) }
+{
+    match read_release(alloc, id, value)? {
+        Some(release) => Ok(Some(Record::Release(release))),
+        None => Ok(None),
+    }
+}
+
+fn kept(alloc: Global, id: u64, value: &Value) -> Result<Option<Record>, OutOfMemory>
+    ensures { IfOk result (λ r. r ≡ option_map Record.Kept (spec.kept_of id (view value.now))) }
+{
+    match kept_of(alloc, id, value)? {
+        Some(kept) => Ok(Some(Record::Kept(kept))),
+        None => Ok(None),
+    }
+}
+
+fn alert(alloc: Global, id: u64, value: &Value) -> Result<Option<Record>, OutOfMemory>
+    ensures { IfOk result (λ r. r ≡ option_map Record.Alert (spec.alert_of id (view value.now))) }
+{
+    match alert_of(alloc, id, value)? {
+        Some(alert) => Ok(Some(Record::Alert(alert))),
+        None => Ok(None),
+    }
+}
+
+fn record_in(alloc: Global, kind: u8, id: u64, value: &Value) -> Result<Option<Record>, OutOfMemory>
+    ensures { IfOk result (λ r. r ≡ spec.record_in kind id (view value.now)) }
+{
+    match kind {
+        0 => meta(alloc, id, value),
+        1 => report(alloc, id, value),
+        2 => deferral(alloc, id, value),
+        3 => release(alloc, id, value),
+        4 => kept(alloc, id, value),
+        5 => alert(alloc, id, value),
+        _ => Ok(None),
+    }
+}
+
+// The record of a kind, a key and a body, where there is a valid one.
+#[tactic(auto, unfolding(crate::specs::Reading::record_of))]
+fn record_of(
+    alloc: Global,
+    kind: u8,
+    key: u64,
+    value: &Value,
+) -> Result<Option<Record>, OutOfMemory>
+    ensures { IfOk result (λ r. r ≡ record_of kind key (view value.now)) }
+{
+    if key <= 1_000_000_000_000_000 {
+        record_in(alloc, kind, key, value)
+    } else {
+        Ok(None)
+    }
+}
+
+// The record that a row says, whatever its blanks and the order of its keys.
+#[tactic(auto, unfolding(crate::specs::Reading::found_in))]
+fn found_in(alloc: Global, row: &Row) -> Result<Option<Record>, OutOfMemory>
+    ensures { IfOk result (λ r. r ≡ spec.found_in row.now) }
+{
+    match data_of(alloc, row.body.bytes())? {
+        Some(value) => record_of(alloc, row.kind, row.key, &value),
+        None => Ok(None),
+    }
+}
+
+#[tactic(auto, using(crate::proofs::RowLaws::found_moments))]
+fn shown_in(alloc: Global, row: &Row) -> Result<Option<Record>, OutOfMemory>
+    ensures value { IfOk result (λ r. r ≡ spec.found_in row.now) }
+    ensures moments { IfOk result (λ r. IfSome r HasMoments) }
+{
+    found_in(alloc, row)
+}
+
+fn is_same_row(one: &Row, two: &Row) -> bool
+    ensures { result ≡ spec.is_same_row one.now two.now }
+{
+    one.kind == two.kind && one.key == two.key && one.body.bytes() == two.body.bytes()
+}
+
+fn if_has(alloc: Global, row: &Row, found: Record) -> Result<Option<Record>, OutOfMemory>
+    requires { HasMoments found }
+    ensures { IfOk result (λ r. r ≡ spec.if_has row.now found) }
+{
+    if is_same_row(&row_of(alloc, &found)?, row) {
+        Ok(Some(found))
+    } else {
+        Ok(None)
+    }
+}
+
+#[tactic(auto, unfolding(crate::specs::Reading::record_with))]
+fn record_with(alloc: Global, row: &Row) -> Result<Option<Record>, OutOfMemory>
+    ensures { IfOk result (λ r. r ≡ spec.record_with row.now) }
+{
+    match shown_in(alloc, row)? {
+        Some(record) => if_has(alloc, row, record),
+        None => Ok(None),
+    }
+}
+
+/// The record of a row: the only valid one that has it. `NotCanonical` comes exactly where there is none.
+pub fn read_row(alloc: Global, row: &Row) -> Result<Record, RowFault>
+    ensures reads { ReadsRow row.now result }
+    ensures again { (r : Held) → IsRecord r → spec_row_of r ≡ row.now → IsAgain r result }
+{
+    match record_with(alloc, row)? {
+        Some(record) => Ok(record),
+        None => Err(RowFault::NotCanonical),
+    }
+}

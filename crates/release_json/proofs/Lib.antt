@@ -1,0 +1,7 @@
+pub mod Digits
+pub mod PhaseLaws
+pub mod FindingLaws
+pub mod KeptLaws
+pub mod ReleaseForms
+pub mod ReleaseLaws
+pub mod PlainLaws

@@ -1,0 +1,7 @@
+pub mod Numbers
+pub mod Phases
+pub mod Findings
+pub mod Rows
+pub mod Kept
+pub mod Plans
+pub mod Releases

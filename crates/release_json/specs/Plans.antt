@@ -1,0 +1,12 @@
+-- Releases of which each plan is one whose text can be made.
+use Rattle.std.specs.Prelude.{Option, IfSome}
+use Rattle.plan.specs.Check.{IsPlan}
+use Rattle.plan.specs.declared.release.Release.{Release}
+use Rattle.plan.specs.declared.release.Revision.{Revision}
+
+abbrev pub MayHavePlan : Option Revision → Type 0
+MayHavePlan revision = IfSome revision (λ v. IsPlan v.plan)
+
+pub record HasPlans (r : Release) : Type 0 where
+  pub pending : MayHavePlan r.pending
+  pub active : MayHavePlan r.active
