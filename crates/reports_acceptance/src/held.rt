@@ -8,8 +8,8 @@ use facts::{Received, Report, Reports, push_line, push_weather, push_weather_at,
 use std::alloc::Global;
 use std::test::Fail;
 
-// 2025-03-12 00:00.
-const DAY: Minute = 29_028_960;
+/// 2025-03-12 00:00.
+pub const DAY: Minute = 29_028_960;
 
 fn report(alloc: Global, id: u64, received: Minute, text: &[u8]) -> Result<Report, ReportFault>
     requires low { FIRST ≤ received }
@@ -32,7 +32,13 @@ fn is_above(reports: &[Report], id: u64) -> bool
     reports.iter().all(|held| held.id < id)
 }
 
-fn admit(alloc: Global, reports: &mut Reports, id: u64, text: &[u8]) -> Result<(), ReportFault> {
+/// Admits a report that came at 17:40 of that day, under a number above all.
+pub fn admit(
+    alloc: Global,
+    reports: &mut Reports,
+    id: u64,
+    text: &[u8],
+) -> Result<(), ReportFault> {
     let report = report(alloc, id, DAY + 1060, text)?;
     if is_above(reports.as_slice(), id) {
         reports.reserve(&report)?;
@@ -59,8 +65,8 @@ fn held(alloc: Global) -> Result<Reports, ReportFault> {
     Ok(reports)
 }
 
-// The numbers of the latest METAR and the latest TAF of a station.
-fn latest(reports: &Reports, name: &[u8]) -> Option<(Option<u64>, Option<u64>)> {
+/// The numbers of the latest METAR and the latest TAF of a station.
+pub fn latest(reports: &Reports, name: &[u8]) -> Option<(Option<u64>, Option<u64>)> {
     let station = Station::read(name)?;
     let metar = reports.latest_metar(station).map(|report| report.id);
     let taf = reports.latest_taf(station).map(|report| report.id);

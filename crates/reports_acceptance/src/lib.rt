@@ -12,3 +12,5 @@ mod moments;
 mod outside;
 #[cfg(test)]
 mod readings;
+#[cfg(test)]
+mod swept;

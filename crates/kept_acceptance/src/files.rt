@@ -1,0 +1,135 @@
+use crate::lines::{commit, gives};
+use desk_io::OutOfMemory;
+use keeper::{KeepFault, Keeper};
+use sqlite_keeper::SqliteKeeper;
+use std::fs;
+use std::test::Fail;
+
+// Removes a file of SQLite and its log, where they are there.
+fn clear(rt: HostRuntime, name: &str) -> Result<(), OutOfMemory> {
+    let log = format!(in rt.alloc(); "{name}-wal")?;
+    let _ = fs::remove_file(&rt, name);
+    let _ = fs::remove_file(&rt, log.as_str());
+    Ok(())
+}
+
+fn keeper_at(rt: HostRuntime, name: &str) -> Result<SqliteKeeper, OutOfMemory> {
+    Ok(SqliteKeeper::new(rt, String::from_str(rt.alloc(), name)?))
+}
+
+// Whether a new keeper finds the first rows, and the second ones after those changes. Then it lets the file go.
+fn leads(
+    rt: HostRuntime,
+    name: &str,
+    before: &str,
+    changes: &str,
+    lines: &str,
+) -> Result<bool, KeepFault> {
+    let mut keeper = keeper_at(rt, name)?;
+    if !gives(rt.alloc(), &mut keeper, before)? {
+        return Ok(false);
+    }
+    commit(rt.alloc(), &mut keeper, changes)?;
+    Ok(gives(rt.alloc(), &mut keeper, lines)? && keeper.faults() == 0)
+}
+
+const FIRST_ROWS: &str = "0 0 {\"a\":1}\n1 4 four\n1 9 n\u{e4}chste\n3 2 two\n";
+
+#[test]
+fn rows_in_a_file_are_found_by_the_next_keeper(rt: HostRuntime) -> Result<(), Fail> {
+    let name = "kept_acceptance_found";
+    clear(rt, name)?;
+    let after =
+        "0 0 {\"a\":2}\n1 4 four\n1 6 six\n1 9 n\u{e4}chste\n255 9223372036854775807 last\n";
+    for (before, changes, lines) in [
+        ("", FIRST_ROWS, FIRST_ROWS),
+        (
+            FIRST_ROWS,
+            "1 6 six\n3 2\n2 4\n0 0 {\"a\":2}\n2 7 seven\n2 7\n255 9223372036854775807 last\n",
+            after,
+        ),
+        (after, "", after),
+    ] {
+        assert!(rt; leads(rt, name, before, changes, lines)?, "{changes}");
+    }
+    clear(rt, name)?;
+    Ok(())
+}
+
+// Whether a commit before a load and one of a row that can't stand in the file fail, and change nothing.
+fn refuses(rt: HostRuntime, keeper: &mut SqliteKeeper) -> Result<bool, KeepFault> {
+    let alloc = rt.alloc();
+    if commit(alloc, keeper, "1 4 four\n") != Err(KeepFault::Failed) || keeper.faults() != 1 {
+        return Ok(false);
+    }
+    if !gives(alloc, keeper, "")? {
+        return Ok(false);
+    }
+    let past = commit(alloc, keeper, "1 4 four\n1 9223372036854775808 past\n");
+    Ok(past == Err(KeepFault::Failed) && gives(alloc, keeper, "")? && keeper.faults() == 2)
+}
+
+fn refuses_at(rt: HostRuntime, name: &str) -> Result<bool, KeepFault> {
+    let mut keeper = keeper_at(rt, name)?;
+    refuses(rt, &mut keeper)
+}
+
+#[test]
+fn commits_that_cant_be_made_are_counted(rt: HostRuntime) -> Result<(), Fail> {
+    let name = "kept_acceptance_refused";
+    clear(rt, name)?;
+    assert!(rt; refuses_at(rt, name)?);
+    assert!(rt; leads(rt, name, "", "1 4 four\n", "1 4 four\n")?);
+    clear(rt, name)?;
+    Ok(())
+}
+
+// Whether a second keeper can't load the file of one that holds it, which goes on.
+fn is_shut_out(
+    rt: HostRuntime,
+    first: &mut SqliteKeeper,
+    second: &mut SqliteKeeper,
+) -> Result<bool, KeepFault> {
+    let alloc = rt.alloc();
+    if !gives(alloc, first, "")? {
+        return Ok(false);
+    }
+    let shut = gives(alloc, second, "") == Err(KeepFault::Failed) && second.faults() == 1;
+    commit(alloc, first, "1 4 four\n")?;
+    Ok(shut && gives(alloc, first, "1 4 four\n")? && first.faults() == 0)
+}
+
+fn are_apart(rt: HostRuntime, name: &str) -> Result<bool, KeepFault> {
+    let mut first = keeper_at(rt, name)?;
+    let mut second = keeper_at(rt, name)?;
+    is_shut_out(rt, &mut first, &mut second)
+}
+
+#[test]
+fn a_file_has_one_keeper_at_a_time(rt: HostRuntime) -> Result<(), Fail> {
+    let name = "kept_acceptance_held";
+    clear(rt, name)?;
+    assert!(rt; are_apart(rt, name)?);
+    assert!(rt; leads(rt, name, "1 4 four\n", "1 4\n", "")?);
+    clear(rt, name)?;
+    Ok(())
+}
+
+fn fails_to_load(rt: HostRuntime, name: &str) -> Result<bool, KeepFault> {
+    let mut keeper = keeper_at(rt, name)?;
+    let loaded = gives(rt.alloc(), &mut keeper, "");
+    Ok(loaded == Err(KeepFault::Failed) && keeper.faults() == 1)
+}
+
+#[test]
+fn a_file_that_is_no_database_is_a_fault(rt: HostRuntime) -> Result<(), Fail> {
+    let name = "kept_acceptance_text";
+    let text = b"The rows of the desk don't stand in this file, and it isn't touched.\n";
+    clear(rt, name)?;
+    fs::write(&rt, name, text.as_slice())?;
+    let fails = fails_to_load(rt, name)?;
+    let left = fs::read(&rt, name)?;
+    clear(rt, name)?;
+    assert!(rt; fails && left.as_slice() == text.as_slice());
+    Ok(())
+}

@@ -1,0 +1,93 @@
+use crate::lines::{commit, gives, rows_in};
+use desk_io::OutOfMemory;
+use keeper::{KeepFault, Keeper, MemoryKeeper, is_rising};
+use std::alloc::Global;
+use std::test::Fail;
+
+const KEPT: &str = "0 0 meta\n1 4 four\n1 9 nine\n3 2 two\n";
+
+// A keeper of rows in order, whose commits of those numbers fail.
+fn keeper_of(
+    alloc: Global,
+    lines: &str,
+    fail: &[u64],
+) -> Result<Option<MemoryKeeper>, OutOfMemory> {
+    let fail = Vec::from_slice(alloc, fail)?;
+    let rows = rows_in(alloc, lines)?;
+    if is_rising(&rows) {
+        Ok(Some(MemoryKeeper::new(rows, fail)))
+    } else {
+        Ok(None)
+    }
+}
+
+// Whether changes lead from `KEPT` to those rows.
+fn lead_to(alloc: Global, changes: &str, lines: &str) -> Result<bool, KeepFault> {
+    let Some(mut keeper) = keeper_of(alloc, KEPT, &[])? else {
+        return Ok(false);
+    };
+    commit(alloc, &mut keeper, changes)?;
+    Ok(gives(alloc, &mut keeper, lines)? && keeper.faults() == 0)
+}
+
+#[test]
+fn changes_of_rows_are_made_each_in_its_turn(rt: HostRuntime) -> Result<(), Fail> {
+    for (changes, lines) in [
+        ("", KEPT),
+        (
+            "1 4 another\n",
+            "0 0 meta\n1 4 another\n1 9 nine\n3 2 two\n",
+        ),
+        (
+            "1 6 six\n",
+            "0 0 meta\n1 4 four\n1 6 six\n1 9 nine\n3 2 two\n",
+        ),
+        ("3 2\n", "0 0 meta\n1 4 four\n1 9 nine\n"),
+        ("2 4\n1 5\n", KEPT),
+        (
+            "255 18446744073709551615 last\n0 0\n",
+            "1 4 four\n1 9 nine\n3 2 two\n255 18446744073709551615 last\n",
+        ),
+        // What came before is changed again.
+        (
+            "2 7 seven\n2 7\n1 9\n1 9 back\n2 7 once more\n2 7 for good\n",
+            "0 0 meta\n1 4 four\n1 9 back\n2 7 for good\n3 2 two\n",
+        ),
+    ] {
+        assert!(rt; lead_to(rt.alloc(), changes, lines)?, "{changes}");
+    }
+    Ok(())
+}
+
+// Whether a keeper of nothing whose second commit fails goes through these steps.
+fn goes_on(alloc: Global, keeper: &mut MemoryKeeper) -> Result<bool, KeepFault> {
+    for (changes, answer, lines, faults) in [
+        ("1 4 four\n1 9 nine\n", Ok(()), "1 4 four\n1 9 nine\n", 0),
+        (
+            "1 4\n2 2 two\n",
+            Err(KeepFault::Failed),
+            "1 4 four\n1 9 nine\n",
+            1,
+        ),
+        ("1 4\n2 2 two\n", Ok(()), "1 9 nine\n2 2 two\n", 1),
+    ] {
+        let answered = commit(alloc, keeper, changes);
+        if answered != answer || !gives(alloc, keeper, lines)? || keeper.faults() != faults {
+            return Ok(false);
+        }
+    }
+    Ok(true)
+}
+
+fn fails_once(alloc: Global) -> Result<bool, KeepFault> {
+    match keeper_of(alloc, "", &[1])? {
+        None => Ok(false),
+        Some(mut keeper) => goes_on(alloc, &mut keeper),
+    }
+}
+
+#[test]
+fn a_commit_that_fails_is_counted_and_changes_no_row(rt: HostRuntime) -> Result<(), Fail> {
+    assert!(rt; fails_once(rt.alloc())?);
+    Ok(())
+}
