@@ -90,7 +90,7 @@ pub const DIGESTS: &[u8] =
 {"actor":"D1","ask":{"do":"acknowledge","release":1,"version":1000000000000001},"at":"2025-03-12T18:00Z","key":"kD1","number":9}
 {"actor":"D1","ask":{"do":"amend","release":1},"at":"2025-03-12T18:00Z","key":"kD1","number":9}
 {"actor":"D1","ask":{"do":"board","release":1},"at":"2025-03-12T18:00Z","key":"kD1","number":9}
-{"actor":"D1","ask":{"do":"purge","release":1},"at":"2025-03-12T18:00Z","key":"kD1","number":9}
+{"actor":"D1","ask":{"do":"erase","release":1},"at":"2025-03-12T18:00Z","key":"kD1","number":9}
 {"actor":"D1","ask":{"do":"depart","leg":4294967295,"release":1},"at":"2025-03-12T17:32Z","key":"kD1","number":3}
 {"actor":"D1","ask":{"digest":"93552bd08bcf733af54f012ef3711733ecf23ec2726678302a0dba7d4b038410","do":"sign","release":1,"revision":2},"at":"2025-03-12T17:32Z","key":"kD1","number":4}
 {"actor":"D1","ask":{"digest":"95c87b5fa26f1568c4095ff2b69848aaf24ca1e1a3a2cf5f5b217a52f967fbcb","do":"sign","release":1,"revision":1},"at":"2025-03-12T17:32Z","key":"kD1","number":5}
