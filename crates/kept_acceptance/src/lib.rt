@@ -1,8 +1,11 @@
-//! Tests of what is kept: keepers of rows, in memory and over a file, and plans, asks and what was done as JSON.
+//! Tests of what is kept: keepers of rows, in memory and over a file, plans, asks and what was done as JSON, and
+//! the rows of a desk.
 #![tactic(auto)]
 
 #[cfg(test)]
 mod asked;
+#[cfg(test)]
+mod desks;
 #[cfg(test)]
 mod done;
 #[cfg(test)]
@@ -13,3 +16,5 @@ mod lines;
 mod memory;
 #[cfg(test)]
 mod plans;
+#[cfg(test)]
+mod rows;
