@@ -7,7 +7,7 @@ use Rattle.asks.specs.declared.call.Ask.TheVariants as ask
 use Rattle.asks.specs.declared.reply.Reply.{Reply}
 use Rattle.asks.specs.declared.reply.Reply.TheVariants.{Done, Seen, Refused}
 use Rattle.asks.specs.declared.reply.Refusal.{Refusal}
-use Rattle.asks.specs.declared.reply.Refusal.TheVariants.{UnknownActor, WrongKey, NotYourRole, BadReport, DayOutOfReach, ReportsFull, UnknownTail, NoSuchDeferral, NoSuchRelease, NotYours, BadPlan, NotPending, WrongRevision, WrongText, WeatherNewer, RuleFails, WrongPhase, AlreadySigned, NoSuchAlert, AlertMoved, TooYoung, ReleasesFull, HistoryFull, NoSuchStation, UnknownItem, BadFound, DeferralsFull}
+use Rattle.asks.specs.declared.reply.Refusal.TheVariants.{UnknownActor, WrongKey, NotYourRole, NumberReused, BadReport, DayOutOfReach, ReportsFull, UnknownTail, NoSuchDeferral, NoSuchRelease, NotYours, BadPlan, NotPending, WrongRevision, WrongText, WeatherNewer, RuleFails, WrongPhase, AlreadySigned, NoSuchAlert, AlertMoved, TooYoung, ReleasesFull, HistoryFull, NoSuchStation, Unkept, NumberSwept, UnknownItem, BadFound, DeferralsFull}
 
 -- a call whose plan has at most 1,000 legs, and whose moments are such as can be read
 abbrev pub IsCall : Ask → Type 0
@@ -24,6 +24,7 @@ IsCall (ask.Depart release leg) = Unit {0}
 IsCall (ask.Arrive release leg) = Unit {0}
 IsCall (ask.Acknowledge release version) = Unit {0}
 IsCall (ask.Purge release) = Unit {0}
+IsCall (ask.Sweep before) = IsMoment before
 IsCall ask.ViewBoard = Unit {0}
 IsCall ask.ViewAlerts = Unit {0}
 IsCall (ask.ViewRelease release) = Unit {0}
@@ -39,6 +40,7 @@ abbrev pub RefusalHasMoment : Refusal → Type 0
 RefusalHasMoment UnknownActor = Unit {0}
 RefusalHasMoment WrongKey = Unit {0}
 RefusalHasMoment NotYourRole = Unit {0}
+RefusalHasMoment (NumberReused kept) = Unit {0}
 RefusalHasMoment (BadReport group what) = Unit {0}
 RefusalHasMoment (DayOutOfReach group) = Unit {0}
 RefusalHasMoment (ReportsFull held) = Unit {0}
@@ -58,8 +60,10 @@ RefusalHasMoment NoSuchAlert = Unit {0}
 RefusalHasMoment (AlertMoved version) = Unit {0}
 RefusalHasMoment (TooYoung until) = CanBeShown until
 RefusalHasMoment (ReleasesFull held) = Unit {0}
-RefusalHasMoment (HistoryFull entries) = Unit {0}
+RefusalHasMoment (HistoryFull entries kept events) = Unit {0}
 RefusalHasMoment NoSuchStation = Unit {0}
+RefusalHasMoment (Unkept faults) = Unit {0}
+RefusalHasMoment (NumberSwept floor) = Unit {0}
 RefusalHasMoment UnknownItem = Unit {0}
 RefusalHasMoment (BadFound moment) = IsMoment moment
 RefusalHasMoment (DeferralsFull held) = Unit {0}

@@ -73,9 +73,15 @@ pub enum Ask {
         release: u64,
         version: u64,
     },
-    /// A release that ended is removed, once three months and a day have passed (14 CFR 121.695).
+    /// A release that ended is removed, from the start of the day after the one that lies three months after
+    /// the day on which it ended (14 CFR 121.695).
     Purge {
         release: u64,
+    },
+    /// Reports that were observed or issued before that moment are swept away, but for the latest ones and
+    /// those that are attached to a release, and what is kept of requests that were accepted before it.
+    Sweep {
+        before: Minute,
     },
     /// The releases are shown.
     ViewBoard,
@@ -163,6 +169,7 @@ impl Copied for Ask {
                 version: *version,
             },
             Ask::Purge { release } => Ask::Purge { release: *release },
+            Ask::Sweep { before } => Ask::Sweep { before: *before },
             Ask::ViewBoard => Ask::ViewBoard,
             Ask::ViewAlerts => Ask::ViewAlerts,
             Ask::ViewRelease { release } => Ask::ViewRelease { release: *release },

@@ -40,13 +40,24 @@ pub enum Refusal {
     WrongKey,
     /// 3: the ask isn't for the person's role.
     NotYourRole,
+    /// 4: the number stands for another request of that person, which is kept under that id.
+    NumberReused {
+        kept: u64,
+    },
     /// 5: the text has no reading, for another reason than 6. `group` is the number, from 1, of the first
     /// group that doesn't read, and 0 where the text is too long.
-    BadReport { group: u32, what: Why },
+    BadReport {
+        group: u32,
+        what: Why,
+    },
     /// 6: the day at that group lies in none of the five days in reach.
-    DayOutOfReach { group: u32 },
+    DayOutOfReach {
+        group: u32,
+    },
     /// 7: 200,000 reports are held.
-    ReportsFull { held: u64 },
+    ReportsFull {
+        held: u64,
+    },
     /// 8: the tables have no such aircraft.
     UnknownTail,
     /// 9: no open deferral has that id.
@@ -54,42 +65,81 @@ pub enum Refusal {
     /// 10: no release has that id.
     NoSuchRelease,
     /// 11: it is for another person: the dispatcher who holds the release, or the captain of its plan.
-    NotYours { holder: Text },
+    NotYours {
+        holder: Text,
+    },
     /// 12: a test of the plan fails, of that leg.
-    BadPlan { leg: u32, what: PlanWhy },
+    BadPlan {
+        leg: u32,
+        what: PlanWhy,
+    },
     /// 13: no revision is pending (0), or it isn't prepared (1), or the dispatcher hasn't signed it (2).
-    NotPending { stage: u8 },
+    NotPending {
+        stage: u8,
+    },
     /// 14: the pending revision has that other number.
-    WrongRevision { current: u64 },
+    WrongRevision {
+        current: u64,
+    },
     /// 15: the text of the pending revision has that other digest.
-    WrongText { digest: [u8; 32] },
+    WrongText {
+        digest: [u8; 32],
+    },
     /// 16: of the latest reports of the stations that the release concerns, one isn't attached to the
     /// pending revision; that is the least number of such a report.
-    WeatherNewer { report: u64 },
+    WeatherNewer {
+        report: u64,
+    },
     /// 17: these rules fail.
-    RuleFails { findings: Findings },
+    RuleFails {
+        findings: Findings,
+    },
     /// 18: the release is in a phase that the ask isn't for.
-    WrongPhase { phase: Phase },
+    WrongPhase {
+        phase: Phase,
+    },
     /// 19: the dispatcher has signed.
     AlreadySigned,
     /// 20: the release has no alert.
     NoSuchAlert,
     /// 21: the alert has that other version.
-    AlertMoved { version: u64 },
+    AlertMoved {
+        version: u64,
+    },
     /// 22: it may be done from that moment on.
-    TooYoung { until: Minute },
+    TooYoung {
+        until: Minute,
+    },
     /// 23: 20,000 releases are held.
-    ReleasesFull { held: u64 },
-    /// 24: the history has 400,000 entries.
-    HistoryFull { entries: u64 },
+    ReleasesFull {
+        held: u64,
+    },
+    /// 24: the history has 400,000 entries, or 400,000 replies are kept, or there were too many events.
+    HistoryFull {
+        entries: u64,
+        kept: u64,
+        events: u64,
+    },
     /// 25: the station isn't an airport of the tables.
     NoSuchStation,
+    /// 26: the keeper failed, as often as that by now, and what was to be kept wasn't.
+    Unkept {
+        faults: u64,
+    },
+    /// 27: the number is at most the greatest of that person whose replies were swept away, which is that.
+    NumberSwept {
+        floor: u64,
+    },
     /// 28: the minimum equipment list of the aircraft's type has no such item.
     UnknownItem,
     /// 29: the item was found later than the desk's moment, which is that.
-    BadFound { moment: Minute },
+    BadFound {
+        moment: Minute,
+    },
     /// 30: 50,000 deferrals are open.
-    DeferralsFull { held: u64 },
+    DeferralsFull {
+        held: u64,
+    },
 }
 
 /// The answer to a request.
@@ -109,6 +159,7 @@ impl Copied for Refusal {
             Refusal::UnknownActor => Ok(Refusal::UnknownActor),
             Refusal::WrongKey => Ok(Refusal::WrongKey),
             Refusal::NotYourRole => Ok(Refusal::NotYourRole),
+            Refusal::NumberReused { kept } => Ok(Refusal::NumberReused { kept: *kept }),
             Refusal::BadReport { group, what } => Ok(Refusal::BadReport {
                 group: *group,
                 what: *what,
@@ -138,8 +189,18 @@ impl Copied for Refusal {
             Refusal::AlertMoved { version } => Ok(Refusal::AlertMoved { version: *version }),
             Refusal::TooYoung { until } => Ok(Refusal::TooYoung { until: *until }),
             Refusal::ReleasesFull { held } => Ok(Refusal::ReleasesFull { held: *held }),
-            Refusal::HistoryFull { entries } => Ok(Refusal::HistoryFull { entries: *entries }),
+            Refusal::HistoryFull {
+                entries,
+                kept,
+                events,
+            } => Ok(Refusal::HistoryFull {
+                entries: *entries,
+                kept: *kept,
+                events: *events,
+            }),
             Refusal::NoSuchStation => Ok(Refusal::NoSuchStation),
+            Refusal::Unkept { faults } => Ok(Refusal::Unkept { faults: *faults }),
+            Refusal::NumberSwept { floor } => Ok(Refusal::NumberSwept { floor: *floor }),
             Refusal::UnknownItem => Ok(Refusal::UnknownItem),
             Refusal::BadFound { moment } => Ok(Refusal::BadFound { moment: *moment }),
             Refusal::DeferralsFull { held } => Ok(Refusal::DeferralsFull { held: *held }),
