@@ -1,5 +1,4 @@
 ghost use Rattle.std.specs.Prelude.{◌≡◌, ◌==◌, ◌<◌, ◌+◌, List, ℕ, All, Some, OnOk, OnErr, IfSome, drop, length};
-ghost use Rattle.std.specs.List.Sorted.{IsNonDecreasing};
 ghost use Rattle.std.specs.List.{find, slice_get};
 ghost use Rattle.std.specs.Option.{option_copied, option_map, option_and_then};
 ghost use Rattle.taf.specs.Parts.{IsMoment};
@@ -190,10 +189,10 @@ impl Reports {
     }
 
     /// Takes away the reports that were observed or issued before that moment, but for the latest of
-    /// each kind and station and those with a number among `keep`, which doesn't fall. It answers how
-    /// many went, leaves no room, and takes no memory.
+    /// each kind and station and those with a number among `keep`. It answers how many went, leaves no
+    /// room, and takes no memory. A number is found by halves where `keep` is sorted, and is looked for
+    /// from its front where it isn't.
     pub fn sweep(&mut self, before: Minute, keep: &[u64]) -> u64
-        requires { IsNonDecreasing keep.now }
         ensures reports { self.new ≡ with_swept before keep.now self.old }
         ensures count { result + length self.new.reports ≡ length self.old.reports }
         ensures latest { (kind : Kind) (station : List ℕ) → latest kind station self.new.reports ≡ latest kind station self.old.reports }

@@ -1,4 +1,4 @@
-ghost use Rattle.std.specs.Prelude.{ℕ, ◌≡◌, ◌==◌, ◌<◌, AllPairs, length};
+ghost use Rattle.std.specs.Prelude.{ℕ, ◌≡◌, ◌==◌, ◌<◌, AllPairs, IsTrue, length};
 ghost use Rattle.std.specs.List.{list_any};
 ghost use Rattle.std.specs.List.Sorted.{IsNonDecreasing};
 ghost use Rattle.std.specs.Map.{lookup, keys_of};
@@ -40,24 +40,44 @@ fn stands_latest(stations: &Sorted<[u8; 4], Places>, report: &Report, place: usi
     is_place(place_of(kind_of(&report.read), places), place)
 }
 
-fn is_kept(keep: &[u64], id: u64) -> bool
+fn are_sorted(keep: &[u64]) -> bool
+    ensures { IsTrue result → IsNonDecreasing keep.now }
+{
+    keep.is_sorted()
+}
+
+fn is_found(keep: &[u64], id: u64) -> bool
     requires { IsNonDecreasing keep.now }
     ensures { result ≡ list_any (λ kept. kept == id) keep.now }
 {
     keep.binary_search(&id).is_ok()
 }
 
+fn is_kept(keep: &[u64], sorted: bool, id: u64) -> bool
+    requires { IsTrue sorted → IsNonDecreasing keep.now }
+    ensures { result ≡ list_any (λ kept. kept == id) keep.now }
+{
+    if sorted {
+        is_found(keep, id)
+    } else {
+        keep.contains(&id)
+    }
+}
+
 fn stays_at(
     before: Minute,
     keep: &[u64],
+    sorted: bool,
     stations: &Sorted<[u8; 4], Places>,
     report: &Report,
     place: usize,
 ) -> bool
-    requires { IsNonDecreasing keep.now }
+    requires { IsTrue sorted → IsNonDecreasing keep.now }
     ensures { result ≡ spec.stays_at before keep.now stations.now.entries report.now place }
 {
-    before <= report.minute() || stands_latest(stations, report, place) || is_kept(keep, report.id)
+    before <= report.minute()
+        || stands_latest(stations, report, place)
+        || is_kept(keep, sorted, report.id)
 }
 
 /// Takes away the reports that don't stay, where the index is that of the reports.
@@ -70,12 +90,12 @@ pub(crate) fn sweep_held(
 )
     requires rising { AllPairs (λ a b. a.id < b.id) held.old.items }
     requires index { IsLatestIndex stations.now.entries held.old.items }
-    requires keep { IsNonDecreasing keep.now }
     ensures { held.new.items ≡ swept before keep.now held.old.items }
 {
+    let sorted = are_sorted(keep);
     let mut to = 0;
     for from in 0..held.len() {
-        if stays_at(before, keep, stations, &held[from], from) {
+        if stays_at(before, keep, sorted, stations, &held[from], from) {
             held.swap(to, from);
             to += 1;
         }

@@ -1,6 +1,3 @@
-ghost use Rattle.std.specs.Prelude.{IsTrue};
-ghost use Rattle.std.specs.List.Sorted.{IsNonDecreasing};
-
 use crate::held::{DAY, admit, latest};
 use codes::ReportFault;
 use desk_time::{FIRST, LAST, Minute};
@@ -39,15 +36,9 @@ fn have_ids(reports: &Reports, ids: &[u64]) -> bool {
     held.len() == ids.len() && held.iter().zip(ids).all(|(report, id)| report.id == *id)
 }
 
-fn rise(ids: &[u64]) -> bool
-    ensures { IsTrue result → IsNonDecreasing ids.now }
-{
-    ids.is_sorted()
-}
-
 // Whether so many went, and which are left.
 fn leaves(reports: &mut Reports, before: Minute, keep: &[u64], went: u64, left: &[u64]) -> bool {
-    rise(keep) && reports.sweep(before, keep) == went && have_ids(reports, left)
+    reports.sweep(before, keep) == went && have_ids(reports, left)
 }
 
 fn have_latest(reports: &Reports) -> bool {
@@ -93,6 +84,23 @@ fn old_reports_are_swept_away(rt: HostRuntime) -> Result<(), Fail> {
     assert!(rt; is_swept(&mut reports));
     assert!(rt; comes_again(alloc, &mut reports)?);
     assert!(rt; leaves_the_latest(&mut reports));
+    Ok(())
+}
+
+#[test]
+fn numbers_to_keep_stand_in_any_order(rt: HostRuntime) -> Result<(), Fail> {
+    let alloc = rt.alloc();
+    let mut reports = three_days(alloc)?;
+    assert!(rt;
+        leaves(
+            &mut reports,
+            BEFORE,
+            &[8, 77, 5, 8],
+            3,
+            &[3, 4, 5, 6, 7, 8, 10]
+        )
+    );
+    assert!(rt; leaves(&mut reports, LAST, &[8, 4, 1], 1, &[3, 4, 6, 7, 8, 10]));
     Ok(())
 }
 
