@@ -2,3 +2,4 @@ pub mod Crossing
 mod OrderLaws
 mod PlaceLaws
 mod Places
+mod SortLaws

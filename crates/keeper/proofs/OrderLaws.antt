@@ -13,7 +13,7 @@ use Rattle.keeper.specs.Order.{comes_before, is_below, rises_from, rising, put_h
 use Rattle.keeper.specs.Kept.{AreSame}
 
 -- two places are the same
-abbrev same_place : ℕ → ℕ → ℕ → ℕ → Bool
+abbrev pub same_place : ℕ → ℕ → ℕ → ℕ → Bool
 same_place a b c d = (a == c) && (b == d)
 
 pub before_trans : (a b c d e f : ℕ) → comes_before a b c d ≡ true → comes_before c d e f ≡ true → comes_before a b e f ≡ true
@@ -48,14 +48,14 @@ rising_rest row [] up = refl
 rising_rest row (next ∷ rows) up = (and_parts (is_below next.kind next.key row) (rises_from next rows) up).1
 
 -- no row of a place before the first
-none_before : (k q : ℕ) (row : Row) (rows : List Row) → comes_before k q row.kind row.key ≡ true → rises_from row rows ≡ true → find (is_row k q) (row ∷ rows) ≡ None
+pub none_before : (k q : ℕ) (row : Row) (rows : List Row) → comes_before k q row.kind row.key ≡ true → rises_from row rows ≡ true → find (is_row k q) (row ∷ rows) ≡ None
 none_before k q row [] low up = rw (not_after k q row.kind row.key low) refl
 none_before k q row (next ∷ rows) low up =
     let parts = and_parts (is_below next.kind next.key row) (rises_from next rows) up in
     rw (not_after k q row.kind row.key low) (none_before k q next rows (before_trans k q row.kind row.key next.kind next.key low parts.0) parts.1)
 
 -- no second row of the place of the first
-none_twice : (k q : ℕ) (row : Row) (rows : List Row) → is_row k q row ≡ true → rises_from row rows ≡ true → find (is_row k q) rows ≡ None
+pub none_twice : (k q : ℕ) (row : Row) (rows : List Row) → is_row k q row ≡ true → rises_from row rows ≡ true → find (is_row k q) rows ≡ None
 none_twice k q row [] is up = refl
 none_twice k q row (next ∷ rows) is up =
     let parts = and_parts (is_below next.kind next.key row) (rises_from next rows) up in

@@ -1,6 +1,6 @@
 -- Rows in order of kind and then of key, and changes of a list of rows in that order.
-use Rattle.std.specs.Prelude.{ℕ, zero, suc, ◌==◌, nat_lt, ◌&&◌, ◌||◌, Bool, true, false, if◌then◌else◌, List, [], ◌∷◌, Option, None, Some}
-use Rattle.std.specs.List.{cons_option}
+use Rattle.std.specs.Prelude.{◌≡◌, ℕ, zero, suc, ◌==◌, nat_lt, ◌&&◌, ◌||◌, Bool, true, false, if◌then◌else◌, List, [], ◌∷◌, Option, None, Some}
+use Rattle.std.specs.List.{cons_option, AllPairs}
 use Rattle.desk_io.specs.declared.rows.Row.{Row}
 use Rattle.desk_io.specs.declared.rows.Change.{Change}
 use Rattle.desk_io.specs.declared.rows.Change.TheVariants.{Put, Remove}
@@ -13,6 +13,10 @@ comes_before k q kind key = nat_lt k kind || ((k == kind) && nat_lt q key)
 -- the row comes before that kind and key
 abbrev pub is_below : ℕ → ℕ → Row → Bool
 is_below kind key row = comes_before row.kind row.key kind key
+
+-- no two rows have the same kind and key
+abbrev pub AreApart : List Row → Type 0
+AreApart rows = AllPairs (λ a b. is_row a.kind a.key b ≡ false) rows
 
 -- the row at that place is of that kind and key
 abbrev pub stands_at : ℕ → ℕ → ℕ → List Row → Bool

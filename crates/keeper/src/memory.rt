@@ -2,11 +2,11 @@ ghost use Rattle.std.specs.Prelude.{◌≡◌, [], Some, IsTrue, IfOk, OnOk, OnE
 ghost use Rattle.desk_io.specs.Causes.{HasCause};
 ghost use Rattle.desk_io.specs.Planned.{is_planned, after};
 ghost use Rattle.desk_io.specs.Rows.{rows_of};
-ghost use Rattle.keeper.specs.Order.{rising};
-ghost use Rattle.keeper.specs.Kept.{Lists, Leads, Fails};
+ghost use Rattle.keeper.specs.Order.{rising, AreApart};
+ghost use Rattle.keeper.specs.Kept.{AreSame, Lists, Leads, Fails};
 ghost use Rattle.keeper.specs.declared.keeping.KeepFault.TheVariants.{Failed as KeepFailed};
 
-use crate::order::{copied_changes, make_all};
+use crate::order::{copied_changes, make_all, put_in_order};
 use crate::{KeepFault, Keeper};
 use desk_io::{Change, Row, copied_items};
 use std::alloc::Global;
@@ -23,14 +23,18 @@ pub struct MemoryKeeper {
 }
 
 impl MemoryKeeper {
-    /// A keeper of rows in order of kind and then of key (`is_rising`). It takes no memory.
-    pub fn new(rows: Vec<Row>, fail: Vec<u64>) -> Self
-        requires { IsTrue (rising rows.items) }
-        ensures rows { result.rows.items ≡ rows.items }
+    /// A keeper of rows of which no two have the same kind and key. It puts them in order and takes no memory.
+    pub fn new(mut rows: Vec<Row>, fail: Vec<u64>) -> Self
+        requires { AreApart rows.items }
+        ensures same { AreSame (rows_of result.rows.items) (rows_of rows.items) }
+        ensures rising { IsTrue (rising result.rows.items) }
+        // Rows that stand in order stay as they are.
+        ensures already { IsTrue (rising rows.items) → result.rows.items ≡ rows.items }
         ensures fail { result.fail.items ≡ fail.items }
         ensures calls { result.calls ≡ 0 }
         ensures faults { result.faults ≡ 0 }
     {
+        put_in_order(&mut rows);
         MemoryKeeper {
             rows,
             fail,

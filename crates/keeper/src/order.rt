@@ -1,5 +1,6 @@
 ghost use Rattle.std.specs.Prelude.{◌≡◌, ◌+◌, ◌++◌, ◌<◌, ◌≤◌, take, drop, insert, Option, IsTrue, IfOk, length, if◌then◌else◌, vec_len};
 ghost use Rattle.std.specs.List.{cons_option};
+ghost use Rattle.std.specs.List.Sorted.{IsPermutation, IsSortedBy};
 ghost use Rattle.std.specs.Vec.{vec_capacity};
 ghost use Rattle.desk_io.specs.declared.rows.Row.{Row as ARow};
 ghost use Rattle.desk_io.specs.Rows.{is_row, rows_of, changed_by};
@@ -29,15 +30,39 @@ fn rises_from(first: &Row, rest: &[Row]) -> bool
     true
 }
 
-/// Each row comes before the next, in order of kind and then of key. So no two have the same kind and
-/// key.
-pub fn is_rising(rows: &[Row]) -> bool
+fn rises(rows: &[Row]) -> bool
     ensures { result ≡ spec.rising rows.now }
 {
     match rows {
         [] => true,
         [first, rest @ ..] => rises_from(first, rest),
     }
+}
+
+/// Each row comes before the next, in order of kind and then of key. So no two have the same kind and
+/// key.
+pub fn is_rising(rows: &[Row]) -> bool
+    ensures value { result ≡ spec.rising rows.now }
+    ensures apart { IsTrue result → spec.AreApart rows.now }
+{
+    rises(rows)
+}
+
+fn sort(rows: &mut Vec<Row>)
+    ensures moved { IsPermutation rows.old.items rows.new.items }
+    ensures sorted { IsSortedBy (λ (a : ARow) (b : ARow). spec.is_below b.kind b.key a) rows.new.items }
+{
+    rows.sort_unstable_by_key(|row| (row.kind, row.key));
+}
+
+/// Puts rows in order of kind and then of key. It takes no memory.
+pub fn put_in_order(rows: &mut Vec<Row>)
+    requires { spec.AreApart rows.old.items }
+    ensures same { AreSame (rows_of rows.new.items) (rows_of rows.old.items) }
+    ensures rising { IsTrue (spec.rising rows.new.items) }
+    ensures already { IsTrue (spec.rising rows.old.items) → rows.new.items ≡ rows.old.items }
+{
+    sort(rows);
 }
 
 // How many rows come before a kind and a key, and whether the one after them is of that kind and key.
