@@ -8,7 +8,7 @@ use Rattle.plan.specs.declared.flights.TakeoffAlternate.{TakeoffAlternate}
 use Rattle.plan.specs.declared.flights.Leg.{Leg}
 use Rattle.plan.specs.declared.flights.Plan.{Plan}
 use Rattle.asks.specs.declared.call.Ask.{Ask}
-use Rattle.asks.specs.declared.call.Ask.TheVariants.{Admit, Defer, Clear, Draft, Prepare, Sign, Concur, Amend, Cancel, Depart, Arrive, Acknowledge, Purge, ViewBoard, ViewAlerts, ViewRelease, ViewWeather, ViewDeferred}
+use Rattle.asks.specs.declared.call.Ask.TheVariants.{Admit, Defer, Clear, Draft, Prepare, Sign, Concur, Amend, Cancel, Depart, Arrive, Acknowledge, Purge, Sweep, ViewBoard, ViewAlerts, ViewRelease, ViewWeather, ViewDeferred}
 use Rattle.asks.specs.declared.reply.Done.{Done}
 use Rattle.asks.specs.declared.reply.Done.TheVariants.{Report, Deferral, Filed, Prepared, Release, Swept}
 use Rattle.plan_json.specs.Canonical.{option_data, alternate_data, takeoff_data, leg_data, plan_data, ask_data, done_data}
@@ -47,6 +47,7 @@ ask_whole (Depart release leg) = refl
 ask_whole (Arrive release leg) = refl
 ask_whole (Acknowledge release version) = refl
 ask_whole (Purge release) = refl
+ask_whole (Sweep before) = refl
 ask_whole ViewBoard = refl
 ask_whole ViewAlerts = refl
 ask_whole (ViewRelease release) = refl

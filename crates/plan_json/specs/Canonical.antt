@@ -16,7 +16,7 @@ use Rattle.plan.specs.declared.flights.TakeoffAlternate.{TakeoffAlternate}
 use Rattle.plan.specs.declared.flights.Leg.{Leg}
 use Rattle.plan.specs.declared.flights.Plan.{Plan}
 use Rattle.asks.specs.declared.call.Ask.{Ask}
-use Rattle.asks.specs.declared.call.Ask.TheVariants.{Admit, Defer, Clear, Draft, Prepare, Sign, Concur, Amend, Cancel, Depart, Arrive, Acknowledge, Purge, ViewBoard, ViewAlerts, ViewRelease, ViewWeather, ViewDeferred}
+use Rattle.asks.specs.declared.call.Ask.TheVariants.{Admit, Defer, Clear, Draft, Prepare, Sign, Concur, Amend, Cancel, Depart, Arrive, Acknowledge, Purge, Sweep, ViewBoard, ViewAlerts, ViewRelease, ViewWeather, ViewDeferred}
 use Rattle.asks.specs.declared.reply.Done.{Done}
 use Rattle.asks.specs.declared.reply.Done.TheVariants.{Report, Deferral, Filed, Prepared, Release, Swept}
 use Rattle.plan_json.specs.declared.plans.Form.TheVariants.{Flight, Tail, Captain}
@@ -112,6 +112,7 @@ ask_name (Depart release leg) = codes "depart"
 ask_name (Arrive release leg) = codes "arrive"
 ask_name (Acknowledge release version) = codes "acknowledge"
 ask_name (Purge release) = codes "purge"
+ask_name (Sweep before) = codes "sweep"
 ask_name ViewBoard = codes "board"
 ask_name ViewAlerts = codes "alerts"
 ask_name (ViewRelease release) = codes "release"
@@ -133,6 +134,7 @@ with_asked (Depart release leg) ms = put (codes "leg") (count leg) (put (codes "
 with_asked (Arrive release leg) ms = put (codes "leg") (count leg) (put (codes "release") (count release) ms)
 with_asked (Acknowledge release version) ms = put (codes "version") (count version) (put (codes "release") (count release) ms)
 with_asked (Purge release) ms = put (codes "release") (count release) ms
+with_asked (Sweep before) ms = put (codes "before") (moment_data before) ms
 with_asked ViewBoard ms = ms
 with_asked ViewAlerts ms = ms
 with_asked (ViewRelease release) ms = put (codes "release") (count release) ms
@@ -232,6 +234,7 @@ AskHasForms (Depart release leg) = IsId release × IsAmount leg
 AskHasForms (Arrive release leg) = IsId release × IsAmount leg
 AskHasForms (Acknowledge release version) = IsId release × IsId version
 AskHasForms (Purge release) = IsId release
+AskHasForms (Sweep before) = IsMoment before
 AskHasForms ViewBoard = Unit {0}
 AskHasForms ViewAlerts = Unit {0}
 AskHasForms (ViewRelease release) = IsId release

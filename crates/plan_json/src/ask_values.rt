@@ -38,6 +38,7 @@ fn ask_name(ask: &Ask) -> &'static str
         Ask::Arrive { .. } => "arrive",
         Ask::Acknowledge { .. } => "acknowledge",
         Ask::Purge { .. } => "purge",
+        Ask::Sweep { .. } => "sweep",
         Ask::ViewBoard => "board",
         Ask::ViewAlerts => "alerts",
         Ask::ViewRelease { .. } => "release",
@@ -151,6 +152,7 @@ fn with_asked(alloc: Global, members: Members, ask: &Ask) -> Result<Members, Out
             with_numbered(alloc, members, *release, "version", *version)
         }
         Ask::Purge { release } => with_release(alloc, members, *release),
+        Ask::Sweep { before } => with_moment(alloc, members, "before", *before),
         Ask::ViewBoard => Ok(members),
         Ask::ViewAlerts => Ok(members),
         Ask::ViewRelease { release } => with_release(alloc, members, *release),
