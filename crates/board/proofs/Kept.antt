@@ -4,6 +4,8 @@ use Rattle.alerts.specs.declared.alert.Alert.{Alert}
 use Rattle.asks.specs.declared.call.Call.{Call}
 use Rattle.asks.specs.declared.reply.Reply.{Reply}
 use Rattle.asks.specs.Forms.{IsCall, ReplyHasMoment}
+use Rattle.asks.specs.declared.kept.KeptReply.{KeptReply}
+use Rattle.std.specs.Prelude.{option_to_list}
 use Rattle.machine.specs.declared.entry.Entry.{Entry}
 use Rattle.machine.specs.declared.effect.Effect.{Effect}
 use Rattle.machine.specs.declared.effect.Decision.{Decision}
@@ -11,7 +13,8 @@ use Rattle.machine.specs.declared.effect.Decision.TheVariants.{Do}
 use Rattle.machine.specs.State.{State}
 use Rattle.machine.specs.Events.{effected, alert_changes, notices_of, put_changes}
 use Rattle.machine.specs.Decide.{decide}
-use Rattle.machine.specs.Step.{counted, after_event, answer_call, tick_to}
+use Rattle.machine.specs.declared.entry.What.TheVariants as what
+use Rattle.machine.specs.Step.{entry, kept_of, counted, after_event, answer_call, tick_to}
 use Rattle.machine.specs.Sound.{Sound, InBounds, EffectFits, DecisionFits, IsEntered, IsBoard}
 use Rattle.machine.proofs.Boards.{call_keeps, tick_keeps, reply_shown, tick_shown}
 use Rattle.alerts.specs.declared.notices.Notice.{Notice}
@@ -48,20 +51,21 @@ pub effect_may : (s : State) (call : Call) (d : Decision) (reply : Reply) (effec
 effect_may s call d reply effect is made sound kept form has =
     may_come s effect (effect_of s call d reply effect is made sound kept form) (subst DecisionAdmitsRead is has) kept
 
-abbrev with_alerts : State → Entry → List Alert → State
-with_alerts t e alerts = record t { counters = counted e.what t.counters; alerts = alerts; entries = t.entries ++ e ∷ [] }
+abbrev with_alerts : State → Entry → Option KeptReply → List Alert → State
+with_alerts t e kept alerts = record t { counters = counted e.what t.counters; alerts = alerts; kept = t.kept ++ option_to_list kept; entries = t.entries ++ e ∷ [] }
 
 -- what is planned for an effect is the step
-pub planned_is : (s : State) (p : Prepared) (reply : Option Reply) (effect : Effect) (j : Judged) (made e : Entry)
-    → p.reply ≡ reply → p.notices ≡ j.notices → p.event ≡ Some (record { effect = effect; changes = j.changes; entered = made }) → made ≡ e
+pub planned_is : (s : State) (p : Prepared) (reply : Option Reply) (effect : Effect) (j : Judged) (made e : Entry) (kept : Option KeptReply)
+    → p.reply ≡ reply → p.notices ≡ j.notices → p.event ≡ Some (record { effect = effect; changes = j.changes; entered = made; kept = kept }) → made ≡ e → kept ≡ kept_of (effected effect s) e.what
     → j.changes.items ≡ alert_changes effect s → j.notices ≡ notices_of (alert_changes effect s) → EffectFits s effect → Sound s
     → IsStepped s p (after_event s reply effect e)
 unfolding installed
-planned_is s p reply effect j made e replied told event entered changes notices fits sound = record {
+planned_is s p reply effect j made e kept replied told event entered keeps changes notices fits sound = record {
   reply = replied;
   state = ap (λ o. with_events o s) event
-      ∙ ap (λ (x : Entry). with_alerts (effected effect s) x (put_changes j.changes.items s.alerts)) entered
-      ∙ ap (λ (alerts : List Alert). with_alerts (effected effect s) e alerts) (ap (λ cs. put_changes cs s.alerts) changes ∙ changes_lead effect s fits sound);
+      ∙ ap (λ (x : Entry). with_alerts (effected effect s) x kept (put_changes j.changes.items s.alerts)) entered
+      ∙ ap (λ (o : Option KeptReply). with_alerts (effected effect s) e o (put_changes j.changes.items s.alerts)) keeps
+      ∙ ap (λ (alerts : List Alert). with_alerts (effected effect s) e (kept_of (effected effect s) e.what) alerts) (ap (λ cs. put_changes cs s.alerts) changes ∙ changes_lead effect s fits sound);
   notices = told ∙ notices;
 }
 
@@ -153,13 +157,14 @@ tick_fits : (s : State) (to : ℕ) → IsMoment to → EffectFits s (tick to)
 tick_fits s to shown = record { moment = shown; report = tt; deferrals = tt; releases = tt }
 
 -- a tick fits, and may be made
-pub ticked_is : (s : State) (p : Prepared) (to : ℕ) (effect : Effect) (j : Judged) (made e : Entry)
-    → effect ≡ tick to → p.reply ≡ None → p.notices ≡ j.notices → p.event ≡ Some (record { effect = effect; changes = j.changes; entered = made }) → made ≡ e
+pub ticked_is : (s : State) (p : Prepared) (lane to : ℕ) (effect : Effect) (j : Judged) (made : Entry)
+    → effect ≡ tick to → p.reply ≡ None → p.notices ≡ j.notices → p.event ≡ Some (record { effect = effect; changes = j.changes; entered = made; kept = None })
+    → made ≡ entry lane (what.Tick to)
     → j.changes.items ≡ alert_changes effect s → j.notices ≡ notices_of (alert_changes effect s) → IsMoment to → Sound s
-    → IsStepped s p (after_event s None (tick to) e)
-ticked_is s p to effect j made e is replied told event entered changes notices shown sound =
-    subst (λ (x : Effect). IsStepped s p (after_event s None x e)) is
-    (planned_is s p None effect j made e replied told event entered changes notices (subst (EffectFits s) (sym is) (tick_fits s to shown)) sound)
+    → IsStepped s p (after_event s None (tick to) (entry lane (what.Tick to)))
+ticked_is s p lane to effect j made is replied told event entered changes notices shown sound =
+    subst (λ (x : Effect). IsStepped s p (after_event s None x (entry lane (what.Tick to)))) is
+    (planned_is s p None effect j made (entry lane (what.Tick to)) None replied told event entered refl changes notices (subst (EffectFits s) (sym is) (tick_fits s to shown)) sound)
 
 pub tick_fits_as : (s : State) (to : ℕ) (effect : Effect) → effect ≡ tick to → IsMoment to → EffectFits s effect
 tick_fits_as s to effect is shown = subst (EffectFits s) (sym is) (tick_fits s to shown)

@@ -1,5 +1,5 @@
 -- A step that is prepared: what is left is to put it in place.
-use Rattle.std.specs.Prelude.{◌≡◌, ◌∷◌, [], ◌++◌, length, Option, None, Some}
+use Rattle.std.specs.Prelude.{◌≡◌, ◌∷◌, [], ◌++◌, length, option_to_list, Option, None, Some}
 use Rattle.machine.specs.State.{State}
 use Rattle.machine.specs.Events.{effected, put_changes}
 use Rattle.machine.specs.Step.{Stepped, counted}
@@ -16,6 +16,7 @@ abbrev pub with_event : Event → State → State
 with_event e s = record (effected e.effect s) {
   counters = counted e.entered.what (effected e.effect s).counters;
   alerts = put_changes e.changes.items s.alerts;
+  kept = (effected e.effect s).kept ++ option_to_list e.kept;
   entries = (effected e.effect s).entries ++ e.entered ∷ [];
 }
 

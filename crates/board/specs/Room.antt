@@ -38,9 +38,10 @@ HasPlace held (on_releases.Remove id) = Unit {0}
 abbrev pub HasReleaseRoom : Content → OnReleases → Type 0
 HasReleaseRoom c on = HasPlace c.releases on
 
--- there is room for an entry, for some more alerts, and for what an effect adds
+-- there is room for an entry, for a kept reply, for some more alerts, and for what an effect adds
 pub record HasRoom (c : Content) (more : ℕ) (e : Effect) : Type 0 where
   pub entries : vec_len c.entries < vec_capacity c.entries
+  pub kept : vec_len c.kept < vec_capacity c.kept
   pub alerts : vec_len c.alerts + more ≤ vec_capacity c.alerts
   pub report : HasReportRoom c e.report
   pub deferral : HasDeferralRoom c e.on_deferrals

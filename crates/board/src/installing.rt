@@ -1,4 +1,4 @@
-ghost use Rattle.std.specs.Prelude.{◌≡◌, ◌≤◌, ◌<◌, Some, true, IfSome, length, vec_len, vec_capacity};
+ghost use Rattle.std.specs.Prelude.{◌≡◌, ◌≤◌, ◌<◌, ◌++◌, Some, true, IfSome, filter, length, option_to_list, vec_len, vec_capacity};
 ghost use Rattle.facts.specs.Reports.{room_for};
 ghost use Rattle.machine.specs.Contents.{state_of};
 ghost use Rattle.machine.specs.Events as events;
@@ -10,9 +10,13 @@ ghost use Rattle.board.specs.Prepare.{with_event, with_events, MayInstall};
 
 use crate::held_alerts::put_changes;
 use crate::prepared::Event;
+use asks::{Floors, KeptReply};
 use deferrals::Deferrals;
+use desk_time::Minute;
 use facts::{Report, Reports};
-use machine::{Content, Effect, Entry, OnDeferrals, OnReleases, What, place_of, place_of_id};
+use machine::{
+    Content, Effect, Entry, OnDeferrals, OnReleases, Sweep, What, place_of, place_of_id,
+};
 use plan::Release;
 
 // Puts a release in the place of the first of its id.
@@ -81,6 +85,52 @@ fn change_releases(releases: &mut Vec<Release>, next: &mut u64, on: OnReleases)
     }
 }
 
+fn is_since(before: Minute, reply: &KeptReply) -> bool
+    ensures { result ≡ events.is_since before reply.now }
+{
+    before <= reply.at
+}
+
+// Takes out what is kept of requests that were accepted before a moment.
+fn sweep_kept(kept: &mut Vec<KeptReply>, before: Minute)
+    ensures items { kept.new.items ≡ filter (events.is_since before) kept.old.items }
+    ensures len { vec_len kept.new ≤ vec_len kept.old }
+    ensures capacity { vec_capacity kept.new ≡ vec_capacity kept.old }
+{
+    let mut to = 0;
+    for from in 0..kept.len() {
+        if is_since(before, &kept[from]) {
+            kept.swap(to, from);
+            to += 1;
+        }
+    }
+    kept.truncate(to);
+}
+
+fn sweep(
+    reports: &mut Reports,
+    kept: &mut Vec<KeptReply>,
+    floors: &mut Floors,
+    sweep: Option<Sweep>,
+)
+    ensures reports { reports.new.reports ≡ events.reports_swept sweep reports.old.reports }
+    ensures kept { kept.new.items ≡ events.kept_after sweep kept.old.items }
+    ensures len { vec_len kept.new ≤ vec_len kept.old }
+    ensures capacity { vec_capacity kept.new ≡ vec_capacity kept.old }
+    ensures floors { floors.new ≡ events.floors_after sweep floors.old }
+{
+    if let Some(sweep) = sweep {
+        let Sweep {
+            before,
+            attached,
+            floors: raised,
+        } = sweep;
+        let _ = reports.sweep(before, attached.as_slice());
+        sweep_kept(kept, before);
+        *floors = raised;
+    }
+}
+
 // Makes the effect, but leaves the alerts.
 fn change(content: &mut Content, effect: Effect)
     requires report { HasReportRoom content.old effect.report }
@@ -90,6 +140,8 @@ fn change(content: &mut Content, effect: Effect)
     ensures state { state_of content.new ≡ record (effected effect (state_of content.old)) { alerts = content.old.alerts.items } }
     ensures alerts { content.new.alerts ≡ content.old.alerts }
     ensures entries { content.new.entries ≡ content.old.entries }
+    ensures len { vec_len content.new.kept ≤ vec_len content.old.kept }
+    ensures capacity { vec_capacity content.new.kept ≡ vec_capacity content.old.kept }
     ensures events { content.new.counters.events ≡ content.old.counters.events }
     ensures accepted { content.new.counters.next_kept ≡ content.old.counters.next_kept }
 {
@@ -112,6 +164,12 @@ fn change(content: &mut Content, effect: Effect)
         &mut counters.next_release,
         effect.on_releases,
     );
+    sweep(
+        &mut content.reports,
+        &mut content.kept,
+        &mut content.floors,
+        effect.sweep,
+    );
 }
 
 fn count(content: &mut Content, entered: &Entry)
@@ -122,6 +180,16 @@ fn count(content: &mut Content, entered: &Entry)
     content.counters.events += 1;
     if let What::Asked { .. } = entered.what {
         content.counters.next_kept += 1;
+    }
+}
+
+// Keeps the reply to an accepted command.
+fn keep(replies: &mut Vec<KeptReply>, kept: Option<KeptReply>)
+    requires { vec_len replies.old < vec_capacity replies.old }
+    ensures { replies.new.items ≡ replies.old.items ++ option_to_list kept }
+{
+    if let Some(kept) = kept {
+        replies.push_reserved(kept);
     }
 }
 
@@ -136,10 +204,12 @@ fn install_event(content: &mut Content, event: Event)
         effect,
         changes,
         entered,
+        kept,
     } = event;
     change(content, effect);
     count(content, &entered);
     put_changes(&mut content.alerts, changes);
+    keep(&mut content.kept, kept);
     content.entries.push_reserved(entered);
 }
 

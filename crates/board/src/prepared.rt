@@ -2,7 +2,7 @@ ghost use Rattle.std.specs.Prelude.{◌≡◌, is_some};
 ghost use Rattle.std.specs.Option.{option_copied};
 
 use alerts::Notices;
-use asks::Reply;
+use asks::{KeptReply, Reply};
 use machine::{AlertChange, Effect, Entry};
 
 /// What an event changes, once all memory is taken.
@@ -14,6 +14,8 @@ pub struct Event {
     pub(crate) changes: Vec<AlertChange>,
     /// The entry of the history.
     pub(crate) entered: Entry,
+    /// What is kept of an accepted command.
+    pub(crate) kept: Option<KeptReply>,
 }
 
 /// A step that only has to be put in place.

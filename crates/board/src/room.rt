@@ -10,6 +10,7 @@ use machine::{Content, Effect, OnDeferrals, OnReleases};
 fn reserve_report(content: &mut Content, report: Option<&Report>) -> Result<(), OutOfMemory>
     ensures same { state_of content.new ≡ state_of content.old }
     ensures entries { content.new.entries ≡ content.old.entries }
+    ensures kept { content.new.kept ≡ content.old.kept }
     ensures alerts { content.new.alerts ≡ content.old.alerts }
     ensures deferrals { content.new.deferrals ≡ content.old.deferrals }
     ensures releases { content.new.releases ≡ content.old.releases }
@@ -24,6 +25,7 @@ fn reserve_report(content: &mut Content, report: Option<&Report>) -> Result<(), 
 fn reserve_deferral(content: &mut Content, on: &OnDeferrals) -> Result<(), OutOfMemory>
     ensures same { state_of content.new ≡ state_of content.old }
     ensures entries { content.new.entries ≡ content.old.entries }
+    ensures kept { content.new.kept ≡ content.old.kept }
     ensures alerts { content.new.alerts ≡ content.old.alerts }
     ensures reports { content.new.reports ≡ content.old.reports }
     ensures releases { content.new.releases ≡ content.old.releases }
@@ -38,6 +40,7 @@ fn reserve_deferral(content: &mut Content, on: &OnDeferrals) -> Result<(), OutOf
 fn reserve_release(content: &mut Content, on: &OnReleases) -> Result<(), OutOfMemory>
     ensures same { state_of content.new ≡ state_of content.old }
     ensures entries { content.new.entries ≡ content.old.entries }
+    ensures kept { content.new.kept ≡ content.old.kept }
     ensures alerts { content.new.alerts ≡ content.old.alerts }
     ensures reports { content.new.reports ≡ content.old.reports }
     ensures deferrals { content.new.deferrals ≡ content.old.deferrals }
@@ -55,6 +58,7 @@ pub fn reserve(content: &mut Content, more: usize, effect: &Effect) -> Result<()
     ensures room { OnOk result (HasRoom content.new more effect.now) }
 {
     content.entries.reserve(1)?;
+    content.kept.reserve(1)?;
     content.alerts.reserve(more)?;
     reserve_report(content, effect.report.as_ref())?;
     reserve_deferral(content, &effect.on_deferrals)?;

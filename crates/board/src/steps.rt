@@ -2,8 +2,8 @@ ghost use Rattle.std.specs.Prelude.{◌≡◌, [], length, None, Some, IfOk, OnO
 ghost use Rattle.machine.specs.Contents.{state_of};
 ghost use Rattle.machine.specs.Effects.{tick};
 ghost use Rattle.machine.specs.Events as events;
-ghost use Rattle.machine.specs.Events.{alert_changes};
-ghost use Rattle.machine.specs.State.{is_full};
+ghost use Rattle.machine.specs.Events.{effected, alert_changes};
+ghost use Rattle.machine.specs.State.{is_full, is_full_for};
 ghost use Rattle.machine.specs.Step as step;
 ghost use Rattle.machine.specs.Step.{do_call, answer_call, tick_to};
 ghost use Rattle.machine.specs.Sound.{Sound, InBounds, EffectFits};
@@ -15,12 +15,13 @@ ghost use Rattle.board.specs.Prepare.{IsStepped, MayInstall};
 use crate::prepared::{Event, Prepared};
 use crate::room::reserve;
 use alerts::Notices;
-use asks::{Call, Refusal, Reply};
+use asks::{Call, Done, KeptReply, Refusal, Reply};
 use decisions::{Stop, decide, mistaken};
 use desk_io::{Copied, OutOfMemory, Text};
 use desk_time::Minute;
 use judging::{Prospect, notices_of};
 use machine::{AlertChange, Content, Decision, Effect, Entry, What};
+use plan_json::ask_digest;
 use rules::Steps;
 use std::alloc::Global;
 use std::sync::ledger::Ledger;
@@ -30,6 +31,13 @@ use std::sync::ledger::Ledger;
 struct Judged {
     changes: Vec<AlertChange>,
     notices: Notices,
+}
+
+/// What stays of an event: its entry in the history, and what is kept of an accepted command.
+#[derive(Drop)]
+struct Recorded {
+    entered: Entry,
+    kept: Option<KeptReply>,
 }
 
 fn without_key(alloc: Global, call: &Call) -> Result<Call, OutOfMemory>
@@ -64,6 +72,70 @@ fn tick_entry(lane: u32, to: Minute) -> Entry
     }
 }
 
+fn moment_after(content: &Content, effect: &Effect) -> Minute
+    ensures { result ≡ (effected effect.now (state_of content.now)).moment }
+{
+    match effect.moment {
+        Some(to) => to,
+        None => content.moment,
+    }
+}
+
+fn kept_reply(
+    alloc: Global,
+    content: &Content,
+    effect: &Effect,
+    call: &Call,
+    done: Done,
+) -> Result<KeptReply, OutOfMemory>
+    requires { IsCall call.now.ask }
+    ensures { IfOk result (λ k. k ≡ step.kept_reply (effected effect.now (state_of content.now)) (step.without_key call.now) done) }
+{
+    Ok(KeptReply {
+        id: content.counters.next_kept,
+        actor: call.actor.copy(alloc)?,
+        number: call.number,
+        digest: ask_digest(alloc, &call.ask)?,
+        at: moment_after(content, effect),
+        done,
+    })
+}
+
+// What is kept of a call once its effect is there.
+fn kept_of(
+    alloc: Global,
+    content: &Content,
+    effect: &Effect,
+    call: &Call,
+    reply: &Reply,
+) -> Result<Option<KeptReply>, OutOfMemory>
+    requires { IsCall call.now.ask }
+    ensures { IfOk result (λ k. k ≡ step.kept_of_call (effected effect.now (state_of content.now)) (step.without_key call.now) reply.now) }
+{
+    match reply {
+        Reply::Done(done) => Ok(Some(kept_reply(alloc, content, effect, call, *done)?)),
+        Reply::Seen(_) | Reply::Refused(_) => Ok(None),
+    }
+}
+
+fn recorded(
+    alloc: Global,
+    content: &Content,
+    lane: u32,
+    call: &Call,
+    reply: &Reply,
+    effect: &Effect,
+) -> Result<Recorded, OutOfMemory>
+    requires { IsCall call.now.ask }
+    ensures entered { IfOk result (λ r. r.entered ≡ step.entry lane (What.Asked (step.without_key call.now) reply.now)) }
+    ensures kept { IfOk result (λ r. r.kept ≡ step.kept_of (effected effect.now (state_of content.now)) (What.Asked (step.without_key call.now) reply.now)) }
+{
+    Ok(Recorded {
+        entered: entry_of(alloc, lane, call, reply)?,
+        kept: kept_of(alloc, content, effect, call, reply)?,
+    })
+}
+
 fn stay(alloc: Global, reply: Reply) -> Prepared
     ensures reply { result.reply ≡ Some reply }
     ensures notices { result.notices ≡ [] }
@@ -76,10 +148,10 @@ fn stay(alloc: Global, reply: Reply) -> Prepared
     }
 }
 
-fn planned(reply: Option<Reply>, effect: Effect, judged: Judged, entered: Entry) -> Prepared
+fn planned(reply: Option<Reply>, effect: Effect, judged: Judged, recorded: Recorded) -> Prepared
     ensures reply { result.reply ≡ reply }
     ensures notices { result.notices ≡ judged.notices }
-    ensures event { result.event ≡ Some (record { effect = effect; changes = judged.changes; entered = entered }) }
+    ensures event { result.event ≡ Some (record { effect = effect; changes = judged.changes; entered = recorded.entered; kept = recorded.kept }) }
 {
     Prepared {
         reply,
@@ -87,7 +159,8 @@ fn planned(reply: Option<Reply>, effect: Effect, judged: Judged, entered: Entry)
         event: Some(Event {
             effect,
             changes: judged.changes,
-            entered,
+            entered: recorded.entered,
+            kept: recorded.kept,
         }),
     }
 }
@@ -97,6 +170,8 @@ fn full_reply(content: &Content) -> Reply
 {
     Reply::Refused(Refusal::HistoryFull {
         entries: content.entries.len() as u64,
+        kept: content.kept.len() as u64,
+        events: content.counters.events,
     })
 }
 
@@ -131,19 +206,21 @@ fn judge_call<L: Ledger>(
     reply: &Reply,
     effect: &Effect,
     steps: &mut Steps<L>,
-) -> Result<(Judged, Entry), OutOfMemory>
+) -> Result<(Judged, Recorded), OutOfMemory>
     requires sound { Sound (state_of content.old) }
     requires kept { InBounds (state_of content.old) }
     requires fits { EffectFits (state_of content.old) effect.now }
+    requires call { IsCall call.now.ask }
     ensures same { state_of content.new ≡ state_of content.old }
     ensures changes { IfOk result (λ j. j.0.changes.items ≡ alert_changes effect.now (state_of content.old)) }
     ensures notices { IfOk result (λ j. j.0.notices ≡ events.notices_of (alert_changes effect.now (state_of content.old))) }
     ensures room { IfOk result (λ j. HasRoom content.new (length j.0.changes.items) effect.now) }
-    ensures entered { IfOk result (λ j. j.1 ≡ step.entry lane (What.Asked (step.without_key call.now) reply.now)) }
+    ensures entered { IfOk result (λ j. j.1.entered ≡ step.entry lane (What.Asked (step.without_key call.now) reply.now)) }
+    ensures reply { IfOk result (λ j. j.1.kept ≡ step.kept_of (effected effect.now (state_of content.old)) (What.Asked (step.without_key call.now) reply.now)) }
 {
-    let entered = entry_of(alloc, lane, call, reply)?;
+    let recorded = recorded(alloc, content, lane, call, reply, effect)?;
     let judged = judge_all(alloc, content, effect, steps)?;
-    Ok((judged, entered))
+    Ok((judged, recorded))
 }
 
 // Prepares an accepted call.
@@ -159,13 +236,14 @@ fn prepare_accepted<L: Ledger>(
     requires sound { Sound (state_of content.old) }
     requires kept { InBounds (state_of content.old) }
     requires fits { EffectFits (state_of content.old) effect }
+    requires call { IsCall call.now.ask }
     requires may { MayBeMade (state_of content.old) effect }
     ensures same { state_of content.new ≡ state_of content.old }
     ensures stepped { IfOk result (λ p. IsStepped (state_of content.old) p (step.accepted (state_of content.old) lane call.now reply effect)) }
     ensures may { IfOk result (λ p. MayInstall content.new p.event) }
 {
-    let (judged, entered) = judge_call(alloc, content, lane, call, &reply, &effect, steps)?;
-    Ok(planned(Some(reply), effect, judged, entered))
+    let (judged, recorded) = judge_call(alloc, content, lane, call, &reply, &effect, steps)?;
+    Ok(planned(Some(reply), effect, judged, recorded))
 }
 
 #[tactic(auto, unfolding(crate::specs::Prepare::installed))]
@@ -181,12 +259,13 @@ fn prepare_entered<L: Ledger>(
     requires sound { Sound (state_of content.old) }
     requires kept { InBounds (state_of content.old) }
     requires fits { EffectFits (state_of content.old) effect }
+    requires call { IsCall call.now.ask }
     requires may { MayBeMade (state_of content.old) effect }
     ensures same { state_of content.new ≡ state_of content.old }
-    ensures stepped { IfOk result (λ p. IsStepped (state_of content.old) p (step.enter (is_full (state_of content.old)) (state_of content.old) lane call.now reply effect)) }
+    ensures stepped { IfOk result (λ p. IsStepped (state_of content.old) p (step.enter (is_full_for (state_of content.old) call.now.ask) (state_of content.old) lane call.now reply effect)) }
     ensures may { IfOk result (λ p. MayInstall content.new p.event) }
 {
-    if content.is_full() {
+    if content.is_full_for(&call.ask) {
         return Ok(stay(alloc, full_reply(content)));
     }
     prepare_accepted(alloc, content, lane, call, reply, effect, steps)
@@ -256,7 +335,11 @@ fn prepare_ticked<L: Ledger>(
 {
     let effect = Effect::tick(to);
     let judged = judge_all(alloc, content, &effect, steps)?;
-    Ok(planned(None, effect, judged, tick_entry(lane, to)))
+    let recorded = Recorded {
+        entered: tick_entry(lane, to),
+        kept: None,
+    };
+    Ok(planned(None, effect, judged, recorded))
 }
 
 /// Prepares a tick to a later moment, and takes all memory that it needs. What is held stays as it is.

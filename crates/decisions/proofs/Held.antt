@@ -8,13 +8,13 @@ use Rattle.machine.specs.State.{State}
 use Rattle.machine.specs.Texts.{newest}
 use Rattle.decisions.specs.Newest.{IsNewest, HasNewest}
 
-newest_by : (most : ℕ) (phase : Phase) (pending active : Option Revision) → most ≤ 999_999_999_999_000 → AreNumbered most pending active
+newest_by : (most : ℕ) (phase : Phase) (pending active : Option Revision) → most ≤ 999_999_999_999_999 → AreNumbered most pending active
     → IfSome pending (HasLegs phase) → IfSome active (HasLegs phase) → IfSome pending RevisionInBounds → IfSome active RevisionInBounds
     → IfSome (newest pending active) (IsNewest phase)
 newest_by most phase None None few numbered one two three four = tt
-newest_by most phase None (Some w) few numbered one two three four = record { is_plan = four.is_plan; fits = two.fits; small = let least = numbered.1 in omega (arith, few, least) }
-newest_by most phase (Some v) None few numbered one two three four = record { is_plan = three.is_plan; fits = one.fits; small = let least = numbered.1 in omega (arith, few, least) }
-newest_by most phase (Some v) (Some w) few numbered one two three four = record { is_plan = three.is_plan; fits = one.fits; small = let least = numbered.2 in omega (arith, few, least) }
+newest_by most phase None (Some w) few numbered one two three four = record { is_plan = four.is_plan; fits = two.fits; small = omega (arith, few, numbered) }
+newest_by most phase (Some v) None few numbered one two three four = record { is_plan = three.is_plan; fits = one.fits; small = omega (arith, few, numbered) }
+newest_by most phase (Some v) (Some w) few numbered one two three four = record { is_plan = three.is_plan; fits = one.fits; small = let least = numbered.1 in omega (arith, few, least) }
 
 -- the newest revision has a plan and a small number
 pub has_newest : (s : State) (r : Release) → InBounds s → Fits s.counters.events r → HasNewest r

@@ -1,3 +1,4 @@
+pub mod AttachedLaws
 pub mod Held
 pub mod Open
 pub mod Turns

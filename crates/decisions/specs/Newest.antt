@@ -11,7 +11,7 @@ use Rattle.machine.specs.Texts.{newest}
 pub record IsNewest (phase : Phase) (v : Revision) : Type 0 where
   pub is_plan : IsPlan v.plan
   pub fits : PhaseFits phase v.plan.legs
-  pub small : v.number ≤ 999_999_999_999_000
+  pub small : v.number ≤ 999_999_999_999_999
 
 abbrev pub HasNewest : Release → Type 0
 HasNewest r = IfSome (newest r.pending r.active) (IsNewest r.phase)

@@ -13,12 +13,15 @@ use crate::drafts::{amend, cancel, draft, prepare};
 use crate::equipment::{clear, defer, view_deferred};
 use crate::flights::{arrive, depart};
 use crate::people::not_his_role;
+use crate::repeats::{above_floor, floor_at, kept_at, repeated};
 use crate::reports::{admit, view_weather};
 use crate::retention::purge;
 use crate::shown::{view_alerts, view_board, view_release};
 use crate::signatures::{concur, sign};
+use crate::sweeps::sweep;
 use asks::{Ask, Call};
 use machine::{Content, Decision};
+use plan_json::ask_digest;
 use rules::Steps;
 use std::alloc::Global;
 use std::sync::ledger::Ledger;
@@ -60,6 +63,7 @@ fn decide_ask<L: Ledger>(
             acknowledge(alloc, content, actor, *release, *version)
         }
         Ask::Purge { release } => purge(content, *release),
+        Ask::Sweep { before } => sweep(alloc, content, *before),
         Ask::ViewBoard => view_board(alloc, content),
         Ask::ViewAlerts => view_alerts(alloc, content),
         Ask::ViewRelease { release } => view_release(alloc, content, *release),
@@ -68,8 +72,45 @@ fn decide_ask<L: Ledger>(
     }
 }
 
-/// What a call of a person comes to whose name and key are right: whether the ask is for his role, and then the tests
-/// of the ask in their order, of which the first that stops it answers.
+fn is_view(ask: &Ask) -> bool
+    ensures { result ≡ spec.is_view ask.now }
+{
+    match ask {
+        Ask::ViewBoard
+        | Ask::ViewAlerts
+        | Ask::ViewRelease { .. }
+        | Ask::ViewWeather { .. }
+        | Ask::ViewDeferred { .. } => true,
+        _ => false,
+    }
+}
+
+// What a command comes to. Its number is looked up first: one that is known has its reply, or is refused.
+fn decide_command<L: Ledger>(
+    alloc: Global,
+    content: &Content,
+    call: &Call,
+    steps: &mut Steps<L>,
+) -> Result<Decision, Stop>
+    requires sound { Sound (state_of content.now) }
+    requires kept { InBounds (state_of content.now) }
+    requires call { IsCall call.now.ask }
+    ensures value { Answers (λ d. d) result (spec.decide_numbered false (state_of content.now) call.now) }
+    ensures read { IfOk result DecisionAdmitsRead }
+{
+    match kept_at(&content.kept, call.actor.bytes(), call.number) {
+        Some(reply) => repeated(reply, &ask_digest(alloc, &call.ask)?),
+        None => {
+            let floor = floor_at(content.floors.as_slice(), call.actor.bytes());
+            above_floor(floor, call.number)?;
+            decide_ask(alloc, content, call, steps)
+        }
+    }
+}
+
+/// What a call of a person comes to whose name and key are right: whether the ask is for his role, then what is kept of
+/// its number where it isn't a view, and then the tests of the ask in their order, of which the first that stops it
+/// answers.
 #[tactic(auto, unfolding(machine::specs::Decide::decide))]
 pub fn decide<L: Ledger>(
     alloc: Global,
@@ -84,5 +125,9 @@ pub fn decide<L: Ledger>(
     ensures read { IfOk result DecisionAdmitsRead }
 {
     not_his_role(content.tables.actor(call.actor.bytes()), &call.ask)?;
-    decide_ask(alloc, content, call, steps)
+    if is_view(&call.ask) {
+        decide_ask(alloc, content, call, steps)
+    } else {
+        decide_command(alloc, content, call, steps)
+    }
 }

@@ -7,13 +7,16 @@ mod deciding;
 mod drafts;
 mod equipment;
 mod flights;
+mod floors;
 mod people;
 mod releases;
+mod repeats;
 mod reports;
 mod retention;
 mod rulings;
 mod shown;
 mod signatures;
+mod sweeps;
 
 pub use chain::Stop;
 pub use deciding::decide;

@@ -69,7 +69,7 @@ fn may_ask(ask: &Ask, role: Role) -> bool
         | Ask::Acknowledge { .. } => is_dispatcher(role),
         Ask::Concur { .. } => is_captain(role),
         Ask::Depart { .. } | Ask::Arrive { .. } => is_dispatcher(role) || is_captain(role),
-        Ask::Purge { .. } => is_records(role),
+        Ask::Purge { .. } | Ask::Sweep { .. } => is_records(role),
         Ask::ViewBoard
         | Ask::ViewAlerts
         | Ask::ViewRelease { .. }

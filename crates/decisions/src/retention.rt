@@ -41,8 +41,8 @@ fn kept_until(at: Minute) -> Minute
     1440 * (three_months(at / 1440) + 1)
 }
 
-// Refuses (22) where that moment hasn't come.
-fn too_young(content: &Content, until: Minute) -> Result<(), Stop>
+/// Refuses (22) where that moment hasn't come.
+pub(crate) fn too_young(content: &Content, until: Minute) -> Result<(), Stop>
     ensures { Passes result (spec.too_young (state_of content.now) until) }
 {
     refused_if(content.moment < until, Refusal::TooYoung { until })

@@ -6,5 +6,6 @@ pub mod SortedLaws
 pub mod StationLaws
 pub mod Utf8Laws
 pub mod IndexLaws
+pub mod LeavingLaws
 pub mod ReindexLaws
 pub mod SweepLaws

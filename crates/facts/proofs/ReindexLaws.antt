@@ -79,6 +79,12 @@ stays_by_place before keep entries rs ys to from r b rising index filters within
     is ∙ ap (λ xs. get_or xs 0 r) (sym (drop_more ys from r within) ∙ left ∙ drop_more rs from r (omega arith)) in
     tested ∙ ap (λ l. nat_le before (minute_of_report r) || l || is_kept keep r) (latest_by_place entries rs r from rising index (omega arith) here)
 
+-- the same of the list as it stands
+pub stays_there : (before : ℕ) (keep : List ℕ) (entries : List (Station × Places)) (rs : List Report) (place : ℕ) (r : Report) (b : Bool) → AllPairs (λ a b. a.id < b.id) rs → IsLatestIndex entries rs
+    → place < length rs → r ≡ get_or rs place r → b ≡ stays_at before keep entries r place → b ≡ stays before keep rs r
+stays_there before keep entries rs place r b rising index within there tested =
+    tested ∙ ap (λ l. nat_le before (minute_of_report r) || l || is_kept keep r) (latest_by_place entries rs r place rising index within there)
+
 -- numbers to keep
 
 any_at : (keep : List ℕ) (id i : ℕ) → i < length keep → get_or keep i 0 ≡ id → list_any (λ k. k == id) keep ≡ true

@@ -1,5 +1,5 @@
 -- Which reports stay when old ones are swept away.
-use Rattle.std.specs.Prelude.{ℕ, nat_le, Bool, false, ◌==◌, ◌||◌, List, Option, None, Some}
+use Rattle.std.specs.Prelude.{ℕ, nat_le, Bool, false, not, ◌==◌, ◌||◌, List, Option, None, Some}
 use Rattle.std.specs.List.{filter, list_any}
 use Rattle.facts.specs.declared.index.Places.{Places}
 use Rattle.facts.specs.declared.latest.Kind.{Kind}
@@ -36,6 +36,10 @@ stays before keep rs r = nat_le before (minute_of_report r) || is_latest rs r ||
 -- the reports that stay, in their order
 unfoldable pub swept : ℕ → List ℕ → List Report → List Report
 swept before keep rs = filter (stays before keep rs) rs
+
+-- the reports that go, in their order
+unfoldable pub leaving : ℕ → List ℕ → List Report → List Report
+leaving before keep rs = filter (λ r. not (stays before keep rs r)) rs
 
 -- the reports that stay, and no room
 abbrev pub with_swept : ℕ → List ℕ → Admissions → Admissions

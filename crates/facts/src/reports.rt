@@ -1,4 +1,4 @@
-ghost use Rattle.std.specs.Prelude.{◌≡◌, ◌==◌, ◌<◌, ◌+◌, List, ℕ, All, Some, OnOk, OnErr, IfSome, drop, length};
+ghost use Rattle.std.specs.Prelude.{◌≡◌, ◌==◌, ◌<◌, ◌+◌, List, ℕ, All, Some, OnOk, OnErr, IfOk, IfSome, drop, length, map};
 ghost use Rattle.std.specs.List.{find, slice_get};
 ghost use Rattle.std.specs.Option.{option_copied, option_map, option_and_then};
 ghost use Rattle.taf.specs.Parts.{IsMoment};
@@ -7,7 +7,7 @@ ghost use Rattle.facts.specs.Reading.{HasMoments, TafHasMoments, IsRead};
 ghost use Rattle.facts.specs.Reports.{room_for, no_reports, reserved, admitted, AreHeld};
 ghost use Rattle.facts.specs.Index.{IsLatestIndex, IsFirstIndex, id_from};
 ghost use Rattle.facts.specs.Lines.{AreStations, stations_of};
-ghost use Rattle.facts.specs.Swept.{with_swept};
+ghost use Rattle.facts.specs.Swept.{with_swept, leaving};
 ghost use Rattle.std.specs.Map.{keys_of};
 ghost use Rattle.facts.specs.Latest.{
   latest,
@@ -23,9 +23,9 @@ use crate::index::{Places, fingerprint, first_place, key_of, place_of, places_at
 use crate::latest::Kind;
 use crate::report::Report;
 use crate::sorted::Sorted;
-use crate::sweeping::{index_firsts, index_latest, sweep_held};
+use crate::sweeping::{index_firsts, index_latest, leaving_ids, sweep_held};
 use codes::Station;
-use desk_io::OutOfMemory;
+use desk_io::{Listed, OutOfMemory};
 use desk_time::Minute;
 use metar::Metar;
 use std::alloc::Global;
@@ -186,6 +186,18 @@ impl Reports {
         self.firsts.put_reserved(key, first);
         self.held.push_reserved(report);
         self.room = None;
+    }
+
+    /// The numbers of the reports that a sweep takes away, in their order.
+    pub fn leaving(
+        &self,
+        alloc: Global,
+        before: Minute,
+        keep: &[u64],
+    ) -> Result<Listed<u64>, OutOfMemory>
+        ensures { IfOk result (λ ids. ids ≡ map (λ r. r.id) (leaving before keep.now self.now.reports)) }
+    {
+        leaving_ids(alloc, &self.held, &self.stations, before, keep)
     }
 
     /// Takes away the reports that were observed or issued before that moment, but for the latest of

@@ -1,4 +1,4 @@
-ghost use Rattle.std.specs.Prelude.{ℕ, ◌≡◌, ◌==◌, ◌<◌, AllPairs, IsTrue, length};
+ghost use Rattle.std.specs.Prelude.{ℕ, ◌≡◌, ◌==◌, ◌<◌, ◌∷◌, ◌++◌, [], AllPairs, IsTrue, IfOk, OnOk, if◌then◌else◌, length, map};
 ghost use Rattle.std.specs.List.{list_any};
 ghost use Rattle.std.specs.List.Sorted.{IsNonDecreasing};
 ghost use Rattle.std.specs.Map.{lookup, keys_of};
@@ -7,13 +7,15 @@ ghost use Rattle.std.specs.Option.{option_map, option_and_then, unwrap_or};
 ghost use Rattle.facts.specs.Index.{IsLatestIndex, key_cmp, first_from};
 ghost use Rattle.facts.specs.Lines.{stations_of};
 ghost use Rattle.facts.specs.Swept as spec;
-ghost use Rattle.facts.specs.Swept.{swept};
+ghost use Rattle.facts.specs.Swept.{swept, leaving};
 
 use crate::index::{Places, key_of, place_of, places_at, places_with};
 use crate::latest::Kind;
 use crate::report::{Read, Report};
 use crate::sorted::Sorted;
+use desk_io::{Listed, OutOfMemory};
 use desk_time::Minute;
+use std::alloc::Global;
 
 fn kind_of(read: &Read) -> Kind
     ensures { result ≡ spec.kind_of read.now }
@@ -101,6 +103,37 @@ pub(crate) fn sweep_held(
         }
     }
     held.truncate(to);
+}
+
+fn push_unless(ids: &mut Listed<u64>, stays: bool, id: u64) -> Result<(), OutOfMemory>
+    ensures { OnOk result (ids.new ≡ ids.old ++ (if stays then [] else id ∷ [])) }
+{
+    if stays {
+        return Ok(());
+    }
+    ids.push(id)
+}
+
+/// The ids of the reports that don't stay, in their order, where the index is that of the reports.
+#[tactic(auto, unfolding(crate::specs::Swept::leaving))]
+pub(crate) fn leaving_ids(
+    alloc: Global,
+    held: &[Report],
+    stations: &Sorted<[u8; 4], Places>,
+    before: Minute,
+    keep: &[u64],
+) -> Result<Listed<u64>, OutOfMemory>
+    requires rising { AllPairs (λ a b. a.id < b.id) held.now }
+    requires index { IsLatestIndex stations.now.entries held.now }
+    ensures { IfOk result (λ ids. ids ≡ map (λ r. r.id) (leaving before keep.now held.now)) }
+{
+    let sorted = are_sorted(keep);
+    let mut ids = Listed::new(alloc);
+    for (place, report) in held.iter().enumerate() {
+        let stays = stays_at(before, keep, sorted, stations, report, place);
+        push_unless(&mut ids, stays, report.id)?;
+    }
+    Ok(ids)
 }
 
 /// Makes the places those of the latest of these reports, which are of the same stations. It takes no

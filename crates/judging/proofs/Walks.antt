@@ -100,11 +100,11 @@ walk_is p low [] next rise = refl
 walk_is p low (r ∷ rs) next rise =
     let s : State = state_of p.content.now in
     let later : List Alert = filter_map (λ q. alert_at q.id s.alerts) rs in
-    let above : AreAbove r.id later = all_above (λ q. alert_at q.id s.alerts) r.id rs next (λ q. found_of q.id s.alerts) r.id (omega arith) rise.1 in
+    let above : AreAbove r.id later = all_above (λ q. alert_at q.id s.alerts) (r.id + 1) rs next (λ q. found_of q.id s.alerts) r.id (omega arith) rise.1 in
     ap (λ o. changes_of p o r ++ walk p (past r.id (cons_option (alert_at r.id s.alerts) later)) rs) (here_is r.id (alert_at r.id s.alerts) later (found_of r.id s.alerts) above)
     ∙ ap (λ (left : List Alert). changes_of p (alert_at r.id s.alerts) r ++ walk p left rs) (past_is r.id (alert_at r.id s.alerts) later (found_of r.id s.alerts) above)
     ∙ ap (λ o. changes_for p r (alert_at r.id s.alerts) o ++ walk p later rs) (sym (alerts_kept p.effect.now.on_alerts r.id s.alerts))
-    ∙ ap (λ rest. changes_from (prospect p) (alert_at r.id s.alerts) r ++ rest) (walk_is p r.id rs next rise.1)
+    ∙ ap (λ rest. changes_from (prospect p) (alert_at r.id s.alerts) r ++ rest) (walk_is p (r.id + 1) rs next rise.1)
 
 -- the pass over all gives the changes of the alerts
 pub walk_all : (p : Prospect) (rs : List Release) → rs ≡ (prospect p).releases → EffectFits (state_of p.content.now) p.effect.now → Sound (state_of p.content.now)

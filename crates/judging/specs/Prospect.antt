@@ -3,6 +3,7 @@
 use Rattle.std.specs.Prelude.{ℕ, ◌<◌, ◌==◌, true, if◌then◌else◌, List, [], ◌∷◌, ◌++◌, Option, None, Some}
 use Rattle.std.specs.List.{AllByRecursion}
 use Rattle.plan.specs.declared.release.Release.{Release}
+use Rattle.rules.specs.Grounds.{Grounds}
 use Rattle.deferrals.specs.declared.items.Deferral.{Deferral}
 use Rattle.alerts.specs.declared.alert.Alert.{Alert}
 use Rattle.machine.specs.declared.change.AlertChange.{AlertChange}
@@ -12,7 +13,7 @@ use Rattle.machine.specs.declared.effect.OnAlerts.{OnAlerts}
 use Rattle.machine.specs.declared.effect.OnAlerts.TheVariants as on_alerts
 use Rattle.machine.specs.State.{State, grounds_of, failing_of, alert_for}
 use Rattle.machine.specs.Sound.{AreOpen}
-use Rattle.machine.specs.Events.{effected, change_between, kept_alert}
+use Rattle.machine.specs.Events.{effected, reports_after, change_between, kept_alert}
 use Rattle.judging.specs.declared.prospect.Prospect.{Prospect}
 use Rattle.machine.specs.Contents.{state_of}
 
@@ -26,6 +27,11 @@ AreBounded alerts = AllByRecursion IsBounded alerts
 -- the state once the effect is there
 abbrev pub prospect : Prospect → State
 prospect p = effected p.effect.now (state_of p.content.now)
+
+-- What a judgement stands on once the effect is there, but for what it sweeps away. A sweep leaves each latest report, so
+-- that a judgement finds the same before it and after it.
+abbrev pub before_sweep : Prospect → Grounds
+before_sweep p = record (grounds_of (prospect p)) { reports = reports_after p.effect.now.report (state_of p.content.now).reports }
 
 -- what holds of open deferrals holds once the effect is there
 abbrev pub AreOpenThen : Prospect → Type 0

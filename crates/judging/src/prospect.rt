@@ -1,7 +1,9 @@
 ghost use Rattle.std.specs.Prelude.{◌≡◌, ◌++◌, ◌<◌, ◌+◌, map, take, drop, option_to_list, IfOk, IfSome, OnOk};
 ghost use Rattle.std.specs.List.{AllByRecursion};
 ghost use Rattle.std.specs.Option.{option_copied};
+ghost use Rattle.plan.specs.Check.{IsPlan};
 ghost use Rattle.rules.specs.Grounds as grounds;
+ghost use Rattle.rules.specs.Judgement.{findings_of};
 ghost use Rattle.machine.specs.State as state;
 ghost use Rattle.machine.specs.Events as events;
 ghost use Rattle.machine.specs.Events.{alert_changes};
@@ -19,7 +21,7 @@ use facts::Report;
 use machine::{
     AlertChange, Content, Effect, OnAlerts, OnDeferrals, OnReleases, place_of, place_of_id,
 };
-use plan::{Findings, Release, is_active};
+use plan::{Findings, Phase, Plan, Release, is_active};
 use rules::{Evidence, Steps, judge_by};
 use std::alloc::Global;
 use std::sync::ledger::Ledger;
@@ -66,7 +68,7 @@ impl<'a> Prospect<'a> {
     // The report that is about to be admitted.
     #[tactic(auto, using(crate::proofs::Parts::reports_then))]
     fn fresh(&self) -> Option<&'a Report>
-        ensures { (prospect self.now).reports ≡ (state_of self.now.content.now).reports ++ option_to_list (option_copied result) }
+        ensures { events.reports_after self.now.effect.now.report (state_of self.now.content.now).reports ≡ (state_of self.now.content.now).reports ++ option_to_list (option_copied result) }
     {
         self.effect.report.as_ref()
     }
@@ -93,7 +95,7 @@ impl<'a> Prospect<'a> {
 
     #[tactic(auto, using(crate::proofs::Parts::deferrals_then))]
     fn evidence(&self) -> Evidence<'a>
-        ensures { grounds.grounds_of result ≡ state.grounds_of (prospect self.now) }
+        ensures { grounds.grounds_of result ≡ spec.before_sweep self.now }
     {
         Evidence {
             held: &self.content.reports,
@@ -150,6 +152,21 @@ impl<'a> Prospect<'a> {
         Ok(out)
     }
 
+    // The rules that a plan fails once the effect is there.
+    fn findings<L: Ledger>(
+        &self,
+        alloc: Global,
+        plan: &Plan,
+        phase: Phase,
+        steps: &mut Steps<L>,
+    ) -> Result<Findings, OutOfMemory>
+        requires open { AreOpenThen self.now }
+        requires plan { IsPlan plan.now }
+        ensures { IfOk result (λ f. f ≡ findings_of plan.now phase (state.grounds_of (prospect self.now))) }
+    {
+        judge_by(alloc, plan, phase, self.evidence(), steps)
+    }
+
     // The rules that an active release fails.
     fn failing<L: Ledger>(
         &self,
@@ -163,8 +180,7 @@ impl<'a> Prospect<'a> {
     {
         match &release.active {
             Some(revision) if is_active(release.phase) => {
-                let evidence = self.evidence();
-                let findings = judge_by(alloc, &revision.plan, release.phase, evidence, steps)?;
+                let findings = self.findings(alloc, &revision.plan, release.phase, steps)?;
                 Ok(Some(findings))
             }
             _ => Ok(None),

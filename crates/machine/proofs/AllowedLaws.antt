@@ -1,6 +1,6 @@
 -- Each ask changes no more than it may.
-use Rattle.std.proofs.Common.{◌≡◌, ℕ, ◌+◌, ◌∙◌, ◌&&◌, ltb, IfSome, Bool, true, false, List, Option, None, Some, Result, Ok, Err, inl, inr, refl, ap, subst, sym, not, cond, eqb, eq-eqb, ◌≢◌, ◌||◌, [], ◌∷◌, length, is_some, is_none, arith}
-use Rattle.std.specs.Prelude.{nat_le, nat_lt, find}
+use Rattle.std.proofs.Common.{◌≡◌, ℕ, ◌+◌, ◌++◌, ◌<◌, append-nil, ◌∙◌, ◌&&◌, ltb, IfSome, Bool, true, false, List, Option, None, Some, Result, Ok, Err, inl, inr, refl, ap, subst, sym, not, cond, eqb, eq-eqb, ◌≢◌, ◌||◌, [], ◌∷◌, length, is_some, is_none, arith}
+use Rattle.std.specs.Prelude.{nat_le, nat_lt, find, option_to_list}
 use Rattle.std.specs.Option.{option_map}
 use Rattle.std.proofs.lemmas.Bool.{leb-false, ltb-true, ltb-false, eqb-true, ne_eqb}
 use Rattle.std.specs.Str.{bytes_eq}
@@ -54,28 +54,32 @@ use Rattle.asks.specs.declared.reply.Refusal.{Refusal}
 use Rattle.asks.specs.declared.reply.Done.{Done as DoneType}
 use Rattle.asks.specs.declared.reply.Done.TheVariants as done
 use Rattle.asks.specs.declared.reply.Reply.{Reply}
-use Rattle.asks.specs.declared.reply.Reply.TheVariants.{Done}
+use Rattle.asks.specs.declared.kept.KeptReply.{KeptReply}
+use Rattle.asks.specs.declared.reply.Reply.TheVariants.{Done, Seen, Refused}
+use Rattle.asks.specs.declared.reply.Refusal.TheVariants.{NumberReused}
+use Rattle.plan_json.specs.Canonical.{ask_digest}
+use Rattle.machine.specs.Requests.{kept_at, floor_at}
 use Rattle.machine.specs.declared.entry.What.TheVariants as what
 use Rattle.machine.specs.declared.entry.Entry.{Entry}
 use Rattle.machine.specs.declared.effect.Effect.{Effect}
 use Rattle.machine.specs.Effects.{tick}
-use Rattle.machine.specs.Events.{effected, acknowledged_if, kept_alert}
+use Rattle.machine.specs.Events.{effected, acknowledged_if, kept_alert, kept_after}
 use Rattle.machine.specs.declared.effect.Decision.{Decision}
 use Rattle.machine.specs.declared.effect.Decision.TheVariants.{Show, Do}
-use Rattle.machine.specs.State.{State, grounds_of, failing_in, failing_of, release_at, alert_at, alert_for, judged, judged_all, is_full}
-use Rattle.machine.specs.Step.{entry, entered, without_key, accepted, enter, finish, do_call, do_unless, answer_call, tick_unless, tick_to}
+use Rattle.machine.specs.State.{State, grounds_of, failing_in, failing_of, release_at, alert_at, alert_for, judged, judged_all, is_full, is_full_for}
+use Rattle.machine.specs.Step.{entry, entered, kept_of_call, without_key, accepted, enter, finish, do_call, do_unless, answer_call, tick_unless, tick_to}
 use Rattle.machine.specs.Chain.{◌>>-◌, unless, some_or, refused_if}
 use Rattle.machine.specs.People.{may_ask, mistaken, not_his_role}
 use Rattle.machine.specs.Decide as d
 use Rattle.machine.specs.Decide.{decide}
-use Rattle.machine.specs.Allowed.{MaySign, GainsDispatcher, GainsCaptain, GainsWeather, BothAre, IsPreparing, IsSigning, IsReleased, IsConcurring, HasNotEnded, IsCancelling, IsNextRevision, IsAmending, HasMore, HasNoMore, has_text, IsAcknowledged, IsLeft, FollowsIf, IsAlertAfter, IsNextLeg, IsCaptainOf, FliesAs, FliesBy, IsDeparting, IsStopping, IsCompleting, IsInVersion, IsAcknowledging, OfHeld, IsListed, IsEffectOf, admits, defers, clears, drafts, prepares, signs, concurs, amends, cancels, departs, stops, completes, acknowledges, purges, HasEndedAt, DecisionOf, IsEntryOf, IsAfter, IsPermitted, MayLeadTo, MayTickTo}
+use Rattle.machine.specs.Allowed.{MaySign, GainsDispatcher, GainsCaptain, GainsWeather, BothAre, IsPreparing, IsSigning, IsReleased, IsConcurring, HasNotEnded, IsCancelling, IsNextRevision, IsAmending, HasMore, HasNoMore, has_text, IsAcknowledged, IsLeft, FollowsIf, IsAlertAfter, IsNextLeg, IsCaptainOf, FliesAs, FliesBy, IsDeparting, IsStopping, IsCompleting, IsInVersion, IsAcknowledging, OfHeld, IsListed, IsEffectOf, admits, defers, clears, drafts, prepares, signs, concurs, amends, cancels, departs, stops, completes, acknowledges, purges, sweeps, IsSweeping, HasEndedAt, AskedOf, IsShownTo, IsRepeat, IsAnswer, IsUnused, DecisionOf, IsEntryOf, IsAfter, IsKeptOf, IsPermitted, MayLeadTo, MayTickTo}
 
-given : {A : Type 0} (s : State) (actor : List ℕ) (a : Ask) (m : Result A Refusal) (f : A → Result Decision Refusal) → ((x : A) → m ≡ Ok x → DecisionOf s actor a (f x)) → DecisionOf s actor a (m >>- f)
+given : {A : Type 0} (s : State) (actor : List ℕ) (a : Ask) (m : Result A Refusal) (f : A → Result Decision Refusal) → ((x : A) → m ≡ Ok x → AskedOf s actor a (f x)) → AskedOf s actor a (m >>- f)
 given s actor a (Err x) f goes = tt
 given s actor a (Ok x) f goes = goes x refl
 
 -- a test that refuses, and what its passing says
-known : (s : State) (actor : List ℕ) (a : Ask) (o : Option Refusal) (rest : Result Decision Refusal) → (o ≡ None → DecisionOf s actor a rest) → DecisionOf s actor a (unless o rest)
+known : (s : State) (actor : List ℕ) (a : Ask) (o : Option Refusal) (rest : Result Decision Refusal) → (o ≡ None → AskedOf s actor a rest) → AskedOf s actor a (unless o rest)
 known s actor a None rest goes = goes refl
 known s actor a (Some x) rest goes = tt
 
@@ -336,7 +340,7 @@ unfolding same_id
 same_held rs text minute id e = id_held text minute id rs e
 
 admit_read : (o : Option ℕ) (s : State) (actor text : List ℕ) (read : Read) → same_id s.reports (canonical (groups_of text)) (minute_of_read read) ≡ o → read_of text s.moment ≡ Ok read
-    → has_airport s.tables (station_of_read read) ≡ true → DecisionOf s actor (ask.Admit text) (d.admit_read o s (canonical (groups_of text)) read)
+    → has_airport s.tables (station_of_read read) ≡ true → AskedOf s actor (ask.Admit text) (d.admit_read o s (canonical (groups_of text)) read)
 admit_read (Some id) s actor text read same e airport = same_held s.reports (canonical (groups_of text)) (minute_of_read read) id same
 admit_read None s actor text read same e airport =
     known s actor (ask.Admit text) (d.reports_full s) _ (λ few. (
@@ -352,7 +356,7 @@ admit_read None s actor text read same e airport =
       }),
     ))
 
-admit : (s : State) (actor text : List ℕ) → DecisionOf s actor (ask.Admit text) (d.decide_admit s text)
+admit : (s : State) (actor text : List ℕ) → AskedOf s actor (ask.Admit text) (d.decide_admit s text)
 admit s actor text =
     given s actor (ask.Admit text) (d.reading_or (read_of text s.moment)) _
     (λ read e. known s actor (ask.Admit text) (d.no_airport s (station_of_read read)) _
@@ -362,7 +366,7 @@ admit s actor text =
 listed_by : (s : State) (tail item : List ℕ) (kind : TypeRow) → type_of s.tables tail ≡ Some kind → is_none (item_of s.tables kind.kind item) ≡ false → IsListed s.tables (type_of s.tables tail) item
 listed_by s tail item kind is there = subst (λ (o : Option TypeRow). IsListed s.tables o item) (sym is) (there_is (item_of s.tables kind.kind item) there)
 
-defer : (s : State) (actor tail item : List ℕ) (found : ℕ) → DecisionOf s actor (ask.Defer tail item found) (d.decide_defer s tail item found)
+defer : (s : State) (actor tail item : List ℕ) (found : ℕ) → AskedOf s actor (ask.Defer tail item found) (d.decide_defer s tail item found)
 defer s actor tail item found =
     given s actor (ask.Defer tail item found) (d.aircraft s tail) _ (λ kind e. known s actor (ask.Defer tail item found) (d.unlisted s kind item) _
     (λ listed. known s actor (ask.Defer tail item found) (d.found_later s found) _ (λ by_now. known s actor (ask.Defer tail item found) (d.deferrals_full s) _
@@ -380,13 +384,13 @@ defer s actor tail item found =
       }),
     )))))
 
-clear : (s : State) (actor : List ℕ) (id : ℕ) → DecisionOf s actor (ask.Clear id) (d.decide_clear s id)
+clear : (s : State) (actor : List ℕ) (id : ℕ) → AskedOf s actor (ask.Clear id) (d.decide_clear s id)
 clear s actor id = known s actor (ask.Clear id) (d.not_open s id) _ (λ e. (_, refl, clears (so (list_any (has_id id) s.deferrals) _ e)))
 
-deferred : (s : State) (actor tail : List ℕ) → DecisionOf s actor (ask.ViewDeferred tail) (d.decide_deferred s tail)
+deferred : (s : State) (actor tail : List ℕ) → AskedOf s actor (ask.ViewDeferred tail) (d.decide_deferred s tail)
 deferred s actor tail = given s actor (ask.ViewDeferred tail) (d.aircraft s tail) _ (λ kind e. tt)
 
-draft : (s : State) (actor : List ℕ) (plan : Plan) → DecisionOf s actor (ask.Draft plan) (d.decide_draft s actor plan)
+draft : (s : State) (actor : List ℕ) (plan : Plan) → AskedOf s actor (ask.Draft plan) (d.decide_draft s actor plan)
 draft s actor plan =
     known s actor (ask.Draft plan) (d.bad_plan (plan_fault s.tables plan)) _
     (λ good. known s actor (ask.Draft plan) (d.releases_full s) _
@@ -407,7 +411,7 @@ draft s actor plan =
 filed_as : (r n m : ℕ) → n ≡ m → Done (done.Filed r n) ≡ Done (done.Filed r m)
 filed_as r n m e = ap (λ k. Done (done.Filed r k)) e
 
-prepare : (s : State) (actor : List ℕ) (id : ℕ) → DecisionOf s actor (ask.Prepare id) (d.decide_prepare s actor id)
+prepare : (s : State) (actor : List ℕ) (id : ℕ) → AskedOf s actor (ask.Prepare id) (d.decide_prepare s actor id)
 prepare s actor id =
     given s actor (ask.Prepare id) (d.held s id) _ (λ q e. given s actor (ask.Prepare id) (d.pending q) _ (λ v f.
     known s actor (ask.Prepare id) (d.not_yours q.holder actor) _
@@ -418,7 +422,7 @@ prepare s actor id =
           (preparing s q v actor (some_given _ q.pending v f) (his q.holder actor own))) refl,
     ))))
 
-sign : (s : State) (actor : List ℕ) (id number : ℕ) (digest : List ℕ) → DecisionOf s actor (ask.Sign id number digest) (d.decide_sign s actor id number digest)
+sign : (s : State) (actor : List ℕ) (id number : ℕ) (digest : List ℕ) → AskedOf s actor (ask.Sign id number digest) (d.decide_sign s actor id number digest)
 sign s actor id number digest =
     let a : Ask = ask.Sign id number digest in
     given s actor a (d.held s id) _ (λ q e. given s actor a (d.pending q) _ (λ v f. known s actor a (d.unprepared v) _ (λ ready.
@@ -431,7 +435,7 @@ sign s actor id number digest =
           (signing s q v actor number digest (some_given _ q.pending v f) (his q.holder actor own) (may_sign s q v number digest ready named on latest passes) (unsigned_is v.dispatcher fresh))),
     ))))))))))
 
-concur : (s : State) (actor : List ℕ) (id number : ℕ) (digest : List ℕ) → DecisionOf s actor (ask.Concur id number digest) (d.decide_concur s actor id number digest)
+concur : (s : State) (actor : List ℕ) (id number : ℕ) (digest : List ℕ) → AskedOf s actor (ask.Concur id number digest) (d.decide_concur s actor id number digest)
 concur s actor id number digest =
     let a : Ask = ask.Concur id number digest in
     given s actor a (d.held s id) _ (λ q e. given s actor a (d.pending q) _ (λ v f. known s actor a (d.unprepared v) _ (λ ready.
@@ -446,7 +450,7 @@ concur s actor id number digest =
 
 -- A release that may be amended has a revision: the definition asks that of soundness.
 amend : (s : State) (actor : List ℕ) (id : ℕ) (plan : Plan) → ((q : Release) → release_at id s.releases ≡ Some q → d.may_change q.phase ≡ true → newest q.pending q.active ≡ None → ⊥)
-    → DecisionOf s actor (ask.Amend id plan) (d.decide_amend s actor id plan)
+    → AskedOf s actor (ask.Amend id plan) (d.decide_amend s actor id plan)
 amend s actor id plan there =
     let a : Ask = ask.Amend id plan in
     given s actor a (d.held s id) _ (λ q e. known s actor a (d.out_of_phase (d.may_change q.phase) q.phase) _ (λ may. known s actor a (d.not_yours q.holder actor) _ (λ own.
@@ -459,7 +463,7 @@ amend s actor id plan there =
           (not_ended q.phase (allowed (d.may_change q.phase) q.phase may)) (good_plan (plan_fault s.tables plan) passes) follows)),
     ))))))
 
-cancel : (s : State) (actor : List ℕ) (id : ℕ) → DecisionOf s actor (ask.Cancel id) (d.decide_cancel s actor id)
+cancel : (s : State) (actor : List ℕ) (id : ℕ) → AskedOf s actor (ask.Cancel id) (d.decide_cancel s actor id)
 cancel s actor id =
     given s actor (ask.Cancel id) (d.held s id) _ (λ q e. known s actor (ask.Cancel id) (d.out_of_phase (d.may_change q.phase) q.phase) _
     (λ goes. known s actor (ask.Cancel id) (d.not_yours q.holder actor) _
@@ -472,7 +476,7 @@ cancel s actor id =
 
 depart : (s : State) (actor : List ℕ) (id leg : ℕ) → ((q : Release) → release_at id s.releases ≡ Some q → d.may_depart q.phase leg ≡ true → failing_of (grounds_of s) q ≡ None → ⊥)
     → ((q : Release) → release_at id s.releases ≡ Some q → d.may_depart q.phase leg ≡ true → IsThere q.active)
-    → DecisionOf s actor (ask.Depart id leg) (d.decide_depart s actor id leg)
+    → AskedOf s actor (ask.Depart id leg) (d.decide_depart s actor id leg)
 depart s actor id leg judged there =
     let a : Ask = ask.Depart id leg in
     given s actor a (d.held s id) _ (λ q e. known s actor a (d.out_of_phase (d.may_depart q.phase leg) q.phase) _ (λ may.
@@ -486,12 +490,12 @@ depart s actor id leg judged there =
     )))))
 
 arrival_is : (more : Bool) (s : State) (actor : List ℕ) (id leg : ℕ) (q : Release) → release_at id s.releases ≡ Some q → FliesBy (actor_of s.tables actor) actor q → q.phase ≡ Flying leg
-    → d.has_more q leg ≡ more → DecisionOf s actor (ask.Arrive id leg) (Ok (d.arrival more q leg s.moment))
+    → d.has_more q leg ≡ more → AskedOf s actor (ask.Arrive id leg) (Ok (d.arrival more q leg s.moment))
 arrival_is true s actor id leg q held own flying more = (_, refl, stops (of_held (IsStopping s actor leg) (release_at id s.releases) q _ held (stopping s q actor leg own flying more)))
 arrival_is false s actor id leg q held own flying more = (_, refl, completes (of_held (IsCompleting s actor leg) (release_at id s.releases) q _ held (completing s q actor leg own flying more)))
 
 arrive : (s : State) (actor : List ℕ) (id leg : ℕ) → ((q : Release) → release_at id s.releases ≡ Some q → d.may_arrive q.phase leg ≡ true → IsThere q.active)
-    → DecisionOf s actor (ask.Arrive id leg) (d.decide_arrive s actor id leg)
+    → AskedOf s actor (ask.Arrive id leg) (d.decide_arrive s actor id leg)
 arrive s actor id leg there =
     let a : Ask = ask.Arrive id leg in
     given s actor a (d.held s id) _ (λ q e. known s actor a (d.out_of_phase (d.may_arrive q.phase leg) q.phase) _ (λ may.
@@ -502,7 +506,7 @@ arrive s actor id leg there =
 in_version : (a : Alert) (version : ℕ) → d.moved a version ≡ None → a.version ≡ version
 in_version a version e = eqb-true a.version version (so (eqb a.version version) _ e)
 
-acknowledge : (s : State) (actor : List ℕ) (id version : ℕ) → DecisionOf s actor (ask.Acknowledge id version) (d.decide_acknowledge s actor id version)
+acknowledge : (s : State) (actor : List ℕ) (id version : ℕ) → AskedOf s actor (ask.Acknowledge id version) (d.decide_acknowledge s actor id version)
 acknowledge s actor id version =
     let k : Ask = ask.Acknowledge id version in
     given s actor k (d.held s id) _ (λ q e. given s actor k (d.alert_of s q.id) _ (λ a f. known s actor k (d.not_yours q.holder actor) _ (λ own. known s actor k (d.moved a version) _
@@ -521,7 +525,7 @@ has_ended (Stopped next since again) at e = absurd (cc)
 has_ended (Completed since) at e = inl (let same : since ≡ at = cc in ap (λ m. Completed m) same)
 has_ended (Cancelled since) at e = inr (let same : since ≡ at = cc in ap (λ m. Cancelled m) same)
 
-purge : (s : State) (actor : List ℕ) (id : ℕ) → DecisionOf s actor (ask.Purge id) (d.decide_purge s id)
+purge : (s : State) (actor : List ℕ) (id : ℕ) → AskedOf s actor (ask.Purge id) (d.decide_purge s id)
 purge s actor id =
     let a : Ask = ask.Purge id in
     given s actor a (d.held s id) _ (λ q e. given s actor a (d.ended q.phase) _ (λ at f. known s actor a (d.too_young s (d.kept_until at)) _
@@ -535,10 +539,15 @@ purge s actor id =
       }),
     ))))
 
-view_release : (s : State) (actor : List ℕ) (id : ℕ) → DecisionOf s actor (ask.ViewRelease id) (d.decide_release s id)
+sweep : (s : State) (actor : List ℕ) (before : ℕ) → AskedOf s actor (ask.Sweep before) (d.decide_sweep s before)
+sweep s actor before =
+    known s actor (ask.Sweep before) (d.too_young s (before + 4320)) _
+    (λ passed. (_, refl, sweeps (record { passed = ltb-false s.moment (before + 4320) (no_more (nat_lt s.moment (before + 4320)) _ passed); attached = refl; floors = refl })))
+
+view_release : (s : State) (actor : List ℕ) (id : ℕ) → AskedOf s actor (ask.ViewRelease id) (d.decide_release s id)
 view_release s actor id = given s actor (ask.ViewRelease id) (d.held s id) _ (λ r e. tt)
 
-view_weather : (s : State) (actor : List ℕ) (station : Station) → DecisionOf s actor (ask.ViewWeather station) (d.decide_weather s station)
+view_weather : (s : State) (actor : List ℕ) (station : Station) → AskedOf s actor (ask.ViewWeather station) (d.decide_weather s station)
 view_weather s actor station = known s actor (ask.ViewWeather station) (d.no_airport s station) _ (λ e. tt)
 
 -- What soundness says of a release that is held.
@@ -589,7 +598,7 @@ arrive_there (Stopped next since again) leg pending active e is = absurd (cc)
 arrive_there (Completed at) leg pending active e is = absurd (cc)
 arrive_there (Cancelled at) leg pending active e is = absurd (cc)
 
-ask_is : (s : State) (actor : List ℕ) (a : Ask) → Sound s → DecisionOf s actor a (d.decide_ask s actor a)
+ask_is : (s : State) (actor : List ℕ) (a : Ask) → Sound s → AskedOf s actor a (d.decide_ask s actor a)
 ask_is s actor (ask.Admit text) sound = admit s actor text
 ask_is s actor (ask.Defer tail item found) sound = defer s actor tail item found
 ask_is s actor (ask.Clear deferral) sound = clear s actor deferral
@@ -605,16 +614,81 @@ ask_is s actor (ask.Depart id leg) sound =
 ask_is s actor (ask.Arrive id leg) sound = arrive s actor id leg (λ q e may. arrive_there q.phase leg q.pending q.active may (valid_held s id q sound e).phased)
 ask_is s actor (ask.Acknowledge id version) sound = acknowledge s actor id version
 ask_is s actor (ask.Purge id) sound = purge s actor id
+ask_is s actor (ask.Sweep before) sound = sweep s actor before
 ask_is s actor ask.ViewBoard sound = tt
 ask_is s actor ask.ViewAlerts sound = tt
 ask_is s actor (ask.ViewRelease id) sound = view_release s actor id
 ask_is s actor (ask.ViewWeather station) sound = view_weather s actor station
 ask_is s actor (ask.ViewDeferred tail) sound = deferred s actor tail
 
+-- Requests that come again.
+
+-- an ask that changes something is no view
+no_view : (s : State) (actor : List ℕ) {a : Ask} {effect : Effect} {made : DoneType} → IsEffectOf s actor a effect made → d.is_view a ≡ false
+no_view s actor (admits is) = refl
+no_view s actor (defers is) = refl
+no_view s actor (clears is) = refl
+no_view s actor (drafts is) = refl
+no_view s actor (prepares is pending) = refl
+no_view s actor (signs is) = refl
+no_view s actor (concurs is) = refl
+no_view s actor (amends is) = refl
+no_view s actor (cancels is) = refl
+no_view s actor (departs is) = refl
+no_view s actor (stops is) = refl
+no_view s actor (completes is) = refl
+no_view s actor (acknowledges is has) = refl
+no_view s actor (sweeps is) = refl
+no_view s actor (purges is has) = refl
+
+answer_is : (s : State) (call : Call) (reply : Reply) → IsShownTo s call.ask reply → IsAnswer s call reply
+answer_is s call (Refused refusal) is = tt
+answer_is s call (Seen text) is = is
+answer_is s call (Done made) is = inl is
+
+-- a call that passes a test that refuses
+passing : (s : State) (call : Call) (o : Option Refusal) (rest : Result Decision Refusal) → (o ≡ None → DecisionOf s call rest) → DecisionOf s call (unless o rest)
+passing s call None rest goes = goes refl
+passing s call (Some x) rest goes = tt
+
+-- a command that is new comes to what its ask does
+new_is : (s : State) (call : Call) (decision : Result Decision Refusal) → IsUnused s call → AskedOf s call.actor call.ask decision → DecisionOf s call decision
+new_is s call (Err x) unused is = tt
+new_is s call (Ok (Show reply)) unused is = answer_is s call reply is
+new_is s call (Ok (Do reply effect)) unused is = (unused, is.0, is.1, is.2)
+
+-- a view too, and it changes nothing
+view_is : (s : State) (call : Call) (decision : Result Decision Refusal) → d.is_view call.ask ≡ true → AskedOf s call.actor call.ask decision → DecisionOf s call decision
+view_is s call (Err x) view is = tt
+view_is s call (Ok (Show reply)) view is = answer_is s call reply is
+view_is s call (Ok (Do reply effect)) view is = absurd (let no = no_view s call.actor is.2 in cc)
+
+repeated_by : (s : State) (call : Call) (k : KeptReply) (b : Bool) → bytes_eq k.digest (ask_digest call.ask) ≡ b → kept_at call.actor call.number s.kept ≡ Some k
+    → DecisionOf s call (cond b (Ok (Show (Done k.done))) (Err (NumberReused k.id)))
+repeated_by s call k true e held = inr (record { reply = k; kept = held; same = same_bytes k.digest (ask_digest call.ask) e; done = refl })
+repeated_by s call k false e held = tt
+
+above_floor : (o : Option ℕ) (number : ℕ) → d.up_to_floor o number ≡ None → IfSome o (λ floor. floor < number)
+above_floor None number e = tt
+above_floor (Some floor) number e = leb-false number floor (no_more (nat_le number floor) _ e)
+
+unused_is : (s : State) (call : Call) → kept_at call.actor call.number s.kept ≡ None → d.swept_number s call.actor call.number ≡ None → IsUnused s call
+unused_is s call none passes = record { none = none; above = above_floor (floor_at call.actor s.floors) call.number passes }
+
+once_is : (o : Option KeptReply) (s : State) (call : Call) → kept_at call.actor call.number s.kept ≡ o → Sound s → DecisionOf s call (d.decide_new o s call)
+once_is (Some k) s call held sound = repeated_by s call k _ refl held
+once_is None s call none sound =
+    passing s call (d.swept_number s call.actor call.number) _
+    (λ e. new_is s call (d.decide_ask s call.actor call.ask) (unused_is s call none e) (ask_is s call.actor call.ask sound))
+
+numbered_is : (view : Bool) (s : State) (call : Call) → d.is_view call.ask ≡ view → Sound s → DecisionOf s call (d.decide_numbered view s call)
+numbered_is true s call e sound = view_is s call (d.decide_ask s call.actor call.ask) e (ask_is s call.actor call.ask sound)
+numbered_is false s call e sound = once_is (kept_at call.actor call.number s.kept) s call refl sound
+
 -- a call changes no more than its ask may
-pub decision_is : (s : State) (call : Call) → Sound s → DecisionOf s call.actor call.ask (decide s call)
+pub decision_is : (s : State) (call : Call) → Sound s → DecisionOf s call (decide s call)
 unfolding decide
-decision_is s call sound = known s call.actor call.ask (not_his_role (actor_of s.tables call.actor) call.ask) _ (λ e. ask_is s call.actor call.ask sound)
+decision_is s call sound = passing s call (not_his_role (actor_of s.tables call.actor) call.ask) _ (λ e. numbered_is (d.is_view call.ask) s call refl sound)
 
 -- Who may make a call.
 
@@ -638,7 +712,7 @@ unless_does (Some x) rest does = absurd does
 
 decided_role : (s : State) (call : Call) → Does (decide s call) → HasRole (actor_of s.tables call.actor) call.ask
 unfolding decide
-decided_role s call does = role_by (actor_of s.tables call.actor) call.ask (unless_does (not_his_role (actor_of s.tables call.actor) call.ask) (d.decide_ask s call.actor call.ask) does)
+decided_role s call does = role_by (actor_of s.tables call.actor) call.ask (unless_does (not_his_role (actor_of s.tables call.actor) call.ask) (d.decide_numbered (d.is_view call.ask) s call) does)
 
 permitted_by : (s : State) (call : Call) (o : Option Actor) → actor_of s.tables call.actor ≡ o → mistaken o call.key ≡ None → HasRole o call.ask → IsPermitted s call
 permitted_by s call None is right has = absurd has
@@ -700,6 +774,7 @@ effect_after does e s fits sound =
       deferrals = refl;
       releases = refl;
       alerts = alerts_after_all does e s t.releases (agrees_all (judged t) 0 t.releases t.counters.next_release (judged_is t) (releases_rise s does.on_releases fits.releases sound.ids));
+      floors = refl;
       entries = refl;
       events = refl;
     }
@@ -708,22 +783,37 @@ effect_after does e s fits sound =
 entry_is : (lane : ℕ) (call : Call) (reply : Reply) → IsEntryOf lane call reply (entry lane (what.Asked (without_key call) reply))
 entry_is lane call reply = record { its_lane = refl; its_call = (record { actor = refl; key = refl; number = refl; asked = refl }, refl) }
 
-accepted_leads : (s : State) (lane : ℕ) (call : Call) (reply : Reply) (effect : Effect) (made : DoneType) → EffectFits s effect → Sound s → IsPermitted s call → reply ≡ Done made → IsEffectOf s call.actor call.ask effect made
-    → MayLeadTo lane call s (accepted s lane call reply effect).state (accepted s lane call reply effect).reply
-accepted_leads s lane call reply effect made fits sound permitted is does =
+kept_is : (s : State) (lane : ℕ) (call : Call) (reply : Reply) (effect : Effect) (made : DoneType) → reply ≡ Done made → IsUnused s call
+    → IsKeptOf s (accepted s lane call reply effect).state call effect made
+kept_is s lane call reply effect made is unused =
+    record { unused = unused; kept = ap (λ (x : Reply). kept_after effect.sweep s.kept ++ option_to_list (kept_of_call (effected effect s) call x)) is }
+
+accepted_leads : (s : State) (lane : ℕ) (call : Call) (reply : Reply) (effect : Effect) (made : DoneType) → EffectFits s effect → Sound s → IsPermitted s call → IsUnused s call → reply ≡ Done made
+    → IsEffectOf s call.actor call.ask effect made → MayLeadTo lane call s (accepted s lane call reply effect).state (accepted s lane call reply effect).reply
+accepted_leads s lane call reply effect made fits sound permitted unused is does =
     let e : Entry = entry lane (what.Asked (without_key call) reply) in
-    inr (permitted, effect, made, does, ap (λ (x : Reply). Some x) is, e, subst (λ (x : Reply). IsEntryOf lane call x e) is (entry_is lane call reply), effect_after effect e s fits sound)
+    inr (
+      permitted,
+      effect,
+      made,
+      does,
+      ap (λ (x : Reply). Some x) is,
+      e,
+      subst (λ (x : Reply). IsEntryOf lane call x e) is (entry_is lane call reply),
+      kept_is s lane call reply effect made is unused,
+      effect_after effect e s fits sound,
+    )
 
-enter_leads : (full : Bool) (s : State) (lane : ℕ) (call : Call) (reply : Reply) (effect : Effect) (made : DoneType) → EffectFits s effect → Sound s → IsPermitted s call → reply ≡ Done made
+enter_leads : (full : Bool) (s : State) (lane : ℕ) (call : Call) (reply : Reply) (effect : Effect) (made : DoneType) → EffectFits s effect → Sound s → IsPermitted s call → IsUnused s call → reply ≡ Done made
     → IsEffectOf s call.actor call.ask effect made → MayLeadTo lane call s (enter full s lane call reply effect).state (enter full s lane call reply effect).reply
-enter_leads true s lane call reply effect made fits sound permitted is does = inl (refl, tt)
-enter_leads false s lane call reply effect made fits sound permitted is does = accepted_leads s lane call reply effect made fits sound permitted is does
+enter_leads true s lane call reply effect made fits sound permitted unused is does = inl (refl, tt)
+enter_leads false s lane call reply effect made fits sound permitted unused is does = accepted_leads s lane call reply effect made fits sound permitted unused is does
 
-finish_leads : (s : State) (lane : ℕ) (call : Call) (decision : Result Decision Refusal) → DecisionFits s decision → Sound s → (Does decision → IsPermitted s call) → DecisionOf s call.actor call.ask decision
+finish_leads : (s : State) (lane : ℕ) (call : Call) (decision : Result Decision Refusal) → DecisionFits s decision → Sound s → (Does decision → IsPermitted s call) → DecisionOf s call decision
     → MayLeadTo lane call s (finish s lane call decision).state (finish s lane call decision).reply
 finish_leads s lane call (Err refusal) fits sound permitted is = inl (refl, tt)
 finish_leads s lane call (Ok (Show reply)) fits sound permitted is = inl (refl, is)
-finish_leads s lane call (Ok (Do reply effect)) fits sound permitted is = enter_leads (is_full s) s lane call reply effect is.0 fits.1 sound (permitted tt) is.1 is.2
+finish_leads s lane call (Ok (Do reply effect)) fits sound permitted is = enter_leads (is_full_for s call.ask) s lane call reply effect is.1 fits.1 sound (permitted tt) is.0 is.2 is.3
 
 do_leads : (s : State) (lane : ℕ) (call : Call) (o : Option Refusal) → Sound s → InBounds s → IsCall call.ask → mistaken (actor_of s.tables call.actor) call.key ≡ o
     → MayLeadTo lane call s (do_unless o s lane call).state (do_unless o s lane call).reply
@@ -746,7 +836,7 @@ tick_fits s to shown = record { moment = shown; report = tt; deferrals = tt; rel
 tick_leads_by : (full : Bool) (s : State) (lane to : ℕ) → is_full s ≡ full → Sound s → IsMoment to → MayTickTo lane to s (tick_unless full s lane to).state (tick_unless full s lane to).reply
 tick_leads_by true s lane to full sound shown = inl (refl, full, refl)
 tick_leads_by false s lane to full sound shown =
-    inr (refl, entry lane (what.Tick to), refl, refl, effect_after (tick to) (entry lane (what.Tick to)) s (tick_fits s to shown) sound)
+    inr (refl, entry lane (what.Tick to), refl, refl, append-nil s.kept, effect_after (tick to) (entry lane (what.Tick to)) s (tick_fits s to shown) sound)
 
 -- a tick leads to no other state than it may
 pub tick_leads : (s t : State) (lane to : ℕ) (reply : Option Reply) → Sound s → IsMoment to → t ≡ (tick_to s lane to).state → reply ≡ (tick_to s lane to).reply → MayTickTo lane to s t reply

@@ -120,11 +120,11 @@ above_option : (id high : ℕ) (o : Option Alert) (ys : List Alert) → id < hig
 above_option id high None ys less is above = above
 above_option id high (Some a) ys less is above = (omega (arith, less, is), above)
 
-pub all_above : (j : Release → Option Alert) (low : ℕ) (rs : List Release) (next : ℕ) → Of j → (id : ℕ) → id ≤ low → Rise low rs next → AreAbove id (filter_map j rs)
+pub all_above : (j : Release → Option Alert) (low : ℕ) (rs : List Release) (next : ℕ) → Of j → (id : ℕ) → id < low → Rise low rs next → AreAbove id (filter_map j rs)
 all_above j low [] next of id within rise = tt
 all_above j low (r ∷ rs) next of id within rise =
     let one = rise.0 in
-    above_option id r.id (j r) (filter_map j rs) (omega (arith, one, within)) (of r) (all_above j r.id rs next of id (omega (arith, one, within)) rise.1)
+    above_option id r.id (j r) (filter_map j rs) (omega (arith, one, within)) (of r) (all_above j (r.id + 1) rs next of id (omega (arith, one, within)) rise.1)
 
 below_more : (id high : ℕ) (xs : List Alert) → id ≤ high → AreBelow id xs → AreBelow high xs
 below_more id high [] within below = tt
@@ -149,7 +149,7 @@ next_low low [] = low
 next_low low (r ∷ rs) = r.id
 
 -- release by release
-over : (t : State) (alerts xs : List Alert) (low : ℕ) (rs : List Release) (next : ℕ) → ((id : ℕ) → IsStep (alert_at id alerts) (alert_at id t.alerts)) → Rise low rs next → AreBelow (low + 1) xs
+over : (t : State) (alerts xs : List Alert) (low : ℕ) (rs : List Release) (next : ℕ) → ((id : ℕ) → IsStep (alert_at id alerts) (alert_at id t.alerts)) → Rise low rs next → AreBelow low xs
     → put_changes (changes_over t alerts rs) (xs ++ filter_map (λ r. alert_at r.id alerts) rs) ≡ xs ++ filter_map (judged t) rs
 over t alerts xs low [] next step rise below = refl
 over t alerts xs low (r ∷ rs) next step rise below =
@@ -158,13 +158,13 @@ over t alerts xs low (r ∷ rs) next step rise below =
     let later : List Alert = filter_map (λ q. alert_at q.id alerts) rs in
     let more : List AlertChange = changes_over t alerts rs in
     let less = rise.0 in
-    let under : AreBelow r.id xs = below_more (low + 1) r.id xs (omega (arith, less)) below in
-    let above : AreAbove r.id later = all_above (λ q. alert_at q.id alerts) r.id rs next (λ q. found_of q.id alerts) r.id (omega arith) rise.1 in
+    let under : AreBelow r.id xs = below_more low r.id xs (omega (arith, less)) below in
+    let above : AreAbove r.id later = all_above (λ q. alert_at q.id alerts) (r.id + 1) rs next (λ q. found_of q.id alerts) r.id (omega arith) rise.1 in
     ap (λ cs. put_changes cs (xs ++ cons_option before later)) (append_three (change_between r.id before kept) (change_between r.id kept (judged t r)) more)
     ∙ between r.id before kept xs later (change_between r.id kept (judged t r) ++ more) under above (found_of r.id alerts) (step r.id)
     ∙ between r.id kept (judged t r) xs later more under above (found_of r.id t.alerts) (judged_step (failing_of (grounds_of t) r) kept r t.moment)
     ∙ ap (λ rest. put_changes more rest) (join xs later (judged t r))
-    ∙ over t alerts (xs ++ cons_option (judged t r) []) r.id rs next step rise.1 (below_option r.id (r.id + 1) xs (judged t r) (omega arith) under (judged_is t r))
+    ∙ over t alerts (xs ++ cons_option (judged t r) []) (r.id + 1) rs next step rise.1 (below_option r.id (r.id + 1) xs (judged t r) (omega arith) under (judged_is t r))
     ∙ sym (join xs (filter_map (judged t) rs) (judged t r))
 
 -- the changes lead to the alerts once every active release is judged

@@ -1,8 +1,8 @@
 -- What a call comes to fits the desk.
 use Rattle.std.specs.Str.{bytes_eq}
-use Rattle.std.proofs.lemmas.Bool.{eqb-true, leb-false, leb-true, ltb-true}
+use Rattle.std.proofs.lemmas.Bool.{eqb-true, eq-eqb, leb-false, leb-true, ltb-true}
 use Rattle.std.proofs.lemmas.Slice.Eq.{bytes_eq-Decides}
-use Rattle.std.proofs.Common.{◌≡◌, ℕ, ◌+◌, ◌*◌, ◌/◌, ◌<◌, ◌≤◌, ◌==◌, not, ◌&&◌, Bool, true, false, cond, ltb, is_some, List, [], ◌∷◌, length, Option, None, Some, IfSome, Result, Ok, Err, refl, subst, sym, ◌∙◌, arith}
+use Rattle.std.proofs.Common.{◌≡◌, ℕ, ◌+◌, ◌*◌, ◌/◌, ◌<◌, ◌≤◌, ◌==◌, not, ◌&&◌, Bool, true, false, cond, eqb, ltb, is_some, List, [], ◌∷◌, length, Option, None, Some, IfSome, Result, Ok, Err, refl, subst, sym, ◌∙◌, arith}
 use Rattle.std.specs.Prelude.{nat_le}
 use Rattle.std.specs.List.{AllByRecursion}
 use Rattle.codes.specs.Groups.{groups_of, canonical}
@@ -34,8 +34,15 @@ use Rattle.plan.specs.declared.release.Signature.{Signature}
 use Rattle.asks.specs.declared.call.Ask.{Ask}
 use Rattle.asks.specs.declared.call.Ask.TheVariants as ask
 use Rattle.asks.specs.declared.call.Call.{Call}
+use Rattle.asks.specs.declared.kept.KeptReply.{KeptReply}
+use Rattle.asks.specs.declared.reply.Done.{Done as DoneType}
+use Rattle.asks.specs.declared.reply.Reply.TheVariants.{Done}
 use Rattle.asks.specs.declared.reply.Refusal.{Refusal}
+use Rattle.asks.specs.declared.reply.Refusal.TheVariants.{NumberReused}
+use Rattle.plan_json.specs.Canonical.{ask_digest}
 use Rattle.machine.specs.declared.effect.Decision.{Decision}
+use Rattle.machine.specs.declared.effect.Decision.TheVariants.{Show}
+use Rattle.machine.specs.Requests.{kept_at, floor_at}
 use Rattle.desk_time.proofs.MonthLaws.{three_months_low, three_months_range}
 use Rattle.alerts.specs.declared.alert.Alert.{Alert}
 use Rattle.rules.specs.Grounds.{Grounds}
@@ -45,11 +52,11 @@ use Rattle.machine.specs.Decide as d
 use Rattle.machine.specs.Decide.{decide}
 use Rattle.machine.specs.People.{may_ask, not_his_role}
 use Rattle.plan.specs.Texts.{HasMoment, IsMoment}
-use Rattle.machine.specs.Sound.{Sound, InBounds, ReleaseInBounds, IsValid, IsPhased, IsThere, AreNumbered, Waits, MaySigned, HasLegs, RevisionInBounds, IsSigned, IsNew, Fits, MayReplace, IsToldTo, Matches, IsAlerted, EffectFits, DecisionFits}
+use Rattle.machine.specs.Sound.{Sound, InBounds, ReleaseInBounds, IsValid, IsPhased, IsThere, AreNumbered, Waits, MaySigned, HasLegs, RevisionInBounds, IsSigned, IsNew, Fits, MayReplace, IsTaken, IsToldTo, Matches, IsAlerted, EffectFits, DecisionFits}
 use Rattle.machine.specs.Effects as effect
 use Rattle.machine.specs.Texts.{newest}
 use Rattle.asks.specs.Forms.{IsCall, CanBeShown, RefusalHasMoment}
-use Rattle.machine.proofs.Each.{found_each}
+use Rattle.machine.proofs.Each.{found_each, each_weaker}
 
 -- Chains.
 
@@ -189,8 +196,8 @@ still_phased (Completed at) v w active is = is
 still_phased (Cancelled at) v w active is = is
 
 still_numbered : (most : ℕ) (v w : Revision) (active : Option Revision) → w.number ≡ v.number → AreNumbered most (Some v) active → AreNumbered (most + 1) (Some w) active
-still_numbered most v w None same is = (let one = is.0 in omega (arith, same, one), let two = is.1 in omega (arith, same, two))
-still_numbered most v w (Some x) same is = (is.0, let one = is.1 in omega (arith, same, one), let two = is.2 in omega (arith, same, two))
+still_numbered most v w None same is = omega (arith, same, is)
+still_numbered most v w (Some x) same is = (let one = is.0 in omega (arith, same, one), let two = is.1 in omega (arith, same, two))
 
 active_phased : (phase : Phase) (w : Revision) → IsPhased (d.once_signed phase) None (Some w)
 active_phased Drafted w = tt
@@ -209,14 +216,14 @@ active_fit (Completed at) legs fits = tt
 active_fit (Cancelled at) legs fits = tt
 
 active_numbered : (most : ℕ) (v w : Revision) (active : Option Revision) → w.number ≡ v.number → AreNumbered most (Some v) active → AreNumbered (most + 1) None (Some w)
-active_numbered most v w None same is = (let one = is.0 in omega (arith, same, one), let two = is.1 in omega (arith, same, two))
-active_numbered most v w (Some x) same is = (let one = is.1 in let two = is.0 in omega (arith, same, one, two), let two = is.2 in omega (arith, same, two))
+active_numbered most v w None same is = omega (arith, same, is)
+active_numbered most v w (Some x) same is = let two = is.1 in omega (arith, same, two)
 
 alone_numbered : (most : ℕ) (pending active : Option Revision) → AreNumbered most pending active → AreNumbered (most + 1) None active
 alone_numbered most None None is = tt
-alone_numbered most None (Some w) is = (is.0, let one = is.1 in omega (arith, one))
+alone_numbered most None (Some w) is = omega (arith, is)
 alone_numbered most (Some v) None is = tt
-alone_numbered most (Some v) (Some w) is = (is.0, let one = is.1 in let two = is.2 in omega (arith, one, two))
+alone_numbered most (Some v) (Some w) is = let one = is.0 in let two = is.1 in omega (arith, one, two)
 
 some_weaker : {A : Type 0} (P Q : A → Type 0) → ((x : A) → P x → Q x) → (o : Option A) → IfSome o P → IfSome o Q
 some_weaker P Q f None is = tt
@@ -226,6 +233,7 @@ some_weaker P Q f (Some x) is = f x is
 record IsHeld (s : State) (r : Release) : Type 0 where
   pub fits : Fits s.counters.events r
   pub holder : IsToldTo r.holder (alert_at r.id s.alerts)
+  pub taken : IsTaken r.id s.releases
 
 -- and of its pending revision
 record IsPending (s : State) (r : Release) (v : Revision) : Type 0 where
@@ -264,6 +272,7 @@ pending_fits s r v w is same waits legs bounds = record {
     kept = record { moment = is.held.fits.kept.moment; pending = bounds; active = is.held.fits.kept.active };
   };
   holder = is.held.holder;
+  taken = is.held.taken;
 }
 
 prepared_fits : (s : State) (r : Release) (v : Revision) → IsPending s r v → MayReplace s (d.prepared s r v)
@@ -296,6 +305,7 @@ active_fits s r v signature shown prepared on is signed = record {
     };
   };
   holder = is.held.holder;
+  taken = is.held.taken;
 }
 
 -- a release in another phase, whose pending revision goes
@@ -314,6 +324,7 @@ moved_fits s r phase is phased legs shown = record {
     kept = record { moment = shown; pending = tt; active = is.fits.kept.active };
   };
   holder = is.holder;
+  taken = is.taken;
 }
 
 cancelled_fits : (s : State) (r : Release) → IsHeld s r → IsMoment s.moment → MayReplace s (d.cancelled r s.moment)
@@ -371,6 +382,7 @@ stopped_fits s r leg is may more shown = record {
     kept = record { moment = shown; pending = tt; active = is.fits.kept.active };
   };
   holder = is.holder;
+  taken = is.taken;
 }
 
 -- Amendments.
@@ -385,10 +397,10 @@ amend_phased (Cancelled at) w pending active e is = absurd (cc)
 
 amend_numbered : (most : ℕ) (w : Revision) (pending active : Option Revision) → w.number ≡ d.newest_number (newest pending active) + 1 → AreNumbered most pending active
     → AreNumbered (most + 1) (Some w) active
-amend_numbered most w None None is has = (omega (arith, is), omega (arith, is))
-amend_numbered most w (Some v) None is has = (omega (arith, is), let two = has.1 in omega (arith, is, two))
-amend_numbered most w None (Some x) is has = (has.0, omega (arith, is), let two = has.1 in omega (arith, is, two))
-amend_numbered most w (Some v) (Some x) is has = (has.0, let one = has.1 in omega (arith, is, one), let two = has.2 in omega (arith, is, two))
+amend_numbered most w None None is has = omega (arith, is)
+amend_numbered most w (Some v) None is has = omega (arith, is, has)
+amend_numbered most w None (Some x) is has = (omega (arith, is), omega (arith, is, has))
+amend_numbered most w (Some v) (Some x) is has = (let one = has.0 in omega (arith, is, one), let two = has.1 in omega (arith, is, two))
 
 -- there is a revision until the release has ended
 newest_there : (phase : Phase) (pending active : Option Revision) → d.may_change phase ≡ true → IsPhased phase pending active → IsThere (newest pending active)
@@ -438,6 +450,7 @@ amended_fits s r plan is form may passes follows =
         kept = record { moment = is.fits.kept.moment; pending = record { is_plan = form; dispatcher = tt; captain = tt }; active = is.fits.kept.active };
       };
       holder = is.holder;
+      taken = is.taken;
     }
 
 -- Effects.
@@ -448,14 +461,23 @@ put_fits s r may = record { moment = tt; report = tt; deferrals = tt; releases =
 put_afresh_fits : (s : State) (r : Release) → MayReplace s r → EffectFits s (effect.put_afresh r)
 put_afresh_fits s r may = record { moment = tt; report = tt; deferrals = tt; releases = may }
 
+taken_more : (b : Bool) (q : Release) (id : ℕ) (rs : List Release) → eqb q.id id ≡ b → IsTaken id rs → IsTaken id (q ∷ rs)
+taken_more true q id rs e taken = rw e refl
+taken_more false q id rs e taken = rw e taken
+
+-- of each release its own id is taken
+own_ids : (rs : List Release) → AllByRecursion (λ r. IsTaken r.id rs) rs
+own_ids [] = tt
+own_ids (q ∷ rs) = (rw (eq-eqb q.id q.id refl) refl, each_weaker (λ r. IsTaken r.id rs) (λ r. IsTaken r.id (q ∷ rs)) (λ r taken. taken_more _ q r.id rs refl taken) rs (own_ids rs))
+
 held_each : (s : State) (rs : List Release) → AllByRecursion (IsAlerted (grounds_of s) s.alerts) rs → AllByRecursion (IsValid s.counters.events) rs → AllByRecursion ReleaseInBounds rs
-    → AllByRecursion (IsHeld s) rs
-held_each s [] alerted valid kept = tt
-held_each s (r ∷ rs) alerted valid kept =
-    (record { fits = record { valid = valid.0; kept = kept.0 }; holder = alerted.0.1 }, held_each s rs alerted.1 valid.1 kept.1)
+    → AllByRecursion (λ r. IsTaken r.id s.releases) rs → AllByRecursion (IsHeld s) rs
+held_each s [] alerted valid kept taken = tt
+held_each s (r ∷ rs) alerted valid kept taken =
+    (record { fits = record { valid = valid.0; kept = kept.0 }; holder = alerted.0.1; taken = taken.0 }, held_each s rs alerted.1 valid.1 kept.1 taken.1)
 
 found_held : (s : State) (id : ℕ) → Sound s → InBounds s → IfSome (release_at id s.releases) (IsHeld s)
-found_held s id sound kept = found_each (IsHeld s) (λ r. r.id == id) s.releases (held_each s s.releases sound.alerted sound.valid kept.releases)
+found_held s id sound kept = found_each (IsHeld s) (λ r. r.id == id) s.releases (held_each s s.releases sound.alerted sound.valid kept.releases (own_ids s.releases))
 
 held_is : (s : State) (o : Option Release) (r : Release) → IfSome o (IsHeld s) → o ≡ Some r → IsHeld s r
 held_is s None r is e = absurd (cc)
@@ -516,7 +538,7 @@ drafted_fits s actor plan form passes few = record {
       phased = (tt, tt);
       both = tt;
       waits = record { captain = refl; dispatcher = tt };
-      numbered = (omega arith, omega arith);
+      numbered = omega arith;
       pending_legs = record { some = has_a_leg s.tables plan passes; fits = tt };
       active_legs = tt;
     };
@@ -667,6 +689,13 @@ purge s id sound kept =
     passed s (d.too_young s (d.kept_until at)) _ (if_stops _ _ (kept_shown at (ended_moment r.phase at ended held.fits.kept.moment)))
     (λ g. (tt, removed_fits s id r at sound is ended))))
 
+sweep_shown : (before : ℕ) → IsMoment before → CanBeShown (before + 4320)
+sweep_shown before is = let low = is.0 in let high = is.1 in (omega (arith, low), omega (arith, high))
+
+sweep : (s : State) (before : ℕ) → IsMoment before → DecisionFits s (d.decide_sweep s before)
+sweep s before is =
+    passed s (d.too_young s (before + 4320)) _ (if_stops _ _ (sweep_shown before is)) (λ e. (tt, record { moment = tt; report = tt; deferrals = tt; releases = tt }))
+
 view_release : (s : State) (id : ℕ) → Sound s → InBounds s → DecisionFits s (d.decide_release s id)
 view_release s id sound kept = held_by s id _ sound kept (λ r held. tt)
 
@@ -687,6 +716,7 @@ ask_fits s actor (ask.Depart release leg) sound kept is = depart s actor release
 ask_fits s actor (ask.Arrive release leg) sound kept is = arrive s actor release leg sound kept
 ask_fits s actor (ask.Acknowledge release version) sound kept is = acknowledge s actor release version sound kept
 ask_fits s actor (ask.Purge release) sound kept is = purge s release sound kept
+ask_fits s actor (ask.Sweep before) sound kept is = sweep s before is
 ask_fits s actor ask.ViewBoard sound kept is = tt
 ask_fits s actor ask.ViewAlerts sound kept is = tt
 ask_fits s actor (ask.ViewRelease release) sound kept is = view_release s release sound kept
@@ -697,7 +727,25 @@ role_stops : (o : Option Actor) (a : Ask) → IfSome (not_his_role o a) RefusalH
 role_stops None a = tt
 role_stops (Some person) a = if_stops (not (may_ask a person.role)) _ tt
 
+repeated_by : (s : State) (b : Bool) (id : ℕ) (made : DoneType) → DecisionFits s (cond b (Ok (Show (Done made))) (Err (NumberReused id)))
+repeated_by s true id made = tt
+repeated_by s false id made = tt
+
+floor_stops : (o : Option ℕ) (number : ℕ) → IfSome (d.up_to_floor o number) RefusalHasMoment
+floor_stops None number = tt
+floor_stops (Some floor) number = if_stops (nat_le number floor) _ tt
+
+new_fits : (o : Option KeptReply) (s : State) (call : Call) → Sound s → InBounds s → IsCall call.ask → DecisionFits s (d.decide_new o s call)
+new_fits (Some k) s call sound kept is = repeated_by s (bytes_eq k.digest (ask_digest call.ask)) k.id k.done
+new_fits None s call sound kept is =
+    passed s (d.swept_number s call.actor call.number) _ (floor_stops (floor_at call.actor s.floors) call.number) (λ e. ask_fits s call.actor call.ask sound kept is)
+
+numbered_fits : (view : Bool) (s : State) (call : Call) → Sound s → InBounds s → IsCall call.ask → DecisionFits s (d.decide_numbered view s call)
+numbered_fits true s call sound kept is = ask_fits s call.actor call.ask sound kept is
+numbered_fits false s call sound kept is = new_fits (kept_at call.actor call.number s.kept) s call sound kept is
+
 pub decision_fits : (s : State) (call : Call) → Sound s → InBounds s → IsCall call.ask → DecisionFits s (decide s call)
 unfolding decide
 decision_fits s call sound kept is =
-    passed s (not_his_role (actor_of s.tables call.actor) call.ask) _ (role_stops (actor_of s.tables call.actor) call.ask) (λ e. ask_fits s call.actor call.ask sound kept is)
+    passed s (not_his_role (actor_of s.tables call.actor) call.ask) _ (role_stops (actor_of s.tables call.actor) call.ask)
+    (λ e. numbered_fits (d.is_view call.ask) s call sound kept is)

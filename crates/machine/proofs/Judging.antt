@@ -100,26 +100,27 @@ after_option : (id low : ℕ) (o : Option Alert) (alerts : List Alert) → low <
 after_option id low None alerts less is = refl
 after_option id low (Some a) alerts less is = let ne : a.release ≡ id → ⊥ = λ e. absurd (omega (arith, is, e)) in rw (ne_eqb a.release id ne) refl
 
-rise_lower : (low high : ℕ) (rs : List Release) (next : ℕ) → low < high → Rise high rs next → Rise low rs next
+rise_lower : (low high : ℕ) (rs : List Release) (next : ℕ) → low ≤ high → Rise high rs next → Rise low rs next
 rise_lower low high [] next less rise = omega arith
 rise_lower low high (r ∷ rs) next less rise = (let above = rise.0 in omega arith, rise.1)
 
 agrees_after : (j : Release → Option Alert) (low : ℕ) (o : Option Alert) (alerts : List Alert) (rs : List Release) (next : ℕ)
-    → IfSome o (IsOf low) → Rise low rs next → Agrees j alerts rs → Agrees j (cons_option o alerts) rs
+    → IfSome o (IsOf low) → Rise (low + 1) rs next → Agrees j alerts rs → Agrees j (cons_option o alerts) rs
 agrees_after j low o alerts [] next is rise agrees = tt
 agrees_after j low o alerts (r ∷ rs) next is rise agrees =
-    (after_option r.id low o alerts rise.0 is ∙ agrees.0, agrees_after j low o alerts rs next is (rise_lower low r.id rs next rise.0 rise.1) agrees.1)
+    let above = rise.0 in
+    (after_option r.id low o alerts (omega (arith, above)) is ∙ agrees.0, agrees_after j low o alerts rs next is (rise_lower (low + 1) (r.id + 1) rs next (omega (arith, above)) rise.1) agrees.1)
 
 -- an alert of a later release in front
 before_option : (id high : ℕ) (o : Option Alert) (alerts : List Alert) → id < high → IfSome o (IsOf high) → alert_at id (cons_option o alerts) ≡ alert_at id alerts
 before_option id high None alerts less is = refl
 before_option id high (Some a) alerts less is = let ne : a.release ≡ id → ⊥ = λ e. absurd (omega (arith, is, e)) in rw (ne_eqb a.release id ne) refl
 
-none_before : (j : Release → Option Alert) (id low : ℕ) (rs : List Release) (next : ℕ) → Of j → id ≤ low → Rise low rs next → alert_at id (filter_map j rs) ≡ None
+none_before : (j : Release → Option Alert) (id low : ℕ) (rs : List Release) (next : ℕ) → Of j → id < low → Rise low rs next → alert_at id (filter_map j rs) ≡ None
 none_before j id low [] next of within rise = refl
 none_before j id low (r ∷ rs) next of within rise =
     let above = rise.0 in
-    before_option id r.id (j r) (filter_map j rs) (omega arith) (of r) ∙ none_before j id r.id rs next of (omega arith) rise.1
+    before_option id r.id (j r) (filter_map j rs) (omega arith) (of r) ∙ none_before j id (r.id + 1) rs next of (omega arith) rise.1
 
 here_by : (id : ℕ) (o : Option Alert) (alerts : List Alert) → IfSome o (IsOf id) → alert_at id alerts ≡ None → alert_at id (cons_option o alerts) ≡ o
 here_by id None alerts is none = none
@@ -129,8 +130,8 @@ here_by id (Some a) alerts is none = rw (eq-eqb a.release id is) refl
 pub agrees_all : (j : Release → Option Alert) (low : ℕ) (rs : List Release) (next : ℕ) → Of j → Rise low rs next → Agrees j (filter_map j rs) rs
 agrees_all j low [] next of rise = tt
 agrees_all j low (r ∷ rs) next of rise = (
-  here_by r.id (j r) (filter_map j rs) (of r) (none_before j r.id r.id rs next of (omega arith) rise.1),
-  agrees_after j r.id (j r) (filter_map j rs) rs next (of r) rise.1 (agrees_all j r.id rs next of rise.1),
+  here_by r.id (j r) (filter_map j rs) (of r) (none_before j r.id (r.id + 1) rs next of (omega arith) rise.1),
+  agrees_after j r.id (j r) (filter_map j rs) rs next (of r) rise.1 (agrees_all j (r.id + 1) rs next of rise.1),
 )
 
 agreed : (j : Release → Option Alert) (alerts : List Alert) (rs : List Release) → Agrees j alerts rs → filter_map j rs ≡ filter_map (λ r. alert_at r.id alerts) rs
@@ -171,16 +172,16 @@ are_alerts t most (r ∷ rs) shown rising all =
     (judged_alert (failing_of (grounds_of t) r) (alert_at r.id t.alerts) r t.moment most shown (failing_order (grounds_of t) r.active r.phase rising) (is_alert_at t.alerts most r.id all))
     (are_alerts t most rs shown rising all)
 
-pub rise_bound : (low : ℕ) (rs : List Release) (next : ℕ) → Rise low rs next → low < next
+pub rise_bound : (low : ℕ) (rs : List Release) (next : ℕ) → Rise low rs next → low ≤ next
 rise_bound low [] next rise = rise
-rise_bound low (r ∷ rs) next rise = let more = rise_bound r.id rs next rise.1 in let one = rise.0 in omega (arith, more, one)
+rise_bound low (r ∷ rs) next rise = let more = rise_bound (r.id + 1) rs next rise.1 in let one = rise.0 in omega (arith, more, one)
 
 -- no alert of an id that is above all
 none_after : (j : Release → Option Alert) (id low : ℕ) (rs : List Release) (next : ℕ) → Of j → next ≤ id → Rise low rs next → alert_at id (filter_map j rs) ≡ None
 none_after j id low [] next of within rise = refl
 none_after j id low (r ∷ rs) next of within rise =
-    let less = rise_bound r.id rs next rise.1 in
-    after_option id r.id (j r) (filter_map j rs) (omega (arith, less, within)) (of r) ∙ none_after j id r.id rs next of within rise.1
+    let less = rise_bound (r.id + 1) rs next rise.1 in
+    after_option id r.id (j r) (filter_map j rs) (omega (arith, less, within)) (of r) ∙ none_after j id (r.id + 1) rs next of within rise.1
 
 -- the release that comes next has no alert
 pub none_next : (alerts : List Alert) (rs : List Release) (next : ℕ) → alerts ≡ filter_map (λ r. alert_at r.id alerts) rs → Rise 0 rs next → alert_at next alerts ≡ None
@@ -225,25 +226,25 @@ each_without P gone (a ∷ rest) all = each_kept P _ a (without_alert gone rest)
 -- ids rise on
 pub rise_push : (low : ℕ) (rs : List Release) (next : ℕ) (r : Release) → Rise low rs next → r.id ≡ next → Rise low (rs ++ r ∷ []) (next + 1)
 rise_push low [] next r rise is = (omega arith, omega arith)
-rise_push low (q ∷ qs) next r rise is = (rise.0, rise_push q.id qs next r rise.1 is)
+rise_push low (q ∷ qs) next r rise is = (rise.0, rise_push (q.id + 1) qs next r rise.1 is)
 
-rise_put_by : (low : ℕ) (q r : Release) (qs more : List Release) (next : ℕ) (b : Bool) → eqb q.id r.id ≡ b → low < q.id → Rise q.id qs next → Rise q.id more next
+rise_put_by : (low : ℕ) (q r : Release) (qs more : List Release) (next : ℕ) (b : Bool) → eqb q.id r.id ≡ b → low ≤ q.id → Rise (q.id + 1) qs next → Rise (q.id + 1) more next
     → Rise low (cond b (r ∷ qs) (q ∷ more)) next
 rise_put_by low q r qs more next true e less rest later =
-    let same = eqb-true q.id r.id e in (omega (arith, same, less), subst (λ (id : ℕ). Rise id qs next) same rest)
+    let same = eqb-true q.id r.id e in (omega (arith, same, less), subst (λ (id : ℕ). Rise (id + 1) qs next) same rest)
 rise_put_by low q r qs more next false e less rest later = (less, later)
 
 pub rise_put : (low : ℕ) (r : Release) (rs : List Release) (next : ℕ) → Rise low rs next → Rise low (put r rs) next
 rise_put low r [] next rise = rise
-rise_put low r (q ∷ qs) next rise = rise_put_by low q r qs (put r qs) next _ refl rise.0 rise.1 (rise_put q.id r qs next rise.1)
+rise_put low r (q ∷ qs) next rise = rise_put_by low q r qs (put r qs) next _ refl rise.0 rise.1 (rise_put (q.id + 1) r qs next rise.1)
 
-rise_without_by : (low : ℕ) (q : Release) (qs more : List Release) (next : ℕ) (b : Bool) → low < q.id → Rise q.id qs next → Rise q.id more next → Rise low (cond b qs (q ∷ more)) next
-rise_without_by low q qs more next true less rest later = rise_lower low q.id qs next less rest
+rise_without_by : (low : ℕ) (q : Release) (qs more : List Release) (next : ℕ) (b : Bool) → low ≤ q.id → Rise (q.id + 1) qs next → Rise (q.id + 1) more next → Rise low (cond b qs (q ∷ more)) next
+rise_without_by low q qs more next true less rest later = rise_lower low (q.id + 1) qs next (omega (arith, less)) rest
 rise_without_by low q qs more next false less rest later = (less, later)
 
 pub rise_without : (low id : ℕ) (rs : List Release) (next : ℕ) → Rise low rs next → Rise low (without_release id rs) next
 rise_without low id [] next rise = rise
-rise_without low id (q ∷ qs) next rise = rise_without_by low q qs (without_release id qs) next _ rise.0 rise.1 (rise_without q.id id qs next rise.1)
+rise_without low id (q ∷ qs) next rise = rise_without_by low q qs (without_release id qs) next _ rise.0 rise.1 (rise_without (q.id + 1) id qs next rise.1)
 
 -- an alert that is acknowledged
 

@@ -2,7 +2,7 @@
 use Rattle.std.proofs.Common.{◌≡◌, ℕ, ◌+◌, ◌<◌, ◌≤◌, Bool, true, false, cond, eqb, not, List, [], ◌∷◌, ◌++◌, append-nil, length, length-append, Option, None, Some, IfSome, refl, ap, sym, ◌∙◌, subst, arith}
 use Rattle.std.specs.Prelude.{filter, find}
 use Rattle.std.specs.Option.{option_map}
-use Rattle.std.specs.List.{AllByRecursion, filter_map, cons_option}
+use Rattle.std.specs.List.{AllByRecursion, AllPairs, filter_map, cons_option}
 use Rattle.std.proofs.lemmas.Bool.{eqb-true}
 use Rattle.std.proofs.lemmas.List.Elements.{All-from_recursion, filter_map-append}
 use Rattle.std.proofs.lemmas.List.Kept.{AllPairs-filter}
@@ -10,17 +10,21 @@ use Rattle.std.proofs.lemmas.List.Quantifiers.{all_pairs_push}
 use Rattle.alerts.specs.declared.alert.Alert.{Alert}
 use Rattle.deferrals.specs.Held.{has_id, without}
 use Rattle.deferrals.specs.declared.items.Deferral.{Deferral}
+use Rattle.asks.specs.declared.kept.KeptReply.{KeptReply}
 use Rattle.facts.specs.Same.{is_same, same_id, minute_of_report}
+use Rattle.facts.specs.Swept.{stays, swept}
 use Rattle.facts.specs.declared.report.Report.{Report}
 use Rattle.plan.specs.Texts.{IsMoment}
 use Rattle.plan.specs.declared.release.Release.{Release}
 use Rattle.plan.specs.declared.release.Revision.{Revision}
+use Rattle.machine.specs.declared.effect.Sweep.{Sweep}
 use Rattle.machine.specs.declared.effect.OnDeferrals.{OnDeferrals}
 use Rattle.machine.specs.declared.effect.OnDeferrals.TheVariants as on_deferrals
 use Rattle.machine.specs.declared.effect.OnReleases.{OnReleases}
 use Rattle.machine.specs.declared.effect.OnReleases.TheVariants as on_releases
-use Rattle.machine.specs.Events.{put, without_release, moment_after, reports_after, deferrals_after, releases_after, next_report, next_deferral, next_release}
-use Rattle.machine.specs.Sound.{Sound, ReleaseInBounds, IsValid, AreNumbered, IsNumbered, IsOpen, AreOpen, MayOpen, IsNext, AreUnlike, IsToldTo, Rise, DeferralsFit, ReleasesFit}
+use Rattle.machine.specs.Events.{put, without_release, moment_after, reports_after, reports_swept, is_since, kept_after, deferrals_after, releases_after, next_report, next_deferral, next_release}
+use Rattle.machine.specs.Sound.{Sound, ReleaseInBounds, IsValid, AreNumbered, IsNumbered, IsOpen, AreOpen, MayOpen, IsNext, AreUnlike, AreSingle, IsToldTo, Rise, DeferralsFit, ReleasesFit}
+use Rattle.machine.specs.Requests.{is_request, kept_at}
 use Rattle.machine.specs.State.{State, alert_at}
 use Rattle.machine.proofs.Each.{each_push, each_weaker, put_each, put_length, without_each, without_shorter}
 use Rattle.machine.proofs.Judging.{AreTold, none_next, rise_push, rise_put, rise_without}
@@ -31,12 +35,12 @@ moment_shown (Some to) moment fits is = fits
 
 -- Reports.
 
-none_by : {A : Type 0} (p : A → Bool) (x : A) (b : Bool) (o : Option A) → p x ≡ b → cond b (Some x) o ≡ None → (p x ≡ false) × (o ≡ None)
+pub none_by : {A : Type 0} (p : A → Bool) (x : A) (b : Bool) (o : Option A) → p x ≡ b → cond b (Some x) o ≡ None → (p x ≡ false) × (o ≡ None)
 none_by p x true o e none = absurd (cc)
 none_by p x false o e none = (e, none)
 
 -- where none is found, none passes
-none_found : {A : Type 0} (p : A → Bool) (xs : List A) → find p xs ≡ None → AllByRecursion (λ x. p x ≡ false) xs
+pub none_found : {A : Type 0} (p : A → Bool) (xs : List A) → find p xs ≡ None → AllByRecursion (λ x. p x ≡ false) xs
 none_found p [] none = tt
 none_found p (x ∷ xs) none = let both = none_by p x (p x) (find p xs) refl none in (both.0, none_found p xs both.1)
 
@@ -62,6 +66,14 @@ reports_numbered s (Some report) fits all =
     let is_new = fits.is_new in
     each_push (IsNumbered (report.id + 1)) s.reports report
     (each_weaker (IsNumbered s.counters.next_report) (IsNumbered (report.id + 1)) (λ r within. omega (arith, is_new, within)) s.reports all) (omega arith)
+
+pub reports_rise : (s : State) (o : Option Report) → IfSome o (IsNext s) → AllByRecursion (IsNumbered s.counters.next_report) s.reports → AllPairs (λ a b. a.id < b.id) s.reports
+    → AllPairs (λ a b. a.id < b.id) (reports_after o s.reports)
+reports_rise s None fits all rising = rising
+reports_rise s (Some report) fits all rising =
+    let is_new = fits.is_new in
+    all_pairs_push (λ a b. a.id < b.id) s.reports report rising
+    (All-from_recursion (λ r. r.id < report.id) s.reports (each_weaker (IsNumbered s.counters.next_report) (λ r. r.id < report.id) (λ r below. omega (arith, is_new, below)) s.reports all))
 
 pub reports_few : (s : State) (o : Option Report) → IfSome o (IsNext s) → length s.reports ≤ 200_000 → length (reports_after o s.reports) ≤ 200_000
 reports_few s None fits few = few
@@ -127,6 +139,57 @@ deferral_next s on_deferrals.Nothing fits least = omega (arith, least)
 deferral_next s (on_deferrals.Open d) fits least = let same = fits.is_new in omega (arith, same, least)
 deferral_next s (on_deferrals.Clear id) fits least = omega (arith, least)
 
+-- Sweeps.
+
+pub swept_each : (P : Report → Type 0) (o : Option Sweep) (rs : List Report) → AllByRecursion P rs → AllByRecursion P (reports_swept o rs)
+unfolding swept
+swept_each P None rs all = all
+swept_each P (Some w) rs all = filter_each P (stays w.before w.attached rs) rs all
+
+pub swept_unlike : (o : Option Sweep) (rs : List Report) → AreUnlike rs → AreUnlike (reports_swept o rs)
+unfolding swept
+swept_unlike None rs unlike = unlike
+swept_unlike (Some w) rs unlike = AllPairs-filter (λ a b. is_same b.text (minute_of_report b) a ≡ false) (stays w.before w.attached rs) rs unlike
+
+pub swept_rise : (o : Option Sweep) (rs : List Report) → AllPairs (λ a b. a.id < b.id) rs → AllPairs (λ a b. a.id < b.id) (reports_swept o rs)
+unfolding swept
+swept_rise None rs rising = rising
+swept_rise (Some w) rs rising = AllPairs-filter (λ a b. a.id < b.id) (stays w.before w.attached rs) rs rising
+
+pub swept_fewer : (o : Option Sweep) (rs : List Report) → length (reports_swept o rs) ≤ length rs
+unfolding swept
+swept_fewer None rs = omega arith
+swept_fewer (Some w) rs = filter_shorter (stays w.before w.attached rs) rs
+
+pub kept_each : (P : KeptReply → Type 0) (o : Option Sweep) (ks : List KeptReply) → AllByRecursion P ks → AllByRecursion P (kept_after o ks)
+kept_each P None ks all = all
+kept_each P (Some w) ks all = filter_each P (is_since w.before) ks all
+
+pub kept_single : (o : Option Sweep) (ks : List KeptReply) → AreSingle ks → AreSingle (kept_after o ks)
+kept_single None ks single = single
+kept_single (Some w) ks single = AllPairs-filter (λ a b. is_request b.actor b.number a ≡ false) (is_since w.before) ks single
+
+pub kept_rise : (o : Option Sweep) (ks : List KeptReply) → AllPairs (λ a b. a.id < b.id) ks → AllPairs (λ a b. a.id < b.id) (kept_after o ks)
+kept_rise None ks rising = rising
+kept_rise (Some w) ks rising = AllPairs-filter (λ a b. a.id < b.id) (is_since w.before) ks rising
+
+pub kept_fewer : (o : Option Sweep) (ks : List KeptReply) → length (kept_after o ks) ≤ length ks
+kept_fewer None ks = omega arith
+kept_fewer (Some w) ks = filter_shorter (is_since w.before) ks
+
+found_still : {A : Type 0} (p : A → Bool) (x : A) (b : Bool) (rest : List A) → p x ≡ false → find p rest ≡ None → find p (cond b (x ∷ rest) rest) ≡ None
+found_still p x true rest fails none = rw fails none
+found_still p x false rest fails none = none
+
+-- what isn't found isn't found in a part
+still_none : {A : Type 0} (p q : A → Bool) (xs : List A) → find p xs ≡ None → find p (filter q xs) ≡ None
+still_none p q [] none = refl
+still_none p q (x ∷ xs) none = let both = none_by p x (p x) (find p xs) refl none in found_still p x (q x) (filter q xs) both.0 (still_none p q xs both.1)
+
+pub still_unused : (actor : List ℕ) (number : ℕ) (o : Option Sweep) (ks : List KeptReply) → kept_at actor number ks ≡ None → kept_at actor number (kept_after o ks) ≡ None
+still_unused actor number None ks none = none
+still_unused actor number (Some w) ks none = still_none (is_request actor number) (is_since w.before) ks none
+
 -- Releases.
 
 pub releases_rise : (s : State) (on : OnReleases) → ReleasesFit s on → Rise 0 s.releases s.counters.next_release
@@ -152,9 +215,9 @@ release_next s (on_releases.Remove id) fits least = omega (arith, least)
 
 more_numbers : (most : ℕ) (pending active : Option Revision) → AreNumbered most pending active → AreNumbered (most + 1) pending active
 more_numbers most None None is = tt
-more_numbers most (Some v) None is = (is.0, let two = is.1 in omega (arith, two))
-more_numbers most None (Some w) is = (is.0, let two = is.1 in omega (arith, two))
-more_numbers most (Some v) (Some w) is = (is.0, is.1, let two = is.2 in omega (arith, two))
+more_numbers most (Some v) None is = omega (arith, is)
+more_numbers most None (Some w) is = omega (arith, is)
+more_numbers most (Some v) (Some w) is = (is.0, let two = is.1 in omega (arith, two))
 
 pub more_valid : (most : ℕ) (r : Release) → IsValid most r → IsValid (most + 1) r
 more_valid most r is = record {

@@ -27,13 +27,13 @@ use Rattle.machine.specs.declared.effect.OnAlerts.TheVariants as on_alerts
 use Rattle.machine.specs.Effects.{tick}
 use Rattle.machine.specs.declared.effect.Decision.{Decision}
 use Rattle.machine.specs.declared.effect.Decision.TheVariants.{Show, Do}
-use Rattle.machine.specs.State.{State, release_at, alert_at, judged, judged_all, is_full}
+use Rattle.machine.specs.State.{State, release_at, alert_at, judged, judged_all, is_full, is_full_for}
 use Rattle.machine.specs.Events.{effected, acknowledged_if, kept_alert, is_same_mark, is_same_alert, change_between, changes_from, changes_over, alert_changes, notices_of}
 use Rattle.machine.specs.Decide.{decide, leg_count}
 use Rattle.machine.specs.Step.{entry, entered, without_key, enter, finish, do_call, do_unless, answer_call, tick_unless, tick_to}
 use Rattle.machine.specs.People.{mistaken}
 use Rattle.machine.specs.Sound.{Sound, InBounds, EffectFits, DecisionFits}
-use Rattle.machine.specs.Allowed.{IsEffectOf, admits, defers, clears, drafts, prepares, signs, concurs, amends, cancels, departs, stops, completes, acknowledges, purges, OfHeld, IsConcurring, IsCancelling, HasMore, HasNoMore, IsStopping, IsCompleting, DecisionOf}
+use Rattle.machine.specs.Allowed.{IsEffectOf, admits, defers, clears, drafts, prepares, signs, concurs, amends, cancels, departs, stops, completes, acknowledges, purges, sweeps, OfHeld, IsConcurring, IsCancelling, HasMore, HasNoMore, IsStopping, IsCompleting, DecisionOf}
 use Rattle.machine.specs.Told.{told_of, is_last, takes_alert, told_over, AreDifferences, takes_none}
 use Rattle.machine.proofs.Judging.{Agrees, agrees_all, alerts_kept, judged_is}
 use Rattle.machine.proofs.Parts.{releases_rise}
@@ -192,6 +192,7 @@ asked_takes s actor (completes {id = release} {leg = leg} {r = r} is) id =
     same_or id r.id release (is_last (release_at release s.releases) leg) (of_found (IsCompleting s actor leg) s release r (λ q has. has.arrives.same.id) is)
     (is_over s actor leg (release_at release s.releases) r is)
 asked_takes s actor (acknowledges is has) id = refl
+asked_takes s actor (sweeps is) id = refl
 asked_takes s actor (purges is has) id = refl
 
 -- Calls and ticks.
@@ -218,11 +219,11 @@ enter_told false s lane call reply effect made fits sound is =
     told_event (takes_alert s call.ask) effect (entry lane (what.Asked (without_key call) reply)) s (notices_of (alert_changes effect s))
     (effect_told effect s (takes_alert s call.ask) fits sound (asked_takes s call.actor is))
 
-finish_told : (s : State) (lane : ℕ) (call : Call) (decision : Result Decision Refusal) → DecisionFits s decision → Sound s → DecisionOf s call.actor call.ask decision
+finish_told : (s : State) (lane : ℕ) (call : Call) (decision : Result Decision Refusal) → DecisionFits s decision → Sound s → DecisionOf s call decision
     → AreDifferences (takes_alert s call.ask) s (finish s lane call decision).state (finish s lane call decision).notices
 finish_told s lane call (Err refusal) fits sound is = nothing_told (takes_alert s call.ask) s
 finish_told s lane call (Ok (Show reply)) fits sound is = nothing_told (takes_alert s call.ask) s
-finish_told s lane call (Ok (Do reply effect)) fits sound is = enter_told (is_full s) s lane call reply effect is.0 fits.1 sound is.2
+finish_told s lane call (Ok (Do reply effect)) fits sound is = enter_told (is_full_for s call.ask) s lane call reply effect is.1 fits.1 sound is.3
 
 do_told : (s : State) (lane : ℕ) (call : Call) (o : Option Refusal) → Sound s → InBounds s → IsCall call.ask
     → AreDifferences (takes_alert s call.ask) s (do_unless o s lane call).state (do_unless o s lane call).notices

@@ -1,5 +1,5 @@
 -- What an accepted ask may change, beside what its own line says.
-use Rattle.std.specs.Prelude.{◌≡◌, ◌≢◌, ◌⊎◌, ℕ, ◌+◌, ◌<◌, ◌≤◌, ◌==◌, ◌&&◌, Bool, true, false, List, [], ◌∷◌, ◌++◌, length, Option, None, Some, Result, Ok, Err}
+use Rattle.std.specs.Prelude.{◌≡◌, ◌≢◌, ◌⊎◌, ℕ, ◌+◌, ◌<◌, ◌≤◌, ◌==◌, ◌&&◌, Bool, true, false, List, [], ◌∷◌, ◌++◌, length, Option, None, Some, IfSome, Result, Ok, Err}
 use Rattle.std.specs.List.{AllByRecursion, list_any}
 use Rattle.std.specs.Str.{bytes_eq}
 use Rattle.codes.specs.Groups.{groups_of, canonical}
@@ -41,10 +41,14 @@ use Rattle.machine.specs.declared.entry.Entry.{Entry}
 use Rattle.machine.specs.declared.entry.What.{What}
 use Rattle.machine.specs.declared.entry.What.TheVariants as what
 use Rattle.machine.specs.State.{State, grounds_of, failing_of, release_at, alert_at, is_full}
-use Rattle.machine.specs.Events.{effected, moment_after, reports_after, deferrals_after, releases_after}
-use Rattle.machine.specs.Decide.{once_signed, kept_until}
+use Rattle.machine.specs.Events.{effected, moment_after, reports_after, reports_swept, deferrals_after, releases_after, kept_after, floors_after}
+use Rattle.machine.specs.Decide.{once_signed, kept_until, attached_reports, reports_before}
+use Rattle.machine.specs.Requests.{kept_at, floor_at, raised_by, kept_before}
+use Rattle.plan_json.specs.Canonical.{ask_digest}
+use Rattle.asks.specs.declared.kept.Floor.{Floor}
+use Rattle.asks.specs.declared.kept.KeptReply.{KeptReply}
 use Rattle.machine.specs.People.{may_ask}
-use Rattle.machine.specs.Step.{entered, full_reply}
+use Rattle.machine.specs.Step.{entered, full_reply, kept_reply}
 use Rattle.machine.specs.declared.effect.OnAlerts.{OnAlerts}
 use Rattle.machine.specs.declared.effect.OnAlerts.TheVariants as on_alerts
 use Rattle.alerts.specs.Follows.{Follows}
@@ -278,6 +282,13 @@ pub record IsPurging (s : State) (q : Release) : Type 0 where
   pub ended : HasEndedAt q.phase at
   pub passed : kept_until at ≤ s.moment
 
+-- A sweep of what is three days old and older. What stays of the reports because it is attached to a release, and how far the
+-- floors of persons rise, follows from what is held.
+pub record IsSweeping (s : State) (before : ℕ) (staying : List ℕ) (raised : List Floor) : Type 0 where
+  pub passed : before + 4320 ≤ s.moment
+  pub attached : staying ≡ attached_reports s
+  pub floors : raised ≡ raised_by (kept_before before s.kept) s.floors
+
 -- a new report of an airport, received now: the canonical form of a text, and what is read of the text
 pub record IsReceived (s : State) (text : List ℕ) (report : Report) : Type 0 where
   pub is_new : report.id ≡ s.counters.next_report
@@ -330,6 +341,8 @@ pub data IsEffectOf (s : State) (actor : List ℕ) : Ask → Effect → DoneType
       → IsEffectOf s actor (ask.Arrive id leg) (effect.put_afresh r) (done.Release r.id)
   acknowledges : {id version : ℕ} {q : Release} → release_at id s.releases ≡ Some q → IsAcknowledging s actor version q
       → IsEffectOf s actor (ask.Acknowledge id version) (effect.acknowledge q.id) (done.Release q.id)
+  sweeps : {before : ℕ} {attached : List ℕ} {floors : List Floor} → IsSweeping s before attached floors
+      → IsEffectOf s actor (ask.Sweep before) (effect.sweep before attached floors) (done.Swept (length (reports_before s before)) (length (kept_before before s.kept)))
   purges : {id : ℕ} {q : Release} → release_at id s.releases ≡ Some q → IsPurging s q → IsEffectOf s actor (ask.Purge id) (effect.remove q.id) (done.Release q.id)
 
 -- an ask that only shows something
@@ -347,6 +360,7 @@ IsView (ask.Depart release leg) = ⊥
 IsView (ask.Arrive release leg) = ⊥
 IsView (ask.Acknowledge release version) = ⊥
 IsView (ask.Purge release) = ⊥
+IsView (ask.Sweep before) = ⊥
 IsView ask.ViewBoard = Unit {0}
 IsView ask.ViewAlerts = Unit {0}
 IsView (ask.ViewRelease release) = Unit {0}
@@ -362,20 +376,45 @@ abbrev pub IsHeldReport : State → DoneType → Ask → Type 0
 IsHeldReport s (done.Report id) (ask.Admit text) = list_any (has_text id (canonical (groups_of text))) s.reports ≡ true
 IsHeldReport s _ _ = ⊥
 
--- what may be answered where nothing changes: a refusal, to a view what it shows, or the id of a report that is held
-abbrev pub IsAnswer : State → Ask → Reply → Type 0
-IsAnswer s a (Refused refusal) = Unit {0}
-IsAnswer s a (Seen text) = IsView a
-IsAnswer s a (Done made) = IsHeldReport s made a
+-- what an ask may be answered where nothing changes: a refusal, to a view what it shows, or the id of a report that is held
+abbrev pub IsShownTo : State → Ask → Reply → Type 0
+IsShownTo s a (Refused refusal) = Unit {0}
+IsShownTo s a (Seen text) = IsView a
+IsShownTo s a (Done made) = IsHeldReport s made a
 
-abbrev pub Stays : State → Ask → Option Reply → Type 0
-Stays s a None = ⊥
-Stays s a (Some reply) = IsAnswer s a reply
+-- the call comes again: the same was asked by the same person under the same number, and what it has done is kept
+pub record IsRepeat (s : State) (call : Call) (made : DoneType) : Type 0 where
+  pub reply : KeptReply
+  pub kept : kept_at call.actor call.number s.kept ≡ Some reply
+  pub same : reply.digest ≡ ask_digest call.ask
+  pub done : made ≡ reply.done
 
-abbrev pub DecisionOf : State → List ℕ → Ask → Result Decision Refusal → Type 0
-DecisionOf s actor a (Err refusal) = Unit {0}
-DecisionOf s actor a (Ok (Show reply)) = IsAnswer s a reply
-DecisionOf s actor a (Ok (Do reply effect)) = (made : DoneType) × (reply ≡ Done made) × IsEffectOf s actor a effect made
+-- what a call may be answered where nothing changes: to its ask, or what is kept of the same call
+abbrev pub IsAnswer : State → Call → Reply → Type 0
+IsAnswer s call (Refused refusal) = Unit {0}
+IsAnswer s call (Seen text) = IsView call.ask
+IsAnswer s call (Done made) = IsHeldReport s made call.ask ⊎ IsRepeat s call made
+
+abbrev pub Stays : State → Call → Option Reply → Type 0
+Stays s call None = ⊥
+Stays s call (Some reply) = IsAnswer s call reply
+
+-- what an ask of a person comes to
+abbrev pub AskedOf : State → List ℕ → Ask → Result Decision Refusal → Type 0
+AskedOf s actor a (Err refusal) = Unit {0}
+AskedOf s actor a (Ok (Show reply)) = IsShownTo s a reply
+AskedOf s actor a (Ok (Do reply effect)) = (made : DoneType) × (reply ≡ Done made) × IsEffectOf s actor a effect made
+
+-- nothing is kept of the person's request under the number, and the number is above his floor
+pub record IsUnused (s : State) (call : Call) : Type 0 where
+  pub none : kept_at call.actor call.number s.kept ≡ None
+  pub above : IfSome (floor_at call.actor s.floors) (λ floor. floor < call.number)
+
+-- what a call comes to
+abbrev pub DecisionOf : State → Call → Result Decision Refusal → Type 0
+DecisionOf s call (Err refusal) = Unit {0}
+DecisionOf s call (Ok (Show reply)) = IsAnswer s call reply
+DecisionOf s call (Ok (Do reply effect)) = IsUnused s call × (made : DoneType) × (reply ≡ Done made) × IsEffectOf s call.actor call.ask effect made
 
 -- the same call, but for its key, which isn't kept
 pub record IsWithoutKey (call kept : Call) : Type 0 where
@@ -420,10 +459,11 @@ pub record IsAfter (effect : Effect) (e : Entry) (s t : State) : Type 0 where
   pub judged : t ≡ entered e (effected effect s)
   pub tables : t.tables ≡ s.tables
   pub moment : t.moment ≡ moment_after effect.moment s.moment
-  pub reports : t.reports ≡ reports_after effect.report s.reports
+  pub reports : t.reports ≡ reports_swept effect.sweep (reports_after effect.report s.reports)
   pub deferrals : t.deferrals ≡ deferrals_after effect.on_deferrals s.deferrals
   pub releases : t.releases ≡ releases_after effect.on_releases s.releases
   pub alerts : AllByRecursion (IsAlertAfter effect s t) t.releases
+  pub floors : t.floors ≡ floors_after effect.sweep s.floors
   pub entries : t.entries ≡ s.entries ++ e ∷ []
   pub events : t.counters.events ≡ s.counters.events + 1
 
@@ -434,16 +474,21 @@ pub record IsPermitted (s : State) (call : Call) : Type 0 where
   pub key : person.key ≡ call.key
   pub role : may_ask call.ask person.role ≡ true
 
--- Nothing changes, and the reply says of nothing that it was done; or the call is permitted and changes what its ask may change,
--- every active release is then judged, and the call is entered with its reply.
+-- what has been kept of accepted commands stays, but for what a sweep takes away, and that of the call comes after it
+pub record IsKeptOf (s t : State) (call : Call) (does : Effect) (made : DoneType) : Type 0 where
+  pub unused : IsUnused s call
+  pub kept : t.kept ≡ kept_after does.sweep s.kept ++ kept_reply (effected does s) call made ∷ []
+
+-- Nothing changes, and the reply says that something was done only where it was before; or the call is permitted and new and
+-- changes what its ask may change, every active release is then judged, and the call is entered with its reply, which is kept.
 abbrev pub MayLeadTo : ℕ → Call → State → State → Option Reply → Type 0
 MayLeadTo lane call s t reply =
-    ((t ≡ s) × Stays s call.ask reply)
+    ((t ≡ s) × Stays s call reply)
     ⊎ (IsPermitted s call × (does : Effect) × (made : DoneType) × IsEffectOf s call.actor call.ask does made × (reply ≡ Some (Done made))
-    × (e : Entry) × IsEntryOf lane call (Done made) e × IsAfter does e s t)
+    × (e : Entry) × IsEntryOf lane call (Done made) e × IsKeptOf s t call does made × IsAfter does e s t)
 
 -- No event may come any more, the tick is refused and nothing changes; or the moment rises, every active release is then judged, and the tick entered.
 abbrev pub MayTickTo : ℕ → ℕ → State → State → Option Reply → Type 0
 MayTickTo lane to s t reply =
     ((t ≡ s) × (is_full s ≡ true) × (reply ≡ Some (full_reply s)))
-    ⊎ ((reply ≡ None) × (e : Entry) × (e.lane ≡ lane) × (e.what ≡ what.Tick to) × IsAfter (effect.tick to) e s t)
+    ⊎ ((reply ≡ None) × (e : Entry) × (e.lane ≡ lane) × (e.what ≡ what.Tick to) × (t.kept ≡ s.kept) × IsAfter (effect.tick to) e s t)

@@ -12,5 +12,7 @@ state_of c = record {
   deferrals = c.deferrals.list;
   releases = c.releases.items;
   alerts = c.alerts.items;
+  kept = c.kept.items;
+  floors = c.floors;
   entries = c.entries.items;
 }

@@ -1,5 +1,5 @@
 -- What a call comes to in a state, ask by ask: a line of tests in their order, and the decision after them.
-use Rattle.std.specs.Prelude.{ℕ, ◌+◌, ◌*◌, ◌/◌, ◌==◌, nat_le, nat_lt, Bool, true, false, not, if◌then◌else◌, is_none, List, [], ◌∷◌, length, Option, None, Some, Result, Ok, Err}
+use Rattle.std.specs.Prelude.{ℕ, ◌+◌, ◌*◌, ◌/◌, ◌==◌, nat_le, nat_lt, Bool, true, false, not, ◌||◌, if◌then◌else◌, is_none, List, [], ◌∷◌, filter, length, map, Option, None, Some, Result, Ok, Err}
 use Rattle.std.specs.Str.{bytes_eq}
 use Rattle.std.specs.List.{list_any}
 use Rattle.desk_time.specs.Calendar.{three_months}
@@ -17,7 +17,11 @@ use Rattle.deferrals.specs.Limits.{open_on}
 use Rattle.facts.specs.Same.{same_id, minute_of_read, station_of_read}
 use Rattle.facts.specs.Reading.{read_of}
 use Rattle.facts.specs.declared.report.Read.{Read}
+use Rattle.facts.specs.declared.report.Report.{Report}
 use Rattle.facts.specs.Lines.{weather_at}
+use Rattle.facts.specs.Swept.{leaving}
+use Rattle.asks.specs.declared.kept.KeptReply.{KeptReply}
+use Rattle.plan_json.specs.Canonical.{ask_digest}
 use Rattle.plan.specs.Change.{change_fault}
 use Rattle.plan.specs.Check.{is_captain_role, plan_fault}
 use Rattle.plan.specs.declared.check.BadPlan.{BadPlan}
@@ -44,9 +48,22 @@ use Rattle.machine.specs.Effects as effect
 use Rattle.machine.specs.State.{State, grounds_of, failing_of, release_at, alert_at}
 use Rattle.machine.specs.Chain.{◌>>-◌, unless, some_or, refused_if}
 use Rattle.machine.specs.People.{not_his_role}
+use Rattle.machine.specs.Requests.{kept_at, floor_at, raised_by, kept_before}
 use Rattle.machine.specs.Texts.{alerts_view, board_view, deferral_lines, newest, release_view}
 
 -- The tests.
+
+-- The number stands for another request (4); or it is the same again, whose reply is kept.
+abbrev pub repeated : KeptReply → List ℕ → Result Decision Refusal
+repeated k digest = if bytes_eq k.digest digest then Ok (Show (Done k.done)) else Err (refusal.NumberReused k.id)
+
+abbrev pub up_to_floor : Option ℕ → ℕ → Option Refusal
+up_to_floor None number = None
+up_to_floor (Some floor) number = refused_if (nat_le number floor) (refusal.NumberSwept floor)
+
+-- nothing is kept any more of numbers up to that of the request (27)
+abbrev pub swept_number : State → List ℕ → ℕ → Option Refusal
+swept_number s actor number = up_to_floor (floor_at actor s.floors) number
 
 -- why a text without a reading is refused (5, 6)
 abbrev pub refusal_for : ℕ → Why → Refusal
@@ -388,6 +405,29 @@ decide_purge s id =
     held s id >>- λ r. ended r.phase >>- λ at. unless (too_young s (kept_until at))
     (Ok (Do (Done (done.Release r.id)) (effect.remove r.id)))
 
+abbrev pub is_attached_to : ℕ → Option Revision → Bool
+is_attached_to id None = false
+is_attached_to id (Some v) = list_any (λ a. a.report == id) v.attached
+
+-- a report of that id is attached to the pending or the active revision of a release
+abbrev pub is_attached : ℕ → List Release → Bool
+is_attached id releases = list_any (λ r. is_attached_to id r.pending || is_attached_to id r.active) releases
+
+-- the reports that are attached to releases, by their ids
+abbrev pub attached_reports : State → List ℕ
+attached_reports s = map (λ r. r.id) (filter (λ r. is_attached r.id s.releases) s.reports)
+
+-- the reports that a sweep takes away
+abbrev pub reports_before : State → ℕ → List Report
+reports_before s before = leaving before (attached_reports s) s.reports
+
+-- what is kept of requests stays for three days and longer
+abbrev pub decide_sweep : State → ℕ → Result Decision Refusal
+decide_sweep s before =
+    unless (too_young s (before + 4320))
+    (Ok (Do (Done (done.Swept (length (reports_before s before)) (length (kept_before before s.kept))))
+    (effect.sweep before (attached_reports s) (raised_by (kept_before before s.kept) s.floors))))
+
 -- the release and its texts
 abbrev pub decide_release : State → ℕ → Result Decision Refusal
 decide_release s id = held s id >>- λ r. Ok (Show (Seen (release_view r)))
@@ -410,12 +450,31 @@ decide_ask s actor (ask.Depart release leg) = decide_depart s actor release leg
 decide_ask s actor (ask.Arrive release leg) = decide_arrive s actor release leg
 decide_ask s actor (ask.Acknowledge release version) = decide_acknowledge s actor release version
 decide_ask s actor (ask.Purge release) = decide_purge s release
+decide_ask s actor (ask.Sweep before) = decide_sweep s before
 decide_ask s actor ask.ViewBoard = Ok (Show (Seen (board_view s)))
 decide_ask s actor ask.ViewAlerts = Ok (Show (Seen (alerts_view s.moment s.alerts)))
 decide_ask s actor (ask.ViewRelease release) = decide_release s release
 decide_ask s actor (ask.ViewWeather station) = decide_weather s station
 decide_ask s actor (ask.ViewDeferred tail) = decide_deferred s tail
 
+-- an ask that only shows something
+abbrev pub is_view : Ask → Bool
+is_view ask.ViewBoard = true
+is_view ask.ViewAlerts = true
+is_view (ask.ViewRelease release) = true
+is_view (ask.ViewWeather station) = true
+is_view (ask.ViewDeferred tail) = true
+is_view _ = false
+
+abbrev pub decide_new : Option KeptReply → State → Call → Result Decision Refusal
+decide_new (Some k) s call = repeated k (ask_digest call.ask)
+decide_new None s call = unless (swept_number s call.actor call.number) (decide_ask s call.actor call.ask)
+
+-- The number of a command is looked up before the ask's own tests. That of a view plays no part.
+abbrev pub decide_numbered : Bool → State → Call → Result Decision Refusal
+decide_numbered true s call = decide_ask s call.actor call.ask
+decide_numbered false s call = decide_new (kept_at call.actor call.number s.kept) s call
+
 -- what a call of a person who is known comes to
 unfoldable pub decide : State → Call → Result Decision Refusal
-decide s call = unless (not_his_role (actor_of s.tables call.actor) call.ask) (decide_ask s call.actor call.ask)
+decide s call = unless (not_his_role (actor_of s.tables call.actor) call.ask) (decide_numbered (is_view call.ask) s call)

@@ -1,5 +1,6 @@
 -- What the accepted events change, part by part.
-use Rattle.std.specs.Prelude.{ℕ, None, Some}
+use Rattle.std.specs.Prelude.{ℕ, List, None, Some}
+use Rattle.asks.specs.declared.kept.Floor.{Floor}
 use Rattle.deferrals.specs.declared.items.Deferral.{Deferral}
 use Rattle.facts.specs.declared.report.Report.{Report}
 use Rattle.plan.specs.declared.release.Release.{Release}
@@ -9,7 +10,7 @@ use Rattle.machine.specs.declared.effect.OnReleases.TheVariants as releases
 use Rattle.machine.specs.declared.effect.OnAlerts.TheVariants as alerts
 
 abbrev pub nothing : Effect
-nothing = record { moment = None; report = None; on_deferrals = deferrals.Nothing; on_releases = releases.Nothing; on_alerts = alerts.Nothing }
+nothing = record { moment = None; report = None; sweep = None; on_deferrals = deferrals.Nothing; on_releases = releases.Nothing; on_alerts = alerts.Nothing }
 
 -- the moment rises
 abbrev pub tick : ℕ → Effect
@@ -46,3 +47,7 @@ acknowledge release = record nothing { on_alerts = alerts.Acknowledge release }
 -- the release of an id goes
 abbrev pub remove : ℕ → Effect
 remove release = record nothing { on_releases = releases.Remove release }
+
+-- earlier reports go but for those that stay, and earlier replies, and the floors of persons rise
+abbrev pub sweep : ℕ → List ℕ → List Floor → Effect
+sweep before attached floors = record nothing { sweep = Some (record { before = before; attached = attached; floors = floors }) }

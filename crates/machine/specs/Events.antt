@@ -1,7 +1,10 @@
 -- What an event changes.
-use Rattle.std.specs.Prelude.{ℕ, ◌+◌, ◌==◌, not, nat_lt, Bool, true, false, ◌&&◌, if◌then◌else◌, List, [], ◌∷◌, ◌++◌, map, filter, Option, None, Some}
+use Rattle.std.specs.Prelude.{ℕ, ◌+◌, ◌==◌, not, nat_lt, nat_le, Bool, true, false, ◌&&◌, if◌then◌else◌, List, [], ◌∷◌, ◌++◌, map, filter, Option, None, Some}
 use Rattle.std.specs.List.{filter_map, cons_option}
 use Rattle.std.specs.Option.{option_map}
+use Rattle.asks.specs.declared.kept.Floor.{Floor}
+use Rattle.asks.specs.declared.kept.KeptReply.{KeptReply}
+use Rattle.facts.specs.Swept.{swept}
 use Rattle.facts.specs.declared.report.Report.{Report}
 use Rattle.plan.specs.declared.release.Release.{Release}
 use Rattle.alerts.specs.declared.alert.Alert.{Alert}
@@ -12,6 +15,7 @@ use Rattle.deferrals.specs.Held.{without}
 use Rattle.machine.specs.declared.change.AlertChange.{AlertChange}
 use Rattle.machine.specs.declared.counters.Counters.{Counters}
 use Rattle.machine.specs.declared.effect.Effect.{Effect}
+use Rattle.machine.specs.declared.effect.Sweep.{Sweep}
 use Rattle.machine.specs.declared.effect.OnDeferrals.{OnDeferrals}
 use Rattle.machine.specs.declared.effect.OnDeferrals.TheVariants as deferrals
 use Rattle.machine.specs.declared.effect.OnReleases.{OnReleases}
@@ -29,6 +33,24 @@ moment_after (Some to) moment = to
 abbrev pub reports_after : Option Report → List Report → List Report
 reports_after None reports = reports
 reports_after (Some report) reports = reports ++ report ∷ []
+
+-- the reports that a sweep leaves
+abbrev pub reports_swept : Option Sweep → List Report → List Report
+reports_swept None reports = reports
+reports_swept (Some w) reports = swept w.before w.attached reports
+
+-- a request that was accepted at a moment or later
+abbrev pub is_since : ℕ → KeptReply → Bool
+is_since before k = nat_le before k.at
+
+-- what a sweep leaves of the kept replies
+abbrev pub kept_after : Option Sweep → List KeptReply → List KeptReply
+kept_after None kept = kept
+kept_after (Some w) kept = filter (is_since w.before) kept
+
+abbrev pub floors_after : Option Sweep → List Floor → List Floor
+floors_after None floors = floors
+floors_after (Some w) floors = w.floors
 
 abbrev pub deferrals_after : OnDeferrals → List Deferral → List Deferral
 deferrals_after deferrals.Nothing list = list
@@ -99,10 +121,12 @@ abbrev pub effected : Effect → State → State
 effected e s = record s {
   moment = moment_after e.moment s.moment;
   counters = counters_after e s.counters;
-  reports = reports_after e.report s.reports;
+  reports = reports_swept e.sweep (reports_after e.report s.reports);
   deferrals = deferrals_after e.on_deferrals s.deferrals;
   releases = releases_after e.on_releases s.releases;
   alerts = alerts_after e.on_alerts s.alerts;
+  kept = kept_after e.sweep s.kept;
+  floors = floors_after e.sweep s.floors;
 }
 
 abbrev pub is_same_mark : Bool → Bool → Bool

@@ -1,6 +1,7 @@
 pub mod State
 pub mod Effects
 pub mod Events
+pub mod Requests
 pub mod Texts
 pub mod Chain
 pub mod People

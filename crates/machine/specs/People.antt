@@ -57,6 +57,7 @@ may_ask (ask.Depart release leg) role = is_dispatcher role || is_captain_role ro
 may_ask (ask.Arrive release leg) role = is_dispatcher role || is_captain_role role
 may_ask (ask.Acknowledge release version) role = is_dispatcher role
 may_ask (ask.Purge release) role = is_records role
+may_ask (ask.Sweep before) role = is_records role
 may_ask ask.ViewBoard role = true
 may_ask ask.ViewAlerts role = true
 may_ask (ask.ViewRelease release) role = true

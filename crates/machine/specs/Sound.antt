@@ -1,6 +1,6 @@
 -- What holds of the desk at every moment.
-use Rattle.std.specs.Prelude.{◌≡◌, ℕ, ◌+◌, ◌<◌, ◌≤◌, true, false, List, [], ◌∷◌, length, Option, None, Some, IfSome, Result, Ok, Err}
-use Rattle.std.specs.List.{AllByRecursion, AllPairs, filter_map}
+use Rattle.std.specs.Prelude.{◌≡◌, ℕ, ◌+◌, ◌<◌, ◌≤◌, ◌==◌, true, false, List, [], ◌∷◌, length, Option, None, Some, IfSome, Result, Ok, Err}
+use Rattle.std.specs.List.{AllByRecursion, AllPairs, filter_map, list_any}
 use Rattle.facts.specs.Same.{is_same, same_id, minute_of_report}
 use Rattle.plan.specs.declared.findings.Finding.{Finding}
 use Rattle.plan.specs.Texts.{IsMoment, HasMoment}
@@ -14,6 +14,7 @@ use Rattle.facts.specs.declared.report.Report.{Report}
 use Rattle.alerts.specs.declared.alert.Alert.{Alert}
 use Rattle.alerts.specs.Alerts.{IsAlert}
 use Rattle.asks.specs.Forms.{IsCall, RefusalHasMoment, ReplyHasMoment}
+use Rattle.asks.specs.declared.kept.KeptReply.{KeptReply}
 use Rattle.machine.specs.declared.entry.What.{What}
 use Rattle.machine.specs.declared.entry.What.TheVariants as what
 use Rattle.asks.specs.declared.reply.Refusal.{Refusal}
@@ -32,6 +33,7 @@ use Rattle.machine.specs.declared.effect.Decision.TheVariants.{Show, Do}
 use Rattle.release_text.specs.Revisions.{revision_digest}
 use Rattle.machine.specs.State.{State, grounds_of, failing_of, alert_at}
 use Rattle.machine.specs.Legal.{IsHistory}
+use Rattle.machine.specs.Requests.{is_request}
 
 -- No alert stands where none is asked for or no rule fails; one that stands names exactly the rules that fail.
 abbrev pub Matches : Option Alert → Option (List Finding) → Type 0
@@ -48,10 +50,10 @@ IsToldTo holder alert = IfSome alert (λ a. a.desk ≡ holder)
 abbrev pub IsAlerted : Grounds → List Alert → Release → Type 0
 IsAlerted g alerts r = Matches (alert_at r.id alerts) (failing_of g r) × IsToldTo r.holder (alert_at r.id alerts)
 
--- ids rise from above one number to below another
+-- ids rise from one number on, all below another
 abbrev pub Rise : ℕ → List Release → ℕ → Type 0
-Rise low [] next = low < next
-Rise low (r ∷ rs) next = (low < r.id) × Rise r.id rs next
+Rise low [] next = low ≤ next
+Rise low (r ∷ rs) next = (low ≤ r.id) × Rise (r.id + 1) rs next
 
 abbrev pub IsThere : Option Revision → Type 0
 IsThere None = ⊥
@@ -97,12 +99,12 @@ pub record HasLegs (phase : Phase) (v : Revision) : Type 0 where
   pub some : 1 ≤ length v.plan.legs
   pub fits : PhaseFits phase v.plan.legs
 
--- revisions are numbered from 1, none above a number, and the pending one above the active one
+-- no revision is numbered above a number, and the pending one is above the active one
 abbrev pub AreNumbered : ℕ → Option Revision → Option Revision → Type 0
 AreNumbered most None None = Unit {0}
-AreNumbered most (Some v) None = (1 ≤ v.number) × (v.number ≤ most)
-AreNumbered most None (Some w) = (1 ≤ w.number) × (w.number ≤ most)
-AreNumbered most (Some v) (Some w) = (1 ≤ w.number) × (w.number < v.number) × (v.number ≤ most)
+AreNumbered most (Some v) None = v.number ≤ most
+AreNumbered most None (Some w) = w.number ≤ most
+AreNumbered most (Some v) (Some w) = (w.number < v.number) × (v.number ≤ most)
 
 -- a release that may stand, where no revision has a number above `most`
 pub record IsValid (most : ℕ) (r : Release) : Type 0 where
@@ -117,16 +119,21 @@ pub record IsValid (most : ℕ) (r : Release) : Type 0 where
 abbrev pub AreUnlike : List Report → Type 0
 AreUnlike reports = AllPairs (λ earlier later. is_same later.text (minute_of_report later) earlier ≡ false) reports
 
+-- no two replies are kept of the same person and number
+abbrev pub AreSingle : List KeptReply → Type 0
+AreSingle kept = AllPairs (λ earlier later. is_request later.actor later.number earlier ≡ false) kept
+
 -- Each active release has no alert and fails no rule, or one alert that names exactly the rules that it
 -- fails, and that is told to its holder; there are no other alerts than those of the releases, each once.
--- Each release is valid: in particular each active revision bears both signatures on its very text. No two reports are the same. Ids
--- rise, and ids, revisions and versions are within the counters.
+-- Each release is valid: in particular each active revision bears both signatures on its very text. No two reports are the same, and
+-- no two replies are kept of one request. Ids rise, and ids, revisions and versions are within the counters.
 pub record Sound (s : State) : Type 0 where
   pub alerted : AllByRecursion (IsAlerted (grounds_of s) s.alerts) s.releases
   pub own : s.alerts ≡ filter_map (λ r. alert_at r.id s.alerts) s.releases
   pub alerts : AllByRecursion (IsAlert s.counters.events) s.alerts
   pub valid : AllByRecursion (IsValid s.counters.events) s.releases
   pub unlike : AreUnlike s.reports
+  pub single : AreSingle s.kept
   pub ids : Rise 0 s.releases s.counters.next_release
 
 -- a revision whose plan is one, and whose moments can be shown
@@ -160,9 +167,13 @@ pub record AreOpen (next : ℕ) (list : List Deferral) : Type 0 where
   pub rising : AreRising list
   pub few : length list ≤ 50_000
 
+-- a kept reply whose id is below a number, and whose moment can be shown
+abbrev pub IsReplied : ℕ → KeptReply → Type 0
+IsReplied next k = (k.id < next) × IsMoment k.at
+
 -- each next id is at most one more than the number of events
 pub record AreCounters (c : Counters) : Type 0 where
-  pub events : c.events ≤ 999_999_999_999_000
+  pub events : c.events ≤ 999_999_999_999_999
   pub report : c.next_report ≤ c.events + 1
   pub deferral : c.next_deferral ≤ c.events + 1
   pub release : c.next_release ≤ c.events + 1
@@ -178,10 +189,14 @@ pub record InBounds (s : State) : Type 0 where
   pub moment : IsMoment s.moment
   pub counters : AreCounters s.counters
   pub reports : AllByRecursion (IsNumbered s.counters.next_report) s.reports
+  pub admitted : AllPairs (λ a b. a.id < b.id) s.reports
   pub few : length s.reports ≤ 200_000
   pub deferrals : AreOpen s.counters.next_deferral s.deferrals
   pub releases : AllByRecursion ReleaseInBounds s.releases
   pub held : length s.releases ≤ 20_000
+  pub replies : AllByRecursion (IsReplied s.counters.next_kept) s.kept
+  pub accepted : AllPairs (λ a b. a.id < b.id) s.kept
+  pub many : length s.kept ≤ 800_000 + length s.entries
   pub entries : length s.entries ≤ 400_000
   pub forms : AllByRecursion (λ e. IsEntered e.what) s.entries
 
@@ -191,10 +206,15 @@ pub record IsNew (most id held : ℕ) (r : Release) : Type 0 where
   pub numbered : r.id ≡ id
   pub few : held < 20_000
 
--- a release that takes the place of another keeps its holder
+-- a release with that id is held
+abbrev pub IsTaken : ℕ → List Release → Type 0
+IsTaken id releases = list_any (λ q. q.id == id) releases ≡ true
+
+-- a release that takes the place of another, which is held, keeps its holder
 pub record MayReplace (s : State) (r : Release) : Type 0 where
   pub fits : Fits (s.counters.events + 1) r
   pub holder : IsToldTo r.holder (alert_at r.id s.alerts)
+  pub taken : IsTaken r.id s.releases
 
 -- a new deferral, where fewer than 50,000 are open
 pub record MayOpen (s : State) (d : Deferral) : Type 0 where

@@ -1,5 +1,5 @@
 -- What the desk holds.
-use Rattle.std.specs.Prelude.{ℕ, ◌==◌, nat_le, Bool, true, false, ◌||◌, List, [], length, find, Option, None, Some}
+use Rattle.std.specs.Prelude.{ℕ, ◌==◌, nat_le, Bool, true, false, ◌&&◌, ◌||◌, not, List, [], length, find, Option, None, Some}
 use Rattle.std.specs.List.{filter_map}
 use Rattle.ops_tables.specs.Tables.{TableRows}
 use Rattle.facts.specs.declared.report.Report.{Report}
@@ -11,6 +11,10 @@ use Rattle.plan.specs.declared.release.Revision.{Revision}
 use Rattle.plan.specs.declared.findings.Finding.{Finding}
 use Rattle.alerts.specs.declared.alert.Alert.{Alert}
 use Rattle.alerts.specs.Alerts.{alert_after}
+use Rattle.asks.specs.declared.call.Ask.{Ask}
+use Rattle.asks.specs.declared.call.Ask.TheVariants as ask
+use Rattle.asks.specs.declared.kept.Floor.{Floor}
+use Rattle.asks.specs.declared.kept.KeptReply.{KeptReply}
 use Rattle.rules.specs.Grounds.{Grounds}
 use Rattle.rules.specs.Judgement.{findings_of}
 use Rattle.machine.specs.declared.counters.Counters.{Counters}
@@ -31,6 +35,10 @@ pub record State : Type 0 where
   pub releases : List Release
   -- the alerts in order of their releases
   pub alerts : List Alert
+  -- what accepted commands have done, in their order
+  pub kept : List KeptReply
+  -- the greatest numbers of persons of whose requests nothing is kept any more, in byte order of their names
+  pub floors : List Floor
   -- the history
   pub entries : List Entry
 
@@ -40,7 +48,7 @@ first_counters = record { events = 0; next_report = 1; next_deferral = 1; next_r
 
 -- the beginning under some tables: 2000-01-01 00:00, and nothing held
 abbrev pub start : TableRows → State
-start tables = record { tables = tables; moment = 15_778_080; counters = first_counters; reports = []; deferrals = []; releases = []; alerts = []; entries = [] }
+start tables = record { tables = tables; moment = 15_778_080; counters = first_counters; reports = []; deferrals = []; releases = []; alerts = []; kept = []; floors = []; entries = [] }
 
 -- what a judgement stands on
 abbrev pub grounds_of : State → Grounds
@@ -79,3 +87,11 @@ judged_all s = filter_map (judged s) s.releases
 -- no event may come any more
 abbrev pub is_full : State → Bool
 is_full s = nat_le 400_000 (length s.entries) || nat_le 999_999_999_999_000 s.counters.events
+
+abbrev pub is_sweep : Ask → Bool
+is_sweep (ask.Sweep before) = true
+is_sweep _ = false
+
+-- No command of an ask may come any more. Where too many replies are kept, only a sweep may, which takes some away.
+abbrev pub is_full_for : State → Ask → Bool
+is_full_for s a = is_full s || (nat_le 400_000 (length s.kept) && not (is_sweep a))

@@ -1,9 +1,13 @@
 -- One step of the desk: a tick, or a call.
 use Rattle.ops_tables.specs.Tables.{actor_of}
-use Rattle.std.specs.Prelude.{ℕ, ◌+◌, Bool, true, false, not, List, [], ◌∷◌, ◌++◌, length, Option, None, Some, Result, Ok, Err}
+use Rattle.std.specs.Prelude.{ℕ, ◌+◌, Bool, true, false, not, List, [], ◌∷◌, ◌++◌, length, option_to_list, Option, None, Some, Result, Ok, Err}
+use Rattle.asks.specs.declared.call.Ask.{Ask}
 use Rattle.asks.specs.declared.call.Call.{Call}
+use Rattle.asks.specs.declared.kept.KeptReply.{KeptReply}
 use Rattle.asks.specs.declared.reply.Reply.{Reply}
-use Rattle.asks.specs.declared.reply.Reply.TheVariants.{Refused}
+use Rattle.asks.specs.declared.reply.Done.{Done as DoneType}
+use Rattle.asks.specs.declared.reply.Reply.TheVariants.{Done, Seen, Refused}
+use Rattle.plan_json.specs.Canonical.{ask_digest}
 use Rattle.asks.specs.declared.reply.Refusal.{Refusal}
 use Rattle.asks.specs.declared.reply.Refusal.TheVariants.{HistoryFull}
 use Rattle.alerts.specs.declared.notices.Notice.{Notice}
@@ -15,7 +19,7 @@ use Rattle.machine.specs.declared.effect.Effect.{Effect}
 use Rattle.machine.specs.Effects.{tick}
 use Rattle.machine.specs.declared.effect.Decision.{Decision}
 use Rattle.machine.specs.declared.effect.Decision.TheVariants.{Show, Do}
-use Rattle.machine.specs.State.{State, judged_all, is_full}
+use Rattle.machine.specs.State.{State, judged_all, is_full, is_full_for}
 use Rattle.machine.specs.Events.{effected, alert_changes, notices_of}
 use Rattle.machine.specs.Decide.{decide}
 use Rattle.machine.specs.People.{mistaken}
@@ -40,9 +44,29 @@ next_kept (what.Asked call reply) next = next + 1
 abbrev pub counted : What → Counters → Counters
 counted w c = record c { events = c.events + 1; next_kept = next_kept w c.next_kept }
 
+-- what is kept of an accepted command
+abbrev pub kept_reply : State → Call → DoneType → KeptReply
+kept_reply t call done =
+    record { id = t.counters.next_kept; actor = call.actor; number = call.number; digest = ask_digest call.ask; at = t.moment; done = done }
+
+abbrev pub kept_of_call : State → Call → Reply → Option KeptReply
+kept_of_call t call (Done done) = Some (kept_reply t call done)
+kept_of_call t call (Seen text) = None
+kept_of_call t call (Refused refusal) = None
+
+-- what is kept of an event: of a tick nothing
+abbrev pub kept_of : State → What → Option KeptReply
+kept_of t (what.Tick to) = None
+kept_of t (what.Asked call reply) = kept_of_call t call reply
+
 -- the state once every active release is judged and the event is entered
 abbrev pub entered : Entry → State → State
-entered e t = record t { counters = counted e.what t.counters; alerts = judged_all t; entries = t.entries ++ e ∷ [] }
+entered e t = record t {
+  counters = counted e.what t.counters;
+  alerts = judged_all t;
+  kept = t.kept ++ option_to_list (kept_of t e.what);
+  entries = t.entries ++ e ∷ [];
+}
 
 abbrev pub after_event : State → Option Reply → Effect → Entry → Stepped
 after_event s reply effect e = record { reply = reply; state = entered e (effected effect s); notices = notices_of (alert_changes effect s) }
@@ -55,7 +79,7 @@ abbrev pub accepted : State → ℕ → Call → Reply → Effect → Stepped
 accepted s lane call reply effect = after_event s (Some reply) effect (entry lane (what.Asked (without_key call) reply))
 
 abbrev pub full_reply : State → Reply
-full_reply s = Refused (HistoryFull (length s.entries))
+full_reply s = Refused (HistoryFull (length s.entries) (length s.kept) s.counters.events)
 
 abbrev pub enter : Bool → State → ℕ → Call → Reply → Effect → Stepped
 enter true s lane call reply effect = stay s (full_reply s)
@@ -64,20 +88,20 @@ enter false s lane call reply effect = accepted s lane call reply effect
 abbrev pub finish : State → ℕ → Call → Result Decision Refusal → Stepped
 finish s lane call (Err refusal) = stay s (Refused refusal)
 finish s lane call (Ok (Show reply)) = stay s reply
-finish s lane call (Ok (Do reply effect)) = enter (is_full s) s lane call reply effect
+finish s lane call (Ok (Do reply effect)) = enter (is_full_for s call.ask) s lane call reply effect
 
 -- a call of a person whose name and key are right
 unfoldable pub do_call : State → ℕ → Call → Stepped
 do_call s lane call = finish s lane call (decide s call)
 
 -- whether the call adds an entry
-abbrev pub changes_by : State → Result Decision Refusal → Bool
-changes_by s (Err refusal) = false
-changes_by s (Ok (Show reply)) = false
-changes_by s (Ok (Do reply effect)) = not (is_full s)
+abbrev pub changes_by : State → Ask → Result Decision Refusal → Bool
+changes_by s a (Err refusal) = false
+changes_by s a (Ok (Show reply)) = false
+changes_by s a (Ok (Do reply effect)) = not (is_full_for s a)
 
 unfoldable pub changes : State → Call → Bool
-changes s call = changes_by s (decide s call)
+changes s call = changes_by s call.ask (decide s call)
 
 abbrev pub do_unless : Option Refusal → State → ℕ → Call → Stepped
 do_unless None s lane call = do_call s lane call

@@ -34,6 +34,7 @@ takes_alert s (ask.Depart release leg) id = false
 takes_alert s (ask.Arrive release leg) id = (id == release) && is_last (release_at release s.releases) leg
 takes_alert s (ask.Acknowledge release version) id = false
 takes_alert s (ask.Purge release) id = false
+takes_alert s (ask.Sweep before) id = false
 takes_alert s ask.ViewBoard id = false
 takes_alert s ask.ViewAlerts id = false
 takes_alert s (ask.ViewRelease release) id = false

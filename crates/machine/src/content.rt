@@ -1,12 +1,13 @@
 ghost use Rattle.std.specs.Prelude.{◌≡◌};
 ghost use Rattle.std.specs.Option.{option_copied};
-ghost use Rattle.machine.specs.State.{start, is_full, release_at, alert_at};
+ghost use Rattle.machine.specs.State.{start, is_full, is_sweep, is_full_for, release_at, alert_at};
 ghost use Rattle.machine.specs.Contents.{state_of};
 
 use crate::counters::Counters;
 use crate::entry::Entry;
 use crate::held::{find_alert, find_release};
 use alerts::Alert;
+use asks::{Ask, Floors, KeptReply};
 use deferrals::Deferrals;
 use desk_time::{FIRST, Minute};
 use facts::Reports;
@@ -19,6 +20,9 @@ pub const RELEASE_LIMIT: usize = 20_000;
 
 /// The most entries that a history may have.
 pub const ENTRY_LIMIT: usize = 400_000;
+
+/// How many replies may be kept before no command but a sweep may come.
+pub const KEPT_LIMIT: usize = 400_000;
 
 /// How many events there may be before no further one may come.
 pub const EVENT_LIMIT: u64 = 999_999_999_999_000;
@@ -38,8 +42,21 @@ pub struct Content {
     pub releases: Vec<Release>,
     /// In order of their releases.
     pub alerts: Vec<Alert>,
+    /// What accepted commands have done, in their order.
+    pub kept: Vec<KeptReply>,
+    /// The greatest numbers of persons of whose requests nothing is kept any more.
+    pub floors: Floors,
     /// The history.
     pub entries: Vec<Entry>,
+}
+
+fn is_sweep(ask: &Ask) -> bool
+    ensures { result ≡ is_sweep ask.now }
+{
+    match ask {
+        Ask::Sweep { .. } => true,
+        _ => false,
+    }
 }
 
 impl Content {
@@ -61,6 +78,8 @@ impl Content {
             deferrals: Deferrals::new(alloc),
             releases: Vec::new(alloc),
             alerts: Vec::new(alloc),
+            kept: Vec::new(alloc),
+            floors: Floors::new(alloc),
             entries: Vec::new(alloc),
         }
     }
@@ -70,6 +89,13 @@ impl Content {
         ensures { result ≡ is_full (state_of self.now) }
     {
         self.entries.len() >= ENTRY_LIMIT || self.counters.events >= EVENT_LIMIT
+    }
+
+    /// Whether no command of an ask may come any more. Where too many replies are kept only a sweep may.
+    pub fn is_full_for(&self, ask: &Ask) -> bool
+        ensures { result ≡ is_full_for (state_of self.now) ask.now }
+    {
+        self.is_full() || (self.kept.len() >= KEPT_LIMIT && !is_sweep(ask))
     }
 
     /// The release of an id.

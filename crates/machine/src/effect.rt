@@ -1,8 +1,9 @@
 ghost use Rattle.std.specs.Prelude.{◌≡◌};
 ghost use Rattle.machine.specs.Effects as spec;
 
-use asks::Reply;
+use asks::{Floors, Reply};
 use deferrals::Deferral;
+use desk_io::Listed;
 use desk_time::Minute;
 use facts::Report;
 use plan::Release;
@@ -39,6 +40,18 @@ pub enum OnAlerts {
     Acknowledge { release: u64 },
 }
 
+/// What a sweep takes away.
+#[derive(Debug, Drop)]
+pub struct Sweep {
+    /// Reports that were observed or issued before that moment go, and what is kept of requests that were
+    /// accepted before it.
+    pub before: Minute,
+    /// The ids of the reports that stay because they are attached to a release, in order.
+    pub attached: Listed<u64>,
+    /// The floors of persons after it.
+    pub floors: Floors,
+}
+
 /// What an event changes, part by part, before every active release is judged.
 #[derive(Debug, Drop)]
 pub struct Effect {
@@ -46,6 +59,8 @@ pub struct Effect {
     pub moment: Option<Minute>,
     /// The report that is admitted.
     pub report: Option<Report>,
+    /// What is swept away.
+    pub sweep: Option<Sweep>,
     pub on_deferrals: OnDeferrals,
     pub on_releases: OnReleases,
     pub on_alerts: OnAlerts,
@@ -59,6 +74,7 @@ impl Effect {
         Effect {
             moment: None,
             report: None,
+            sweep: None,
             on_deferrals: OnDeferrals::Nothing,
             on_releases: OnReleases::Nothing,
             on_alerts: OnAlerts::Nothing,
@@ -153,6 +169,20 @@ impl Effect {
     {
         Effect {
             on_releases: OnReleases::Remove { release },
+            ..Effect::nothing()
+        }
+    }
+
+    /// Earlier reports go but for those that stay, and earlier replies, and the floors of persons rise.
+    pub fn sweep(before: Minute, attached: Listed<u64>, floors: Floors) -> Effect
+        ensures { result ≡ spec.sweep before attached floors }
+    {
+        Effect {
+            sweep: Some(Sweep {
+                before,
+                attached,
+                floors,
+            }),
             ..Effect::nothing()
         }
     }

@@ -3,5 +3,5 @@ use Rattle.board.proofs.steps.prepare_accepted.Goals as goal
 
 pub returns-clause-stepped : goal.returns-clause-stepped
 returns-clause-stepped g c =
-    planned_is _ _ _ _ _ _ _ c.planned.ensures.reply c.planned.ensures.notices c.planned.ensures.event c.in_ok-judged.ensures.entered
+    planned_is _ _ _ _ _ _ _ _ c.planned.ensures.reply c.planned.ensures.notices c.planned.ensures.event c.in_ok-judged.ensures.entered c.in_ok-judged.ensures.reply
     c.in_ok-judged.ensures.changes c.in_ok-judged.ensures.notices c.requires.fits c.requires.sound

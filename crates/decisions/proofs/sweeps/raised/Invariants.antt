@@ -1,0 +1,8 @@
+use Rattle.std.proofs.Common.{◌≡◌, drop}
+use Rattle.machine.specs.Contents.{state_of}
+use Rattle.machine.specs.Requests.{raised_by, kept_before}
+use Rattle.decisions.proofs.sweeps.raised.Given as goal
+
+abbrev pub invariant-loop-reply : goal.invariant-loop-reply
+invariant-loop-reply l =
+    raised_by (kept_before l.before (drop l.reply-index (state_of l.content).kept)) l.floors.items ≡ raised_by (kept_before l.before (state_of l.content).kept) (state_of l.content).floors

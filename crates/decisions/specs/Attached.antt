@@ -1,0 +1,19 @@
+-- The reports that are attached to releases.
+use Rattle.std.specs.Prelude.{ℕ, ◌==◌, Bool, List, [], ◌∷◌, ◌++◌, map, Option, None, Some}
+use Rattle.std.specs.List.{list_any}
+use Rattle.plan.specs.declared.release.Release.{Release}
+use Rattle.plan.specs.declared.release.Revision.{Revision}
+
+-- the reports of a revision, by their ids
+abbrev pub ids_of : Option Revision → List ℕ
+ids_of None = []
+ids_of (Some v) = map (λ a. a.report) v.attached
+
+-- the reports of the pending and the active revisions of releases
+abbrev pub all_ids : List Release → List ℕ
+all_ids [] = []
+all_ids (r ∷ rs) = ids_of r.pending ++ ids_of r.active ++ all_ids rs
+
+-- an id is one of a list
+abbrev pub is_among : List ℕ → ℕ → Bool
+is_among ids id = list_any (λ held. held == id) ids

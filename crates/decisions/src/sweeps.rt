@@ -1,0 +1,126 @@
+ghost use Rattle.std.specs.Prelude.{◌≡◌, ◌++◌, ℕ, length, IfOk, OnOk};
+ghost use Rattle.std.specs.List.Sorted.{IsNonDecreasing};
+ghost use Rattle.plan.specs.Texts.{IsMoment};
+ghost use Rattle.machine.specs.Contents.{state_of};
+ghost use Rattle.machine.specs.Decide as spec;
+ghost use Rattle.machine.specs.Events as events;
+ghost use Rattle.machine.specs.Requests as requests;
+ghost use Rattle.decisions.specs.Answers.{Answers};
+ghost use Rattle.decisions.specs.Attached.{ids_of, all_ids, is_among};
+ghost use Rattle.decisions.specs.Reads.{DecisionAdmitsRead};
+
+use crate::chain::Stop;
+use crate::floors::raise;
+use crate::retention::too_young;
+use asks::{Done, Floors, KeptReply, Reply};
+use desk_io::{Listed, OutOfMemory, copied_items};
+use desk_time::Minute;
+use machine::{Content, Decision, Effect};
+use plan::{Release, Revision};
+use std::alloc::Global;
+
+// How long reports and replies stay at least: three days.
+const KEPT_MINUTES: Minute = 4320;
+
+fn push_ids(ids: &mut Vec<u64>, revision: &Option<Revision>) -> Result<(), OutOfMemory>
+    ensures { OnOk result (ids.new.items ≡ ids.old.items ++ ids_of revision.now) }
+{
+    if let Some(revision) = revision {
+        for attached in revision.attached.as_slice() {
+            ids.push(attached.report)?;
+        }
+    }
+    Ok(())
+}
+
+fn collected_ids(alloc: Global, releases: &[Release]) -> Result<Vec<u64>, OutOfMemory>
+    ensures { IfOk result (λ ids. ids.items ≡ all_ids releases.now) }
+{
+    let mut ids = Vec::new(alloc);
+    for release in releases {
+        push_ids(&mut ids, &release.pending)?;
+        push_ids(&mut ids, &release.active)?;
+    }
+    Ok(ids)
+}
+
+// The reports that are attached to releases, in rising order.
+fn attached_ids(alloc: Global, releases: &[Release]) -> Result<Vec<u64>, OutOfMemory>
+    ensures rising { IfOk result (λ ids. IsNonDecreasing ids.items) }
+    ensures among { IfOk result (λ ids. (id : ℕ) → is_among ids.items id ≡ spec.is_attached id releases.now) }
+{
+    let mut ids = collected_ids(alloc, releases)?;
+    ids.sort_unstable();
+    Ok(ids)
+}
+
+fn is_found(ids: &[u64], id: u64) -> bool
+    requires { IsNonDecreasing ids.now }
+    ensures { result ≡ is_among ids.now id }
+{
+    ids.binary_search(&id).is_ok()
+}
+
+// The reports that are held and attached to a release.
+fn attached_reports(alloc: Global, content: &Content) -> Result<Listed<u64>, OutOfMemory>
+    ensures { IfOk result (λ ids. ids ≡ spec.attached_reports (state_of content.now)) }
+{
+    let attached = attached_ids(alloc, &content.releases)?;
+    let mut ids = Listed::new(alloc);
+    for report in content.reports.as_slice() {
+        if is_found(&attached, report.id) {
+            ids.push(report.id)?;
+        }
+    }
+    Ok(ids)
+}
+
+fn is_since(before: Minute, reply: &KeptReply) -> bool
+    ensures { result ≡ events.is_since before reply.now }
+{
+    before <= reply.at
+}
+
+// How many replies were accepted before a moment.
+fn count_before(before: Minute, kept: &[KeptReply]) -> u64
+    ensures { result ≡ length (requests.kept_before before kept.now) }
+{
+    let mut count = 0;
+    for reply in kept {
+        if !is_since(before, reply) {
+            count += 1;
+        }
+    }
+    count
+}
+
+// The floors once the replies that were accepted before a moment are gone.
+fn raised(alloc: Global, before: Minute, content: &Content) -> Result<Floors, OutOfMemory>
+    ensures { IfOk result (λ floors. floors ≡ requests.raised_by (requests.kept_before before (state_of content.now).kept) (state_of content.now).floors) }
+{
+    let mut floors = copied_items(content.floors.as_slice(), alloc)?;
+    for reply in &content.kept {
+        if !is_since(before, reply) {
+            raise(alloc, &mut floors, &reply.actor, reply.number)?;
+        }
+    }
+    Ok(Listed::from_vec(floors))
+}
+
+/// Reports and replies of earlier moments are swept away. Refuses by 22.
+pub(crate) fn sweep(alloc: Global, content: &Content, before: Minute) -> Result<Decision, Stop>
+    requires { IsMoment before }
+    ensures value { Answers (λ d. d) result (spec.decide_sweep (state_of content.now) before) }
+    ensures read { IfOk result DecisionAdmitsRead }
+{
+    too_young(content, before + KEPT_MINUTES)?;
+    let attached = attached_reports(alloc, content)?;
+    let leaving = content.reports.leaving(alloc, before, attached.as_slice())?;
+    let reports = leaving.as_slice().len() as u64;
+    let kept = count_before(before, &content.kept);
+    let floors = raised(alloc, before, content)?;
+    Ok(Decision::Do(
+        Reply::Done(Done::Swept { reports, kept }),
+        Effect::sweep(before, attached, floors),
+    ))
+}

@@ -1,0 +1,6 @@
+//! What is kept of the desk's state, as rows, and what an event changes of them.
+#![tactic(auto)]
+
+mod changes;
+
+pub use changes::event_changes;
