@@ -177,6 +177,7 @@ fn full_reply(content: &Content) -> Reply
 
 // Judges every active release once an effect is there, and takes all memory that the event needs. What is held stays
 // as it is.
+#[tactic(auto, using(machine::proofs::Parts::judgeable))]
 fn judge_all<L: Ledger>(
     alloc: Global,
     content: &mut Content,

@@ -11,7 +11,7 @@ use Rattle.machine.specs.declared.effect.OnAlerts.{OnAlerts}
 use Rattle.machine.specs.declared.effect.OnAlerts.TheVariants as on_alerts
 use Rattle.machine.specs.State.{State, alert_at}
 use Rattle.machine.specs.Events.{effected, change_between, changes_from, changes_over, alert_changes, kept_alert}
-use Rattle.machine.specs.Sound.{Sound, InBounds, ReleaseInBounds, Rise, EffectFits}
+use Rattle.machine.specs.Sound.{AreJudgeable, InBounds, ReleaseInBounds, Rise, EffectFits}
 use Rattle.machine.proofs.Each.{each_weaker}
 use Rattle.machine.proofs.Judging.{IsOf, found_of, alerts_kept, kept_has}
 use Rattle.machine.proofs.Changes.{AreAbove, all_above}
@@ -20,10 +20,10 @@ use Rattle.judging.specs.declared.prospect.Prospect.{Prospect}
 use Rattle.machine.specs.Contents.{state_of}
 use Rattle.judging.specs.Prospect.{AreOpenThen, IsBounded, AreBounded, prospect, acknowledged_by, left_by, judged_by, changes_of, here, past, walk}
 
-pub all_bounded : (s : State) → Sound s → InBounds s → AreBounded s.alerts
-all_bounded s sound kept =
+pub all_bounded : (s : State) → AreJudgeable s → InBounds s → AreBounded s.alerts
+all_bounded s listed kept =
     each_weaker (IsAlert s.counters.events) IsBounded
-    (λ a is. let v = is.version in let most = kept.counters.events in omega (arith, v, most)) s.alerts sound.alerts
+    (λ a is. let v = is.version in let most = kept.counters.events in omega (arith, v, most)) s.alerts listed.alerts
 
 here_by : (b : Bool) (a : Alert) → IsBounded a → IfSome (cond b (Some a) None) IsBounded
 here_by true a is = is
@@ -107,11 +107,11 @@ walk_is p low (r ∷ rs) next rise =
     ∙ ap (λ rest. changes_from (prospect p) (alert_at r.id s.alerts) r ++ rest) (walk_is p (r.id + 1) rs next rise.1)
 
 -- the pass over all gives the changes of the alerts
-pub walk_all : (p : Prospect) (rs : List Release) → rs ≡ (prospect p).releases → EffectFits (state_of p.content.now) p.effect.now → Sound (state_of p.content.now)
+pub walk_all : (p : Prospect) (rs : List Release) → rs ≡ (prospect p).releases → EffectFits (state_of p.content.now) p.effect.now → AreJudgeable (state_of p.content.now)
     → walk p (state_of p.content.now).alerts rs ≡ alert_changes p.effect.now (state_of p.content.now)
-walk_all p rs is fits sound =
+walk_all p rs is fits listed =
     let s : State = state_of p.content.now in
     let t : State = prospect p in
     ap (λ (held : List Release). walk p s.alerts held) is
-    ∙ ap (λ (alerts : List Alert). walk p alerts t.releases) (releases_own s p.effect.now.on_releases fits.releases sound)
-    ∙ walk_is p 0 t.releases t.counters.next_release (releases_rise s p.effect.now.on_releases fits.releases sound.ids)
+    ∙ ap (λ (alerts : List Alert). walk p alerts t.releases) (releases_own s p.effect.now.on_releases fits.releases listed)
+    ∙ walk_is p 0 t.releases t.counters.next_release (releases_rise s p.effect.now.on_releases fits.releases listed.ids)

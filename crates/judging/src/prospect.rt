@@ -7,7 +7,7 @@ ghost use Rattle.rules.specs.Judgement.{findings_of};
 ghost use Rattle.machine.specs.State as state;
 ghost use Rattle.machine.specs.Events as events;
 ghost use Rattle.machine.specs.Events.{alert_changes};
-ghost use Rattle.machine.specs.Sound.{ReleaseInBounds, Sound, InBounds, EffectFits};
+ghost use Rattle.machine.specs.Sound.{ReleaseInBounds, AreJudgeable, InBounds, EffectFits};
 ghost use Rattle.machine.specs.Contents.{state_of};
 ghost use Rattle.judging.specs.Prospect as spec;
 ghost use Rattle.judging.specs.Prospect.{prospect, AreBounded, IsBounded, AreOpenThen};
@@ -310,7 +310,7 @@ impl<'a> Prospect<'a> {
         alloc: Global,
         steps: &mut Steps<L>,
     ) -> Result<Vec<AlertChange>, OutOfMemory>
-        requires sound { Sound (state_of self.now.content.now) }
+        requires listed { AreJudgeable (state_of self.now.content.now) }
         requires kept { InBounds (state_of self.now.content.now) }
         requires fits { EffectFits (state_of self.now.content.now) self.now.effect.now }
         ensures { IfOk result (λ v. v.items ≡ alert_changes self.now.effect.now (state_of self.now.content.now)) }

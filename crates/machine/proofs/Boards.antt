@@ -42,7 +42,7 @@ use Rattle.machine.proofs.Each.{each_push, each_weaker}
 use Rattle.machine.proofs.Judging.{AreTold, alerts_have, all_own, are_alerted, are_alerts, told_kept}
 use Rattle.machine.proofs.AllowedLaws.{decision_is}
 use Rattle.machine.specs.Allowed.{DecisionOf}
-use Rattle.machine.proofs.Parts.{moment_shown, none_found, reports_unlike, reports_numbered, reports_rise, reports_few, swept_each, swept_unlike, swept_rise, swept_fewer, kept_each, kept_single, kept_rise, kept_fewer, still_unused, report_next, deferrals_open, deferral_next, releases_rise, releases_valid, releases_kept, releases_held, releases_told, release_next}
+use Rattle.machine.proofs.Parts.{judgeable, moment_shown, none_found, reports_unlike, reports_numbered, reports_rise, reports_few, swept_each, swept_unlike, swept_rise, swept_fewer, kept_each, kept_single, kept_rise, kept_fewer, still_unused, report_next, deferrals_open, deferral_next, releases_rise, releases_valid, releases_kept, releases_held, releases_told, release_next}
 use Rattle.machine.proofs.Deciding.{decision_fits}
 
 -- an entry more keeps a history legal
@@ -117,7 +117,7 @@ effect_is s e fits sound kept room = record {
   unlike = swept_unlike e.sweep (reports_after e.report s.reports) (reports_unlike s e.report fits.report sound.unlike);
   valid = releases_valid s e.on_releases fits.releases sound.valid;
   told = told_kept e.on_alerts s.alerts (releases_after e.on_releases s.releases)
-      (releases_told s e.on_releases fits.releases sound (all_told (grounds_of s) s.alerts s.releases sound.alerted));
+      (releases_told s e.on_releases fits.releases (judgeable s sound) (all_told (grounds_of s) s.alerts s.releases sound.alerted));
   alerts = alerts_have (IsAlert s.counters.events) (acknowledged_alert s.counters.events) e.on_alerts s.alerts sound.alerts;
   moment = moment_shown e.moment s.moment fits.moment kept.moment;
   counters = record {

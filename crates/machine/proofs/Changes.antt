@@ -14,9 +14,9 @@ use Rattle.machine.specs.declared.effect.OnAlerts.{OnAlerts}
 use Rattle.machine.specs.declared.effect.OnAlerts.TheVariants as on_alerts
 use Rattle.machine.specs.State.{State, grounds_of, failing_of, alert_at, alert_for, judged, judged_all}
 use Rattle.machine.specs.Events.{effected, acknowledged_if, alerts_after, kept_alert, is_same_mark, is_same_alert, change_between, changes_over, alert_changes, put_alert, put_changes}
-use Rattle.machine.specs.Sound.{Sound, Rise, EffectFits}
+use Rattle.machine.specs.Sound.{Sound, AreJudgeable, Rise, EffectFits}
 use Rattle.machine.proofs.Judging.{IsOf, Of, found_of, judged_is, alerts_kept}
-use Rattle.machine.proofs.Parts.{releases_own, releases_rise}
+use Rattle.machine.proofs.Parts.{judgeable, releases_own, releases_rise}
 
 -- alerts of earlier and of later releases
 abbrev pub AreBelow : ℕ → List Alert → Type 0
@@ -168,11 +168,14 @@ over t alerts xs low (r ∷ rs) next step rise below =
     ∙ sym (join xs (filter_map (judged t) rs) (judged t r))
 
 -- the changes lead to the alerts once every active release is judged
-pub changes_lead : (effect : Effect) (s : State) → EffectFits s effect → Sound s → put_changes (alert_changes effect s) s.alerts ≡ judged_all (effected effect s)
-changes_lead effect s fits sound =
-    ap (λ (held : List Alert). put_changes (alert_changes effect s) held) (releases_own s effect.on_releases fits.releases sound)
+pub changes_lead_by : (effect : Effect) (s : State) → EffectFits s effect → AreJudgeable s → put_changes (alert_changes effect s) s.alerts ≡ judged_all (effected effect s)
+changes_lead_by effect s fits listed =
+    ap (λ (held : List Alert). put_changes (alert_changes effect s) held) (releases_own s effect.on_releases fits.releases listed)
     ∙ over (effected effect s) s.alerts [] 0 (effected effect s).releases (effected effect s).counters.next_release (λ id. effect_step effect.on_alerts id s.alerts)
-    (releases_rise s effect.on_releases fits.releases sound.ids) tt
+    (releases_rise s effect.on_releases fits.releases listed.ids) tt
+
+pub changes_lead : (effect : Effect) (s : State) → EffectFits s effect → Sound s → put_changes (alert_changes effect s) s.alerts ≡ judged_all (effected effect s)
+changes_lead effect s fits sound = changes_lead_by effect s fits (judgeable s sound)
 
 -- One pass over the releases and the alerts in their order.
 

@@ -23,7 +23,7 @@ use Rattle.machine.specs.declared.effect.OnDeferrals.TheVariants as on_deferrals
 use Rattle.machine.specs.declared.effect.OnReleases.{OnReleases}
 use Rattle.machine.specs.declared.effect.OnReleases.TheVariants as on_releases
 use Rattle.machine.specs.Events.{put, without_release, moment_after, reports_after, reports_swept, is_since, kept_after, deferrals_after, releases_after, next_report, next_deferral, next_release}
-use Rattle.machine.specs.Sound.{Sound, ReleaseInBounds, IsValid, AreNumbered, IsNumbered, IsOpen, AreOpen, MayOpen, IsNext, AreUnlike, AreSingle, IsToldTo, Rise, DeferralsFit, ReleasesFit}
+use Rattle.machine.specs.Sound.{Sound, AreJudgeable, ReleaseInBounds, IsValid, AreNumbered, IsNumbered, IsOpen, AreOpen, MayOpen, IsNext, AreUnlike, AreSingle, IsToldTo, Rise, DeferralsFit, ReleasesFit}
 use Rattle.machine.specs.Requests.{is_request, kept_at}
 use Rattle.machine.specs.State.{State, alert_at}
 use Rattle.machine.proofs.Each.{each_push, each_weaker, put_each, put_length, without_each, without_shorter}
@@ -249,16 +249,20 @@ told_none : (holder : List ℕ) (o : Option Alert) → o ≡ None → IsToldTo h
 told_none holder None e = tt
 told_none holder (Some a) e = absurd (cc)
 
--- a release that is filed has no alert
-none_filed : (s : State) (r : Release) → r.id ≡ s.counters.next_release → Sound s → alert_at r.id s.alerts ≡ None
-none_filed s r numbered sound = ap (λ id. alert_at id s.alerts) numbered ∙ none_next s.alerts s.releases s.counters.next_release sound.own sound.ids
+-- what holds of the desk lets its releases be judged
+pub judgeable : (s : State) → Sound s → AreJudgeable s
+judgeable s sound = record { own = sound.own; alerts = sound.alerts; ids = sound.ids }
 
-pub releases_told : (s : State) (on : OnReleases) → ReleasesFit s on → Sound s → AreTold s.alerts s.releases → AreTold s.alerts (releases_after on s.releases)
-releases_told s on_releases.Nothing fits sound told = told
-releases_told s (on_releases.File r) fits sound told =
-    each_push (λ q. IsToldTo q.holder (alert_at q.id s.alerts)) s.releases r told (told_none r.holder (alert_at r.id s.alerts) (none_filed s r fits.numbered sound))
-releases_told s (on_releases.Remove id) fits sound told = without_each (λ q. IsToldTo q.holder (alert_at q.id s.alerts)) id s.releases told
-releases_told s (on_releases.Put r) fits sound told = put_each (λ q. IsToldTo q.holder (alert_at q.id s.alerts)) r s.releases told fits.holder
+-- a release that is filed has no alert
+none_filed : (s : State) (r : Release) → r.id ≡ s.counters.next_release → AreJudgeable s → alert_at r.id s.alerts ≡ None
+none_filed s r numbered listed = ap (λ id. alert_at id s.alerts) numbered ∙ none_next s.alerts s.releases s.counters.next_release listed.own listed.ids
+
+pub releases_told : (s : State) (on : OnReleases) → ReleasesFit s on → AreJudgeable s → AreTold s.alerts s.releases → AreTold s.alerts (releases_after on s.releases)
+releases_told s on_releases.Nothing fits listed told = told
+releases_told s (on_releases.File r) fits listed told =
+    each_push (λ q. IsToldTo q.holder (alert_at q.id s.alerts)) s.releases r told (told_none r.holder (alert_at r.id s.alerts) (none_filed s r fits.numbered listed))
+releases_told s (on_releases.Remove id) fits listed told = without_each (λ q. IsToldTo q.holder (alert_at q.id s.alerts)) id s.releases told
+releases_told s (on_releases.Put r) fits listed told = put_each (λ q. IsToldTo q.holder (alert_at q.id s.alerts)) r s.releases told fits.holder
 
 put_own_by : (alerts : List Alert) (q r : Release) (b : Bool) (qs more : List Release) → eqb q.id r.id ≡ b
     → filter_map (λ x. alert_at x.id alerts) more ≡ filter_map (λ x. alert_at x.id alerts) qs
@@ -286,12 +290,12 @@ without_own alerts id [] none = refl
 without_own alerts id (q ∷ qs) none = without_own_by alerts id q _ qs (without_release id qs) refl none (without_own alerts id qs none)
 
 -- the alerts of the releases are found in the releases after the effect
-pub releases_own : (s : State) (on : OnReleases) → ReleasesFit s on → Sound s → s.alerts ≡ filter_map (λ r. alert_at r.id s.alerts) (releases_after on s.releases)
-releases_own s on_releases.Nothing fits sound = sound.own
-releases_own s (on_releases.File r) fits sound =
-    sound.own
+pub releases_own : (s : State) (on : OnReleases) → ReleasesFit s on → AreJudgeable s → s.alerts ≡ filter_map (λ r. alert_at r.id s.alerts) (releases_after on s.releases)
+releases_own s on_releases.Nothing fits listed = listed.own
+releases_own s (on_releases.File r) fits listed =
+    listed.own
     ∙ sym (filter_map-append (λ x. alert_at x.id s.alerts) s.releases (r ∷ [])
-    ∙ ap (λ rest. filter_map (λ x. alert_at x.id s.alerts) s.releases ++ rest) (none_more s.alerts r (none_filed s r fits.numbered sound))
+    ∙ ap (λ rest. filter_map (λ x. alert_at x.id s.alerts) s.releases ++ rest) (none_more s.alerts r (none_filed s r fits.numbered listed))
     ∙ append-nil (filter_map (λ x. alert_at x.id s.alerts) s.releases))
-releases_own s (on_releases.Put r) fits sound = sound.own ∙ sym (put_own s.alerts r s.releases)
-releases_own s (on_releases.Remove id) fits sound = sound.own ∙ sym (without_own s.alerts id s.releases fits)
+releases_own s (on_releases.Put r) fits listed = listed.own ∙ sym (put_own s.alerts r s.releases)
+releases_own s (on_releases.Remove id) fits listed = listed.own ∙ sym (without_own s.alerts id s.releases fits)

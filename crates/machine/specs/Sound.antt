@@ -136,6 +136,13 @@ pub record Sound (s : State) : Type 0 where
   pub single : AreSingle s.kept
   pub ids : Rise 0 s.releases s.counters.next_release
 
+-- What a judgement of all releases rests on: each alert is the one of a release that is held, in the order of the releases, whose
+-- ids rise. It holds before the judgement too, when a desk is opened.
+pub record AreJudgeable (s : State) : Type 0 where
+  pub own : s.alerts ≡ filter_map (λ r. alert_at r.id s.alerts) s.releases
+  pub alerts : AllByRecursion (IsAlert s.counters.events) s.alerts
+  pub ids : Rise 0 s.releases s.counters.next_release
+
 -- a revision whose plan is one, and whose moments can be shown
 pub record RevisionInBounds (v : Revision) : Type 0 where
   pub is_plan : IsPlan v.plan

@@ -67,8 +67,8 @@ pub struct Effect {
 }
 
 impl Effect {
-    // What changes nothing.
-    fn nothing() -> Effect
+    /// What changes nothing but what a judgement does.
+    pub fn nothing() -> Effect
         ensures { result ≡ spec.nothing }
     {
         Effect {

@@ -11,4 +11,4 @@ push_all_changes-requires-clause-releases g c =
 
 pub push_all_changes-requires-clause-alerts : goal.push_all_changes-requires-clause-alerts
 push_all_changes-requires-clause-alerts g c =
-    subst AreBounded (sym c.deref.ensures.value) (all_bounded (state_of c.args.self.now.content.now) c.requires.sound c.requires.kept)
+    subst AreBounded (sym c.deref.ensures.value) (all_bounded (state_of c.args.self.now.content.now) c.requires.listed c.requires.kept)
