@@ -6,3 +6,4 @@ pub mod Boards
 pub mod Changes
 pub mod AllowedLaws
 pub mod ToldLaws
+pub mod RepeatLaws

@@ -10,6 +10,7 @@ pub mod Step
 pub mod Legal
 pub mod Sound
 pub mod Lanes
+pub mod Repeats
 pub mod Allowed
 pub mod Told
 pub mod Contents
