@@ -1,4 +1,5 @@
 pub mod AttachedLaws
+pub mod FloorLaws
 pub mod Held
 pub mod Open
 pub mod Turns

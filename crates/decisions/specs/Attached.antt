@@ -1,6 +1,7 @@
 -- The reports that are attached to releases.
-use Rattle.std.specs.Prelude.{ℕ, ◌==◌, Bool, List, [], ◌∷◌, ◌++◌, map, Option, None, Some}
+use Rattle.std.specs.Prelude.{ℕ, ◌==◌, Bool, List, [], ◌∷◌, ◌++◌, filter, map, Option, None, Some}
 use Rattle.std.specs.List.{list_any}
+use Rattle.facts.specs.declared.report.Report.{Report}
 use Rattle.plan.specs.declared.release.Release.{Release}
 use Rattle.plan.specs.declared.release.Revision.{Revision}
 
@@ -17,3 +18,7 @@ all_ids (r ∷ rs) = ids_of r.pending ++ ids_of r.active ++ all_ids rs
 -- an id is one of a list
 abbrev pub is_among : List ℕ → ℕ → Bool
 is_among ids id = list_any (λ held. held == id) ids
+
+-- the reports that are among some ids, by their ids
+abbrev pub ids_among : List ℕ → List Report → List ℕ
+ids_among ids reports = map (λ r. r.id) (filter (λ r. is_among ids r.id) reports)

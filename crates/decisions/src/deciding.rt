@@ -1,4 +1,4 @@
-ghost use Rattle.std.specs.Prelude.{IfOk};
+ghost use Rattle.std.specs.Prelude.{◌≡◌, false, IfOk};
 ghost use Rattle.asks.specs.Forms.{IsCall};
 ghost use Rattle.machine.specs.Contents.{state_of};
 ghost use Rattle.machine.specs.Decide as spec;

@@ -6,7 +6,7 @@ ghost use Rattle.machine.specs.Decide as spec;
 ghost use Rattle.machine.specs.Events as events;
 ghost use Rattle.machine.specs.Requests as requests;
 ghost use Rattle.decisions.specs.Answers.{Answers};
-ghost use Rattle.decisions.specs.Attached.{ids_of, all_ids, is_among};
+ghost use Rattle.decisions.specs.Attached.{ids_of, all_ids, is_among, ids_among};
 ghost use Rattle.decisions.specs.Reads.{DecisionAdmitsRead};
 
 use crate::chain::Stop;
@@ -15,6 +15,7 @@ use crate::retention::too_young;
 use asks::{Done, Floors, KeptReply, Reply};
 use desk_io::{Listed, OutOfMemory, copied_items};
 use desk_time::Minute;
+use facts::Report;
 use machine::{Content, Decision, Effect};
 use plan::{Release, Revision};
 use std::alloc::Global;
@@ -61,18 +62,31 @@ fn is_found(ids: &[u64], id: u64) -> bool
     ids.binary_search(&id).is_ok()
 }
 
-// The reports that are held and attached to a release.
-fn attached_reports(alloc: Global, content: &Content) -> Result<Listed<u64>, OutOfMemory>
-    ensures { IfOk result (λ ids. ids ≡ spec.attached_reports (state_of content.now)) }
+// The reports that are among some ids, which rise.
+fn reports_among(
+    alloc: Global,
+    reports: &[Report],
+    among: &[u64],
+) -> Result<Listed<u64>, OutOfMemory>
+    requires { IsNonDecreasing among.now }
+    ensures { IfOk result (λ ids. ids ≡ ids_among among.now reports.now) }
 {
-    let attached = attached_ids(alloc, &content.releases)?;
     let mut ids = Listed::new(alloc);
-    for report in content.reports.as_slice() {
-        if is_found(&attached, report.id) {
+    for report in reports {
+        if is_found(among, report.id) {
             ids.push(report.id)?;
         }
     }
     Ok(ids)
+}
+
+// The reports that are held and attached to a release.
+#[tactic(auto, using(crate::proofs::AttachedLaws::reports_among))]
+fn attached_reports(alloc: Global, content: &Content) -> Result<Listed<u64>, OutOfMemory>
+    ensures { IfOk result (λ ids. ids ≡ spec.attached_reports (state_of content.now)) }
+{
+    let attached = attached_ids(alloc, &content.releases)?;
+    reports_among(alloc, content.reports.as_slice(), &attached)
 }
 
 fn is_since(before: Minute, reply: &KeptReply) -> bool
