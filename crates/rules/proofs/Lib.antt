@@ -5,6 +5,7 @@ pub mod DueLaws
 pub mod SightLaws
 pub mod NextDue
 pub mod UntilDue
+pub mod FrameLaws
 pub mod Rising
 pub mod Order
 pub mod Truth

@@ -10,3 +10,4 @@ pub mod Time
 pub mod Judgement
 pub mod Due
 pub mod Sights
+pub mod Frame

@@ -1,0 +1,15 @@
+-- What a judgement reads of the reports: the latest of each kind of a station.
+use Rattle.std.specs.Prelude.{◌≡◌, List}
+use Rattle.codes.specs.Station.{Station}
+use Rattle.facts.specs.declared.report.Report.{Report}
+use Rattle.facts.specs.Latest.{metar_latest, taf_latest}
+use Rattle.rules.specs.Grounds.{Grounds}
+
+-- The latest METAR and the latest TAF of each station say the same among other reports.
+pub record SameLatest (rs others : List Report) : Type 0 where
+  pub metar : (station : Station) → metar_latest others station ≡ metar_latest rs station
+  pub taf : (station : Station) → taf_latest others station ≡ taf_latest rs station
+
+-- the same tables, deferrals and moment with other reports
+abbrev pub with_reports : Grounds → List Report → Grounds
+with_reports g others = record g { reports = others }
