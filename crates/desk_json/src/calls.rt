@@ -253,6 +253,18 @@ fn purge_of(value: &Value) -> Option<Ask>
     })
 }
 
+fn sweep_of(value: &Value) -> Option<Ask>
+    ensures value { result ≡ spec.sweep_of (view value.now) }
+    ensures form { IfSome result IsCall }
+{
+    let before = moment_at("before", value)?;
+    if has_members(2, value) {
+        Some(Ask::Sweep { before })
+    } else {
+        None
+    }
+}
+
 fn board_of(value: &Value) -> Option<Ask>
     ensures value { result ≡ spec.board_of (view value.now) }
     ensures form { IfSome result IsCall }
@@ -314,7 +326,7 @@ fn view_named(name: &str, value: &Value) -> Option<Ask>
     }
 }
 
-// The names `depart`, `arrive`, `acknowledge` and `purge`, and else those of views.
+// The names `depart`, `arrive`, `acknowledge`, `purge` and `sweep`, and else those of views.
 fn ask_on_flight(name: &str, value: &Value) -> Option<Ask>
     ensures value { result ≡ spec.ask_on_flight name.now (view value.now) }
     ensures form { IfSome result IsCall }
@@ -327,6 +339,8 @@ fn ask_on_flight(name: &str, value: &Value) -> Option<Ask>
         acknowledge_of(value)
     } else if name == "purge" {
         purge_of(value)
+    } else if name == "sweep" {
+        sweep_of(value)
     } else {
         view_named(name, value)
     }

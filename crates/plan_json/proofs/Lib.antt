@@ -12,3 +12,4 @@ pub mod Plain
 pub mod Chains
 pub mod MomentRange
 pub mod PlanForms
+pub mod ValueTexts
