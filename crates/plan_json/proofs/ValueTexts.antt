@@ -1,5 +1,5 @@
 -- Each text of a value is UTF-8, and so is each that is read at a key.
-use Rattle.std.proofs.Common.{◌≡◌, ℕ, true, List, [], ◌∷◌, length, map, Option, None, Some, IfSome, IsUtf8, String, Global, sym, subst}
+use Rattle.std.proofs.Common.{ℕ, List, [], ◌∷◌, length, map, Option, None, Some, IfSome, IsUtf8, String, Global, sym, subst}
 use Rattle.std.specs.Prelude.{nat_le, option_and_then}
 use Rattle.std.specs.Ordering.{nat_cmp, match_ordering}
 use Rattle.std.specs.Cmp.Lexicographic.{slice_cmp}
@@ -10,7 +10,7 @@ use Rattle.std.proofs.lemmas.Str.{IsUtf8-string_bytes}
 use Rattle.serde_json.specs.Data.{Data, null, boolean, number, string, array, object, Members, no_members, member}
 use Rattle.serde_json.specs.Find.{get, get_member, as_str}
 use Rattle.serde_json.specs.View.{view, view_step, items_of, members_of}
-use Rattle.serde_json.specs.declared.value.Value.{Value, fold-Value, fold-roll-Value, ind-Value, map-Value}
+use Rattle.serde_json.specs.declared.value.Value.{Value, fold-roll-Value, ind-Value, map-Value}
 use Rattle.serde_json.specs.declared.value.Value.TheOpen.{Value-F}
 use Rattle.plan_json.specs.Fields.{text_at, short, short_at}
 use Rattle.plan_json.specs.Canonical.{IsShort}
