@@ -4,13 +4,13 @@ use Rattle.std.proofs.lemmas.Str.{utf8_lossy-IsUtf8}
 use Rattle.plan.specs.Texts.{IsMoment}
 use Rattle.asks.specs.declared.call.Call.{Call}
 use Rattle.asks.specs.declared.call.Ask.{Ask}
-use Rattle.asks.specs.declared.call.Ask.TheVariants.{Admit, Defer, Clear, Draft, Prepare, Sign, Concur, Amend, Cancel, Depart, Arrive, Acknowledge, Purge, ViewBoard, ViewAlerts, ViewRelease, ViewWeather, ViewDeferred}
+use Rattle.asks.specs.declared.call.Ask.TheVariants.{Admit, Defer, Clear, Draft, Prepare, Sign, Concur, Amend, Cancel, Depart, Arrive, Acknowledge, Purge, Sweep, ViewBoard, ViewAlerts, ViewRelease, ViewWeather, ViewDeferred}
 use Rattle.plan_json.specs.Fields.{data_of}
-use Rattle.plan_json.specs.Canonical.{ask_data, AskHasForms}
+use Rattle.plan_json.specs.Canonical.{ask_data, AskHasForms, CallHasForms}
 use Rattle.plan_json.proofs.DigestLaws.{digest_again}
 use Rattle.plan_json.proofs.Again.{small_again, amount_again, short_again, station_again, moment_again, id_again, plan_again}
 use Rattle.desk_json.specs.Calls.{ask_of, line_in, line_of}
-use Rattle.desk_json.specs.Canonical.{line_data, CallHasForms}
+use Rattle.desk_json.specs.Canonical.{line_data}
 
 -- the ask that is written is read
 pub ask_again : (a : Ask) → AskHasForms a → ask_of (ask_data a) ≡ Some a
@@ -28,6 +28,7 @@ ask_again (Depart release leg) is = rw (id_again release is.0, amount_again leg 
 ask_again (Arrive release leg) is = rw (id_again release is.0, amount_again leg is.1) refl
 ask_again (Acknowledge release version) is = rw (id_again release is.0, id_again version is.1) refl
 ask_again (Purge release) is = rw (id_again release is) refl
+ask_again (Sweep before) is = rw (moment_again before is) refl
 ask_again ViewBoard is = refl
 ask_again ViewAlerts is = refl
 ask_again (ViewRelease release) is = rw (id_again release is) refl

@@ -1,2 +1,3 @@
 pub mod Again
+pub mod Formed
 pub mod Written

@@ -6,7 +6,7 @@ use Rattle.plan.specs.declared.findings.Finding.{Finding}
 use Rattle.asks.specs.declared.reply.Reply.{Reply}
 use Rattle.asks.specs.declared.reply.Reply.TheVariants.{Done, Seen, Refused}
 use Rattle.asks.specs.declared.reply.Refusal.{Refusal}
-use Rattle.asks.specs.declared.reply.Refusal.TheVariants.{UnknownActor, WrongKey, NotYourRole, BadReport, DayOutOfReach, ReportsFull, UnknownTail, NoSuchDeferral, NoSuchRelease, NotYours, BadPlan, NotPending, WrongRevision, WrongText, WeatherNewer, RuleFails, WrongPhase, AlreadySigned, NoSuchAlert, AlertMoved, TooYoung, ReleasesFull, HistoryFull, NoSuchStation, UnknownItem, BadFound, DeferralsFull}
+use Rattle.asks.specs.declared.reply.Refusal.TheVariants.{UnknownActor, WrongKey, NotYourRole, NumberReused, BadReport, DayOutOfReach, ReportsFull, UnknownTail, NoSuchDeferral, NoSuchRelease, NotYours, BadPlan, NotPending, WrongRevision, WrongText, WeatherNewer, RuleFails, WrongPhase, AlreadySigned, NoSuchAlert, AlertMoved, TooYoung, ReleasesFull, HistoryFull, NoSuchStation, Unkept, NumberSwept, UnknownItem, BadFound, DeferralsFull}
 use Rattle.plan_json.proofs.Whole.{list_whole, done_whole}
 use Rattle.desk_json.specs.Replies.{finding_data, refusal_data, reply_data}
 
@@ -17,6 +17,7 @@ refusal_whole : (r : Refusal) → has_float (refusal_data r) ≡ false
 refusal_whole UnknownActor = refl
 refusal_whole WrongKey = refl
 refusal_whole NotYourRole = refl
+refusal_whole (NumberReused kept) = refl
 refusal_whole (BadReport group what) = refl
 refusal_whole (DayOutOfReach group) = refl
 refusal_whole (ReportsFull held) = refl
@@ -36,8 +37,10 @@ refusal_whole NoSuchAlert = refl
 refusal_whole (AlertMoved version) = refl
 refusal_whole (TooYoung until) = refl
 refusal_whole (ReleasesFull held) = refl
-refusal_whole (HistoryFull entries) = refl
+refusal_whole (HistoryFull entries kept events) = refl
 refusal_whole NoSuchStation = refl
+refusal_whole (Unkept faults) = refl
+refusal_whole (NumberSwept floor) = refl
 refusal_whole UnknownItem = refl
 refusal_whole (BadFound moment) = refl
 refusal_whole (DeferralsFull held) = refl

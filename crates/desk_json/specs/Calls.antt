@@ -8,7 +8,7 @@ use Rattle.desk_time.specs.Digits.{◌>>=◌}
 use Rattle.plan.specs.declared.flights.Plan.{Plan}
 use Rattle.asks.specs.declared.call.Call.{Call}
 use Rattle.asks.specs.declared.call.Ask.{Ask}
-use Rattle.asks.specs.declared.call.Ask.TheVariants.{Admit, Defer, Clear, Draft, Prepare, Sign, Concur, Amend, Cancel, Depart, Arrive, Acknowledge, Purge, ViewBoard, ViewAlerts, ViewRelease, ViewWeather, ViewDeferred}
+use Rattle.asks.specs.declared.call.Ask.TheVariants.{Admit, Defer, Clear, Draft, Prepare, Sign, Concur, Amend, Cancel, Depart, Arrive, Acknowledge, Purge, Sweep, ViewBoard, ViewAlerts, ViewRelease, ViewWeather, ViewDeferred}
 use Rattle.desk_json.specs.declared.calls.Signed.{Signed}
 use Rattle.desk_json.specs.declared.calls.Flown.{Flown}
 use Rattle.plan_json.specs.Digests.{digest_at}
@@ -94,6 +94,10 @@ acknowledge_of d =
 abbrev pub purge_of : Data → Option Ask
 purge_of d = release_of d >>= λ release. Some (Purge release)
 
+-- to sweep away what is from before a moment
+abbrev pub sweep_of : Data → Option Ask
+sweep_of d = moment_at (codes "before") d >>= λ before. if has_members 2 d then Some (Sweep before) else None
+
 -- to see the releases
 abbrev pub board_of : Data → Option Ask
 board_of d = if has_members 1 d then Some ViewBoard else None
@@ -118,13 +122,14 @@ view_named name d =
     else (if bytes_eq name (codes "release") then view_release_of d
     else (if bytes_eq name (codes "weather") then weather_of d else None)))
 
--- the names depart, arrive, acknowledge and purge, and else those of views
+-- the names depart, arrive, acknowledge, purge and sweep, and else those of views
 abbrev pub ask_on_flight : List ℕ → Data → Option Ask
 ask_on_flight name d =
     if bytes_eq name (codes "depart") then depart_of d
     else (if bytes_eq name (codes "arrive") then arrive_of d
     else (if bytes_eq name (codes "acknowledge") then acknowledge_of d
-    else (if bytes_eq name (codes "purge") then purge_of d else view_named name d)))
+    else (if bytes_eq name (codes "purge") then purge_of d
+    else (if bytes_eq name (codes "sweep") then sweep_of d else view_named name d))))
 
 -- the names prepare, sign, concur and cancel, and else the next
 abbrev pub ask_on_release : List ℕ → Data → Option Ask

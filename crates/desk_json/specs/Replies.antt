@@ -11,7 +11,7 @@ use Rattle.plan.specs.declared.findings.Finding.{Finding}
 use Rattle.asks.specs.declared.reply.Reply.{Reply}
 use Rattle.asks.specs.declared.reply.Reply.TheVariants.{Done, Seen, Refused}
 use Rattle.asks.specs.declared.reply.Refusal.{Refusal}
-use Rattle.asks.specs.declared.reply.Refusal.TheVariants.{UnknownActor, WrongKey, NotYourRole, BadReport, DayOutOfReach, ReportsFull, UnknownTail, NoSuchDeferral, NoSuchRelease, NotYours, BadPlan, NotPending, WrongRevision, WrongText, WeatherNewer, RuleFails, WrongPhase, AlreadySigned, NoSuchAlert, AlertMoved, TooYoung, ReleasesFull, HistoryFull, NoSuchStation, UnknownItem, BadFound, DeferralsFull}
+use Rattle.asks.specs.declared.reply.Refusal.TheVariants.{UnknownActor, WrongKey, NotYourRole, NumberReused, BadReport, DayOutOfReach, ReportsFull, UnknownTail, NoSuchDeferral, NoSuchRelease, NotYours, BadPlan, NotPending, WrongRevision, WrongText, WeatherNewer, RuleFails, WrongPhase, AlreadySigned, NoSuchAlert, AlertMoved, TooYoung, ReleasesFull, HistoryFull, NoSuchStation, Unkept, NumberSwept, UnknownItem, BadFound, DeferralsFull}
 use Rattle.plan_json.specs.Digests.{digest_data}
 use Rattle.plan_json.specs.Canonical.{count, text_data, moment_data, list_data, done_data}
 
@@ -44,6 +44,7 @@ abbrev pub refusal_number : Refusal → ℕ
 refusal_number UnknownActor = 1
 refusal_number WrongKey = 2
 refusal_number NotYourRole = 3
+refusal_number (NumberReused kept) = 4
 refusal_number (BadReport group what) = 5
 refusal_number (DayOutOfReach group) = 6
 refusal_number (ReportsFull held) = 7
@@ -63,8 +64,10 @@ refusal_number NoSuchAlert = 20
 refusal_number (AlertMoved version) = 21
 refusal_number (TooYoung until) = 22
 refusal_number (ReleasesFull held) = 23
-refusal_number (HistoryFull entries) = 24
+refusal_number (HistoryFull entries kept events) = 24
 refusal_number NoSuchStation = 25
+refusal_number (Unkept faults) = 26
+refusal_number (NumberSwept floor) = 27
 refusal_number UnknownItem = 28
 refusal_number (BadFound moment) = 29
 refusal_number (DeferralsFull held) = 30
@@ -74,6 +77,7 @@ abbrev pub refusal_name : Refusal → List ℕ
 refusal_name UnknownActor = codes "UnknownActor"
 refusal_name WrongKey = codes "WrongKey"
 refusal_name NotYourRole = codes "NotYourRole"
+refusal_name (NumberReused kept) = codes "NumberReused"
 refusal_name (BadReport group what) = codes "BadReport"
 refusal_name (DayOutOfReach group) = codes "DayOutOfReach"
 refusal_name (ReportsFull held) = codes "ReportsFull"
@@ -93,8 +97,10 @@ refusal_name NoSuchAlert = codes "NoSuchAlert"
 refusal_name (AlertMoved version) = codes "AlertMoved"
 refusal_name (TooYoung until) = codes "TooYoung"
 refusal_name (ReleasesFull held) = codes "ReleasesFull"
-refusal_name (HistoryFull entries) = codes "HistoryFull"
+refusal_name (HistoryFull entries kept events) = codes "HistoryFull"
 refusal_name NoSuchStation = codes "NoSuchStation"
+refusal_name (Unkept faults) = codes "Unkept"
+refusal_name (NumberSwept floor) = codes "NumberSwept"
 refusal_name UnknownItem = codes "UnknownItem"
 refusal_name (BadFound moment) = codes "BadFound"
 refusal_name (DeferralsFull held) = codes "DeferralsFull"
@@ -108,6 +114,7 @@ abbrev pub with_fields : Refusal → Members → Members
 with_fields UnknownActor ms = ms
 with_fields WrongKey ms = ms
 with_fields NotYourRole ms = ms
+with_fields (NumberReused kept) ms = put (codes "kept") (count kept) ms
 with_fields (BadReport group what) ms = put (codes "what") (string (why_name what)) (put (codes "group") (count group) ms)
 with_fields (DayOutOfReach group) ms = put (codes "group") (count group) ms
 with_fields (ReportsFull held) ms = put (codes "held") (count held) ms
@@ -127,8 +134,10 @@ with_fields NoSuchAlert ms = ms
 with_fields (AlertMoved version) ms = put (codes "version") (count version) ms
 with_fields (TooYoung until) ms = put (codes "until") (moment_data until) ms
 with_fields (ReleasesFull held) ms = put (codes "held") (count held) ms
-with_fields (HistoryFull entries) ms = put (codes "entries") (count entries) ms
+with_fields (HistoryFull entries kept events) ms = put (codes "kept") (count kept) (put (codes "events") (count events) (put (codes "entries") (count entries) ms))
 with_fields NoSuchStation ms = ms
+with_fields (Unkept faults) ms = put (codes "faults") (count faults) ms
+with_fields (NumberSwept floor) ms = put (codes "floor") (count floor) ms
 with_fields UnknownItem ms = ms
 with_fields (BadFound moment) ms = put (codes "now") (moment_data moment) ms
 with_fields (DeferralsFull held) ms = put (codes "held") (count held) ms

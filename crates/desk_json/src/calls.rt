@@ -1,7 +1,7 @@
 ghost use Rattle.std.specs.Prelude.{◌≡◌, ◌≤◌, IfOk, IfSome};
 ghost use Rattle.serde_json.specs.View.{view};
-ghost use Rattle.plan.specs.Check.{IsPlan};
 ghost use Rattle.asks.specs.Forms.{IsCall};
+ghost use Rattle.plan_json.specs.Canonical.{CallHasForms};
 ghost use Rattle.desk_json.specs.Calls as spec;
 ghost use Rattle.desk_json.specs.Calls.{line_of};
 ghost use Rattle.desk_json.specs.Canonical.{IsReadAgain};
@@ -33,8 +33,7 @@ struct Flown {
 }
 
 fn admit_of(alloc: Global, value: &Value) -> Result<Option<Ask>, OutOfMemory>
-    ensures form { IfOk result (λ a. IfSome a IsCall) }
-    ensures value { IfOk result (λ a. a ≡ spec.admit_of (view value.now)) }
+    ensures { IfOk result (λ a. a ≡ spec.admit_of (view value.now)) }
 {
     match text_at("text", value) {
         Some(text) if has_members(2, value) => Ok(Some(Ask::Admit {
@@ -45,8 +44,7 @@ fn admit_of(alloc: Global, value: &Value) -> Result<Option<Ask>, OutOfMemory>
 }
 
 fn plan_at(alloc: Global, value: &Value) -> Result<Option<Plan>, OutOfMemory>
-    ensures value { IfOk result (λ p. p ≡ spec.plan_at (view value.now)) }
-    ensures form { IfOk result (λ p. IfSome p IsPlan) }
+    ensures { IfOk result (λ p. p ≡ spec.plan_at (view value.now)) }
 {
     match value.get("plan") {
         Some(plan) => read_plan(alloc, plan),
@@ -55,8 +53,7 @@ fn plan_at(alloc: Global, value: &Value) -> Result<Option<Plan>, OutOfMemory>
 }
 
 fn draft_of(alloc: Global, value: &Value) -> Result<Option<Ask>, OutOfMemory>
-    ensures value { IfOk result (λ a. a ≡ spec.draft_of (view value.now)) }
-    ensures form { IfOk result (λ a. IfSome a IsCall) }
+    ensures { IfOk result (λ a. a ≡ spec.draft_of (view value.now)) }
 {
     match plan_at(alloc, value)? {
         Some(plan) if has_members(2, value) => Ok(Some(Ask::Draft { plan })),
@@ -65,8 +62,7 @@ fn draft_of(alloc: Global, value: &Value) -> Result<Option<Ask>, OutOfMemory>
 }
 
 fn amend_of(alloc: Global, value: &Value) -> Result<Option<Ask>, OutOfMemory>
-    ensures value { IfOk result (λ a. a ≡ spec.amend_of (view value.now)) }
-    ensures form { IfOk result (λ a. IfSome a IsCall) }
+    ensures { IfOk result (λ a. a ≡ spec.amend_of (view value.now)) }
 {
     let Some(release) = id_at("release", value) else {
         return Ok(None);
@@ -78,8 +74,7 @@ fn amend_of(alloc: Global, value: &Value) -> Result<Option<Ask>, OutOfMemory>
 }
 
 fn defer_of(alloc: Global, value: &Value) -> Result<Option<Ask>, OutOfMemory>
-    ensures form { IfOk result (λ a. IfSome a IsCall) }
-    ensures value { IfOk result (λ a. a ≡ spec.defer_of (view value.now)) }
+    ensures { IfOk result (λ a. a ≡ spec.defer_of (view value.now)) }
 {
     let Some(tail) = short_at("tail", value) else {
         return Ok(None);
@@ -101,8 +96,7 @@ fn defer_of(alloc: Global, value: &Value) -> Result<Option<Ask>, OutOfMemory>
 }
 
 fn clear_of(value: &Value) -> Option<Ask>
-    ensures value { result ≡ spec.clear_of (view value.now) }
-    ensures form { IfSome result IsCall }
+    ensures { result ≡ spec.clear_of (view value.now) }
 {
     let deferral = id_at("deferral", value)?;
     if has_members(2, value) {
@@ -113,8 +107,7 @@ fn clear_of(value: &Value) -> Option<Ask>
 }
 
 fn deferred_of(alloc: Global, value: &Value) -> Result<Option<Ask>, OutOfMemory>
-    ensures form { IfOk result (λ a. IfSome a IsCall) }
-    ensures value { IfOk result (λ a. a ≡ spec.deferred_of (view value.now)) }
+    ensures { IfOk result (λ a. a ≡ spec.deferred_of (view value.now)) }
 {
     match short_at("tail", value) {
         Some(tail) if has_members(2, value) => Ok(Some(Ask::ViewDeferred {
@@ -137,8 +130,7 @@ fn release_of(value: &Value) -> Option<u64>
 }
 
 fn prepare_of(value: &Value) -> Option<Ask>
-    ensures value { result ≡ spec.prepare_of (view value.now) }
-    ensures form { IfSome result IsCall }
+    ensures { result ≡ spec.prepare_of (view value.now) }
 {
     Some(Ask::Prepare {
         release: release_of(value)?,
@@ -146,8 +138,7 @@ fn prepare_of(value: &Value) -> Option<Ask>
 }
 
 fn cancel_of(value: &Value) -> Option<Ask>
-    ensures value { result ≡ spec.cancel_of (view value.now) }
-    ensures form { IfSome result IsCall }
+    ensures { result ≡ spec.cancel_of (view value.now) }
 {
     Some(Ask::Cancel {
         release: release_of(value)?,
@@ -172,8 +163,7 @@ fn signed_of(value: &Value) -> Option<Signed>
 }
 
 fn sign_of(value: &Value) -> Option<Ask>
-    ensures value { result ≡ spec.sign_of (view value.now) }
-    ensures form { IfSome result IsCall }
+    ensures { result ≡ spec.sign_of (view value.now) }
 {
     let Signed {
         release,
@@ -188,8 +178,7 @@ fn sign_of(value: &Value) -> Option<Ask>
 }
 
 fn concur_of(value: &Value) -> Option<Ask>
-    ensures value { result ≡ spec.concur_of (view value.now) }
-    ensures form { IfSome result IsCall }
+    ensures { result ≡ spec.concur_of (view value.now) }
 {
     let Signed {
         release,
@@ -216,24 +205,21 @@ fn flown_of(value: &Value) -> Option<Flown>
 }
 
 fn depart_of(value: &Value) -> Option<Ask>
-    ensures value { result ≡ spec.depart_of (view value.now) }
-    ensures form { IfSome result IsCall }
+    ensures { result ≡ spec.depart_of (view value.now) }
 {
     let Flown { release, leg } = flown_of(value)?;
     Some(Ask::Depart { release, leg })
 }
 
 fn arrive_of(value: &Value) -> Option<Ask>
-    ensures value { result ≡ spec.arrive_of (view value.now) }
-    ensures form { IfSome result IsCall }
+    ensures { result ≡ spec.arrive_of (view value.now) }
 {
     let Flown { release, leg } = flown_of(value)?;
     Some(Ask::Arrive { release, leg })
 }
 
 fn acknowledge_of(value: &Value) -> Option<Ask>
-    ensures value { result ≡ spec.acknowledge_of (view value.now) }
-    ensures form { IfSome result IsCall }
+    ensures { result ≡ spec.acknowledge_of (view value.now) }
 {
     let release = id_at("release", value)?;
     let version = id_at("version", value)?;
@@ -245,17 +231,26 @@ fn acknowledge_of(value: &Value) -> Option<Ask>
 }
 
 fn purge_of(value: &Value) -> Option<Ask>
-    ensures value { result ≡ spec.purge_of (view value.now) }
-    ensures form { IfSome result IsCall }
+    ensures { result ≡ spec.purge_of (view value.now) }
 {
     Some(Ask::Purge {
         release: release_of(value)?,
     })
 }
 
+fn sweep_of(value: &Value) -> Option<Ask>
+    ensures { result ≡ spec.sweep_of (view value.now) }
+{
+    let before = moment_at("before", value)?;
+    if has_members(2, value) {
+        Some(Ask::Sweep { before })
+    } else {
+        None
+    }
+}
+
 fn board_of(value: &Value) -> Option<Ask>
-    ensures value { result ≡ spec.board_of (view value.now) }
-    ensures form { IfSome result IsCall }
+    ensures { result ≡ spec.board_of (view value.now) }
 {
     if has_members(1, value) {
         Some(Ask::ViewBoard)
@@ -265,8 +260,7 @@ fn board_of(value: &Value) -> Option<Ask>
 }
 
 fn alerts_of(value: &Value) -> Option<Ask>
-    ensures value { result ≡ spec.alerts_of (view value.now) }
-    ensures form { IfSome result IsCall }
+    ensures { result ≡ spec.alerts_of (view value.now) }
 {
     if has_members(1, value) {
         Some(Ask::ViewAlerts)
@@ -276,8 +270,7 @@ fn alerts_of(value: &Value) -> Option<Ask>
 }
 
 fn view_release_of(value: &Value) -> Option<Ask>
-    ensures value { result ≡ spec.view_release_of (view value.now) }
-    ensures form { IfSome result IsCall }
+    ensures { result ≡ spec.view_release_of (view value.now) }
 {
     Some(Ask::ViewRelease {
         release: release_of(value)?,
@@ -285,8 +278,7 @@ fn view_release_of(value: &Value) -> Option<Ask>
 }
 
 fn weather_of(value: &Value) -> Option<Ask>
-    ensures value { result ≡ spec.weather_of (view value.now) }
-    ensures form { IfSome result IsCall }
+    ensures { result ≡ spec.weather_of (view value.now) }
 {
     let station = station_at("station", value)?;
     if has_members(2, value) {
@@ -298,8 +290,7 @@ fn weather_of(value: &Value) -> Option<Ask>
 
 // Asks to see something, but for what takes a text.
 fn view_named(name: &str, value: &Value) -> Option<Ask>
-    ensures value { result ≡ spec.view_named name.now (view value.now) }
-    ensures form { IfSome result IsCall }
+    ensures { result ≡ spec.view_named name.now (view value.now) }
 {
     if name == "board" {
         board_of(value)
@@ -314,10 +305,9 @@ fn view_named(name: &str, value: &Value) -> Option<Ask>
     }
 }
 
-// The names `depart`, `arrive`, `acknowledge` and `purge`, and else those of views.
+// The names `depart`, `arrive`, `acknowledge`, `purge` and `sweep`, and else those of views.
 fn ask_on_flight(name: &str, value: &Value) -> Option<Ask>
-    ensures value { result ≡ spec.ask_on_flight name.now (view value.now) }
-    ensures form { IfSome result IsCall }
+    ensures { result ≡ spec.ask_on_flight name.now (view value.now) }
 {
     if name == "depart" {
         depart_of(value)
@@ -327,6 +317,8 @@ fn ask_on_flight(name: &str, value: &Value) -> Option<Ask>
         acknowledge_of(value)
     } else if name == "purge" {
         purge_of(value)
+    } else if name == "sweep" {
+        sweep_of(value)
     } else {
         view_named(name, value)
     }
@@ -334,8 +326,7 @@ fn ask_on_flight(name: &str, value: &Value) -> Option<Ask>
 
 // The names `prepare`, `sign`, `concur` and `cancel`, and else the next.
 fn ask_on_release(name: &str, value: &Value) -> Option<Ask>
-    ensures value { result ≡ spec.ask_on_release name.now (view value.now) }
-    ensures form { IfSome result IsCall }
+    ensures { result ≡ spec.ask_on_release name.now (view value.now) }
 {
     if name == "prepare" {
         prepare_of(value)
@@ -352,8 +343,7 @@ fn ask_on_release(name: &str, value: &Value) -> Option<Ask>
 
 // The names `defer`, `clear` and `deferred`, and else the next.
 fn ask_on_equipment(alloc: Global, name: &str, value: &Value) -> Result<Option<Ask>, OutOfMemory>
-    ensures form { IfOk result (λ a. IfSome a IsCall) }
-    ensures value { IfOk result (λ a. a ≡ spec.ask_on_equipment name.now (view value.now)) }
+    ensures { IfOk result (λ a. a ≡ spec.ask_on_equipment name.now (view value.now)) }
 {
     if name == "defer" {
         defer_of(alloc, value)
@@ -368,8 +358,7 @@ fn ask_on_equipment(alloc: Global, name: &str, value: &Value) -> Result<Option<A
 
 // The names `admit`, `draft` and `amend`, and else the next.
 fn ask_named(alloc: Global, name: &str, value: &Value) -> Result<Option<Ask>, OutOfMemory>
-    ensures form { IfOk result (λ a. IfSome a IsCall) }
-    ensures value { IfOk result (λ a. a ≡ spec.ask_named name.now (view value.now)) }
+    ensures { IfOk result (λ a. a ≡ spec.ask_named name.now (view value.now)) }
 {
     if name == "admit" {
         admit_of(alloc, value)
@@ -383,8 +372,7 @@ fn ask_named(alloc: Global, name: &str, value: &Value) -> Result<Option<Ask>, Ou
 }
 
 fn ask_of(alloc: Global, value: &Value) -> Result<Option<Ask>, OutOfMemory>
-    ensures form { IfOk result (λ a. IfSome a IsCall) }
-    ensures value { IfOk result (λ a. a ≡ spec.ask_of (view value.now)) }
+    ensures { IfOk result (λ a. a ≡ spec.ask_of (view value.now)) }
 {
     match text_at("do", value) {
         Some(name) => ask_named(alloc, name, value),
@@ -393,9 +381,7 @@ fn ask_of(alloc: Global, value: &Value) -> Result<Option<Ask>, OutOfMemory>
 }
 
 fn asked_by(alloc: Global, value: &Value, ask: Ask) -> Result<Option<Call>, OutOfMemory>
-    requires { IsCall ask }
-    ensures value { IfOk result (λ c. c ≡ spec.asked_by (view value.now) ask) }
-    ensures form { IfOk result (λ c. IfSome c (λ call. IsCall call.ask)) }
+    ensures { IfOk result (λ c. c ≡ spec.asked_by (view value.now) ask) }
 {
     let Some(actor) = short_at("actor", value) else {
         return Ok(None);
@@ -415,8 +401,7 @@ fn asked_by(alloc: Global, value: &Value, ask: Ask) -> Result<Option<Call>, OutO
 }
 
 fn call_in(alloc: Global, value: &Value) -> Result<Option<Call>, OutOfMemory>
-    ensures value { IfOk result (λ c. c ≡ spec.call_in (view value.now)) }
-    ensures form { IfOk result (λ c. IfSome c (λ call. IsCall call.ask)) }
+    ensures { IfOk result (λ c. c ≡ spec.call_in (view value.now)) }
 {
     let Some(ask) = value.get("ask") else {
         return Ok(None);
@@ -430,7 +415,6 @@ fn call_in(alloc: Global, value: &Value) -> Result<Option<Call>, OutOfMemory>
 fn line_in(alloc: Global, value: &Value) -> Result<Option<(Minute, Call)>, OutOfMemory>
     ensures line { IfOk result (λ l. l ≡ spec.line_in (view value.now)) }
     ensures range { IfOk result (λ l. IfSome l (λ p. (FIRST ≤ p.0) × (p.0 ≤ LAST))) }
-    ensures form { IfOk result (λ l. IfSome l (λ p. IsCall p.1.ask)) }
 {
     let Some(at) = moment_at("at", value) else {
         return Ok(None);
@@ -445,7 +429,7 @@ fn line_in(alloc: Global, value: &Value) -> Result<Option<(Minute, Call)>, OutOf
 fn call_of_line(alloc: Global, line: &[u8]) -> Result<Option<(Minute, Call)>, OutOfMemory>
     ensures line { IfOk result (λ l. l ≡ line_of line.now) }
     ensures range { IfOk result (λ l. IfSome l (λ p. (FIRST ≤ p.0) × (p.0 ≤ LAST))) }
-    ensures form { IfOk result (λ l. IfSome l (λ p. IsCall p.1.ask)) }
+    ensures forms { IfOk result (λ l. IfSome l (λ p. CallHasForms p.1)) }
 {
     match data_of(alloc, line)? {
         Some(value) => line_in(alloc, &value),
@@ -458,6 +442,8 @@ fn call_of_line(alloc: Global, line: &[u8]) -> Result<Option<(Minute, Call)>, Ou
 pub fn read_line(alloc: Global, line: &[u8]) -> Result<Option<(Minute, Call)>, OutOfMemory>
     ensures line { IfOk result (λ l. l ≡ line_of line.now) }
     ensures range { IfOk result (λ l. IfSome l (λ p. (FIRST ≤ p.0) × (p.0 ≤ LAST))) }
+    // Texts are UTF-8 and numbers within their limits, so that what is written of the ask is read as it.
+    ensures forms { IfOk result (λ l. IfSome l (λ p. CallHasForms p.1)) }
     ensures form { IfOk result (λ l. IfSome l (λ p. IsCall p.1.ask)) }
     // The JSON of a call is read as that call.
     ensures again { IfOk result (IsReadAgain line.now) }

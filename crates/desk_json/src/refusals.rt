@@ -57,6 +57,7 @@ fn refusal_number(refusal: &Refusal) -> u64
         Refusal::UnknownActor => 1,
         Refusal::WrongKey => 2,
         Refusal::NotYourRole => 3,
+        Refusal::NumberReused { .. } => 4,
         Refusal::BadReport { .. } => 5,
         Refusal::DayOutOfReach { .. } => 6,
         Refusal::ReportsFull { .. } => 7,
@@ -78,6 +79,8 @@ fn refusal_number(refusal: &Refusal) -> u64
         Refusal::ReleasesFull { .. } => 23,
         Refusal::HistoryFull { .. } => 24,
         Refusal::NoSuchStation => 25,
+        Refusal::Unkept { .. } => 26,
+        Refusal::NumberSwept { .. } => 27,
         Refusal::UnknownItem => 28,
         Refusal::BadFound { .. } => 29,
         Refusal::DeferralsFull { .. } => 30,
@@ -91,6 +94,7 @@ fn refusal_name(refusal: &Refusal) -> &'static str
         Refusal::UnknownActor => "UnknownActor",
         Refusal::WrongKey => "WrongKey",
         Refusal::NotYourRole => "NotYourRole",
+        Refusal::NumberReused { .. } => "NumberReused",
         Refusal::BadReport { .. } => "BadReport",
         Refusal::DayOutOfReach { .. } => "DayOutOfReach",
         Refusal::ReportsFull { .. } => "ReportsFull",
@@ -112,6 +116,8 @@ fn refusal_name(refusal: &Refusal) -> &'static str
         Refusal::ReleasesFull { .. } => "ReleasesFull",
         Refusal::HistoryFull { .. } => "HistoryFull",
         Refusal::NoSuchStation => "NoSuchStation",
+        Refusal::Unkept { .. } => "Unkept",
+        Refusal::NumberSwept { .. } => "NumberSwept",
         Refusal::UnknownItem => "UnknownItem",
         Refusal::BadFound { .. } => "BadFound",
         Refusal::DeferralsFull { .. } => "DeferralsFull",
@@ -174,12 +180,28 @@ fn with_phase(alloc: Global, members: Members, phase: Phase) -> Result<Members, 
     with_text(alloc, members, "phase", text.bytes())
 }
 
+// How many entries the history has, how many replies are kept, and how many events there were.
+fn with_counts(
+    alloc: Global,
+    members: Members,
+    entries: u64,
+    kept: u64,
+    events: u64,
+) -> Result<Members, OutOfMemory>
+    ensures { IfOk result (λ all. members_view all.entries ≡ put (codes "kept") (count kept) (put (codes "events") (count events) (put (codes "entries") (count entries) (members_view members.entries)))) }
+{
+    let members = with_count(alloc, members, "entries", entries)?;
+    let members = with_count(alloc, members, "events", events)?;
+    with_count(alloc, members, "kept", kept)
+}
+
 // Some members and those of a refusal that say more than its number and its name.
 fn with_fields(alloc: Global, refusal: &Refusal, members: Members) -> Result<Members, OutOfMemory>
     requires { RefusalHasMoment refusal.now }
     ensures { IfOk result (λ all. members_view all.entries ≡ spec.with_fields refusal.now (members_view members.entries)) }
 {
     match refusal {
+        Refusal::NumberReused { kept } => with_count(alloc, members, "kept", *kept),
         Refusal::BadReport { group, what } => {
             with_reason(alloc, members, "group", *group, why_name(*what))
         }
@@ -198,7 +220,13 @@ fn with_fields(alloc: Global, refusal: &Refusal, members: Members) -> Result<Mem
         Refusal::AlertMoved { version } => with_count(alloc, members, "version", *version),
         Refusal::TooYoung { until } => with_moment(alloc, members, "until", *until),
         Refusal::ReleasesFull { held } => with_count(alloc, members, "held", *held),
-        Refusal::HistoryFull { entries } => with_count(alloc, members, "entries", *entries),
+        Refusal::HistoryFull {
+            entries,
+            kept,
+            events,
+        } => with_counts(alloc, members, *entries, *kept, *events),
+        Refusal::Unkept { faults } => with_count(alloc, members, "faults", *faults),
+        Refusal::NumberSwept { floor } => with_count(alloc, members, "floor", *floor),
         Refusal::BadFound { moment } => with_moment(alloc, members, "now", *moment),
         Refusal::DeferralsFull { held } => with_count(alloc, members, "held", *held),
         Refusal::UnknownActor

@@ -29,7 +29,7 @@ digest_in : (o : Option (List ℕ)) → IfSome (option_and_then digest_of o) IsD
 digest_in None = tt
 digest_in (Some text) = digest_formed text
 
-digest_is : (key : List ℕ) (d : Data) → IfSome (digest_at key d) IsDigest
+pub digest_is : (key : List ℕ) (d : Data) → IfSome (digest_at key d) IsDigest
 digest_is key d = digest_in (text_at key d)
 
 report_is : (d : Data) → IfSome (report_of d) DoneHasForms

@@ -12,3 +12,5 @@ pub mod Plain
 pub mod Chains
 pub mod MomentRange
 pub mod PlanForms
+pub mod AskForms
+pub mod ValueTexts

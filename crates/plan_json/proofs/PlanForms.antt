@@ -27,7 +27,7 @@ use Rattle.plan_json.proofs.MomentRange.{minute_within}
 
 -- ---- fields
 
-number_formed : (key : List ℕ) (limit : ℕ) (d : Data) → IfSome (number_at key limit d) (λ n. n ≤ limit)
+pub number_formed : (key : List ℕ) (limit : ℕ) (d : Data) → IfSome (number_at key limit d) (λ n. n ≤ limit)
 number_formed key limit d =
     then_if (up_to limit) (option_and_then as_u64 (option_and_then as_number (get key d))) (λ n. n ≤ limit) (λ n. under (nat_le n limit) (Some n) (λ n. n ≤ limit) (leb-true n limit))
 
@@ -37,10 +37,10 @@ amount_formed key d = number_formed key 4_294_967_295 d
 pub id_formed : (key : List ℕ) (d : Data) → IfSome (id_at key d) IsId
 id_formed key d = number_formed key 1_000_000_000_000_000 d
 
-abbrev IsAirport : Station → Type 0
+abbrev pub IsAirport : Station → Type 0
 IsAirport s = is_station s ≡ true
 
-station_formed : (key : List ℕ) (d : Data) → IfSome (station_at key d) IsAirport
+pub station_formed : (key : List ℕ) (d : Data) → IfSome (station_at key d) IsAirport
 station_formed key d = then_if station_of (text_at key d) IsAirport (λ t. under (is_station t) (Some t) IsAirport (λ is. is))
 
 pub moment_formed : (key : List ℕ) (d : Data) → IfSome (moment_at key d) IsMoment

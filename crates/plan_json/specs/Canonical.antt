@@ -15,6 +15,7 @@ use Rattle.plan.specs.declared.flights.Alternate.{Alternate}
 use Rattle.plan.specs.declared.flights.TakeoffAlternate.{TakeoffAlternate}
 use Rattle.plan.specs.declared.flights.Leg.{Leg}
 use Rattle.plan.specs.declared.flights.Plan.{Plan}
+use Rattle.asks.specs.declared.call.Call.{Call}
 use Rattle.asks.specs.declared.call.Ask.{Ask}
 use Rattle.asks.specs.declared.call.Ask.TheVariants.{Admit, Defer, Clear, Draft, Prepare, Sign, Concur, Amend, Cancel, Depart, Arrive, Acknowledge, Purge, Sweep, ViewBoard, ViewAlerts, ViewRelease, ViewWeather, ViewDeferred}
 use Rattle.asks.specs.declared.reply.Done.{Done}
@@ -240,6 +241,13 @@ AskHasForms ViewAlerts = Unit {0}
 AskHasForms (ViewRelease release) = IsId release
 AskHasForms (ViewWeather station) = is_station station ≡ true
 AskHasForms (ViewDeferred tail) = IsShort tail
+
+-- a call whose fields have their forms
+pub record CallHasForms (c : Call) : Type 0 where
+  pub actor : IsShort c.actor
+  pub key : IsShort c.key
+  pub number : c.number ≤ 1_000_000_000_000
+  pub ask : AskHasForms c.ask
 
 -- what was done, with its numbers and its digest in their forms
 abbrev pub DoneHasForms : Done → Type 0
