@@ -1,4 +1,4 @@
-use Rattle.std.proofs.lemmas.Option.{IfOk-weaker}
+use Rattle.std.proofs.lemmas.Result.{IfOk-weaker}
 use Rattle.judging.proofs.Parts.{finds_the_same}
 use Rattle.judging.proofs.prospect.Prospect.findings.Goals as goal
 
