@@ -1,7 +1,6 @@
 -- The indexes of the reports that stay, and which of them are the latest by their places.
 use Rattle.std.proofs.Common.{◌≡◌, refl, sym, ap, ◌∙◌, subst, ℕ, zero, suc, ◌+◌, ◌-◌, ◌<◌, ◌≤◌, Bool, true, false, cond, ◌||◌, List, [], ◌∷◌, ◌++◌, length, take, drop, filter, get_or, Option, Some, None, arith}
 use Rattle.std.specs.Prelude.{◌==◌, nat_lt, nat_le, AllPairs, Result, Ok, Err, MatchResult, is_ok}
-use Rattle.std.specs.declared.cmp.Ordering.{Ordering}
 use Rattle.std.specs.Ordering.{nat_cmp}
 use Rattle.std.specs.Cmp.Lexicographic.{slice_cmp}
 use Rattle.std.specs.Str.{bytes_eq}
@@ -21,7 +20,6 @@ use Rattle.codes.specs.Station.{Station}
 use Rattle.facts.specs.declared.index.Places.{Places}
 use Rattle.facts.specs.declared.latest.Kind.{Kind}
 use Rattle.facts.specs.declared.latest.Kind.TheVariants as kind
-use Rattle.facts.specs.declared.report.Read.{Read}
 use Rattle.facts.specs.declared.report.Report.{Report}
 use Rattle.facts.specs.Same.{minute_of_report, station_of_report}
 use Rattle.facts.specs.Latest.{latest}
@@ -31,7 +29,6 @@ use Rattle.facts.specs.Sorted.{if_below}
 use Rattle.facts.specs.Swept.{kind_of, has_id, is_latest, is_kept, stays, swept, is_place, stands_latest, stays_at}
 use Rattle.facts.proofs.IndexLaws.{place_or, updated}
 use Rattle.facts.proofs.StationLaws.{are_stations}
-use Rattle.facts.proofs.SweepLaws.{stations_swept}
 
 -- the latest by its place
 

@@ -1,5 +1,5 @@
 -- What is left when old reports are swept away: each latest, and so each station.
-use Rattle.std.proofs.Common.{◌≡◌, refl, sym, ap, ◌∙◌, subst, ℕ, suc, ◌+◌, ◌-◌, ◌<◌, ◌≤◌, Bool, true, false, cond, ◌&&◌, ◌||◌, List, [], ◌∷◌, length, filter, Option, Some, None, IsTrue, arith}
+use Rattle.std.proofs.Common.{◌≡◌, refl, sym, ap, ◌∙◌, subst, ℕ, suc, ◌<◌, ◌≤◌, Bool, true, false, cond, ◌&&◌, ◌||◌, List, [], ◌∷◌, length, filter, Option, Some, None, arith}
 use Rattle.std.specs.Prelude.{nat_lt, is_some}
 use Rattle.std.specs.declared.cmp.Ordering.{Ordering}
 use Rattle.std.specs.declared.cmp.Ordering.TheVariants.{Less, Equal, Greater}
@@ -22,7 +22,7 @@ use Rattle.facts.specs.declared.report.Read.TheVariants as read
 use Rattle.facts.specs.declared.report.Report.{Report}
 use Rattle.facts.specs.Same.{minute_of_report, station_of_report}
 use Rattle.facts.specs.Latest.{is_kind, is_of, where_of, later, latest}
-use Rattle.facts.specs.Lines.{stations_of, AreStations}
+use Rattle.facts.specs.Lines.{stations_of}
 use Rattle.facts.specs.Reading.{IsRead}
 use Rattle.facts.specs.Reports.{AreHeld}
 use Rattle.facts.specs.Swept.{kind_of, has_id, is_latest, is_kept, stays, swept}
