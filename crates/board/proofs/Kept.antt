@@ -154,7 +154,7 @@ pub room_is : (before : Shown) (opening s : State) (room : Option Prepared) (p :
 room_is before opening s room p is has = ap (λ (b : Shown). b.room) is ∙ has
 
 tick_fits : (s : State) (to : ℕ) → IsMoment to → EffectFits s (tick to)
-tick_fits s to shown = record { moment = shown; report = tt; deferrals = tt; releases = tt }
+tick_fits s to shown = record { moment = shown; report = tt; apart = tt; deferrals = tt; releases = tt }
 
 -- a tick fits, and may be made
 pub ticked_is : (s : State) (p : Prepared) (lane to : ℕ) (effect : Effect) (j : Judged) (made : Entry)

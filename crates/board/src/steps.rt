@@ -118,7 +118,7 @@ fn kept_of(
     }
 }
 
-fn recorded(
+fn record_call(
     alloc: Global,
     content: &Content,
     lane: u32,
@@ -219,7 +219,7 @@ fn judge_call<L: Ledger>(
     ensures entered { IfOk result (λ j. j.1.entered ≡ step.entry lane (What.Asked (step.without_key call.now) reply.now)) }
     ensures reply { IfOk result (λ j. j.1.kept ≡ step.kept_of (effected effect.now (state_of content.old)) (What.Asked (step.without_key call.now) reply.now)) }
 {
-    let recorded = recorded(alloc, content, lane, call, reply, effect)?;
+    let recorded = record_call(alloc, content, lane, call, reply, effect)?;
     let judged = judge_all(alloc, content, effect, steps)?;
     Ok((judged, recorded))
 }

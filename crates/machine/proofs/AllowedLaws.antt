@@ -831,7 +831,7 @@ call_leads s t lane call reply sound kept form one two =
     (subst (λ (x : Option Reply). MayLeadTo lane call s (answer_call s lane call).state x) (sym two) (do_leads s lane call (mistaken (actor_of s.tables call.actor) call.key) sound kept form refl))
 
 tick_fits : (s : State) (to : ℕ) → IsMoment to → EffectFits s (tick to)
-tick_fits s to shown = record { moment = shown; report = tt; deferrals = tt; releases = tt }
+tick_fits s to shown = record { moment = shown; report = tt; apart = tt; deferrals = tt; releases = tt }
 
 tick_leads_by : (full : Bool) (s : State) (lane to : ℕ) → is_full s ≡ full → Sound s → IsMoment to → MayTickTo lane to s (tick_unless full s lane to).state (tick_unless full s lane to).reply
 tick_leads_by true s lane to full sound shown = inl (refl, full, refl)

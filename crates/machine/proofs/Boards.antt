@@ -232,7 +232,7 @@ event_kept t e is form = record {
 -- Ticks.
 
 tick_fits : (s : State) (to : ℕ) → IsMoment to → EffectFits s (tick to)
-tick_fits s to shown = record { moment = shown; report = tt; deferrals = tt; releases = tt }
+tick_fits s to shown = record { moment = shown; report = tt; apart = tt; deferrals = tt; releases = tt }
 
 tick_by : (full : Bool) (opening s : State) (lane to : ℕ) → is_full s ≡ full → IsBoard opening s → s.moment < to → to ≤ 68_374_079
     → IsBoard opening (tick_unless full s lane to).state

@@ -456,10 +456,10 @@ amended_fits s r plan is form may passes follows =
 -- Effects.
 
 put_fits : (s : State) (r : Release) → MayReplace s r → EffectFits s (effect.put r)
-put_fits s r may = record { moment = tt; report = tt; deferrals = tt; releases = may }
+put_fits s r may = record { moment = tt; report = tt; apart = tt; deferrals = tt; releases = may }
 
 put_afresh_fits : (s : State) (r : Release) → MayReplace s r → EffectFits s (effect.put_afresh r)
-put_afresh_fits s r may = record { moment = tt; report = tt; deferrals = tt; releases = may }
+put_afresh_fits s r may = record { moment = tt; report = tt; apart = tt; deferrals = tt; releases = may }
 
 taken_more : (b : Bool) (q : Release) (id : ℕ) (rs : List Release) → eqb q.id id ≡ b → IsTaken id rs → IsTaken id (q ∷ rs)
 taken_more true q id rs e taken = rw e refl
@@ -498,23 +498,23 @@ held_by s id f sound kept goes =
 pending_by : (s : State) (r : Release) (f : Revision → Result Decision Refusal) → IsHeld s r → ((v : Revision) → IsPending s r v → DecisionFits s (f v)) → DecisionFits s (d.pending r >>- f)
 pending_by s r f held goes = given s (d.pending r) f (some_stops _ r.pending tt) (λ v e. goes v (pending_is s r r.pending v held refl (some_given _ r.pending v e)))
 
-admit_new : (s : State) (text : List ℕ) (read : Read) → same_id s.reports text (minute_of_read read) ≡ None → DecisionFits s (d.admit_new s text read)
-admit_new s text read none = passed s (d.reports_full s) _ (if_stops (nat_le 200_000 (length s.reports)) _ tt)
-    (λ e. (tt, record { moment = tt; report = record { is_new = refl; unlike = none; few = leb-false 200_000 (length s.reports) (not_so (nat_le 200_000 (length s.reports)) _ e) }; deferrals = tt; releases = tt }))
+admit_new : (s : State) (text : List ℕ) (read : Read) → IsMoment s.moment → same_id s.reports text (minute_of_read read) ≡ None → DecisionFits s (d.admit_new s text read)
+admit_new s text read shown none = passed s (d.reports_full s) _ (if_stops (nat_le 200_000 (length s.reports)) _ tt)
+    (λ e. (tt, record { moment = tt; report = record { is_new = refl; received = shown; unlike = none; few = leb-false 200_000 (length s.reports) (not_so (nat_le 200_000 (length s.reports)) _ e) }; apart = tt; deferrals = tt; releases = tt }))
 
-admit_read : (o : Option ℕ) (s : State) (text : List ℕ) (read : Read) → same_id s.reports text (minute_of_read read) ≡ o → DecisionFits s (d.admit_read o s text read)
-admit_read (Some id) s text read same = tt
-admit_read None s text read same = admit_new s text read same
+admit_read : (o : Option ℕ) (s : State) (text : List ℕ) (read : Read) → IsMoment s.moment → same_id s.reports text (minute_of_read read) ≡ o → DecisionFits s (d.admit_read o s text read)
+admit_read (Some id) s text read shown same = tt
+admit_read None s text read shown same = admit_new s text read shown same
 
 reading_stops : (r : Result Read BadReport) (x : Refusal) → d.reading_or r ≡ Err x → RefusalHasMoment x
 reading_stops (Ok read) x e = absurd (cc)
 reading_stops (Err bad) x e = subst RefusalHasMoment (cc) (refusal_shown bad.group bad.why)
 
-admit : (s : State) (text : List ℕ) → DecisionFits s (d.decide_admit s text)
-admit s text =
+admit : (s : State) (text : List ℕ) → InBounds s → DecisionFits s (d.decide_admit s text)
+admit s text kept =
     given s (d.reading_or (read_of text s.moment)) _ (reading_stops (read_of text s.moment))
     (λ read e. passed s (d.no_airport s (station_of_read read)) _ (if_stops _ _ tt)
-    (λ f. admit_read (same_id s.reports (canonical (groups_of text)) (minute_of_read read)) s (canonical (groups_of text)) read refl))
+    (λ f. admit_read (same_id s.reports (canonical (groups_of text)) (minute_of_read read)) s (canonical (groups_of text)) read kept.moment refl))
 
 defer : (s : State) (tail item : List ℕ) (found : ℕ) → InBounds s → IsMoment found → DecisionFits s (d.decide_defer s tail item found)
 defer s tail item found kept shown =
@@ -522,10 +522,10 @@ defer s tail item found kept shown =
     (λ kind e. passed s (d.unlisted s kind item) _ (if_stops _ _ tt)
     (λ f. passed s (d.found_later s found) _ (if_stops _ _ kept.moment)
     (λ g. passed s (d.deferrals_full s) _ (if_stops _ _ tt)
-    (λ h. (tt, record { moment = tt; report = tt; deferrals = record { is_new = refl; found = shown; few = leb-false 50_000 (length s.deferrals) (not_so (nat_le 50_000 (length s.deferrals)) _ h) }; releases = tt })))))
+    (λ h. (tt, record { moment = tt; report = tt; apart = tt; deferrals = record { is_new = refl; found = shown; few = leb-false 50_000 (length s.deferrals) (not_so (nat_le 50_000 (length s.deferrals)) _ h) }; releases = tt })))))
 
 clear : (s : State) (id : ℕ) → DecisionFits s (d.decide_clear s id)
-clear s id = passed s (d.not_open s id) _ (if_stops _ _ tt) (λ e. (tt, record { moment = tt; report = tt; deferrals = tt; releases = tt }))
+clear s id = passed s (d.not_open s id) _ (if_stops _ _ tt) (λ e. (tt, record { moment = tt; report = tt; apart = tt; deferrals = tt; releases = tt }))
 
 deferred : (s : State) (tail : List ℕ) → DecisionFits s (d.decide_deferred s tail)
 deferred s tail = given s (d.aircraft s tail) _ (some_stops _ (type_of s.tables tail) tt) (λ kind e. tt)
@@ -556,6 +556,7 @@ draft s actor plan form = passed s (d.bad_plan (plan_fault s.tables plan)) _ (pl
       record {
         moment = tt;
         report = tt;
+        apart = tt;
         deferrals = tt;
         releases = drafted_fits s actor plan form (no_plan_fault (plan_fault s.tables plan) e) (leb-false 20_000 (length s.releases) (not_so (nat_le 20_000 (length s.releases)) _ f));
       },
@@ -625,7 +626,7 @@ acknowledge : (s : State) (actor : List ℕ) (id version : ℕ) → Sound s → 
 acknowledge s actor id version sound kept =
     held_by s id _ sound kept (λ r held. given s (d.alert_of s r.id) _ (some_stops _ (alert_at r.id s.alerts) tt)
     (λ a e. passed s (d.not_yours r.holder actor) _ (if_stops _ _ tt) (λ own. passed s (d.moved a version) _ (if_stops _ _ tt)
-    (λ f. (tt, record { moment = tt; report = tt; deferrals = tt; releases = tt })))))
+    (λ f. (tt, record { moment = tt; report = tt; apart = tt; deferrals = tt; releases = tt })))))
 
 -- a release that ended has no alert
 
@@ -654,6 +655,7 @@ removed_fits : (s : State) (id : ℕ) (r : Release) (at : ℕ) → Sound s → r
 removed_fits s id r at sound is ended = record {
   moment = tt;
   report = tt;
+  apart = tt;
   deferrals = tt;
   releases = none_matches (alert_at r.id s.alerts) (failing_of (grounds_of s) r) (ended_alone (grounds_of s) r.phase r.active at ended) (found_alerted s id r sound is).0;
 }
@@ -694,7 +696,7 @@ sweep_shown before is = let low = is.0 in let high = is.1 in (omega (arith, low)
 
 sweep : (s : State) (before : ℕ) → IsMoment before → DecisionFits s (d.decide_sweep s before)
 sweep s before is =
-    passed s (d.too_young s (before + 4320)) _ (if_stops _ _ (sweep_shown before is)) (λ e. (tt, record { moment = tt; report = tt; deferrals = tt; releases = tt }))
+    passed s (d.too_young s (before + 4320)) _ (if_stops _ _ (sweep_shown before is)) (λ e. (tt, record { moment = tt; report = tt; apart = tt; deferrals = tt; releases = tt }))
 
 view_release : (s : State) (id : ℕ) → Sound s → InBounds s → DecisionFits s (d.decide_release s id)
 view_release s id sound kept = held_by s id _ sound kept (λ r held. tt)
@@ -703,7 +705,7 @@ view_weather : (s : State) (station : Station) → DecisionFits s (d.decide_weat
 view_weather s station = passed s (d.no_airport s station) _ (if_stops _ _ tt) (λ e. tt)
 
 ask_fits : (s : State) (actor : List ℕ) (a : Ask) → Sound s → InBounds s → IsCall a → DecisionFits s (d.decide_ask s actor a)
-ask_fits s actor (ask.Admit text) sound kept is = admit s text
+ask_fits s actor (ask.Admit text) sound kept is = admit s text kept
 ask_fits s actor (ask.Defer tail item found) sound kept is = defer s tail item found kept is
 ask_fits s actor (ask.Clear deferral) sound kept is = clear s deferral
 ask_fits s actor (ask.Draft plan) sound kept is = draft s actor plan is

@@ -243,7 +243,7 @@ call_told s t lane call notices sound kept form one two =
 tick_told_by : (full : Bool) (s : State) (lane to : ℕ) → IsMoment to → Sound s → AreDifferences takes_none s (tick_unless full s lane to).state (tick_unless full s lane to).notices
 tick_told_by true s lane to shown sound = nothing_told takes_none s
 tick_told_by false s lane to shown sound =
-    told_event takes_none (tick to) (entry lane (what.Tick to)) s (notices_of (alert_changes (tick to) s)) (effect_told (tick to) s takes_none (record { moment = shown; report = tt; deferrals = tt; releases = tt }) sound (λ id. refl))
+    told_event takes_none (tick to) (entry lane (what.Tick to)) s (notices_of (alert_changes (tick to) s)) (effect_told (tick to) s takes_none (record { moment = shown; report = tt; apart = tt; deferrals = tt; releases = tt }) sound (λ id. refl))
 
 -- what is told of a tick
 pub tick_told : (s t : State) (lane to : ℕ) (notices : List Notice) → Sound s → IsMoment to → t ≡ (tick_to s lane to).state → notices ≡ (tick_to s lane to).notices → AreDifferences takes_none s t notices

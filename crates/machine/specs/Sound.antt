@@ -24,6 +24,7 @@ use Rattle.deferrals.specs.Held.{AreRising}
 use Rattle.rules.specs.Grounds.{Grounds}
 use Rattle.machine.specs.declared.counters.Counters.{Counters}
 use Rattle.machine.specs.declared.effect.Effect.{Effect}
+use Rattle.machine.specs.declared.effect.Sweep.{Sweep}
 use Rattle.machine.specs.declared.effect.OnDeferrals.{OnDeferrals}
 use Rattle.machine.specs.declared.effect.OnDeferrals.TheVariants as on_deferrals
 use Rattle.machine.specs.declared.effect.OnReleases.{OnReleases}
@@ -232,6 +233,7 @@ pub record MayOpen (s : State) (d : Deferral) : Type 0 where
 -- a new report, which is the same as no other, where fewer than 200,000 are held
 pub record IsNext (s : State) (report : Report) : Type 0 where
   pub is_new : report.id ≡ s.counters.next_report
+  pub received : IsMoment report.received
   pub unlike : same_id s.reports report.text (minute_of_report report) ≡ None
   pub few : length s.reports < 200_000
 
@@ -248,10 +250,17 @@ ReleasesFit s (on_releases.File r) = IsNew (s.counters.events + 1) s.counters.ne
 ReleasesFit s (on_releases.Put r) = MayReplace s r
 ReleasesFit s (on_releases.Remove id) = alert_at id s.alerts ≡ None
 
+-- no report is admitted where others are swept away
+abbrev pub AreApart : Option Report → Option Sweep → Type 0
+AreApart None sweep = Unit {0}
+AreApart (Some r) None = Unit {0}
+AreApart (Some r) (Some w) = ⊥
+
 -- an effect that keeps what holds of the desk
 pub record EffectFits (s : State) (e : Effect) : Type 0 where
   pub moment : IfSome e.moment IsMoment
   pub report : IfSome e.report (IsNext s)
+  pub apart : AreApart e.report e.sweep
   pub deferrals : DeferralsFit s e.on_deferrals
   pub releases : ReleasesFit s e.on_releases
 
