@@ -3,4 +3,3 @@
 
 mod changes;
 
-pub use changes::event_changes;

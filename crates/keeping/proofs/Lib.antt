@@ -1,0 +1,6 @@
+pub mod Parts
+pub mod Items
+pub mod ReleaseRows
+pub mod AlertRows
+pub mod KindLaws
+pub mod Leading
