@@ -146,7 +146,7 @@ module _ {A : Type 0} (r : A → Row) (n : ℕ) (kinds : (x : A) → (r x).kind 
       ap (λ (b : Bool). option_map (λ (row : Row). row.body) (cond (b && eqb (r x).key q) (Some (r x)) (find (is_row n q) (map r xs)))) (eq-eqb (r x).kind n (kinds x))
       ∙ seen (eqb (r x).key q) x (find (is_row n q) (map r xs)) (found_at key_in body_in q xs) (seen_at xs q)
 
-  one_kind : (xs : List A) → AllByRecursion (IsIn n (n + 1)) (map r xs)
+  pub one_kind : (xs : List A) → AllByRecursion (IsIn n (n + 1)) (map r xs)
   one_kind [] = tt
   one_kind (x ∷ xs) = ((let e = kinds x in omega (arith, e), let e = kinds x in omega (arith, e)), one_kind xs)
 

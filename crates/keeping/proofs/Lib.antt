@@ -4,3 +4,4 @@ pub mod ReleaseRows
 pub mod AlertRows
 pub mod KindLaws
 pub mod Leading
+pub mod Rising
