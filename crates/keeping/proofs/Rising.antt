@@ -65,8 +65,8 @@ both a b c low high xs ys one two = record {
 }
 
 kind_ordered : {A : Type 0} (r : A → Row) (n : ℕ) → ((x : A) → (r x).kind ≡ n) → (xs : List A) → Ascends (λ x. (r x).key) xs → AreOrdered (map r xs)
-kind_ordered r n kinds [] rising = tt
-kind_ordered r n kinds (x ∷ xs) rising = (after xs rising.0, kind_ordered r n kinds xs rising.1)
+kind_ordered {A = A} r n kinds [] rising = tt
+kind_ordered {A = A} r n kinds (x ∷ xs) rising = (after xs rising.0, kind_ordered r n kinds xs rising.1)
   where
     after : (ys : List A) → AllByRecursion (λ y. (r x).key < (r y).key) ys → AllByRecursion (Precedes (r x)) (map r ys)
     after [] all = tt
