@@ -48,11 +48,13 @@ above_put low id o held less is = over held
     front : (p : Option Alert) → IfSome p (IsOf id) → (rest : List Alert) → AllByRecursion (λ a. low < a.release) rest → AllByRecursion (λ a. low < a.release) (cons_option p rest)
     front None own rest all = all
     front (Some a) own rest all = (omega (arith, own, less), all)
+
     by : (u v : Bool) (a : Alert) (rest more : List Alert) → low < a.release → AllByRecursion (λ b. low < b.release) rest → AllByRecursion (λ b. low < b.release) more
         → AllByRecursion (λ b. low < b.release) (cond u (cons_option o rest) (cond v (cons_option o (a ∷ rest)) (a ∷ more)))
     by true v a rest more here all later = front o is rest all
     by false true a rest more here all later = front o is (a ∷ rest) (here, all)
     by false false a rest more here all later = (here, later)
+
     over : (all_held : List Alert) → AllByRecursion (λ a. low < a.release) all_held → AllByRecursion (λ a. low < a.release) (put_alert id o all_held)
     over [] all = front o is [] tt
     over (a ∷ rest) all = by _ _ a rest (put_alert id o rest) all.0 all.1 (over rest all.1)

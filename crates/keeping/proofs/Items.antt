@@ -47,9 +47,10 @@ Ascends key (x ∷ xs) = AllByRecursion (λ y. key x < key y) xs × Ascends key 
 
 pub ascends_from : {A : Type 0} (key : A → ℕ) (xs : List A) → AllPairs (λ a b. key a < key b) xs → Ascends key xs
 ascends_from key [] pairs = tt
-ascends_from key (x ∷ xs) pairs =
-    (recursion_from_All (λ y. key x < key y) xs (λ i d within. pairs 0 (suc i) d (omega arith) (omega (arith, within))),
-    ascends_from key xs (λ i j d less within. pairs (suc i) (suc j) d (omega (arith, less)) (omega (arith, within))))
+ascends_from key (x ∷ xs) pairs = (
+  recursion_from_All (λ y. key x < key y) xs (λ i d within. pairs 0 (suc i) d (omega arith) (omega (arith, within))),
+  ascends_from key xs (λ i j d less within. pairs (suc i) (suc j) d (omega (arith, less)) (omega (arith, within))),
+)
 
 -- the body of the item of a number
 abbrev pub found_at : {A : Type 0} → (A → ℕ) → (A → Body) → ℕ → List A → Option Body
@@ -113,8 +114,10 @@ module _ {A : Type 0} (key : A → ℕ) (body : A → Body) where
     where
       gone : List A
       gone = filter (λ x. not (p x)) xs
+
       over : (r : A → Bool) → AllByRecursion (λ y. key x < key y) (filter r xs)
       over r = filter_each (λ y. key x < key y) r xs rising.0
+
       by : (u t : Bool) → eqb (key x) q ≡ t
           → cond (list_any (is_of q) (filter (λ x. not (p x)) xs)) None (found_at key body q xs) ≡ found_at key body q (filter p xs)
           → cond (list_any (is_of q) (cond (not u) (x ∷ filter (λ x. not (p x)) xs) (filter (λ x. not (p x)) xs))) None (cond t (Some (body x)) (found_at key body q xs))

@@ -5,3 +5,5 @@ pub mod AlertRows
 pub mod KindLaws
 pub mod Leading
 pub mod Rising
+pub mod Pushed
+pub mod ShownLaws

@@ -66,6 +66,7 @@ module _ (body : Release → Body) where
       none_left : (s : Bool) → eqb id q ≡ s → eqb x.id q ≡ s → cond s None (cond s (Some (body x)) (found_at id_of body q rs)) ≡ found_at id_of body q rs
       none_left true e same = sym (absent id_of body q rs (none_later id_of body q x.id rs same rising.0))
       none_left false e same = refl
+
       by : (u : Bool) → eqb x.id id ≡ u → cond (eqb id q) None (found_at id_of body q rs) ≡ found_at id_of body q (without_release id rs)
           → cond (eqb id q) None (cond (eqb x.id q) (Some (body x)) (found_at id_of body q rs)) ≡ found_at id_of body q (cond u rs (x ∷ without_release id rs))
       by true e rest =

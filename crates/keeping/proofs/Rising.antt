@@ -51,10 +51,11 @@ record AreIn (low high : ℕ) (rows : List Row) : Type 0 where
 
 ordered_append : (a b c : ℕ) (xs ys : List Row) → AllByRecursion (IsIn a b) xs → AreOrdered xs → AllByRecursion (IsIn b c) ys → AreOrdered ys → AreOrdered (xs ++ ys)
 ordered_append a b c [] ys here first there later = later
-ordered_append a b c (x ∷ xs) ys here first there later =
-    (all_append (Precedes x) xs ys first.0
-    (all_weaker (IsIn b c) (Precedes x) (λ y is. let one = here.0.1 in let two = is.0 in by_kind x.kind x.key y.kind y.key (omega (arith, one, two))) ys there),
-    ordered_append a b c xs ys here.1 first.1 there later)
+ordered_append a b c (x ∷ xs) ys here first there later = (
+  all_append (Precedes x) xs ys first.0
+      (all_weaker (IsIn b c) (Precedes x) (λ y is. let one = here.0.1 in let two = is.0 in by_kind x.kind x.key y.kind y.key (omega (arith, one, two))) ys there),
+  ordered_append a b c xs ys here.1 first.1 there later,
+)
 
 both : (a b c : ℕ) → a ≤ b → b ≤ c → (xs ys : List Row) → AreIn a b xs → AreIn b c ys → AreIn a c (xs ++ ys)
 both a b c low high xs ys one two = record {
