@@ -1,6 +1,7 @@
 ghost use Rattle.std.specs.Prelude.{◌≡◌, ◌++◌, ◌∷◌, All, IfOk, OnOk, map};
 ghost use Rattle.std.specs.Option.{option_copied};
 ghost use Rattle.desk_io.specs.declared.rows.Change.TheVariants as change;
+ghost use Rattle.facts.specs.Swept.{leaving};
 ghost use Rattle.machine.specs.Contents.{state_of};
 ghost use Rattle.machine.specs.Events.{effected, alert_changes, moment_after};
 ghost use Rattle.machine.specs.Requests.{kept_before};
@@ -60,7 +61,18 @@ fn push_report(
     Ok(())
 }
 
-#[tactic(auto, using(crate::proofs::Pushed::removed_ids))]
+fn push_leaving(
+    alloc: Global,
+    changes: &mut Vec<Change>,
+    sweep: &Sweep,
+    reports: &Reports,
+) -> Result<(), OutOfMemory>
+    ensures { OnOk result (changes.new.items ≡ changes.old.items ++ map (λ r. change.Remove 1 r.id) (leaving sweep.now.before sweep.now.attached reports.now.reports)) }
+{
+    let ids = reports.leaving(alloc, sweep.before, sweep.attached.as_slice())?;
+    push_removals(changes, REPORT, ids.as_slice())
+}
+
 fn push_swept_reports(
     alloc: Global,
     changes: &mut Vec<Change>,
@@ -69,11 +81,10 @@ fn push_swept_reports(
 ) -> Result<(), OutOfMemory>
     ensures { OnOk result (changes.new.items ≡ changes.old.items ++ spec.swept_reports sweep.now reports.now.reports) }
 {
-    if let Some(sweep) = sweep {
-        let ids = reports.leaving(alloc, sweep.before, sweep.attached.as_slice())?;
-        push_removals(changes, REPORT, ids.as_slice())?;
+    match sweep {
+        Some(sweep) => push_leaving(alloc, changes, sweep, reports),
+        None => Ok(()),
     }
-    Ok(())
 }
 
 #[tactic(auto, using(crate::proofs::Pushed::reports_pushed))]
@@ -282,7 +293,7 @@ fn shown_changes(
 }
 
 /// What an event changes of the rows, before it is put in place.
-#[tactic(auto, unfolding(crate::specs::Changes::event_changes), using(crate::proofs::ShownLaws::are_shown))]
+#[tactic(auto, unfolding(crate::specs::Changes::event_changes))]
 pub fn event_changes(
     alloc: Global,
     content: &Content,
