@@ -1,13 +1,11 @@
 -- Alerts under their releases, through the changes of an event.
-use Rattle.std.proofs.Common.{◌≡◌, ℕ, ◌+◌, ◌<◌, ◌≤◌, Bool, true, false, ◌&&◌, cond, eqb, ltb, lit≤, lit<, List, [], ◌∷◌, ◌++◌, Option, None, Some, IfSome, refl, ap, sym, ◌∙◌, subst, arith}
-use Rattle.std.specs.Prelude.{map}
+use Rattle.std.proofs.Common.{◌≡◌, ℕ, ◌+◌, ◌<◌, Bool, true, false, cond, eqb, ltb, lit≤, lit<, List, [], ◌∷◌, Option, None, Some, IfSome, refl, ap, sym, ◌∙◌, subst, arith}
 use Rattle.std.specs.Option.{option_map}
 use Rattle.std.specs.List.{AllByRecursion, filter_map, cons_option}
-use Rattle.std.proofs.lemmas.Bool.{eqb-true, ltb-true, ltb-false}
+use Rattle.std.proofs.lemmas.Bool.{eqb-true, ltb-true}
 use Rattle.std.proofs.lemmas.Bool.Decides.{nat_tests}
 use Rattle.plan.specs.declared.release.Release.{Release}
 use Rattle.alerts.specs.declared.alert.Alert.{Alert}
-use Rattle.desk_io.specs.declared.rows.Change.{Change}
 use Rattle.machine.specs.declared.change.AlertChange.{AlertChange}
 use Rattle.machine.specs.declared.effect.Effect.{Effect}
 use Rattle.machine.specs.Events.{effected, is_same_alert, change_between, changes_from, changes_over, alert_changes, put_alert, put_changes}

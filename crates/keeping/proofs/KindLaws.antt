@@ -1,16 +1,13 @@
 -- The changes of each kind of rows lead from the rows before an event to those after it.
-use Rattle.std.proofs.Common.{◌≡◌, ℕ, ◌+◌, ◌<◌, ◌≤◌, Bool, true, false, ◌&&◌, not, cond, eqb, lit≤, lit<, List, [], ◌∷◌, ◌++◌, append-nil, Option, None, Some, IfSome, refl, ap, sym, ◌∙◌, subst, arith}
+use Rattle.std.proofs.Common.{◌≡◌, ℕ, ◌+◌, ◌<◌, not, eqb, lit≤, lit<, List, [], ◌∷◌, ◌++◌, append-nil, Option, None, Some, IfSome, refl, ap, sym, ◌∙◌, arith}
 use Rattle.std.specs.Prelude.{map, filter, option_to_list}
-use Rattle.std.specs.List.{AllByRecursion, AllPairs}
-use Rattle.asks.specs.declared.call.Call.{Call}
+use Rattle.std.specs.List.{AllByRecursion}
 use Rattle.asks.specs.declared.kept.KeptReply.{KeptReply}
-use Rattle.asks.specs.declared.reply.Reply.{Reply}
 use Rattle.asks.specs.declared.reply.Reply.TheVariants.{Done, Seen, Refused}
 use Rattle.alerts.specs.declared.alert.Alert.{Alert as AlertOf}
 use Rattle.deferrals.specs.declared.items.Deferral.{Deferral as DeferralOf}
 use Rattle.desk_io.specs.declared.rows.Row.{Row}
-use Rattle.desk_io.specs.declared.rows.Change.{Change}
-use Rattle.desk_io.specs.declared.rows.Change.TheVariants.{Put as PutRow, Remove}
+use Rattle.desk_io.specs.declared.rows.Change.TheVariants.{Remove}
 use Rattle.facts.specs.Swept.{stays, swept, leaving}
 use Rattle.facts.specs.declared.report.Report.{Report as ReportOf}
 use Rattle.plan.specs.declared.release.Release.{Release as ReleaseOf}
@@ -27,7 +24,7 @@ use Rattle.machine.specs.Requests.{kept_before}
 use Rattle.machine.specs.Sound.{Sound, InBounds, EffectFits, IsNext, IsNumbered, IsOpen, IsReplied, DeferralsFit, ReleasesFit}
 use Rattle.machine.specs.State.{State, judged_all}
 use Rattle.machine.specs.Step.{kept_of}
-use Rattle.machine.proofs.Parts.{reports_rise, kept_each, kept_rise}
+use Rattle.machine.proofs.Parts.{reports_rise, kept_each}
 use Rattle.machine.proofs.Changes.{changes_lead}
 use Rattle.records.specs.Bodies.{row_of}
 use Rattle.records.specs.declared.record.Meta.{Meta as Counters}

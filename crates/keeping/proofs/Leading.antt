@@ -1,24 +1,23 @@
 -- The changes of an event lead from the rows of the state before it to those of the state after it.
-use Rattle.std.proofs.Common.{◌≡◌, ℕ, ◌+◌, ◌<◌, ◌≤◌, Bool, true, false, ◌&&◌, ◌⊎◌, inl, inr, cond, eqb, lit≤, lit<, List, [], ◌∷◌, ◌++◌, Option, None, Some, IfSome, refl, ap, sym, ◌∙◌, subst, arith}
-use Rattle.std.specs.Prelude.{map, option_to_list}
+use Rattle.std.proofs.Common.{◌≡◌, ℕ, Bool, true, false, ◌&&◌, inl, inr, cond, eqb, lit≤, List, [], ◌∷◌, ◌++◌, Option, None, Some, refl, ap, sym, ◌∙◌}
+use Rattle.std.specs.Prelude.{map}
 use Rattle.std.specs.Option.{option_map}
 use Rattle.std.proofs.lemmas.List.{map-append}
 use Rattle.desk_io.specs.declared.rows.Row.{Row}
-use Rattle.desk_io.specs.declared.rows.Change.{Change}
 use Rattle.desk_io.specs.Rows.{Rows, no_rows, is_row, rows_of, changed_by}
 use Rattle.keeper.specs.Kept.{AreSame}
 use Rattle.machine.specs.declared.effect.Effect.{Effect}
 use Rattle.machine.specs.declared.entry.Entry.{Entry}
-use Rattle.machine.specs.Events.{effected, kept_after, alert_changes}
+use Rattle.machine.specs.Events.{effected, alert_changes}
 use Rattle.machine.specs.Sound.{Sound, InBounds, EffectFits}
-use Rattle.machine.specs.State.{State, start, judged_all}
+use Rattle.machine.specs.State.{State, start}
 use Rattle.machine.specs.Step.{entered, kept_of}
 use Rattle.records.specs.Bodies.{row_of}
 use Rattle.records.specs.declared.record.Meta.{Meta as Counters}
 use Rattle.records.specs.declared.record.Record.{Record}
 use Rattle.records.specs.declared.record.Record.TheVariants.{Meta, Report, Deferral, Release, Kept, Alert}
 use Rattle.keeping.specs.Rows.{meta_of, report_kept, alert_kept, records_of, state_rows, AreKept}
-use Rattle.keeping.specs.Changes.{put, on_reports, deferral_changes, release_changes, on_replies, alert_rows, part_changes, event_changes}
+use Rattle.keeping.specs.Changes.{put, part_changes, event_changes}
 use Rattle.keeping.proofs.Parts.{Body, becomes, becomes_is, Leads, joined}
 use Rattle.keeping.proofs.KindLaws.{meta_row, report_row, deferral_row, release_row, kept_row, alert_row, meta_leads, reports_lead, deferrals_lead, releases_lead, replies_lead, alerts_lead}
 

@@ -1,5 +1,5 @@
 -- Rows and changes of them, kind by kind.
-use Rattle.std.proofs.Common.{◌≡◌, ℕ, ◌+◌, ◌<◌, ◌≤◌, Bool, true, false, ◌&&◌, cond, eqb, ltb, List, [], ◌∷◌, ◌++◌, Option, None, Some, refl, ap, sym, ◌∙◌, subst, arith}
+use Rattle.std.proofs.Common.{◌≡◌, ℕ, ◌<◌, ◌≤◌, Bool, true, false, ◌&&◌, cond, eqb, ltb, List, [], ◌∷◌, ◌++◌, Option, None, Some, refl, ap, sym, ◌∙◌, arith}
 use Rattle.std.specs.Prelude.{find}
 use Rattle.std.specs.Option.{option_map}
 use Rattle.std.specs.List.{AllByRecursion}
@@ -8,7 +8,6 @@ use Rattle.desk_io.specs.declared.rows.Row.{Row}
 use Rattle.desk_io.specs.declared.rows.Change.{Change}
 use Rattle.desk_io.specs.declared.rows.Change.TheVariants.{Put, Remove}
 use Rattle.desk_io.specs.Rows.{Rows, is_row, rows_of, changed, changed_by}
-use Rattle.keeper.specs.Kept.{AreSame}
 
 abbrev pub Body : Type 0
 Body = List ℕ

@@ -1,12 +1,12 @@
 -- The rows of a state are in order, and so they are that state's list where they are loaded.
-use Rattle.std.proofs.Common.{◌≡◌, ℕ, ◌+◌, ◌<◌, ◌≤◌, Bool, true, false, ◌&&◌, cond, eqb, lit≤, lit<, List, [], ◌∷◌, ◌++◌, Option, None, Some, IfSome, refl, ap, sym, ◌∙◌, subst, arith}
+use Rattle.std.proofs.Common.{◌≡◌, ℕ, ◌+◌, ◌<◌, ◌≤◌, Bool, true, false, cond, eqb, lit≤, List, [], ◌∷◌, ◌++◌, Option, None, Some, IfSome, refl, ap, sym, ◌∙◌, arith}
 use Rattle.std.specs.Prelude.{map, find}
 use Rattle.std.specs.Option.{option_map}
 use Rattle.std.specs.List.{AllByRecursion}
 use Rattle.std.proofs.lemmas.Bool.{and_parts, and_from, eqb-true}
 use Rattle.std.proofs.lemmas.Bool.Decides.{nat_tests}
 use Rattle.desk_io.specs.declared.rows.Row.{Row}
-use Rattle.desk_io.specs.Rows.{Rows, is_row, rows_of}
+use Rattle.desk_io.specs.Rows.{is_row, rows_of}
 use Rattle.keeper.specs.Kept.{AreSame}
 use Rattle.keeper.specs.Order.{comes_before, is_below, rises_from, rising}
 use Rattle.keeper.proofs.SortLaws.{rising_same}
@@ -15,7 +15,7 @@ use Rattle.machine.specs.State.{State}
 use Rattle.records.specs.Bodies.{row_of}
 use Rattle.keeping.specs.Rows.{meta_of, state_rows}
 use Rattle.keeping.proofs.Parts.{IsIn, all_append, all_weaker}
-use Rattle.keeping.proofs.Items.{Ascends, ascends_from, key_in, one_kind}
+use Rattle.keeping.proofs.Items.{Ascends, ascends_from, one_kind}
 use Rattle.keeping.proofs.ReleaseRows.{rise_ascends}
 use Rattle.keeping.proofs.AlertRows.{alerts_ascend}
 use Rattle.keeping.proofs.KindLaws.{meta_row, report_row, deferral_row, release_row, kept_row, alert_row}

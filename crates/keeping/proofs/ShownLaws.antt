@@ -1,5 +1,5 @@
 -- What an event changes can be put into rows.
-use Rattle.std.proofs.Common.{◌≡◌, ℕ, ◌+◌, ◌<◌, ◌≤◌, Bool, true, false, cond, List, [], ◌∷◌, ◌++◌, Option, None, Some, IfSome, All, refl, ap, sym, ◌∙◌, subst, arith}
+use Rattle.std.proofs.Common.{◌≡◌, ℕ, Bool, true, false, cond, List, [], ◌∷◌, Option, None, Some, IfSome, All, sym, subst, arith}
 use Rattle.std.specs.Prelude.{◌==◌}
 use Rattle.std.specs.List.{AllByRecursion}
 use Rattle.std.proofs.lemmas.List.Elements.{All-from_recursion}
@@ -21,7 +21,7 @@ use Rattle.machine.specs.declared.effect.OnReleases.{OnReleases}
 use Rattle.machine.specs.declared.effect.OnReleases.TheVariants as on_releases
 use Rattle.machine.specs.declared.entry.What.{What}
 use Rattle.machine.specs.declared.entry.What.TheVariants as what
-use Rattle.machine.specs.Events.{effected, moment_after, is_same_alert, change_between, changes_from, changes_over, alert_changes}
+use Rattle.machine.specs.Events.{effected, is_same_alert, change_between, changes_from, changes_over, alert_changes}
 use Rattle.machine.specs.Sound.{Sound, InBounds, EffectFits, IsNext, DeferralsFit, ReleasesFit, ReleaseInBounds, RevisionInBounds}
 use Rattle.machine.specs.State.{State, grounds_of, failing_of, alert_at, alert_for, judged}
 use Rattle.machine.specs.Step.{kept_of}
