@@ -7,3 +7,4 @@ pub mod Leading
 pub mod Rising
 pub mod Pushed
 pub mod ShownLaws
+pub mod Decided

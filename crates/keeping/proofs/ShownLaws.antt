@@ -28,7 +28,7 @@ use Rattle.machine.specs.Step.{kept_of}
 use Rattle.machine.proofs.Each.{each_weaker, found_each}
 use Rattle.machine.proofs.Judging.{alerts_have}
 use Rattle.machine.proofs.Parts.{moment_shown}
-use Rattle.keeping.specs.Shown.{IsSmallReport, IsSmallDeferral, IsSmallRelease, AreSmall, AreApart, WasReceived, WasFound, IsShownRelease, WasAccepted, WasOpened, AreShown}
+use Rattle.keeping.specs.Shown.{IsSmallReport, IsSmallDeferral, IsSmallRelease, AreSmall, MayBeKept, WasFound, IsShownRelease, WasAccepted, WasOpened, AreShown}
 use Rattle.keeping.proofs.Parts.{all_append}
 
 -- Numbers.
@@ -125,14 +125,14 @@ opened_after : (s : State) (effect : Effect) → Sound s → AllByRecursion Open
 opened_after s effect sound = alerts_have Opened (λ a is. is) effect.on_alerts s.alerts (each_weaker (IsAlert s.counters.events) Opened (λ a is. is.moment) s.alerts sound.alerts)
 
 pub are_shown : (s : State) (effect : Effect) (w : What) (kept : Option KeptReply) (alerts : List AlertChange) → Sound s → InBounds s → EffectFits s effect
-    → WasReceived effect.report → AreApart effect.report effect.sweep → kept ≡ kept_of (effected effect s) w → alerts ≡ alert_changes effect s → AreShown s effect kept alerts
-are_shown s effect w kept alerts sound bounds fits received apart same changed =
+    → MayBeKept effect → kept ≡ kept_of (effected effect s) w → alerts ≡ alert_changes effect s → AreShown s effect kept alerts
+are_shown s effect w kept alerts sound bounds fits may same changed =
     let shown = moment_shown effect.moment s.moment fits.moment bounds.moment in
     record {
       moment = shown;
       small = are_small s effect fits bounds;
-      received = received;
-      apart = apart;
+      received = may.received;
+      apart = may.apart;
       found = was_found s effect.on_deferrals fits.deferrals;
       release = shown_release s effect.on_releases fits.releases;
       accepted = subst WasAccepted (sym same) (was_accepted (effected effect s) w shown);

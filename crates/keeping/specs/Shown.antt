@@ -59,6 +59,11 @@ WasAccepted kept = IfSome kept (λ k. IsMoment k.at)
 abbrev pub WasOpened : Option Alert → Type 0
 WasOpened alert = IfSome alert (λ a. IsMoment a.opened)
 
+-- a report that comes was received at a moment that can be shown, and no sweep comes with it
+pub record MayBeKept (effect : Effect) : Type 0 where
+  pub received : WasReceived effect.report
+  pub apart : AreApart effect.report effect.sweep
+
 -- numbers after which there are others
 pub record AreSmall (s : State) (effect : Effect) : Type 0 where
   pub events : IsSmall s.counters.events

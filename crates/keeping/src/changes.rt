@@ -12,7 +12,7 @@ ghost use Rattle.plan.specs.Texts.{IsMoment};
 ghost use Rattle.release_json.specs.Rows.{ReleaseHasMoments};
 ghost use Rattle.keeping.specs.Changes as spec;
 ghost use Rattle.keeping.specs.Rows.{meta_of};
-ghost use Rattle.keeping.specs.Shown.{AreSmall, AreApart, WasReceived, WasFound, IsShownRelease, WasAccepted, WasOpened, AreShown};
+ghost use Rattle.keeping.specs.Shown.{AreSmall, AreApart, WasReceived, WasFound, IsShownRelease, WasAccepted, WasOpened, MayBeKept, AreShown};
 
 use crate::held::{alert_kept, put, report_kept};
 use crate::meta::meta_after;
@@ -305,8 +305,7 @@ pub fn event_changes(
     requires sound { Sound (state_of content.now) }
     requires bounds { InBounds (state_of content.now) }
     requires fits { EffectFits (state_of content.now) effect.now }
-    requires received { WasReceived effect.now.report }
-    requires apart { AreApart effect.now.report effect.now.sweep }
+    requires may { MayBeKept effect.now }
     requires kept { option_copied kept ≡ kept_of (effected effect.now (state_of content.now)) entered.now.what }
     requires alerts { alerts.now ≡ alert_changes effect.now (state_of content.now) }
     ensures { IfOk result (λ changes. changes.items ≡ spec.event_changes (state_of content.now) effect.now entered.now) }
