@@ -13,11 +13,12 @@ use Rattle.machine.specs.Sound.{Sound, Rise}
 use Rattle.machine.specs.State.{State, alert_at, judged}
 use Rattle.machine.proofs.Judging.{IsOf, Of, found_of, judged_is}
 use Rattle.machine.proofs.Changes.{all_above}
+use Rattle.machine.proofs.Each.{each_weaker}
 use Rattle.records.specs.Bodies.{row_of}
 use Rattle.records.specs.declared.record.Record.TheVariants as record_of
 use Rattle.keeping.specs.Rows.{alert_kept}
 use Rattle.keeping.specs.Changes.{alert_row, alert_rows}
-use Rattle.keeping.proofs.Parts.{Body, changed_at, becomes, IsTo, all_append, all_weaker}
+use Rattle.keeping.proofs.Parts.{Body, changed_at, becomes, IsTo, all_append}
 use Rattle.keeping.proofs.Items.{exchanged, twice, not_both, above_not, Ascends, found_at, absent, none_later}
 
 abbrev pub release_of : Alert → ℕ
@@ -69,11 +70,11 @@ put_ascends id o (a ∷ rest) is rising = by o is (eqb a.release id) (ltb id a.r
     by None own true v e f above later = rising.1
     by (Some b) own true v e f above later =
         let same = eqb-true a.release id e in
-        (all_weaker (λ c. a.release < c.release) (λ c. b.release < c.release) (λ c less. omega (arith, less, same, own)) rest rising.0, rising.1)
+        (each_weaker (λ c. a.release < c.release) (λ c. b.release < c.release) (λ c less. omega (arith, less, same, own)) rest rising.0, rising.1)
     by None own false true e f above later = rising
     by (Some b) own false true e f above later =
         let less = ltb-true id a.release f in
-        ((omega (arith, less, own), all_weaker (λ c. a.release < c.release) (λ c. b.release < c.release) (λ c more. omega (arith, more, less, own)) rest rising.0), rising)
+        ((omega (arith, less, own), each_weaker (λ c. a.release < c.release) (λ c. b.release < c.release) (λ c more. omega (arith, more, less, own)) rest rising.0), rising)
     by p own false false e f above later = (above (grind (arith, nat_tests, e, f)), later)
 
 module _ (body : Alert → Body) where
@@ -106,7 +107,7 @@ module _ (body : Alert → Body) where
           let less = ltb-true id a.release f in
           found_front id o (a ∷ rest) q is
           (λ at. absent release_of body q (a ∷ rest)
-          (above_not id a.release q less at, none_later release_of body q id rest at (all_weaker (λ c. a.release < c.release) (λ c. id < c.release) (λ c more. omega (arith, more, less)) rest rising.0)))
+          (above_not id a.release q less at, none_later release_of body q id rest at (each_weaker (λ c. a.release < c.release) (λ c. id < c.release) (λ c more. omega (arith, more, less)) rest rising.0)))
       by false false e f later =
           ap (λ p. cond (eqb a.release q) (Some (body a)) p) later
           ∙ sym (exchanged (eqb id q) (eqb a.release q) (option_map body o) (Some (body a)) (found_at release_of body q rest) (not_both a.release id q e))

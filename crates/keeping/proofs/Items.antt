@@ -11,7 +11,8 @@ use Rattle.desk_io.specs.declared.rows.Row.{Row}
 use Rattle.desk_io.specs.declared.rows.Change.{Change}
 use Rattle.desk_io.specs.declared.rows.Change.TheVariants.{Remove}
 use Rattle.desk_io.specs.Rows.{is_row, rows_of}
-use Rattle.keeping.proofs.Parts.{Body, becomes, IsIn, IsTo, IsOutside, Leads, rows_outside, left_alone, all_weaker}
+use Rattle.machine.proofs.Each.{each_weaker}
+use Rattle.keeping.proofs.Parts.{Body, becomes, IsIn, IsTo, IsOutside, Leads, rows_outside, left_alone}
 
 -- two tests that don't both hold may change their order
 pub exchanged : (s t : Bool) (one two rest : Option Body) → (t ≡ true → s ≡ false) → cond s one (cond t two rest) ≡ cond t two (cond s one rest)
@@ -63,7 +64,7 @@ module _ {A : Type 0} (key : A → ℕ) (body : A → Body) where
   absent q (x ∷ xs) all = rw all.0 (absent q xs all.1)
 
   pub none_later : (q low : ℕ) (xs : List A) → eqb low q ≡ true → AllByRecursion (λ y. low < key y) xs → AllByRecursion (λ y. eqb (key y) q ≡ false) xs
-  none_later q low xs is above = all_weaker (λ y. low < key y) (λ y. eqb (key y) q ≡ false) (λ y less. above_not low (key y) q less is) xs above
+  none_later q low xs is above = each_weaker (λ y. low < key y) (λ y. eqb (key y) q ≡ false) (λ y less. above_not low (key y) q less is) xs above
 
   -- one more at the end, of a number above all
   pub pushed : (xs : List A) (x : A) → AllByRecursion (λ y. key y < key x) xs → (q : ℕ)

@@ -26,12 +26,13 @@ use Rattle.machine.specs.State.{State, judged_all}
 use Rattle.machine.specs.Step.{kept_of}
 use Rattle.machine.proofs.Parts.{reports_rise, kept_each}
 use Rattle.machine.proofs.Changes.{changes_lead}
+use Rattle.machine.proofs.Each.{each_weaker}
 use Rattle.records.specs.Bodies.{row_of}
 use Rattle.records.specs.declared.record.Meta.{Meta as Counters}
 use Rattle.records.specs.declared.record.Record.TheVariants.{Meta, Report, Deferral, Release, Kept, Alert}
 use Rattle.keeping.specs.Rows.{report_kept, alert_kept}
 use Rattle.keeping.specs.Changes.{put, report_changes, swept_reports, deferral_changes, release_changes, swept_replies, reply_changes, alert_rows, on_reports, on_replies}
-use Rattle.keeping.proofs.Parts.{Body, becomes, becomes_append, IsTo, Leads, all_append, all_weaker}
+use Rattle.keeping.proofs.Parts.{Body, becomes, becomes_append, IsTo, Leads, all_append}
 use Rattle.keeping.proofs.Items.{twice, Ascends, ascends_from, found_at, pushed, without_found, removed, filtered, part}
 use Rattle.keeping.proofs.ReleaseRows as release_rows
 use Rattle.keeping.proofs.AlertRows as alert_rows_of
@@ -90,7 +91,7 @@ unfolding row_of
 report_found s None q fits below = refl
 report_found s (Some r) q fits below =
     let is = fits.is_new in
-    pushed report_id report_body s.reports r (all_weaker (IsNumbered s.counters.next_report) (λ y. y.id < r.id) (λ y less. omega (arith, less, is)) s.reports below) q
+    pushed report_id report_body s.reports r (each_weaker (IsNumbered s.counters.next_report) (λ y. y.id < r.id) (λ y less. omega (arith, less, is)) s.reports below) q
 
 sweep_found : (o : Option Sweep) (rs : List ReportOf) (q : ℕ) → Ascends report_id rs
     → becomes 1 q (swept_reports o rs) (found_at report_id report_body q rs) ≡ found_at report_id report_body q (reports_swept o rs)
@@ -134,7 +135,7 @@ deferral_found s on_deferrals.Nothing q fits below = refl
 deferral_found s (on_deferrals.Open d) q fits below =
     let is = fits.is_new in
     pushed deferral_id deferral_body s.deferrals d
-    (all_weaker (IsOpen s.counters.next_deferral) (λ y. y.id < d.id) (λ y open_. let less = open_.0 in omega (arith, less, is)) s.deferrals below) q
+    (each_weaker (IsOpen s.counters.next_deferral) (λ y. y.id < d.id) (λ y open_. let less = open_.0 in omega (arith, less, is)) s.deferrals below) q
 deferral_found s (on_deferrals.Clear id) q fits below = without_found deferral_id deferral_body id s.deferrals q
 
 pub deferrals_lead : (s : State) (effect : Effect) → EffectFits s effect → InBounds s
@@ -163,7 +164,7 @@ release_found s on_releases.Nothing q fits sound = refl
 release_found s (on_releases.File r) q fits sound =
     let is = fits.numbered in
     pushed release_rows.id_of release_body s.releases r
-    (all_weaker (λ y. y.id < s.counters.next_release) (λ y. y.id < r.id) (λ y less. omega (arith, less, is)) s.releases
+    (each_weaker (λ y. y.id < s.counters.next_release) (λ y. y.id < r.id) (λ y less. omega (arith, less, is)) s.releases
     (release_rows.rise_below 0 s.counters.next_release s.releases sound.ids)) q
 release_found s (on_releases.Put r) q fits sound = release_rows.put_found release_body r s.releases fits.taken q
 release_found s (on_releases.Remove id) q fits sound =
@@ -212,7 +213,7 @@ reply_found : (o : Option KeptReply) (next : ℕ) (ks : List KeptReply) (q : ℕ
 unfolding row_of
 reply_found None next ks q is below = ap (λ xs. found_at kept_id kept_body q xs) (sym (append-nil ks))
 reply_found (Some k) next ks q is below =
-    pushed kept_id kept_body ks k (all_weaker (IsReplied next) (λ y. y.id < k.id) (λ y has. let less = has.0 in omega (arith, less, is)) ks below) q
+    pushed kept_id kept_body ks k (each_weaker (IsReplied next) (λ y. y.id < k.id) (λ y has. let less = has.0 in omega (arith, less, is)) ks below) q
 
 pub replies_lead : (s : State) (effect : Effect) (w : What) → InBounds s
     → Leads 4 5 (map kept_row s.kept) (map kept_row (kept_after effect.sweep s.kept ++ option_to_list (kept_of (effected effect s) w))) (on_replies s effect (kept_of (effected effect s) w))

@@ -8,6 +8,7 @@ use Rattle.desk_io.specs.declared.rows.Row.{Row}
 use Rattle.desk_io.specs.declared.rows.Change.{Change}
 use Rattle.desk_io.specs.declared.rows.Change.TheVariants.{Put, Remove}
 use Rattle.desk_io.specs.Rows.{Rows, is_row, rows_of, changed, changed_by}
+use Rattle.machine.proofs.Each.{each_weaker}
 
 abbrev pub Body : Type 0
 Body = List ℕ
@@ -81,10 +82,6 @@ pub all_append : {A : Type 0} (P : A → Type 0) (xs ys : List A) → AllByRecur
 all_append P [] ys all more = more
 all_append P (x ∷ xs) ys all more = (all.0, all_append P xs ys all.1 more)
 
-pub all_weaker : {A : Type 0} (P Q : A → Type 0) → ((x : A) → P x → Q x) → (xs : List A) → AllByRecursion P xs → AllByRecursion Q xs
-all_weaker P Q f [] all = tt
-all_weaker P Q f (x ∷ xs) all = (f x all.0, all_weaker P Q f xs all.1)
-
 wider : (a b low high : ℕ) → low ≤ a → b ≤ high → (c : Change) → IsTo a b c → IsTo low high c
 wider a b low high from to (Put row) is = (let one = is.0 in omega (arith, one, from), let one = is.1 in omega (arith, one, to))
 wider a b low high from to (Remove k q) is = (let one = is.0 in omega (arith, one, from), let one = is.1 in omega (arith, one, to))
@@ -110,8 +107,8 @@ found_last p (x ∷ xs) ys none = pass (p x) x (find p xs) (find p ys) (find p (
 module _ (a b c : ℕ) (low : a ≤ b) (high : b ≤ c) (xs ys more others : List Row) (cs ds : List Change) (one : Leads a b xs ys cs) (two : Leads b c more others ds) where
   joined_rows : (us vs : List Row) → AllByRecursion (IsIn a b) us → AllByRecursion (IsIn b c) vs → AllByRecursion (IsIn a c) (us ++ vs)
   joined_rows us vs here there =
-      all_append (IsIn a c) us vs (all_weaker (IsIn a b) (IsIn a c) (wider_row a b a c (omega arith) high) us here)
-      (all_weaker (IsIn b c) (IsIn a c) (wider_row b c a c low (omega arith)) vs there)
+      all_append (IsIn a c) us vs (each_weaker (IsIn a b) (IsIn a c) (wider_row a b a c (omega arith) high) us here)
+      (each_weaker (IsIn b c) (IsIn a c) (wider_row b c a c low (omega arith)) vs there)
 
   rows_first : (k q : ℕ) (us vs : List Row) → k < b → AllByRecursion (IsIn b c) vs → rows_of (us ++ vs) k q ≡ rows_of us k q
   rows_first k q us vs less there = ap (option_map (λ (row : Row). row.body)) (found_first (is_row k q) us vs (none_outside b c k q vs (below_low b c k less) there))
@@ -144,7 +141,7 @@ module _ (a b c : ℕ) (low : a ≤ b) (high : b ≤ c) (xs ys more others : Lis
   joined = record {
     before = joined_rows xs more one.before two.before;
     after = joined_rows ys others one.after two.after;
-    only = all_append (IsTo a c) cs ds (all_weaker (IsTo a b) (IsTo a c) (wider a b a c (omega arith) high) cs one.only)
-        (all_weaker (IsTo b c) (IsTo a c) (wider b c a c low (omega arith)) ds two.only);
+    only = all_append (IsTo a c) cs ds (each_weaker (IsTo a b) (IsTo a c) (wider a b a c (omega arith) high) cs one.only)
+        (each_weaker (IsTo b c) (IsTo a c) (wider b c a c low (omega arith)) ds two.only);
     leads = λ k q. joined_by k q _ refl;
   }

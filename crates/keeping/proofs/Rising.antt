@@ -12,9 +12,10 @@ use Rattle.keeper.specs.Order.{comes_before, is_below, rises_from, rising}
 use Rattle.keeper.proofs.SortLaws.{rising_same}
 use Rattle.machine.specs.Sound.{Sound, InBounds}
 use Rattle.machine.specs.State.{State}
+use Rattle.machine.proofs.Each.{each_weaker}
 use Rattle.records.specs.Bodies.{row_of}
 use Rattle.keeping.specs.Rows.{meta_of, state_rows}
-use Rattle.keeping.proofs.Parts.{IsIn, all_append, all_weaker}
+use Rattle.keeping.proofs.Parts.{IsIn, all_append}
 use Rattle.keeping.proofs.Items.{Ascends, ascends_from, one_kind}
 use Rattle.keeping.proofs.ReleaseRows.{rise_ascends}
 use Rattle.keeping.proofs.AlertRows.{alerts_ascend}
@@ -53,15 +54,15 @@ ordered_append : (a b c : ℕ) (xs ys : List Row) → AllByRecursion (IsIn a b) 
 ordered_append a b c [] ys here first there later = later
 ordered_append a b c (x ∷ xs) ys here first there later = (
   all_append (Precedes x) xs ys first.0
-      (all_weaker (IsIn b c) (Precedes x) (λ y is. let one = here.0.1 in let two = is.0 in by_kind x.kind x.key y.kind y.key (omega (arith, one, two))) ys there),
+      (each_weaker (IsIn b c) (Precedes x) (λ y is. let one = here.0.1 in let two = is.0 in by_kind x.kind x.key y.kind y.key (omega (arith, one, two))) ys there),
   ordered_append a b c xs ys here.1 first.1 there later,
 )
 
 both : (a b c : ℕ) → a ≤ b → b ≤ c → (xs ys : List Row) → AreIn a b xs → AreIn b c ys → AreIn a c (xs ++ ys)
 both a b c low high xs ys one two = record {
   each = all_append (IsIn a c) xs ys
-      (all_weaker (IsIn a b) (IsIn a c) (λ x is. (is.0, let less = is.1 in omega (arith, less, high))) xs one.each)
-      (all_weaker (IsIn b c) (IsIn a c) (λ y is. (let more = is.0 in omega (arith, more, low), is.1)) ys two.each);
+      (each_weaker (IsIn a b) (IsIn a c) (λ x is. (is.0, let less = is.1 in omega (arith, less, high))) xs one.each)
+      (each_weaker (IsIn b c) (IsIn a c) (λ y is. (let more = is.0 in omega (arith, more, low), is.1)) ys two.each);
   ordered = ordered_append a b c xs ys one.each one.ordered two.each two.ordered;
 }
 

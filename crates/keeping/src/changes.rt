@@ -292,7 +292,8 @@ fn shown_changes(
     Ok(changes)
 }
 
-/// What an event changes of the rows, before it is put in place.
+/// What an event changes of the rows, before it is put in place: what is kept of it, and the alerts that it changes,
+/// are given.
 #[tactic(auto, unfolding(crate::specs::Changes::event_changes))]
 pub fn event_changes(
     alloc: Global,
