@@ -1,5 +1,5 @@
 pub mod Crossing
-mod OrderLaws
+pub mod OrderLaws
 mod PlaceLaws
 mod Places
-mod SortLaws
+pub mod SortLaws

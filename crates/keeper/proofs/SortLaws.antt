@@ -188,7 +188,7 @@ neither : (a b c d : ℕ) → comes_before a b c d ≡ false → comes_before c 
 neither a b c d one two = grind (arith, nat_tests, one, two)
 
 -- two lists in order that find the same are the same
-rising_same : (rows others : List Row) → rising rows ≡ true → rising others ≡ true → ((k q : ℕ) → find (is_row k q) rows ≡ find (is_row k q) others) → rows ≡ others
+pub rising_same : (rows others : List Row) → rising rows ≡ true → rising others ≡ true → ((k q : ℕ) → find (is_row k q) rows ≡ find (is_row k q) others) → rows ≡ others
 rising_same [] [] up risen same = refl
 rising_same [] (other ∷ others) up risen same = let found = found_first other others in let none = same other.kind other.key in absurd (cc)
 rising_same (row ∷ rows) [] up risen same = let found = found_first row rows in let none = same row.kind row.key in absurd (cc)

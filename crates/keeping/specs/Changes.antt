@@ -1,5 +1,5 @@
 -- What an event changes of the rows.
-use Rattle.std.specs.Prelude.{◌==◌, not, ℕ, List, [], ◌∷◌, ◌++◌, filter, map, Option, None, Some}
+use Rattle.std.specs.Prelude.{ℕ, List, [], ◌∷◌, ◌++◌, map, Option, None, Some}
 use Rattle.desk_io.specs.declared.rows.Change.{Change}
 use Rattle.desk_io.specs.declared.rows.Change.TheVariants.{Put, Remove}
 use Rattle.asks.specs.declared.kept.KeptReply.{KeptReply}
@@ -64,13 +64,20 @@ alert_row id (Some a) = put (Alert (alert_kept a))
 abbrev pub alert_rows : List AlertChange → List Change
 alert_rows changes = map (λ c. alert_row c.release c.after) changes
 
+-- the changes of the rows of reports
+abbrev pub on_reports : State → Effect → List Change
+on_reports s effect = report_changes effect.report ++ swept_reports effect.sweep (reports_after effect.report s.reports)
+
+-- the changes of the rows of kept replies
+abbrev pub on_replies : State → Effect → Option KeptReply → List Change
+on_replies s effect kept = swept_replies effect.sweep s.kept ++ reply_changes kept
+
 -- the changes of all rows but that of the counters, by what an event changes, what is kept of it, and the alerts that change
 abbrev pub part_changes : State → Effect → Option KeptReply → List AlertChange → List Change
 part_changes s effect kept alerts =
-    report_changes effect.report ++ swept_reports effect.sweep (reports_after effect.report s.reports) ++ deferral_changes effect.on_deferrals ++ release_changes effect.on_releases
-    ++ swept_replies effect.sweep s.kept ++ reply_changes kept ++ alert_rows alerts
+    on_reports s effect ++ deferral_changes effect.on_deferrals ++ release_changes effect.on_releases ++ on_replies s effect kept ++ alert_rows alerts
 
--- the changes of the rows by an event
+-- The changes of the rows by an event: the row of the counters is always put.
 unfoldable pub event_changes : State → Effect → Entry → List Change
 event_changes s effect e =
     put (Meta (meta_of (entered e (effected effect s)))) ∷ part_changes s effect (kept_of (effected effect s) e.what) (alert_changes effect s)

@@ -1,5 +1,5 @@
 -- The rows of a state: one for the counters, and one for each report, deferral, release, kept reply and alert.
-use Rattle.std.specs.Prelude.{◌≡◌, ◌⊎◌, List, [], ◌∷◌, ◌++◌, map}
+use Rattle.std.specs.Prelude.{◌≡◌, ◌⊎◌, List, ◌∷◌, ◌++◌, map}
 use Rattle.desk_io.specs.declared.rows.Row.{Row}
 use Rattle.desk_io.specs.Rows.{Rows, no_rows, rows_of}
 use Rattle.alerts.specs.declared.alert.Alert.{Alert as AlertOf}

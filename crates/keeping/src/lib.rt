@@ -2,5 +2,7 @@
 #![tactic(auto)]
 
 mod changes;
+mod held;
+mod meta;
 
 pub use changes::event_changes;

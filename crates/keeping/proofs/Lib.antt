@@ -1,0 +1,10 @@
+pub mod Parts
+pub mod Items
+pub mod ReleaseRows
+pub mod AlertRows
+pub mod KindLaws
+pub mod Leading
+pub mod Rising
+pub mod Pushed
+pub mod ShownLaws
+pub mod Decided
