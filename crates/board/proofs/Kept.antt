@@ -1,5 +1,5 @@
 -- What is prepared is the step, and a step keeps what holds of a board.
-use Rattle.std.proofs.Common.{◌≡◌, ℕ, get_or, length, ◌<◌, ◌≤◌, Bool, arith, List, [], ◌∷◌, ◌++◌, Option, None, Some, IfSome, Ok, refl, ap, sym, ◌∙◌, subst}
+use Rattle.std.proofs.Common.{◌≡◌, ℕ, get_or, length, ◌<◌, ◌≤◌, Bool, arith, List, [], ◌∷◌, ◌++◌, Option, None, Some, IfSome, Ok, refl, ap, sym, ◌∙◌, subst, inl}
 use Rattle.alerts.specs.declared.alert.Alert.{Alert}
 use Rattle.asks.specs.declared.call.Call.{Call}
 use Rattle.asks.specs.declared.reply.Reply.{Reply}
@@ -14,7 +14,7 @@ use Rattle.machine.specs.State.{State}
 use Rattle.machine.specs.Events.{effected, alert_changes, notices_of, put_changes}
 use Rattle.machine.specs.Decide.{decide}
 use Rattle.machine.specs.declared.entry.What.TheVariants as what
-use Rattle.machine.specs.Step.{entry, kept_of, counted, after_event, answer_call, tick_to}
+use Rattle.machine.specs.Step.{Stepped, entry, entered, kept_of, counted, after_event, answer_call, tick_to}
 use Rattle.machine.specs.Sound.{Sound, InBounds, EffectFits, DecisionFits, IsEntered, IsBoard}
 use Rattle.machine.proofs.Boards.{call_keeps, tick_keeps, reply_shown, tick_shown}
 use Rattle.alerts.specs.declared.notices.Notice.{Notice}
@@ -35,7 +35,16 @@ use Rattle.board.specs.declared.steps.Judged.{Judged}
 use Rattle.decisions.specs.Reads.{DecisionAdmitsRead}
 use Rattle.board.proofs.Parts.{may_come}
 use Rattle.board.specs.Room.{MayBeMade}
-use Rattle.board.specs.Prepare.{with_events, installed, IsStepped, MayInstall, IsReady, Shown, shown}
+use Rattle.std.specs.Global.{Vec}
+use Rattle.desk_io.specs.Rows.{Rows, changed_by}
+use Rattle.desk_io.specs.declared.rows.Change.{Change}
+use Rattle.keeping.specs.Changes.{event_changes}
+use Rattle.keeping.specs.Rows.{AreKept}
+use Rattle.keeping.specs.Shown.{MayBeKept}
+use Rattle.keeping.proofs.Decided.{decided_kept}
+use Rattle.keeping.proofs.Leading.{kept_lead}
+use Rattle.board.specs.declared.prepared.Event.{Event}
+use Rattle.board.specs.Prepare.{with_events, installed, IsStepped, KeepsRows, MayInstall, IsReady, Shown, shown}
 
 -- the effect of a call fits
 pub decided_fits : (s : State) (call : Call) (reply : Reply) (effect : Effect) → Ok (Do reply effect) ≡ decide s call → Sound s → InBounds s → IsCall call.ask → EffectFits s effect
@@ -180,3 +189,31 @@ applied_leads lane call s u t told reply one two leads =
 pub applied_ticks : (lane to : ℕ) (s u t : State) (told reply : Option Reply) → u ≡ t → reply ≡ told → MayTickTo lane to s u told → MayTickTo lane to s t reply
 applied_ticks lane to s u t told reply one two leads =
     subst (λ (v : State). MayTickTo lane to s v reply) one (subst (λ (o : Option Reply). MayTickTo lane to s u o) (sym two) leads)
+
+-- what is planned of an event leads from the rows of a state to those of the next
+pub planned_keeps : (s t : State) (p : Prepared) (effect : Effect) (e made : Entry) (stepped : Stepped) (cs : Vec Change) → t ≡ s → p.changes ≡ cs → cs.items ≡ event_changes t effect made → made ≡ e
+    → IsStepped s p stepped → stepped.state ≡ entered e (effected effect s) → EffectFits s effect → Sound s → InBounds s → KeepsRows s p
+unfolding KeepsRows
+planned_keeps s t p effect e made stepped cs as_before changes are same steps leads fits sound bounds rows kept =
+    let listed : p.changes.items ≡ event_changes s effect e =
+    ap (λ (v : Vec Change). v.items) changes ∙ are ∙ ap (λ (u : State). event_changes u effect made) as_before ∙ ap (λ (x : Entry). event_changes s effect x) same in
+    subst (λ (u : State). AreKept (changed_by p.changes.items rows) u) (sym (steps.state ∙ leads))
+    (subst (λ (list : List Change). AreKept (changed_by list rows) (entered e (effected effect s))) (sym listed) (inl (kept_lead rows s effect e fits sound bounds kept)))
+
+-- nothing changes where no event is prepared
+pub stay_keeps : (p : Prepared) (s : State) → p.event ≡ None → p.changes.items ≡ [] → KeepsRows s p
+unfolding KeepsRows installed
+stay_keeps p s none empty rows kept =
+    subst (λ (u : State). AreKept (changed_by p.changes.items rows) u) (sym (ap (λ (o : Option Event). with_events o s) none))
+    (subst (λ (list : List Change). AreKept (changed_by list rows) s) (sym empty) kept)
+
+-- what a call comes to may be kept as rows
+pub effect_keeps : (s : State) (call : Call) (d : Decision) (reply : Reply) (effect : Effect) → d ≡ Do reply effect → Ok d ≡ decide s call → Sound s → InBounds s → MayBeKept effect
+effect_keeps s call d reply effect is made sound kept = decided_kept s call reply effect (sym (ap (λ (x : Decision). Ok x) is) ∙ made) sound kept
+
+-- the same of a tick
+pub ticked_keeps : (s t : State) (p : Prepared) (lane to : ℕ) (effect : Effect) (made : Entry) (cs : Vec Change) → effect ≡ tick to → t ≡ s → p.changes ≡ cs → cs.items ≡ event_changes t effect made
+    → made ≡ entry lane (what.Tick to) → IsStepped s p (after_event s None (tick to) (entry lane (what.Tick to))) → IsMoment to → Sound s → InBounds s → KeepsRows s p
+ticked_keeps s t p lane to effect made cs is as_before changes are same steps shown sound bounds =
+    planned_keeps s t p effect (entry lane (what.Tick to)) made (after_event s None (tick to) (entry lane (what.Tick to))) cs as_before changes are same steps
+    (ap (λ (x : Effect). entered (entry lane (what.Tick to)) (effected x s)) (sym is)) (tick_fits_as s to effect is shown) sound bounds

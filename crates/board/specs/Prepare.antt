@@ -1,5 +1,7 @@
 -- A step that is prepared: what is left is to put it in place.
 use Rattle.std.specs.Prelude.{◌≡◌, ◌∷◌, [], ◌++◌, length, option_to_list, Option, None, Some}
+use Rattle.desk_io.specs.Rows.{Rows, changed_by}
+use Rattle.keeping.specs.Rows.{AreKept}
 use Rattle.machine.specs.State.{State}
 use Rattle.machine.specs.Events.{effected, put_changes}
 use Rattle.machine.specs.Step.{Stepped, counted}
@@ -38,6 +40,10 @@ pub record IsStepped (s : State) (p : Prepared) (stepped : Stepped) : Type 0 whe
 pub record IsAnswered (i : Installed) (stepped : Stepped) : Type 0 where
   pub reply : i.reply ≡ stepped.reply
   pub notices : i.notices ≡ stepped.notices
+
+-- What is prepared leads from the rows of a state to those of the one after it.
+unfoldable pub KeepsRows : State → Prepared → Type 0
+KeepsRows s p = (rows : Rows) → AreKept rows s → AreKept (changed_by p.changes.items rows) (installed p s)
 
 -- an event may be put in place without memory
 abbrev pub MayInstall : Content → Option Event → Type 0

@@ -3,6 +3,7 @@ ghost use Rattle.std.specs.Option.{option_copied};
 
 use alerts::Notices;
 use asks::{KeptReply, Reply};
+use desk_io::Change;
 use machine::{AlertChange, Effect, Entry};
 
 /// What an event changes, once all memory is taken.
@@ -24,6 +25,7 @@ pub struct Prepared {
     pub(crate) reply: Option<Reply>,
     pub(crate) notices: Notices,
     pub(crate) event: Option<Event>,
+    pub(crate) changes: Vec<Change>,
 }
 
 /// What an installed step answers.
@@ -41,6 +43,13 @@ impl Prepared {
         ensures { option_copied result ≡ self.now.reply }
     {
         self.reply.as_ref()
+    }
+
+    /// What the step changes of the rows that are kept: nothing where it changes nothing.
+    pub fn changes(&self) -> &[Change]
+        ensures { result.now ≡ self.now.changes.items }
+    {
+        &self.changes
     }
 
     /// Whether the step changes anything.

@@ -7,7 +7,7 @@ ghost use Rattle.machine.specs.Allowed.{MayLeadTo, MayTickTo};
 ghost use Rattle.machine.specs.Told.{takes_alert, AreDifferences, takes_none};
 ghost use Rattle.machine.specs.Sound.{IsBoard, IsEntered};
 ghost use Rattle.asks.specs.Forms.{IsCall, ReplyHasMoment};
-ghost use Rattle.board.specs.Prepare.{shown, installed, IsStepped, IsAnswered};
+ghost use Rattle.board.specs.Prepare.{shown, installed, IsStepped, IsAnswered, KeepsRows};
 
 use crate::installing::install;
 use crate::prepared::{Installed, Prepared};
@@ -79,6 +79,7 @@ impl Board {
         ensures shown { IfOk result (λ p. IfSome p.reply ReplyHasMoment) }
         ensures own { IfOk result (λ p. MayLeadTo lane call.now self.old.state (installed p self.old.state) p.reply) }
         ensures told { IfOk result (λ p. AreDifferences (takes_alert self.old.state call.now.ask) self.old.state (installed p self.old.state) p.notices) }
+        ensures rows { IfOk result (λ p. KeepsRows self.old.state p) }
         ensures ok { IfOk result (λ p. self.new ≡ shown self.old.opening self.old.state (Some p)) }
         ensures err { OnErr result (self.new ≡ shown self.old.opening self.old.state None) }
     {
@@ -102,6 +103,7 @@ impl Board {
         ensures shown { IfOk result (λ p. IfSome p.reply ReplyHasMoment) }
         ensures own { IfOk result (λ p. MayTickTo lane to self.old.state (installed p self.old.state) p.reply) }
         ensures told { IfOk result (λ p. AreDifferences takes_none self.old.state (installed p self.old.state) p.notices) }
+        ensures rows { IfOk result (λ p. KeepsRows self.old.state p) }
         ensures ok { IfOk result (λ p. self.new ≡ shown self.old.opening self.old.state (Some p)) }
         ensures err { OnErr result (self.new ≡ shown self.old.opening self.old.state None) }
     {
@@ -124,6 +126,7 @@ impl Board {
             reply,
             notices,
             event,
+            changes: _,
         } = prepared;
         install(&mut self.content, event);
         Installed { reply, notices }

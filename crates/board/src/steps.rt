@@ -10,16 +10,20 @@ ghost use Rattle.machine.specs.Sound.{Sound, InBounds, EffectFits};
 ghost use Rattle.plan.specs.Texts.{IsMoment};
 ghost use Rattle.asks.specs.Forms.{IsCall};
 ghost use Rattle.board.specs.Room.{HasRoom, MayBeMade};
-ghost use Rattle.board.specs.Prepare.{IsStepped, MayInstall};
+ghost use Rattle.keeping.specs.Changes as kept_rows;
+ghost use Rattle.keeping.specs.Shown.{MayBeKept};
+ghost use Rattle.machine.specs.State.{State};
+ghost use Rattle.board.specs.Prepare.{IsStepped, MayInstall, KeepsRows};
 
 use crate::prepared::{Event, Prepared};
 use crate::room::reserve;
 use alerts::Notices;
 use asks::{Call, Done, KeptReply, Refusal, Reply};
 use decisions::{Stop, decide, mistaken};
-use desk_io::{Copied, OutOfMemory, Text};
+use desk_io::{Change, Copied, OutOfMemory, Text};
 use desk_time::Minute;
 use judging::{Prospect, notices_of};
+use keeping::event_changes;
 use machine::{AlertChange, Content, Decision, Effect, Entry, What};
 use plan_json::ask_digest;
 use rules::Steps;
@@ -140,17 +144,26 @@ fn stay(alloc: Global, reply: Reply) -> Prepared
     ensures reply { result.reply ≡ Some reply }
     ensures notices { result.notices ≡ [] }
     ensures event { result.event ≡ None }
+    ensures rows { (s : State) → KeepsRows s result }
 {
     Prepared {
         reply: Some(reply),
         notices: Notices::new(alloc),
         event: None,
+        changes: Vec::new(alloc),
     }
 }
 
-fn planned(reply: Option<Reply>, effect: Effect, judged: Judged, recorded: Recorded) -> Prepared
+fn planned(
+    reply: Option<Reply>,
+    effect: Effect,
+    judged: Judged,
+    recorded: Recorded,
+    changes: Vec<Change>,
+) -> Prepared
     ensures reply { result.reply ≡ reply }
     ensures notices { result.notices ≡ judged.notices }
+    ensures changes { result.changes ≡ changes }
     ensures event { result.event ≡ Some (record { effect = effect; changes = judged.changes; entered = recorded.entered; kept = recorded.kept }) }
 {
     Prepared {
@@ -162,7 +175,34 @@ fn planned(reply: Option<Reply>, effect: Effect, judged: Judged, recorded: Recor
             entered: recorded.entered,
             kept: recorded.kept,
         }),
+        changes,
     }
+}
+
+// What an event changes of the rows.
+fn rows_of(
+    alloc: Global,
+    content: &Content,
+    effect: &Effect,
+    judged: &Judged,
+    recorded: &Recorded,
+) -> Result<Vec<Change>, OutOfMemory>
+    requires sound { Sound (state_of content.now) }
+    requires bounds { InBounds (state_of content.now) }
+    requires fits { EffectFits (state_of content.now) effect.now }
+    requires may { MayBeKept effect.now }
+    requires changes { judged.now.changes.items ≡ alert_changes effect.now (state_of content.now) }
+    requires kept { recorded.now.kept ≡ step.kept_of (effected effect.now (state_of content.now)) recorded.now.entered.what }
+    ensures { IfOk result (λ rows. rows.items ≡ kept_rows.event_changes (state_of content.now) effect.now recorded.now.entered) }
+{
+    event_changes(
+        alloc,
+        content,
+        effect,
+        &recorded.entered,
+        recorded.kept.as_ref(),
+        &judged.changes,
+    )
 }
 
 fn full_reply(content: &Content) -> Reply
@@ -237,14 +277,17 @@ fn prepare_accepted<L: Ledger>(
     requires sound { Sound (state_of content.old) }
     requires kept { InBounds (state_of content.old) }
     requires fits { EffectFits (state_of content.old) effect }
+    requires keeps { MayBeKept effect }
     requires call { IsCall call.now.ask }
     requires may { MayBeMade (state_of content.old) effect }
     ensures same { state_of content.new ≡ state_of content.old }
     ensures stepped { IfOk result (λ p. IsStepped (state_of content.old) p (step.accepted (state_of content.old) lane call.now reply effect)) }
     ensures may { IfOk result (λ p. MayInstall content.new p.event) }
+    ensures rows { IfOk result (λ p. KeepsRows (state_of content.old) p) }
 {
     let (judged, recorded) = judge_call(alloc, content, lane, call, &reply, &effect, steps)?;
-    Ok(planned(Some(reply), effect, judged, recorded))
+    let changes = rows_of(alloc, content, &effect, &judged, &recorded)?;
+    Ok(planned(Some(reply), effect, judged, recorded, changes))
 }
 
 #[tactic(auto, unfolding(crate::specs::Prepare::installed))]
@@ -260,11 +303,13 @@ fn prepare_entered<L: Ledger>(
     requires sound { Sound (state_of content.old) }
     requires kept { InBounds (state_of content.old) }
     requires fits { EffectFits (state_of content.old) effect }
+    requires keeps { MayBeKept effect }
     requires call { IsCall call.now.ask }
     requires may { MayBeMade (state_of content.old) effect }
     ensures same { state_of content.new ≡ state_of content.old }
     ensures stepped { IfOk result (λ p. IsStepped (state_of content.old) p (step.enter (is_full_for (state_of content.old) call.now.ask) (state_of content.old) lane call.now reply effect)) }
     ensures may { IfOk result (λ p. MayInstall content.new p.event) }
+    ensures rows { IfOk result (λ p. KeepsRows (state_of content.old) p) }
 {
     if content.is_full_for(&call.ask) {
         return Ok(stay(alloc, full_reply(content)));
@@ -287,6 +332,7 @@ fn prepare_call<L: Ledger>(
     ensures same { state_of content.new ≡ state_of content.old }
     ensures stepped { IfOk result (λ p. IsStepped (state_of content.old) p (do_call (state_of content.old) lane call.now)) }
     ensures may { IfOk result (λ p. MayInstall content.new p.event) }
+    ensures rows { IfOk result (λ p. KeepsRows (state_of content.old) p) }
 {
     match decide(alloc, content, call, steps) {
         Ok(Decision::Do(reply, effect)) => {
@@ -313,6 +359,7 @@ pub fn prepare_answer<L: Ledger>(
     ensures same { state_of content.new ≡ state_of content.old }
     ensures stepped { IfOk result (λ p. IsStepped (state_of content.old) p (answer_call (state_of content.old) lane call.now)) }
     ensures may { IfOk result (λ p. MayInstall content.new p.event) }
+    ensures rows { IfOk result (λ p. KeepsRows (state_of content.old) p) }
 {
     match mistaken(content.tables.actor(call.actor.bytes()), call.key.bytes()) {
         Some(refusal) => Ok(stay(alloc, Reply::Refused(refusal))),
@@ -333,6 +380,7 @@ fn prepare_ticked<L: Ledger>(
     ensures same { state_of content.new ≡ state_of content.old }
     ensures stepped { IfOk result (λ p. IsStepped (state_of content.old) p (step.ticked (state_of content.old) lane to)) }
     ensures may { IfOk result (λ p. MayInstall content.new p.event) }
+    ensures rows { IfOk result (λ p. KeepsRows (state_of content.old) p) }
 {
     let effect = Effect::tick(to);
     let judged = judge_all(alloc, content, &effect, steps)?;
@@ -340,7 +388,8 @@ fn prepare_ticked<L: Ledger>(
         entered: tick_entry(lane, to),
         kept: None,
     };
-    Ok(planned(None, effect, judged, recorded))
+    let changes = rows_of(alloc, content, &effect, &judged, &recorded)?;
+    Ok(planned(None, effect, judged, recorded, changes))
 }
 
 /// Prepares a tick to a later moment, and takes all memory that it needs. What is held stays as it is.
@@ -358,6 +407,7 @@ pub fn prepare_tick<L: Ledger>(
     ensures same { state_of content.new ≡ state_of content.old }
     ensures stepped { IfOk result (λ p. IsStepped (state_of content.old) p (tick_to (state_of content.old) lane to)) }
     ensures may { IfOk result (λ p. MayInstall content.new p.event) }
+    ensures rows { IfOk result (λ p. KeepsRows (state_of content.old) p) }
 {
     if content.is_full() {
         return Ok(stay(alloc, full_reply(content)));
