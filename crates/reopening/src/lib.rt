@@ -1,0 +1,2 @@
+//! The state that kept rows stand for.
+#![tactic(auto)]
