@@ -59,7 +59,7 @@ swapped false false = refl
 
 -- ---- how many there are
 
-abbrev Counted : {B : Type 0} → ℕ → (Record → Option B) → Type 0
+abbrev pub Counted : {B : Type 0} → ℕ → (Record → Option B) → Type 0
 Counted kind f = (r : Record) (rs : List Record) → length (filter_map f (r ∷ rs)) ≡ cond (is_kind kind r) (1 + length (filter_map f rs)) (length (filter_map f rs))
 
 how_many : {B : Type 0} (kind : ℕ) (f : Record → Option B) → Counted kind f → (rs : List Record) → length (filter_map f rs) ≡ count_by (is_kind kind) rs
