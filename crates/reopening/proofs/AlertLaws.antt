@@ -1,6 +1,6 @@
 -- The alerts of records that fit together: those of releases that are held, in their order, told to the holders.
-use Rattle.std.proofs.Common.{◌≡◌, ℕ, ◌+◌, ◌<◌, ◌≤◌, arith, Bool, true, false, ◌||◌, cond, eqb, not, List, [], ◌∷◌, length, Option, None, Some, IfSome, refl, sym, ap, ◌∙◌, subst, eq-eqb}
-use Rattle.std.specs.Prelude.{◌==◌, nat_lt, nat_le}
+use Rattle.std.proofs.Common.{◌≡◌, ℕ, ◌+◌, ◌<◌, ◌≤◌, arith, Bool, true, false, ◌||◌, cond, eqb, List, [], ◌∷◌, Option, None, Some, IfSome, refl, sym, ap, ◌∙◌, subst, eq-eqb}
+use Rattle.std.specs.Prelude.{◌==◌}
 use Rattle.std.specs.List.{AllByRecursion, filter_map, cons_option, list_any}
 use Rattle.std.specs.Option.{option_map}
 use Rattle.std.proofs.lemmas.Bool.{eqb-true, ltb-true, ltb-false, ne_eqb}
@@ -11,7 +11,6 @@ use Rattle.machine.specs.Sound.{IsTaken, IsToldTo, Rise}
 use Rattle.machine.specs.State.{release_at, alert_at}
 use Rattle.machine.proofs.Each.{found_each}
 use Rattle.machine.proofs.Judging.{IsOf, found_of}
-use Rattle.records.specs.Faults.{is_idle}
 use Rattle.records.specs.Valid.{IsRecord, IsKeptAlert}
 use Rattle.records.specs.declared.record.KeptAlert.{KeptAlert}
 use Rattle.records.specs.declared.record.Meta.{Meta as MetaOf}
@@ -211,6 +210,7 @@ own_step false r rs next a others e rise own pairs taken =
     other_by : (r : ReleaseOf) (a : AlertOf) (b any : Bool) → eqb r.id a.release ≡ b → eqb a.release r.id ≡ false → (b || any) ≡ true → any ≡ true
     other_by r a true any is e taken = absurd (let yes : eqb a.release r.id ≡ true = eq-eqb a.release r.id (sym (eqb-true r.id a.release is)) in cc)
     other_by r a false any is e taken = taken
+
     beyond_by : (r : ReleaseOf) (rs : List ReleaseOf) (next : ℕ) (a : AlertOf) → eqb a.release r.id ≡ false → Rise (r.id + 1) rs next → IsTaken a.release (r ∷ rs) → r.id < a.release
     beyond_by r rs next a e rise taken =
         let more = taken_above (r.id + 1) rs next a.release rise (other_by r a (eqb r.id a.release) (list_any (λ q. q.id == a.release) rs) refl e taken) in

@@ -1,6 +1,6 @@
 -- What holds of each record, and of each two, where records fit together and rise.
-use Rattle.std.proofs.Common.{◌≡◌, ℕ, ◌+◌, ◌<◌, ◌≤◌, arith, Bool, true, false, ◌&&◌, ◌||◌, not, cond, All, List, [], ◌∷◌, ◌++◌, append-nil, length, Option, None, Some, Result, Ok, Err, refl, sym, ap, ◌∙◌, subst}
-use Rattle.std.specs.Prelude.{◌==◌, nat_lt, nat_le}
+use Rattle.std.proofs.Common.{◌≡◌, ℕ, ◌+◌, ◌<◌, ◌≤◌, arith, Bool, true, false, ◌&&◌, ◌||◌, cond, List, [], ◌∷◌, ◌++◌, append-nil, length, Option, None, Some, Result, Ok, Err, refl, sym, ap, ◌∙◌, subst}
+use Rattle.std.specs.Prelude.{◌==◌, nat_lt}
 use Rattle.std.specs.List.{AllByRecursion, position_from, count_by}
 use Rattle.std.specs.Option.{option_map}
 use Rattle.std.proofs.lemmas.Bool.{and_parts, leb-false}
@@ -8,7 +8,7 @@ use Rattle.std.proofs.lemmas.Bool.Decides.{nat_tests}
 use Rattle.std.proofs.lemmas.List.{append_assoc}
 use Rattle.std.proofs.lemmas.List.Elements.{recursion_from_All}
 use Rattle.std.proofs.lemmas.List.Sums.{sum_by-append}
-use Rattle.records.specs.Faults.{fit, has_meta, within_limits, have_releases, agree, are_counted, place_of, first_after, pair_or, pair_after, is_past, is_over, counts_of, is_orphan, is_bad_pair, is_ahead, meta_from, beside, ahead_of, bad, pair, lacks_meta, ◌>>◌}
+use Rattle.records.specs.Faults.{fit, has_meta, within_limits, have_releases, agree, are_counted, place_of, first_after, pair_or, pair_after, is_over, is_orphan, is_bad_pair, is_ahead, meta_from, beside, ahead_of, bad, pair, ◌>>◌}
 use Rattle.records.specs.Kinds.{kind_of, key_of, is_kind}
 use Rattle.records.specs.Valid.{IsRecord}
 use Rattle.records.specs.declared.faults.RowWhy.{RowWhy}
@@ -141,8 +141,7 @@ none_after : (p : Record → Record → Bool) (earlier rs : List Record) → pai
 none_after p earlier [] none = (tt, tt)
 none_after p earlier (r ∷ rs) none =
     let parts = none_or (place_of (p r) earlier) (length earlier) (pair_after p (earlier ++ r ∷ []) rs) none in
-    let more = none_after p (earlier ++ r ∷ []) rs parts.1 in
-    (
+    let more = none_after p (earlier ++ r ∷ []) rs parts.1 in (
       (none_from (p r) 0 earlier parts.0, weaker (λ q. AllByRecursion (λ e. p q e ≡ false) (earlier ++ r ∷ [])) (λ q. AllByRecursion (λ e. p q e ≡ false) earlier) (λ q all. (parted (λ e. p q e ≡ false) earlier r all).0) rs more.0),
       (weaker (λ q. AllByRecursion (λ e. p q e ≡ false) (earlier ++ r ∷ [])) (λ q. p q r ≡ false) (λ q all. (parted (λ e. p q e ≡ false) earlier r all).1) rs more.0, more.1),
     )

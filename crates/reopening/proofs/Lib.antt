@@ -4,3 +4,4 @@ pub mod PartLaws
 pub mod ReleaseLaws
 pub mod AlertLaws
 pub mod OpeningLaws
+pub mod StateLaws

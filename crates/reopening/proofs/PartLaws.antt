@@ -1,13 +1,12 @@
 -- The reports, deferrals and replies of records that fit together.
-use Rattle.std.proofs.Common.{◌≡◌, ℕ, ◌+◌, ◌<◌, ◌≤◌, arith, suc, Bool, true, false, ◌&&◌, ◌||◌, cond, eqb, List, [], ◌∷◌, length, Option, None, Some, IfSome, Result, Ok, Err, IsOk, refl, sym, ap, ◌∙◌, subst, eq-eqb}
-use Rattle.std.specs.Prelude.{◌==◌, nat_lt, nat_le}
+use Rattle.std.proofs.Common.{◌≡◌, ℕ, ◌+◌, ◌<◌, ◌≤◌, arith, Bool, true, false, ◌&&◌, ◌||◌, cond, eqb, List, ◌∷◌, length, Option, Some, IfSome, Result, Ok, Err, refl, sym, ap, ◌∙◌, eq-eqb}
+use Rattle.std.specs.Prelude.{◌==◌, nat_lt}
 use Rattle.std.specs.Str.{bytes_eq}
 use Rattle.std.specs.List.{AllByRecursion, AllPairs, filter_map, count_by}
 use Rattle.std.proofs.lemmas.Bool.{eqb-true, ltb-true, leb-false}
 use Rattle.std.proofs.lemmas.List.Recursion.{is_count_by}
 use Rattle.std.proofs.lemmas.Slice.Eq.{bytes_eq-Decides}
 use Rattle.codes.specs.declared.fault.BadReport.{BadReport}
-use Rattle.plan.specs.Texts.{IsMoment}
 use Rattle.asks.specs.declared.kept.KeptReply.{KeptReply}
 use Rattle.deferrals.specs.declared.items.Deferral.{Deferral as DeferralOf}
 use Rattle.facts.specs.Reading.{read_of}
@@ -16,14 +15,14 @@ use Rattle.facts.specs.declared.report.Read.{Read}
 use Rattle.facts.specs.declared.report.Report.{Report as ReportOf}
 use Rattle.machine.specs.Requests.{is_request}
 use Rattle.machine.specs.Sound.{AreOpen, AreSingle, AreUnlike, IsNumbered, IsOpen, IsReplied}
-use Rattle.records.specs.Faults.{is_same_report, is_same_request, is_same_row, minute_in, minute_of, is_bad_pair}
-use Rattle.records.specs.Kinds.{kind_of, key_of, is_kind}
+use Rattle.records.specs.Faults.{is_same_report, is_same_request, minute_in, minute_of}
+use Rattle.records.specs.Kinds.{is_kind}
 use Rattle.records.specs.Valid.{IsRecord, IsReport}
 use Rattle.records.specs.declared.record.KeptReport.{KeptReport}
 use Rattle.records.specs.declared.record.Meta.{Meta as MetaOf}
 use Rattle.records.specs.declared.record.Record.{Record}
 use Rattle.records.specs.declared.record.Record.TheVariants.{Meta, Report, Deferral, Release, Kept, Alert}
-use Rattle.reopening.specs.Held.{AreOfDesk, comes_before, deferral_in, meta_in, reply_in, report_if, report_in, report_of}
+use Rattle.reopening.specs.Held.{AreOfDesk, deferral_in, meta_in, reply_in, report_if, report_in, report_of}
 use Rattle.reopening.proofs.Lists.{Pairs, all_pairs, each_mapped, no_longer, pairs_mapped, weaker_pairs}
 use Rattle.reopening.proofs.Fitting.{Agree, IsAmong, all_agree, are_few, each_among}
 

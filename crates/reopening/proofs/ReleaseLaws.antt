@@ -1,11 +1,10 @@
 -- The releases of records that fit together.
-use Rattle.std.proofs.Common.{◌≡◌, ℕ, ◌+◌, ◌<◌, ◌≤◌, arith, Bool, true, false, ◌||◌, List, [], ◌∷◌, length, Option, None, Some, IfSome, refl}
-use Rattle.std.specs.Prelude.{◌==◌, nat_lt, nat_le}
+use Rattle.std.proofs.Common.{◌≡◌, ℕ, ◌+◌, ◌<◌, ◌≤◌, arith, false, ◌||◌, List, [], ◌∷◌, length, Option, None, Some, IfSome, refl}
+use Rattle.std.specs.Prelude.{nat_le}
 use Rattle.std.specs.List.{AllByRecursion, filter_map}
 use Rattle.std.proofs.lemmas.Bool.{ltb-true, ltb-false, leb-false}
 use Rattle.plan.specs.Texts.{IsMoment}
 use Rattle.plan.specs.Check.{IsPlan, HasMoments}
-use Rattle.plan.specs.declared.flights.Leg.{Leg}
 use Rattle.plan.specs.declared.flights.Plan.{Plan}
 use Rattle.plan.specs.declared.release.Phase.{Phase}
 use Rattle.plan.specs.declared.release.Phase.TheVariants.{Drafted, Ready, Flying, Stopped, Completed, Cancelled}
@@ -17,7 +16,6 @@ use Rattle.release_json.specs.Kept as kept
 use Rattle.release_json.specs.Kept.{IsKept, IsRevision, IsSignature}
 use Rattle.machine.specs.Sound.{AreNumbered, BearsBoth, HasLegs, IsNone, IsPhased, IsSigned, IsThere, IsValid, MaySigned, ReleaseInBounds, RevisionInBounds, Rise, Waits}
 use Rattle.records.specs.Faults.{is_late}
-use Rattle.records.specs.Kinds.{is_kind}
 use Rattle.records.specs.Valid.{IsRecord}
 use Rattle.records.specs.declared.record.Meta.{Meta as MetaOf}
 use Rattle.records.specs.declared.record.Record.{Record}
