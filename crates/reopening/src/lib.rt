@@ -1,2 +1,4 @@
 //! The state that kept rows stand for.
 #![tactic(auto)]
+
+mod parting;
