@@ -1,0 +1,10 @@
+pub mod Lists
+pub mod Fitting
+pub mod Loops
+pub mod PartLaws
+pub mod ReleaseLaws
+pub mod AlertLaws
+pub mod Bisection
+pub mod OpeningLaws
+pub mod StateLaws
+pub mod RestoringLaws

@@ -1,0 +1,4 @@
+pub mod Held
+pub mod Parting
+pub mod Restoring
+pub mod Opening
