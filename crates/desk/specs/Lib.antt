@@ -4,3 +4,5 @@ pub mod Run
 pub mod Weather
 pub mod Answers
 pub mod Shown
+pub mod Keeping
+pub mod Settled

@@ -2,10 +2,14 @@
 #![tactic(auto)]
 
 mod answer;
+mod answering;
 mod commands;
 mod run;
+mod settling;
 mod top;
 mod weather;
 mod words;
 
+pub use answering::{Answered, Judged, answer_at};
+pub use settling::Desk;
 pub use top::desk_main;

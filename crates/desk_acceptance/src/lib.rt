@@ -15,6 +15,8 @@ mod lives;
 #[cfg(test)]
 mod phases;
 #[cfg(test)]
+mod repeats;
+#[cfg(test)]
 mod retention;
 #[cfg(test)]
 mod scripts;

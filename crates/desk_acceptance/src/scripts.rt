@@ -2,6 +2,7 @@ use crate::flown::{
     FLAG_STOPPED, FLAG_STOPPED_SAID, FLOWN, FLOWN_SAID, RELEASED_AGAIN, RELEASED_AGAIN_SAID,
     SIGNED, SIGNED_SAID, STOPPED, STOPPED_SAID,
 };
+use crate::repeats::{FLOORED, FLOORED_SAID, REPEATED, REPEATED_SAID, SWEPT, SWEPT_SAID};
 use crate::retention::{PURGED, PURGED_SAID};
 use crate::shown::{DIGESTS, DIGESTS_SAID, SHOWN, SHOWN_SAID};
 use crate::texts::{
@@ -84,6 +85,9 @@ fn commands_are_answered(rt: HostRuntime) -> Result<(), Fail> {
         ("run script", SHOWN, 0, SHOWN_SAID),
         ("run script", DIGESTS, 0, DIGESTS_SAID),
         ("run script", PURGED, 0, PURGED_SAID),
+        ("run script", REPEATED, 0, REPEATED_SAID),
+        ("run script", FLOORED, 0, FLOORED_SAID),
+        ("run script", SWEPT, 0, SWEPT_SAID),
     ] {
         assert!(rt;
             is_said(rt.alloc(), command, script, status, text)?,

@@ -1,0 +1,8 @@
+use Rattle.desk.proofs.Steps.{settled_is, keeps_as}
+use Rattle.desk.proofs.answering.make_call.Goals as goal
+
+pub settle-requires-clause-keeps : goal.settle-requires-clause-keeps
+settle-requires-clause-keeps g c = keeps_as _ _ _ _ _ c.in_ok-prepared.ensures.ok c.in_ok-prepared.ensures.rows
+
+pub returns-clause-settled : goal.returns-clause-settled
+returns-clause-settled g c = settled_is _ _ _ _ _ _ _ _ c.in_ok-prepared.ensures.ok c.in_ok-prepared.ensures.stepped c.settle.ensures.settled

@@ -1,0 +1,134 @@
+-- What comes of the items of a lane, where what they change is kept, and a keeper may fail.
+use Rattle.std.specs.Prelude.{◌≡◌, ℕ, ◌<◌, ◌≤◌, nat_lt, Bool, true, false, List, [], ◌∷◌, ◌++◌, length, map, option_to_list, Option, None, Some}
+use Rattle.std.specs.List.{concat}
+use Rattle.alerts.specs.declared.notices.Notice.{Notice}
+use Rattle.asks.specs.declared.call.Call.{Call}
+use Rattle.asks.specs.declared.reply.Refusal.TheVariants.{Unkept}
+use Rattle.asks.specs.declared.reply.Reply.{Reply}
+use Rattle.asks.specs.declared.reply.Reply.TheVariants.{Refused}
+use Rattle.desk_io.specs.Rows.{Rows}
+use Rattle.desk_io.specs.declared.rows.Change.{Change}
+use Rattle.keeper.specs.Kept.{Leads}
+use Rattle.keeping.specs.Rows.{AreKept}
+use Rattle.machine.specs.Lanes.{outcomes, after_items}
+use Rattle.machine.specs.State.{State}
+use Rattle.machine.specs.Step.{Stepped, stay, answer_call, tick_to}
+use Rattle.machine.specs.declared.lanes.Item.{Item}
+use Rattle.machine.specs.declared.lanes.Item.TheVariants as item
+use Rattle.machine.specs.declared.lanes.Outcome.{Outcome}
+
+-- ---- a step that may not be kept
+
+-- Where a keeper fails at the steps of an item: its count of faults then. There is none where a step is kept, or changes nothing.
+pub record Choice : Type 0 where
+  pub tick : Option ℕ
+  pub call : Option ℕ
+
+-- a refusal, since what was asked couldn't be kept; nothing changes
+abbrev pub unkept : ℕ → State → Stepped
+unkept faults s = stay s (Refused (Unkept faults))
+
+-- whether a step changes something: then it adds an entry to the history
+abbrev pub adds : State → Stepped → Bool
+adds s t = nat_lt (length s.entries) (length t.state.entries)
+
+abbrev pub unkept_if : Bool → ℕ → State → Stepped → Stepped
+unkept_if true faults s t = unkept faults s
+unkept_if false faults s t = t
+
+-- A step that isn't kept is refused. One that changes nothing is answered all the same.
+abbrev pub kept_or : Option ℕ → State → Stepped → Stepped
+kept_or None s t = t
+kept_or (Some faults) s t = unkept_if (adds s t) faults s t
+
+-- ---- the items of a lane
+
+-- an outcome, the state after it, and what is told of the alerts: by the tick that comes first, and by the call
+pub record Given : Type 0 where
+  pub outcome : Outcome
+  pub state : State
+  pub ticked : List Notice
+  pub called : List Notice
+
+abbrev pub given : List Notice → State → Stepped → Given
+given ticked s t = record { outcome = record { position = length s.entries; reply = t.reply }; state = t.state; ticked = ticked; called = t.notices }
+
+abbrev pub made_with : Option ℕ → ℕ → State → Call → Stepped
+made_with fault lane s call = kept_or fault s (answer_call s lane call)
+
+abbrev pub ticked_with : Option ℕ → ℕ → State → ℕ → Stepped
+ticked_with fault lane s at = kept_or fault s (tick_to s lane at)
+
+-- A call is made once its tick is. Where the tick is refused, the call gets that refusal.
+abbrev pub once_ticked : Option ℕ → ℕ → Option Reply → State → Call → Stepped
+once_ticked fault lane (Some reply) s call = stay s reply
+once_ticked fault lane None s call = made_with fault lane s call
+
+abbrev pub made_after : Option ℕ → ℕ → Stepped → Call → Given
+made_after fault lane t call = given t.notices t.state (once_ticked fault lane t.reply t.state call)
+
+abbrev pub made_by : Bool → Choice → ℕ → State → ℕ → Call → Given
+made_by true c lane s at call = made_after c.call lane (ticked_with c.tick lane s at) call
+made_by false c lane s at call = given [] s (made_with c.call lane s call)
+
+-- a call of a lane at a moment, under a choice: the desk ticks to it first, where it is later
+unfoldable pub answer_with : Choice → ℕ → State → ℕ → Call → Given
+answer_with c lane s at call = made_by (nat_lt s.moment at) c lane s at call
+
+-- to an item that is no call there is no reply
+abbrev pub no_reply : State → Stepped
+no_reply s = record { reply = None; state = s; notices = [] }
+
+-- what comes of an item under a choice
+abbrev pub item_with : Choice → ℕ → State → Item → Given
+item_with c lane s item.Bad = given [] s (no_reply s)
+item_with c lane s (item.Call at call) = answer_with c lane s at call
+
+-- The outcomes of items, each under its choice. Where no choice is left the keeper doesn't fail.
+abbrev pub outcomes_with : ℕ → State → List Item → List Choice → List Outcome
+outcomes_with lane s [] choices = []
+outcomes_with lane s (i ∷ rest) [] = outcomes lane s (i ∷ rest)
+outcomes_with lane s (i ∷ rest) (c ∷ cs) = (item_with c lane s i).outcome ∷ outcomes_with lane (item_with c lane s i).state rest cs
+
+-- the state after them
+abbrev pub after_with : ℕ → State → List Item → List Choice → State
+after_with lane s [] choices = s
+after_with lane s (i ∷ rest) [] = after_items lane s (i ∷ rest)
+after_with lane s (i ∷ rest) (c ∷ cs) = after_with lane (item_with c lane s i).state rest cs
+
+-- ---- what a keeper has counted
+
+-- numbers that rise strictly, all above the first number and at most the last
+abbrev pub Rise : ℕ → List ℕ → ℕ → Type 0
+Rise low [] high = low ≤ high
+Rise low (n ∷ ns) high = (low < n) × Rise n ns high
+
+abbrev pub numbers_of : Choice → List ℕ
+numbers_of c = option_to_list c.tick ++ option_to_list c.call
+
+-- The counts at which a keeper fails rise strictly, all above its first count and at most its last.
+abbrev pub Counted : ℕ → List Choice → ℕ → Type 0
+Counted before choices after = Rise before (concat (map numbers_of choices)) after
+
+-- the same of one step
+abbrev pub CountedOnce : ℕ → Option ℕ → ℕ → Type 0
+CountedOnce before fault after = Rise before (option_to_list fault) after
+
+-- ---- the rows
+
+-- what a keeper tells is kept for a state
+abbrev pub KeepsState : Option Rows → State → Type 0
+KeepsState None s = Unit {0}
+KeepsState (Some rows) s = AreKept rows s
+
+-- the changes were made where there was no fault, and else none
+abbrev pub KeptUnless : Option ℕ → Option Rows → List Change → Option Rows → Type 0
+KeptUnless None before changes after = Leads before changes after
+KeptUnless (Some faults) before changes after = after ≡ before
+
+-- what came of a call, under a choice that a keeper's counts allow
+pub record IsGiven (given : Given) (state : State) (outcome : Outcome) (ticked called : List Notice) : Type 0 where
+  pub its_outcome : outcome ≡ given.outcome
+  pub its_state : state ≡ given.state
+  pub its_tick : ticked ≡ given.ticked
+  pub its_call : called ≡ given.called

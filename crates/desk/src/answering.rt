@@ -1,0 +1,215 @@
+ghost use Rattle.std.specs.Prelude.{◌≡◌, ◌<◌, ◌≤◌, ◌⊎◌, [], ◌∷◌, None, Some, IfOk, IfSome, OnOk, OnErr, length};
+ghost use Rattle.asks.specs.Forms.{IsCall, ReplyHasMoment};
+ghost use Rattle.machine.specs.Step.{answer_call, tick_to};
+ghost use Rattle.desk.specs.Keeping as spec;
+ghost use Rattle.desk.specs.Keeping.{Choice, Counted, CountedOnce, KeepsState, IsGiven};
+ghost use Rattle.desk.specs.Settled.{IsSettled, MayHaveTicked, choice_of};
+ghost use Rattle.desk.specs.Shown.{IsShown};
+
+use crate::settling::{Desk, Settled, settle, stayed};
+use alerts::Notices;
+use asks::{Call, Reply};
+use desk_io::OutOfMemory;
+use desk_time::{LAST, Minute};
+use keeper::Keeper;
+use machine::Outcome;
+use rules::Steps;
+use std::alloc::Global;
+use std::sync::ledger::Ledger;
+
+/// What a call is answered.
+#[derive(Debug, Drop)]
+pub struct Answered {
+    pub outcome: Outcome,
+    /// What is told of the alerts by the tick that came first.
+    pub ticked: Notices,
+    /// What is told of them by the call.
+    pub called: Notices,
+}
+
+/// What a call is answered, and how often the keeper had failed where a step of it wasn't kept.
+#[derive(Debug, Drop)]
+pub struct Judged {
+    pub answered: Answered,
+    /// Where the tick that came first wasn't kept.
+    pub tick: Option<u64>,
+    /// Where the call itself wasn't.
+    pub call: Option<u64>,
+}
+
+fn make_call<K: Keeper, L: Ledger>(
+    alloc: Global,
+    desk: &mut Desk<K>,
+    lane: u32,
+    call: &Call,
+    steps: &mut Steps<L>,
+) -> Result<Settled, OutOfMemory>
+    requires { IsCall call.now.ask }
+    ensures settled { IfOk result (λ r. IsSettled r desk.new.board.state (spec.made_with r.fault lane desk.old.board.state call.now)) }
+    ensures shown { IfOk result (λ r. IfSome r.reply ReplyHasMoment) }
+    ensures err { OnErr result (desk.new.board.state ≡ desk.old.board.state) }
+    ensures opening { desk.new.board.opening ≡ desk.old.board.opening }
+    ensures rows { KeepsState (K.told desk.old.keeper) desk.old.board.state → KeepsState (K.told desk.new.keeper) desk.new.board.state }
+    ensures count { IfOk result (λ r. CountedOnce (K.fault_count desk.old.keeper) r.fault (K.fault_count desk.new.keeper)) }
+    ensures later { K.fault_count desk.old.keeper ≤ K.fault_count desk.new.keeper }
+    ensures sound { K.sound desk.old.keeper → K.sound desk.new.keeper × (K.fault_count desk.new.keeper ≡ K.fault_count desk.old.keeper) }
+{
+    let prepared = desk.board.prepare_change(alloc, lane, call, steps)?;
+    settle(alloc, desk, prepared)
+}
+
+fn make_tick<K: Keeper, L: Ledger>(
+    alloc: Global,
+    desk: &mut Desk<K>,
+    lane: u32,
+    to: Minute,
+    steps: &mut Steps<L>,
+) -> Result<Settled, OutOfMemory>
+    requires later { desk.old.board.state.moment < to }
+    requires within { to ≤ LAST }
+    ensures settled { IfOk result (λ r. IsSettled r desk.new.board.state (spec.ticked_with r.fault lane desk.old.board.state to)) }
+    ensures shown { IfOk result (λ r. IfSome r.reply ReplyHasMoment) }
+    ensures err { OnErr result (desk.new.board.state ≡ desk.old.board.state) }
+    ensures opening { desk.new.board.opening ≡ desk.old.board.opening }
+    ensures rows { KeepsState (K.told desk.old.keeper) desk.old.board.state → KeepsState (K.told desk.new.keeper) desk.new.board.state }
+    ensures count { IfOk result (λ r. CountedOnce (K.fault_count desk.old.keeper) r.fault (K.fault_count desk.new.keeper)) }
+    ensures later { K.fault_count desk.old.keeper ≤ K.fault_count desk.new.keeper }
+    ensures sound { K.sound desk.old.keeper → K.sound desk.new.keeper × (K.fault_count desk.new.keeper ≡ K.fault_count desk.old.keeper) }
+{
+    let prepared = desk.board.prepare_tick(alloc, lane, to, steps)?;
+    settle(alloc, desk, prepared)
+}
+
+// A call once its tick was made, or was refused with a reply.
+fn once_ticked<K: Keeper, L: Ledger>(
+    alloc: Global,
+    desk: &mut Desk<K>,
+    lane: u32,
+    refused: Option<Reply>,
+    call: &Call,
+    steps: &mut Steps<L>,
+) -> Result<Settled, OutOfMemory>
+    requires call { IsCall call.now.ask }
+    requires shown { IfSome refused ReplyHasMoment }
+    ensures settled { IfOk result (λ r. IsSettled r desk.new.board.state (spec.once_ticked r.fault lane refused desk.old.board.state call.now)) }
+    ensures shown { IfOk result (λ r. IfSome r.reply ReplyHasMoment) }
+    ensures count { IfOk result (λ r. CountedOnce (K.fault_count desk.old.keeper) r.fault (K.fault_count desk.new.keeper)) }
+    ensures err { OnErr result (desk.new.board.state ≡ desk.old.board.state) }
+    ensures opening { desk.new.board.opening ≡ desk.old.board.opening }
+    ensures rows { KeepsState (K.told desk.old.keeper) desk.old.board.state → KeepsState (K.told desk.new.keeper) desk.new.board.state }
+    ensures later { K.fault_count desk.old.keeper ≤ K.fault_count desk.new.keeper }
+    ensures sound { K.sound desk.old.keeper → K.sound desk.new.keeper × (K.fault_count desk.new.keeper ≡ K.fault_count desk.old.keeper) }
+{
+    match refused {
+        None => make_call(alloc, desk, lane, call, steps),
+        Some(reply) => Ok(stayed(alloc, reply)),
+    }
+}
+
+// What a call is answered of which the tick and the call itself are settled.
+fn joined(position: u64, ticked: Notices, tick: Option<u64>, settled: Settled) -> Judged
+    ensures position { result.answered.outcome.position ≡ position }
+    ensures reply { result.answered.outcome.reply ≡ settled.reply }
+    ensures ticked { result.answered.ticked ≡ ticked }
+    ensures called { result.answered.called ≡ settled.notices }
+    ensures tick { result.tick ≡ tick }
+    ensures call { result.call ≡ settled.fault }
+{
+    let Settled {
+        reply,
+        notices,
+        fault,
+    } = settled;
+    Judged {
+        answered: Answered {
+            outcome: Outcome { position, reply },
+            ticked,
+            called: notices,
+        },
+        tick,
+        call: fault,
+    }
+}
+
+fn answer_made<K: Keeper, L: Ledger>(
+    alloc: Global,
+    desk: &mut Desk<K>,
+    lane: u32,
+    call: &Call,
+    steps: &mut Steps<L>,
+) -> Result<Judged, OutOfMemory>
+    requires { IsCall call.now.ask }
+    ensures given { IfOk result (λ j. IsGiven (spec.given [] desk.old.board.state (spec.made_with j.call lane desk.old.board.state call.now)) desk.new.board.state j.answered.outcome j.answered.ticked j.answered.called) }
+    ensures shown { IfOk result (λ j. IsShown j.answered.outcome) }
+    ensures count { IfOk result (λ j. Counted (K.fault_count desk.old.keeper) (choice_of j ∷ []) (K.fault_count desk.new.keeper)) }
+    ensures err { OnErr result (desk.new.board.state ≡ desk.old.board.state) }
+    ensures opening { desk.new.board.opening ≡ desk.old.board.opening }
+    ensures rows { KeepsState (K.told desk.old.keeper) desk.old.board.state → KeepsState (K.told desk.new.keeper) desk.new.board.state }
+    ensures later { K.fault_count desk.old.keeper ≤ K.fault_count desk.new.keeper }
+    ensures sound { K.sound desk.old.keeper → K.sound desk.new.keeper × (K.fault_count desk.new.keeper ≡ K.fault_count desk.old.keeper) }
+{
+    let position = desk.board.entries() as u64;
+    let settled = make_call(alloc, desk, lane, call, steps)?;
+    Ok(joined(position, Notices::new(alloc), None, settled))
+}
+
+fn answer_late<K: Keeper, L: Ledger>(
+    alloc: Global,
+    desk: &mut Desk<K>,
+    lane: u32,
+    at: Minute,
+    call: &Call,
+    steps: &mut Steps<L>,
+) -> Result<Judged, OutOfMemory>
+    requires after { desk.old.board.state.moment < at }
+    requires within { at ≤ LAST }
+    requires call { IsCall call.now.ask }
+    ensures given { IfOk result (λ j. IsGiven (spec.made_after j.call lane (spec.ticked_with j.tick lane desk.old.board.state at) call.now) desk.new.board.state j.answered.outcome j.answered.ticked j.answered.called) }
+    ensures shown { IfOk result (λ j. IsShown j.answered.outcome) }
+    ensures count { IfOk result (λ j. Counted (K.fault_count desk.old.keeper) (choice_of j ∷ []) (K.fault_count desk.new.keeper)) }
+    ensures err { OnErr result (MayHaveTicked lane at desk.old.board.state desk.new.board.state) }
+    ensures opening { desk.new.board.opening ≡ desk.old.board.opening }
+    ensures rows { KeepsState (K.told desk.old.keeper) desk.old.board.state → KeepsState (K.told desk.new.keeper) desk.new.board.state }
+    ensures later { K.fault_count desk.old.keeper ≤ K.fault_count desk.new.keeper }
+    ensures sound { K.sound desk.old.keeper → K.sound desk.new.keeper × (K.fault_count desk.new.keeper ≡ K.fault_count desk.old.keeper) }
+{
+    let Settled {
+        reply,
+        notices,
+        fault,
+    } = make_tick(alloc, desk, lane, at, steps)?;
+    let position = desk.board.entries() as u64;
+    let settled = once_ticked(alloc, desk, lane, reply, call, steps)?;
+    Ok(joined(position, notices, fault, settled))
+}
+
+/// Answers a call of a lane at a moment over a keeper of rows. The desk ticks to the moment first, where it is later. What
+/// the tick changes of the rows is kept before the tick is made, and then the same of the call; what changes nothing isn't
+/// kept. Where the keeper fails, the reply is `Unkept` with its count of faults, and that step changes nothing; a tick that
+/// was made before stays. After want of memory nothing is changed but that tick.
+#[tactic(auto, unfolding(crate::specs::Keeping::answer_with))]
+pub fn answer_at<K: Keeper, L: Ledger>(
+    alloc: Global,
+    desk: &mut Desk<K>,
+    lane: u32,
+    at: Minute,
+    call: &Call,
+    steps: &mut Steps<L>,
+) -> Result<Judged, OutOfMemory>
+    requires within { at ≤ LAST }
+    requires call { IsCall call.now.ask }
+    ensures given { IfOk result (λ j. IsGiven (spec.answer_with (choice_of j) lane desk.old.board.state at call.now) desk.new.board.state j.answered.outcome j.answered.ticked j.answered.called) }
+    ensures shown { IfOk result (λ j. IsShown j.answered.outcome) }
+    ensures count { IfOk result (λ j. Counted (K.fault_count desk.old.keeper) (choice_of j ∷ []) (K.fault_count desk.new.keeper)) }
+    ensures err { OnErr result (MayHaveTicked lane at desk.old.board.state desk.new.board.state) }
+    ensures opening { desk.new.board.opening ≡ desk.old.board.opening }
+    ensures rows { KeepsState (K.told desk.old.keeper) desk.old.board.state → KeepsState (K.told desk.new.keeper) desk.new.board.state }
+    ensures later { K.fault_count desk.old.keeper ≤ K.fault_count desk.new.keeper }
+    ensures sound { K.sound desk.old.keeper → K.sound desk.new.keeper × (K.fault_count desk.new.keeper ≡ K.fault_count desk.old.keeper) }
+{
+    if desk.board.now() < at {
+        answer_late(alloc, desk, lane, at, call, steps)
+    } else {
+        answer_made(alloc, desk, lane, call, steps)
+    }
+}

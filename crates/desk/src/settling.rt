@@ -1,0 +1,138 @@
+ghost use Rattle.std.specs.Prelude.{◌≡◌, ◌≤◌, [], None, Some, IfOk, IfSome, OnErr};
+ghost use Rattle.asks.specs.Forms.{ReplyHasMoment};
+ghost use Rattle.board.specs.Prepare.{KeepsRows, installed};
+ghost use Rattle.desk.specs.Keeping.{kept_or, CountedOnce, KeepsState, KeptUnless};
+ghost use Rattle.desk.specs.Settled.{stepped_by, IsSettled};
+
+use alerts::Notices;
+use asks::{Refusal, Reply};
+use board::{Board, Installed, Prepared};
+use desk_io::{Change, OutOfMemory};
+use keeper::{KeepFault, Keeper};
+use std::alloc::Global;
+
+/// A desk: its board, and the keeper of its rows.
+#[derive(Drop)]
+pub struct Desk<K> {
+    pub board: Board,
+    pub keeper: K,
+}
+
+/// What came of a step, and the keeper's count of faults where it wasn't kept.
+#[derive(Drop)]
+pub(crate) struct Settled {
+    pub reply: Option<Reply>,
+    pub notices: Notices,
+    pub fault: Option<u64>,
+}
+
+// A fault is told by the new count. Where that is the one before, the count is full, and it isn't told.
+fn told(before: u64, faults: u64) -> Result<Option<u64>, OutOfMemory>
+    requires { before ≤ faults }
+    ensures told { IfOk result (λ fault. fault ≡ Some faults) }
+    ensures count { IfOk result (λ fault. CountedOnce before fault faults) }
+{
+    if before < faults {
+        Ok(Some(faults))
+    } else {
+        Err(OutOfMemory)
+    }
+}
+
+// Keeps changes, or none of them: then it answers the keeper's count of faults.
+fn keep<K: Keeper>(
+    alloc: Global,
+    keeper: &mut K,
+    changes: &[Change],
+) -> Result<Option<u64>, OutOfMemory>
+    ensures rows { IfOk result (λ fault. KeptUnless fault (K.told keeper.old) changes.now (K.told keeper.new)) }
+    ensures same { OnErr result (K.told keeper.new ≡ K.told keeper.old) }
+    ensures count { IfOk result (λ fault. CountedOnce (K.fault_count keeper.old) fault (K.fault_count keeper.new)) }
+    ensures later { K.fault_count keeper.old ≤ K.fault_count keeper.new }
+    ensures sound { K.sound keeper.old → K.sound keeper.new × (K.fault_count keeper.new ≡ K.fault_count keeper.old) }
+{
+    let before = keeper.faults();
+    match keeper.commit(alloc, changes) {
+        Ok(()) => Ok(None),
+        Err(KeepFault::Failed) => told(before, keeper.faults()),
+        Err(KeepFault::OutOfMemory) => Err(OutOfMemory),
+    }
+}
+
+fn unkept(alloc: Global, faults: u64) -> Settled
+    ensures reply { result.reply ≡ Some (Reply.Refused (Refusal.Unkept faults)) }
+    ensures notices { result.notices ≡ [] }
+    ensures fault { result.fault ≡ Some faults }
+{
+    Settled {
+        reply: Some(Reply::Refused(Refusal::Unkept { faults })),
+        notices: Notices::new(alloc),
+        fault: Some(faults),
+    }
+}
+
+/// What came of a call whose tick was refused.
+pub(crate) fn stayed(alloc: Global, reply: Reply) -> Settled
+    ensures reply { result.reply ≡ Some reply }
+    ensures notices { result.notices ≡ [] }
+    ensures fault { result.fault ≡ None }
+{
+    Settled {
+        reply: Some(reply),
+        notices: Notices::new(alloc),
+        fault: None,
+    }
+}
+
+fn install(board: &mut Board, prepared: Prepared) -> Settled
+    requires { board.old.room ≡ Some prepared }
+    ensures settled { IsSettled result board.new.state (stepped_by board.old.state prepared) }
+    ensures fault { result.fault ≡ None }
+    ensures opening { board.new.opening ≡ board.old.opening }
+    ensures state { board.new.state ≡ installed prepared board.old.state }
+    ensures reply { result.reply ≡ prepared.reply }
+{
+    let Installed { reply, notices } = board.install(prepared);
+    Settled {
+        reply,
+        notices,
+        fault: None,
+    }
+}
+
+// A step that isn't put in place.
+fn let_go(_: Prepared) {}
+
+/// Keeps what a prepared step changes, and puts the step in place. One that changes something and isn't kept is refused.
+pub(crate) fn settle<K: Keeper>(
+    alloc: Global,
+    desk: &mut Desk<K>,
+    prepared: Prepared,
+) -> Result<Settled, OutOfMemory>
+    requires room { desk.old.board.room ≡ Some prepared }
+    requires keeps { KeepsRows desk.old.board.state prepared }
+    requires shown { IfSome prepared.reply ReplyHasMoment }
+    ensures settled { IfOk result (λ r. IsSettled r desk.new.board.state (kept_or r.fault desk.old.board.state (stepped_by desk.old.board.state prepared))) }
+    ensures shown { IfOk result (λ r. IfSome r.reply ReplyHasMoment) }
+    ensures err { OnErr result (desk.new.board.state ≡ desk.old.board.state) }
+    ensures opening { desk.new.board.opening ≡ desk.old.board.opening }
+    ensures rows { KeepsState (K.told desk.old.keeper) desk.old.board.state → KeepsState (K.told desk.new.keeper) desk.new.board.state }
+    ensures count { IfOk result (λ r. CountedOnce (K.fault_count desk.old.keeper) r.fault (K.fault_count desk.new.keeper)) }
+    ensures later { K.fault_count desk.old.keeper ≤ K.fault_count desk.new.keeper }
+    ensures sound { K.sound desk.old.keeper → K.sound desk.new.keeper × (K.fault_count desk.new.keeper ≡ K.fault_count desk.old.keeper) }
+{
+    if !prepared.changed() {
+        return Ok(install(&mut desk.board, prepared));
+    }
+    match keep(alloc, &mut desk.keeper, prepared.changes()) {
+        Ok(None) => Ok(install(&mut desk.board, prepared)),
+        Ok(Some(faults)) => {
+            let_go(prepared);
+            Ok(unkept(alloc, faults))
+        }
+        Err(OutOfMemory) => {
+            let_go(prepared);
+            Err(OutOfMemory)
+        }
+    }
+}
