@@ -8,3 +8,4 @@ pub mod Bisection
 pub mod OpeningLaws
 pub mod StateLaws
 pub mod RestoringLaws
+pub mod RowLaws
