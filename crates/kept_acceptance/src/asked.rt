@@ -55,10 +55,14 @@ fn has_draft(alloc: Global, digits: &str) -> Result<bool, OutOfMemory> {
 }
 
 #[test]
-fn drafts_and_purges_have_the_digests_of_their_json(rt: HostRuntime) -> Result<(), Fail> {
+fn drafts_purges_and_sweeps_have_the_digests_of_their_json(rt: HostRuntime) -> Result<(), Fail> {
     let drafted = "f5b0f504354aa6c6d44a5ff8134ea4c7f04b76e0087bd9a3651c8ed0812604e3";
     assert!(rt; has_draft(rt.alloc(), drafted)?);
     let purged = "642c847343a92a390c512d5cea4bafd6c381f6f637a7e8251375f165fcf575e4";
     assert!(rt; has_digest(rt.alloc(), &Ask::Purge { release: 1 }, purged)?);
+    // Before 2025-03-13 17:00.
+    let sweep = Ask::Sweep { before: 29_031_420 };
+    let swept = "350ae55d45fe82ce92c9691ebd8940e59d612d6d00f4adbf8a4b01d74008584c";
+    assert!(rt; has_digest(rt.alloc(), &sweep, swept)?);
     Ok(())
 }

@@ -1,6 +1,7 @@
 use crate::lines::{commit, gives};
 use desk_io::OutOfMemory;
 use keeper::{KeepFault, Keeper};
+use sqlite::Connection;
 use sqlite_keeper::SqliteKeeper;
 use std::fs;
 use std::test::Fail;
@@ -131,5 +132,34 @@ fn a_file_that_is_no_database_is_a_fault(rt: HostRuntime) -> Result<(), Fail> {
     let left = fs::read(&rt, name)?;
     clear(rt, name)?;
     assert!(rt; fails && left.as_slice() == text.as_slice());
+    Ok(())
+}
+
+// Makes a file of SQLite by one statement.
+fn make(rt: HostRuntime, name: &str, statement: &str) -> Result<(), sqlite::Error> {
+    let mut conn = Connection::open(&rt, name)?;
+    conn.execute(statement, &[])?;
+    Ok(())
+}
+
+const TABLE: &str =
+    "CREATE TABLE kept (kind INTEGER NOT NULL, key INTEGER NOT NULL, body TEXT NOT NULL, PRIMARY KEY (kind, key)) STRICT";
+
+#[test]
+fn a_table_with_another_text_is_a_fault(rt: HostRuntime) -> Result<(), Fail> {
+    let name = "kept_acceptance_table";
+    clear(rt, name)?;
+    make(rt, name, TABLE)?;
+    assert!(rt; leads(rt, name, "", "1 4 four\n", "1 4 four\n")?);
+    for statement in [
+        "CREATE TABLE kept(kind INTEGER, key INTEGER, body BLOB)",
+        "CREATE TABLE kept (kind INTEGER NOT NULL, key INTEGER NOT NULL, body TEXT NOT NULL, PRIMARY KEY (kind, key))",
+        "CREATE TABLE Kept (kind INTEGER NOT NULL, key INTEGER NOT NULL, body TEXT NOT NULL, PRIMARY KEY (kind, key)) STRICT",
+    ] {
+        clear(rt, name)?;
+        make(rt, name, statement)?;
+        assert!(rt; fails_to_load(rt, name)?, "{statement}");
+    }
+    clear(rt, name)?;
     Ok(())
 }

@@ -1,9 +1,11 @@
-//! Tests of what is kept: keepers of rows, in memory and over a file, plans, asks and what was done as JSON, and
-//! the rows of a desk.
+//! Tests of what is kept: keepers of rows, in memory and over a file, plans, asks and what was done as JSON, the
+//! rows of a desk, and what is asked and refused of them.
 #![tactic(auto)]
 
 #[cfg(test)]
 mod asked;
+#[cfg(test)]
+mod calls;
 #[cfg(test)]
 mod desks;
 #[cfg(test)]

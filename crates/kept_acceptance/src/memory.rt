@@ -1,12 +1,40 @@
+ghost use Rattle.std.specs.Prelude.{◌≡◌, IsTrue};
+ghost use Rattle.std.specs.List.{list_any};
+ghost use Rattle.desk_io.specs.Rows.{is_row};
+ghost use Rattle.keeper.specs.Order.{AreApart};
+
 use crate::lines::{commit, gives, rows_in};
-use desk_io::OutOfMemory;
-use keeper::{KeepFault, Keeper, MemoryKeeper, is_rising};
+use desk_io::{OutOfMemory, Row};
+use keeper::{KeepFault, Keeper, MemoryKeeper};
 use std::alloc::Global;
 use std::test::Fail;
 
 const KEPT: &str = "0 0 meta\n1 4 four\n1 9 nine\n3 2 two\n";
 
-// A keeper of rows in order, whose commits of those numbers fail.
+// A row of the kind and the key of this one is among the others.
+fn stands_in(row: &Row, others: &[Row]) -> bool
+    ensures { result ≡ list_any (is_row row.now.kind row.now.key) others.now }
+{
+    others
+        .iter()
+        .any(|other| other.kind == row.kind && other.key == row.key)
+}
+
+// No two rows have the same kind and key.
+fn are_apart(rows: &[Row]) -> bool
+    ensures { IsTrue result → AreApart rows.now }
+{
+    let mut rest = rows;
+    while let [row, others @ ..] = rest {
+        if stands_in(row, others) {
+            return false;
+        }
+        rest = others;
+    }
+    true
+}
+
+// A keeper of rows of which no two have the same kind and key, whose commits of those numbers fail.
 fn keeper_of(
     alloc: Global,
     lines: &str,
@@ -14,11 +42,36 @@ fn keeper_of(
 ) -> Result<Option<MemoryKeeper>, OutOfMemory> {
     let fail = Vec::from_slice(alloc, fail)?;
     let rows = rows_in(alloc, lines)?;
-    if is_rising(&rows) {
+    if are_apart(&rows) {
         Ok(Some(MemoryKeeper::new(rows, fail)))
     } else {
         Ok(None)
     }
+}
+
+fn begins_with(alloc: Global, first: &str, lines: &str) -> Result<bool, KeepFault> {
+    match keeper_of(alloc, first, &[])? {
+        None => Ok(false),
+        Some(mut keeper) => gives(alloc, &mut keeper, lines),
+    }
+}
+
+#[test]
+fn a_keeper_begins_with_rows_in_any_order(rt: HostRuntime) -> Result<(), Fail> {
+    for (first, lines) in [
+        ("", ""),
+        ("7 0 alone\n", "7 0 alone\n"),
+        (KEPT, KEPT),
+        ("3 2 two\n1 9 nine\n1 4 four\n0 0 meta\n", KEPT),
+        ("1 9 nine\n0 0 meta\n3 2 two\n1 4 four\n", KEPT),
+        (
+            "255 1 c\n1 18446744073709551615 b\n255 0 the rest\n1 2 a\n",
+            "1 2 a\n1 18446744073709551615 b\n255 0 the rest\n255 1 c\n",
+        ),
+    ] {
+        assert!(rt; begins_with(rt.alloc(), first, lines)?, "{first}");
+    }
+    Ok(())
 }
 
 // Whether changes lead from `KEPT` to those rows.
