@@ -1,5 +1,5 @@
 -- A row beside rows of which none has its kind and key.
-use Rattle.std.proofs.Common.{◌≡◌, sym, ap, ◌∙◌, subst, zero, suc, ◌-◌, ◌≤◌, Bool, true, false, ◌||◌, List, [], ◌∷◌, length, get_or, take, drop, take_all, arith}
+use Rattle.std.proofs.Common.{◌≡◌, refl, sym, ap, ◌∙◌, subst, zero, suc, ◌-◌, ◌≤◌, Bool, true, false, ◌||◌, List, [], ◌∷◌, length, get_or, take, drop, take_all, arith}
 use Rattle.std.specs.List.{All, list_any}
 use Rattle.std.proofs.lemmas.List.Kept.{AllPairs-cons}
 use Rattle.desk_io.specs.declared.rows.Row.{Row}
