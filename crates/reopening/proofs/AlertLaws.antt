@@ -125,7 +125,7 @@ later_found low all [] less found = tt
 later_found low all (q ∷ qs) less found = (found_later low all q (less.0, found.0), later_found low all qs less.1 found.1)
 
 -- a release whose ids rise is found by its id
-found_self : (rs : List ReleaseOf) → Pairs Below rs → AllByRecursion (λ r. release_at r.id rs ≡ Some r) rs
+pub found_self : (rs : List ReleaseOf) → Pairs Below rs → AllByRecursion (λ r. release_at r.id rs ≡ Some r) rs
 found_self [] pairs = tt
 found_self (r ∷ rs) pairs = (rw (eq-eqb r.id r.id refl) refl, later_found r rs rs pairs.0 (found_self rs pairs.1))
 
@@ -184,7 +184,7 @@ taken_above : (low : ℕ) (rs : List ReleaseOf) (next id : ℕ) → Rise low rs 
 taken_above low [] next id rise taken = absurd (cc)
 taken_above low (r ∷ rs) next id rise taken = above_by id low r (eqb r.id id) (list_any (λ q. q.id == id) rs) refl rise.0 (taken_above (r.id + 1) rs next id rise.1) taken
 
-rise_above : (id low : ℕ) (rs : List ReleaseOf) (next : ℕ) → id < low → Rise low rs next → AllByRecursion (λ q. id < q.id) rs
+pub rise_above : (id low : ℕ) (rs : List ReleaseOf) (next : ℕ) → id < low → Rise low rs next → AllByRecursion (λ q. id < q.id) rs
 rise_above id low [] next less rise = tt
 rise_above id low (r ∷ rs) next less rise = let one = rise.0 in (omega (arith, one, less), rise_above id (r.id + 1) rs next (omega (arith, one, less)) rise.1)
 

@@ -6,7 +6,7 @@ use Rattle.std.specs.List.Sorted.{IsPartitionedBy}
 use Rattle.std.proofs.lemmas.Bool.{ltb-true, ltb-false, lt-ltb, ne_eqb}
 use Rattle.plan.specs.declared.release.Release.{Release}
 use Rattle.machine.specs.State.{release_at}
-use Rattle.reopening.specs.Parting.{if_of}
+use Rattle.reopening.specs.Held.{if_of}
 use Rattle.reopening.proofs.Lists.{Pairs, weaker}
 use Rattle.reopening.proofs.Loops.{pairs_from}
 use Rattle.reopening.proofs.ReleaseLaws.{Below}

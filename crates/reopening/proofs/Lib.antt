@@ -9,3 +9,4 @@ pub mod OpeningLaws
 pub mod StateLaws
 pub mod RestoringLaws
 pub mod RowLaws
+pub mod SavedLaws

@@ -1,5 +1,5 @@
 -- Rows in order are those of records in order.
-use Rattle.std.proofs.Common.{◌≡◌, Bool, true, ◌&&◌, List, [], ◌∷◌, map, Result, Ok, refl, sym, ap, ◌∙◌}
+use Rattle.std.proofs.Common.{◌≡◌, true, ◌&&◌, List, [], ◌∷◌, map, refl, sym, ap, ◌∙◌}
 use Rattle.desk_io.specs.declared.rows.Row.{Row}
 use Rattle.keeper.specs.Order as rows
 use Rattle.records.specs.Bodies.{row_of}

@@ -1,5 +1,5 @@
 -- The state that records stand for.
-use Rattle.std.specs.Prelude.{◌≡◌, ℕ, ◌==◌, nat_lt, Bool, true, ◌&&◌, ◌||◌, All, List, [], ◌∷◌, Option, None, Some, Result, Ok, Err}
+use Rattle.std.specs.Prelude.{◌≡◌, ℕ, ◌==◌, nat_lt, Bool, true, ◌&&◌, ◌||◌, All, if◌then◌else◌, List, [], ◌∷◌, Option, None, Some, Result, Ok, Err}
 use Rattle.std.specs.List.{filter_map}
 use Rattle.std.specs.Option.{option_map}
 use Rattle.codes.specs.declared.fault.BadReport.{BadReport}
@@ -101,6 +101,11 @@ report_if r (Err bad) = None
 -- a report, read again as it was received
 unfoldable pub report_of : KeptReport → Option ReportOf
 report_of r = report_if r (read_of r.text r.received)
+
+-- the release that is there, where it has that id
+abbrev pub if_of : ℕ → Option ReleaseOf → Option ReleaseOf
+if_of id None = None
+if_of id (Some r) = if r.id == id then Some r else None
 
 -- an alert, told to a dispatcher
 abbrev pub alert_with : KeptAlert → List ℕ → AlertOf

@@ -1,5 +1,5 @@
 -- Records by their kinds.
-use Rattle.std.specs.Prelude.{ℕ, ◌==◌, if◌then◌else◌, List, [], ◌∷◌, ◌++◌, Option, None, Some}
+use Rattle.std.specs.Prelude.{List, [], ◌∷◌, ◌++◌, Option, None, Some}
 use Rattle.plan.specs.declared.release.Release.{Release as ReleaseOf}
 use Rattle.asks.specs.declared.kept.KeptReply.{KeptReply}
 use Rattle.deferrals.specs.declared.items.Deferral.{Deferral as DeferralOf}
@@ -51,8 +51,3 @@ with_record (Alert a) k = record k { alerts = k.alerts ++ a ∷ [] }
 abbrev pub with_records : List Record → Kinds → Kinds
 with_records [] k = k
 with_records (r ∷ rs) k = with_records rs (with_record r k)
-
--- the release that is there, where it has that id
-abbrev pub if_of : ℕ → Option ReleaseOf → Option ReleaseOf
-if_of id None = None
-if_of id (Some r) = if r.id == id then Some r else None

@@ -4,7 +4,6 @@ ghost use Rattle.std.specs.Option.{option_copied};
 ghost use Rattle.machine.specs.State.{release_at};
 ghost use Rattle.plan.specs.declared.release.Release.{Release as Held};
 ghost use Rattle.reopening.specs.Held as spec;
-ghost use Rattle.reopening.specs.Parting.{if_of};
 
 use alerts::Alert;
 use desk_io::{Copied, OutOfMemory, Text};
@@ -15,7 +14,7 @@ use std::alloc::Global;
 // How many releases have a lesser id.
 fn place_of(releases: &[Release], id: u64) -> usize
     requires { AllPairs (λ (a : Held) (b : Held). a.id < b.id) releases.now }
-    ensures { release_at id releases.now ≡ if_of id (slice_get releases.now result) }
+    ensures { release_at id releases.now ≡ spec.if_of id (slice_get releases.now result) }
 {
     releases.partition_point(
         |release: &Release| -> bool
