@@ -19,7 +19,7 @@ use Rattle.reopening.proofs.Lists.{weaker}
 
 -- the changes of the alerts lead to those of the judgement
 pub changes_lead : (s : State) → AreJudgeable s → put_changes (alert_changes nothing s) s.alerts ≡ judged_all s
-changes_lead s judgeable = changes_lead_by nothing s (record { moment = tt; report = tt; deferrals = tt; releases = tt }) judgeable
+changes_lead s judgeable = changes_lead_by nothing s (record { moment = tt; report = tt; apart = tt; deferrals = tt; releases = tt }) judgeable
 
 counted : (changes : List AlertChange) (c : Counters) → AreCounters c → c.events < 999_999_999_999_999 → AreCounters (counters_with changes c)
 counted [] c are room = are
