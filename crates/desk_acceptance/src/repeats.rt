@@ -11,8 +11,7 @@ pub const REPEATED: &[u8] =
 "#;
 
 /// What is said to it. A view may bear any number.
-pub const REPEATED_SAID: &[u8] =
-    br#"{"done":{"report":1}}
+pub const REPEATED_SAID: &[u8] = br#"{"done":{"report":1}}
 {"done":{"report":1}}
 {"kept":1,"refused":4,"why":"NumberReused"}
 {"done":{"report":1}}
@@ -36,8 +35,7 @@ pub const FLOORED: &[u8] =
 "#;
 
 /// What is said to it.
-pub const FLOORED_SAID: &[u8] =
-    br#"{"done":{"report":1}}
+pub const FLOORED_SAID: &[u8] = br#"{"done":{"report":1}}
 {"refused":22,"until":"2025-03-16T17:00Z","why":"TooYoung"}
 {"done":{"kept":1,"reports":0}}
 {"floor":1,"refused":27,"why":"NumberSwept"}
@@ -72,8 +70,7 @@ pub const SWEPT: &[u8] =
 "#;
 
 /// What is said to it. One report goes, which is no latest one and attached to nothing.
-pub const SWEPT_SAID: &[u8] =
-    br#"{"done":{"report":1}}
+pub const SWEPT_SAID: &[u8] = br#"{"done":{"report":1}}
 {"done":{"report":2}}
 {"done":{"report":3}}
 {"done":{"release":1,"revision":1}}
