@@ -40,8 +40,6 @@ use Rattle.desk_io.specs.Rows.{Rows, changed_by}
 use Rattle.desk_io.specs.declared.rows.Change.{Change}
 use Rattle.keeping.specs.Changes.{event_changes}
 use Rattle.keeping.specs.Rows.{AreKept}
-use Rattle.keeping.specs.Shown.{MayBeKept}
-use Rattle.keeping.proofs.Decided.{decided_kept}
 use Rattle.keeping.proofs.Leading.{kept_lead}
 use Rattle.board.specs.declared.prepared.Event.{Event}
 use Rattle.board.specs.Prepare.{with_events, installed, IsStepped, KeepsRows, MayInstall, IsReady, Shown, shown}
@@ -206,10 +204,6 @@ unfolding KeepsRows installed
 stay_keeps p s none empty rows kept =
     subst (λ (u : State). AreKept (changed_by p.changes.items rows) u) (sym (ap (λ (o : Option Event). with_events o s) none))
     (subst (λ (list : List Change). AreKept (changed_by list rows) s) (sym empty) kept)
-
--- what a call comes to may be kept as rows
-pub effect_keeps : (s : State) (call : Call) (d : Decision) (reply : Reply) (effect : Effect) → d ≡ Do reply effect → Ok d ≡ decide s call → Sound s → InBounds s → MayBeKept effect
-effect_keeps s call d reply effect is made sound kept = decided_kept s call reply effect (sym (ap (λ (x : Decision). Ok x) is) ∙ made) sound kept
 
 -- the same of a tick
 pub ticked_keeps : (s t : State) (p : Prepared) (lane to : ℕ) (effect : Effect) (made : Entry) (cs : Vec Change) → effect ≡ tick to → t ≡ s → p.changes ≡ cs → cs.items ≡ event_changes t effect made

@@ -4,9 +4,10 @@
 mod held_alerts;
 mod installing;
 mod prepared;
+mod restoring;
 mod room;
 mod state;
 mod steps;
 
 pub use prepared::{Installed, Prepared};
-pub use state::Board;
+pub use state::{Board, Restored};

@@ -1,4 +1,4 @@
-ghost use Rattle.std.specs.Prelude.{◌≡◌, ◌≤◌, ◌<◌, length, slice_get, None, Some, IfOk, IfSome, OnOk, OnErr};
+ghost use Rattle.std.specs.Prelude.{◌≡◌, ◌≤◌, ◌<◌, length, map, slice_get, None, Some, IfOk, IfSome, OnOk, OnErr};
 ghost use Rattle.std.specs.Option.{option_copied};
 ghost use Rattle.machine.specs.State.{start, release_at, alert_at};
 ghost use Rattle.machine.specs.Step.{answer_call, tick_to};
@@ -7,18 +7,26 @@ ghost use Rattle.machine.specs.Allowed.{MayLeadTo, MayTickTo};
 ghost use Rattle.machine.specs.Told.{takes_alert, AreDifferences, takes_none};
 ghost use Rattle.machine.specs.Sound.{IsBoard, IsEntered};
 ghost use Rattle.asks.specs.Forms.{IsCall, ReplyHasMoment};
+ghost use Rattle.desk_io.specs.Rows.{Rows, rows_of, changed_by};
+ghost use Rattle.keeper.specs.Kept.{AreSame};
+ghost use Rattle.keeping.specs.Rows.{AreKept};
+ghost use Rattle.records.specs.Bodies.{row_of};
+ghost use Rattle.reopening.specs.Held.{AreOfDesk, state_in};
+ghost use Rattle.reopening.specs.Opening.{reopened};
 ghost use Rattle.board.specs.Prepare.{shown, installed, IsStepped, IsAnswered, KeepsRows};
 
 use crate::installing::install;
 use crate::prepared::{Installed, Prepared};
+use crate::restoring::{Reopened, restored};
 use crate::steps::{prepare_answer, prepare_tick};
 use alerts::Alert;
 use asks::Call;
-use desk_io::{OutOfMemory, Text};
+use desk_io::{Change, OutOfMemory, Text};
 use desk_time::{LAST, Minute};
 use machine::{Content, Entry};
 use ops_tables::Tables;
 use plan::Release;
+use records::Record;
 use rules::Steps;
 use std::alloc::Global;
 use std::marker::Model;
@@ -33,6 +41,14 @@ pub struct Board {
     content: Content,
     opening: Snapshot<Content>,
     room: Option<Snapshot<Prepared>>,
+}
+
+/// A board that was restored.
+#[derive(Drop)]
+pub struct Restored {
+    pub board: Board,
+    /// What the judgement changed of the rows: nothing where no alert changed.
+    pub changes: Vec<Change>,
 }
 
 impl Model for Board {
@@ -62,6 +78,29 @@ impl Board {
             opening,
             room: None,
         }
+    }
+
+    /// The board that valid records in order stand for, once its active releases are judged, and what that changed of
+    /// the rows. Its history is empty.
+    #[tactic(auto, using(reopening::proofs::StateLaws::held_board))]
+    pub fn restore<L: Ledger>(
+        alloc: Global,
+        tables: Tables,
+        held: Vec<Record>,
+        steps: &mut Steps<L>,
+    ) -> Result<Restored, OutOfMemory>
+        requires { AreOfDesk held.items }
+        ensures board { IfOk result (λ r. r.board ≡ shown (reopened (state_in tables held.items)) (reopened (state_in tables held.items)) None) }
+        ensures rows { IfOk result (λ r. (rows : Rows) → AreSame rows (rows_of (map row_of held.items)) → AreKept (changed_by r.changes.items rows) (reopened (state_in tables held.items))) }
+    {
+        let Reopened { content, changes } = restored(alloc, tables, held, steps)?;
+        let opening = Snapshot::of(&content);
+        let board = Board {
+            content,
+            opening,
+            room: None,
+        };
+        Ok(Restored { board, changes })
     }
 
     /// Prepares a call in a lane: its reply, the state after it and what is told of the alerts are those of

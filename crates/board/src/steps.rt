@@ -11,7 +11,6 @@ ghost use Rattle.plan.specs.Texts.{IsMoment};
 ghost use Rattle.asks.specs.Forms.{IsCall};
 ghost use Rattle.board.specs.Room.{HasRoom, MayBeMade};
 ghost use Rattle.keeping.specs.Changes as kept_rows;
-ghost use Rattle.keeping.specs.Shown.{MayBeKept};
 ghost use Rattle.machine.specs.State.{State};
 ghost use Rattle.board.specs.Prepare.{IsStepped, MayInstall, KeepsRows};
 
@@ -190,7 +189,6 @@ fn rows_of(
     requires sound { Sound (state_of content.now) }
     requires bounds { InBounds (state_of content.now) }
     requires fits { EffectFits (state_of content.now) effect.now }
-    requires may { MayBeKept effect.now }
     requires changes { judged.now.changes.items ≡ alert_changes effect.now (state_of content.now) }
     requires kept { recorded.now.kept ≡ step.kept_of (effected effect.now (state_of content.now)) recorded.now.entered.what }
     ensures { IfOk result (λ rows. rows.items ≡ kept_rows.event_changes (state_of content.now) effect.now recorded.now.entered) }
@@ -277,7 +275,6 @@ fn prepare_accepted<L: Ledger>(
     requires sound { Sound (state_of content.old) }
     requires kept { InBounds (state_of content.old) }
     requires fits { EffectFits (state_of content.old) effect }
-    requires keeps { MayBeKept effect }
     requires call { IsCall call.now.ask }
     requires may { MayBeMade (state_of content.old) effect }
     ensures same { state_of content.new ≡ state_of content.old }
@@ -303,7 +300,6 @@ fn prepare_entered<L: Ledger>(
     requires sound { Sound (state_of content.old) }
     requires kept { InBounds (state_of content.old) }
     requires fits { EffectFits (state_of content.old) effect }
-    requires keeps { MayBeKept effect }
     requires call { IsCall call.now.ask }
     requires may { MayBeMade (state_of content.old) effect }
     ensures same { state_of content.new ≡ state_of content.old }

@@ -51,7 +51,7 @@ is_unkept r s p faults some reply notices fault =
 
 -- ---- the rows
 
-same_kept : (a b : Rows) (s : State) → AreSame a b → AreKept b s → AreKept a s
+pub same_kept : (a b : Rows) (s : State) → AreSame a b → AreKept b s → AreKept a s
 same_kept a b s same (inl is) = inl (λ kind key. same kind key ∙ is kind key)
 same_kept a b s same (inr none) = inr ((λ kind key. same kind key ∙ none.0 kind key), none.1)
 

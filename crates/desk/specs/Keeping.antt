@@ -132,3 +132,21 @@ pub record IsGiven (given : Given) (state : State) (outcome : Outcome) (ticked c
   pub its_state : state ≡ given.state
   pub its_tick : ticked ≡ given.ticked
   pub its_call : called ≡ given.called
+
+-- what came of a call, under some choice that the keeper's counts before and after it allow
+abbrev pub GivenBetween : ℕ → ℕ → (Choice → Given) → State → Outcome → List Notice → List Notice → Type 0
+GivenBetween before after given state outcome ticked called = (c : Choice) × Counted before (c ∷ []) after × IsGiven (given c) state outcome ticked called
+
+-- the outcomes of items and the state after them, under some choices that the keeper's counts allow
+pub record AreGiven (lane before after : ℕ) (s : State) (items : List Item) (t : State) (made : List Outcome) : Type 0 where
+  pub choices : List Choice
+  pub counted : Counted before choices after
+  pub outcomes : made ≡ outcomes_with lane s items choices
+  pub state : t ≡ after_with lane s items choices
+
+-- The same where some items are left: whatever choices come later, what is made and what is left make the whole.
+pub record AreGivenSoFar (lane before after : ℕ) (s : State) (items : List Item) (t : State) (left : List Item) (made : List Outcome) : Type 0 where
+  pub choices : List Choice
+  pub counted : Counted before choices after
+  pub outcomes : (later : List Choice) → made ++ outcomes_with lane t left later ≡ outcomes_with lane s items (choices ++ later)
+  pub state : (later : List Choice) → after_with lane t left later ≡ after_with lane s items (choices ++ later)

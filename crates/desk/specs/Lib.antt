@@ -6,3 +6,4 @@ pub mod Answers
 pub mod Shown
 pub mod Keeping
 pub mod Settled
+pub mod Opening

@@ -1,7 +1,6 @@
 -- The text of a run: a reply for each line, and the closing text.
-use Rattle.std.specs.Prelude.{ℕ, List, [], ◌∷◌, ◌++◌, Option, None, Some, map, codes}
+use Rattle.std.specs.Prelude.{◌≡◌, ℕ, List, [], ◌∷◌, ◌++◌, Option, None, Some, map, codes}
 use Rattle.desk_io.specs.Runs.{runs_between}
-use Rattle.ops_tables.specs.Tables.{TableRows}
 use Rattle.asks.specs.declared.call.Call.{Call}
 use Rattle.asks.specs.declared.reply.Reply.{Reply}
 use Rattle.desk_json.specs.Calls.{line_of}
@@ -9,9 +8,10 @@ use Rattle.desk_json.specs.Replies.{reply_text}
 use Rattle.machine.specs.declared.lanes.Item.{Item}
 use Rattle.machine.specs.declared.lanes.Item.TheVariants as item
 use Rattle.machine.specs.declared.lanes.Outcome.{Outcome}
-use Rattle.machine.specs.State.{State, start}
+use Rattle.machine.specs.State.{State}
 use Rattle.machine.specs.Lanes.{outcomes, after_items}
 use Rattle.machine.specs.Texts.{closing}
+use Rattle.desk.specs.Keeping.{Choice, Counted, outcomes_with, after_with}
 
 -- the lines that have a byte
 abbrev pub lines_of : List ℕ → List (List ℕ)
@@ -24,6 +24,14 @@ item_of (Some line) = item.Call line.0 line.1
 -- the items of lines
 abbrev pub items_of : List (List ℕ) → List Item
 items_of lines = map (λ line. item_of (line_of line)) lines
+
+-- what a lane shows: its items, and what has come of them
+pub record LaneShown : Type 0 where
+  pub items : List Item
+  pub outcomes : List Outcome
+
+abbrev pub lane_with : List Item → List Outcome → LaneShown
+lane_with items outcomes = record { items = items; outcomes = outcomes }
 
 abbrev pub not_built : List ℕ
 not_built = codes "{\"bad\":\"NotBuilt\",\"key\":\"\"}"
@@ -40,10 +48,23 @@ abbrev pub texts_of : List Outcome → List ℕ
 texts_of [] = []
 texts_of (o ∷ rest) = outcome_text o ++ texts_of rest
 
--- the text of a run of a script from a state; its lines are the items of lane 1
+-- the text of a run of a script from a state, where all is kept; its lines are the items of lane 1
 unfoldable pub run_from : State → List ℕ → List ℕ
 run_from s bytes = texts_of (outcomes 1 s (items_of (lines_of bytes))) ++ closing (after_items 1 s (items_of (lines_of bytes)))
 
--- the text of a run of a script over the tables, where nothing is held yet
-abbrev pub run_text : TableRows → List ℕ → List ℕ
-run_text tables bytes = run_from (start tables) bytes
+-- the state after the lines of a script, under choices
+unfoldable pub after_run : List Choice → State → List ℕ → State
+after_run choices s bytes = after_with 1 s (items_of (lines_of bytes)) choices
+
+-- the text of a run, where the keeper fails as choices say
+unfoldable pub run_with : List Choice → State → List ℕ → List ℕ
+run_with choices s bytes = texts_of (outcomes_with 1 s (items_of (lines_of bytes)) choices) ++ closing (after_run choices s bytes)
+
+-- a run of a script from a state to another, under some choices that the keeper's counts before and after it allow
+pub record IsRun (before after : ℕ) (s : State) (script : List ℕ) (t : State) (text : List ℕ) : Type 0 where
+  pub choices : List Choice
+  pub counted : Counted before choices after
+  pub says : text ≡ run_with choices s script
+  pub state : t ≡ after_run choices s script
+  -- where the count stands still, all was kept
+  pub steady : after ≡ before → text ≡ run_from s script

@@ -1,8 +1,13 @@
 ghost use Rattle.std.specs.Prelude.{◌≡◌, ◌<◌, ◌≤◌, ◌⊎◌, [], ◌∷◌, None, Some, IfOk, IfSome, OnOk, OnErr, length};
-ghost use Rattle.asks.specs.Forms.{IsCall, ReplyHasMoment};
+ghost use Rattle.asks.specs.Forms.{ReplyHasMoment};
+ghost use Rattle.kept_forms.specs.Formed.{AreFormed};
+ghost use Rattle.plan_json.specs.Canonical.{CallHasForms};
 ghost use Rattle.machine.specs.Step.{answer_call, tick_to};
+ghost use Rattle.asks.specs.declared.kept.KeptReply.{KeptReply as AKept};
+ghost use Rattle.machine.specs.Lanes as lanes;
+ghost use Rattle.machine.specs.Repeats.{MayAsk, IsKeptFor};
 ghost use Rattle.desk.specs.Keeping as spec;
-ghost use Rattle.desk.specs.Keeping.{Choice, Counted, CountedOnce, KeepsState, IsGiven};
+ghost use Rattle.desk.specs.Keeping.{Counted, CountedOnce, KeepsState, IsGiven, GivenBetween};
 ghost use Rattle.desk.specs.Settled.{IsSettled, MayHaveTicked, choice_of};
 ghost use Rattle.desk.specs.Shown.{IsShown};
 
@@ -27,13 +32,11 @@ pub struct Answered {
     pub called: Notices,
 }
 
-/// What a call is answered, and how often the keeper had failed where a step of it wasn't kept.
-#[derive(Debug, Drop)]
-pub struct Judged {
+/// What a call is answered, and the keeper's counts of faults where its tick or itself wasn't kept.
+#[derive(Drop)]
+pub(crate) struct Judged {
     pub answered: Answered,
-    /// Where the tick that came first wasn't kept.
     pub tick: Option<u64>,
-    /// Where the call itself wasn't.
     pub call: Option<u64>,
 }
 
@@ -44,7 +47,7 @@ fn make_call<K: Keeper, L: Ledger>(
     call: &Call,
     steps: &mut Steps<L>,
 ) -> Result<Settled, OutOfMemory>
-    requires { IsCall call.now.ask }
+    requires { CallHasForms call.now }
     ensures settled { IfOk result (λ r. IsSettled r desk.new.board.state (spec.made_with r.fault lane desk.old.board.state call.now)) }
     ensures shown { IfOk result (λ r. IfSome r.reply ReplyHasMoment) }
     ensures err { OnErr result (desk.new.board.state ≡ desk.old.board.state) }
@@ -89,7 +92,7 @@ fn once_ticked<K: Keeper, L: Ledger>(
     call: &Call,
     steps: &mut Steps<L>,
 ) -> Result<Settled, OutOfMemory>
-    requires call { IsCall call.now.ask }
+    requires call { CallHasForms call.now }
     requires shown { IfSome refused ReplyHasMoment }
     ensures settled { IfOk result (λ r. IsSettled r desk.new.board.state (spec.once_ticked r.fault lane refused desk.old.board.state call.now)) }
     ensures shown { IfOk result (λ r. IfSome r.reply ReplyHasMoment) }
@@ -138,7 +141,7 @@ fn answer_made<K: Keeper, L: Ledger>(
     call: &Call,
     steps: &mut Steps<L>,
 ) -> Result<Judged, OutOfMemory>
-    requires { IsCall call.now.ask }
+    requires { CallHasForms call.now }
     ensures given { IfOk result (λ j. IsGiven (spec.given [] desk.old.board.state (spec.made_with j.call lane desk.old.board.state call.now)) desk.new.board.state j.answered.outcome j.answered.ticked j.answered.called) }
     ensures shown { IfOk result (λ j. IsShown j.answered.outcome) }
     ensures count { IfOk result (λ j. Counted (K.fault_count desk.old.keeper) (choice_of j ∷ []) (K.fault_count desk.new.keeper)) }
@@ -163,7 +166,7 @@ fn answer_late<K: Keeper, L: Ledger>(
 ) -> Result<Judged, OutOfMemory>
     requires after { desk.old.board.state.moment < at }
     requires within { at ≤ LAST }
-    requires call { IsCall call.now.ask }
+    requires call { CallHasForms call.now }
     ensures given { IfOk result (λ j. IsGiven (spec.made_after j.call lane (spec.ticked_with j.tick lane desk.old.board.state at) call.now) desk.new.board.state j.answered.outcome j.answered.ticked j.answered.called) }
     ensures shown { IfOk result (λ j. IsShown j.answered.outcome) }
     ensures count { IfOk result (λ j. Counted (K.fault_count desk.old.keeper) (choice_of j ∷ []) (K.fault_count desk.new.keeper)) }
@@ -183,12 +186,9 @@ fn answer_late<K: Keeper, L: Ledger>(
     Ok(joined(position, notices, fault, settled))
 }
 
-/// Answers a call of a lane at a moment over a keeper of rows. The desk ticks to the moment first, where it is later. What
-/// the tick changes of the rows is kept before the tick is made, and then the same of the call; what changes nothing isn't
-/// kept. Where the keeper fails, the reply is `Unkept` with its count of faults, and that step changes nothing; a tick that
-/// was made before stays. After want of memory nothing is changed but that tick.
+// The same, without what is said of forms.
 #[tactic(auto, unfolding(crate::specs::Keeping::answer_with))]
-pub fn answer_at<K: Keeper, L: Ledger>(
+fn judge_at<K: Keeper, L: Ledger>(
     alloc: Global,
     desk: &mut Desk<K>,
     lane: u32,
@@ -197,7 +197,7 @@ pub fn answer_at<K: Keeper, L: Ledger>(
     steps: &mut Steps<L>,
 ) -> Result<Judged, OutOfMemory>
     requires within { at ≤ LAST }
-    requires call { IsCall call.now.ask }
+    requires call { CallHasForms call.now }
     ensures given { IfOk result (λ j. IsGiven (spec.answer_with (choice_of j) lane desk.old.board.state at call.now) desk.new.board.state j.answered.outcome j.answered.ticked j.answered.called) }
     ensures shown { IfOk result (λ j. IsShown j.answered.outcome) }
     ensures count { IfOk result (λ j. Counted (K.fault_count desk.old.keeper) (choice_of j ∷ []) (K.fault_count desk.new.keeper)) }
@@ -212,4 +212,66 @@ pub fn answer_at<K: Keeper, L: Ledger>(
     } else {
         answer_made(alloc, desk, lane, call, steps)
     }
+}
+
+/// A call of a lane at a moment: the desk ticks to it first, where it is later, and keeps what each of the two changes
+/// before it is made.
+pub(crate) fn judge<K: Keeper, L: Ledger>(
+    alloc: Global,
+    desk: &mut Desk<K>,
+    lane: u32,
+    at: Minute,
+    call: &Call,
+    steps: &mut Steps<L>,
+) -> Result<Judged, OutOfMemory>
+    requires within { at ≤ LAST }
+    requires call { CallHasForms call.now }
+    ensures given { IfOk result (λ j. IsGiven (spec.answer_with (choice_of j) lane desk.old.board.state at call.now) desk.new.board.state j.answered.outcome j.answered.ticked j.answered.called) }
+    ensures shown { IfOk result (λ j. IsShown j.answered.outcome) }
+    ensures count { IfOk result (λ j. Counted (K.fault_count desk.old.keeper) (choice_of j ∷ []) (K.fault_count desk.new.keeper)) }
+    ensures err { OnErr result (MayHaveTicked lane at desk.old.board.state desk.new.board.state) }
+    ensures opening { desk.new.board.opening ≡ desk.old.board.opening }
+    ensures rows { KeepsState (K.told desk.old.keeper) desk.old.board.state → KeepsState (K.told desk.new.keeper) desk.new.board.state }
+    ensures later { K.fault_count desk.old.keeper ≤ K.fault_count desk.new.keeper }
+    ensures sound { K.sound desk.old.keeper → K.sound desk.new.keeper × (K.fault_count desk.new.keeper ≡ K.fault_count desk.old.keeper) }
+    // The forms that each part of the state has stay.
+    ensures formed { AreFormed desk.old.board.state → AreFormed desk.new.board.state }
+{
+    // what holds of every board
+    let _ = desk.board.now();
+    judge_at(alloc, desk, lane, at, call, steps)
+}
+
+/// A call of a lane at a moment, over a keeper: the desk ticks to it first, where it is later, and keeps what each of
+/// the two changes before it is made. What the keeper fails to keep isn't made, and is refused with its count of
+/// faults (26 `Unkept`). Where memory runs out the step at hand changes nothing, and a tick that came first may stand.
+pub fn answer<K: Keeper, L: Ledger>(
+    alloc: Global,
+    desk: &mut Desk<K>,
+    lane: u32,
+    moment: Minute,
+    call: &Call,
+    steps: &mut Steps<L>,
+) -> Result<Answered, OutOfMemory>
+    requires within { moment ≤ LAST }
+    requires call { CallHasForms call.now }
+    // Under some choice that the keeper's counts allow: the numbers of refusals rise strictly.
+    ensures given { IfOk result (λ a. GivenBetween (K.fault_count desk.old.keeper) (K.fault_count desk.new.keeper) (λ c. spec.answer_with c lane desk.old.board.state moment call.now) desk.new.board.state a.outcome a.ticked a.called) }
+    // Over a sound keeper nothing is refused for its sake.
+    ensures quiet { K.sound desk.old.keeper → IfOk result (λ a. (a.outcome ≡ (lanes.answer lane desk.old.board.state moment call.now).outcome) × (desk.new.board.state ≡ (lanes.answer lane desk.old.board.state moment call.now).state)) }
+    // A command that comes again is answered with what is kept of it, whatever the keeper does.
+    ensures again { (k : AKept) → moment ≤ desk.old.board.state.moment → MayAsk desk.old.board.state call.now → IsKeptFor desk.old.board.state call.now k
+        → IfOk result (λ a. (a.outcome ≡ (lanes.replied desk.old.board.state (Some (Reply.Done k.done)) desk.old.board.state).outcome) × (desk.new.board.state ≡ desk.old.board.state)) }
+    ensures shown { IfOk result (λ a. IsShown a.outcome) }
+    ensures err { OnErr result (MayHaveTicked lane moment desk.old.board.state desk.new.board.state) }
+    ensures opening { desk.new.board.opening ≡ desk.old.board.opening }
+    // What is kept is kept for the state, whatever is answered.
+    ensures rows { KeepsState (K.told desk.old.keeper) desk.old.board.state → KeepsState (K.told desk.new.keeper) desk.new.board.state }
+    ensures later { K.fault_count desk.old.keeper ≤ K.fault_count desk.new.keeper }
+    ensures sound { K.sound desk.old.keeper → K.sound desk.new.keeper × (K.fault_count desk.new.keeper ≡ K.fault_count desk.old.keeper) }
+    // The forms stay by which the rows are those of a desk.
+    ensures formed { AreFormed desk.old.board.state → AreFormed desk.new.board.state }
+{
+    let judged = judge(alloc, desk, lane, moment, call, steps)?;
+    Ok(judged.answered)
 }

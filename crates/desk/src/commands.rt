@@ -1,90 +1,255 @@
-ghost use Rattle.std.specs.Prelude.{◌≢◌, map, string_bytes, All, IfOk};
+ghost use Rattle.std.specs.Prelude.{◌≡◌, ◌≢◌, ◌<◌, ◌≤◌, map, string_bytes, All, IfOk, IfSome, None};
 ghost use Rattle.desk_io.specs.Causes.{RoseOrFull};
 ghost use Rattle.desk_io.specs.Told.{HoldsName};
-ghost use Rattle.desk.specs.Answers.{Says, RunSays, SourceSays, sources_for, sources_of};
-ghost use Rattle.desk.specs.Run.{run_text};
+ghost use Rattle.desk.specs.Answers.{telling, left_with, Says, RunSays, SourceSays, ScriptSays, ReportsSay, WhySays, IsRunFrom, IsUntouched, WholeSays, sources_for, sources_of};
+ghost use Rattle.kept_forms.specs.Formed.{AreFormed, NamesHaveForms};
+ghost use Rattle.machine.specs.State.{State};
+ghost use Rattle.desk.specs.Keeping.{KeepsState};
+ghost use Rattle.desk.specs.Opening.{IsLeft, TellsRowsOf};
+ghost use Rattle.desk.specs.Run.{IsRun};
 ghost use Rattle.desk.specs.Weather.{weather_text};
 ghost use Rattle.desk.specs.Words.{command_of};
 ghost use Rattle.desk.specs.declared.words.Task.TheVariants as task;
 
-use crate::answer::Answer;
-use crate::run::text_of_run;
+use crate::opening::{OpenFault, OpenWhy, leave, open};
+use crate::run::text_from;
+use crate::saying::Answer;
+use crate::settling::Desk;
 use crate::weather::text_of_weather;
 use crate::words::{Task, command};
+use board::Board;
 use desk_io::{OutOfMemory, Shelf, WholeFault, read_whole};
+use keeper::Keeper;
 use ops_tables::Tables;
+use rules::Steps;
 use std::alloc::Global;
+use std::marker::Brand;
+use std::sync::ledger::{Blank, Ledger};
 use table_files::{TableFault, read_tables};
 
-fn answer_of_weather<S: Shelf>(
-    alloc: Global,
-    name: &str,
-    shelf: &mut S,
-) -> Result<Answer, OutOfMemory>
-    ensures sound { S.sound shelf.old → HoldsName (S.sources shelf.old) name.now → IfOk result (λ a. a.status ≢ 3) }
-    ensures known { IfOk result (λ a. a.status ≢ 4) }
-    ensures says { IfOk result (λ a. SourceSays (S.sources shelf.old) (RoseOrFull (S.fault_count shelf.old) (S.fault_count shelf.new)) weather_text name.now a.status a.text.items) }
+/// What the program says, and what is left: the board, where a script was run, and the keeper.
+#[derive(Drop)]
+pub(crate) struct Said<K> {
+    pub answer: Result<Answer, OutOfMemory>,
+    pub board: Option<Board>,
+    pub keeper: K,
+}
+
+// Nothing is asked of the keeper.
+fn untouched<K: Keeper>(answer: Result<Answer, OutOfMemory>, keeper: K) -> Said<K>
+    ensures answer { result.answer ≡ answer }
+    ensures board { result.board ≡ None }
+    ensures keeper { result.keeper ≡ keeper }
+    ensures untouched { IsUntouched (telling (K.told keeper) (K.fault_count keeper)) (left_with result.board (K.told result.keeper) (K.fault_count result.keeper)) }
 {
-    match read_whole(alloc, shelf, name) {
-        Ok(source) => {
-            let text = text_of_weather(alloc, source.bytes())?;
-            Ok(Answer { status: 0, text })
-        }
-        Err(WholeFault::ReadFault) => Answer::read_fault(alloc, name.as_bytes()),
-        Err(WholeFault::TooLong) => Answer::input_too_long(alloc, name.as_bytes()),
-        Err(WholeFault::OutOfMemory) => Err(OutOfMemory),
+    Said {
+        answer,
+        board: None,
+        keeper,
     }
 }
 
+fn answer_of_why(alloc: Global, why: OpenWhy) -> Result<Answer, OutOfMemory>
+    ensures { IfOk result (λ a. WhySays why a.status a.text.items) }
+{
+    match why {
+        OpenWhy::KeeperFault => Answer::keeper_fault(alloc),
+        OpenWhy::BadRow { row, why } => Answer::bad_row(alloc, &row, why),
+        OpenWhy::BadPair { one, two } => Answer::bad_pair(alloc, &one, &two),
+        OpenWhy::OutOfMemory => Err(OutOfMemory),
+    }
+}
+
+// What is said of a source that can't be read.
+fn answer_of_fault(alloc: Global, name: &[u8], fault: WholeFault) -> Result<Answer, OutOfMemory>
+    ensures { IfOk result (λ a. WholeSays fault name.now a.status a.text.items) }
+{
+    match fault {
+        WholeFault::ReadFault => Answer::read_fault(alloc, name),
+        WholeFault::TooLong => Answer::input_too_long(alloc, name),
+        WholeFault::OutOfMemory => Err(OutOfMemory),
+    }
+}
+
+// The answer of a script that is run on a desk.
+fn answer_on<K: Keeper, L: Ledger>(
+    alloc: Global,
+    desk: &mut Desk<K>,
+    script: &[u8],
+    steps: &mut Steps<L>,
+) -> Result<Answer, OutOfMemory>
+    ensures status { IfOk result (λ a. a.status ≡ 0) }
+    ensures run { IfOk result (λ a. IsRun (K.fault_count desk.old.keeper) (K.fault_count desk.new.keeper) desk.old.board.state script.now desk.new.board.state a.text.items) }
+    ensures opening { desk.new.board.opening ≡ desk.old.board.opening }
+    ensures rows { KeepsState (K.told desk.old.keeper) desk.old.board.state → KeepsState (K.told desk.new.keeper) desk.new.board.state }
+    ensures later { K.fault_count desk.old.keeper ≤ K.fault_count desk.new.keeper }
+    ensures sound { K.sound desk.old.keeper → K.sound desk.new.keeper × (K.fault_count desk.new.keeper ≡ K.fault_count desk.old.keeper) }
+    ensures formed { AreFormed desk.old.board.state → AreFormed desk.new.board.state }
+{
+    let text = text_from(alloc, desk, script, steps)?;
+    Ok(Answer { status: 0, text })
+}
+
+fn run_on<K: Keeper, L: Ledger>(
+    alloc: Global,
+    mut desk: Desk<K>,
+    script: &[u8],
+    steps: &mut Steps<L>,
+) -> Said<K>
+    requires { KeepsState (K.told desk.keeper) desk.board.state }
+    ensures status { IfOk result.answer (λ a. a.status ≡ 0) }
+    ensures run { IfOk result.answer (λ a. IsRunFrom desk.board (K.fault_count desk.keeper) script.now a.text.items result.board (telling (K.told result.keeper) (K.fault_count result.keeper))) }
+    ensures later { K.fault_count desk.keeper ≤ K.fault_count result.keeper }
+    ensures steady { K.sound desk.keeper → K.sound result.keeper × (K.fault_count result.keeper ≡ K.fault_count desk.keeper) × IfOk result.answer (λ a. a.status ≢ 5) }
+    ensures formed { AreFormed desk.board.state → IfSome result.board (λ b. AreFormed b.state) }
+{
+    let answer = answer_on(alloc, &mut desk, script, steps);
+    let Desk { board, keeper } = desk;
+    Said {
+        answer,
+        board: Some(board),
+        keeper,
+    }
+}
+
+fn run_with<K: Keeper, L: Ledger>(
+    alloc: Global,
+    tables: Tables,
+    script: &[u8],
+    keeper: K,
+    blank: Blank,
+) -> Said<K>
+    requires name { blank.name ≡ L.name }
+    requires parts { blank.parts ≡ L.parts }
+    requires some { 0 < blank.parts }
+    ensures known { IfOk result.answer (λ a. (a.status ≢ 3) × (a.status ≢ 4)) }
+    ensures says { IfOk result.answer (λ a. ScriptSays tables (telling (K.told keeper) (K.fault_count keeper)) script.now a.status a.text.items (left_with result.board (K.told result.keeper) (K.fault_count result.keeper))) }
+    ensures later { K.fault_count keeper ≤ K.fault_count result.keeper }
+    ensures steady { K.sound keeper → K.sound result.keeper × (K.fault_count result.keeper ≡ K.fault_count keeper) × IfOk result.answer (λ a. a.status ≢ 5) }
+    ensures formed { NamesHaveForms tables → IfSome result.board (λ b. AreFormed b.state) }
+    ensures left { (s : State) → IsLeft s → TellsRowsOf (K.told keeper) s → IfOk result.answer (λ a. a.status ≢ 7) }
+{
+    let mut steps = Steps::<L>::new(blank);
+    match open(alloc, tables, keeper, &mut steps) {
+        Ok(desk) => run_on(alloc, desk, script, &mut steps),
+        Err(OpenFault { keeper, why }) => Said {
+            answer: answer_of_why(alloc, why),
+            board: None,
+            keeper,
+        },
+    }
+}
+
+// A script is run over the tables, and over the rows of a keeper.
+fn run_over<K: Keeper>(alloc: Global, tables: Tables, script: &[u8], keeper: K) -> Said<K>
+    ensures known { IfOk result.answer (λ a. (a.status ≢ 3) × (a.status ≢ 4)) }
+    ensures says { IfOk result.answer (λ a. ScriptSays tables (telling (K.told keeper) (K.fault_count keeper)) script.now a.status a.text.items (left_with result.board (K.told result.keeper) (K.fault_count result.keeper))) }
+    ensures later { K.fault_count keeper ≤ K.fault_count result.keeper }
+    ensures steady { K.sound keeper → K.sound result.keeper × (K.fault_count result.keeper ≡ K.fault_count keeper) × IfOk result.answer (λ a. a.status ≢ 5) }
+    ensures formed { NamesHaveForms tables → IfSome result.board (λ b. AreFormed b.state) }
+    ensures left { (s : State) → IsLeft s → TellsRowsOf (K.told keeper) s → IfOk result.answer (λ a. a.status ≢ 7) }
+{
+    run_with::<K, Brand>(alloc, tables, script, keeper, Blank::new(1))
+}
+
+fn answer_of_weather<S: Shelf, K: Keeper>(
+    alloc: Global,
+    name: &str,
+    shelf: &mut S,
+    keeper: K,
+) -> Said<K>
+    ensures sound { S.sound shelf.old → HoldsName (S.sources shelf.old) name.now → IfOk result.answer (λ a. a.status ≢ 3) }
+    ensures known { IfOk result.answer (λ a. a.status ≢ 4) }
+    ensures says { IfOk result.answer (λ a. SourceSays (S.sources shelf.old) (RoseOrFull (S.fault_count shelf.old) (S.fault_count shelf.new)) (telling (K.told keeper) (K.fault_count keeper)) (ReportsSay (telling (K.told keeper) (K.fault_count keeper))) name.now a.status a.text.items (left_with result.board (K.told result.keeper) (K.fault_count result.keeper))) }
+    ensures later { K.fault_count keeper ≤ K.fault_count result.keeper }
+    ensures steady { K.sound keeper → K.sound result.keeper × (K.fault_count result.keeper ≡ K.fault_count keeper) × IfOk result.answer (λ a. a.status ≢ 5) }
+    ensures none { result.board ≡ None }
+    ensures never { IfOk result.answer (λ a. a.status ≢ 7) }
+{
+    match read_whole(alloc, shelf, name) {
+        Ok(source) => untouched(reports_of(alloc, source.bytes()), keeper),
+        Err(fault) => untouched(answer_of_fault(alloc, name.as_bytes(), fault), keeper),
+    }
+}
+
+fn reports_of(alloc: Global, file: &[u8]) -> Result<Answer, OutOfMemory>
+    ensures status { IfOk result (λ a. a.status ≡ 0) }
+    ensures text { IfOk result (λ a. a.text.items ≡ weather_text file.now) }
+{
+    let text = text_of_weather(alloc, file)?;
+    Ok(Answer { status: 0, text })
+}
+
 // The script is read after the tables, and run over them.
-fn answer_over<S: Shelf>(
+fn answer_over<S: Shelf, K: Keeper>(
     alloc: Global,
     tables: Tables,
     name: &str,
     shelf: &mut S,
-) -> Result<Answer, OutOfMemory>
-    ensures sound { S.sound shelf.old → HoldsName (S.sources shelf.old) name.now → IfOk result (λ a. a.status ≢ 3) }
-    ensures known { IfOk result (λ a. a.status ≢ 4) }
-    ensures says { IfOk result (λ a. SourceSays (S.sources shelf.old) (RoseOrFull (S.fault_count shelf.old) (S.fault_count shelf.new)) (run_text tables) name.now a.status a.text.items) }
+    keeper: K,
+) -> Said<K>
+    ensures sound { S.sound shelf.old → HoldsName (S.sources shelf.old) name.now → IfOk result.answer (λ a. a.status ≢ 3) }
+    ensures known { IfOk result.answer (λ a. a.status ≢ 4) }
+    ensures says { IfOk result.answer (λ a. SourceSays (S.sources shelf.old) (RoseOrFull (S.fault_count shelf.old) (S.fault_count shelf.new)) (telling (K.told keeper) (K.fault_count keeper)) (ScriptSays tables (telling (K.told keeper) (K.fault_count keeper))) name.now a.status a.text.items (left_with result.board (K.told result.keeper) (K.fault_count result.keeper))) }
+    ensures later { K.fault_count keeper ≤ K.fault_count result.keeper }
+    ensures steady { K.sound keeper → K.sound result.keeper × (K.fault_count result.keeper ≡ K.fault_count keeper) × IfOk result.answer (λ a. a.status ≢ 5) }
+    ensures formed { NamesHaveForms tables → IfSome result.board (λ b. AreFormed b.state) }
+    ensures left { (s : State) → IsLeft s → TellsRowsOf (K.told keeper) s → IfOk result.answer (λ a. a.status ≢ 7) }
 {
     match read_whole(alloc, shelf, name) {
-        Ok(script) => {
-            let text = text_of_run(alloc, tables, script.bytes())?;
-            Ok(Answer { status: 0, text })
+        Ok(script) => run_over(alloc, tables, script.bytes(), keeper),
+        Err(fault) => {
+            leave(tables);
+            untouched(answer_of_fault(alloc, name.as_bytes(), fault), keeper)
         }
-        Err(WholeFault::ReadFault) => Answer::read_fault(alloc, name.as_bytes()),
-        Err(WholeFault::TooLong) => Answer::input_too_long(alloc, name.as_bytes()),
-        Err(WholeFault::OutOfMemory) => Err(OutOfMemory),
     }
 }
 
-fn answer_of_run<S: Shelf>(alloc: Global, name: &str, shelf: &mut S) -> Result<Answer, OutOfMemory>
-    ensures sound { S.sound shelf.old → All (HoldsName (S.sources shelf.old)) (sources_for task.Run name.now) → IfOk result (λ a. a.status ≢ 3) }
-    ensures known { IfOk result (λ a. a.status ≢ 4) }
-    ensures says { IfOk result (λ a. RunSays (S.sources shelf.old) (RoseOrFull (S.fault_count shelf.old) (S.fault_count shelf.new)) name.now a.status a.text.items) }
+fn answer_of_run<S: Shelf, K: Keeper>(
+    alloc: Global,
+    name: &str,
+    shelf: &mut S,
+    keeper: K,
+) -> Said<K>
+    ensures sound { S.sound shelf.old → All (HoldsName (S.sources shelf.old)) (sources_for task.Run name.now) → IfOk result.answer (λ a. a.status ≢ 3) }
+    ensures known { IfOk result.answer (λ a. a.status ≢ 4) }
+    ensures says { IfOk result.answer (λ a. RunSays (S.sources shelf.old) (RoseOrFull (S.fault_count shelf.old) (S.fault_count shelf.new)) (telling (K.told keeper) (K.fault_count keeper)) name.now a.status a.text.items (left_with result.board (K.told result.keeper) (K.fault_count result.keeper))) }
+    ensures later { K.fault_count keeper ≤ K.fault_count result.keeper }
+    ensures steady { K.sound keeper → K.sound result.keeper × (K.fault_count result.keeper ≡ K.fault_count keeper) × IfOk result.answer (λ a. a.status ≢ 5) }
+    ensures formed { IfSome result.board (λ b. AreFormed b.state) }
+    ensures left { (s : State) → IsLeft s → TellsRowsOf (K.told keeper) s → IfOk result.answer (λ a. a.status ≢ 7) }
 {
     match read_tables(alloc, shelf) {
-        Ok(tables) => answer_over(alloc, tables, name, shelf),
-        Err(TableFault::Bad(bad)) => Answer::bad_table(alloc, &bad),
-        Err(TableFault::ReadFault(table)) => Answer::read_fault(alloc, table.bytes()),
-        Err(TableFault::TooLong(table)) => Answer::input_too_long(alloc, table.bytes()),
-        Err(TableFault::OutOfMemory) => Err(OutOfMemory),
+        Ok(tables) => answer_over(alloc, tables, name, shelf, keeper),
+        Err(TableFault::Bad(bad)) => untouched(Answer::bad_table(alloc, &bad), keeper),
+        Err(TableFault::ReadFault(table)) => {
+            untouched(Answer::read_fault(alloc, table.bytes()), keeper)
+        }
+        Err(TableFault::TooLong(table)) => {
+            untouched(Answer::input_too_long(alloc, table.bytes()), keeper)
+        }
+        Err(TableFault::OutOfMemory) => untouched(Err(OutOfMemory), keeper),
     }
 }
 
 /// What the program says to the words.
-pub fn answer_to<S: Shelf>(
+pub(crate) fn answer_to<S: Shelf, K: Keeper>(
     alloc: Global,
     words: &[String],
     shelf: &mut S,
-) -> Result<Answer, OutOfMemory>
-    ensures sound { S.sound shelf.old → All (HoldsName (S.sources shelf.old)) (sources_of (command_of (map string_bytes words.now))) → IfOk result (λ a. a.status ≢ 3) }
-    ensures known { IfOk result (λ a. a.status ≢ 4) }
-    ensures says { IfOk result (λ a. Says (S.sources shelf.old) (RoseOrFull (S.fault_count shelf.old) (S.fault_count shelf.new)) (command_of (map string_bytes words.now)) a.status a.text.items) }
+    keeper: K,
+) -> Said<K>
+    ensures sound { S.sound shelf.old → All (HoldsName (S.sources shelf.old)) (sources_of (command_of (map string_bytes words.now))) → IfOk result.answer (λ a. a.status ≢ 3) }
+    ensures known { IfOk result.answer (λ a. a.status ≢ 4) }
+    ensures says { IfOk result.answer (λ a. Says (S.sources shelf.old) (RoseOrFull (S.fault_count shelf.old) (S.fault_count shelf.new)) (telling (K.told keeper) (K.fault_count keeper)) (command_of (map string_bytes words.now)) a.status a.text.items (left_with result.board (K.told result.keeper) (K.fault_count result.keeper))) }
+    ensures later { K.fault_count keeper ≤ K.fault_count result.keeper }
+    ensures steady { K.sound keeper → K.sound result.keeper × (K.fault_count result.keeper ≡ K.fault_count keeper) × IfOk result.answer (λ a. a.status ≢ 5) }
+    ensures formed { IfSome result.board (λ b. AreFormed b.state) }
+    ensures left { (s : State) → IsLeft s → TellsRowsOf (K.told keeper) s → IfOk result.answer (λ a. a.status ≢ 7) }
 {
     match command(words) {
-        None => Answer::usage(alloc),
-        Some((Task::Run, name)) => answer_of_run(alloc, name, shelf),
-        Some((Task::Weather, name)) => answer_of_weather(alloc, name, shelf),
+        None => untouched(Answer::usage(alloc), keeper),
+        Some((Task::Run, name)) => answer_of_run(alloc, name, shelf, keeper),
+        Some((Task::Weather, name)) => answer_of_weather(alloc, name, shelf, keeper),
     }
 }

@@ -1,15 +1,19 @@
 //! The dispatch release desk: what its commands say of the sources that they name.
 #![tactic(auto)]
 
-mod answer;
 mod answering;
 mod commands;
+mod lanes;
+mod opening;
 mod run;
+mod saying;
 mod settling;
 mod top;
 mod weather;
 mod words;
 
-pub use answering::{Answered, Judged, answer_at};
+pub use answering::{Answered, answer};
+pub use lanes::Lane;
+pub use opening::{OpenFault, OpenWhy, open};
 pub use settling::Desk;
-pub use top::desk_main;
+pub use top::{Ending, desk_main};

@@ -1,165 +1,123 @@
-ghost use Rattle.std.specs.Prelude.{◌≡◌, ◌<◌, ◌≤◌, ◌++◌, IfOk, IfSome, OnOk};
+ghost use Rattle.std.specs.Prelude.{◌≡◌, ◌≤◌, ◌++◌, ◌∷◌, [], IfOk, IfSome, OnOk};
 ghost use Rattle.std.specs.List.{AllByRecursion};
-ghost use Rattle.asks.specs.Forms.{IsCall, ReplyHasMoment};
-ghost use Rattle.desk_json.specs.Calls.{line_of};
-ghost use Rattle.machine.specs.Lanes as lanes;
+ghost use Rattle.asks.specs.Forms.{ReplyHasMoment};
 ghost use Rattle.machine.specs.Texts.{closing};
+ghost use Rattle.kept_forms.specs.Formed.{AreFormed};
+ghost use Rattle.desk.specs.Keeping.{item_with, Counted, IsGiven, AreGiven, KeepsState};
 ghost use Rattle.desk.specs.Run as spec;
-ghost use Rattle.desk.specs.Run.{items_of, texts_of, run_from, run_text};
+ghost use Rattle.desk.specs.Run.{texts_of, IsRun};
+ghost use Rattle.desk.specs.Settled.{choice_of};
 ghost use Rattle.desk.specs.Shown.{IsItem, IsShown};
 
-use asks::{Call, Reply};
-use board::{Board, Installed};
-use desk_io::{LineFeeds, OutOfMemory, Run, runs_between};
-use desk_json::{read_line, reply_text};
-use desk_time::{LAST, Minute};
+use crate::answering::{Answered, Judged, judge};
+use crate::lanes::Lane;
+use crate::settling::Desk;
+use alerts::Notices;
+use asks::Reply;
+use board::Board;
+use desk_io::OutOfMemory;
+use desk_json::reply_text;
+use keeper::Keeper;
 use machine::{Item, Outcome};
-use ops_tables::Tables;
 use rules::Steps;
 use std::alloc::Global;
-use std::marker::Brand;
-use std::sync::ledger::{Blank, Ledger};
+use std::sync::ledger::Ledger;
 
 // The lane of a script's calls.
 const LANE: u32 = 1;
 
-fn make_call<L: Ledger>(
-    alloc: Global,
-    board: &mut Board,
-    lane: u32,
-    call: &Call,
-    steps: &mut Steps<L>,
-) -> Result<Outcome, OutOfMemory>
-    requires { IsCall call.now.ask }
-    ensures outcome { IfOk result (λ o. o ≡ (lanes.made lane board.old.state call.now).outcome) }
-    ensures state { OnOk result (board.new.state ≡ (lanes.made lane board.old.state call.now).state) }
-    ensures shown { IfOk result IsShown }
+fn bad_line(alloc: Global, board: &Board) -> Judged
+    ensures given { IsGiven (item_with (choice_of result) LANE board.now.state Item.Bad) board.now.state result.answered.outcome result.answered.ticked result.answered.called }
+    ensures shown { IsShown result.answered.outcome }
+    ensures tick { result.tick ≡ None }
+    ensures call { result.call ≡ None }
 {
-    let position = board.entries() as u64;
-    let reply = board.apply(alloc, lane, call, steps)?.reply;
-    Ok(Outcome { position, reply })
-}
-
-fn make_late<L: Ledger>(
-    alloc: Global,
-    board: &mut Board,
-    lane: u32,
-    at: Minute,
-    call: &Call,
-    steps: &mut Steps<L>,
-) -> Result<Outcome, OutOfMemory>
-    requires later { board.old.state.moment < at }
-    requires within { at ≤ LAST }
-    requires call { IsCall call.now.ask }
-    ensures outcome { IfOk result (λ o. o ≡ (lanes.made_late lane board.old.state at call.now).outcome) }
-    ensures state { OnOk result (board.new.state ≡ (lanes.made_late lane board.old.state at call.now).state) }
-    ensures shown { IfOk result IsShown }
-{
-    let Installed { reply, notices: _ } = board.tick(alloc, lane, at, steps)?;
-    match reply {
-        None => make_call(alloc, board, lane, call, steps),
-        Some(reply) => Ok(Outcome {
-            position: board.entries() as u64,
-            reply: Some(reply),
-        }),
+    Judged {
+        answered: Answered {
+            outcome: Outcome {
+                position: board.entries() as u64,
+                reply: None,
+            },
+            ticked: Notices::new(alloc),
+            called: Notices::new(alloc),
+        },
+        tick: None,
+        call: None,
     }
 }
 
-// A call at a moment: the desk ticks to it first, where it is later.
-#[tactic(auto, unfolding(machine::specs::Lanes::answer))]
-fn answer<L: Ledger>(
+fn judge_item<K: Keeper, L: Ledger>(
     alloc: Global,
-    board: &mut Board,
-    lane: u32,
-    at: Minute,
-    call: &Call,
-    steps: &mut Steps<L>,
-) -> Result<Outcome, OutOfMemory>
-    requires within { at ≤ LAST }
-    requires call { IsCall call.now.ask }
-    ensures outcome { IfOk result (λ o. o ≡ (lanes.answer lane board.old.state at call.now).outcome) }
-    ensures state { OnOk result (board.new.state ≡ (lanes.answer lane board.old.state at call.now).state) }
-    ensures shown { IfOk result IsShown }
-{
-    if board.now() < at {
-        make_late(alloc, board, lane, at, call, steps)
-    } else {
-        make_call(alloc, board, lane, call, steps)
-    }
-}
-
-fn answer_item<L: Ledger>(
-    alloc: Global,
-    board: &mut Board,
-    lane: u32,
+    desk: &mut Desk<K>,
     item: &Item,
     steps: &mut Steps<L>,
-) -> Result<Outcome, OutOfMemory>
+) -> Result<Judged, OutOfMemory>
     requires { IsItem item.now }
-    ensures outcome { IfOk result (λ o. o ≡ (lanes.answer_item lane board.old.state item.now).outcome) }
-    ensures state { OnOk result (board.new.state ≡ (lanes.answer_item lane board.old.state item.now).state) }
-    ensures shown { IfOk result IsShown }
+    ensures given { IfOk result (λ j. IsGiven (item_with (choice_of j) LANE desk.old.board.state item.now) desk.new.board.state j.answered.outcome j.answered.ticked j.answered.called) }
+    ensures shown { IfOk result (λ j. IsShown j.answered.outcome) }
+    ensures count { IfOk result (λ j. Counted (K.fault_count desk.old.keeper) (choice_of j ∷ []) (K.fault_count desk.new.keeper)) }
+    ensures opening { desk.new.board.opening ≡ desk.old.board.opening }
+    ensures rows { KeepsState (K.told desk.old.keeper) desk.old.board.state → KeepsState (K.told desk.new.keeper) desk.new.board.state }
+    ensures later { K.fault_count desk.old.keeper ≤ K.fault_count desk.new.keeper }
+    ensures sound { K.sound desk.old.keeper → K.sound desk.new.keeper × (K.fault_count desk.new.keeper ≡ K.fault_count desk.old.keeper) }
+    ensures formed { AreFormed desk.old.board.state → AreFormed desk.new.board.state }
 {
     match item {
-        Item::Call { at, call } => answer(alloc, board, lane, *at, call, steps),
-        Item::Bad => Ok(Outcome {
-            position: board.entries() as u64,
-            reply: None,
-        }),
+        Item::Call { at, call } => judge(alloc, desk, LANE, *at, call, steps),
+        Item::Bad => Ok(bad_line(alloc, &desk.board)),
     }
 }
 
-fn item_of(line: Option<(Minute, Call)>) -> Item
-    requires within { IfSome line (λ p. p.0 ≤ LAST) }
-    requires form { IfSome line (λ p. IsCall p.1.ask) }
-    ensures value { result ≡ spec.item_of line }
-    ensures form { IsItem result }
+fn outcome_of(judged: Judged) -> Outcome
+    ensures { result ≡ judged.answered.outcome }
 {
-    match line {
-        None => Item::Bad,
-        Some((at, call)) => Item::Call { at, call },
-    }
+    let Judged { answered, .. } = judged;
+    let Answered { outcome, .. } = answered;
+    outcome
 }
 
-fn read_item(alloc: Global, line: &[u8]) -> Result<Item, OutOfMemory>
-    ensures value { IfOk result (λ i. i ≡ spec.item_of (line_of line.now)) }
-    ensures form { IfOk result IsItem }
-{
-    Ok(item_of(read_line(alloc, line)?))
-}
-
-// What comes of a line of a script.
-fn answer_line<L: Ledger>(
+// What comes of items.
+fn outcomes_of<K: Keeper, L: Ledger>(
     alloc: Global,
-    board: &mut Board,
-    lane: u32,
-    line: &[u8],
-    steps: &mut Steps<L>,
-) -> Result<Outcome, OutOfMemory>
-    ensures outcome { IfOk result (λ o. o ≡ (lanes.answer_item lane board.old.state (spec.item_of (line_of line.now))).outcome) }
-    ensures state { OnOk result (board.new.state ≡ (lanes.answer_item lane board.old.state (spec.item_of (line_of line.now))).state) }
-    ensures shown { IfOk result IsShown }
-{
-    let item = read_item(alloc, line)?;
-    answer_item(alloc, board, lane, &item, steps)
-}
-
-/// What comes of the lines of a script.
-pub(crate) fn outcomes_of<L: Ledger>(
-    alloc: Global,
-    board: &mut Board,
-    lines: &[Run<'_>],
+    desk: &mut Desk<K>,
+    items: &[Item],
     steps: &mut Steps<L>,
 ) -> Result<Vec<Outcome>, OutOfMemory>
-    ensures outcomes { IfOk result (λ v. v.items ≡ lanes.outcomes LANE board.old.state (items_of lines.now)) }
-    ensures after { OnOk result (board.new.state ≡ lanes.after_items LANE board.old.state (items_of lines.now)) }
+    requires { AllByRecursion IsItem items.now }
+    ensures given { IfOk result (λ v. AreGiven LANE (K.fault_count desk.old.keeper) (K.fault_count desk.new.keeper) desk.old.board.state items.now desk.new.board.state v.items) }
     ensures shown { IfOk result (λ v. AllByRecursion IsShown v.items) }
+    ensures opening { desk.new.board.opening ≡ desk.old.board.opening }
+    ensures rows { KeepsState (K.told desk.old.keeper) desk.old.board.state → KeepsState (K.told desk.new.keeper) desk.new.board.state }
+    ensures later { K.fault_count desk.old.keeper ≤ K.fault_count desk.new.keeper }
+    ensures sound { K.sound desk.old.keeper → K.sound desk.new.keeper × (K.fault_count desk.new.keeper ≡ K.fault_count desk.old.keeper) }
+    ensures formed { AreFormed desk.old.board.state → AreFormed desk.new.board.state }
 {
     let mut outcomes = Vec::new(alloc);
-    for line in lines {
-        outcomes.push(answer_line(alloc, board, LANE, line.bytes(), steps)?)?;
+    for item in items {
+        let judged = judge_item(alloc, desk, item, steps)?;
+        outcomes.push(outcome_of(judged))?;
     }
     Ok(outcomes)
+}
+
+/// Answers the items of a lane in their turn.
+pub(crate) fn run_lane<K: Keeper, L: Ledger>(
+    alloc: Global,
+    desk: &mut Desk<K>,
+    lane: &mut Lane,
+    steps: &mut Steps<L>,
+) -> Result<(), OutOfMemory>
+    ensures given { OnOk result (AreGiven LANE (K.fault_count desk.old.keeper) (K.fault_count desk.new.keeper) desk.old.board.state lane.old.items desk.new.board.state lane.new.outcomes) }
+    ensures items { lane.new.items ≡ lane.old.items }
+    ensures opening { desk.new.board.opening ≡ desk.old.board.opening }
+    ensures rows { KeepsState (K.told desk.old.keeper) desk.old.board.state → KeepsState (K.told desk.new.keeper) desk.new.board.state }
+    ensures later { K.fault_count desk.old.keeper ≤ K.fault_count desk.new.keeper }
+    ensures sound { K.sound desk.old.keeper → K.sound desk.new.keeper × (K.fault_count desk.new.keeper ≡ K.fault_count desk.old.keeper) }
+    ensures formed { AreFormed desk.old.board.state → AreFormed desk.new.board.state }
+{
+    let outcomes = outcomes_of(alloc, desk, lane.items(), steps)?;
+    lane.end(outcomes);
+    Ok(())
 }
 
 fn push_reply(alloc: Global, out: &mut Vec<u8>, reply: &Option<Reply>) -> Result<(), OutOfMemory>
@@ -210,40 +168,21 @@ fn text_of(alloc: Global, board: &Board, outcomes: &[Outcome]) -> Result<Vec<u8>
     Ok(out)
 }
 
-// The text of a run that goes on from what a board holds.
-#[tactic(auto, unfolding(crate::specs::Run::run_from))]
-fn text_from<L: Ledger>(
+/// The text of a run that goes on from what a desk holds: a reply for each line that has a byte, and the closing text.
+pub(crate) fn text_from<K: Keeper, L: Ledger>(
     alloc: Global,
-    board: &mut Board,
+    desk: &mut Desk<K>,
     script: &[u8],
     steps: &mut Steps<L>,
 ) -> Result<Vec<u8>, OutOfMemory>
-    ensures { IfOk result (λ v. v.items ≡ run_from board.old.state script.now) }
+    ensures run { IfOk result (λ v. IsRun (K.fault_count desk.old.keeper) (K.fault_count desk.new.keeper) desk.old.board.state script.now desk.new.board.state v.items) }
+    ensures opening { desk.new.board.opening ≡ desk.old.board.opening }
+    ensures rows { KeepsState (K.told desk.old.keeper) desk.old.board.state → KeepsState (K.told desk.new.keeper) desk.new.board.state }
+    ensures later { K.fault_count desk.old.keeper ≤ K.fault_count desk.new.keeper }
+    ensures sound { K.sound desk.old.keeper → K.sound desk.new.keeper × (K.fault_count desk.new.keeper ≡ K.fault_count desk.old.keeper) }
+    ensures formed { AreFormed desk.old.board.state → AreFormed desk.new.board.state }
 {
-    let lines = runs_between::<LineFeeds>(alloc, script)?;
-    let outcomes = outcomes_of(alloc, board, &lines, steps)?;
-    text_of(alloc, board, &outcomes)
-}
-
-fn text_with<L: Ledger>(
-    alloc: Global,
-    tables: Tables,
-    script: &[u8],
-    blank: Blank,
-) -> Result<Vec<u8>, OutOfMemory>
-    requires name { blank.name ≡ L.name }
-    requires parts { blank.parts ≡ L.parts }
-    requires some { 0 < blank.parts }
-    ensures { IfOk result (λ v. v.items ≡ run_text tables script.now) }
-{
-    let mut steps = Steps::<L>::new(blank);
-    let mut board = Board::new(alloc, tables);
-    text_from(alloc, &mut board, script, &mut steps)
-}
-
-/// The text of a run of a script over the tables: a reply for each line that has a byte, and the closing text.
-pub fn text_of_run(alloc: Global, tables: Tables, script: &[u8]) -> Result<Vec<u8>, OutOfMemory>
-    ensures { IfOk result (λ v. v.items ≡ run_text tables script.now) }
-{
-    text_with::<Brand>(alloc, tables, script, Blank::new(1))
+    let mut lane = Lane::of(alloc, script)?;
+    run_lane(alloc, desk, &mut lane, steps)?;
+    text_of(alloc, &desk.board, lane.outcomes())
 }

@@ -39,7 +39,7 @@ fn told(before: u64, faults: u64) -> Result<Option<u64>, OutOfMemory>
     }
 }
 
-// Keeps changes, or none of them: then it answers the keeper's count of faults.
+// KeepsState changes, or none of them: then it answers the keeper's count of faults.
 fn keep<K: Keeper>(
     alloc: Global,
     keeper: &mut K,
@@ -103,7 +103,7 @@ fn install(board: &mut Board, prepared: Prepared) -> Settled
 // A step that isn't put in place.
 fn let_go(_: Prepared) {}
 
-/// Keeps what a prepared step changes, and puts the step in place. One that changes something and isn't kept is refused.
+/// KeepsState what a prepared step changes, and puts the step in place. One that changes something and isn't kept is refused.
 pub(crate) fn settle<K: Keeper>(
     alloc: Global,
     desk: &mut Desk<K>,

@@ -1,42 +1,88 @@
-ghost use Rattle.std.specs.Prelude.{◌≢◌, map, string_bytes, All};
+ghost use Rattle.std.specs.Prelude.{◌≡◌, ◌≢◌, ◌≤◌, map, string_bytes, All, IfSome, MatchResult};
+ghost use Rattle.std.specs.Io.KnownBytes.{Appends, Keeps};
 ghost use Rattle.desk_io.specs.Causes.{RoseOrFull};
 ghost use Rattle.desk_io.specs.Told.{HoldsName};
+ghost use Rattle.kept_forms.specs.Formed.{AreFormed};
+ghost use Rattle.machine.specs.State.{State};
+ghost use Rattle.desk.specs.Opening.{IsLeft, TellsRowsOf};
 ghost use Rattle.desk.specs.Words.{command_of};
-ghost use Rattle.desk.specs.Answers.{Says, Ends, sources_of};
+ghost use Rattle.desk.specs.Answers.{telling, left_with, Says, Ends, EndsWith, sources_of};
 
-use crate::commands::answer_to;
-use desk_io::{PutFault, Shelf, Sink};
+use crate::commands::{Said, answer_to};
+use crate::saying::Answer;
+use board::Board;
+use desk_io::{OutOfMemory, PutFault, Shelf, Sink};
+use keeper::Keeper;
 use std::alloc::Global;
 
-/// Does what the words ask, and answers the status of the program. `run SCRIPT` reads the twelve tables
-/// and then the script; `weather FILE` reads the file alone. The first fault in this order is answered.
-///
-/// - 0: all of this was read to its end, and what is said of it was written: of `run SCRIPT` a reply for
-///   each line and the closing text, of `weather FILE` a line for each report.
-/// - 2: exactly where the words form no command; `error 2 Usage` is written.
-/// - 3: only where the shelf's count of faults rose, or is full; `error 3 ReadFault NAME`.
-/// - 4: only where the sink's count of faults rose, or is full; it gained a front of the text.
-/// - 6: exactly where the table of that name has a bad record, first at that number (the header is 1);
-///   `error 6 BadTable NAME NUMBER WHY`.
-/// - 8: want of memory; the sink gained nothing.
-/// - 10: exactly where the source of that name has more than 64 MiB; `error 10 InputTooLong NAME`.
-pub fn desk_main<S: Shelf, O: Sink>(
-    alloc: Global,
-    words: &[String],
-    shelf: &mut S,
-    out: &mut O,
-) -> u8
-    ensures complete { S.sound shelf.old → O.sound out.old → All (HoldsName (S.sources shelf.old)) (sources_of (command_of (map string_bytes words.now)))
-        → (result ≢ 3) × (result ≢ 4) }
-    ensures ends { Ends (Says (S.sources shelf.old) (RoseOrFull (S.fault_count shelf.old) (S.fault_count shelf.new)) (command_of (map string_bytes words.now)))
-        (RoseOrFull (O.fault_count out.old) (O.fault_count out.new)) (O.content out.old) (O.content out.new) result }
+/// How the program ends, and what is left: the board of `run SCRIPT` where its text was written, or the sink failed
+/// at it, and the keeper.
+#[derive(Drop)]
+pub struct Ending<K> {
+    pub status: u8,
+    pub board: Option<Board>,
+    pub keeper: K,
+}
+
+// Writes an answer, and gives the status.
+fn write<O: Sink>(answer: Result<Answer, OutOfMemory>, out: &mut O) -> u8
+    ensures { MatchResult answer (λ a. EndsWith a.status a.text.items (O.sound out.old → ⊥) (RoseOrFull (O.fault_count out.old) (O.fault_count out.new)) (O.content out.old) (O.content out.new) result)
+        (λ e. (result ≡ 8) × Keeps (O.content out.old) (O.content out.new)) }
 {
-    match answer_to(alloc, words, shelf) {
+    match answer {
         Err(_) => 8,
         Ok(answer) => match out.write(&answer.text) {
             Ok(()) => answer.status,
             Err(PutFault::Failed) => 4,
             Err(PutFault::OutOfMemory) => 8,
         },
+    }
+}
+
+/// Does what the words ask, and answers the status of the program. `run SCRIPT` reads the twelve tables and then the
+/// script, and loads the rows of the keeper; then the script is run on the desk of these rows. `weather FILE` reads
+/// the file alone, and asks nothing of the keeper. The first fault in this order is answered.
+///
+/// - 0: all of this was read to its end, and what is said of it was written: of `run SCRIPT` a reply for
+///   each line and the closing text, of `weather FILE` a line for each report.
+/// - 2: exactly where the words form no command; `error 2 Usage` is written.
+/// - 3: only where the shelf's count of faults rose, or is full; `error 3 ReadFault NAME`.
+/// - 4: only where the sink's count of faults rose, or is full; it gained a front of the text.
+/// - 5: only where the keeper's count of faults rose, or is full; `error 5 KeeperFault`.
+/// - 6: exactly where the table of that name has a bad record, first at that number (the header is 1);
+///   `error 6 BadTable NAME NUMBER WHY`.
+/// - 7: exactly where the rows of the keeper aren't those of a desk: `error 7 BadRow KIND KEY WHY` or
+///   `error 7 BadPair KIND KEY KIND KEY`, their first fault.
+/// - 8: want of memory; the sink gained nothing.
+/// - 10: exactly where the source of that name has more than 64 MiB; `error 10 InputTooLong NAME`.
+pub fn desk_main<S: Shelf, O: Sink, K: Keeper>(
+    alloc: Global,
+    words: &[String],
+    shelf: &mut S,
+    out: &mut O,
+    keeper: K,
+) -> Ending<K>
+    ensures complete { S.sound shelf.old → O.sound out.old → All (HoldsName (S.sources shelf.old)) (sources_of (command_of (map string_bytes words.now)))
+        → (result.status ≢ 3) × (result.status ≢ 4) }
+    ensures ends { Ends (Says (S.sources shelf.old) (RoseOrFull (S.fault_count shelf.old) (S.fault_count shelf.new)) (telling (K.told keeper) (K.fault_count keeper)) (command_of (map string_bytes words.now)))
+        (RoseOrFull (O.fault_count out.old) (O.fault_count out.new)) (O.content out.old) (O.content out.new) result.status (left_with result.board (K.told result.keeper) (K.fault_count result.keeper)) }
+    ensures later { K.fault_count keeper ≤ K.fault_count result.keeper }
+    // A sound keeper never ends a run, and since its count stands still nothing is refused for its sake.
+    ensures steady { K.sound keeper → K.sound result.keeper × (K.fault_count result.keeper ≡ K.fault_count keeper) × (result.status ≢ 5) }
+    // Over the rows of a desk that was left there is no fault of rows; and a desk that is left again has the forms by which
+    // its rows are those of a desk.
+    ensures left { (s : State) → IsLeft s → TellsRowsOf (K.told keeper) s → result.status ≢ 7 }
+    ensures formed { IfSome result.board (λ b. AreFormed b.state) }
+{
+    let Said {
+        answer,
+        board,
+        keeper,
+    } = answer_to(alloc, words, shelf, keeper);
+    let status = write(answer, out);
+    Ending {
+        status,
+        board,
+        keeper,
     }
 }

@@ -11,6 +11,7 @@ use crate::texts::{
 };
 use desk::desk_main;
 use desk_io::{MemoryShelf, MemorySink, OutOfMemory, Text, push_all};
+use keeper::MemoryKeeper;
 use small_airline::{push_small, shelf_of};
 use std::alloc::Global;
 use std::test::Fail;
@@ -33,6 +34,17 @@ fn shelf(alloc: Global, script: &[u8]) -> Result<MemoryShelf, OutOfMemory> {
     Ok(MemoryShelf::new(sources, Vec::new(alloc)))
 }
 
+// The status of a command of an office that keeps nothing yet.
+fn status_of(
+    alloc: Global,
+    words: &[String],
+    shelf: &mut MemoryShelf,
+    sink: &mut MemorySink,
+) -> u8 {
+    let keeper = MemoryKeeper::new(Vec::new(alloc), Vec::new(alloc));
+    desk_main(alloc, words, shelf, sink, keeper).status
+}
+
 // Whether this is the status and the text of a command over the tables of the small airline and one source, `script`.
 fn is_said(
     alloc: Global,
@@ -44,7 +56,7 @@ fn is_said(
     let words = words(alloc, command)?;
     let mut shelf = shelf(alloc, script)?;
     let mut sink = MemorySink::new(alloc, Vec::new(alloc));
-    let ended = desk_main(alloc, &words, &mut shelf, &mut sink);
+    let ended = status_of(alloc, &words, &mut shelf, &mut sink);
     Ok(ended == status && sink.written() == text)
 }
 
@@ -53,7 +65,7 @@ pub fn said_to(alloc: Global, script: &[u8]) -> Result<Vec<u8>, OutOfMemory> {
     let words = words(alloc, "run script")?;
     let mut shelf = shelf(alloc, script)?;
     let mut sink = MemorySink::new(alloc, Vec::new(alloc));
-    let _ = desk_main(alloc, &words, &mut shelf, &mut sink);
+    let _ = status_of(alloc, &words, &mut shelf, &mut sink);
     Ok(Vec::from_slice(alloc, sink.written())?)
 }
 
@@ -128,7 +140,7 @@ fn is_said_with(
     let words = words(alloc, "run nowhere")?;
     let mut shelf = shelf_of(alloc, table, records)?;
     let mut sink = MemorySink::new(alloc, Vec::new(alloc));
-    let ended = desk_main(alloc, &words, &mut shelf, &mut sink);
+    let ended = status_of(alloc, &words, &mut shelf, &mut sink);
     Ok(ended == status && sink.written() == text)
 }
 
@@ -183,7 +195,7 @@ fn is_said_at_faults(
     push_small(alloc, &mut sources)?;
     let mut shelf = MemoryShelf::new(sources, Vec::from_slice(alloc, reads)?);
     let mut sink = MemorySink::new(alloc, Vec::from_slice(alloc, writes)?);
-    let ended = desk_main(alloc, &words, &mut shelf, &mut sink);
+    let ended = status_of(alloc, &words, &mut shelf, &mut sink);
     Ok(ended == status && sink.written() == text)
 }
 

@@ -9,11 +9,12 @@ use Rattle.alerts.specs.declared.alert.Alert.{Alert}
 use Rattle.machine.specs.declared.change.AlertChange.{AlertChange}
 use Rattle.machine.specs.declared.effect.Effect.{Effect}
 use Rattle.machine.specs.Events.{effected, is_same_alert, change_between, changes_from, changes_over, alert_changes, put_alert, put_changes}
-use Rattle.machine.specs.Sound.{Sound, Rise}
+use Rattle.machine.specs.Sound.{AreJudgeable, Sound, Rise}
 use Rattle.machine.specs.State.{State, alert_at, judged}
 use Rattle.machine.proofs.Judging.{IsOf, Of, found_of, judged_is}
 use Rattle.machine.proofs.Changes.{all_above}
 use Rattle.machine.proofs.Each.{each_weaker}
+use Rattle.machine.proofs.Parts.{judgeable}
 use Rattle.records.specs.Bodies.{row_of}
 use Rattle.records.specs.declared.record.Record.TheVariants as record_of
 use Rattle.keeping.specs.Rows.{alert_kept}
@@ -33,10 +34,13 @@ filter_ascends j low next (r ∷ rs) of rise = by (j r) (of r) (filter_ascends j
     by None is rest = rest
     by (Some a) is rest = (all_above j (r.id + 1) rs next of a.release (omega (arith, is)) rise.1, rest)
 
+pub judgeable_ascend : (s : State) → AreJudgeable s → Ascends release_of s.alerts
+judgeable_ascend s judgeable =
+    subst (Ascends release_of) (sym judgeable.own)
+    (filter_ascends (λ r. alert_at r.id s.alerts) 0 s.counters.next_release s.releases (λ r. found_of r.id s.alerts) judgeable.ids)
+
 pub alerts_ascend : (s : State) → Sound s → Ascends release_of s.alerts
-alerts_ascend s sound =
-    subst (Ascends release_of) (sym sound.own)
-    (filter_ascends (λ r. alert_at r.id s.alerts) 0 s.counters.next_release s.releases (λ r. found_of r.id s.alerts) sound.ids)
+alerts_ascend s sound = judgeable_ascend s (judgeable s sound)
 
 -- One alert.
 

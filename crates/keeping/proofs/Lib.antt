@@ -7,4 +7,4 @@ pub mod Leading
 pub mod Rising
 pub mod Pushed
 pub mod ShownLaws
-pub mod Decided
+pub mod JudgedLaws

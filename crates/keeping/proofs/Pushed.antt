@@ -7,7 +7,7 @@ use Rattle.facts.specs.declared.report.Report.{Report}
 use Rattle.machine.specs.declared.effect.Sweep.{Sweep}
 use Rattle.machine.specs.Events.{reports_after}
 use Rattle.keeping.specs.Changes.{report_changes, swept_reports}
-use Rattle.keeping.specs.Shown.{AreApart}
+use Rattle.machine.specs.Sound.{AreApart}
 
 ids_removed : (rs : List Report) → map (λ id. Remove 1 id) (map (λ r. r.id) rs) ≡ map (λ r. Remove 1 r.id) rs
 ids_removed [] = refl

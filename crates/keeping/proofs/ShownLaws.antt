@@ -28,7 +28,7 @@ use Rattle.machine.specs.Step.{kept_of}
 use Rattle.machine.proofs.Each.{each_weaker, found_each}
 use Rattle.machine.proofs.Judging.{alerts_have}
 use Rattle.machine.proofs.Parts.{moment_shown}
-use Rattle.keeping.specs.Shown.{IsSmallReport, IsSmallDeferral, IsSmallRelease, AreSmall, MayBeKept, WasFound, IsShownRelease, WasAccepted, WasOpened, AreShown}
+use Rattle.keeping.specs.Shown.{IsSmallReport, IsSmallDeferral, IsSmallRelease, AreSmall, WasReceived, WasFound, IsShownRelease, WasAccepted, WasOpened, AreShown}
 use Rattle.keeping.proofs.Parts.{all_append}
 
 -- Numbers.
@@ -59,6 +59,10 @@ are_small s effect fits bounds = record {
 
 -- Moments.
 
+was_received : (s : State) (o : Option Report) → IfSome o (IsNext s) → WasReceived o
+was_received s None fits = tt
+was_received s (Some r) fits = fits.received
+
 was_found : (s : State) (on : OnDeferrals) → DeferralsFit s on → WasFound on
 was_found s on_deferrals.Nothing fits = tt
 was_found s (on_deferrals.Open d) fits = fits.found
@@ -85,7 +89,7 @@ was_accepted t (what.Asked call (Refused refusal)) shown = tt
 
 -- Alerts.
 
-abbrev Opened : Alert → Type 0
+abbrev pub Opened : Alert → Type 0
 Opened a = IsMoment a.opened
 
 abbrev ChangesOpened : List AlertChange → Type 0
@@ -111,7 +115,7 @@ judged_opened (Some []) None r moment shown is = tt
 judged_opened (Some (f ∷ fs)) None r moment shown is = shown
 judged_opened (Some fs) (Some a) r moment shown is = once_opened _ a fs is
 
-over_opened : (t : State) (held : List Alert) (rs : List Release) → IsMoment t.moment → AllByRecursion Opened t.alerts → ChangesOpened (changes_over t held rs)
+pub over_opened : (t : State) (held : List Alert) (rs : List Release) → IsMoment t.moment → AllByRecursion Opened t.alerts → ChangesOpened (changes_over t held rs)
 over_opened t held [] shown all = tt
 over_opened t held (r ∷ rs) shown all =
     let found = found_each Opened (λ a. a.release == r.id) t.alerts all in
@@ -125,14 +129,14 @@ opened_after : (s : State) (effect : Effect) → Sound s → AllByRecursion Open
 opened_after s effect sound = alerts_have Opened (λ a is. is) effect.on_alerts s.alerts (each_weaker (IsAlert s.counters.events) Opened (λ a is. is.moment) s.alerts sound.alerts)
 
 pub are_shown : (s : State) (effect : Effect) (w : What) (kept : Option KeptReply) (alerts : List AlertChange) → Sound s → InBounds s → EffectFits s effect
-    → MayBeKept effect → kept ≡ kept_of (effected effect s) w → alerts ≡ alert_changes effect s → AreShown s effect kept alerts
-are_shown s effect w kept alerts sound bounds fits may same changed =
+    → kept ≡ kept_of (effected effect s) w → alerts ≡ alert_changes effect s → AreShown s effect kept alerts
+are_shown s effect w kept alerts sound bounds fits same changed =
     let shown = moment_shown effect.moment s.moment fits.moment bounds.moment in
     record {
       moment = shown;
       small = are_small s effect fits bounds;
-      received = may.received;
-      apart = may.apart;
+      received = was_received s effect.report fits.report;
+      apart = fits.apart;
       found = was_found s effect.on_deferrals fits.deferrals;
       release = shown_release s effect.on_releases fits.releases;
       accepted = subst WasAccepted (sym same) (was_accepted (effected effect s) w shown);

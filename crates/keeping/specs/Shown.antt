@@ -11,19 +11,13 @@ use Rattle.machine.specs.declared.effect.OnDeferrals.{OnDeferrals}
 use Rattle.machine.specs.declared.effect.OnDeferrals.TheVariants as on_deferrals
 use Rattle.machine.specs.declared.effect.OnReleases.{OnReleases}
 use Rattle.machine.specs.declared.effect.OnReleases.TheVariants as on_releases
-use Rattle.machine.specs.declared.effect.Sweep.{Sweep}
 use Rattle.machine.specs.Events.{moment_after}
+use Rattle.machine.specs.Sound.{AreApart}
 use Rattle.machine.specs.State.{State}
 
 -- a number after which there is another one
 abbrev pub IsSmall : ℕ → Type 0
 IsSmall n = n < 10_000_000_000_000_000
-
--- no report comes with a sweep
-abbrev pub AreApart : Option Report → Option Sweep → Type 0
-AreApart None sweep = Unit {0}
-AreApart (Some r) None = Unit {0}
-AreApart (Some r) (Some w) = ⊥
 
 abbrev pub WasReceived : Option Report → Type 0
 WasReceived report = IfSome report (λ r. IsMoment r.received)
@@ -58,11 +52,6 @@ WasAccepted kept = IfSome kept (λ k. IsMoment k.at)
 
 abbrev pub WasOpened : Option Alert → Type 0
 WasOpened alert = IfSome alert (λ a. IsMoment a.opened)
-
--- a report that comes was received at a moment that can be shown, and no sweep comes with it
-pub record MayBeKept (effect : Effect) : Type 0 where
-  pub received : WasReceived effect.report
-  pub apart : AreApart effect.report effect.sweep
 
 -- numbers after which there are others
 pub record AreSmall (s : State) (effect : Effect) : Type 0 where

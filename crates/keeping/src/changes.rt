@@ -5,14 +5,14 @@ ghost use Rattle.facts.specs.Swept.{leaving};
 ghost use Rattle.machine.specs.Contents.{state_of};
 ghost use Rattle.machine.specs.Events.{effected, alert_changes, moment_after};
 ghost use Rattle.machine.specs.Requests.{kept_before};
-ghost use Rattle.machine.specs.Sound.{Sound, InBounds, EffectFits};
+ghost use Rattle.machine.specs.Sound.{Sound, InBounds, EffectFits, AreApart};
 ghost use Rattle.machine.specs.Step as step;
 ghost use Rattle.machine.specs.Step.{kept_of};
 ghost use Rattle.plan.specs.Texts.{IsMoment};
 ghost use Rattle.release_json.specs.Rows.{ReleaseHasMoments};
 ghost use Rattle.keeping.specs.Changes as spec;
 ghost use Rattle.keeping.specs.Rows.{meta_of};
-ghost use Rattle.keeping.specs.Shown.{AreSmall, AreApart, WasReceived, WasFound, IsShownRelease, WasAccepted, WasOpened, MayBeKept, AreShown};
+ghost use Rattle.keeping.specs.Shown.{AreSmall, WasReceived, WasFound, IsShownRelease, WasAccepted, WasOpened, AreShown};
 
 use crate::held::{alert_kept, put, report_kept};
 use crate::meta::meta_after;
@@ -226,7 +226,8 @@ fn alert_change(alloc: Global, release: u64, alert: &Option<Alert>) -> Result<Ch
     }
 }
 
-fn push_alerts(
+/// What becomes of the rows of alerts that change.
+pub(crate) fn push_alerts(
     alloc: Global,
     changes: &mut Vec<Change>,
     alerts: &[AlertChange],
@@ -306,7 +307,6 @@ pub fn event_changes(
     requires sound { Sound (state_of content.now) }
     requires bounds { InBounds (state_of content.now) }
     requires fits { EffectFits (state_of content.now) effect.now }
-    requires may { MayBeKept effect.now }
     requires kept { option_copied kept ≡ kept_of (effected effect.now (state_of content.now)) entered.now.what }
     requires alerts { alerts.now ≡ alert_changes effect.now (state_of content.now) }
     ensures { IfOk result (λ changes. changes.items ≡ spec.event_changes (state_of content.now) effect.now entered.now) }

@@ -3,6 +3,8 @@
 
 mod changes;
 mod held;
+mod judged;
 mod meta;
 
 pub use changes::event_changes;
+pub use judged::judged_changes;

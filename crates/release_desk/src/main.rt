@@ -3,6 +3,7 @@
 
 use desk::desk_main;
 use desk_io::{FileShelf, StdoutSink};
+use sqlite_keeper::SqliteKeeper;
 use std::alloc::AllocError;
 use std::env;
 use std::process::ExitCode;
@@ -19,11 +20,18 @@ fn words_of(rt: &HostRuntime) -> Result<Vec<String>, AllocError> {
     Ok(words)
 }
 
+// The desk's rows are kept in this file of the working folder.
+fn keeper_of(rt: HostRuntime) -> Result<SqliteKeeper, AllocError> {
+    let path = String::from_str(rt.alloc(), "desk.db")?;
+    Ok(SqliteKeeper::new(rt, path))
+}
+
 fn main(rt: HostRuntime) -> ExitCode {
-    let Ok(words) = words_of(&rt) else {
+    let (Ok(words), Ok(keeper)) = (words_of(&rt), keeper_of(rt)) else {
         return ExitCode::from(8);
     };
     let mut shelf = FileShelf::new(rt);
     let mut out = StdoutSink::new(rt);
-    ExitCode::from(desk_main(rt.alloc(), &words, &mut shelf, &mut out))
+    let ending = desk_main(rt.alloc(), &words, &mut shelf, &mut out, keeper);
+    ExitCode::from(ending.status)
 }

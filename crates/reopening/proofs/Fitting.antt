@@ -8,7 +8,7 @@ use Rattle.std.proofs.lemmas.Bool.Decides.{nat_tests}
 use Rattle.std.proofs.lemmas.List.{append_assoc}
 use Rattle.std.proofs.lemmas.List.Elements.{recursion_from_All}
 use Rattle.std.proofs.lemmas.List.Sums.{sum_by-append}
-use Rattle.records.specs.Faults.{fit, has_meta, within_limits, have_releases, agree, are_counted, place_of, first_after, pair_or, pair_after, is_over, is_orphan, is_bad_pair, is_ahead, meta_from, beside, ahead_of, bad, pair, ◌>>◌}
+use Rattle.records.specs.Faults.{fit, has_meta, within_limits, have_releases, agree, are_counted, place_of, first_after, pair_or, pair_after, is_over, is_orphan, is_bad_pair, is_ahead, meta_from, lacks_meta, beside, ahead_of, bad, pair, ◌>>◌}
 use Rattle.records.specs.Kinds.{kind_of, key_of, is_kind}
 use Rattle.records.specs.Valid.{IsRecord}
 use Rattle.records.specs.declared.faults.RowWhy.{RowWhy}
@@ -39,6 +39,7 @@ no_pair (Some places) passed = absurd (cc)
 
 -- the tests that records pass which fit
 record Passes (rs : List Record) : Type 0 where
+  pub meta : lacks_meta rs ≡ None
   pub limits : first_after is_over [] rs ≡ None
   pub orphans : place_of (is_orphan rs) rs ≡ None
   pub pairs : pair_after is_bad_pair [] rs ≡ None
@@ -53,11 +54,16 @@ passes rs passed =
     let three = both_of ◌>>◌ is (have_releases rs) (agree rs >> are_counted rs) two.1 in
     let four = both_of ◌>>◌ is (agree rs) (are_counted rs) three.1 in
     record {
+      meta = none_bad _ _ one.0;
       limits = none_bad _ _ two.0;
       orphans = none_bad _ _ three.0;
       pairs = no_pair _ four.0;
       ahead = no_pair _ four.1;
     }
+
+-- records that fit have a meta record, where there are any
+pub has_one : (rs : List Record) → fit rs ≡ Ok tt → lacks_meta rs ≡ None
+has_one rs passed = (passes rs passed).meta
 
 -- ---- each record
 

@@ -10,3 +10,4 @@ pub mod StateLaws
 pub mod RestoringLaws
 pub mod RowLaws
 pub mod SavedLaws
+pub mod RecordLaws

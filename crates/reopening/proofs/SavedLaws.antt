@@ -96,7 +96,7 @@ module _ (m : MetaOf) (reports : List KeptReport) (deferrals : List DeferralOf) 
 -- ---- reports and alerts, as a state has them
 
 -- what is kept of a report
-abbrev kept_report : ReportOf → KeptReport
+abbrev pub kept_report : ReportOf → KeptReport
 kept_report r = record { id = r.id; received = r.received; text = r.text }
 
 read_if : (r : ReportOf) (o : Result Read BadReport) → o ≡ Ok r.read → report_if (kept_report r) o ≡ Some r
@@ -113,7 +113,7 @@ reports_again [] all = refl
 reports_again (r ∷ rs) all = ap (λ o. cons_option o (filter_map report_of (map kept_report rs))) (read_again r all.0) ∙ ap (λ rest. r ∷ rest) (reports_again rs all.1)
 
 -- what is kept of an alert
-abbrev kept_alert : AlertOf → KeptAlert
+abbrev pub kept_alert : AlertOf → KeptAlert
 kept_alert a = record { release = a.release; version = a.version; opened = a.opened; failing = a.failing; ever = a.ever; acknowledged = a.acknowledged }
 
 -- a release that is held, to whose holder the alert is told

@@ -1,5 +1,5 @@
 use Rattle.machine.specs.Contents.{state_of}
-use Rattle.board.proofs.Kept.{effect_of, effect_may, effect_keeps}
+use Rattle.board.proofs.Kept.{effect_of, effect_may}
 use Rattle.board.proofs.steps.prepare_call.Goals as goal
 
 pub prepare_entered-requires-clause-fits : goal.prepare_entered-requires-clause-fits
@@ -9,7 +9,3 @@ prepare_entered-requires-clause-fits g c =
 pub prepare_entered-requires-clause-may : goal.prepare_entered-requires-clause-may
 prepare_entered-requires-clause-may g c =
     effect_may (state_of c.args.content.now) c.args.call.now _ _ _ c.in-Ok-Do.field-0-is c.in-Ok-Do.ensures.value c.requires.sound c.requires.kept c.requires.call c.in-Ok-Do.ensures.read
-
-pub prepare_entered-requires-clause-keeps : goal.prepare_entered-requires-clause-keeps
-prepare_entered-requires-clause-keeps g c =
-    effect_keeps (state_of c.args.content.now) c.args.call.now _ _ _ c.in-Ok-Do.field-0-is c.in-Ok-Do.ensures.value c.requires.sound c.requires.kept

@@ -1,9 +1,5 @@
-use Rattle.keeping.proofs.Decided.{tick_kept}
 use Rattle.board.proofs.Kept.{ticked_is, ticked_keeps}
 use Rattle.board.proofs.steps.prepare_ticked.Goals as goal
-
-pub rows_of-requires-clause-may : goal.rows_of-requires-clause-may
-rows_of-requires-clause-may g c = tick_kept c.args.to _ c.tick-effect.ensures
 
 pub returns-clause-stepped : goal.returns-clause-stepped
 returns-clause-stepped g c =

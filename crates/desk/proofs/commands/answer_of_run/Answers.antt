@@ -1,6 +1,7 @@
 use Rattle.std.proofs.Common.{[], ◌∷◌, map}
 use Rattle.desk_io.specs.Told.{HoldsName}
 use Rattle.table_files.specs.Files.{files, name_of}
+use Rattle.kept_forms.proofs.Names.{names_formed}
 use Rattle.desk.proofs.Reading.{held_last, none_missing}
 use Rattle.desk.proofs.commands.answer_of_run.Goals as goal
 
@@ -13,3 +14,6 @@ pub returns-in-Err-ReadFault-clause-sound : goal.returns-in-Err-ReadFault-clause
 returns-in-Err-ReadFault-clause-sound g c = λ sound all.
     let arm = c.in-Err-ReadFault in
     absurd (none_missing (g.S.Shelf.sources c.args.shelf.now) _ (c.args.name.now ∷ []) all (rw arm.field-0-is at (arm.ensures.sound sound).1))
+
+pub returns-in-Ok-clause-formed : goal.returns-in-Ok-clause-formed
+returns-in-Ok-clause-formed g c = c.answer_over.ensures.formed (names_formed (g.S.Shelf.sources c.args.shelf.now) c.in-Ok.tables c.in-Ok.ensures.tables)

@@ -1,7 +1,8 @@
-ghost use Rattle.std.specs.Prelude.{◌≡◌, ◌++◌, codes, IfOk};
+ghost use Rattle.std.specs.Prelude.{◌≡◌, ◌++◌, codes, IfOk, OnOk};
 ghost use Rattle.desk.specs.ErrorLines as lines;
 
-use desk_io::{OutOfMemory, push_all};
+use desk_io::{OutOfMemory, Row, push_all};
+use records::RowWhy;
 use std::alloc::Global;
 use table_files::{BadTable, TableWhy};
 
@@ -30,6 +31,46 @@ fn why_name(why: TableWhy) -> &'static [u8]
         TableWhy::Unlinked => b"Unlinked",
         TableWhy::OverLimit => b"OverLimit",
     }
+}
+
+fn row_why_name(why: RowWhy) -> &'static [u8]
+    ensures { result.now ≡ lines.row_why_name why }
+{
+    match why {
+        RowWhy::NotCanonical => b"NotCanonical",
+        RowWhy::NoMeta => b"NoMeta",
+        RowWhy::Orphan => b"Orphan",
+        RowWhy::OverLimit => b"OverLimit",
+    }
+}
+
+// The kind and the key of a row.
+fn push_row(alloc: Global, line: &mut Vec<u8>, row: &Row) -> Result<(), OutOfMemory>
+    ensures { OnOk result (line.new.items ≡ line.old.items ++ lines.row_named row.now) }
+{
+    let kind = row.kind.to_string(alloc)?;
+    let key = row.key.to_string(alloc)?;
+    push_all(line, &[kind.as_bytes(), b" ", key.as_bytes()])
+}
+
+fn bad_row_line(alloc: Global, row: &Row, why: RowWhy) -> Result<Vec<u8>, OutOfMemory>
+    ensures { IfOk result (λ line. line.items ≡ lines.bad_row row.now why) }
+{
+    let mut line = Vec::from_slice(alloc, b"error 7 BadRow ")?;
+    push_row(alloc, &mut line, row)?;
+    push_all(&mut line, &[b" ", row_why_name(why), b"\n"])?;
+    Ok(line)
+}
+
+fn bad_pair_line(alloc: Global, one: &Row, two: &Row) -> Result<Vec<u8>, OutOfMemory>
+    ensures { IfOk result (λ line. line.items ≡ lines.bad_pair one.now two.now) }
+{
+    let mut line = Vec::from_slice(alloc, b"error 7 BadPair ")?;
+    push_row(alloc, &mut line, one)?;
+    line.push(b' ')?;
+    push_row(alloc, &mut line, two)?;
+    line.push(b'\n')?;
+    Ok(line)
 }
 
 fn bad_table_line(alloc: Global, bad: &BadTable) -> Result<Vec<u8>, OutOfMemory>
@@ -62,6 +103,33 @@ impl Answer {
     {
         let text = named(alloc, b"error 3 ReadFault ", name)?;
         Ok(Answer { status: 3, text })
+    }
+
+    /// The keeper of the rows failed.
+    pub fn keeper_fault(alloc: Global) -> Result<Answer, OutOfMemory>
+        ensures status { IfOk result (λ a. a.status ≡ 5) }
+        ensures text { IfOk result (λ a. a.text.items ≡ lines.keeper_fault) }
+    {
+        let text = Vec::from_slice(alloc, b"error 5 KeeperFault\n")?;
+        Ok(Answer { status: 5, text })
+    }
+
+    /// A row isn't one of a desk.
+    pub fn bad_row(alloc: Global, row: &Row, why: RowWhy) -> Result<Answer, OutOfMemory>
+        ensures status { IfOk result (λ a. a.status ≡ 7) }
+        ensures text { IfOk result (λ a. a.text.items ≡ lines.bad_row row.now why) }
+    {
+        let text = bad_row_line(alloc, row, why)?;
+        Ok(Answer { status: 7, text })
+    }
+
+    /// Two rows don't fit one another.
+    pub fn bad_pair(alloc: Global, one: &Row, two: &Row) -> Result<Answer, OutOfMemory>
+        ensures status { IfOk result (λ a. a.status ≡ 7) }
+        ensures text { IfOk result (λ a. a.text.items ≡ lines.bad_pair one.now two.now) }
+    {
+        let text = bad_pair_line(alloc, one, two)?;
+        Ok(Answer { status: 7, text })
     }
 
     /// A table has a bad record.

@@ -1,0 +1,108 @@
+-- A state that records stand for, once it is judged, and its rows.
+use Rattle.std.proofs.Common.{◌≡◌, ℕ, ◌+◌, inl, inr, List, [], ◌∷◌, ◌++◌, map, Option, None, Some, refl, sym, ap, ◌∙◌, subst}
+use Rattle.std.specs.List.{AllByRecursion, filter_map}
+use Rattle.alerts.specs.declared.alert.Alert.{Alert as AlertOf}
+use Rattle.desk_io.specs.Rows.{Rows, no_rows, rows_of, changed_by}
+use Rattle.desk_io.specs.declared.rows.Change.{Change}
+use Rattle.facts.specs.declared.report.Report.{Report as ReportOf}
+use Rattle.keeper.specs.Kept.{AreSame}
+use Rattle.keeping.specs.Judged.{judged_changes}
+use Rattle.keeping.specs.Rows.{meta_of, report_kept, alert_kept, records_of, state_rows, AreKept}
+use Rattle.keeping.proofs.AlertRows.{IsOwn, changes_own}
+use Rattle.keeping.proofs.JudgedLaws.{judged_lead, with_alerts}
+use Rattle.machine.specs.declared.change.AlertChange.{AlertChange}
+use Rattle.machine.specs.Effects.{nothing}
+use Rattle.machine.specs.Events.{alert_changes, put_changes}
+use Rattle.machine.specs.Sound.{EffectFits}
+use Rattle.machine.specs.State.{State, start, judged_all}
+use Rattle.ops_tables.specs.Tables.{TableRows}
+use Rattle.records.specs.Bodies.{row_of}
+use Rattle.records.specs.declared.record.Meta.{Meta as MetaOf}
+use Rattle.records.specs.declared.record.Record.{Record}
+use Rattle.records.specs.declared.record.Record.TheVariants.{Meta, Report, Deferral, Release, Kept, Alert}
+use Rattle.reopening.specs.Held.{AreOfDesk, meta_in, state_by, state_in, state_with}
+use Rattle.reopening.specs.Opening.{MayReopen, counters_with, events_with, reopened}
+use Rattle.reopening.proofs.OpeningLaws.{changes_lead}
+use Rattle.reopening.proofs.RecordLaws.{no_records, records_again}
+use Rattle.reopening.proofs.StateLaws.{may_reopen}
+
+-- an effect that changes nothing
+pub nothing_fits : (s : State) → EffectFits s nothing
+nothing_fits s = record { moment = tt; report = tt; apart = tt; deferrals = tt; releases = tt }
+
+-- ---- the rows of the state that records stand for
+
+mapped : {A B : Type 0} (g : B → Record) (h : A → B) (xs : List A) → map (λ x. g (h x)) xs ≡ map g (map h xs)
+mapped g h [] = refl
+mapped g h (x ∷ xs) = ap (λ rest. g (h x) ∷ rest) (mapped g h xs)
+
+counted_again : (tables : TableRows) (rs : List Record) (m : MetaOf) → AreOfDesk rs → meta_in rs ≡ Some m → records_of (state_with tables m rs) ≡ rs
+unfolding records_of
+counted_again tables rs m are is =
+    let s = state_with tables m rs in
+    ap (λ xs. Meta m ∷ xs ++ map Deferral s.deferrals ++ map Release s.releases ++ map Kept s.kept ++ map (λ a. Alert (alert_kept a)) s.alerts) (mapped Report (λ r. report_kept r) s.reports)
+    ∙ ap (λ xs. Meta m ∷ map Report (map (λ r. report_kept r) s.reports) ++ map Deferral s.deferrals ++ map Release s.releases ++ map Kept s.kept ++ xs) (mapped Alert (λ a. alert_kept a) s.alerts)
+    ∙ records_again rs m are is
+
+-- these rows are kept for it
+kept_by : (tables : TableRows) (rs : List Record) (o : Option MetaOf) (rows : Rows) → AreOfDesk rs → meta_in rs ≡ o → AreSame rows (rows_of (map row_of rs)) → AreKept rows (state_by tables o rs)
+unfolding state_rows
+kept_by tables rs None rows are is same = inr ((λ kind key. same kind key ∙ ap (λ (xs : List Record). rows_of (map row_of xs) kind key) (no_records rs are is)), refl)
+kept_by tables rs (Some m) rows are is same = inl (λ kind key. same kind key ∙ ap (λ (xs : List Record). rows_of (map row_of xs) kind key) (sym (counted_again tables rs m are is)))
+
+state_kept : (tables : TableRows) (rs : List Record) (rows : Rows) → AreOfDesk rs → AreSame rows (rows_of (map row_of rs)) → AreKept rows (state_in tables rs)
+unfolding state_in
+state_kept tables rs rows are same = kept_by tables rs (meta_in rs) rows are refl same
+
+-- ---- once it is judged
+
+-- where no alert changes
+still : (s : State) → MayReopen s → alert_changes nothing s ≡ [] → reopened s ≡ s
+unfolding reopened
+still s may none =
+    ap (λ changes. record s { counters = counters_with changes s.counters; alerts = judged_all s }) none
+    ∙ ap (λ alerts. record s { alerts = alerts }) (sym (changes_lead s may.judgeable) ∙ ap (λ changes. put_changes changes s.alerts) none)
+
+-- where some change
+changed : (s : State) (c : AlertChange) (cs : List AlertChange) → MayReopen s → alert_changes nothing s ≡ c ∷ cs → reopened s ≡ with_alerts s (c ∷ cs)
+unfolding reopened
+changed s c cs may some =
+    ap (λ changes. record s { counters = counters_with changes s.counters; alerts = judged_all s }) some
+    ∙ ap (λ alerts. record s { counters = counters_with (c ∷ cs) s.counters; alerts = alerts }) (sym (changes_lead s may.judgeable) ∙ ap (λ changes. put_changes changes s.alerts) some)
+
+-- at the beginning no alert changes
+none_changes : (s : State) (c : AlertChange) (cs : List AlertChange) → s ≡ start s.tables → alert_changes nothing s ≡ c ∷ cs → ⊥
+none_changes s c cs is some = absurd (let none : alert_changes nothing s ≡ [] = ap (λ t. alert_changes nothing t) is in let no : c ∷ cs ≡ [] = sym some ∙ none in cc)
+
+kept_as : (s : State) (changes : List AlertChange) (rows : Rows) → MayReopen s → alert_changes nothing s ≡ changes → AreKept rows s → AreKept (changed_by (judged_changes s changes) rows) (reopened s)
+unfolding judged_changes
+kept_as s [] rows may is kept = subst (λ t. AreKept rows t) (sym (still s may is)) kept
+kept_as s (c ∷ cs) rows may is (inl same) =
+    subst (λ t. AreKept (changed_by (judged_changes s (c ∷ cs)) rows) t) (sym (changed s c cs may is))
+    (inl (judged_lead s c cs (subst (AllByRecursion IsOwn) is (changes_own nothing s)) may.judgeable rows same))
+kept_as s (c ∷ cs) rows may is (inr none) = absurd (none_changes s c cs none.1 is)
+
+-- what the judgement changes of the rows leads to those of the judged state
+pub rows_kept : (tables : TableRows) (rs : List Record) (changes : List Change) → AreOfDesk rs → changes ≡ judged_changes (state_in tables rs) (alert_changes nothing (state_in tables rs))
+    → (rows : Rows) → AreSame rows (rows_of (map row_of rs)) → AreKept (changed_by changes rows) (reopened (state_in tables rs))
+rows_kept tables rs changes are is rows same =
+    subst (λ (cs : List Change). AreKept (changed_by cs rows) (reopened (state_in tables rs))) (sym is)
+    (kept_as (state_in tables rs) (alert_changes nothing (state_in tables rs)) rows (may_reopen tables rs are) refl (state_kept tables rs rows are same))
+
+-- ---- in code
+
+ends : (s : State) (changes : List AlertChange) → MayReopen s → changes ≡ alert_changes nothing s
+    → record s { counters = counters_with changes s.counters; alerts = put_changes changes s.alerts } ≡ reopened s
+unfolding reopened
+ends s changes may is =
+    ap (λ cs. record s { counters = counters_with cs s.counters; alerts = put_changes cs s.alerts }) is
+    ∙ ap (λ alerts. record s { counters = counters_with (alert_changes nothing s) s.counters; alerts = alerts }) (changes_lead s may.judgeable)
+
+-- what is put in place is the judged state
+pub is_reopened : (s t : State) (changes listed : List AlertChange) (events : ℕ) (alerts : List AlertOf) → MayReopen s → changes ≡ alert_changes nothing s → listed ≡ changes
+    → events ≡ events_with listed s.counters.events → alerts ≡ put_changes changes s.alerts → t ≡ record s { counters = record s.counters { events = events }; alerts = alerts } → t ≡ reopened s
+is_reopened s t changes listed events alerts may is same counted put made =
+    made
+    ∙ ap (λ (n : ℕ). record s { counters = record s.counters { events = n }; alerts = alerts }) (counted ∙ ap (λ cs. events_with cs s.counters.events) same)
+    ∙ ap (λ (xs : List AlertOf). record s { counters = counters_with changes s.counters; alerts = xs }) put
+    ∙ ends s changes may is

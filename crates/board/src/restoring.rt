@@ -1,0 +1,106 @@
+ghost use Rattle.std.specs.Prelude.{◌≡◌, ◌+◌, ◌<◌, ◌≤◌, length, map, vec_len, IfOk};
+ghost use Rattle.std.specs.Vec.{vec_capacity};
+ghost use Rattle.desk_io.specs.Rows.{Rows, rows_of, changed_by};
+ghost use Rattle.keeper.specs.Kept.{AreSame};
+ghost use Rattle.keeping.specs.Judged as keeping;
+ghost use Rattle.keeping.specs.Rows.{AreKept};
+ghost use Rattle.machine.specs.Contents.{state_of};
+ghost use Rattle.machine.specs.Effects.{nothing};
+ghost use Rattle.machine.specs.Events.{alert_changes};
+ghost use Rattle.records.specs.Bodies.{row_of};
+ghost use Rattle.reopening.specs.Held.{AreOfDesk, state_in};
+ghost use Rattle.reopening.specs.Opening as spec;
+ghost use Rattle.reopening.specs.Opening.{MayReopen, reopened};
+
+use crate::held_alerts::put_changes;
+use desk_io::{Change, OutOfMemory};
+use judging::Prospect;
+use keeping::judged_changes;
+use machine::{AlertChange, Content, Effect};
+use ops_tables::Tables;
+use records::Record;
+use reopening::content_of;
+use rules::Steps;
+use std::alloc::Global;
+use std::sync::ledger::Ledger;
+
+/// What records stand for, once its active releases are judged.
+#[derive(Drop)]
+pub(crate) struct Reopened {
+    pub content: Content,
+    /// What the judgement changed of the rows.
+    pub changes: Vec<Change>,
+}
+
+// The changes of the alerts once every active release is judged anew.
+#[tactic(auto, using(crate::proofs::Anew::nothing_fits))]
+fn judge_anew<L: Ledger>(
+    alloc: Global,
+    content: &Content,
+    steps: &mut Steps<L>,
+) -> Result<Vec<AlertChange>, OutOfMemory>
+    requires { MayReopen (state_of content.now) }
+    ensures { IfOk result (λ v. v.items ≡ alert_changes nothing (state_of content.now)) }
+{
+    let effect = Effect::nothing();
+    Prospect {
+        content,
+        effect: &effect,
+    }
+    .changes(alloc, steps)
+}
+
+// A judgement by which an alert changes is an event.
+fn events_with(alerts: &[AlertChange], events: u64) -> u64
+    requires { events < 999_999_999_999_999 }
+    ensures { result ≡ spec.events_with alerts.now events }
+{
+    match alerts {
+        [] => events,
+        [_, ..] => events + 1,
+    }
+}
+
+// Puts what a judgement changed in place, for which there is room. It takes no memory.
+fn put_judged(content: &mut Content, alerts: Vec<AlertChange>)
+    requires may { MayReopen (state_of content.old) }
+    requires room { vec_len content.old.alerts + length alerts.items ≤ vec_capacity content.old.alerts }
+    requires judged { alerts.items ≡ alert_changes nothing (state_of content.old) }
+    ensures { state_of content.new ≡ reopened (state_of content.old) }
+{
+    content.counters.events = events_with(&alerts, content.counters.events);
+    put_changes(&mut content.alerts, alerts);
+}
+
+// Judges a state anew.
+fn reopen<L: Ledger>(
+    alloc: Global,
+    mut content: Content,
+    steps: &mut Steps<L>,
+) -> Result<Reopened, OutOfMemory>
+    requires { MayReopen (state_of content) }
+    ensures state { IfOk result (λ r. state_of r.content ≡ reopened (state_of content)) }
+    ensures changes { IfOk result (λ r. r.changes.items ≡ keeping.judged_changes (state_of content) (alert_changes nothing (state_of content))) }
+{
+    let alerts = judge_anew(alloc, &content, steps)?;
+    let changes = judged_changes(alloc, &content, alerts.as_slice())?;
+    content.alerts.reserve(alerts.len())?;
+    put_judged(&mut content, alerts);
+    Ok(Reopened { content, changes })
+}
+
+/// The state that records stand for under some tables, once its active releases are judged.
+#[tactic(auto, using(reopening::proofs::StateLaws::may_reopen))]
+pub(crate) fn restored<L: Ledger>(
+    alloc: Global,
+    tables: Tables,
+    records: Vec<Record>,
+    steps: &mut Steps<L>,
+) -> Result<Reopened, OutOfMemory>
+    requires { AreOfDesk records.items }
+    ensures state { IfOk result (λ r. state_of r.content ≡ reopened (state_in tables records.items)) }
+    ensures kept { IfOk result (λ r. (rows : Rows) → AreSame rows (rows_of (map row_of records.items)) → AreKept (changed_by r.changes.items rows) (reopened (state_in tables records.items))) }
+{
+    let content = content_of(alloc, tables, records)?;
+    reopen(alloc, content, steps)
+}

@@ -1,0 +1,249 @@
+-- The counts at which a keeper fails, and what comes of items under them.
+use Rattle.std.proofs.Common.{◌≡◌, ℕ, ◌<◌, ◌≤◌, List, [], ◌∷◌, ◌++◌, length, map, drop, get_or, ◌+◌, append-nil, append_assoc, Option, None, Some, refl, ap, sym, ◌∙◌, subst, arith}
+use Rattle.std.specs.Prelude.{option_to_list, nat_lt, Bool, true, false}
+use Rattle.std.specs.List.{concat, AllByRecursion}
+use Rattle.desk.specs.Shown.{IsShown}
+use Rattle.std.proofs.lemmas.List.{drop_more, drop_all}
+use Rattle.asks.specs.declared.call.Call.{Call}
+use Rattle.asks.specs.declared.kept.KeptReply.{KeptReply}
+use Rattle.asks.specs.declared.reply.Reply.{Reply}
+use Rattle.asks.specs.declared.reply.Reply.TheVariants.{Done}
+use Rattle.alerts.specs.declared.notices.Notice.{Notice}
+use Rattle.machine.specs.Repeats.{MayAsk, IsKeptFor}
+use Rattle.machine.proofs.RepeatLaws.{repeat_stays}
+use Rattle.std.proofs.lemmas.Bool.{le-ltb}
+use Rattle.machine.specs.Lanes as lanes
+use Rattle.machine.specs.Lanes.{outcomes, after_items}
+use Rattle.machine.specs.State.{State}
+use Rattle.machine.specs.Step.{Stepped, stay, answer_call, tick_to}
+use Rattle.machine.specs.Texts.{closing}
+use Rattle.machine.specs.declared.lanes.Item.{Item}
+use Rattle.machine.specs.declared.lanes.Item.TheVariants as item
+use Rattle.machine.specs.declared.lanes.Outcome.{Outcome}
+use Rattle.desk.specs.Keeping.{Choice, Given, given, kept_or, unkept_if, once_ticked, made_after, made_by, answer_with, item_with, outcomes_with, after_with, Rise, numbers_of, Counted, IsGiven, AreGiven, AreGivenSoFar}
+use Rattle.desk.specs.Run.{items_of, lines_of, texts_of, run_from, run_with, after_run, IsRun}
+
+-- ---- the counts
+
+pub rise_within : (low : ℕ) (ns : List ℕ) (high : ℕ) → Rise low ns high → low ≤ high
+rise_within low [] high rise = rise
+rise_within low (n ∷ ns) high rise = let more = rise_within n ns high rise.1 in let less = rise.0 in omega (arith, more, less)
+
+pub rise_lower : (less low : ℕ) (ns : List ℕ) (high : ℕ) → less ≤ low → Rise low ns high → Rise less ns high
+rise_lower less low [] high under rise = omega (arith, under, rise)
+rise_lower less low (n ∷ ns) high under rise = (let first = rise.0 in omega (arith, under, first), rise.1)
+
+pub rise_higher : (low : ℕ) (ns : List ℕ) (high more : ℕ) → high ≤ more → Rise low ns high → Rise low ns more
+rise_higher low [] high more under rise = omega (arith, under, rise)
+rise_higher low (n ∷ ns) high more under rise = (rise.0, rise_higher n ns high more under rise.1)
+
+rise_on : (low : ℕ) (ns ms : List ℕ) (middle high : ℕ) → Rise low ns middle → Rise middle ms high → Rise low (ns ++ ms) high
+rise_on low [] ms middle high one two = rise_lower low middle ms high one two
+rise_on low (n ∷ ns) ms middle high one two = (one.0, rise_on n ns ms middle high one.1 two)
+
+-- numbers that rise from a number to the same number are none
+rise_none : (n : ℕ) (ns : List ℕ) → Rise n ns n → ns ≡ []
+rise_none n [] rise = refl
+rise_none n (m ∷ ms) rise = absurd (let more = rise_within m ms n rise.1 in let less = rise.0 in omega (arith, more, less))
+
+all_numbers : (cs ds : List Choice) → concat (map numbers_of (cs ++ ds)) ≡ concat (map numbers_of cs) ++ concat (map numbers_of ds)
+all_numbers [] ds = refl
+all_numbers (c ∷ cs) ds = ap (λ ns. numbers_of c ++ ns) (all_numbers cs ds) ∙ sym (append_assoc (numbers_of c) (concat (map numbers_of cs)) (concat (map numbers_of ds)))
+
+pub counted_on : (before : ℕ) (cs ds : List Choice) (middle after : ℕ) → Counted before cs middle → Counted middle ds after → Counted before (cs ++ ds) after
+counted_on before cs ds middle after one two =
+    subst (λ ns. Rise before ns after) (sym (all_numbers cs ds)) (rise_on before (concat (map numbers_of cs)) (concat (map numbers_of ds)) middle after one two)
+
+-- ---- the items
+
+given_on : (lane before middle after : ℕ) (s : State) (items : List Item) (t u : State) (i : Item) (left : List Item) (made more : List Outcome) (c : Choice) (o : Outcome)
+    → AreGivenSoFar lane before middle s items t (i ∷ left) made → Counted middle (c ∷ []) after → o ≡ (item_with c lane t i).outcome → u ≡ (item_with c lane t i).state → more ≡ made ++ o ∷ []
+    → AreGivenSoFar lane before after s items u left more
+given_on lane before middle after s items t u i left made more c o so_far counted outcome state pushed = record {
+  choices = so_far.choices ++ c ∷ [];
+  counted = counted_on before so_far.choices (c ∷ []) middle after so_far.counted counted;
+  outcomes = λ later.
+      ap (λ os. os ++ outcomes_with lane u left later) pushed
+      ∙ append_assoc made (o ∷ []) (outcomes_with lane u left later)
+      ∙ ap (λ (x : Outcome). made ++ x ∷ outcomes_with lane u left later) outcome
+      ∙ ap (λ (v : State). made ++ (item_with c lane t i).outcome ∷ outcomes_with lane v left later) state
+      ∙ so_far.outcomes (c ∷ later)
+      ∙ ap (λ cs. outcomes_with lane s items cs) (sym (append_assoc so_far.choices (c ∷ []) later));
+  state = λ later.
+      ap (λ (v : State). after_with lane v left later) state
+      ∙ so_far.state (c ∷ later)
+      ∙ ap (λ cs. after_with lane s items cs) (sym (append_assoc so_far.choices (c ∷ []) later));
+}
+
+pub given_next : (lane before middle after : ℕ) (s : State) (items : List Item) (t u : State) (left rest : List Item) (i : Item) (made more : List Outcome) (c : Choice) (o : Outcome)
+    → left ≡ i ∷ rest → AreGivenSoFar lane before middle s items t left made → Counted middle (c ∷ []) after → o ≡ (item_with c lane t i).outcome → u ≡ (item_with c lane t i).state
+    → more ≡ made ++ o ∷ [] → AreGivenSoFar lane before after s items u rest more
+given_next lane before middle after s items t u left rest i made more c o is so_far counted outcome state pushed =
+    given_on lane before middle after s items t u i rest made more c o (subst (λ is. AreGivenSoFar lane before middle s items t is made) is so_far) counted outcome state pushed
+
+pub item_left : (items : List Item) (place : ℕ) (i : Item) → place < length items → i ≡ get_or items place i → drop place items ≡ i ∷ drop (place + 1) items
+item_left items place i within at = drop_more items place i within ∙ ap (λ (first : Item). first ∷ drop (place + 1) items) (sym at)
+
+pub none_left : (items : List Item) (place : ℕ) → length items ≤ place → drop place items ≡ []
+none_left items place past = drop_all place items past
+
+shown_on : (made : List Outcome) (o : Outcome) → AllByRecursion IsShown made → IsShown o → AllByRecursion IsShown (made ++ o ∷ [])
+shown_on [] o all is = (is, tt)
+shown_on (x ∷ made) o all is = (all.0, shown_on made o all.1 is)
+
+pub shown_next : (made more : List Outcome) (o p : Outcome) → more ≡ made ++ o ∷ [] → o ≡ p → AllByRecursion IsShown made → IsShown p → AllByRecursion IsShown more
+shown_next made more o p pushed same all is = subst (AllByRecursion IsShown) (sym pushed) (shown_on made o all (subst IsShown (sym same) is))
+
+-- before the first item
+pub none_given : (lane before : ℕ) (s : State) (items : List Item) → AreGivenSoFar lane before before s items s items []
+none_given lane before s items = record { choices = []; counted = omega arith; outcomes = λ later. refl; state = λ later. refl }
+
+-- after the last item
+pub all_given : (lane before after : ℕ) (s : State) (items : List Item) (t : State) (left : List Item) (made : List Outcome) → left ≡ [] → AreGivenSoFar lane before after s items t left made
+    → AreGiven lane before after s items t made
+all_given lane before after s items t left made none so_far =
+    let last : AreGivenSoFar lane before after s items t [] made = subst (λ is. AreGivenSoFar lane before after s items t is made) none so_far in
+    record {
+      choices = last.choices;
+      counted = last.counted;
+      outcomes = sym (append-nil made) ∙ last.outcomes [] ∙ ap (λ cs. outcomes_with lane s items cs) (append-nil last.choices);
+      state = last.state [] ∙ ap (λ cs. after_with lane s items cs) (append-nil last.choices);
+    }
+
+-- ---- where nothing fails
+
+abbrev pub no_choice : Choice
+no_choice = record { tick = None; call = None }
+
+choice_is : (c : Choice) → c.tick ≡ None → c.call ≡ None → c ≡ no_choice
+choice_is c tick call = ap (λ (o : Option ℕ). record { tick = o; call = c.call }) tick ∙ ap (λ (o : Option ℕ). record { tick = None; call = o }) call
+
+both_empty : (xs ys : List ℕ) → xs ++ ys ≡ [] → (xs ≡ []) × (ys ≡ [])
+both_empty [] ys e = (refl, e)
+both_empty (x ∷ xs) ys e = absurd (cc)
+
+no_number : (o : Option ℕ) → option_to_list o ≡ [] → o ≡ None
+no_number None e = refl
+no_number (Some n) e = absurd (cc)
+
+quiet_first : (c : Choice) (cs : List Choice) → concat (map numbers_of (c ∷ cs)) ≡ [] → (c ≡ no_choice) × (concat (map numbers_of cs) ≡ [])
+quiet_first c cs quiet =
+    let parts = both_empty (numbers_of c) (concat (map numbers_of cs)) quiet in
+    let own = both_empty (option_to_list c.tick) (option_to_list c.call) parts.0 in
+    (choice_is c (no_number c.tick own.0) (no_number c.call own.1), parts.1)
+
+-- an item that is given what it is where nothing fails
+pub record IsAnswered (lane : ℕ) (s : State) (i : Item) (g : Given) : Type 0 where
+  pub outcome : g.outcome ≡ (lanes.answer_item lane s i).outcome
+  pub state : g.state ≡ (lanes.answer_item lane s i).state
+
+once_outcome : (lane : ℕ) (o : Option Reply) (t : Stepped) (call : Call) → (given t.notices t.state (once_ticked None lane o t.state call)).outcome ≡ (lanes.once_ticked lane o t.state call).outcome
+once_outcome lane None t call = refl
+once_outcome lane (Some reply) t call = refl
+
+once_state : (lane : ℕ) (o : Option Reply) (t : Stepped) (call : Call) → (given t.notices t.state (once_ticked None lane o t.state call)).state ≡ (lanes.once_ticked lane o t.state call).state
+once_state lane None t call = refl
+once_state lane (Some reply) t call = refl
+
+made_outcome : (later : Bool) (lane : ℕ) (s : State) (at : ℕ) (call : Call) → (made_by later no_choice lane s at call).outcome ≡ (lanes.made_by later lane s at call).outcome
+made_outcome false lane s at call = refl
+made_outcome true lane s at call = once_outcome lane (tick_to s lane at).reply (tick_to s lane at) call
+
+made_state : (later : Bool) (lane : ℕ) (s : State) (at : ℕ) (call : Call) → (made_by later no_choice lane s at call).state ≡ (lanes.made_by later lane s at call).state
+made_state false lane s at call = refl
+made_state true lane s at call = once_state lane (tick_to s lane at).reply (tick_to s lane at) call
+
+-- where nothing fails, a call is answered as the machine answers it
+pub quiet_call : (lane : ℕ) (s : State) (at : ℕ) (call : Call) → IsAnswered lane s (item.Call at call) (answer_with no_choice lane s at call)
+unfolding answer_with lanes.answer
+quiet_call lane s at call = record { outcome = made_outcome (nat_lt s.moment at) lane s at call; state = made_state (nat_lt s.moment at) lane s at call }
+
+quiet_item : (lane : ℕ) (s : State) (i : Item) → IsAnswered lane s i (item_with no_choice lane s i)
+quiet_item lane s item.Bad = record { outcome = refl; state = refl }
+quiet_item lane s (item.Call at call) = quiet_call lane s at call
+
+quiet_one : (lane : ℕ) (s : State) (i : Item) (c : Choice) → c ≡ no_choice → IsAnswered lane s i (item_with c lane s i)
+quiet_one lane s i c is = subst (λ (d : Choice). IsAnswered lane s i (item_with d lane s i)) (sym is) (quiet_item lane s i)
+
+quiet_outcomes : (lane : ℕ) (s : State) (items : List Item) (cs : List Choice) → concat (map numbers_of cs) ≡ [] → outcomes_with lane s items cs ≡ outcomes lane s items
+quiet_outcomes lane s [] cs quiet = refl
+quiet_outcomes lane s (i ∷ rest) [] quiet = refl
+quiet_outcomes lane s (i ∷ rest) (c ∷ cs) quiet =
+    let first = quiet_first c cs quiet in
+    let one = quiet_one lane s i c first.0 in
+    ap (λ (o : Outcome). o ∷ outcomes_with lane (item_with c lane s i).state rest cs) one.outcome
+    ∙ ap (λ (u : State). (lanes.answer_item lane s i).outcome ∷ outcomes_with lane u rest cs) one.state
+    ∙ ap (λ os. (lanes.answer_item lane s i).outcome ∷ os) (quiet_outcomes lane (lanes.answer_item lane s i).state rest cs first.1)
+
+quiet_after : (lane : ℕ) (s : State) (items : List Item) (cs : List Choice) → concat (map numbers_of cs) ≡ [] → after_with lane s items cs ≡ after_items lane s items
+quiet_after lane s [] cs quiet = refl
+quiet_after lane s (i ∷ rest) [] quiet = refl
+quiet_after lane s (i ∷ rest) (c ∷ cs) quiet =
+    let first = quiet_first c cs quiet in
+    ap (λ (u : State). after_with lane u rest cs) (quiet_one lane s i c first.0).state ∙ quiet_after lane (lanes.answer_item lane s i).state rest cs first.1
+
+-- the same of a call under some choice, where the count stands still
+pub quiet_answer : (before after lane : ℕ) (s : State) (at : ℕ) (call : Call) (c : Choice) (t : State) (o : Outcome) (ticked called : List Notice) → after ≡ before → Counted before (c ∷ []) after
+    → IsGiven (answer_with c lane s at call) t o ticked called → (o ≡ (lanes.answer lane s at call).outcome) × (t ≡ (lanes.answer lane s at call).state)
+quiet_answer before after lane s at call c t o ticked called same counted given =
+    let none = quiet_first c [] (rise_none before (concat (map numbers_of (c ∷ []))) (subst (λ (n : ℕ). Counted before (c ∷ []) n) same counted)) in
+    let one = quiet_one lane s (item.Call at call) c none.0 in
+    (given.its_outcome ∙ one.outcome, given.its_state ∙ one.state)
+
+-- ---- a command that comes again
+
+-- a step that adds nothing is answered all the same
+stays_answered : (o : Option ℕ) (s : State) (reply : Reply) → kept_or o s (stay s reply) ≡ stay s reply
+stays_answered None s reply = refl
+stays_answered (Some faults) s reply = ap (λ (b : Bool). unkept_if b faults s (stay s reply)) (le-ltb (length s.entries) (length s.entries) (omega arith))
+
+again_is : (lane : ℕ) (s : State) (at : ℕ) (call : Call) (k : KeptReply) (c : Choice) → at ≤ s.moment → MayAsk s call → IsKeptFor s call k → answer_with c lane s at call ≡ given [] s (stay s (Done k.done))
+unfolding answer_with
+again_is lane s at call k c within may is =
+    ap (λ (later : Bool). made_by later c lane s at call) (le-ltb s.moment at within)
+    ∙ ap (λ (t : Stepped). given [] s (kept_or c.call s t)) (repeat_stays s lane call k may is)
+    ∙ ap (given [] s) (stays_answered c.call s (Done k.done))
+
+pub again_answered : (lane : ℕ) (s : State) (at : ℕ) (call : Call) (k : KeptReply) (c : Choice) (t : State) (o : Outcome) (ticked called : List Notice) → at ≤ s.moment → MayAsk s call
+    → IsKeptFor s call k → IsGiven (answer_with c lane s at call) t o ticked called → (o ≡ (lanes.replied s (Some (Done k.done)) s).outcome) × (t ≡ s)
+again_answered lane s at call k c t o ticked called within may is given =
+    let same = again_is lane s at call k c within may is in
+    (given.its_outcome ∙ ap (λ (g : Given). g.outcome) same, given.its_state ∙ ap (λ (g : Given). g.state) same)
+
+-- ---- the text of a run
+
+steady_text : (before after : ℕ) (s : State) (script : List ℕ) (choices : List Choice) → Counted before choices after → after ≡ before → run_with choices s script ≡ run_from s script
+unfolding run_with run_from after_run
+steady_text before after s script choices counted same =
+    let items : List Item = items_of (lines_of script) in
+    let quiet = rise_none before (concat (map numbers_of choices)) (subst (λ (n : ℕ). Counted before choices n) same counted) in
+    ap (λ os. texts_of os ++ closing (after_with 1 s items choices)) (quiet_outcomes 1 s items choices quiet)
+    ∙ ap (λ (u : State). texts_of (outcomes 1 s items) ++ closing u) (quiet_after 1 s items choices quiet)
+
+run_says : (before after : ℕ) (s : State) (script : List ℕ) (t : State) (made : List Outcome) → (all : AreGiven 1 before after s (items_of (lines_of script)) t made)
+    → texts_of made ++ closing t ≡ run_with all.choices s script
+unfolding run_with after_run
+run_says before after s script t made all =
+    ap (λ os. texts_of os ++ closing t) all.outcomes
+    ∙ ap (λ (u : State). texts_of (outcomes_with 1 s (items_of (lines_of script)) all.choices) ++ closing u) all.state
+
+run_ends : (before after : ℕ) (s : State) (script : List ℕ) (t : State) (made : List Outcome) → (all : AreGiven 1 before after s (items_of (lines_of script)) t made) → t ≡ after_run all.choices s script
+unfolding after_run
+run_ends before after s script t made all = all.state
+
+is_run : (before after : ℕ) (s : State) (script : List ℕ) (t : State) (made : List Outcome) (text : List ℕ) → AreGiven 1 before after s (items_of (lines_of script)) t made
+    → text ≡ texts_of made ++ closing t → IsRun before after s script t text
+is_run before after s script t made text all is =
+    let says = is ∙ run_says before after s script t made all in
+    record {
+      choices = all.choices;
+      counted = all.counted;
+      says = says;
+      state = run_ends before after s script t made all;
+      steady = λ same. says ∙ steady_text before after s script all.choices all.counted same;
+    }
+
+pub is_run_of : (before after : ℕ) (s : State) (script : List ℕ) (t : State) (made : List Outcome) (text : List ℕ) (items : List Item) → items ≡ items_of (lines_of script)
+    → AreGiven 1 before after s items t made → text ≡ texts_of made ++ closing t → IsRun before after s script t text
+is_run_of before after s script t made text items are all is =
+    is_run before after s script t made text (subst (λ is. AreGiven 1 before after s is t made) are all) is

@@ -1,0 +1,89 @@
+-- The rows that a desk is opened over.
+use Rattle.std.proofs.Common.{◌≡◌, ℕ, ◌+◌, ◌-◌, ◌^◌, ◌≤◌, ◌<◌, ◌&&◌, Bool, true, List, [], ◌∷◌, map, Option, None, Some, refl, ap, sym, ◌∙◌, subst, arith}
+use Rattle.std.specs.Prelude.{IsTrue, Result, Ok, Err, IfOk, OnOk, MatchResult}
+use Rattle.board.specs.Prepare.{Shown, shown}
+use Rattle.desk_io.specs.Causes.{RoseOrFull}
+use Rattle.desk_io.specs.Rows.{Rows, rows_of, changed_by}
+use Rattle.desk_io.specs.declared.rows.Change.{Change}
+use Rattle.desk_io.specs.declared.rows.Row.{Row}
+use Rattle.keeper.specs.Kept.{AreSame, Lists, Leads}
+use Rattle.keeper.specs.Order as order
+use Rattle.keeping.specs.Rows.{AreKept}
+use Rattle.machine.specs.State.{State}
+use Rattle.records.specs.Bodies.{row_of}
+use Rattle.records.specs.Checks.{IsDesk, AreRowsOf}
+use Rattle.records.specs.declared.record.Record.{Record}
+use Rattle.reopening.specs.Held.{comes_before, rises_from, rising, AreOfDesk}
+use Rattle.desk.proofs.Steps.{same_kept, still_keeps}
+use Rattle.desk.specs.Keeping.{KeepsState}
+use Rattle.desk.specs.Opening.{AreLoaded, OnLoaded, IsWhy, IsOfKeeper, IsOfRows}
+use Rattle.desk.specs.declared.opening.OpenWhy.{OpenWhy}
+use Rattle.desk.specs.declared.opening.OpenWhy.TheVariants.{KeeperFault, BadRow, BadPair, OutOfMemory}
+
+-- rows stand in order as their records do
+rise_as : (r : Record) (rs : List Record) → order.rises_from (row_of r) (map row_of rs) ≡ rises_from r rs
+unfolding row_of
+rise_as r [] = refl
+rise_as r (next ∷ rs) = ap (λ (rest : Bool). comes_before r next && rest) (rise_as next rs)
+
+rising_as : (rs : List Record) → order.rising (map row_of rs) ≡ rising rs
+rising_as [] = refl
+rising_as (r ∷ rs) = rise_as r rs
+
+-- the records of rows in order that are those of a desk
+pub of_desk : (rows : List Row) (records : List Record) → IsDesk rows records → IsTrue (order.rising rows) → AreOfDesk records
+of_desk rows records is up = record {
+  valid = is.are.valid;
+  fit = is.fit;
+  order = sym (rising_as records) ∙ ap order.rising is.are.made ∙ up;
+}
+
+-- what restoring changed is kept for the state
+pub opened_keeps : (before after : Option Rows) (records : List Record) (changes : List Change) (s : State) → AreLoaded before records → Leads before changes after
+    → ((rows : Rows) → AreSame rows (rows_of (map row_of records)) → AreKept (changed_by changes rows) s) → KeepsState after s
+opened_keeps None None records changes s loaded leads kept = tt
+opened_keeps None (Some after) records changes s loaded leads kept = absurd leads
+opened_keeps (Some before) None records changes s loaded leads kept = absurd leads
+opened_keeps (Some before) (Some after) records changes s loaded leads kept =
+    same_kept after (changed_by changes before) s leads
+    (kept before (λ kind key. sym (loaded.listed kind key) ∙ ap (λ rs. rows_of rs kind key) (sym loaded.has.are.made)))
+
+-- no change leads to the same rows
+pub leads_nowhere : (told : Option Rows) (changes : List Change) → changes ≡ [] → Leads told changes told
+leads_nowhere None changes none = tt
+leads_nowhere (Some rows) changes none = λ kind key. sym (ap (λ cs. changed_by cs rows kind key) none)
+
+-- a count that rose later
+rose_before : (before middle after : ℕ) → before ≤ middle → RoseOrFull middle after → RoseOrFull before after
+rose_before before middle after less rose = omega (arith, less, rose)
+
+-- a later fault of the keeper
+pub later_why : (told : Option Rows) (before middle after : ℕ) (why : OpenWhy) → before ≤ middle → IsOfKeeper (RoseOrFull middle after) why → IsWhy told (RoseOrFull before after) why
+later_why told before middle after KeeperFault less is = rose_before before middle after less is
+later_why told before middle after (BadRow row why) less is = absurd is
+later_why told before middle after (BadPair one two) less is = absurd is
+later_why told before middle after OutOfMemory less is = tt
+
+pub keeper_why : (told : Option Rows) (rose : Type 0) (why : OpenWhy) → IsOfKeeper rose why → IsWhy told rose why
+keeper_why told rose KeeperFault is = is
+keeper_why told rose (BadRow row why) is = absurd is
+keeper_why told rose (BadPair one two) is = absurd is
+keeper_why told rose OutOfMemory is = tt
+
+pub rows_why : (told : Option Rows) (rose : Type 0) (rows : List Row) (why : OpenWhy) → Lists told rows → IsTrue (order.rising rows) → IsOfRows rows why → IsWhy told rose why
+rows_why told rose rows KeeperFault listed up is = absurd is
+rows_why told rose rows (BadRow row why) listed up is = record { rows = rows; listed = listed; order = up; has = is }
+rows_why told rose rows (BadPair one two) listed up is = record { rows = rows; listed = listed; order = up; has = is }
+rows_why told rose rows OutOfMemory listed up is = tt
+
+-- where an answer is Ok, what follows from its clause
+pub match_ok : {T E : Type 0} (P : T → Type 0) (Q : E → Type 0) (R : T → Type 0) (r : Result T E) → ((x : T) → P x → R x) → MatchResult r P Q → IfOk r R
+match_ok P Q R (Ok x) follows is = follows x is
+match_ok P Q R (Err e) follows is = tt
+
+pub restored_keeps : {E : Type 0} (before after : Option Rows) (records : List Record) (changes : List Change) (s : State) (board : Shown) (r : Result Shown E) → IfOk r (λ b. b ≡ board)
+    → OnOk r (Leads before changes after) → AreLoaded before records → board ≡ shown s s None
+    → ((rows : Rows) → AreSame rows (rows_of (map row_of records)) → AreKept (changed_by changes rows) s) → IfOk r (λ b. KeepsState after b.state)
+restored_keeps before after records changes s board (Ok b) is leads loaded shows kept =
+    still_keeps after s b.state (ap (λ (x : Shown). x.state) (is ∙ shows)) (opened_keeps before after records changes s loaded leads kept)
+restored_keeps before after records changes s board (Err e) is leads loaded shows kept = tt

@@ -1,0 +1,76 @@
+-- What is said of a desk that was opened, or that can't be.
+use Rattle.std.proofs.Common.{◌≡◌, ◌≢◌, ℕ, ◌≤◌, List, ◌∷◌, map, Option, None, Some, refl, ap, sym, ◌∙◌, subst, arith, inl, inr}
+use Rattle.std.specs.Prelude.{Result, Ok, Err, IfOk}
+use Rattle.std.specs.List.{concat}
+use Rattle.board.specs.Prepare.{Shown}
+use Rattle.desk_io.specs.Causes.{RoseOrFull}
+use Rattle.desk_io.specs.Rows.{Rows}
+use Rattle.machine.specs.State.{State}
+use Rattle.ops_tables.specs.Tables.{TableRows}
+use Rattle.records.specs.declared.faults.RowsFault.TheVariants as fault
+use Rattle.reopening.specs.Held.{state_in}
+use Rattle.reopening.specs.Opening.{reopened}
+use Rattle.desk.specs.Answers.{Telling, telling, Left, HasNoBoard, ScriptSays, WhySays, IsRunWith, IsRunOver, IsRunFrom}
+use Rattle.desk.specs.Keeping.{numbers_of}
+use Rattle.desk.specs.Opening.{IsWhy, IsNoKeeperFault, IsOpened}
+use Rattle.desk.specs.Run.{IsRun}
+use Rattle.desk.specs.declared.opening.OpenWhy.{OpenWhy}
+use Rattle.desk.specs.declared.opening.OpenWhy.TheVariants.{KeeperFault, BadRow, BadPair, OutOfMemory}
+use Rattle.desk.proofs.Choices.{rise_within, rise_lower}
+
+-- what is said where no desk is opened
+pub why_said : (tables : TableRows) (before : Telling) (script : List ℕ) (why : OpenWhy) (status : ℕ) (text : List ℕ) (left : Left) → IsWhy before.rows (RoseOrFull before.faults left.keeper.faults) why
+    → WhySays why status text → HasNoBoard before left → ScriptSays tables before script status text left
+why_said tables before script KeeperFault status text left is says none = inr (inl (says.0, is, says.1, none))
+why_said tables before script (BadRow row why) status text left is says none =
+    inr (inr (says.0, record { rows = is.rows; listed = is.listed; order = is.order; has = (fault.BadRow row why, is.has, says.1) }, none))
+why_said tables before script (BadPair one two) status text left is says none =
+    inr (inr (says.0, record { rows = is.rows; listed = is.listed; order = is.order; has = (fault.BadPair one two, is.has, says.1) }, none))
+why_said tables before script OutOfMemory status text left is says none = absurd says
+
+-- such an answer is a fault of the keeper or of its rows
+pub why_status : (why : OpenWhy) (status : ℕ) (text : List ℕ) → WhySays why status text → (status ≢ 3) × (status ≢ 4)
+why_status KeeperFault status text says = let is = says.0 in ((λ e. omega (arith, is, e)), (λ e. omega (arith, is, e)))
+why_status (BadRow row why) status text says = let is = says.0 in ((λ e. omega (arith, is, e)), (λ e. omega (arith, is, e)))
+why_status (BadPair one two) status text says = let is = says.0 in ((λ e. omega (arith, is, e)), (λ e. omega (arith, is, e)))
+why_status OutOfMemory status text says = absurd says
+
+pub why_steady : (why : OpenWhy) (status : ℕ) (text : List ℕ) → IsNoKeeperFault why → WhySays why status text → status ≢ 5
+why_steady KeeperFault status text none says = absurd none
+why_steady (BadRow row why) status text none says = let is = says.0 in λ e. omega (arith, is, e)
+why_steady (BadPair one two) status text none says = let is = says.0 in λ e. omega (arith, is, e)
+why_steady OutOfMemory status text none says = absurd says
+
+-- a run that counts from before
+run_lower : (less before after : ℕ) (s : State) (script : List ℕ) (t : State) (text : List ℕ) → less ≤ before → IsRun before after s script t text → IsRun less after s script t text
+run_lower less before after s script t text under run =
+    let within = rise_within before (concat (map numbers_of run.choices)) after run.counted in
+    record {
+      choices = run.choices;
+      counted = rise_lower less before (concat (map numbers_of run.choices)) after under run.counted;
+      says = run.says;
+      state = run.state;
+      steady = λ same. run.steady (omega (arith, same, under, within));
+    }
+
+-- a run on the desk that was opened
+pub run_over : (tables : TableRows) (told : Option Rows) (before faults : ℕ) (script text : List ℕ) (start : Shown) (board : Option Shown) (after : Telling) → IsOpened told tables start → before ≤ faults
+    → IsRunFrom start faults script text board after → IsRunWith tables (telling told before) script text board after
+run_over tables told before faults script text start None after opened under run = absurd run
+run_over tables told before faults script text start (Some b) after opened under run =
+    let s : State = reopened (state_in tables opened.records) in
+    record {
+      records = opened.records;
+      loaded = opened.loaded;
+      opening = run.1 ∙ ap (λ (x : Shown). x.opening) opened.shows;
+      run = run_lower before faults after.faults s script b.state text under (subst (λ (x : State). IsRun faults after.faults x script b.state text) (ap (λ (x : Shown). x.state) opened.shows) run.0);
+      kept = run.2;
+    }
+
+-- what two clauses of an answer lead to
+pub both_ok : {T E : Type 0} (P Q R : T → Type 0) (r : Result T E) → ((x : T) → P x → Q x → R x) → IfOk r P → IfOk r Q → IfOk r R
+both_ok P Q R (Ok x) follows one two = follows x one two
+both_ok P Q R (Err e) follows one two = tt
+
+pub not_seven : (status : ℕ) → status ≡ 0 → status ≢ 7
+not_seven status zero = λ e. omega (arith, zero, e)

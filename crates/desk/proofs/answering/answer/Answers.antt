@@ -1,0 +1,14 @@
+use Rattle.desk.specs.Settled.{choice_of}
+use Rattle.desk.proofs.Choices.{quiet_answer, again_answered}
+use Rattle.desk.proofs.answering.answer.Goals as goal
+
+pub returns-clause-given : goal.returns-clause-given
+returns-clause-given g c = (choice_of c.in_ok-judged.judged, c.in_ok-judged.ensures.count, c.in_ok-judged.ensures.given)
+
+pub returns-clause-quiet : goal.returns-clause-quiet
+returns-clause-quiet g c = λ sound.
+    quiet_answer _ _ _ _ _ _ (choice_of c.in_ok-judged.judged) _ _ _ _ (c.in_ok-judged.ensures.sound sound).1 c.in_ok-judged.ensures.count c.in_ok-judged.ensures.given
+
+pub returns-clause-again : goal.returns-clause-again
+returns-clause-again g c = λ k within may is.
+    again_answered _ _ _ _ k (choice_of c.in_ok-judged.judged) _ _ _ _ within may is c.in_ok-judged.ensures.given

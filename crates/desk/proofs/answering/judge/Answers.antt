@@ -1,0 +1,6 @@
+use Rattle.desk.proofs.Well.{judged_formed}
+use Rattle.desk.proofs.answering.judge.Goals as goal
+
+pub returns-clause-formed : goal.returns-clause-formed
+returns-clause-formed g c = λ formed.
+    judged_formed _ _ _ _ _ _ c.judge_at.result c.now.ensures.board c.requires.within c.requires.call c.judge_at.ensures.given c.judge_at.ensures.err formed

@@ -1,0 +1,11 @@
+use Rattle.desk_io.specs.Causes.{RoseOrFull}
+use Rattle.desk.proofs.LeftLaws.{opened_formed, opens_left}
+use Rattle.desk.proofs.opening.open.Goals as goal
+
+pub returns-clause-left : goal.returns-clause-left
+returns-clause-left g c = λ s left tells.
+    opens_left _ _ (λ d. d.board) (λ f. RoseOrFull (g.K.Keeper.fault_count c.args.keeper) (g.K.Keeper.fault_count f.keeper)) (λ f. f.why) c.open_desk.result s left tells c.open_desk.ensures.opened
+    c.open_desk.ensures.why
+
+pub returns-clause-formed : goal.returns-clause-formed
+returns-clause-formed g c = λ names. opened_formed _ _ (λ d. d.board) c.open_desk.result c.open_desk.ensures.opened names

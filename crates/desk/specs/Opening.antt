@@ -1,0 +1,98 @@
+-- Which desk is opened over the rows of a keeper, or why none is.
+use Rattle.std.specs.Prelude.{◌≡◌, ◌<◌, ◌≤◌, List, [], length, Option, None, Some, IsTrue}
+use Rattle.board.specs.Prepare.{Shown, shown}
+use Rattle.desk_io.specs.Rows.{Rows}
+use Rattle.desk_io.specs.declared.rows.Row.{Row}
+use Rattle.keeper.specs.Kept.{Lists}
+use Rattle.keeper.specs.Order.{rising}
+use Rattle.keeper.specs.declared.keeping.KeepFault.{KeepFault}
+use Rattle.keeping.specs.Rows.{AreKept}
+use Rattle.kept_forms.specs.Formed.{AreFormed}
+use Rattle.machine.specs.Sound.{IsBoard}
+use Rattle.machine.specs.State.{State}
+use Rattle.keeper.specs.declared.keeping.KeepFault.TheVariants as keep
+use Rattle.ops_tables.specs.Tables.{TableRows}
+use Rattle.records.specs.Checks.{IsDesk, IsFaultOf}
+use Rattle.records.specs.declared.faults.RowsFault.{RowsFault}
+use Rattle.records.specs.declared.faults.RowsFault.TheVariants as fault
+use Rattle.records.specs.declared.record.Record.{Record}
+use Rattle.reopening.specs.Held.{state_in}
+use Rattle.reopening.specs.Opening.{reopened}
+use Rattle.desk.specs.declared.opening.OpenWhy.{OpenWhy}
+use Rattle.desk.specs.declared.opening.OpenWhy.TheVariants.{KeeperFault, BadRow, BadPair, OutOfMemory}
+
+abbrev pub of_keeper : KeepFault → OpenWhy
+of_keeper keep.Failed = KeeperFault
+of_keeper keep.OutOfMemory = OutOfMemory
+
+abbrev pub of_rows : RowsFault → OpenWhy
+of_rows (fault.BadRow row why) = BadRow row why
+of_rows (fault.BadPair one two) = BadPair one two
+of_rows fault.OutOfMemory = OutOfMemory
+
+-- the first fault of rows; want of memory is free
+abbrev pub IsOfRows : List Row → OpenWhy → Type 0
+IsOfRows rows KeeperFault = ⊥
+IsOfRows rows (BadRow row why) = IsFaultOf rows (fault.BadRow row why)
+IsOfRows rows (BadPair one two) = IsFaultOf rows (fault.BadPair one two)
+IsOfRows rows OutOfMemory = Unit {0}
+
+-- rows that were loaded have a property
+pub record OnLoaded (told : Option Rows) (P : List Row → Type 0) : Type 0 where
+  pub rows : List Row
+  -- exactly those that the keeper tells, in order
+  pub listed : Lists told rows
+  pub order : IsTrue (rising rows)
+  pub has : P rows
+
+-- Why no desk is opened: the keeper's count rose, or the rows that were loaded have that first fault. Want of memory is free.
+abbrev pub IsWhy : Option Rows → Type 0 → OpenWhy → Type 0
+IsWhy told rose KeeperFault = rose
+IsWhy told rose (BadRow row why) = OnLoaded told (λ rows. IsFaultOf rows (fault.BadRow row why))
+IsWhy told rose (BadPair one two) = OnLoaded told (λ rows. IsFaultOf rows (fault.BadPair one two))
+IsWhy told rose OutOfMemory = Unit {0}
+
+-- the keeper or want of memory
+abbrev pub IsOfKeeper : Type 0 → OpenWhy → Type 0
+IsOfKeeper rose KeeperFault = rose
+IsOfKeeper rose (BadRow row why) = ⊥
+IsOfKeeper rose (BadPair one two) = ⊥
+IsOfKeeper rose OutOfMemory = Unit {0}
+
+-- it isn't the keeper
+abbrev pub IsNoKeeperFault : OpenWhy → Type 0
+IsNoKeeperFault KeeperFault = ⊥
+IsNoKeeperFault (BadRow row why) = Unit {0}
+IsNoKeeperFault (BadPair one two) = Unit {0}
+IsNoKeeperFault OutOfMemory = Unit {0}
+
+-- the records of rows that were loaded, which are those of a desk
+abbrev pub AreLoaded : Option Rows → List Record → Type 0
+AreLoaded told records = OnLoaded told (λ rows. IsDesk rows records)
+
+-- The state of a board, each part of which has its forms, short of the limits on kept replies and on events.
+pub record IsLeft (s : State) : Type 0 where
+  pub opening : State
+  pub board : IsBoard opening s
+  pub formed : AreFormed s
+  pub few : length s.kept ≤ 800_000
+  pub room : s.counters.events < 999_999_999_999_999
+
+-- rows are told, and they are kept for a state
+abbrev pub TellsRowsOf : Option Rows → State → Type 0
+TellsRowsOf None s = ⊥
+TellsRowsOf (Some rows) s = AreKept rows s
+
+-- a state under some tables, without its history
+abbrev pub under : TableRows → State → State
+under tables s = record s { tables = tables; entries = [] }
+
+-- the board that records stand for under some tables, once its releases are judged
+abbrev pub board_of : TableRows → List Record → Shown
+board_of tables records = shown (reopened (state_in tables records)) (reopened (state_in tables records)) None
+
+-- the board of the rows that were loaded
+pub record IsOpened (told : Option Rows) (tables : TableRows) (board : Shown) : Type 0 where
+  pub records : List Record
+  pub loaded : AreLoaded told records
+  pub shows : board ≡ board_of tables records

@@ -1,0 +1,102 @@
+ghost use Rattle.std.specs.Prelude.{◌≡◌, ◌≤◌, [], IfOk, IfSome};
+ghost use Rattle.std.specs.List.{AllByRecursion};
+ghost use Rattle.desk_json.specs.Calls.{line_of};
+ghost use Rattle.plan_json.specs.Canonical.{CallHasForms};
+ghost use Rattle.desk.specs.Run as spec;
+ghost use Rattle.desk.specs.Run.{items_of, lines_of, lane_with};
+ghost use Rattle.desk.specs.Shown.{IsItem, IsShown};
+
+use asks::Call;
+use desk_io::{LineFeeds, OutOfMemory, Run, runs_between};
+use desk_json::read_line;
+use desk_time::{LAST, Minute};
+use machine::{Item, Outcome};
+use std::alloc::Global;
+use std::marker::Model;
+
+/// The items of a script in their order, and what has come of them.
+#[derive(Drop)]
+pub struct Lane {
+    items: Vec<Item>,
+    outcomes: Vec<Outcome>,
+}
+
+impl Model for Lane {
+    ghost use Rattle.std.specs.List.{AllByRecursion};
+    ghost use Rattle.desk.specs.Run.{LaneShown, lane_with};
+    ghost use Rattle.desk.specs.Shown.{IsItem, IsShown};
+
+    ghost Value = { LaneShown };
+
+    ghost view = { λ l. lane_with l.items.items l.outcomes.items };
+
+    ghost invariant = { λ l. AllByRecursion IsItem l.items.items × AllByRecursion IsShown l.outcomes.items };
+}
+
+fn item_of(line: Option<(Minute, Call)>) -> Item
+    requires within { IfSome line (λ p. p.0 ≤ LAST) }
+    requires form { IfSome line (λ p. CallHasForms p.1) }
+    ensures value { result ≡ spec.item_of line }
+    ensures form { IsItem result }
+{
+    match line {
+        None => Item::Bad,
+        Some((at, call)) => Item::Call { at, call },
+    }
+}
+
+fn read_item(alloc: Global, line: &[u8]) -> Result<Item, OutOfMemory>
+    ensures value { IfOk result (λ i. i ≡ spec.item_of (line_of line.now)) }
+    ensures form { IfOk result IsItem }
+{
+    Ok(item_of(read_line(alloc, line)?))
+}
+
+fn items_in(alloc: Global, lines: &[Run<'_>]) -> Result<Vec<Item>, OutOfMemory>
+    ensures items { IfOk result (λ v. v.items ≡ items_of lines.now) }
+    ensures form { IfOk result (λ v. AllByRecursion IsItem v.items) }
+{
+    let mut items = Vec::new(alloc);
+    for line in lines {
+        items.push(read_item(alloc, line.bytes())?)?;
+    }
+    Ok(items)
+}
+
+impl Lane {
+    /// The items of a script: one for each line that has a byte, and nothing has come of them yet.
+    pub fn of(alloc: Global, script: &[u8]) -> Result<Lane, OutOfMemory>
+        ensures { IfOk result (λ l. l ≡ lane_with (items_of (lines_of script.now)) []) }
+    {
+        let lines = runs_between::<LineFeeds>(alloc, script)?;
+        let items = items_in(alloc, &lines)?;
+        Ok(Lane {
+            items,
+            outcomes: Vec::new(alloc),
+        })
+    }
+
+    /// What has come of the items so far, in their order.
+    pub fn outcomes(&self) -> &[Outcome]
+        ensures made { result.now ≡ self.now.outcomes }
+        ensures shown { AllByRecursion IsShown result.now }
+    {
+        &self.outcomes
+    }
+
+    /// The items.
+    pub(crate) fn items(&self) -> &[Item]
+        ensures items { result.now ≡ self.now.items }
+        ensures form { AllByRecursion IsItem result.now }
+    {
+        &self.items
+    }
+
+    /// Keeps what has come of the items.
+    pub(crate) fn end(&mut self, outcomes: Vec<Outcome>)
+        requires { AllByRecursion IsShown outcomes.items }
+        ensures { self.new ≡ lane_with self.old.items outcomes.items }
+    {
+        self.outcomes = outcomes;
+    }
+}

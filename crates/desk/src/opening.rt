@@ -1,0 +1,244 @@
+ghost use Rattle.std.specs.Prelude.{◌≡◌, ◌≤◌, map, IfOk, IfErr, OnOk, OnErr, IsTrue, MatchResult};
+ghost use Rattle.board.specs.declared.state.Restored.{Restored as ARestored};
+ghost use Rattle.desk_io.specs.Causes.{RoseOrFull};
+ghost use Rattle.desk_io.specs.Rows.{Rows, rows_of, changed_by};
+ghost use Rattle.keeper.specs.Kept.{AreSame, Lists, Leads};
+ghost use Rattle.keeper.specs.Order.{rising};
+ghost use Rattle.keeping.specs.Rows.{AreKept};
+ghost use Rattle.records.specs.Bodies.{row_of};
+ghost use Rattle.records.specs.Checks.{IsDesk};
+ghost use Rattle.kept_forms.specs.Formed.{AreFormed, NamesHaveForms};
+ghost use Rattle.machine.specs.State.{State};
+ghost use Rattle.reopening.specs.Held.{AreOfDesk};
+ghost use Rattle.reopening.specs.Opening.{reopened};
+ghost use Rattle.desk.specs.Keeping.{KeepsState};
+ghost use Rattle.desk.specs.Opening.{of_keeper, of_rows, IsOfRows, IsOfKeeper, IsWhy, IsNoKeeperFault, AreLoaded, board_of, IsLeft, IsOpened, TellsRowsOf, under};
+ghost use Rattle.desk.specs.declared.opening.OpenWhy.TheVariants.{OutOfMemory as OpenMemory};
+
+use crate::settling::Desk;
+use board::{Board, Restored};
+use desk_io::{Change, OutOfMemory, Row};
+use keeper::{KeepFault, Keeper};
+use ops_tables::Tables;
+use records::{Record, RowWhy, RowsFault, check_rows};
+use rules::Steps;
+use std::alloc::Global;
+use std::sync::ledger::Ledger;
+
+/// Why a desk can't be opened.
+#[derive(Debug, Drop)]
+pub enum OpenWhy {
+    /// The keeper failed, and counted it.
+    KeeperFault,
+    /// A row isn't one of a desk.
+    BadRow { row: Row, why: RowWhy },
+    /// Two rows don't fit one another.
+    BadPair { one: Row, two: Row },
+    OutOfMemory,
+}
+
+impl From<OutOfMemory> for OpenWhy {
+    ghost from_gives = { λ _ e. e ≡ OpenMemory };
+
+    fn from(_: OutOfMemory) -> Self {
+        OpenWhy::OutOfMemory
+    }
+}
+
+/// Why a desk can't be opened, and the keeper of its rows, which are as before.
+#[derive(Drop)]
+pub struct OpenFault<K> {
+    pub keeper: K,
+    pub why: OpenWhy,
+}
+
+fn why_of_keeper(fault: KeepFault) -> OpenWhy
+    ensures { result ≡ of_keeper fault }
+{
+    match fault {
+        KeepFault::Failed => OpenWhy::KeeperFault,
+        KeepFault::OutOfMemory => OpenWhy::OutOfMemory,
+    }
+}
+
+fn why_of_rows(fault: RowsFault) -> OpenWhy
+    ensures { result ≡ of_rows fault }
+{
+    match fault {
+        RowsFault::BadRow { row, why } => OpenWhy::BadRow { row, why },
+        RowsFault::BadPair { one, two } => OpenWhy::BadPair { one, two },
+        RowsFault::OutOfMemory => OpenWhy::OutOfMemory,
+    }
+}
+
+fn load<K: Keeper>(alloc: Global, keeper: &mut K) -> Result<Vec<Row>, OpenWhy>
+    ensures order { IfOk result (λ rows. IsTrue (rising rows.items)) }
+    ensures rows { IfOk result (λ rows. Lists (K.told keeper.old) rows.items) }
+    ensures same { K.told keeper.new ≡ K.told keeper.old }
+    ensures why { IfErr result (IsOfKeeper (RoseOrFull (K.fault_count keeper.old) (K.fault_count keeper.new))) }
+    ensures later { K.fault_count keeper.old ≤ K.fault_count keeper.new }
+    ensures sound { K.sound keeper.old → K.sound keeper.new × (K.fault_count keeper.new ≡ K.fault_count keeper.old) × IfErr result IsNoKeeperFault }
+{
+    match keeper.load(alloc) {
+        Ok(rows) => Ok(rows),
+        Err(fault) => Err(why_of_keeper(fault)),
+    }
+}
+
+fn checked(alloc: Global, rows: &[Row]) -> Result<Vec<Record>, OpenWhy>
+    ensures { MatchResult result (λ records. IsDesk rows.now records.items) (IsOfRows rows.now) }
+{
+    match check_rows(alloc, rows) {
+        Ok(records) => Ok(records),
+        Err(fault) => Err(why_of_rows(fault)),
+    }
+}
+
+// The records of the rows that a keeper has.
+fn records_of<K: Keeper>(alloc: Global, keeper: &mut K) -> Result<Vec<Record>, OpenWhy>
+    ensures loaded { IfOk result (λ records. AreLoaded (K.told keeper.old) records.items) }
+    ensures desk { IfOk result (λ records. AreOfDesk records.items) }
+    ensures same { K.told keeper.new ≡ K.told keeper.old }
+    ensures why { IfErr result (IsWhy (K.told keeper.old) (RoseOrFull (K.fault_count keeper.old) (K.fault_count keeper.new))) }
+    ensures later { K.fault_count keeper.old ≤ K.fault_count keeper.new }
+    ensures sound { K.sound keeper.old → K.sound keeper.new × (K.fault_count keeper.new ≡ K.fault_count keeper.old) × IfErr result IsNoKeeperFault }
+{
+    let rows = load(alloc, keeper)?;
+    checked(alloc, &rows)
+}
+
+// Keeps what restoring changed of the rows.
+#[tactic(auto, using(crate::proofs::Opened::leads_nowhere))]
+fn keep_changes<K: Keeper>(alloc: Global, keeper: &mut K, changes: &[Change]) -> Result<(), OpenWhy>
+    ensures ok { OnOk result (Leads (K.told keeper.old) changes.now (K.told keeper.new)) }
+    ensures err { OnErr result (K.told keeper.new ≡ K.told keeper.old) }
+    ensures why { IfErr result (IsOfKeeper (RoseOrFull (K.fault_count keeper.old) (K.fault_count keeper.new))) }
+    ensures later { K.fault_count keeper.old ≤ K.fault_count keeper.new }
+    ensures sound { K.sound keeper.old → K.sound keeper.new × (K.fault_count keeper.new ≡ K.fault_count keeper.old) × IfErr result IsNoKeeperFault }
+{
+    if changes.is_empty() {
+        return Ok(());
+    }
+    match keeper.commit(alloc, changes) {
+        Ok(()) => Ok(()),
+        Err(fault) => Err(why_of_keeper(fault)),
+    }
+}
+
+// A board over rows that can't be kept.
+fn let_go(_: Board) {}
+
+/// Tables under which no desk is opened.
+pub(crate) fn leave(_: Tables) {}
+
+// The board that was restored, once what changed is kept.
+fn finish<K: Keeper>(alloc: Global, keeper: &mut K, restored: Restored) -> Result<Board, OpenWhy>
+    ensures board { IfOk result (λ b. b ≡ restored.board) }
+    ensures ok { OnOk result (Leads (K.told keeper.old) restored.changes.items (K.told keeper.new)) }
+    ensures err { OnErr result (K.told keeper.new ≡ K.told keeper.old) }
+    ensures why { IfErr result (IsOfKeeper (RoseOrFull (K.fault_count keeper.old) (K.fault_count keeper.new))) }
+    ensures later { K.fault_count keeper.old ≤ K.fault_count keeper.new }
+    ensures sound { K.sound keeper.old → K.sound keeper.new × (K.fault_count keeper.new ≡ K.fault_count keeper.old) × IfErr result IsNoKeeperFault }
+{
+    let Restored { board, changes } = restored;
+    match keep_changes(alloc, keeper, &changes) {
+        Ok(()) => Ok(board),
+        Err(why) => {
+            let_go(board);
+            Err(why)
+        }
+    }
+}
+
+// The board of records that were loaded.
+fn restore<K: Keeper, L: Ledger>(
+    alloc: Global,
+    tables: Tables,
+    records: Vec<Record>,
+    keeper: &mut K,
+    steps: &mut Steps<L>,
+) -> Result<Board, OpenWhy>
+    requires loaded { AreLoaded (K.told keeper.old) records.items }
+    requires desk { AreOfDesk records.items }
+    ensures board { IfOk result (λ b. b ≡ board_of tables records.items) }
+    ensures kept { IfOk result (λ b. KeepsState (K.told keeper.new) b.state) }
+    ensures err { OnErr result (K.told keeper.new ≡ K.told keeper.old) }
+    ensures why { IfErr result (IsOfKeeper (RoseOrFull (K.fault_count keeper.old) (K.fault_count keeper.new))) }
+    ensures later { K.fault_count keeper.old ≤ K.fault_count keeper.new }
+    ensures sound { K.sound keeper.old → K.sound keeper.new × (K.fault_count keeper.new ≡ K.fault_count keeper.old) × IfErr result IsNoKeeperFault }
+{
+    let restored = Board::restore(alloc, tables, records, steps)?;
+    finish(alloc, keeper, restored)
+}
+
+fn open_over<K: Keeper, L: Ledger>(
+    alloc: Global,
+    tables: Tables,
+    records: Vec<Record>,
+    mut keeper: K,
+    steps: &mut Steps<L>,
+) -> Result<Desk<K>, OpenFault<K>>
+    requires loaded { AreLoaded (K.told keeper) records.items }
+    requires desk { AreOfDesk records.items }
+    ensures board { IfOk result (λ d. d.board ≡ board_of tables records.items) }
+    ensures kept { IfOk result (λ d. KeepsState (K.told d.keeper) d.board.state) }
+    ensures same { IfErr result (λ f. K.told f.keeper ≡ K.told keeper) }
+    ensures why { IfErr result (λ f. IsOfKeeper (RoseOrFull (K.fault_count keeper) (K.fault_count f.keeper)) f.why) }
+    ensures later { MatchResult result (λ d. K.fault_count keeper ≤ K.fault_count d.keeper) (λ f. K.fault_count keeper ≤ K.fault_count f.keeper) }
+    ensures sound { K.sound keeper → MatchResult result (λ d. K.sound d.keeper × (K.fault_count d.keeper ≡ K.fault_count keeper))
+        (λ f. K.sound f.keeper × (K.fault_count f.keeper ≡ K.fault_count keeper) × IsNoKeeperFault f.why) }
+{
+    match restore(alloc, tables, records, &mut keeper, steps) {
+        Ok(board) => Ok(Desk { board, keeper }),
+        Err(why) => Err(OpenFault { keeper, why }),
+    }
+}
+
+// The same, without what is special of rows that a desk has left.
+fn open_desk<K: Keeper, L: Ledger>(
+    alloc: Global,
+    tables: Tables,
+    mut keeper: K,
+    steps: &mut Steps<L>,
+) -> Result<Desk<K>, OpenFault<K>>
+    ensures opened { IfOk result (λ d. IsOpened (K.told keeper) tables d.board) }
+    ensures kept { IfOk result (λ d. KeepsState (K.told d.keeper) d.board.state) }
+    ensures same { IfErr result (λ f. K.told f.keeper ≡ K.told keeper) }
+    ensures why { IfErr result (λ f. IsWhy (K.told keeper) (RoseOrFull (K.fault_count keeper) (K.fault_count f.keeper)) f.why) }
+    ensures later { MatchResult result (λ d. K.fault_count keeper ≤ K.fault_count d.keeper) (λ f. K.fault_count keeper ≤ K.fault_count f.keeper) }
+    ensures sound { K.sound keeper → MatchResult result (λ d. K.sound d.keeper × (K.fault_count d.keeper ≡ K.fault_count keeper))
+        (λ f. K.sound f.keeper × (K.fault_count f.keeper ≡ K.fault_count keeper) × IsNoKeeperFault f.why) }
+{
+    match records_of(alloc, &mut keeper) {
+        Ok(records) => open_over(alloc, tables, records, keeper, steps),
+        Err(why) => {
+            leave(tables);
+            Err(OpenFault { keeper, why })
+        }
+    }
+}
+
+/// Opens a desk over the rows of a keeper: these are loaded and checked, and the board that they stand for is restored
+/// under the tables. What that changed of the rows is kept. After an error they are as before.
+///
+/// Rows that a desk has left are opened under any tables, and stand for the state in which it left them.
+pub fn open<K: Keeper, L: Ledger>(
+    alloc: Global,
+    tables: Tables,
+    keeper: K,
+    steps: &mut Steps<L>,
+) -> Result<Desk<K>, OpenFault<K>>
+    ensures opened { IfOk result (λ d. IsOpened (K.told keeper) tables d.board) }
+    ensures kept { IfOk result (λ d. KeepsState (K.told d.keeper) d.board.state) }
+    ensures same { IfErr result (λ f. K.told f.keeper ≡ K.told keeper) }
+    ensures why { IfErr result (λ f. IsWhy (K.told keeper) (RoseOrFull (K.fault_count keeper) (K.fault_count f.keeper)) f.why) }
+    ensures later { MatchResult result (λ d. K.fault_count keeper ≤ K.fault_count d.keeper) (λ f. K.fault_count keeper ≤ K.fault_count f.keeper) }
+    ensures sound { K.sound keeper → MatchResult result (λ d. K.sound d.keeper × (K.fault_count d.keeper ≡ K.fault_count keeper))
+        (λ f. K.sound f.keeper × (K.fault_count f.keeper ≡ K.fault_count keeper) × IsNoKeeperFault f.why) }
+    // Over the rows of a desk that was left there is no fault of rows.
+    ensures left { (s : State) → IsLeft s → TellsRowsOf (K.told keeper) s
+        → MatchResult result (λ d. d.board.state ≡ reopened (under tables s)) (λ f. IsOfKeeper (RoseOrFull (K.fault_count keeper) (K.fault_count f.keeper)) f.why) }
+    ensures formed { NamesHaveForms tables → IfOk result (λ d. AreFormed d.board.state) }
+{
+    open_desk(alloc, tables, keeper, steps)
+}

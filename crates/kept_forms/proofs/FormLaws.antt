@@ -1,0 +1,179 @@
+-- Every step of the desk keeps the forms of what it holds.
+use Rattle.std.proofs.Common.{◌≡◌, ℕ, ◌<◌, ◌≤◌, Bool, true, false, not, List, ◌++◌, append-nil, option_to_list, Option, None, Some, IfSome, Result, Ok, Err, refl, sym, subst}
+use Rattle.std.specs.List.{AllByRecursion}
+use Rattle.asks.specs.declared.call.Call.{Call}
+use Rattle.asks.specs.declared.kept.Floor.{Floor}
+use Rattle.asks.specs.declared.kept.KeptReply.{KeptReply}
+use Rattle.asks.specs.declared.reply.Refusal.{Refusal}
+use Rattle.asks.specs.declared.reply.Reply.{Reply}
+use Rattle.asks.specs.declared.reply.Reply.TheVariants.{Done, Seen, Refused}
+use Rattle.deferrals.specs.Held.{has_id}
+use Rattle.deferrals.specs.declared.items.Deferral.{Deferral}
+use Rattle.facts.specs.declared.report.Report.{Report}
+use Rattle.kept_forms.specs.Formed.{NamesHaveForms, ReportHasForms, DeferralHasForms, AlertHasForms, ReplyHasForms, AreFormed}
+use Rattle.kept_forms.proofs.AlertForms.{all_judged, ids_low}
+use Rattle.kept_forms.proofs.DigestForms.{ask_digest_formed}
+use Rattle.kept_forms.proofs.EffectForms.{OpensFormed, PutsFormed, HasFloors, BringsForms, Stands, effect_formed}
+use Rattle.kept_forms.proofs.NameForms.{person_formed}
+use Rattle.machine.specs.Allowed.{DecisionOf}
+use Rattle.machine.specs.Decide.{decide}
+use Rattle.machine.specs.Effects.{tick}
+use Rattle.machine.specs.Events.{effected, reports_after, deferrals_after, releases_after, floors_after}
+use Rattle.machine.specs.People.{mistaken}
+use Rattle.machine.specs.Sound.{InBounds, IsBoard}
+use Rattle.machine.specs.State.{State, start, is_full, is_full_for}
+use Rattle.machine.specs.Step.{entry, entered, kept_of, kept_of_call, enter, finish, do_call, do_unless, answer_call, tick_unless, tick_to, without_key}
+use Rattle.machine.specs.declared.effect.Decision.{Decision}
+use Rattle.machine.specs.declared.effect.Decision.TheVariants.{Show, Do}
+use Rattle.machine.specs.declared.effect.Effect.{Effect}
+use Rattle.machine.specs.declared.effect.OnDeferrals.{OnDeferrals}
+use Rattle.machine.specs.declared.effect.OnDeferrals.TheVariants as on_deferrals
+use Rattle.machine.specs.declared.effect.OnReleases.{OnReleases}
+use Rattle.machine.specs.declared.effect.OnReleases.TheVariants as on_releases
+use Rattle.machine.specs.declared.effect.Sweep.{Sweep}
+use Rattle.machine.specs.declared.entry.Entry.{Entry}
+use Rattle.machine.specs.declared.entry.What.TheVariants as what
+use Rattle.machine.proofs.AllowedLaws.{decision_is}
+use Rattle.machine.proofs.Boards.{call_board, tick_board}
+use Rattle.machine.proofs.Each.{each_push, put_each, without_each}
+use Rattle.machine.proofs.Judging.{alerts_have}
+use Rattle.machine.proofs.Parts.{filter_each, kept_each, swept_each}
+use Rattle.ops_tables.specs.Forms.{is_person}
+use Rattle.ops_tables.specs.Tables.{TableRows, actor_of}
+use Rattle.plan.specs.declared.release.Release.{Release}
+use Rattle.plan_json.specs.Canonical.{CallHasForms, DoneHasForms}
+use Rattle.plan_json.proofs.AskForms.{call_from_forms}
+use Rattle.records.specs.Valid.{IsFloor, IsRequest, AreRising}
+use Rattle.release_json.specs.Kept.{IsFormed}
+use Rattle.reopening.specs.Opening.{MayReopen, reopened}
+
+-- nothing is held at the beginning
+pub start_formed : (tables : TableRows) → NamesHaveForms tables → AreFormed (start tables)
+start_formed tables names = record { names = names; reports = tt; deferrals = tt; releases = tt; alerts = tt; kept = tt; floors = tt; rising = tt }
+
+-- ---- the effect, part by part
+
+reports_more : (o : Option Report) (rs : List Report) → IfSome o ReportHasForms → AllByRecursion ReportHasForms rs → AllByRecursion ReportHasForms (reports_after o rs)
+reports_more None rs brings all = all
+reports_more (Some r) rs brings all = each_push ReportHasForms rs r all brings
+
+deferrals_more : (on : OnDeferrals) (ds : List Deferral) → OpensFormed on → AllByRecursion DeferralHasForms ds → AllByRecursion DeferralHasForms (deferrals_after on ds)
+deferrals_more on_deferrals.Nothing ds brings all = all
+deferrals_more (on_deferrals.Open d) ds brings all = each_push DeferralHasForms ds d all brings
+deferrals_more (on_deferrals.Clear id) ds brings all = filter_each DeferralHasForms (λ d. not (has_id id d)) ds all
+
+releases_more : (on : OnReleases) (rs : List Release) → PutsFormed on → AllByRecursion IsFormed rs → AllByRecursion IsFormed (releases_after on rs)
+releases_more on_releases.Nothing rs brings all = all
+releases_more (on_releases.File r) rs brings all = each_push IsFormed rs r all brings
+releases_more (on_releases.Put r) rs brings all = put_each IsFormed r rs all brings
+releases_more (on_releases.Remove id) rs brings all = without_each IsFormed id rs all
+
+floors_more : (o : Option Sweep) (fs : List Floor) → IfSome o HasFloors → AllByRecursion IsFloor fs × AreRising fs → AllByRecursion IsFloor (floors_after o fs) × AreRising (floors_after o fs)
+floors_more None fs brings all = all
+floors_more (Some w) fs brings all = brings
+
+-- an effect that brings what has its forms keeps those of the state
+effected_formed : (s : State) (e : Effect) → BringsForms e → AreFormed s → AreFormed (effected e s)
+effected_formed s e brings formed =
+    let floors = floors_more e.sweep s.floors brings.floors (formed.floors, formed.rising) in
+    record {
+      names = formed.names;
+      reports = swept_each ReportHasForms e.sweep (reports_after e.report s.reports) (reports_more e.report s.reports brings.admitted formed.reports);
+      deferrals = deferrals_more e.on_deferrals s.deferrals brings.opened formed.deferrals;
+      releases = releases_more e.on_releases s.releases brings.filed formed.releases;
+      alerts = alerts_have AlertHasForms (λ a is. record { failing = is.failing; ever = is.ever }) e.on_alerts s.alerts formed.alerts;
+      kept = kept_each ReplyHasForms e.sweep s.kept formed.kept;
+      floors = floors.0;
+      rising = floors.1;
+    }
+
+-- ---- the judgement and the entry
+
+replies_more : (o : Option KeptReply) (ks : List KeptReply) → IfSome o ReplyHasForms → AllByRecursion ReplyHasForms ks → AllByRecursion ReplyHasForms (ks ++ option_to_list o)
+replies_more None ks here all = rw (append-nil ks) all
+replies_more (Some k) ks here all = each_push ReplyHasForms ks k all here
+
+entered_formed : (t : State) (e : Entry) → InBounds (entered e t) → IfSome (kept_of t e.what) ReplyHasForms → AreFormed t → AreFormed (entered e t)
+entered_formed t e bounds reply formed = record {
+  names = formed.names;
+  reports = formed.reports;
+  deferrals = formed.deferrals;
+  releases = formed.releases;
+  alerts = all_judged t t.releases (ids_low (entered e t) bounds) bounds.releases formed.alerts;
+  kept = replies_more (kept_of t e.what) t.kept reply formed.kept;
+  floors = formed.floors;
+  rising = formed.rising;
+}
+
+-- ---- ticks
+
+tick_by : (full : Bool) (opening s : State) (lane to : ℕ) → IsBoard opening (tick_unless full s lane to).state → AreFormed s → AreFormed (tick_unless full s lane to).state
+tick_by true opening s lane to board formed = formed
+tick_by false opening s lane to board formed =
+    entered_formed (effected (tick to) s) (entry lane (what.Tick to)) board.kept tt
+    (effected_formed s (tick to) (record { admitted = tt; opened = tt; filed = tt; floors = tt }) formed)
+
+-- A tick keeps the forms.
+pub tick_formed : (opening s : State) (lane to : ℕ) → IsBoard opening s → AreFormed s → s.moment < to → to ≤ 68_374_079 → AreFormed (tick_to s lane to).state
+unfolding tick_to
+tick_formed opening s lane to board formed later within = tick_by (is_full s) opening s lane to (tick_board opening s lane to board later within) formed
+
+-- ---- calls
+
+-- a reply that says what was done
+abbrev SaysFormed : Reply → Type 0
+SaysFormed (Done made) = DoneHasForms made
+SaysFormed (Seen text) = Unit {0}
+SaysFormed (Refused refusal) = Unit {0}
+
+reply_kept : (t : State) (call : Call) (reply : Reply) → is_person call.actor ≡ true → IsRequest call.number → SaysFormed reply → IfSome (kept_of_call t call reply) ReplyHasForms
+reply_kept t call (Done made) person low says = record { actor = person; number = low; digest = ask_digest_formed call.ask; done = says }
+reply_kept t call (Seen text) person low says = tt
+reply_kept t call (Refused refusal) person low says = tt
+
+enter_formed : (full : Bool) (opening s : State) (lane : ℕ) (call : Call) (reply : Reply) (e : Effect) → is_person call.actor ≡ true → IsRequest call.number → SaysFormed reply → BringsForms e
+    → IsBoard opening (enter full s lane call reply e).state → AreFormed s → AreFormed (enter full s lane call reply e).state
+enter_formed true opening s lane call reply e person low says brings board formed = formed
+enter_formed false opening s lane call reply e person low says brings board formed =
+    entered_formed (effected e s) (entry lane (what.Asked (without_key call) reply)) board.kept (reply_kept (effected e s) (without_key call) reply person low says)
+    (effected_formed s e brings formed)
+
+finish_formed : (opening s : State) (lane : ℕ) (call : Call) (decision : Result Decision Refusal) → DecisionOf s call decision → Stands s → is_person call.actor ≡ true → CallHasForms call
+    → IsBoard opening (finish s lane call decision).state → AreFormed (finish s lane call decision).state
+finish_formed opening s lane call (Err refusal) decided stands person has board = stands.formed
+finish_formed opening s lane call (Ok (Show reply)) decided stands person has board = stands.formed
+finish_formed opening s lane call (Ok (Do reply e)) decided stands person has board =
+    let made = effect_formed s call.actor stands person decided.3 has.ask in
+    enter_formed (is_full_for s call.ask) opening s lane call reply e person has.number (subst SaysFormed (sym decided.2) made.1) made.0 board stands.formed
+
+done_formed : (opening s : State) (lane : ℕ) (call : Call) → IsBoard opening s → AreFormed s → is_person call.actor ≡ true → CallHasForms call → AreFormed (do_call s lane call).state
+unfolding do_call
+done_formed opening s lane call board formed person has =
+    finish_formed opening s lane call (decide s call) (decision_is s call board.sound) (record { formed = formed; sound = board.sound; bounds = board.kept }) person has
+    (call_board opening s lane call board (call_from_forms call.ask has.ask))
+
+answer_by : (o : Option Refusal) (opening s : State) (lane : ℕ) (call : Call) → mistaken (actor_of s.tables call.actor) call.key ≡ o → IsBoard opening s → AreFormed s → CallHasForms call
+    → AreFormed (do_unless o s lane call).state
+answer_by None opening s lane call known board formed has = done_formed opening s lane call board formed (person_formed s.tables call.actor call.key formed.names known) has
+answer_by (Some refusal) opening s lane call known board formed has = formed
+
+-- A call keeps the forms.
+pub call_formed : (opening s : State) (lane : ℕ) (call : Call) → IsBoard opening s → AreFormed s → CallHasForms call → AreFormed (answer_call s lane call).state
+unfolding answer_call
+call_formed opening s lane call board formed has = answer_by (mistaken (actor_of s.tables call.actor) call.key) opening s lane call refl board formed has
+
+-- ---- opening
+
+-- A state that is judged as it is opened keeps its forms.
+pub reopened_formed : (s : State) → MayReopen s → AreFormed s → AreFormed (reopened s)
+unfolding reopened
+reopened_formed s may formed = record {
+  names = formed.names;
+  reports = formed.reports;
+  deferrals = formed.deferrals;
+  releases = formed.releases;
+  alerts = all_judged s s.releases (ids_low s may.bounds) may.bounds.releases formed.alerts;
+  kept = formed.kept;
+  floors = formed.floors;
+  rising = formed.rising;
+}

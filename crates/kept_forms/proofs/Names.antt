@@ -1,0 +1,151 @@
+-- The names of tables that were read have their forms: each row is that of a record whose names were tested.
+use Rattle.std.proofs.Common.{◌≡◌, ℕ, ◌&&◌, Bool, true, List, [], ◌∷◌, map, Option, None, Some, IfSome, Ok, refl, sym, subst}
+use Rattle.std.specs.List.{AllByRecursion}
+use Rattle.std.proofs.lemmas.Bool.{and_parts}
+use Rattle.desk_time.specs.Digits.{◌>>=◌}
+use Rattle.ops_tables.specs.Forms.{is_name, is_tail, is_item, is_person, is_key, is_name_or_none, are_item_names}
+use Rattle.ops_tables.specs.Keys.{is_same_airport, is_same_approach, is_same_alternate, is_same_type, is_same_tail, is_same_use, is_same_distance, is_same_route, is_same_item, is_same_pair, is_same_actor}
+use Rattle.ops_tables.specs.Tables.{TableRows}
+use Rattle.ops_tables.specs.declared.rows.Actor.{Actor}
+use Rattle.ops_tables.specs.declared.rows.MelRow.{MelRow}
+use Rattle.ops_tables.specs.declared.rows.Role.{Role}
+use Rattle.ops_tables.specs.declared.rows.Tail.{Tail}
+use Rattle.table_files.specs.Fields.{role_of}
+use Rattle.table_files.specs.Files.{no_rows, airports, approaches, alternates, types, tails, uses, distances, routes, mel, pairs, actors}
+use Rattle.table_files.specs.Good.{SaysSettings, SaysTable}
+use Rattle.table_files.specs.Reading.{Table}
+use Rattle.table_files.specs.Records.{actor_row, item_row, item_terms, named_item, tail_row}
+use Rattle.table_files.specs.Whole.{ReadsTables, Told}
+use Rattle.plan_json.proofs.Chains.{bind_any, under}
+use Rattle.kept_forms.specs.Formed.{NamesHaveForms}
+
+-- ---- rows
+
+abbrev IsTailRow : Tail → Type 0
+IsTailRow r = is_tail r.tail ≡ true
+
+abbrev IsItemRow : MelRow → Type 0
+IsItemRow r = is_item r.item ≡ true
+
+abbrev IsPersonRow : Actor → Type 0
+IsPersonRow a = is_person a.name ≡ true
+
+tail_formed : (fields : List (List ℕ)) → IfSome (tail_row fields) IsTailRow
+tail_formed [] = tt
+tail_formed (tail ∷ []) = tt
+tail_formed (tail ∷ kind ∷ []) = under (is_tail tail && is_name kind) (Some (record { tail = tail; kind = kind })) IsTailRow (λ passed. (and_parts (is_tail tail) (is_name kind) passed).0)
+tail_formed (tail ∷ kind ∷ more ∷ rest) = tt
+
+item_of_names : (kind item capability : List ℕ) → are_item_names kind item capability ≡ true → is_item item ≡ true
+unfolding are_item_names
+item_of_names kind item capability passed =
+    let first = and_parts (is_name kind && is_item item) (is_name_or_none capability) passed in (and_parts (is_name kind) (is_item item) first.0).1
+
+either_formed : {T R : Type 0} (P : R → Type 0) (f : Option T → Option R) (o : Option T) → IfSome (f None) P → ((x : T) → IfSome (f (Some x)) P) → IfSome (f o) P
+either_formed P f None none some = none
+either_formed P f (Some x) none some = some x
+
+item_formed : (fields : List (List ℕ)) → IfSome (item_row fields) IsItemRow
+item_formed [] = tt
+item_formed (a ∷ []) = tt
+item_formed (a ∷ b ∷ []) = tt
+item_formed (a ∷ b ∷ c ∷ []) = tt
+item_formed (a ∷ b ∷ c ∷ d ∷ []) = tt
+item_formed (a ∷ b ∷ c ∷ d ∷ e ∷ []) = tt
+item_formed (a ∷ b ∷ c ∷ d ∷ e ∷ f ∷ []) = tt
+item_formed (a ∷ b ∷ c ∷ d ∷ e ∷ f ∷ g ∷ []) = tt
+item_formed (kind ∷ item ∷ category ∷ days ∷ capability ∷ extra_fuel ∷ flag_ok ∷ max_minutes ∷ []) =
+    under (are_item_names kind item capability) (named_item kind item capability (item_terms category days extra_fuel flag_ok max_minutes)) IsItemRow
+    (λ passed. either_formed IsItemRow (λ o. named_item kind item capability o) (item_terms category days extra_fuel flag_ok max_minutes) tt
+    (λ terms. item_of_names kind item capability passed))
+item_formed (a ∷ b ∷ c ∷ d ∷ e ∷ f ∷ g ∷ h ∷ i ∷ more) = tt
+
+person_formed : (fields : List (List ℕ)) → IfSome (actor_row fields) IsPersonRow
+person_formed [] = tt
+person_formed (name ∷ []) = tt
+person_formed (name ∷ key ∷ []) = tt
+person_formed (name ∷ key ∷ role ∷ []) =
+    let next = λ (does : Role). Some (record { name = name; key = key; role = does }) in
+    under (is_person name && is_key key) (role_of role >>= next) IsPersonRow
+    (λ passed. bind_any (role_of role) next IsPersonRow (λ does. (and_parts (is_person name) (is_key key) passed).0))
+person_formed (name ∷ key ∷ role ∷ more ∷ rest) = tt
+
+-- what holds of the row of each record holds of all rows
+rows_formed : {R : Type 0} (P : R → Type 0) (row_of : List (List ℕ) → Option R) → ((fields : List (List ℕ)) → IfSome (row_of fields) P)
+    → (records : List (List (List ℕ))) (rows : List R) → map row_of records ≡ map Some rows → AllByRecursion P rows
+rows_formed P row_of is [] [] given = tt
+rows_formed P row_of is [] (row ∷ rows) given = absurd (cc)
+rows_formed P row_of is (fields ∷ records) [] given = absurd (cc)
+rows_formed P row_of is (fields ∷ records) (row ∷ rows) given =
+    let first : row_of fields ≡ Some row = cc in
+    let rest : map row_of records ≡ map Some rows = cc in
+    (subst (λ o. IfSome o P) first (is fields), rows_formed P row_of is records rows rest)
+
+any_row : {R : Type 0} (o : Option R) → IfSome o (λ row. Unit {0})
+any_row None = tt
+any_row (Some row) = tt
+
+-- ---- files
+
+-- one more table keeps the forms, where its rows do
+table_keeps : {R : Type 0} (P : R → Type 0) (is_same_key : R → R → Bool) (limit : ℕ) (table : Table R) (before after : TableRows) (records : List (List (List ℕ)))
+    → ((fields : List (List ℕ)) → IfSome (table.row_of fields) P) → ((rows : List R) → AllByRecursion P rows → NamesHaveForms (table.with_rows before rows))
+    → SaysTable is_same_key limit table before records (Ok after) → NamesHaveForms after
+table_keeps P is_same_key limit table before after records row keeps says =
+    let good = (says.good after).1 refl in
+    subst NamesHaveForms good.2 (keeps good.0 (rows_formed P table.row_of row good.1.below good.0 good.1.holds.given))
+
+settings_keep : (before after : TableRows) (records : List (List (List ℕ))) → NamesHaveForms before → SaysSettings before records (Ok after) → NamesHaveForms after
+settings_keep before after records names says =
+    let good = (says.good after).1 refl in
+    subst NamesHaveForms good.2 (record { tails = names.tails; items = names.items; people = names.people })
+
+-- tables with rows in a table that isn't one of the three
+abbrev LeavesNames : {R : Type 0} → Table R → Type 0
+LeavesNames {R} table =
+    (before : TableRows) (rows : List R)
+    → ((table.with_rows before rows).tails ≡ before.tails) × ((table.with_rows before rows).mel ≡ before.mel) × ((table.with_rows before rows).actors ≡ before.actors)
+
+other_keeps : {R : Type 0} (is_same_key : R → R → Bool) (limit : ℕ) (table : Table R) (before after : TableRows) (records : List (List (List ℕ)))
+    → LeavesNames table → NamesHaveForms before → SaysTable is_same_key limit table before records (Ok after) → NamesHaveForms after
+other_keeps is_same_key limit table before after records leaves names says =
+    table_keeps (λ row. Unit {0}) is_same_key limit table before after records (λ fields. any_row (table.row_of fields))
+    (λ rows any. same_names before (table.with_rows before rows) names (leaves before rows)) says
+  where
+    same_names : (before after : TableRows) → NamesHaveForms before → (after.tails ≡ before.tails) × (after.mel ≡ before.mel) × (after.actors ≡ before.actors) → NamesHaveForms after
+    same_names before after names same = record {
+      tails = subst (AllByRecursion IsTailRow) (sym same.0) names.tails;
+      items = subst (AllByRecursion IsItemRow) (sym same.1) names.items;
+      people = subst (AllByRecursion IsPersonRow) (sym same.2) names.people;
+    }
+
+-- The names of tables that were read have their forms: file by file, in the order in which they are read.
+pub names_formed : (told : Told) (t : TableRows) → ReadsTables told (Ok t) → NamesHaveForms t
+names_formed told t one =
+    let after_settings = settings_keep no_rows one.0 one.1.gives.records (record { tails = tt; items = tt; people = tt }) one.1.says in
+    let two = one.2 in
+    let after_airports = other_keeps is_same_airport 5000 airports one.0 two.0 two.1.gives.records (λ before rows. (refl, refl, refl)) after_settings two.1.says in
+    let three = two.2 in
+    let after_approaches = other_keeps is_same_approach 50000 approaches two.0 three.0 three.1.gives.records (λ before rows. (refl, refl, refl)) after_airports three.1.says in
+    let four = three.2 in
+    let after_alternates = other_keeps is_same_alternate 20000 alternates three.0 four.0 four.1.gives.records (λ before rows. (refl, refl, refl)) after_approaches four.1.says in
+    let five = four.2 in
+    let after_types = other_keeps is_same_type 200 types four.0 five.0 five.1.gives.records (λ before rows. (refl, refl, refl)) after_alternates five.1.says in
+    let six = five.2 in
+    let after_tails = table_keeps IsTailRow is_same_tail 5000 tails five.0 six.0 six.1.gives.records tail_formed
+    (λ rows are. record { tails = are; items = after_types.items; people = after_types.people }) six.1.says in
+    let seven = six.2 in
+    let after_uses = other_keeps is_same_use 200000 uses six.0 seven.0 seven.1.gives.records (λ before rows. (refl, refl, refl)) after_tails seven.1.says in
+    let eight = seven.2 in
+    let after_distances = other_keeps is_same_distance 200000 distances seven.0 eight.0 eight.1.gives.records (λ before rows. (refl, refl, refl)) after_uses eight.1.says in
+    let nine = eight.2 in
+    let after_routes = other_keeps is_same_route 50000 routes eight.0 nine.0 nine.1.gives.records (λ before rows. (refl, refl, refl)) after_distances nine.1.says in
+    let ten = nine.2 in
+    let after_items = table_keeps IsItemRow is_same_item 50000 mel nine.0 ten.0 ten.1.gives.records item_formed
+    (λ rows are. record { tails = after_routes.tails; items = are; people = after_routes.people }) ten.1.says in
+    let eleven = ten.2 in
+    let after_pairs = other_keeps is_same_pair 50000 pairs ten.0 eleven.0 eleven.1.gives.records (λ before rows. (refl, refl, refl)) after_items eleven.1.says in
+    let twelve = eleven.2 in
+    let after_actors = table_keeps IsPersonRow is_same_actor 5000 actors eleven.0 twelve.0 twelve.1.gives.records person_formed
+    (λ rows are. record { tails = after_pairs.tails; items = after_pairs.items; people = are }) twelve.1.says in
+    subst NamesHaveForms twelve.2 after_actors

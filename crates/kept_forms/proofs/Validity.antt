@@ -1,0 +1,205 @@
+-- Each record of a state is valid, and none outruns the counters.
+use Rattle.std.proofs.Common.{◌≡◌, ℕ, ◌+◌, ◌<◌, ◌≤◌, arith, false, ◌||◌, Option, None, Some, IfSome, Result, Ok, Err, IsOk, refl}
+use Rattle.std.specs.Prelude.{nat_le, nat_lt}
+use Rattle.std.specs.List.{AllByRecursion}
+use Rattle.std.proofs.lemmas.Bool.{le-ltb, lt-leb, or_from}
+use Rattle.alerts.specs.declared.alert.Alert.{Alert as AlertOf}
+use Rattle.alerts.specs.Alerts.{IsAlert}
+use Rattle.asks.specs.declared.kept.KeptReply.{KeptReply}
+use Rattle.deferrals.specs.declared.items.Deferral.{Deferral as DeferralOf}
+use Rattle.facts.specs.Reading.{read_of}
+use Rattle.facts.specs.declared.report.Report.{Report as ReportOf}
+use Rattle.keeping.specs.Rows.{alert_kept, meta_of, report_kept}
+use Rattle.machine.specs.Sound as machine
+use Rattle.machine.specs.Sound.{AreCounters, IsNumbered, IsOpen, IsReplied}
+use Rattle.machine.specs.State.{State}
+use Rattle.plan.specs.Texts.{IsMoment}
+use Rattle.plan.specs.declared.release.Phase.{Phase}
+use Rattle.plan.specs.declared.release.Phase.TheVariants.{Drafted, Ready, Flying, Stopped, Completed, Cancelled}
+use Rattle.plan.specs.declared.release.Release.{Release as ReleaseOf}
+use Rattle.plan.specs.declared.release.Revision.{Revision}
+use Rattle.plan.specs.declared.release.Signature.{Signature}
+use Rattle.plan_json.specs.Canonical.{IsId}
+use Rattle.records.specs.Faults.{is_ahead, is_late, outruns}
+use Rattle.records.specs.Valid.{AreRising, IsFloor, IsMeta, IsRecord}
+use Rattle.records.specs.declared.record.Record.{Record}
+use Rattle.records.specs.declared.record.Record.TheVariants.{Meta, Report, Deferral, Release, Kept, Alert}
+use Rattle.release_json.specs.Kept.{AreNumbered, BearsBoth, HasLegs, IsFormed, IsNone, IsPhased, IsSigned, IsThere, IsValid, MaySigned, Waits}
+use Rattle.kept_forms.specs.Formed.{AlertHasForms, DeferralHasForms, ReplyHasForms, ReportHasForms}
+
+-- ---- a release that may stand is one that may be kept
+
+some_weaker : {A : Type 0} (P Q : A → Type 0) → ((x : A) → P x → Q x) → (o : Option A) → IfSome o P → IfSome o Q
+some_weaker P Q is None has = tt
+some_weaker P Q is (Some x) has = is x has
+
+there_is : (o : Option Revision) → machine.IsThere o → IsThere o
+there_is None is = absurd is
+there_is (Some v) is = tt
+
+none_is : (o : Option Revision) → machine.IsNone o → IsNone o
+none_is None is = tt
+none_is (Some v) is = absurd is
+
+phased_is : (phase : Phase) (pending active : Option Revision) → machine.IsPhased phase pending active → IsPhased phase pending active
+phased_is Drafted pending active is = (there_is pending is.0, none_is active is.1)
+phased_is Ready pending active is = there_is active is
+phased_is (Flying leg) pending active is = there_is active is
+phased_is (Stopped next since again) pending active is = there_is active is
+phased_is (Completed at) pending active is = none_is pending is
+phased_is (Cancelled at) pending active is = none_is pending is
+
+signed_is : (v : Revision) (o : Option Signature) → machine.IsSigned v o → IsSigned v o
+signed_is v None is = absurd is
+signed_is v (Some signature) is = is
+
+both_is : (v : Revision) → machine.BearsBoth v → BearsBoth v
+both_is v is = record { prepared = is.prepared; dispatcher = signed_is v v.dispatcher is.dispatcher; captain = signed_is v v.captain is.captain }
+
+may_is : (v : Revision) (o : Option Signature) → machine.MaySigned v o → MaySigned v o
+may_is v None is = tt
+may_is v (Some signature) is = is
+
+waits_is : (v : Revision) → machine.Waits v → Waits v
+waits_is v is = record { captain = is.captain; dispatcher = may_is v v.dispatcher is.dispatcher }
+
+legs_are : (phase : Phase) (v : Revision) → machine.HasLegs phase v → HasLegs phase v
+legs_are phase v is = record { some = is.some; fits = is.fits }
+
+numbered_is : (most : ℕ) (pending active : Option Revision) → machine.AreNumbered most pending active → AreNumbered pending active
+numbered_is most None None is = tt
+numbered_is most (Some v) None is = tt
+numbered_is most None (Some w) is = tt
+numbered_is most (Some v) (Some w) is = is.0
+
+valid_is : (most : ℕ) (r : ReleaseOf) → machine.IsValid most r → IsValid r
+valid_is most r is = record {
+  phased = phased_is r.phase r.pending r.active is.phased;
+  numbered = numbered_is most r.pending r.active is.numbered;
+  pending_legs = some_weaker (machine.HasLegs r.phase) (HasLegs r.phase) (legs_are r.phase) r.pending is.pending_legs;
+  active_legs = some_weaker (machine.HasLegs r.phase) (HasLegs r.phase) (legs_are r.phase) r.active is.active_legs;
+  both = some_weaker machine.BearsBoth BearsBoth both_is r.active is.both;
+  waits = some_weaker machine.Waits Waits waits_is r.pending is.waits;
+}
+
+-- ---- no revision is late
+
+pending_late : (most : ℕ) (pending active : Option Revision) → machine.AreNumbered most pending active → is_late most pending ≡ false
+pending_late most None active is = refl
+pending_late most (Some v) None is = le-ltb most v.number is
+pending_late most (Some v) (Some w) is = le-ltb most v.number is.1
+
+active_late : (most : ℕ) (pending active : Option Revision) → machine.AreNumbered most pending active → is_late most active ≡ false
+active_late most pending None is = refl
+active_late most None (Some w) is = le-ltb most w.number is
+active_late most (Some v) (Some w) is = let less = is.0 in let few = is.1 in le-ltb most w.number (omega (arith, less, few))
+
+-- ---- the counters
+
+-- what holds of the counters of a state that may be kept
+pub record Counts (s : State) : Type 0 where
+  pub counters : AreCounters s.counters
+  pub moment : IsMoment s.moment
+  pub room : s.counters.events < 999_999_999_999_999
+
+pub id_below : (s : State) → Counts s → (next id : ℕ) → next ≤ s.counters.events + 1 → id < next → IsId id
+id_below s is next id few below = let room = is.room in omega (arith, few, below, room)
+
+meta_valid : (s : State) → Counts s → AllByRecursion IsFloor s.floors → AreRising s.floors → IsMeta (meta_of s)
+meta_valid s is floors rising =
+    let room = is.room in
+    record {
+      moment = is.moment;
+      events = omega (arith, room);
+      next_report = let few = is.counters.report in omega (arith, room, few);
+      next_deferral = let few = is.counters.deferral in omega (arith, room, few);
+      next_release = let few = is.counters.release in omega (arith, room, few);
+      next_kept = let few = is.counters.accepted in omega (arith, room, few);
+      floors = floors;
+      rising = rising;
+    }
+
+none_outruns : (s : State) → Counts s → outruns (meta_of s) ≡ false
+none_outruns s is =
+    let c = s.counters in
+    let most = c.events + 1 in
+    or_from (nat_lt most c.next_report || nat_lt most c.next_deferral || nat_lt most c.next_release) (nat_lt most c.next_kept)
+    (or_from (nat_lt most c.next_report || nat_lt most c.next_deferral) (nat_lt most c.next_release)
+    (or_from (nat_lt most c.next_report) (nat_lt most c.next_deferral) (le-ltb most c.next_report is.counters.report) (le-ltb most c.next_deferral is.counters.deferral))
+    (le-ltb most c.next_release is.counters.release))
+    (le-ltb most c.next_kept is.counters.accepted)
+
+-- ---- each record, with what is ahead of the counters
+
+-- a valid record that outruns no counter
+pub record IsKeptRecord (s : State) (r : Record) : Type 0 where
+  pub valid : IsRecord r
+  pub ahead : is_ahead (meta_of s) r ≡ false
+
+pub kept_meta : (s : State) → Counts s → AllByRecursion IsFloor s.floors → AreRising s.floors → IsKeptRecord s (Meta (meta_of s))
+unfolding IsRecord
+kept_meta s is floors rising = record { valid = meta_valid s is floors rising; ahead = none_outruns s is }
+
+is_read : {A E : Type 0} (o : Result A E) (x : A) → o ≡ Ok x → IsOk o
+is_read (Ok y) x is = refl
+is_read (Err e) x is = absurd (cc)
+
+pub kept_report : (s : State) (r : ReportOf) → Counts s → ReportHasForms r → IsNumbered s.counters.next_report r → IsKeptRecord s (Report (report_kept r))
+unfolding IsRecord
+kept_report s r is formed below = record {
+  valid = record {
+    id = id_below s is s.counters.next_report r.id is.counters.report below;
+    received = (formed.read.moments.received.low, formed.read.moments.received.high);
+    text = formed.text;
+    canonical = formed.read.canonical;
+    read = is_read (read_of r.text r.received) r.read formed.read.reading;
+  };
+  ahead = lt-leb s.counters.next_report r.id below;
+}
+
+pub kept_deferral : (s : State) (d : DeferralOf) → Counts s → DeferralHasForms d → IsOpen s.counters.next_deferral d → IsKeptRecord s (Deferral d)
+unfolding IsRecord
+kept_deferral s d is formed open_now = record {
+  valid = record { id = id_below s is s.counters.next_deferral d.id is.counters.deferral open_now.0; tail = formed.tail; item = formed.item; found = open_now.1 };
+  ahead = lt-leb s.counters.next_deferral d.id open_now.0;
+}
+
+pub kept_release : (s : State) (r : ReleaseOf) → Counts s → IsFormed r → machine.IsValid s.counters.events r → r.id < s.counters.next_release → IsKeptRecord s (Release r)
+unfolding IsRecord
+kept_release s r is formed valid below = record {
+  valid = (id_below s is s.counters.next_release r.id is.counters.release below, record { formed = formed; valid = valid_is s.counters.events r valid });
+  ahead =
+      or_from (nat_le s.counters.next_release r.id || is_late s.counters.events r.pending) (is_late s.counters.events r.active)
+      (or_from (nat_le s.counters.next_release r.id) (is_late s.counters.events r.pending) (lt-leb s.counters.next_release r.id below)
+      (pending_late s.counters.events r.pending r.active valid.numbered))
+      (active_late s.counters.events r.pending r.active valid.numbered);
+}
+
+pub kept_reply : (s : State) (k : KeptReply) → Counts s → ReplyHasForms k → IsReplied s.counters.next_kept k → IsKeptRecord s (Kept k)
+unfolding IsRecord
+kept_reply s k is formed replied = record {
+  valid = record {
+    id = id_below s is s.counters.next_kept k.id is.counters.accepted replied.0;
+    actor = formed.actor;
+    number = formed.number;
+    digest = formed.digest;
+    at = replied.1;
+    done = formed.done;
+  };
+  ahead = lt-leb s.counters.next_kept k.id replied.0;
+}
+
+pub kept_alert : (s : State) (a : AlertOf) → Counts s → AlertHasForms a → IsAlert s.counters.events a → a.release < s.counters.next_release → IsKeptRecord s (Alert (alert_kept a))
+unfolding IsRecord
+kept_alert s a is formed alert below = record {
+  valid = record {
+    release = id_below s is s.counters.next_release a.release is.counters.release below;
+    version = let few = alert.version in let room = is.room in omega (arith, few, room);
+    first = alert.first;
+    opened = alert.moment;
+    failing = record { forms = formed.failing; order = alert.failing };
+    ever = record { forms = formed.ever; order = alert.ever };
+    among = alert.among;
+  };
+  ahead = le-ltb s.counters.events a.version alert.version;
+}

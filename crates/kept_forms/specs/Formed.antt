@@ -1,0 +1,54 @@
+-- The forms that each part of the state has, so that its row is read again.
+use Rattle.std.specs.Prelude.{◌≡◌, true, IsUtf8}
+use Rattle.std.specs.List.{AllByRecursion}
+use Rattle.alerts.specs.declared.alert.Alert.{Alert}
+use Rattle.asks.specs.declared.kept.KeptReply.{KeptReply}
+use Rattle.deferrals.specs.declared.items.Deferral.{Deferral}
+use Rattle.facts.specs.Reading.{IsRead}
+use Rattle.facts.specs.declared.report.Report.{Report}
+use Rattle.machine.specs.State.{State}
+use Rattle.ops_tables.specs.Forms.{is_tail, is_item, is_person}
+use Rattle.ops_tables.specs.Tables.{TableRows}
+use Rattle.plan_json.specs.Canonical.{DoneHasForms}
+use Rattle.plan_json.specs.Digests.{IsDigest}
+use Rattle.records.specs.Valid.{IsRequest, IsFloor, AreRising}
+use Rattle.release_json.specs.Findings.{IsFinding}
+use Rattle.release_json.specs.Kept.{IsFormed}
+
+-- the names in the tables that the desk keeps
+pub record NamesHaveForms (t : TableRows) : Type 0 where
+  pub tails : AllByRecursion (λ r. is_tail r.tail ≡ true) t.tails
+  pub items : AllByRecursion (λ r. is_item r.item ≡ true) t.mel
+  pub people : AllByRecursion (λ a. is_person a.name ≡ true) t.actors
+
+-- a canonical text, and what it says as of its receipt
+pub record ReportHasForms (r : Report) : Type 0 where
+  pub read : IsRead r
+  pub text : IsUtf8 r.text
+
+pub record DeferralHasForms (d : Deferral) : Type 0 where
+  pub tail : is_tail d.tail ≡ true
+  pub item : is_item d.item ≡ true
+
+-- the legs and places of what fails, and of what ever failed
+pub record AlertHasForms (a : Alert) : Type 0 where
+  pub failing : AllByRecursion IsFinding a.failing
+  pub ever : AllByRecursion IsFinding a.ever
+
+-- what is kept of a person's request
+pub record ReplyHasForms (k : KeptReply) : Type 0 where
+  pub actor : is_person k.actor ≡ true
+  pub number : IsRequest k.number
+  pub digest : IsDigest k.digest
+  pub done : DoneHasForms k.done
+
+-- Each part of the state has its forms, and floors rise in byte order of the persons.
+pub record AreFormed (s : State) : Type 0 where
+  pub names : NamesHaveForms s.tables
+  pub reports : AllByRecursion ReportHasForms s.reports
+  pub deferrals : AllByRecursion DeferralHasForms s.deferrals
+  pub releases : AllByRecursion IsFormed s.releases
+  pub alerts : AllByRecursion AlertHasForms s.alerts
+  pub kept : AllByRecursion ReplyHasForms s.kept
+  pub floors : AllByRecursion IsFloor s.floors
+  pub rising : AreRising s.floors

@@ -1,0 +1,57 @@
+ghost use Rattle.std.specs.Prelude.{None};
+
+use crate::runs::{shelf_with_script, words};
+use desk::{Ending, desk_main};
+use desk_io::{Change, MemorySink, OutOfMemory, Row};
+use keeper::{KeepFault, Keeper};
+use std::alloc::Global;
+use std::test::Fail;
+
+// A keeper whose rows can't be loaded.
+#[derive(Drop)]
+struct Broken {
+    faults: u64,
+}
+
+impl Keeper for Broken {
+    ghost told = { λ k. None };
+
+    ghost fault_count = { λ k. k.faults };
+
+    ghost sound = { λ k. ⊥ };
+
+    fn load(&mut self, _: Global) -> Result<Vec<Row>, KeepFault> {
+        self.faults = self.faults.saturating_add(1);
+        Err(KeepFault::Failed)
+    }
+
+    fn commit(&mut self, _: Global, _: &[Change]) -> Result<(), KeepFault> {
+        self.faults = self.faults.saturating_add(1);
+        Err(KeepFault::Failed)
+    }
+
+    fn faults(&self) -> u64 {
+        self.faults
+    }
+}
+
+// Whether a run over such a keeper ends with the line of its fault.
+fn is_told(alloc: Global) -> Result<bool, OutOfMemory> {
+    let words = words(alloc)?;
+    let mut shelf = shelf_with_script(alloc, b"")?;
+    let mut sink = MemorySink::new(alloc, Vec::new(alloc));
+    let Ending { status, .. } = desk_main(
+        alloc,
+        &words,
+        &mut shelf,
+        &mut sink,
+        Broken { faults: 0 },
+    );
+    Ok(status == 5 && sink.written() == b"error 5 KeeperFault\n")
+}
+
+#[test]
+fn rows_that_cant_be_loaded_are_a_fault(rt: HostRuntime) -> Result<(), Fail> {
+    assert!(rt; is_told(rt.alloc())?);
+    Ok(())
+}
