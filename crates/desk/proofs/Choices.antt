@@ -1,5 +1,5 @@
 -- The counts at which a keeper fails, and what comes of items under them.
-use Rattle.std.proofs.Common.{◌≡◌, ℕ, ◌<◌, ◌≤◌, List, [], ◌∷◌, ◌++◌, length, map, drop, get_or, ◌+◌, append-nil, append_assoc, Option, None, Some, refl, ap, sym, ◌∙◌, subst, arith}
+use Rattle.std.proofs.Common.{◌≡◌, ℕ, ◌<◌, ◌≤◌, List, [], ◌∷◌, ◌++◌, length, map, drop, get_or, ◌+◌, append-nil, append_assoc, Option, None, Some, IfSome, refl, ap, sym, ◌∙◌, subst, arith}
 use Rattle.std.specs.Prelude.{option_to_list, nat_lt, Bool, true, false}
 use Rattle.std.specs.List.{concat, AllByRecursion}
 use Rattle.desk.specs.Shown.{IsShown}
@@ -7,7 +7,8 @@ use Rattle.std.proofs.lemmas.List.{drop_more, drop_all}
 use Rattle.asks.specs.declared.call.Call.{Call}
 use Rattle.asks.specs.declared.kept.KeptReply.{KeptReply}
 use Rattle.asks.specs.declared.reply.Reply.{Reply}
-use Rattle.asks.specs.declared.reply.Reply.TheVariants.{Done}
+use Rattle.asks.specs.declared.reply.Refusal.TheVariants.{Unkept}
+use Rattle.asks.specs.declared.reply.Reply.TheVariants.{Done, Refused}
 use Rattle.alerts.specs.declared.notices.Notice.{Notice}
 use Rattle.machine.specs.Repeats.{MayAsk, IsKeptFor}
 use Rattle.machine.proofs.RepeatLaws.{repeat_stays}
@@ -20,7 +21,7 @@ use Rattle.machine.specs.Texts.{closing}
 use Rattle.machine.specs.declared.lanes.Item.{Item}
 use Rattle.machine.specs.declared.lanes.Item.TheVariants as item
 use Rattle.machine.specs.declared.lanes.Outcome.{Outcome}
-use Rattle.desk.specs.Keeping.{Choice, Given, given, kept_or, unkept_if, once_ticked, made_after, made_by, answer_with, item_with, outcomes_with, after_with, Rise, numbers_of, Counted, IsGiven, AreGiven, AreGivenSoFar}
+use Rattle.desk.specs.Keeping.{Choice, Given, given, kept_or, unkept_if, once_ticked, made_after, made_by, answer_with, item_with, outcomes_with, after_with, Rise, numbers_of, AreNow, Counted, CountedOnce, IsGiven, AreGiven, AreGivenSoFar}
 use Rattle.desk.specs.Run.{items_of, lines_of, texts_of, run_from, run_with, after_run, IsRun}
 
 -- ---- the counts
@@ -53,6 +54,47 @@ all_numbers (c ∷ cs) ds = ap (λ ns. numbers_of c ++ ns) (all_numbers cs ds) �
 pub counted_on : (before : ℕ) (cs ds : List Choice) (middle after : ℕ) → Counted before cs middle → Counted middle ds after → Counted before (cs ++ ds) after
 counted_on before cs ds middle after one two =
     subst (λ ns. Rise before ns after) (sym (all_numbers cs ds)) (rise_on before (concat (map numbers_of cs)) (concat (map numbers_of ds)) middle after one two)
+
+-- ---- the counts of one call
+
+choice_as : (c : Choice) (tick call : Option ℕ) → c.tick ≡ tick → c.call ≡ call → c ≡ record { tick = tick; call = call }
+choice_as c tick call one two = ap (λ (o : Option ℕ). record { tick = o; call = c.call }) one ∙ ap (λ (o : Option ℕ). record { tick = tick; call = o }) two
+
+counted_two : (before middle after : ℕ) (tick call : Option ℕ) → CountedOnce before tick middle → CountedOnce middle call after → Counted before (record { tick = tick; call = call } ∷ []) after
+counted_two before middle after None None one two = omega (arith, one, two)
+counted_two before middle after None (Some n) one two = let less = two.0 in let is = two.1 in (omega (arith, one, less), omega (arith, is))
+counted_two before middle after (Some m) None one two = let less = one.0 in let is = one.1 in (less, omega (arith, is, two))
+counted_two before middle after (Some m) (Some n) one two =
+    let less = one.0 in let is = one.1 in let more = two.0 in let last = two.1 in (less, (omega (arith, is, more), omega (arith, last)))
+
+-- of a call whose tick and which itself were kept or not
+pub counted_as : (before middle after : ℕ) (tick call : Option ℕ) (c : Choice) → c.tick ≡ tick → c.call ≡ call → CountedOnce before tick middle → CountedOnce middle call after
+    → Counted before (c ∷ []) after
+counted_as before middle after tick call c first second one two =
+    subst (λ (x : Choice). Counted before (x ∷ []) after) (sym (choice_as c tick call first second)) (counted_two before middle after tick call one two)
+
+now_of : (before after : ℕ) (call : Option ℕ) → CountedOnce before call after → AreNow after (record { tick = None; call = call })
+now_of before after None counted = tt
+now_of before after (Some n) counted = (counted.1, tt)
+
+now_ticked : (n middle after : ℕ) (call : Option ℕ) → n ≡ middle → call ≡ None → after ≡ middle → AreNow after (record { tick = Some n; call = call })
+now_ticked n middle after None is none same = (is ∙ sym same, tt)
+now_ticked n middle after (Some m) is none same = absurd (cc)
+
+-- after a tick that isn't kept, nothing more is asked of the keeper
+now_late : (before middle after : ℕ) (tick call : Option ℕ) (reply : Option Reply) → CountedOnce before tick middle → CountedOnce middle call after
+    → IfSome tick (λ n. reply ≡ Some (Refused (Unkept n))) → IfSome reply (λ r. (call ≡ None) × (after ≡ middle)) → AreNow after (record { tick = tick; call = call })
+now_late before middle after None call reply one two told stays = now_of middle after call two
+now_late before middle after (Some n) call None one two told stays = absurd (cc)
+now_late before middle after (Some n) call (Some r) one two told stays = now_ticked n middle after call one.1 stays.0 stays.1
+
+pub exact_call : (before after : ℕ) (call : Option ℕ) (c : Choice) → c.tick ≡ None → c.call ≡ call → CountedOnce before call after → AreNow after c
+exact_call before after call c first second counted = subst (AreNow after) (sym (choice_as c None call first second)) (now_of before after call counted)
+
+pub exact_late : (before middle after : ℕ) (tick call : Option ℕ) (reply : Option Reply) (c : Choice) → c.tick ≡ tick → c.call ≡ call → CountedOnce before tick middle → CountedOnce middle call after
+    → IfSome tick (λ n. reply ≡ Some (Refused (Unkept n))) → IfSome reply (λ r. (call ≡ None) × (after ≡ middle)) → AreNow after c
+exact_late before middle after tick call reply c first second one two told stays =
+    subst (AreNow after) (sym (choice_as c tick call first second)) (now_late before middle after tick call reply one two told stays)
 
 -- ---- the items
 

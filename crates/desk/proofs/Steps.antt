@@ -40,6 +40,16 @@ pub adds_one : (p : Prepared) (s : State) → is_some p.event ≡ true → adds 
 unfolding installed
 adds_one p s some = more p.event s some
 
+-- a step that adds no entry has no event
+pub no_event : (s : State) (p : Prepared) (t : Stepped) → IsStepped s p t → adds s t ≡ false → is_some p.event ≡ false
+no_event s p t is none = by (is_some p.event) refl
+  where
+    by : (b : Bool) → is_some p.event ≡ b → is_some p.event ≡ false
+    by false e = e
+    by true e =
+        let some : adds s t ≡ true = sym (ap (λ (u : State). nat_lt (length s.entries) (length u.entries)) is.state) ∙ adds_one p s e in
+        absurd (cc)
+
 -- a step that changes something and isn't kept is refused
 pub is_unkept : (r : Settled) (s : State) (p : Prepared) (faults : ℕ) → is_some p.event ≡ true → r.reply ≡ Some (Refused (Unkept faults)) → r.notices ≡ [] → r.fault ≡ Some faults
     → IsSettled r s (kept_or r.fault s (stepped_by s p))

@@ -1,6 +1,6 @@
 -- What comes of the items of a lane, where what they change is kept, and a keeper may fail.
 use Rattle.std.specs.Prelude.{◌≡◌, ℕ, ◌<◌, ◌≤◌, nat_lt, Bool, true, false, List, [], ◌∷◌, ◌++◌, length, map, option_to_list, Option, None, Some}
-use Rattle.std.specs.List.{concat}
+use Rattle.std.specs.List.{AllByRecursion, concat}
 use Rattle.alerts.specs.declared.notices.Notice.{Notice}
 use Rattle.asks.specs.declared.call.Call.{Call}
 use Rattle.asks.specs.declared.reply.Refusal.TheVariants.{Unkept}
@@ -110,9 +110,14 @@ numbers_of c = option_to_list c.tick ++ option_to_list c.call
 abbrev pub Counted : ℕ → List Choice → ℕ → Type 0
 Counted before choices after = Rise before (concat (map numbers_of choices)) after
 
--- the same of one step
+-- Of one step: the count at which the keeper fails is the one right after it, and it rose.
 abbrev pub CountedOnce : ℕ → Option ℕ → ℕ → Type 0
-CountedOnce before fault after = Rise before (option_to_list fault) after
+CountedOnce before None after = before ≤ after
+CountedOnce before (Some n) after = (before < n) × (n ≡ after)
+
+-- Of a call that was just answered: each count at which the keeper failed is the one that it has now.
+abbrev pub AreNow : ℕ → Choice → Type 0
+AreNow now c = AllByRecursion (λ n. n ≡ now) (numbers_of c)
 
 -- ---- the rows
 
@@ -133,9 +138,12 @@ pub record IsGiven (given : Given) (state : State) (outcome : Outcome) (ticked c
   pub its_tick : ticked ≡ given.ticked
   pub its_call : called ≡ given.called
 
--- what came of a call, under some choice that the keeper's counts before and after it allow
-abbrev pub GivenBetween : ℕ → ℕ → (Choice → Given) → State → Outcome → List Notice → List Notice → Type 0
-GivenBetween before after given state outcome ticked called = (c : Choice) × Counted before (c ∷ []) after × IsGiven (given c) state outcome ticked called
+-- what came of a call, under some choice that the keeper's counts before and after it allow: a refusal tells the new count
+pub record GivenBetween (before after : ℕ) (given : Choice → Given) (state : State) (outcome : Outcome) (ticked called : List Notice) : Type 0 where
+  pub choice : Choice
+  pub counted : Counted before (choice ∷ []) after
+  pub exact : AreNow after choice
+  pub is : IsGiven (given choice) state outcome ticked called
 
 -- the outcomes of items and the state after them, under some choices that the keeper's counts allow
 pub record AreGiven (lane before after : ℕ) (s : State) (items : List Item) (t : State) (made : List Outcome) : Type 0 where

@@ -1,4 +1,4 @@
-ghost use Rattle.std.specs.Prelude.{◌≡◌, ◌<◌, ◌≤◌, ◌⊎◌, [], ◌∷◌, None, Some, IfOk, IfSome, OnOk, OnErr, length};
+ghost use Rattle.std.specs.Prelude.{◌≡◌, ◌<◌, ◌≤◌, ◌⊎◌, [], ◌∷◌, None, Some, false, IfOk, IfSome, OnErr};
 ghost use Rattle.asks.specs.Forms.{ReplyHasMoment};
 ghost use Rattle.kept_forms.specs.Formed.{AreFormed};
 ghost use Rattle.plan_json.specs.Canonical.{CallHasForms};
@@ -7,13 +7,13 @@ ghost use Rattle.asks.specs.declared.kept.KeptReply.{KeptReply as AKept};
 ghost use Rattle.machine.specs.Lanes as lanes;
 ghost use Rattle.machine.specs.Repeats.{MayAsk, IsKeptFor};
 ghost use Rattle.desk.specs.Keeping as spec;
-ghost use Rattle.desk.specs.Keeping.{Counted, CountedOnce, KeepsState, IsGiven, GivenBetween};
+ghost use Rattle.desk.specs.Keeping.{adds, AreNow, Counted, CountedOnce, KeepsState, IsGiven, GivenBetween};
 ghost use Rattle.desk.specs.Settled.{IsSettled, MayHaveTicked, choice_of};
 ghost use Rattle.desk.specs.Shown.{IsShown};
 
 use crate::settling::{Desk, Settled, settle, stayed};
 use alerts::Notices;
-use asks::{Call, Reply};
+use asks::{Call, Refusal, Reply};
 use desk_io::OutOfMemory;
 use desk_time::{LAST, Minute};
 use keeper::Keeper;
@@ -56,6 +56,7 @@ fn make_call<K: Keeper, L: Ledger>(
     ensures count { IfOk result (λ r. CountedOnce (K.fault_count desk.old.keeper) r.fault (K.fault_count desk.new.keeper)) }
     ensures later { K.fault_count desk.old.keeper ≤ K.fault_count desk.new.keeper }
     ensures sound { K.sound desk.old.keeper → K.sound desk.new.keeper × (K.fault_count desk.new.keeper ≡ K.fault_count desk.old.keeper) }
+    ensures still { adds desk.old.board.state (answer_call desk.old.board.state lane call.now) ≡ false → desk.new.keeper ≡ desk.old.keeper }
 {
     let prepared = desk.board.prepare_change(alloc, lane, call, steps)?;
     settle(alloc, desk, prepared)
@@ -78,6 +79,7 @@ fn make_tick<K: Keeper, L: Ledger>(
     ensures count { IfOk result (λ r. CountedOnce (K.fault_count desk.old.keeper) r.fault (K.fault_count desk.new.keeper)) }
     ensures later { K.fault_count desk.old.keeper ≤ K.fault_count desk.new.keeper }
     ensures sound { K.sound desk.old.keeper → K.sound desk.new.keeper × (K.fault_count desk.new.keeper ≡ K.fault_count desk.old.keeper) }
+    ensures told { IfOk result (λ r. IfSome r.fault (λ n. r.reply ≡ Some (Reply.Refused (Refusal.Unkept n)))) }
 {
     let prepared = desk.board.prepare_tick(alloc, lane, to, steps)?;
     settle(alloc, desk, prepared)
@@ -102,6 +104,7 @@ fn once_ticked<K: Keeper, L: Ledger>(
     ensures rows { KeepsState (K.told desk.old.keeper) desk.old.board.state → KeepsState (K.told desk.new.keeper) desk.new.board.state }
     ensures later { K.fault_count desk.old.keeper ≤ K.fault_count desk.new.keeper }
     ensures sound { K.sound desk.old.keeper → K.sound desk.new.keeper × (K.fault_count desk.new.keeper ≡ K.fault_count desk.old.keeper) }
+    ensures stays { IfOk result (λ r. IfSome refused (λ reply. (r.fault ≡ None) × (K.fault_count desk.new.keeper ≡ K.fault_count desk.old.keeper))) }
 {
     match refused {
         None => make_call(alloc, desk, lane, call, steps),
@@ -150,6 +153,8 @@ fn answer_made<K: Keeper, L: Ledger>(
     ensures rows { KeepsState (K.told desk.old.keeper) desk.old.board.state → KeepsState (K.told desk.new.keeper) desk.new.board.state }
     ensures later { K.fault_count desk.old.keeper ≤ K.fault_count desk.new.keeper }
     ensures sound { K.sound desk.old.keeper → K.sound desk.new.keeper × (K.fault_count desk.new.keeper ≡ K.fault_count desk.old.keeper) }
+    ensures exact { IfOk result (λ j. AreNow (K.fault_count desk.new.keeper) (choice_of j)) }
+    ensures still { adds desk.old.board.state (answer_call desk.old.board.state lane call.now) ≡ false → desk.new.keeper ≡ desk.old.keeper }
 {
     let position = desk.board.entries() as u64;
     let settled = make_call(alloc, desk, lane, call, steps)?;
@@ -175,6 +180,7 @@ fn answer_late<K: Keeper, L: Ledger>(
     ensures rows { KeepsState (K.told desk.old.keeper) desk.old.board.state → KeepsState (K.told desk.new.keeper) desk.new.board.state }
     ensures later { K.fault_count desk.old.keeper ≤ K.fault_count desk.new.keeper }
     ensures sound { K.sound desk.old.keeper → K.sound desk.new.keeper × (K.fault_count desk.new.keeper ≡ K.fault_count desk.old.keeper) }
+    ensures exact { IfOk result (λ j. AreNow (K.fault_count desk.new.keeper) (choice_of j)) }
 {
     let Settled {
         reply,
@@ -206,6 +212,8 @@ fn judge_at<K: Keeper, L: Ledger>(
     ensures rows { KeepsState (K.told desk.old.keeper) desk.old.board.state → KeepsState (K.told desk.new.keeper) desk.new.board.state }
     ensures later { K.fault_count desk.old.keeper ≤ K.fault_count desk.new.keeper }
     ensures sound { K.sound desk.old.keeper → K.sound desk.new.keeper × (K.fault_count desk.new.keeper ≡ K.fault_count desk.old.keeper) }
+    ensures exact { IfOk result (λ j. AreNow (K.fault_count desk.new.keeper) (choice_of j)) }
+    ensures still { at ≤ desk.old.board.state.moment → adds desk.old.board.state (answer_call desk.old.board.state lane call.now) ≡ false → desk.new.keeper ≡ desk.old.keeper }
 {
     if desk.board.now() < at {
         answer_late(alloc, desk, lane, at, call, steps)
@@ -236,6 +244,8 @@ pub(crate) fn judge<K: Keeper, L: Ledger>(
     ensures sound { K.sound desk.old.keeper → K.sound desk.new.keeper × (K.fault_count desk.new.keeper ≡ K.fault_count desk.old.keeper) }
     // The forms that each part of the state has stay.
     ensures formed { AreFormed desk.old.board.state → AreFormed desk.new.board.state }
+    ensures exact { IfOk result (λ j. AreNow (K.fault_count desk.new.keeper) (choice_of j)) }
+    ensures still { at ≤ desk.old.board.state.moment → adds desk.old.board.state (answer_call desk.old.board.state lane call.now) ≡ false → desk.new.keeper ≡ desk.old.keeper }
 {
     // what holds of every board
     let _ = desk.board.now();
@@ -271,6 +281,8 @@ pub fn answer<K: Keeper, L: Ledger>(
     ensures sound { K.sound desk.old.keeper → K.sound desk.new.keeper × (K.fault_count desk.new.keeper ≡ K.fault_count desk.old.keeper) }
     // The forms stay by which the rows are those of a desk.
     ensures formed { AreFormed desk.old.board.state → AreFormed desk.new.board.state }
+    // What changes nothing isn't kept.
+    ensures still { moment ≤ desk.old.board.state.moment → adds desk.old.board.state (answer_call desk.old.board.state lane call.now) ≡ false → desk.new.keeper ≡ desk.old.keeper }
 {
     let judged = judge(alloc, desk, lane, moment, call, steps)?;
     Ok(judged.answered)

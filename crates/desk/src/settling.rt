@@ -1,4 +1,4 @@
-ghost use Rattle.std.specs.Prelude.{◌≡◌, ◌≤◌, [], None, Some, IfOk, IfSome, OnErr};
+ghost use Rattle.std.specs.Prelude.{◌≡◌, ◌≤◌, [], None, Some, false, is_some, IfOk, IfSome, OnErr};
 ghost use Rattle.asks.specs.Forms.{ReplyHasMoment};
 ghost use Rattle.board.specs.Prepare.{KeepsRows, installed};
 ghost use Rattle.desk.specs.Keeping.{kept_or, CountedOnce, KeepsState, KeptUnless};
@@ -39,7 +39,7 @@ fn told(before: u64, faults: u64) -> Result<Option<u64>, OutOfMemory>
     }
 }
 
-// KeepsState changes, or none of them: then it answers the keeper's count of faults.
+// Keeps changes, or none of them: then it answers the keeper's count of faults.
 fn keep<K: Keeper>(
     alloc: Global,
     keeper: &mut K,
@@ -103,7 +103,7 @@ fn install(board: &mut Board, prepared: Prepared) -> Settled
 // A step that isn't put in place.
 fn let_go(_: Prepared) {}
 
-/// KeepsState what a prepared step changes, and puts the step in place. One that changes something and isn't kept is refused.
+/// Keeps what a prepared step changes, and puts the step in place. One that changes something and isn't kept is refused.
 pub(crate) fn settle<K: Keeper>(
     alloc: Global,
     desk: &mut Desk<K>,
@@ -120,6 +120,9 @@ pub(crate) fn settle<K: Keeper>(
     ensures count { IfOk result (λ r. CountedOnce (K.fault_count desk.old.keeper) r.fault (K.fault_count desk.new.keeper)) }
     ensures later { K.fault_count desk.old.keeper ≤ K.fault_count desk.new.keeper }
     ensures sound { K.sound desk.old.keeper → K.sound desk.new.keeper × (K.fault_count desk.new.keeper ≡ K.fault_count desk.old.keeper) }
+    ensures told { IfOk result (λ r. IfSome r.fault (λ n. r.reply ≡ Some (Reply.Refused (Refusal.Unkept n)))) }
+    // What changes nothing isn't kept.
+    ensures still { is_some prepared.event ≡ false → desk.new.keeper ≡ desk.old.keeper }
 {
     if !prepared.changed() {
         return Ok(install(&mut desk.board, prepared));

@@ -3,7 +3,8 @@ use Rattle.desk.proofs.Choices.{quiet_answer, again_answered}
 use Rattle.desk.proofs.answering.answer.Goals as goal
 
 pub returns-clause-given : goal.returns-clause-given
-returns-clause-given g c = (choice_of c.in_ok-judged.judged, c.in_ok-judged.ensures.count, c.in_ok-judged.ensures.given)
+returns-clause-given g c =
+    let is = c.in_ok-judged.ensures in record { choice = choice_of c.in_ok-judged.judged; counted = is.count; exact = is.exact; is = is.given }
 
 pub returns-clause-quiet : goal.returns-clause-quiet
 returns-clause-quiet g c = λ sound.

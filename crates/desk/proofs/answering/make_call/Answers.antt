@@ -1,5 +1,5 @@
 use Rattle.desk.proofs.Asked.{may_be_made}
-use Rattle.desk.proofs.Steps.{settled_is, keeps_as}
+use Rattle.desk.proofs.Steps.{settled_is, keeps_as, no_event}
 use Rattle.desk.proofs.answering.make_call.Goals as goal
 
 pub settle-requires-clause-keeps : goal.settle-requires-clause-keeps
@@ -10,3 +10,6 @@ returns-clause-settled g c = settled_is _ _ _ _ _ _ _ _ c.in_ok-prepared.ensures
 
 pub prepare_change-requires : goal.prepare_change-requires
 prepare_change-requires g c = may_be_made _ c.requires
+
+pub returns-clause-still : goal.returns-clause-still
+returns-clause-still g c = λ none. c.settle.ensures.still (no_event _ _ _ c.in_ok-prepared.ensures.stepped none)

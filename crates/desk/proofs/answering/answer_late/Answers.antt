@@ -1,0 +1,13 @@
+use Rattle.desk.specs.Settled.{choice_of}
+use Rattle.desk.proofs.Choices.{counted_as, exact_late}
+use Rattle.desk.proofs.answering.answer_late.Goals as goal
+
+pub returns-clause-count : goal.returns-clause-count
+returns-clause-count g c =
+    let ticked = c.in_ok-reply.ensures in
+    counted_as _ _ _ _ _ (choice_of c.joined.result) c.joined.ensures.tick c.joined.ensures.call ticked.count c.in_ok-settled.ensures.count
+
+pub returns-clause-exact : goal.returns-clause-exact
+returns-clause-exact g c =
+    let ticked = c.in_ok-reply.ensures in
+    exact_late _ _ _ _ _ _ (choice_of c.joined.result) c.joined.ensures.tick c.joined.ensures.call ticked.count c.in_ok-settled.ensures.count ticked.told c.in_ok-settled.ensures.stays
