@@ -21,7 +21,7 @@ use Rattle.machine.specs.Texts.{closing}
 use Rattle.machine.specs.declared.lanes.Item.{Item}
 use Rattle.machine.specs.declared.lanes.Item.TheVariants as item
 use Rattle.machine.specs.declared.lanes.Outcome.{Outcome}
-use Rattle.desk.specs.Keeping.{Choice, Given, given, kept_or, unkept_if, once_ticked, made_after, made_by, answer_with, item_with, outcomes_with, after_with, Rise, numbers_of, AreNow, Counted, CountedOnce, IsGiven, AreGiven, AreGivenSoFar}
+use Rattle.desk.specs.Keeping.{Choice, Given, GivenBetween, given, no_choice, kept_or, unkept_if, once_ticked, made_after, made_by, answer_with, item_with, outcomes_with, after_with, Rise, numbers_of, AreNow, Counted, CountedOnce, IsGiven, AreGiven, AreGivenSoFar}
 use Rattle.desk.specs.Run.{items_of, lines_of, texts_of, run_from, run_with, after_run, IsRun}
 
 -- ---- the counts
@@ -153,9 +153,6 @@ all_given lane before after s items t left made none so_far =
     }
 
 -- ---- where nothing fails
-
-abbrev pub no_choice : Choice
-no_choice = record { tick = None; call = None }
 
 choice_is : (c : Choice) → c.tick ≡ None → c.call ≡ None → c ≡ no_choice
 choice_is c tick call = ap (λ (o : Option ℕ). record { tick = o; call = c.call }) tick ∙ ap (λ (o : Option ℕ). record { tick = None; call = o }) call
@@ -289,3 +286,18 @@ pub is_run_of : (before after : ℕ) (s : State) (script : List ℕ) (t : State)
     → AreGiven 1 before after s items t made → text ≡ texts_of made ++ closing t → IsRun before after s script t text
 is_run_of before after s script t made text items are all is =
     is_run before after s script t made text (subst (λ is. AreGiven 1 before after s is t made) are all) is
+
+no_call : (faults lane : ℕ) (s : State) (o : Outcome) (ticked called : List Notice) → o ≡ (item_with no_choice lane s item.Bad).outcome → ticked ≡ [] → called ≡ []
+    → GivenBetween faults faults (λ c. item_with c lane s item.Bad) s o ticked called
+no_call faults lane s o ticked called outcome none nothing = record {
+  choice = no_choice;
+  counted = omega arith;
+  exact = tt;
+  is = record { its_outcome = outcome; its_state = refl; its_tick = none; its_call = nothing };
+}
+
+-- a line that is no call
+pub bad_given : (faults lane : ℕ) (s : State) (i : Item) (o : Outcome) (ticked called : List Notice) → i ≡ item.Bad → o ≡ (item_with no_choice lane s item.Bad).outcome → ticked ≡ [] → called ≡ []
+    → GivenBetween faults faults (λ c. item_with c lane s i) s o ticked called
+bad_given faults lane s i o ticked called bad outcome none nothing =
+    subst (λ (x : Item). GivenBetween faults faults (λ c. item_with c lane s x) s o ticked called) (sym bad) (no_call faults lane s o ticked called outcome none nothing)

@@ -10,7 +10,7 @@ use Rattle.ops_tables.specs.Tables.{TableRows}
 use Rattle.records.specs.declared.faults.RowsFault.TheVariants as fault
 use Rattle.reopening.specs.Held.{state_in}
 use Rattle.reopening.specs.Opening.{reopened}
-use Rattle.desk.specs.Answers.{Telling, telling, Left, HasNoBoard, ScriptSays, WhySays, IsRunWith, IsRunOver, IsRunFrom}
+use Rattle.desk.specs.Answers.{AreKeptFrom, AreKeptOver, Telling, telling, Left, HasNoBoard, ScriptSays, WhySays, IsRunWith, IsRunOver, IsRunFrom}
 use Rattle.desk.specs.Keeping.{numbers_of}
 use Rattle.desk.specs.Opening.{IsWhy, IsNoKeeperFault, IsOpened}
 use Rattle.desk.specs.Run.{IsRun}
@@ -74,3 +74,14 @@ both_ok P Q R (Err e) follows one two = tt
 
 pub not_seven : (status : ℕ) → status ≡ 0 → status ≢ 7
 not_seven status zero = λ e. omega (arith, zero, e)
+
+-- what is kept once a script was run on the desk that was opened
+pub kept_over : (tables : TableRows) (before : Telling) (start : Shown) (board : Option Shown) (after : Telling) → IsOpened before.rows tables start → AreKeptFrom start board after → AreKeptOver before board after
+kept_over tables before start None after opened kept = absurd kept
+kept_over tables before start (Some b) after opened kept = record {
+  tables = tables;
+  records = opened.records;
+  loaded = opened.loaded;
+  opening = kept.0 ∙ ap (λ (x : Shown). x.opening) opened.shows;
+  kept = kept.1;
+}

@@ -19,10 +19,14 @@ use Rattle.machine.specs.declared.lanes.Outcome.{Outcome}
 
 -- ---- a step that may not be kept
 
--- Where a keeper fails at the steps of an item: its count of faults then. There is none where a step is kept, or changes nothing.
+-- Where a keeper fails at the steps of an item: its count of faults then. There is none where a step is kept, and none is needed where it changes nothing.
 pub record Choice : Type 0 where
   pub tick : Option ℕ
   pub call : Option ℕ
+
+-- the keeper doesn't fail
+abbrev pub no_choice : Choice
+no_choice = record { tick = None; call = None }
 
 -- a refusal, since what was asked couldn't be kept; nothing changes
 abbrev pub unkept : ℕ → State → Stepped
@@ -131,7 +135,7 @@ abbrev pub KeptUnless : Option ℕ → Option Rows → List Change → Option Ro
 KeptUnless None before changes after = Leads before changes after
 KeptUnless (Some faults) before changes after = after ≡ before
 
--- what came of a call, under a choice that a keeper's counts allow
+-- what came of a call: its outcome, the state after it, and what is told
 pub record IsGiven (given : Given) (state : State) (outcome : Outcome) (ticked called : List Notice) : Type 0 where
   pub its_outcome : outcome ≡ given.outcome
   pub its_state : state ≡ given.state

@@ -1,7 +1,7 @@
 ghost use Rattle.std.specs.Prelude.{◌≡◌, ◌≢◌, ◌<◌, ◌≤◌, map, string_bytes, All, IfOk, IfSome, None};
 ghost use Rattle.desk_io.specs.Causes.{RoseOrFull};
 ghost use Rattle.desk_io.specs.Told.{HoldsName};
-ghost use Rattle.desk.specs.Answers.{telling, left_with, Says, RunSays, SourceSays, ScriptSays, ReportsSay, WhySays, IsRunFrom, IsUntouched, WholeSays, sources_for, sources_of};
+ghost use Rattle.desk.specs.Answers.{AreKeptFrom, AreKeptOver, telling, left_with, Says, RunSays, SourceSays, ScriptSays, ReportsSay, WhySays, IsRunFrom, IsUntouched, WholeSays, sources_for, sources_of};
 ghost use Rattle.kept_forms.specs.Formed.{AreFormed, NamesHaveForms};
 ghost use Rattle.machine.specs.State.{State};
 ghost use Rattle.desk.specs.Keeping.{KeepsState};
@@ -41,6 +41,7 @@ fn untouched<K: Keeper>(answer: Result<Answer, OutOfMemory>, keeper: K) -> Said<
     ensures board { result.board ≡ None }
     ensures keeper { result.keeper ≡ keeper }
     ensures untouched { IsUntouched (telling (K.told keeper) (K.fault_count keeper)) (left_with result.board (K.told result.keeper) (K.fault_count result.keeper)) }
+    ensures kept { AreKeptOver (telling (K.told keeper) (K.fault_count keeper)) result.board (telling (K.told result.keeper) (K.fault_count result.keeper)) }
 {
     Said {
         answer,
@@ -102,6 +103,7 @@ fn run_on<K: Keeper, L: Ledger>(
     ensures later { K.fault_count desk.keeper ≤ K.fault_count result.keeper }
     ensures steady { K.sound desk.keeper → K.sound result.keeper × (K.fault_count result.keeper ≡ K.fault_count desk.keeper) × IfOk result.answer (λ a. a.status ≢ 5) }
     ensures formed { AreFormed desk.board.state → IfSome result.board (λ b. AreFormed b.state) }
+    ensures kept { AreKeptFrom desk.board result.board (telling (K.told result.keeper) (K.fault_count result.keeper)) }
 {
     let answer = answer_on(alloc, &mut desk, script, steps);
     let Desk { board, keeper } = desk;
@@ -128,6 +130,7 @@ fn run_with<K: Keeper, L: Ledger>(
     ensures steady { K.sound keeper → K.sound result.keeper × (K.fault_count result.keeper ≡ K.fault_count keeper) × IfOk result.answer (λ a. a.status ≢ 5) }
     ensures formed { NamesHaveForms tables → IfSome result.board (λ b. AreFormed b.state) }
     ensures left { (s : State) → IsLeft s → TellsRowsOf (K.told keeper) s → IfOk result.answer (λ a. a.status ≢ 7) }
+    ensures kept { AreKeptOver (telling (K.told keeper) (K.fault_count keeper)) result.board (telling (K.told result.keeper) (K.fault_count result.keeper)) }
 {
     let mut steps = Steps::<L>::new(blank);
     match open(alloc, tables, keeper, &mut steps) {
@@ -148,6 +151,7 @@ fn run_over<K: Keeper>(alloc: Global, tables: Tables, script: &[u8], keeper: K) 
     ensures steady { K.sound keeper → K.sound result.keeper × (K.fault_count result.keeper ≡ K.fault_count keeper) × IfOk result.answer (λ a. a.status ≢ 5) }
     ensures formed { NamesHaveForms tables → IfSome result.board (λ b. AreFormed b.state) }
     ensures left { (s : State) → IsLeft s → TellsRowsOf (K.told keeper) s → IfOk result.answer (λ a. a.status ≢ 7) }
+    ensures kept { AreKeptOver (telling (K.told keeper) (K.fault_count keeper)) result.board (telling (K.told result.keeper) (K.fault_count result.keeper)) }
 {
     run_with::<K, Brand>(alloc, tables, script, keeper, Blank::new(1))
 }
@@ -165,6 +169,7 @@ fn answer_of_weather<S: Shelf, K: Keeper>(
     ensures steady { K.sound keeper → K.sound result.keeper × (K.fault_count result.keeper ≡ K.fault_count keeper) × IfOk result.answer (λ a. a.status ≢ 5) }
     ensures none { result.board ≡ None }
     ensures never { IfOk result.answer (λ a. a.status ≢ 7) }
+    ensures kept { AreKeptOver (telling (K.told keeper) (K.fault_count keeper)) result.board (telling (K.told result.keeper) (K.fault_count result.keeper)) }
 {
     match read_whole(alloc, shelf, name) {
         Ok(source) => untouched(reports_of(alloc, source.bytes()), keeper),
@@ -195,6 +200,7 @@ fn answer_over<S: Shelf, K: Keeper>(
     ensures steady { K.sound keeper → K.sound result.keeper × (K.fault_count result.keeper ≡ K.fault_count keeper) × IfOk result.answer (λ a. a.status ≢ 5) }
     ensures formed { NamesHaveForms tables → IfSome result.board (λ b. AreFormed b.state) }
     ensures left { (s : State) → IsLeft s → TellsRowsOf (K.told keeper) s → IfOk result.answer (λ a. a.status ≢ 7) }
+    ensures kept { AreKeptOver (telling (K.told keeper) (K.fault_count keeper)) result.board (telling (K.told result.keeper) (K.fault_count result.keeper)) }
 {
     match read_whole(alloc, shelf, name) {
         Ok(script) => run_over(alloc, tables, script.bytes(), keeper),
@@ -218,6 +224,7 @@ fn answer_of_run<S: Shelf, K: Keeper>(
     ensures steady { K.sound keeper → K.sound result.keeper × (K.fault_count result.keeper ≡ K.fault_count keeper) × IfOk result.answer (λ a. a.status ≢ 5) }
     ensures formed { IfSome result.board (λ b. AreFormed b.state) }
     ensures left { (s : State) → IsLeft s → TellsRowsOf (K.told keeper) s → IfOk result.answer (λ a. a.status ≢ 7) }
+    ensures kept { AreKeptOver (telling (K.told keeper) (K.fault_count keeper)) result.board (telling (K.told result.keeper) (K.fault_count result.keeper)) }
 {
     match read_tables(alloc, shelf) {
         Ok(tables) => answer_over(alloc, tables, name, shelf, keeper),
@@ -246,6 +253,7 @@ pub(crate) fn answer_to<S: Shelf, K: Keeper>(
     ensures steady { K.sound keeper → K.sound result.keeper × (K.fault_count result.keeper ≡ K.fault_count keeper) × IfOk result.answer (λ a. a.status ≢ 5) }
     ensures formed { IfSome result.board (λ b. AreFormed b.state) }
     ensures left { (s : State) → IsLeft s → TellsRowsOf (K.told keeper) s → IfOk result.answer (λ a. a.status ≢ 7) }
+    ensures kept { AreKeptOver (telling (K.told keeper) (K.fault_count keeper)) result.board (telling (K.told result.keeper) (K.fault_count result.keeper)) }
 {
     match command(words) {
         None => untouched(Answer::usage(alloc), keeper),

@@ -1,4 +1,4 @@
-//! The dispatch release desk: what its commands say of the sources that they name.
+//! The dispatch release desk: opened over kept rows, it answers calls and lanes, and says what its commands come to.
 #![tactic(auto)]
 
 mod answering;

@@ -3,13 +3,12 @@ ghost use Rattle.std.specs.List.{AllByRecursion};
 ghost use Rattle.asks.specs.Forms.{ReplyHasMoment};
 ghost use Rattle.machine.specs.Texts.{closing};
 ghost use Rattle.kept_forms.specs.Formed.{AreFormed};
-ghost use Rattle.desk.specs.Keeping.{item_with, Counted, IsGiven, AreGiven, KeepsState};
+ghost use Rattle.desk.specs.Keeping.{item_with, no_choice, GivenBetween, AreGiven, KeepsState};
 ghost use Rattle.desk.specs.Run as spec;
 ghost use Rattle.desk.specs.Run.{texts_of, IsRun};
-ghost use Rattle.desk.specs.Settled.{choice_of};
 ghost use Rattle.desk.specs.Shown.{IsItem, IsShown};
 
-use crate::answering::{Answered, Judged, judge};
+use crate::answering::{Answered, answer};
 use crate::lanes::Lane;
 use crate::settling::Desk;
 use alerts::Notices;
@@ -26,36 +25,31 @@ use std::sync::ledger::Ledger;
 // The lane of a script's calls.
 const LANE: u32 = 1;
 
-fn bad_line(alloc: Global, board: &Board) -> Judged
-    ensures given { IsGiven (item_with (choice_of result) LANE board.now.state Item.Bad) board.now.state result.answered.outcome result.answered.ticked result.answered.called }
-    ensures shown { IsShown result.answered.outcome }
-    ensures tick { result.tick ≡ None }
-    ensures call { result.call ≡ None }
+fn bad_line(alloc: Global, board: &Board) -> Answered
+    ensures outcome { result.outcome ≡ (item_with no_choice LANE board.now.state Item.Bad).outcome }
+    ensures ticked { result.ticked ≡ [] }
+    ensures called { result.called ≡ [] }
+    ensures shown { IsShown result.outcome }
 {
-    Judged {
-        answered: Answered {
-            outcome: Outcome {
-                position: board.entries() as u64,
-                reply: None,
-            },
-            ticked: Notices::new(alloc),
-            called: Notices::new(alloc),
+    Answered {
+        outcome: Outcome {
+            position: board.entries() as u64,
+            reply: None,
         },
-        tick: None,
-        call: None,
+        ticked: Notices::new(alloc),
+        called: Notices::new(alloc),
     }
 }
 
-fn judge_item<K: Keeper, L: Ledger>(
+fn answer_item<K: Keeper, L: Ledger>(
     alloc: Global,
     desk: &mut Desk<K>,
     item: &Item,
     steps: &mut Steps<L>,
-) -> Result<Judged, OutOfMemory>
+) -> Result<Answered, OutOfMemory>
     requires { IsItem item.now }
-    ensures given { IfOk result (λ j. IsGiven (item_with (choice_of j) LANE desk.old.board.state item.now) desk.new.board.state j.answered.outcome j.answered.ticked j.answered.called) }
-    ensures shown { IfOk result (λ j. IsShown j.answered.outcome) }
-    ensures count { IfOk result (λ j. Counted (K.fault_count desk.old.keeper) (choice_of j ∷ []) (K.fault_count desk.new.keeper)) }
+    ensures given { IfOk result (λ a. GivenBetween (K.fault_count desk.old.keeper) (K.fault_count desk.new.keeper) (λ c. item_with c LANE desk.old.board.state item.now) desk.new.board.state a.outcome a.ticked a.called) }
+    ensures shown { IfOk result (λ a. IsShown a.outcome) }
     ensures opening { desk.new.board.opening ≡ desk.old.board.opening }
     ensures rows { KeepsState (K.told desk.old.keeper) desk.old.board.state → KeepsState (K.told desk.new.keeper) desk.new.board.state }
     ensures later { K.fault_count desk.old.keeper ≤ K.fault_count desk.new.keeper }
@@ -63,15 +57,14 @@ fn judge_item<K: Keeper, L: Ledger>(
     ensures formed { AreFormed desk.old.board.state → AreFormed desk.new.board.state }
 {
     match item {
-        Item::Call { at, call } => judge(alloc, desk, LANE, *at, call, steps),
+        Item::Call { at, call } => answer(alloc, desk, LANE, *at, call, steps),
         Item::Bad => Ok(bad_line(alloc, &desk.board)),
     }
 }
 
-fn outcome_of(judged: Judged) -> Outcome
-    ensures { result ≡ judged.answered.outcome }
+fn outcome_of(answered: Answered) -> Outcome
+    ensures { result ≡ answered.outcome }
 {
-    let Judged { answered, .. } = judged;
     let Answered { outcome, .. } = answered;
     outcome
 }
@@ -94,8 +87,8 @@ fn outcomes_of<K: Keeper, L: Ledger>(
 {
     let mut outcomes = Vec::new(alloc);
     for item in items {
-        let judged = judge_item(alloc, desk, item, steps)?;
-        outcomes.push(outcome_of(judged))?;
+        let answered = answer_item(alloc, desk, item, steps)?;
+        outcomes.push(outcome_of(answered))?;
     }
     Ok(outcomes)
 }

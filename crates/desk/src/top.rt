@@ -6,7 +6,7 @@ ghost use Rattle.kept_forms.specs.Formed.{AreFormed};
 ghost use Rattle.machine.specs.State.{State};
 ghost use Rattle.desk.specs.Opening.{IsLeft, TellsRowsOf};
 ghost use Rattle.desk.specs.Words.{command_of};
-ghost use Rattle.desk.specs.Answers.{telling, left_with, Says, Ends, EndsWith, sources_of};
+ghost use Rattle.desk.specs.Answers.{AreKeptOver, telling, left_with, Says, Ends, EndsWith, sources_of};
 
 use crate::commands::{Said, answer_to};
 use crate::saying::Answer;
@@ -15,8 +15,7 @@ use desk_io::{OutOfMemory, PutFault, Shelf, Sink};
 use keeper::Keeper;
 use std::alloc::Global;
 
-/// How the program ends, and what is left: the board of `run SCRIPT` where its text was written, or the sink failed
-/// at it, and the keeper.
+/// How the program ends, and what is left: the board of `run SCRIPT`, where a desk was opened, and the keeper.
 #[derive(Drop)]
 pub struct Ending<K> {
     pub status: u8,
@@ -51,7 +50,7 @@ fn write<O: Sink>(answer: Result<Answer, OutOfMemory>, out: &mut O) -> u8
 /// - 5: only where the keeper's count of faults rose, or is full; `error 5 KeeperFault`.
 /// - 6: exactly where the table of that name has a bad record, first at that number (the header is 1);
 ///   `error 6 BadTable NAME NUMBER WHY`.
-/// - 7: exactly where the rows of the keeper aren't those of a desk: `error 7 BadRow KIND KEY WHY` or
+/// - 7: exactly where the rows that were loaded aren't those of a desk: `error 7 BadRow KIND KEY WHY` or
 ///   `error 7 BadPair KIND KEY KIND KEY`, their first fault.
 /// - 8: want of memory; the sink gained nothing.
 /// - 10: exactly where the source of that name has more than 64 MiB; `error 10 InputTooLong NAME`.
@@ -69,6 +68,8 @@ pub fn desk_main<S: Shelf, O: Sink, K: Keeper>(
     ensures later { K.fault_count keeper ≤ K.fault_count result.keeper }
     // A sound keeper never ends a run, and since its count stands still nothing is refused for its sake.
     ensures steady { K.sound keeper → K.sound result.keeper × (K.fault_count result.keeper ≡ K.fault_count keeper) × (result.status ≢ 5) }
+    // Whatever the status: without a board the rows are as before, and else they are kept for its state.
+    ensures kept { AreKeptOver (telling (K.told keeper) (K.fault_count keeper)) result.board (telling (K.told result.keeper) (K.fault_count result.keeper)) }
     // Over the rows of a desk that was left there is no fault of rows; and a desk that is left again has the forms by which
     // its rows are those of a desk.
     ensures left { (s : State) → IsLeft s → TellsRowsOf (K.told keeper) s → result.status ≢ 7 }

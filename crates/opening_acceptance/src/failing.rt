@@ -1,5 +1,5 @@
 use crate::runs::{Ran, came_to, run_failing, run_over, run_under, text_of};
-use crate::texts::{READY, THREE, UNKEPT};
+use crate::texts::{KEPT, READY, REPORT, REPORT_SAID, THREE, UNKEPT};
 use desk_io::OutOfMemory;
 use std::alloc::Global;
 use std::test::Fail;
@@ -44,6 +44,31 @@ fn a_commit_that_fails_loses_one_line(rt: HostRuntime) -> Result<(), Fail> {
     for number in 0..6 {
         assert!(rt; goes_on(rt.alloc(), number)?, "{number}");
     }
+    Ok(())
+}
+
+// A view, a minute later.
+const LATER: &[u8] =
+    br#"{"actor":"F1","ask":{"do":"board"},"at":"2025-03-12T17:01Z","key":"kF1","number":0}
+"#;
+
+const LATER_SAID: &[u8] = br#"{"seen":"BOARD 2025-03-12T17:01Z\n"}
+BOARD 2025-03-12T17:01Z
+KJFK METAR 1 2025-03-12T16:51Z ceiling 100000 vis 16093440 unread 0
+END
+"#;
+
+// Opening changes no alert and the line was answered before, so nothing is kept and nothing can fail; a view is kept
+// neither, but the minute before it.
+#[test]
+fn what_changes_nothing_isnt_kept(rt: HostRuntime) -> Result<(), Fail> {
+    let alloc = rt.alloc();
+    let again = run_failing(alloc, KEPT, &[0], REPORT)?;
+    assert!(rt; came_to(&again, 0, REPORT_SAID, KEPT.as_bytes()));
+    let Some(later) = run_failing(alloc, KEPT, &[1], LATER)? else {
+        return Err(Fail);
+    };
+    assert!(rt; later.status == 0 && later.said == LATER_SAID);
     Ok(())
 }
 

@@ -2,7 +2,7 @@ use Rattle.std.proofs.Common.{None, refl, inl}
 use Rattle.std.proofs.lemmas.Result.{IfOk-weaker}
 use Rattle.desk.specs.Answers.{telling, left_with}
 use Rattle.desk.proofs.LeftLaws.{why_left}
-use Rattle.desk.proofs.Says.{both_ok, run_over, why_said, not_seven}
+use Rattle.desk.proofs.Says.{both_ok, kept_over, run_over, why_said, not_seven}
 use Rattle.desk.proofs.commands.run_with.Goals as goal
 
 pub returns-in-Ok-clause-says : goal.returns-in-Ok-clause-says
@@ -11,6 +11,9 @@ returns-in-Ok-clause-says g c =
 
 pub returns-in-Ok-clause-left : goal.returns-in-Ok-clause-left
 returns-in-Ok-clause-left g c = λ s left tells. IfOk-weaker c.run_on.result.answer _ _ (λ a zero. not_seven a.status zero) c.run_on.ensures.status
+
+pub returns-in-Ok-clause-kept : goal.returns-in-Ok-clause-kept
+returns-in-Ok-clause-kept g c = kept_over _ _ _ c.run_on.result.board _ c.in-Ok.ensures.opened c.run_on.ensures.kept
 
 pub returns-clause-says : goal.returns-clause-says
 returns-clause-says g c =

@@ -1,23 +1,22 @@
 use Rattle.std.proofs.Common.{◌∙◌, arith, subst}
 use Rattle.std.specs.List.{AllByRecursion}
-use Rattle.desk.specs.Settled.{choice_of}
 use Rattle.desk.specs.Shown.{IsItem}
 use Rattle.desk.proofs.Choices.{given_next, shown_next, item_left, none_left, all_given}
 use Rattle.desk.proofs.run.outcomes_of.Goals as goal
 
-pub judge_item-requires : goal.judge_item-requires
-judge_item-requires g c =
+pub answer_item-requires : goal.answer_item-requires
+answer_item-requires g c =
     let within = c.loop-item-test.true in
     (subst (AllByRecursion IsItem) (item_left c.args.items.now c.loop-item.item-index c.item-item.result (omega (arith, within)) c.item-item.is) c.loop-item.invariant.left).0
 
 pub loop-item-preserved : goal.loop-item-preserved
 loop-item-preserved g c =
     let inv = c.loop-item.invariant in
-    let is = c.in_ok-judged.ensures in
+    let is = c.in_ok-answered.ensures in
     let given = is.given in
     let within = c.loop-item-test.true in
     let left = item_left c.args.items.now c.loop-item.item-index c.item-item.result (omega (arith, within)) c.item-item.is in
-    let next = given_next 1 _ _ _ _ _ _ _ _ _ _ _ _ (choice_of c.in_ok-judged.judged) _ left inv.given is.count (c.outcome_of.ensures ∙ given.its_outcome) given.its_state c.in_ok-push.ensures.items in
+    let next = given_next 1 _ _ _ _ _ _ _ _ _ _ _ _ given.choice _ left inv.given given.counted (c.outcome_of.ensures ∙ given.is.its_outcome) given.is.its_state c.in_ok-push.ensures.items in
     record {
       given = next;
       left = (subst (AllByRecursion IsItem) left inv.left).1;
