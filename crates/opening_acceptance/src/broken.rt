@@ -47,7 +47,7 @@ fn is_told(alloc: Global) -> Result<bool, OutOfMemory> {
         &mut sink,
         Broken { faults: 0 },
     );
-    Ok(status == 5 && sink.written() == b"error 5 KeeperFault\n")
+    Ok(status == 5 && sink.written() == b"error 5 KeeperFault\n".as_slice())
 }
 
 #[test]

@@ -58,17 +58,24 @@ KJFK METAR 1 2025-03-12T16:51Z ceiling 100000 vis 16093440 unread 0
 END
 "#;
 
+fn keeps_nothing(alloc: Global) -> Result<bool, OutOfMemory> {
+    let again = run_failing(alloc, KEPT, &[0], REPORT)?;
+    Ok(came_to(&again, 0, REPORT_SAID, KEPT.as_bytes()))
+}
+
+fn shows_later(alloc: Global) -> Result<bool, OutOfMemory> {
+    match run_failing(alloc, KEPT, &[1], LATER)? {
+        None => Ok(false),
+        Some(later) => Ok(later.status == 0 && later.said.as_slice() == LATER_SAID),
+    }
+}
+
 // Opening changes no alert and the line was answered before, so nothing is kept and nothing can fail; a view is kept
 // neither, but the minute before it.
 #[test]
 fn what_changes_nothing_isnt_kept(rt: HostRuntime) -> Result<(), Fail> {
-    let alloc = rt.alloc();
-    let again = run_failing(alloc, KEPT, &[0], REPORT)?;
-    assert!(rt; came_to(&again, 0, REPORT_SAID, KEPT.as_bytes()));
-    let Some(later) = run_failing(alloc, KEPT, &[1], LATER)? else {
-        return Err(Fail);
-    };
-    assert!(rt; later.status == 0 && later.said == LATER_SAID);
+    assert!(rt; keeps_nothing(rt.alloc())?);
+    assert!(rt; shows_later(rt.alloc())?);
     Ok(())
 }
 
@@ -77,20 +84,30 @@ fn what_changes_nothing_isnt_kept(rt: HostRuntime) -> Result<(), Fail> {
 const HIGHER: &[u8] =
     b"station,name,runway,capability,height,ceiling,vis16\nKBOS,ILS04R,04R,ILS,200,200,8\nKJFK,ILS22L,22L,ILS,5000,5000,8\nKPHL,ILS27R,27R,ILS,200,200,8\nKPHL,RNV09R,09R,GPS,400,400,16\nEGLL,ILS27L,27L,ILS,200,200,8\nEINN,ILS24,24,ILS,200,200,8\n";
 
+fn fails_at_opening(alloc: Global, rows: &[u8]) -> Result<bool, OutOfMemory> {
+    let failed = run_under(alloc, text_of(rows), &[0], b"approaches.csv", HIGHER)?;
+    Ok(came_to(&failed, 5, b"error 5 KeeperFault\n", rows))
+}
+
+fn alerts_at_opening(alloc: Global, rows: &[u8]) -> Result<bool, OutOfMemory> {
+    match run_under(alloc, text_of(rows), &[], b"approaches.csv", HIGHER)? {
+        None => Ok(false),
+        Some(opened) => Ok(
+            opened.status == 0
+                && text_of(&opened.said).contains("ALERT v1 open")
+                && text_of(&opened.rows).contains("\n5 1 {"),
+        ),
+    }
+}
+
 // What opening changes is kept first. Where it can't be, no desk is opened and the rows stay.
 #[test]
 fn what_opening_changes_is_kept(rt: HostRuntime) -> Result<(), Fail> {
-    let alloc = rt.alloc();
-    let Some(ready) = run_over(alloc, "", READY)? else {
-        return Err(Fail);
+    let Some(ready) = run_over(rt.alloc(), "", READY)? else {
+        assert!(rt; false);
+        return Ok(());
     };
-    let rows = text_of(&ready.rows);
-    let failed = run_under(alloc, rows, &[0], b"approaches.csv", HIGHER)?;
-    assert!(rt; came_to(&failed, 5, b"error 5 KeeperFault\n", &ready.rows));
-    let Some(opened) = run_under(alloc, rows, &[], b"approaches.csv", HIGHER)? else {
-        return Err(Fail);
-    };
-    assert!(rt; opened.status == 0 && text_of(&opened.said).contains("ALERT v1 open"));
-    assert!(rt; text_of(&opened.rows).contains("\n5 1 {"));
+    assert!(rt; fails_at_opening(rt.alloc(), &ready.rows)?);
+    assert!(rt; alerts_at_opening(rt.alloc(), &ready.rows)?);
     Ok(())
 }

@@ -171,7 +171,9 @@ pub fn text_of(lines: &[u8]) -> &str {
 pub fn came_to(ran: &Option<Ran>, status: u8, said: &[u8], rows: &[u8]) -> bool {
     match ran {
         None => false,
-        Some(ran) => ran.status == status && ran.said == said && ran.rows == rows,
+        Some(ran) => ran.status == status
+            && ran.said.as_slice() == said
+            && ran.rows.as_slice() == rows,
     }
 }
 
@@ -196,15 +198,22 @@ fn a_run_goes_on_where_the_last_one_ended(rt: HostRuntime) -> Result<(), Fail> {
     Ok(())
 }
 
+// What is kept is swept away, and its number is in the floors.
+fn sweeps(alloc: Global) -> Result<bool, OutOfMemory> {
+    let Some(swept) = run_over(alloc, KEPT, SWEEP)? else {
+        return Ok(false);
+    };
+    let rows = text_of(&swept.rows);
+    Ok(
+        swept.said.as_slice() == SWEEP_SAID
+            && rows.contains(r#""floors":{"F1":1}"#)
+            && !rows.contains(r#""actor":"F1""#),
+    )
+}
+
 // What is swept away is gone from the rows, and its number stays used.
 #[test]
 fn a_swept_number_stays_used(rt: HostRuntime) -> Result<(), Fail> {
-    let alloc = rt.alloc();
-    let Some(swept) = run_over(alloc, KEPT, SWEEP)? else {
-        return Err(Fail);
-    };
-    assert!(rt; swept.said == SWEEP_SAID);
-    assert!(rt; text_of(&swept.rows).contains(r#""floors":{"F1":1}"#));
-    assert!(rt; !text_of(&swept.rows).contains(r#""actor":"F1""#));
+    assert!(rt; sweeps(rt.alloc())?);
     Ok(())
 }
