@@ -1,5 +1,5 @@
 use crate::runs::{Ran, came_to, run_failing, run_over, run_under, text_of};
-use crate::texts::{KEPT, READY, REPORT, REPORT_SAID, THREE, UNKEPT};
+use crate::texts::{HIGHER, KEPT, READY, REPORT, REPORT_SAID, THREE, UNKEPT};
 use desk_io::OutOfMemory;
 use std::alloc::Global;
 use std::test::Fail;
@@ -78,11 +78,6 @@ fn what_changes_nothing_isnt_kept(rt: HostRuntime) -> Result<(), Fail> {
     assert!(rt; shows_later(rt.alloc())?);
     Ok(())
 }
-
-// Under higher minima the release that is ready fails a rule when the desk is opened again: the landing minima of its
-// destination.
-const HIGHER: &[u8] =
-    b"station,name,runway,capability,height,ceiling,vis16\nKBOS,ILS04R,04R,ILS,200,200,8\nKJFK,ILS22L,22L,ILS,5000,5000,8\nKPHL,ILS27R,27R,ILS,200,200,8\nKPHL,RNV09R,09R,GPS,400,400,16\nEGLL,ILS27L,27L,ILS,200,200,8\nEINN,ILS24,24,ILS,200,200,8\n";
 
 fn fails_at_opening(alloc: Global, rows: &[u8]) -> Result<bool, OutOfMemory> {
     let failed = run_under(alloc, text_of(rows), &[0], b"approaches.csv", HIGHER)?;

@@ -5,6 +5,8 @@
 #[cfg(test)]
 mod broken;
 #[cfg(test)]
+mod copies;
+#[cfg(test)]
 mod failing;
 #[cfg(test)]
 mod rows;

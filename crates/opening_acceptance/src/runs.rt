@@ -32,7 +32,8 @@ fn row_of(alloc: Global, line: &str) -> Result<Option<Row>, OutOfMemory> {
     }
 }
 
-fn rows_in(alloc: Global, lines: &str) -> Result<Vec<Row>, OutOfMemory> {
+/// The rows of lines.
+pub fn rows_in(alloc: Global, lines: &str) -> Result<Vec<Row>, OutOfMemory> {
     let mut rows = Vec::new(alloc);
     for line in lines.split("\n") {
         if let Some(row) = row_of(alloc, line)? {

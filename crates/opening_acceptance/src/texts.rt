@@ -53,3 +53,13 @@ pub const READY: &[u8] =
 {"actor":"D1","ask":{"digest":"93552bd08bcf733af54f012ef3711733ecf23ec2726678302a0dba7d4b038410","do":"sign","release":1,"revision":1},"at":"2025-03-12T17:32Z","key":"kD1","number":3}
 {"actor":"C7","ask":{"digest":"93552bd08bcf733af54f012ef3711733ecf23ec2726678302a0dba7d4b038410","do":"concur","release":1,"revision":1},"at":"2025-03-12T17:41Z","key":"kC7","number":1}
 "#;
+
+/// Higher minima, under which the release that is ready fails a rule when the desk is opened again: the landing minima
+/// of its destination.
+pub const HIGHER: &[u8] =
+    b"station,name,runway,capability,height,ceiling,vis16\nKBOS,ILS04R,04R,ILS,200,200,8\nKJFK,ILS22L,22L,ILS,5000,5000,8\nKPHL,ILS27R,27R,ILS,200,200,8\nKPHL,RNV09R,09R,GPS,400,400,16\nEGLL,ILS27L,27L,ILS,200,200,8\nEINN,ILS24,24,ILS,200,200,8\n";
+
+/// An item is deferred.
+pub const DEFERRED: &[u8] =
+    br#"{"actor":"M1","ask":{"do":"defer","found":"2025-03-10T14:20Z","item":"34-1","tail":"N801DK"},"at":"2025-03-12T17:20Z","key":"kM1","number":1}
+"#;
