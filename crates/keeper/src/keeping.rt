@@ -1,5 +1,6 @@
 ghost use Rattle.std.specs.Prelude.{◌≡◌, ℕ, Option, IsTrue, IfOk, OnOk, OnErr, IsErrOf};
 ghost use Rattle.desk_io.specs.Causes.{HasCause};
+ghost use Rattle.desk_io.specs.Planned.{after};
 ghost use Rattle.desk_io.specs.Rows.{Rows};
 ghost use Rattle.keeper.specs.Order.{rising};
 ghost use Rattle.keeper.specs.Kept.{Lists, Leads};
@@ -49,6 +50,9 @@ pub trait Keeper {
     /// How often it has failed. The count stands still at its type's end.
     ghost fault_count: { Self → ℕ };
 
+    /// How often a commit was asked of it, whatever came of it. The count stands still at its type's end.
+    ghost commits: { Self → ℕ };
+
     /// It never fails, and its count stands still.
     ghost sound: { Self → Type 0 };
 
@@ -57,6 +61,7 @@ pub trait Keeper {
         ensures rising { IfOk result (λ rows. IsTrue (rising rows.items)) }
         ensures rows { IfOk result (λ rows. Lists (told self.old) rows.items) }
         ensures same { told self.new ≡ told self.old }
+        ensures none { commits self.new ≡ commits self.old }
         ensures cause { HasCause KeepFailed (fault_count self.old) (fault_count self.new) result }
         ensures sound { sound self.old → sound self.new × (IsErrOf result KeepFailed → ⊥) × (fault_count self.new ≡ fault_count self.old) };
 
@@ -64,6 +69,7 @@ pub trait Keeper {
     fn commit(&mut self, alloc: Global, changes: &[Change]) -> Result<(), KeepFault>
         ensures ok { OnOk result (Leads (told self.old) changes.now (told self.new)) }
         ensures err { OnErr result (told self.new ≡ told self.old) }
+        ensures one { commits self.new ≡ after (commits self.old) }
         ensures cause { HasCause KeepFailed (fault_count self.old) (fault_count self.new) result }
         ensures sound { sound self.old → sound self.new × (IsErrOf result KeepFailed → ⊥) × (fault_count self.new ≡ fault_count self.old) };
 

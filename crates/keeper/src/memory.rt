@@ -57,12 +57,15 @@ impl Keeper for MemoryKeeper {
 
     ghost fault_count = { λ k. k.faults };
 
+    ghost commits = { λ k. k.calls };
+
     ghost sound = { λ k. k.fail.items ≡ [] };
 
     fn load(&mut self, alloc: Global) -> Result<Vec<Row>, KeepFault>
         ensures rising { IfOk result (λ rows. IsTrue (rising rows.items)) }
         ensures rows { IfOk result (λ rows. Lists (Some (rows_of self.old.rows.items)) rows.items) }
         ensures same { Some (rows_of self.new.rows.items) ≡ Some (rows_of self.old.rows.items) }
+        ensures none { self.new.calls ≡ self.old.calls }
         ensures cause { HasCause KeepFailed self.old.faults self.new.faults result }
         ensures sound { self.old.fail.items ≡ [] → (self.new.fail.items ≡ []) × (IsErrOf result KeepFailed → ⊥) × (self.new.faults ≡ self.old.faults) }
         // Only memory can fail it, and nothing changes.
@@ -76,13 +79,13 @@ impl Keeper for MemoryKeeper {
     fn commit(&mut self, alloc: Global, changes: &[Change]) -> Result<(), KeepFault>
         ensures ok { OnOk result (Leads (Some (rows_of self.old.rows.items)) changes.now (Some (rows_of self.new.rows.items))) }
         ensures err { OnErr result (Some (rows_of self.new.rows.items) ≡ Some (rows_of self.old.rows.items)) }
+        ensures one { self.new.calls ≡ after self.old.calls }
         ensures cause { HasCause KeepFailed self.old.faults self.new.faults result }
         ensures sound { self.old.fail.items ≡ [] → (self.new.fail.items ≡ []) × (IsErrOf result KeepFailed → ⊥) × (self.new.faults ≡ self.old.faults) }
         // It fails exactly where its number is planned.
         ensures planned { Fails (is_planned self.old.fail.items self.old.calls) result }
         ensures kept { OnErr result (self.new.rows.items ≡ self.old.rows.items) }
         ensures fail { self.new.fail.items ≡ self.old.fail.items }
-        ensures calls { self.new.calls ≡ after self.old.calls }
     {
         let call = self.calls;
         self.calls = call.saturating_add(1);

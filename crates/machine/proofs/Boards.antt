@@ -1,6 +1,6 @@
 -- Every step keeps what holds of a board.
 use Rattle.std.proofs.Common.{◌≡◌, ℕ, ◌+◌, ◌<◌, ◌≤◌, Bool, true, false, not, ◌&&◌, ◌||◌, List, [], ◌∷◌, ◌++◌, append-nil, option_to_list, length, length-append, Option, None, Some, IfSome, Result, Ok, Err, refl, ap, sym, ◌∙◌, subst, arith}
-use Rattle.std.specs.Prelude.{nat_le}
+use Rattle.std.specs.Prelude.{nat_le, is_some}
 use Rattle.std.specs.List.{AllByRecursion, AllPairs}
 use Rattle.std.proofs.lemmas.Bool.{leb-false}
 use Rattle.std.proofs.lemmas.List.Elements.{All-from_recursion}
@@ -390,6 +390,25 @@ answer_shown s lane call sound kept is =
 -- the reply to a call can be written
 pub reply_shown : (s : State) (lane : ℕ) (call : Call) (o : Option Reply) → o ≡ (answer_call s lane call).reply → Sound s → InBounds s → IsCall call.ask → IfSome o ReplyHasMoment
 reply_shown s lane call o is sound kept form = subst (λ (p : Option Reply). IfSome p ReplyHasMoment) (sym is) (answer_shown s lane call sound kept form)
+
+enter_replies : (full : Bool) (s : State) (lane : ℕ) (call : Call) (reply : Reply) (effect : Effect) → is_some (enter full s lane call reply effect).reply ≡ true
+enter_replies true s lane call reply effect = refl
+enter_replies false s lane call reply effect = refl
+
+finish_replies : (s : State) (lane : ℕ) (call : Call) (decision : Result Decision Refusal) → is_some (finish s lane call decision).reply ≡ true
+finish_replies s lane call (Err refusal) = refl
+finish_replies s lane call (Ok (Show reply)) = refl
+finish_replies s lane call (Ok (Do reply effect)) = enter_replies (is_full_for s call.ask) s lane call reply effect
+
+do_replies : (s : State) (lane : ℕ) (call : Call) (o : Option Refusal) → is_some (do_unless o s lane call).reply ≡ true
+unfolding do_call
+do_replies s lane call None = finish_replies s lane call (decide s call)
+do_replies s lane call (Some refusal) = refl
+
+-- a call always has a reply
+pub call_replies : (s : State) (lane : ℕ) (call : Call) → is_some (answer_call s lane call).reply ≡ true
+unfolding answer_call
+call_replies s lane call = do_replies s lane call (mistaken (actor_of s.tables call.actor) call.key)
 
 tick_shown_by : (full : Bool) (s : State) (lane to : ℕ) → IfSome (tick_unless full s lane to).reply ReplyHasMoment
 tick_shown_by true s lane to = tt

@@ -18,7 +18,7 @@ use Rattle.plan_json.specs.Canonical.{ask_digest}
 use Rattle.machine.specs.Allowed.{IsEffectOf, admits, defers, clears, drafts, prepares, signs, concurs, amends, cancels, departs, stops, completes, acknowledges, purges, sweeps, MayLeadTo, MayTickTo}
 use Rattle.machine.specs.Decide.{decide}
 use Rattle.machine.specs.Events.{effected, kept_after}
-use Rattle.machine.specs.Lanes.{Answered, replied, made, answer, made_by, once_ticked, made_late, answer_item, outcomes, after_items}
+use Rattle.machine.specs.Lanes.{Answered, said_at, said_of, made, answer, made_by, once_ticked, made_late, answer_item, outcomes, after_items}
 use Rattle.machine.specs.Legal.{IsHistory}
 use Rattle.machine.specs.Repeats.{MayAsk, IsKeptFor, SweepsNothing, IsAskable, MayBeLeftOut}
 use Rattle.machine.specs.Requests.{is_request, kept_at}
@@ -28,6 +28,7 @@ use Rattle.machine.specs.Step.{Stepped, kept_reply, stay, do_call, answer_call, 
 use Rattle.machine.specs.declared.effect.Effect.{Effect}
 use Rattle.machine.specs.declared.lanes.Item.{Item}
 use Rattle.machine.specs.declared.lanes.Item.TheVariants as item
+use Rattle.machine.specs.declared.lanes.Said.TheVariants as said
 use Rattle.machine.proofs.AllowedLaws.{call_leads, tick_leads}
 use Rattle.machine.proofs.Boards.{call_keeps, tick_keeps}
 use Rattle.machine.proofs.Parts.{still_unused}
@@ -144,7 +145,7 @@ after_answer true opening s lane at call actor number k f within form e holds =
 after_item : (opening s : State) (lane : ℕ) (i : Item) (actor : List ℕ) (number : ℕ) (k : KeptReply) → IsAskable i → SweepsNothing i → Holds opening actor number k s
     → Holds opening actor number k (answer_item lane s i).state
 unfolding answer
-after_item opening s lane item.Bad actor number k form e holds = holds
+after_item opening s lane (item.Bad fault) actor number k form e holds = holds
 after_item opening s lane (item.Call at call) actor number k form e holds = after_answer (nat_lt s.moment at) opening s lane at call actor number k refl form.0 form.1 e holds
 
 -- What is kept of a command stays kept while other items come, of which none sweeps anything.
@@ -166,17 +167,17 @@ items_on lane s (x ∷ xs) ys = items_on lane (answer_item lane s x).state xs ys
 
 -- at a moment that has come, no tick comes first
 answered_again : (s : State) (lane at : ℕ) (call : Call) (k : KeptReply) → at ≤ s.moment → MayAsk s call → IsKeptFor s call k
-    → answer_item lane s (item.Call at call) ≡ replied s (Some (Done k.done)) s
+    → answer_item lane s (item.Call at call) ≡ said_at s (said.Reply (Done k.done)) s
 unfolding answer
 answered_again s lane at call k within may is =
-    ap (λ later. made_by later lane s at call) (le-ltb s.moment at within) ∙ ap (λ (stepped : Stepped). replied s stepped.reply stepped.state) (repeat_stays s lane call k may is)
+    ap (λ later. made_by later lane s at call) (le-ltb s.moment at within) ∙ ap (λ (stepped : Stepped). said_at s (said_of stepped.reply) stepped.state) (repeat_stays s lane call k may is)
 
 -- Taking a repeated command out of a list of items changes neither the last state nor another outcome.
 pub left_out : (s : State) (lane : ℕ) (before after : List Item) (at : ℕ) (call : Call) (k : KeptReply) → at ≤ (after_items lane s before).moment → MayAsk (after_items lane s before) call
     → IsKeptFor (after_items lane s before) call k → MayBeLeftOut lane s before after at call k
 left_out s lane before after at call k within may is =
     let u : State = after_items lane s before in
-    let again : answer_item lane u (item.Call at call) ≡ replied u (Some (Done k.done)) u = answered_again u lane at call k within may is in
+    let again : answer_item lane u (item.Call at call) ≡ said_at u (said.Reply (Done k.done)) u = answered_again u lane at call k within may is in
     record {
       outcomes_with = outcomes_on lane s before (item.Call at call ∷ after) ∙ ap (λ (a : Answered). outcomes lane s before ++ a.outcome ∷ outcomes lane a.state after) again;
       outcomes_without = outcomes_on lane s before after;

@@ -2,9 +2,12 @@
 use Rattle.std.specs.Prelude.{ℕ, nat_lt, Bool, true, false, List, [], ◌∷◌, length, Option, None, Some}
 use Rattle.asks.specs.declared.call.Call.{Call}
 use Rattle.asks.specs.declared.reply.Reply.{Reply}
+use Rattle.asks.specs.declared.reply.Reply.TheVariants.{Seen}
 use Rattle.machine.specs.declared.lanes.Item.{Item}
 use Rattle.machine.specs.declared.lanes.Item.TheVariants as item
 use Rattle.machine.specs.declared.lanes.Outcome.{Outcome}
+use Rattle.machine.specs.declared.lanes.Said.{Said}
+use Rattle.machine.specs.declared.lanes.Said.TheVariants as said
 use Rattle.machine.specs.State.{State}
 use Rattle.machine.specs.Step.{answer_call, tick_to}
 
@@ -13,15 +16,20 @@ pub record Answered : Type 0 where
   pub outcome : Outcome
   pub state : State
 
-abbrev pub replied : State → Option Reply → State → Answered
-replied before reply after = record { outcome = record { position = length before.entries; reply = reply }; state = after }
+abbrev pub said_at : State → Said → State → Answered
+said_at before what after = record { outcome = record { position = length before.entries; said = what }; state = after }
+
+-- What is said of a step: its reply. Only a tick that is allowed has none, so a call always has one.
+abbrev pub said_of : Option Reply → Said
+said_of None = said.Reply (Seen [])
+said_of (Some reply) = said.Reply reply
 
 abbrev pub made : ℕ → State → Call → Answered
-made lane s call = replied s (answer_call s lane call).reply (answer_call s lane call).state
+made lane s call = said_at s (said_of (answer_call s lane call).reply) (answer_call s lane call).state
 
 -- A call is made once its tick is. Where the tick is refused, the call gets that refusal.
 abbrev pub once_ticked : ℕ → Option Reply → State → Call → Answered
-once_ticked lane (Some reply) s call = replied s (Some reply) s
+once_ticked lane (Some reply) s call = said_at s (said.Reply reply) s
 once_ticked lane None s call = made lane s call
 
 abbrev pub made_late : ℕ → State → ℕ → Call → Answered
@@ -37,7 +45,7 @@ answer lane s at call = made_by (nat_lt s.moment at) lane s at call
 
 -- what comes of an item
 abbrev pub answer_item : ℕ → State → Item → Answered
-answer_item lane s item.Bad = replied s None s
+answer_item lane s (item.Bad fault) = said_at s (said.Bad fault) s
 answer_item lane s (item.Call at call) = answer lane s at call
 
 -- the outcomes of items, and the state after them

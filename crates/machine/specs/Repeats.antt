@@ -8,8 +8,9 @@ use Rattle.asks.specs.declared.reply.Reply.TheVariants.{Done}
 use Rattle.plan_json.specs.Canonical.{ask_digest}
 use Rattle.machine.specs.declared.lanes.Item.{Item}
 use Rattle.machine.specs.declared.lanes.Item.TheVariants as item
+use Rattle.machine.specs.declared.lanes.Said.TheVariants as said
 use Rattle.machine.specs.Decide.{is_view}
-use Rattle.machine.specs.Lanes.{answer_item, outcomes, after_items, replied}
+use Rattle.machine.specs.Lanes.{answer_item, outcomes, after_items, said_at}
 use Rattle.machine.specs.People.{mistaken, not_his_role}
 use Rattle.machine.specs.Requests.{kept_at}
 use Rattle.machine.specs.State.{State, is_sweep}
@@ -27,18 +28,18 @@ pub record IsKeptFor (s : State) (call : Call) (k : KeptReply) : Type 0 where
 
 -- something other than a sweep
 abbrev pub SweepsNothing : Item → Type 0
-SweepsNothing item.Bad = Unit {0}
+SweepsNothing (item.Bad fault) = Unit {0}
 SweepsNothing (item.Call at call) = is_sweep call.ask ≡ false
 
 -- an item that may be asked: its moment can be reached, and its call has its form
 abbrev pub IsAskable : Item → Type 0
-IsAskable item.Bad = Unit {0}
+IsAskable (item.Bad fault) = Unit {0}
 IsAskable (item.Call at call) = (at ≤ 68_374_079) × IsCall call.ask
 
 -- A command that comes again among other items, at a moment that has come, may as well be left out: it is answered with what it
 -- has done, and neither the last state nor any other outcome is another without it.
 pub record MayBeLeftOut (lane : ℕ) (s : State) (before after : List Item) (at : ℕ) (call : Call) (k : KeptReply) : Type 0 where
   pub outcomes_with : outcomes lane s (before ++ item.Call at call ∷ after)
-      ≡ outcomes lane s before ++ (replied (after_items lane s before) (Some (Done k.done)) (after_items lane s before)).outcome ∷ outcomes lane (after_items lane s before) after
+      ≡ outcomes lane s before ++ (said_at (after_items lane s before) (said.Reply (Done k.done)) (after_items lane s before)).outcome ∷ outcomes lane (after_items lane s before) after
   pub outcomes_without : outcomes lane s (before ++ after) ≡ outcomes lane s before ++ outcomes lane (after_items lane s before) after
   pub states : after_items lane s (before ++ item.Call at call ∷ after) ≡ after_items lane s (before ++ after)

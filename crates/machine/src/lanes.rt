@@ -1,4 +1,4 @@
-use asks::{Call, Reply};
+use asks::{BadCall, Call, Reply};
 use desk_time::Minute;
 
 /// What a lane asks next.
@@ -6,8 +6,17 @@ use desk_time::Minute;
 pub enum Item {
     /// A call at a moment.
     Call { at: Minute, call: Call },
-    /// Something that is no call.
-    Bad,
+    /// A text that is no call, and its first fault.
+    Bad(BadCall),
+}
+
+/// What is said of an item of a lane.
+#[derive(Debug, Drop)]
+pub enum Said {
+    /// The reply to a call.
+    Reply(Reply),
+    /// Why a text is no call.
+    Bad(BadCall),
 }
 
 /// What came of an item of a lane.
@@ -15,6 +24,5 @@ pub enum Item {
 pub struct Outcome {
     /// How many entries the history had before the item was judged.
     pub position: u64,
-    /// The reply: none to an item that is no call.
-    pub reply: Option<Reply>,
+    pub said: Said,
 }

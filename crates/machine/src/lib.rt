@@ -15,4 +15,4 @@ pub use counters::Counters;
 pub use effect::{Decision, Effect, OnAlerts, OnDeferrals, OnReleases, Sweep};
 pub use entry::{Entry, What};
 pub use held::{find_alert, place_of, place_of_id};
-pub use lanes::{Item, Outcome};
+pub use lanes::{Item, Outcome, Said};

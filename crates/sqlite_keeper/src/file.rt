@@ -21,6 +21,7 @@ pub struct KeeperOver<C: Drop> {
     rt: HostRuntime,
     path: String,
     conn: Option<C>,
+    commits: u64,
     faults: u64,
 }
 
@@ -39,6 +40,7 @@ impl<C: Drop> KeeperOver<C> {
         ensures failed { result ≡ KeepFault.Failed }
         ensures rose { RoseOrFull self.old.faults self.new.faults }
         ensures later { self.old.faults ≤ self.new.faults }
+        ensures commits { self.new.commits ≡ self.old.commits }
     {
         self.faults = self.faults.saturating_add(1);
         KeepFault::Failed
@@ -48,6 +50,7 @@ impl<C: Drop> KeeperOver<C> {
     fn trouble(&mut self, trouble: Trouble) -> KeepFault
         ensures later { self.old.faults ≤ self.new.faults }
         ensures cause { result ≡ KeepFault.Failed → RoseOrFull self.old.faults self.new.faults }
+        ensures commits { self.new.commits ≡ self.old.commits }
     {
         match trouble {
             Trouble::OutOfMemory => KeepFault::OutOfMemory,
@@ -63,12 +66,14 @@ impl<C: Drop> KeeperOver<C> {
 impl KeeperOver<Connection<FileStore<File>>> {
     /// A keeper of the rows in the file at that path. It opens nothing yet.
     pub fn new(rt: HostRuntime, path: String) -> SqliteKeeper
-        ensures { result.faults ≡ 0 }
+        ensures faults { result.faults ≡ 0 }
+        ensures commits { result.commits ≡ 0 }
     {
         KeeperOver {
             rt,
             path,
             conn: None,
+            commits: 0,
             faults: 0,
         }
     }
@@ -76,6 +81,7 @@ impl KeeperOver<Connection<FileStore<File>>> {
     fn load_rows(&mut self, alloc: Global) -> Result<Vec<Row>, Trouble>
         ensures rising { IfOk result (λ rows. IsTrue (rising rows.items)) }
         ensures faults { self.new.faults ≡ self.old.faults }
+        ensures commits { self.new.commits ≡ self.old.commits }
     {
         if let Some(conn) = &mut self.conn {
             return all_rows(alloc, conn);
@@ -87,7 +93,8 @@ impl KeeperOver<Connection<FileStore<File>>> {
     }
 
     fn make(&mut self, changes: &[Change]) -> Result<(), Trouble>
-        ensures { self.new.faults ≡ self.old.faults }
+        ensures faults { self.new.faults ≡ self.old.faults }
+        ensures commits { self.new.commits ≡ self.old.commits }
     {
         match &mut self.conn {
             None => Err(Trouble::Refused),
@@ -101,6 +108,8 @@ impl Keeper for KeeperOver<Connection<FileStore<File>>> {
 
     ghost fault_count = { λ k. k.faults };
 
+    ghost commits = { λ k. k.commits };
+
     ghost sound = { λ k. ⊥ };
 
     fn load(&mut self, alloc: Global) -> Result<Vec<Row>, KeepFault> {
@@ -111,6 +120,7 @@ impl Keeper for KeeperOver<Connection<FileStore<File>>> {
     }
 
     fn commit(&mut self, _: Global, changes: &[Change]) -> Result<(), KeepFault> {
+        self.commits = self.commits.saturating_add(1);
         match self.make(changes) {
             Ok(()) => Ok(()),
             Err(trouble) => Err(self.trouble(trouble)),
