@@ -21,7 +21,9 @@ use Rattle.machine.specs.Texts.{closing}
 use Rattle.machine.specs.declared.lanes.Item.{Item}
 use Rattle.machine.specs.declared.lanes.Item.TheVariants as item
 use Rattle.machine.specs.declared.lanes.Outcome.{Outcome}
-use Rattle.desk.specs.Keeping.{Choice, Given, GivenBetween, given, no_choice, kept_or, unkept_if, once_ticked, made_after, made_by, answer_with, item_with, outcomes_with, after_with, Rise, numbers_of, AreNow, Counted, CountedOnce, IsGiven, AreGiven, AreGivenSoFar}
+use Rattle.machine.specs.declared.lanes.Said.TheVariants as said
+use Rattle.asks.specs.declared.bad_call.BadCall.{BadCall}
+use Rattle.desk.specs.Keeping.{Choice, Given, GivenBetween, given, no_choice, kept_or, unkept_if, once_ticked, made_after, made_by, answer_with, item_with, bad_given, outcomes_with, after_with, Rise, numbers_of, AreNow, Counted, CountedOnce, IsGiven, AreGiven, AreGivenSoFar}
 use Rattle.desk.specs.Run.{items_of, lines_of, texts_of, run_from, run_with, after_run, IsRun}
 
 -- ---- the counts
@@ -198,7 +200,7 @@ unfolding answer_with lanes.answer
 quiet_call lane s at call = record { outcome = made_outcome (nat_lt s.moment at) lane s at call; state = made_state (nat_lt s.moment at) lane s at call }
 
 quiet_item : (lane : ℕ) (s : State) (i : Item) → IsAnswered lane s i (item_with no_choice lane s i)
-quiet_item lane s item.Bad = record { outcome = refl; state = refl }
+quiet_item lane s (item.Bad fault) = record { outcome = refl; state = refl }
 quiet_item lane s (item.Call at call) = quiet_call lane s at call
 
 quiet_one : (lane : ℕ) (s : State) (i : Item) (c : Choice) → c ≡ no_choice → IsAnswered lane s i (item_with c lane s i)
@@ -244,7 +246,7 @@ again_is lane s at call k c within may is =
     ∙ ap (given [] s) (stays_answered c.call s (Done k.done))
 
 pub again_answered : (lane : ℕ) (s : State) (at : ℕ) (call : Call) (k : KeptReply) (c : Choice) (t : State) (o : Outcome) (ticked called : List Notice) → at ≤ s.moment → MayAsk s call
-    → IsKeptFor s call k → IsGiven (answer_with c lane s at call) t o ticked called → (o ≡ (lanes.replied s (Some (Done k.done)) s).outcome) × (t ≡ s)
+    → IsKeptFor s call k → IsGiven (answer_with c lane s at call) t o ticked called → (o ≡ (lanes.said_at s (said.Reply (Done k.done)) s).outcome) × (t ≡ s)
 again_answered lane s at call k c t o ticked called within may is given =
     let same = again_is lane s at call k c within may is in
     (given.its_outcome ∙ ap (λ (g : Given). g.outcome) same, given.its_state ∙ ap (λ (g : Given). g.state) same)
@@ -287,9 +289,9 @@ pub is_run_of : (before after : ℕ) (s : State) (script : List ℕ) (t : State)
 is_run_of before after s script t made text items are all is =
     is_run before after s script t made text (subst (λ is. AreGiven 1 before after s is t made) are all) is
 
-no_call : (faults lane : ℕ) (s : State) (o : Outcome) (ticked called : List Notice) → o ≡ (item_with no_choice lane s item.Bad).outcome → ticked ≡ [] → called ≡ []
-    → GivenBetween faults faults (λ c. item_with c lane s item.Bad) s o ticked called
-no_call faults lane s o ticked called outcome none nothing = record {
+no_call : (faults lane : ℕ) (s : State) (fault : BadCall) (o : Outcome) (ticked called : List Notice) → o ≡ (bad_given s fault).outcome → ticked ≡ [] → called ≡ []
+    → GivenBetween faults faults (λ c. item_with c lane s (item.Bad fault)) s o ticked called
+no_call faults lane s fault o ticked called outcome none nothing = record {
   choice = no_choice;
   counted = omega arith;
   exact = tt;
@@ -297,7 +299,7 @@ no_call faults lane s o ticked called outcome none nothing = record {
 }
 
 -- a line that is no call
-pub bad_given : (faults lane : ℕ) (s : State) (i : Item) (o : Outcome) (ticked called : List Notice) → i ≡ item.Bad → o ≡ (item_with no_choice lane s item.Bad).outcome → ticked ≡ [] → called ≡ []
+pub bad_between : (faults lane : ℕ) (s : State) (i : Item) (fault : BadCall) (o : Outcome) (ticked called : List Notice) → i ≡ item.Bad fault → o ≡ (bad_given s fault).outcome → ticked ≡ [] → called ≡ []
     → GivenBetween faults faults (λ c. item_with c lane s i) s o ticked called
-bad_given faults lane s i o ticked called bad outcome none nothing =
-    subst (λ (x : Item). GivenBetween faults faults (λ c. item_with c lane s x) s o ticked called) (sym bad) (no_call faults lane s o ticked called outcome none nothing)
+bad_between faults lane s i fault o ticked called bad outcome none nothing =
+    subst (λ (x : Item). GivenBetween faults faults (λ c. item_with c lane s x) s o ticked called) (sym bad) (no_call faults lane s fault o ticked called outcome none nothing)

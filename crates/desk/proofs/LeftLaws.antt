@@ -27,7 +27,6 @@ use Rattle.reopening.specs.Held.{AreOfDesk, state_in}
 use Rattle.reopening.specs.Opening.{reopened}
 use Rattle.reopening.proofs.StateLaws.{may_reopen}
 use Rattle.desk.proofs.Opened.{of_desk}
-use Rattle.desk.specs.Answers.{WhySays}
 use Rattle.desk.specs.Opening.{IsWhy, IsOfKeeper, IsOpened, IsLeft, TellsRowsOf, under}
 use Rattle.desk.specs.declared.opening.OpenWhy.{OpenWhy}
 use Rattle.desk.specs.declared.opening.OpenWhy.TheVariants.{KeeperFault, BadRow, BadPair, OutOfMemory}
@@ -106,10 +105,3 @@ pub opens_left : {D E : Type 0} (told : Option Rows) (tables : TableRows) (board
     → IfOk r (λ d. IsOpened told tables (board d)) → IfErr r (λ e. IsWhy told (rose e) (why e)) → MatchResult r (λ d. (board d).state ≡ reopened (under tables s)) (λ e. IsOfKeeper (rose e) (why e))
 opens_left told tables board rose why (Ok d) s left tells is none = left_state told tables s (board d) left tells is
 opens_left told tables board rose why (Err e) s left tells none is = left_why told (rose e) s (why e) left tells is
-
--- a fault of the keeper isn't told as one of rows
-pub why_left : (rose : Type 0) (why : OpenWhy) (status : ℕ) (text : List ℕ) → IsOfKeeper rose why → WhySays why status text → status ≢ 7
-why_left rose KeeperFault status text is says = let five = says.0 in λ e. omega (arith, five, e)
-why_left rose (BadRow row why) status text is says = absurd is
-why_left rose (BadPair one two) status text is says = absurd is
-why_left rose OutOfMemory status text is says = absurd says

@@ -1,10 +1,11 @@
 -- A prepared step that is kept, or isn't.
-use Rattle.std.proofs.Common.{◌≡◌, ℕ, ◌+◌, ◌<◌, Bool, true, false, List, [], ◌∷◌, ◌++◌, length, Option, None, Some, is_some, IfOk, Result, refl, ap, sym, ◌∙◌, subst, arith, inl, inr, ◌⊎◌}
+use Rattle.std.proofs.Common.{◌≡◌, ℕ, ◌+◌, ◌<◌, Bool, true, false, List, [], ◌∷◌, ◌++◌, length, Option, None, Some, is_some, IfOk, Result, Ok, Err, refl, ap, sym, ◌∙◌, subst, arith, inl, inr, ◌⊎◌}
 use Rattle.std.specs.Prelude.{nat_lt}
 use Rattle.std.proofs.lemmas.Bool.{lt-ltb}
 use Rattle.std.proofs.lemmas.List.{length-append}
 use Rattle.alerts.specs.declared.notices.Notice.{Notice}
 use Rattle.asks.specs.declared.reply.Refusal.TheVariants.{Unkept}
+use Rattle.asks.specs.declared.call.Call.{Call}
 use Rattle.asks.specs.declared.reply.Reply.{Reply}
 use Rattle.asks.specs.declared.reply.Reply.TheVariants.{Refused}
 use Rattle.board.specs.Prepare.{with_events, installed, IsStepped, KeepsRows, Shown, shown}
@@ -15,7 +16,8 @@ use Rattle.desk_io.specs.declared.rows.Change.{Change}
 use Rattle.keeper.specs.Kept.{AreSame, Leads}
 use Rattle.keeping.specs.Rows.{AreKept}
 use Rattle.machine.specs.State.{State}
-use Rattle.machine.specs.Step.{Stepped}
+use Rattle.machine.specs.Step.{Stepped, answer_call}
+use Rattle.machine.proofs.Boards.{call_replies}
 use Rattle.desk.specs.Keeping.{adds, kept_or, unkept, unkept_if, KeepsState}
 use Rattle.desk.specs.Settled.{stepped_by, IsSettled}
 use Rattle.desk.specs.declared.settling.Settled.{Settled}
@@ -58,6 +60,22 @@ is_unkept r s p faults some reply notices fault =
     let refused : IsSettled r s (unkept faults s) = record { reply = reply; state = refl; notices = notices } in
     subst (λ (o : Option ℕ). IsSettled r s (kept_or o s t)) (sym fault)
     (subst (λ (b : Bool). IsSettled r s (unkept_if b faults s t)) (sym (adds_one p s some)) refused)
+
+-- ---- the reply
+
+kept_if : (b : Bool) (faults : ℕ) (s : State) (t : Stepped) → is_some t.reply ≡ true → is_some (unkept_if b faults s t).reply ≡ true
+kept_if true faults s t has = refl
+kept_if false faults s t has = has
+
+kept_replies : (o : Option ℕ) (s : State) (t : Stepped) → is_some t.reply ≡ true → is_some (kept_or o s t).reply ≡ true
+kept_replies None s t has = has
+kept_replies (Some faults) s t has = kept_if (adds s t) faults s t has
+
+-- a call always has a reply, whether what it changes is kept or not
+pub replies_to : {E : Type 0} (result : Result Settled E) (after s : State) (lane : ℕ) (call : Call) → IfOk result (λ r. IsSettled r after (kept_or r.fault s (answer_call s lane call)))
+    → IfOk result (λ r. is_some r.reply ≡ true)
+replies_to (Ok r) after s lane call settled = ap is_some settled.reply ∙ kept_replies r.fault s (answer_call s lane call) (call_replies s lane call)
+replies_to (Err e) after s lane call settled = tt
 
 -- ---- the rows
 

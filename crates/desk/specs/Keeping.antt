@@ -10,12 +10,14 @@ use Rattle.desk_io.specs.Rows.{Rows}
 use Rattle.desk_io.specs.declared.rows.Change.{Change}
 use Rattle.keeper.specs.Kept.{Leads}
 use Rattle.keeping.specs.Rows.{AreKept}
-use Rattle.machine.specs.Lanes.{outcomes, after_items}
+use Rattle.machine.specs.Lanes.{outcomes, after_items, said_of}
 use Rattle.machine.specs.State.{State}
 use Rattle.machine.specs.Step.{Stepped, stay, answer_call, tick_to}
 use Rattle.machine.specs.declared.lanes.Item.{Item}
 use Rattle.machine.specs.declared.lanes.Item.TheVariants as item
 use Rattle.machine.specs.declared.lanes.Outcome.{Outcome}
+use Rattle.machine.specs.declared.lanes.Said.TheVariants as said
+use Rattle.asks.specs.declared.bad_call.BadCall.{BadCall}
 
 -- ---- a step that may not be kept
 
@@ -55,7 +57,7 @@ pub record Given : Type 0 where
   pub called : List Notice
 
 abbrev pub given : List Notice → State → Stepped → Given
-given ticked s t = record { outcome = record { position = length s.entries; reply = t.reply }; state = t.state; ticked = ticked; called = t.notices }
+given ticked s t = record { outcome = record { position = length s.entries; said = said_of t.reply }; state = t.state; ticked = ticked; called = t.notices }
 
 abbrev pub made_with : Option ℕ → ℕ → State → Call → Stepped
 made_with fault lane s call = kept_or fault s (answer_call s lane call)
@@ -79,13 +81,13 @@ made_by false c lane s at call = given [] s (made_with c.call lane s call)
 unfoldable pub answer_with : Choice → ℕ → State → ℕ → Call → Given
 answer_with c lane s at call = made_by (nat_lt s.moment at) c lane s at call
 
--- to an item that is no call there is no reply
-abbrev pub no_reply : State → Stepped
-no_reply s = record { reply = None; state = s; notices = [] }
+-- of a text that is no call its fault is said, and nothing changes
+abbrev pub bad_given : State → BadCall → Given
+bad_given s fault = record { outcome = record { position = length s.entries; said = said.Bad fault }; state = s; ticked = []; called = [] }
 
 -- what comes of an item under a choice
 abbrev pub item_with : Choice → ℕ → State → Item → Given
-item_with c lane s item.Bad = given [] s (no_reply s)
+item_with c lane s (item.Bad fault) = bad_given s fault
 item_with c lane s (item.Call at call) = answer_with c lane s at call
 
 -- The outcomes of items, each under its choice. Where no choice is left the keeper doesn't fail.

@@ -1,13 +1,15 @@
 -- The text of a run: a reply for each line, and the closing text.
-use Rattle.std.specs.Prelude.{◌≡◌, ℕ, List, [], ◌∷◌, ◌++◌, Option, None, Some, map, codes}
+use Rattle.std.specs.Prelude.{◌≡◌, ℕ, List, [], ◌∷◌, ◌++◌, map, codes, Result, Ok, Err}
 use Rattle.desk_io.specs.Runs.{runs_between}
+use Rattle.asks.specs.declared.bad_call.BadCall.{BadCall}
 use Rattle.asks.specs.declared.call.Call.{Call}
-use Rattle.asks.specs.declared.reply.Reply.{Reply}
-use Rattle.desk_json.specs.Calls.{line_of}
-use Rattle.desk_json.specs.Replies.{reply_text}
+use Rattle.desk_json.specs.Faults.{line_or_fault}
+use Rattle.desk_json.specs.Replies.{reply_text, bad_text}
 use Rattle.machine.specs.declared.lanes.Item.{Item}
 use Rattle.machine.specs.declared.lanes.Item.TheVariants as item
 use Rattle.machine.specs.declared.lanes.Outcome.{Outcome}
+use Rattle.machine.specs.declared.lanes.Said.{Said}
+use Rattle.machine.specs.declared.lanes.Said.TheVariants as said
 use Rattle.machine.specs.State.{State}
 use Rattle.machine.specs.Lanes.{outcomes, after_items}
 use Rattle.machine.specs.Texts.{closing}
@@ -17,13 +19,14 @@ use Rattle.desk.specs.Keeping.{Choice, Counted, outcomes_with, after_with}
 abbrev pub lines_of : List ℕ → List (List ℕ)
 lines_of bytes = runs_between (10 ∷ []) bytes
 
-abbrev pub item_of : Option (ℕ × Call) → Item
-item_of None = item.Bad
-item_of (Some line) = item.Call line.0 line.1
+-- a call at its moment, or the first fault of a line that has none
+abbrev pub item_of : Result (ℕ × Call) BadCall → Item
+item_of (Err fault) = item.Bad fault
+item_of (Ok line) = item.Call line.0 line.1
 
 -- the items of lines
 abbrev pub items_of : List (List ℕ) → List Item
-items_of lines = map (λ line. item_of (line_of line)) lines
+items_of lines = map (λ line. item_of (line_or_fault line)) lines
 
 -- what a lane shows: its items, and what has come of them
 pub record LaneShown : Type 0 where
@@ -33,16 +36,14 @@ pub record LaneShown : Type 0 where
 abbrev pub lane_with : List Item → List Outcome → LaneShown
 lane_with items outcomes = record { items = items; outcomes = outcomes }
 
-abbrev pub not_built : List ℕ
-not_built = codes "{\"bad\":\"NotBuilt\",\"key\":\"\"}"
-
-abbrev pub text_of_reply : Option Reply → List ℕ
-text_of_reply None = not_built
-text_of_reply (Some reply) = reply_text reply
+-- the JSON of what is said
+abbrev pub said_text : Said → List ℕ
+said_text (said.Reply reply) = reply_text reply
+said_text (said.Bad fault) = bad_text fault
 
 -- the line of an outcome
 abbrev pub outcome_text : Outcome → List ℕ
-outcome_text o = text_of_reply o.reply ++ codes "\n"
+outcome_text o = said_text o.said ++ codes "\n"
 
 abbrev pub texts_of : List Outcome → List ℕ
 texts_of [] = []

@@ -1,15 +1,16 @@
-ghost use Rattle.std.specs.Prelude.{◌≡◌, ◌<◌, ◌≤◌, ◌⊎◌, [], ◌∷◌, None, Some, false, IfOk, IfSome, OnErr};
+ghost use Rattle.std.specs.Prelude.{◌≡◌, ◌<◌, ◌≤◌, ◌⊎◌, [], ◌∷◌, None, Some, false, true, is_some, IfOk, IfSome, OnErr};
 ghost use Rattle.asks.specs.Forms.{ReplyHasMoment};
 ghost use Rattle.kept_forms.specs.Formed.{AreFormed};
 ghost use Rattle.plan_json.specs.Canonical.{CallHasForms};
 ghost use Rattle.machine.specs.Step.{answer_call, tick_to};
 ghost use Rattle.asks.specs.declared.kept.KeptReply.{KeptReply as AKept};
 ghost use Rattle.machine.specs.Lanes as lanes;
+ghost use Rattle.machine.specs.declared.lanes.Said.TheVariants as ASaid;
 ghost use Rattle.machine.specs.Repeats.{MayAsk, IsKeptFor};
 ghost use Rattle.desk.specs.Keeping as spec;
 ghost use Rattle.desk.specs.Keeping.{adds, AreNow, Counted, CountedOnce, KeepsState, IsGiven, GivenBetween};
 ghost use Rattle.desk.specs.Settled.{IsSettled, MayHaveTicked, choice_of};
-ghost use Rattle.desk.specs.Shown.{IsShown};
+ghost use Rattle.desk.specs.Shown.{IsShown, CanBeSaid};
 
 use crate::settling::{Desk, Settled, settle, stayed};
 use alerts::Notices;
@@ -17,7 +18,7 @@ use asks::{Call, Refusal, Reply};
 use desk_io::OutOfMemory;
 use desk_time::{LAST, Minute};
 use keeper::Keeper;
-use machine::Outcome;
+use machine::{Outcome, Said};
 use rules::Steps;
 use std::alloc::Global;
 use std::sync::ledger::Ledger;
@@ -50,6 +51,7 @@ fn make_call<K: Keeper, L: Ledger>(
     requires { CallHasForms call.now }
     ensures settled { IfOk result (λ r. IsSettled r desk.new.board.state (spec.made_with r.fault lane desk.old.board.state call.now)) }
     ensures shown { IfOk result (λ r. IfSome r.reply ReplyHasMoment) }
+    ensures replied { IfOk result (λ r. is_some r.reply ≡ true) }
     ensures err { OnErr result (desk.new.board.state ≡ desk.old.board.state) }
     ensures opening { desk.new.board.opening ≡ desk.old.board.opening }
     ensures rows { KeepsState (K.told desk.old.keeper) desk.old.board.state → KeepsState (K.told desk.new.keeper) desk.new.board.state }
@@ -98,6 +100,7 @@ fn once_ticked<K: Keeper, L: Ledger>(
     requires shown { IfSome refused ReplyHasMoment }
     ensures settled { IfOk result (λ r. IsSettled r desk.new.board.state (spec.once_ticked r.fault lane refused desk.old.board.state call.now)) }
     ensures shown { IfOk result (λ r. IfSome r.reply ReplyHasMoment) }
+    ensures replied { IfOk result (λ r. is_some r.reply ≡ true) }
     ensures count { IfOk result (λ r. CountedOnce (K.fault_count desk.old.keeper) r.fault (K.fault_count desk.new.keeper)) }
     ensures err { OnErr result (desk.new.board.state ≡ desk.old.board.state) }
     ensures opening { desk.new.board.opening ≡ desk.old.board.opening }
@@ -112,10 +115,26 @@ fn once_ticked<K: Keeper, L: Ledger>(
     }
 }
 
+// What is said of a call: its reply.
+fn said_of(reply: Option<Reply>) -> Said
+    requires replied { is_some reply ≡ true }
+    requires shown { IfSome reply ReplyHasMoment }
+    ensures said { result ≡ lanes.said_of reply }
+    ensures shown { CanBeSaid result }
+{
+    match reply {
+        Some(reply) => Said::Reply(reply),
+        None => unreachable!(),
+    }
+}
+
 // What a call is answered of which the tick and the call itself are settled.
 fn joined(position: u64, ticked: Notices, tick: Option<u64>, settled: Settled) -> Judged
+    requires replied { is_some settled.reply ≡ true }
+    requires shown { IfSome settled.reply ReplyHasMoment }
     ensures position { result.answered.outcome.position ≡ position }
-    ensures reply { result.answered.outcome.reply ≡ settled.reply }
+    ensures said { result.answered.outcome.said ≡ lanes.said_of settled.reply }
+    ensures shown { IsShown result.answered.outcome }
     ensures ticked { result.answered.ticked ≡ ticked }
     ensures called { result.answered.called ≡ settled.notices }
     ensures tick { result.tick ≡ tick }
@@ -128,7 +147,10 @@ fn joined(position: u64, ticked: Notices, tick: Option<u64>, settled: Settled) -
     } = settled;
     Judged {
         answered: Answered {
-            outcome: Outcome { position, reply },
+            outcome: Outcome {
+                position,
+                said: said_of(reply),
+            },
             ticked,
             called: notices,
         },
@@ -271,7 +293,7 @@ pub fn answer<K: Keeper, L: Ledger>(
     ensures quiet { K.sound desk.old.keeper → IfOk result (λ a. (a.outcome ≡ (lanes.answer lane desk.old.board.state moment call.now).outcome) × (desk.new.board.state ≡ (lanes.answer lane desk.old.board.state moment call.now).state)) }
     // A command that comes again is answered with what is kept of it, whatever the keeper does.
     ensures again { (k : AKept) → moment ≤ desk.old.board.state.moment → MayAsk desk.old.board.state call.now → IsKeptFor desk.old.board.state call.now k
-        → IfOk result (λ a. (a.outcome ≡ (lanes.replied desk.old.board.state (Some (Reply.Done k.done)) desk.old.board.state).outcome) × (desk.new.board.state ≡ desk.old.board.state)) }
+        → IfOk result (λ a. (a.outcome ≡ (lanes.said_at desk.old.board.state (ASaid.Reply (Reply.Done k.done)) desk.old.board.state).outcome) × (desk.new.board.state ≡ desk.old.board.state)) }
     ensures shown { IfOk result (λ a. IsShown a.outcome) }
     ensures err { OnErr result (MayHaveTicked lane moment desk.old.board.state desk.new.board.state) }
     ensures opening { desk.new.board.opening ≡ desk.old.board.opening }

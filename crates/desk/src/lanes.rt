@@ -1,15 +1,12 @@
-ghost use Rattle.std.specs.Prelude.{◌≡◌, ◌≤◌, [], IfOk, IfSome};
+ghost use Rattle.std.specs.Prelude.{◌≡◌, ◌≤◌, [], IfOk};
 ghost use Rattle.std.specs.List.{AllByRecursion};
-ghost use Rattle.desk_json.specs.Calls.{line_of};
-ghost use Rattle.plan_json.specs.Canonical.{CallHasForms};
+ghost use Rattle.desk_json.specs.Faults.{line_or_fault};
 ghost use Rattle.desk.specs.Run as spec;
 ghost use Rattle.desk.specs.Run.{items_of, lines_of, lane_with};
 ghost use Rattle.desk.specs.Shown.{IsItem, IsShown};
 
-use asks::Call;
 use desk_io::{LineFeeds, OutOfMemory, Run, runs_between};
-use desk_json::read_line;
-use desk_time::{LAST, Minute};
+use desk_json::{CallFault, read_line};
 use machine::{Item, Outcome};
 use std::alloc::Global;
 use std::marker::Model;
@@ -33,23 +30,15 @@ impl Model for Lane {
     ghost invariant = { λ l. AllByRecursion IsItem l.items.items × AllByRecursion IsShown l.outcomes.items };
 }
 
-fn item_of(line: Option<(Minute, Call)>) -> Item
-    requires within { IfSome line (λ p. p.0 ≤ LAST) }
-    requires form { IfSome line (λ p. CallHasForms p.1) }
-    ensures value { result ≡ spec.item_of line }
-    ensures form { IsItem result }
-{
-    match line {
-        None => Item::Bad,
-        Some((at, call)) => Item::Call { at, call },
-    }
-}
-
 fn read_item(alloc: Global, line: &[u8]) -> Result<Item, OutOfMemory>
-    ensures value { IfOk result (λ i. i ≡ spec.item_of (line_of line.now)) }
+    ensures value { IfOk result (λ i. i ≡ spec.item_of (line_or_fault line.now)) }
     ensures form { IfOk result IsItem }
 {
-    Ok(item_of(read_line(alloc, line)?))
+    match read_line(alloc, line) {
+        Ok((at, call)) => Ok(Item::Call { at, call }),
+        Err(CallFault::Bad(fault)) => Ok(Item::Bad(fault)),
+        Err(CallFault::OutOfMemory) => Err(OutOfMemory),
+    }
 }
 
 fn items_in(alloc: Global, lines: &[Run<'_>]) -> Result<Vec<Item>, OutOfMemory>

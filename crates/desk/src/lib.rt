@@ -1,19 +1,14 @@
-//! The dispatch release desk: opened over kept rows, it answers calls and lanes, and says what its commands come to.
+//! The dispatch release desk: opened over kept rows, it answers calls and lanes.
 #![tactic(auto)]
 
 mod answering;
-mod commands;
 mod lanes;
 mod opening;
 mod run;
-mod saying;
 mod settling;
-mod top;
-mod weather;
-mod words;
 
 pub use answering::{Answered, answer};
 pub use lanes::Lane;
-pub use opening::{OpenFault, OpenWhy, open};
+pub use opening::{OpenFault, OpenWhy, leave, open};
+pub use run::{said_text, text_from};
 pub use settling::Desk;
-pub use top::{Ending, desk_main};

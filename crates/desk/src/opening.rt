@@ -128,8 +128,8 @@ fn keep_changes<K: Keeper>(alloc: Global, keeper: &mut K, changes: &[Change]) ->
 // A board over rows that can't be kept.
 fn let_go(_: Board) {}
 
-/// Tables under which no desk is opened.
-pub(crate) fn leave(_: Tables) {}
+/// Lets go of tables under which no desk is opened.
+pub fn leave(_: Tables) {}
 
 // The board that was restored, once what changed is kept.
 fn finish<K: Keeper>(alloc: Global, keeper: &mut K, restored: Restored) -> Result<Board, OpenWhy>

@@ -1,23 +1,22 @@
-ghost use Rattle.std.specs.Prelude.{◌≡◌, ◌≤◌, ◌++◌, ◌∷◌, [], IfOk, IfSome, OnOk};
+ghost use Rattle.std.specs.Prelude.{◌≡◌, ◌≤◌, ◌++◌, ◌∷◌, [], IfOk, OnOk};
 ghost use Rattle.std.specs.List.{AllByRecursion};
-ghost use Rattle.asks.specs.Forms.{ReplyHasMoment};
 ghost use Rattle.machine.specs.Texts.{closing};
 ghost use Rattle.kept_forms.specs.Formed.{AreFormed};
-ghost use Rattle.desk.specs.Keeping.{item_with, no_choice, GivenBetween, AreGiven, KeepsState};
+ghost use Rattle.desk.specs.Keeping.{item_with, bad_given, GivenBetween, AreGiven, KeepsState};
 ghost use Rattle.desk.specs.Run as spec;
 ghost use Rattle.desk.specs.Run.{texts_of, IsRun};
-ghost use Rattle.desk.specs.Shown.{IsItem, IsShown};
+ghost use Rattle.desk.specs.Shown.{IsItem, IsShown, CanBeSaid};
 
 use crate::answering::{Answered, answer};
 use crate::lanes::Lane;
 use crate::settling::Desk;
 use alerts::Notices;
-use asks::Reply;
+use asks::BadCall;
 use board::Board;
-use desk_io::OutOfMemory;
-use desk_json::reply_text;
+use desk_io::{Copied, OutOfMemory, Text};
+use desk_json::{bad_text, reply_text};
 use keeper::Keeper;
-use machine::{Item, Outcome};
+use machine::{Item, Outcome, Said};
 use rules::Steps;
 use std::alloc::Global;
 use std::sync::ledger::Ledger;
@@ -25,20 +24,21 @@ use std::sync::ledger::Ledger;
 // The lane of a script's calls.
 const LANE: u32 = 1;
 
-fn bad_line(alloc: Global, board: &Board) -> Answered
-    ensures outcome { result.outcome ≡ (item_with no_choice LANE board.now.state Item.Bad).outcome }
-    ensures ticked { result.ticked ≡ [] }
-    ensures called { result.called ≡ [] }
-    ensures shown { IsShown result.outcome }
+fn bad_line(alloc: Global, board: &Board, fault: &BadCall) -> Result<Answered, OutOfMemory>
+    ensures outcome { IfOk result (λ a. a.outcome ≡ (bad_given board.now.state fault.now).outcome) }
+    ensures ticked { IfOk result (λ a. a.ticked ≡ []) }
+    ensures called { IfOk result (λ a. a.called ≡ []) }
+    ensures shown { IfOk result (λ a. IsShown a.outcome) }
 {
-    Answered {
+    let fault = fault.copy(alloc)?;
+    Ok(Answered {
         outcome: Outcome {
             position: board.entries() as u64,
-            reply: None,
+            said: Said::Bad(fault),
         },
         ticked: Notices::new(alloc),
         called: Notices::new(alloc),
-    }
+    })
 }
 
 fn answer_item<K: Keeper, L: Ledger>(
@@ -58,7 +58,7 @@ fn answer_item<K: Keeper, L: Ledger>(
 {
     match item {
         Item::Call { at, call } => answer(alloc, desk, LANE, *at, call, steps),
-        Item::Bad => Ok(bad_line(alloc, &desk.board)),
+        Item::Bad(fault) => bad_line(alloc, &desk.board, fault),
     }
 }
 
@@ -113,22 +113,22 @@ pub(crate) fn run_lane<K: Keeper, L: Ledger>(
     Ok(())
 }
 
-fn push_reply(alloc: Global, out: &mut Vec<u8>, reply: &Option<Reply>) -> Result<(), OutOfMemory>
-    requires { IfSome reply.now ReplyHasMoment }
-    ensures { OnOk result (out.new.items ≡ out.old.items ++ spec.text_of_reply reply.now) }
+/// The JSON of what is said, in one line without its end.
+pub fn said_text(alloc: Global, said: &Said) -> Result<Text, OutOfMemory>
+    requires { CanBeSaid said.now }
+    ensures { IfOk result (λ text. text ≡ spec.said_text said.now) }
 {
-    match reply {
-        None => out.extend_from_slice(b"{\"bad\":\"NotBuilt\",\"key\":\"\"}")?,
-        Some(reply) => out.extend_from_slice(reply_text(alloc, reply)?.bytes())?,
+    match said {
+        Said::Reply(reply) => reply_text(alloc, reply),
+        Said::Bad(fault) => bad_text(alloc, fault),
     }
-    Ok(())
 }
 
 fn push_outcome(alloc: Global, out: &mut Vec<u8>, outcome: &Outcome) -> Result<(), OutOfMemory>
     requires { IsShown outcome.now }
     ensures { OnOk result (out.new.items ≡ out.old.items ++ spec.outcome_text outcome.now) }
 {
-    push_reply(alloc, out, &outcome.reply)?;
+    out.extend_from_slice(said_text(alloc, &outcome.said)?.bytes())?;
     out.push(b'\n')?;
     Ok(())
 }
@@ -162,7 +162,7 @@ fn text_of(alloc: Global, board: &Board, outcomes: &[Outcome]) -> Result<Vec<u8>
 }
 
 /// The text of a run that goes on from what a desk holds: a reply for each line that has a byte, and the closing text.
-pub(crate) fn text_from<K: Keeper, L: Ledger>(
+pub fn text_from<K: Keeper, L: Ledger>(
     alloc: Global,
     desk: &mut Desk<K>,
     script: &[u8],

@@ -9,7 +9,7 @@ use crate::texts::{
     ADMITTED, ADMITTED_SAID, AFTERNOON, AFTERNOON_SAID, DEFERRED, DEFERRED_SAID, DUE, DUE_SAID,
     FAULTY, FAULTY_SAID, FUEL, FUEL_SAID, PEOPLE, PEOPLE_SAID, WEATHER, WEATHER_SAID,
 };
-use desk::desk_main;
+use commands::desk_main;
 use desk_io::{MemoryShelf, MemorySink, OutOfMemory, Text, push_all};
 use keeper::MemoryKeeper;
 use small_airline::{push_small, shelf_of};

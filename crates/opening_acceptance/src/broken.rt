@@ -1,7 +1,7 @@
 ghost use Rattle.std.specs.Prelude.{None};
 
 use crate::runs::{shelf_with_script, words};
-use desk::{Ending, desk_main};
+use commands::{Ending, desk_main};
 use desk_io::{Change, MemorySink, OutOfMemory, Row};
 use keeper::{KeepFault, Keeper};
 use std::alloc::Global;

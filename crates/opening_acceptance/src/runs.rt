@@ -1,5 +1,5 @@
 use crate::texts::{KEPT, REPORT, REPORT_SAID, SWEEP, SWEEP_SAID};
-use desk::{Ending, desk_main};
+use commands::{Ending, desk_main};
 use desk_io::{MemoryShelf, MemorySink, OutOfMemory, Row, Text, push_all};
 use keeper::{MemoryKeeper, is_rising};
 use small_airline::push_small;

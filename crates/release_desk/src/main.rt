@@ -1,7 +1,7 @@
 //! The program of the dispatch release desk.
 #![tactic(auto)]
 
-use desk::desk_main;
+use commands::desk_main;
 use desk_io::{FileShelf, StdoutSink};
 use sqlite_keeper::SqliteKeeper;
 use std::alloc::AllocError;

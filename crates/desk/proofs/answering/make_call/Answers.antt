@@ -1,5 +1,5 @@
 use Rattle.desk.proofs.Asked.{may_be_made}
-use Rattle.desk.proofs.Steps.{settled_is, keeps_as, no_event}
+use Rattle.desk.proofs.Steps.{settled_is, keeps_as, no_event, replies_to}
 use Rattle.desk.proofs.answering.make_call.Goals as goal
 
 pub settle-requires-clause-keeps : goal.settle-requires-clause-keeps
@@ -13,3 +13,7 @@ prepare_change-requires g c = may_be_made _ c.requires
 
 pub returns-clause-still : goal.returns-clause-still
 returns-clause-still g c = λ none. c.settle.ensures.still (no_event _ _ _ c.in_ok-prepared.ensures.stepped none)
+
+pub returns-clause-replied : goal.returns-clause-replied
+returns-clause-replied g c =
+    replies_to _ _ _ _ _ (settled_is _ _ _ _ _ _ _ _ c.in_ok-prepared.ensures.ok c.in_ok-prepared.ensures.stepped c.settle.ensures.settled)

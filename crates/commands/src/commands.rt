@@ -1,23 +1,21 @@
 ghost use Rattle.std.specs.Prelude.{◌≡◌, ◌≢◌, ◌<◌, ◌≤◌, map, string_bytes, All, IfOk, IfSome, None};
 ghost use Rattle.desk_io.specs.Causes.{RoseOrFull};
 ghost use Rattle.desk_io.specs.Told.{HoldsName};
-ghost use Rattle.desk.specs.Answers.{AreKeptFrom, AreKeptOver, telling, left_with, Says, RunSays, SourceSays, ScriptSays, ReportsSay, WhySays, IsRunFrom, IsUntouched, WholeSays, sources_for, sources_of};
+ghost use Rattle.commands.specs.Answers.{AreKeptFrom, AreKeptOver, telling, left_with, Says, RunSays, SourceSays, ScriptSays, ReportsSay, WhySays, IsRunFrom, IsUntouched, WholeSays, sources_for, sources_of};
 ghost use Rattle.kept_forms.specs.Formed.{AreFormed, NamesHaveForms};
 ghost use Rattle.machine.specs.State.{State};
 ghost use Rattle.desk.specs.Keeping.{KeepsState};
 ghost use Rattle.desk.specs.Opening.{IsLeft, TellsRowsOf};
 ghost use Rattle.desk.specs.Run.{IsRun};
-ghost use Rattle.desk.specs.Weather.{weather_text};
-ghost use Rattle.desk.specs.Words.{command_of};
-ghost use Rattle.desk.specs.declared.words.Task.TheVariants as task;
+ghost use Rattle.commands.specs.Weather.{weather_text};
+ghost use Rattle.commands.specs.Words.{command_of};
+ghost use Rattle.commands.specs.declared.words.Task.TheVariants as task;
 
-use crate::opening::{OpenFault, OpenWhy, leave, open};
-use crate::run::text_from;
 use crate::saying::Answer;
-use crate::settling::Desk;
 use crate::weather::text_of_weather;
 use crate::words::{Task, command};
 use board::Board;
+use desk::{Desk, OpenFault, OpenWhy, leave, open, text_from};
 use desk_io::{OutOfMemory, Shelf, WholeFault, read_whole};
 use keeper::Keeper;
 use ops_tables::Tables;

@@ -1,9 +1,9 @@
 use Rattle.std.proofs.Common.{None, refl, inl}
 use Rattle.std.proofs.lemmas.Result.{IfOk-weaker}
-use Rattle.desk.specs.Answers.{telling, left_with}
-use Rattle.desk.proofs.LeftLaws.{why_left}
-use Rattle.desk.proofs.Says.{both_ok, kept_over, run_over, why_said, not_seven}
-use Rattle.desk.proofs.commands.run_with.Goals as goal
+use Rattle.commands.specs.Answers.{telling, left_with}
+use Rattle.commands.proofs.Says.{why_left}
+use Rattle.commands.proofs.Says.{both_ok, kept_over, run_over, why_said, not_seven}
+use Rattle.commands.proofs.commands.run_with.Goals as goal
 
 pub returns-in-Ok-clause-says : goal.returns-in-Ok-clause-says
 returns-in-Ok-clause-says g c =

@@ -1,8 +1,8 @@
 -- Which words form a command.
 use Rattle.std.specs.Prelude.{ℕ, Bool, false, not, ◌==◌, if◌then◌else◌, List, [], ◌∷◌, Option, None, Some, codes}
 use Rattle.std.specs.Str.{bytes_eq}
-use Rattle.desk.specs.declared.words.Task.{Task}
-use Rattle.desk.specs.declared.words.Task.TheVariants.{Run, Weather}
+use Rattle.commands.specs.declared.words.Task.{Task}
+use Rattle.commands.specs.declared.words.Task.TheVariants.{Run, Weather}
 
 -- a word is not empty and doesn't begin with a dash
 abbrev pub is_word : List ℕ → Bool

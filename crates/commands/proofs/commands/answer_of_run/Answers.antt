@@ -2,8 +2,8 @@ use Rattle.std.proofs.Common.{[], ◌∷◌, map}
 use Rattle.desk_io.specs.Told.{HoldsName}
 use Rattle.table_files.specs.Files.{files, name_of}
 use Rattle.kept_forms.proofs.Names.{names_formed}
-use Rattle.desk.proofs.Reading.{held_last, none_missing}
-use Rattle.desk.proofs.commands.answer_of_run.Goals as goal
+use Rattle.commands.proofs.Reading.{held_last, none_missing}
+use Rattle.commands.proofs.commands.answer_of_run.Goals as goal
 
 pub returns-in-Ok-clause-sound : goal.returns-in-Ok-clause-sound
 returns-in-Ok-clause-sound g c = λ sound all.

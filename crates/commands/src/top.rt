@@ -5,8 +5,8 @@ ghost use Rattle.desk_io.specs.Told.{HoldsName};
 ghost use Rattle.kept_forms.specs.Formed.{AreFormed};
 ghost use Rattle.machine.specs.State.{State};
 ghost use Rattle.desk.specs.Opening.{IsLeft, TellsRowsOf};
-ghost use Rattle.desk.specs.Words.{command_of};
-ghost use Rattle.desk.specs.Answers.{AreKeptOver, telling, left_with, Says, Ends, EndsWith, sources_of};
+ghost use Rattle.commands.specs.Words.{command_of};
+ghost use Rattle.commands.specs.Answers.{AreKeptOver, telling, left_with, Says, Ends, EndsWith, sources_of};
 
 use crate::commands::{Said, answer_to};
 use crate::saying::Answer;

@@ -1,8 +1,8 @@
 ghost use Rattle.std.specs.Prelude.{◌≡◌, ◌≤◌, ◌++◌, IfOk, IfSome, OnOk};
 ghost use Rattle.std.specs.Option.{option_map};
 ghost use Rattle.facts.specs.Reading.{read_of, ReadHasMoments};
-ghost use Rattle.desk.specs.Weather as spec;
-ghost use Rattle.desk.specs.Weather.{weather_text};
+ghost use Rattle.commands.specs.Weather as spec;
+ghost use Rattle.commands.specs.Weather.{weather_text};
 
 use codes::{BadReport, ReportFault};
 use desk_io::{LineFeeds, OutOfMemory, Run, Text, push_all, runs_between};

@@ -1,5 +1,5 @@
 ghost use Rattle.std.specs.Prelude.{◌≡◌, ◌++◌, codes, IfOk, OnOk};
-ghost use Rattle.desk.specs.ErrorLines as lines;
+ghost use Rattle.commands.specs.ErrorLines as lines;
 
 use desk_io::{OutOfMemory, Row, push_all};
 use records::RowWhy;

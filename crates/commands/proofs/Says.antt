@@ -10,7 +10,7 @@ use Rattle.ops_tables.specs.Tables.{TableRows}
 use Rattle.records.specs.declared.faults.RowsFault.TheVariants as fault
 use Rattle.reopening.specs.Held.{state_in}
 use Rattle.reopening.specs.Opening.{reopened}
-use Rattle.desk.specs.Answers.{AreKeptFrom, AreKeptOver, Telling, telling, Left, HasNoBoard, ScriptSays, WhySays, IsRunWith, IsRunOver, IsRunFrom}
+use Rattle.commands.specs.Answers.{AreKeptFrom, AreKeptOver, Telling, telling, Left, HasNoBoard, ScriptSays, WhySays, IsRunWith, IsRunOver, IsRunFrom}
 use Rattle.desk.specs.Keeping.{numbers_of}
 use Rattle.desk.specs.Opening.{IsWhy, IsNoKeeperFault, IsOpened}
 use Rattle.desk.specs.Run.{IsRun}
@@ -85,3 +85,10 @@ kept_over tables before start (Some b) after opened kept = record {
   opening = kept.0 ∙ ap (λ (x : Shown). x.opening) opened.shows;
   kept = kept.1;
 }
+
+-- a fault of the keeper isn't told as one of rows
+pub why_left : (rose : Type 0) (why : OpenWhy) (status : ℕ) (text : List ℕ) → IsOfKeeper rose why → WhySays why status text → status ≢ 7
+why_left rose KeeperFault status text is says = let five = says.0 in λ e. omega (arith, five, e)
+why_left rose (BadRow row why) status text is says = absurd is
+why_left rose (BadPair one two) status text is says = absurd is
+why_left rose OutOfMemory status text is says = absurd says

@@ -1,8 +1,8 @@
 use Rattle.std.proofs.Common.{subst, sym}
 use Rattle.std.specs.Prelude.{All}
 use Rattle.desk_io.specs.Told.{HoldsName}
-use Rattle.desk.specs.Answers.{sources_of}
-use Rattle.desk.proofs.commands.answer_to.Goals as goal
+use Rattle.commands.specs.Answers.{sources_of}
+use Rattle.commands.proofs.commands.answer_to.Goals as goal
 
 pub returns-in-Some-Run-default-clause-sound : goal.returns-in-Some-Run-default-clause-sound
 returns-in-Some-Run-default-clause-sound g c = λ sound all.

@@ -1,0 +1,4 @@
+pub mod Words
+pub mod ErrorLines
+pub mod Weather
+pub mod Answers
