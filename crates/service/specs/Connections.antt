@@ -1,0 +1,170 @@
+-- What is answered over a connection, from its first request to its end.
+use Rattle.std.specs.Prelude.{◌≡◌, ◌≢◌, ◌⊎◌, ◌≤◌, ℕ, Bool, true, false, List, [], ◌∷◌, ◌++◌, map, codes, Option, None, Some}
+use Rattle.std.specs.List.{AllByRecursion}
+use Rattle.desk.specs.Keeping.{Choice, Counted}
+use Rattle.desk.specs.Settled.{MayHaveTicked}
+use Rattle.desk_http.specs.Requests.{BeginsWithRequest, GivesNone}
+use Rattle.desk_http.specs.declared.wire.Wire.{Wire}
+use Rattle.desk_http.specs.declared.wire.WireFault.TheVariants as fault
+use Rattle.desk_net.specs.Wires.{Wire as Line}
+use Rattle.machine.specs.State.{State}
+use Rattle.service.specs.Exchanges.{Exchanged, exchanged, bytes_of, failing}
+use Rattle.service.specs.Requested.{requested_by}
+use Rattle.service.specs.Steps.{IsCall, IsRead, OnCall}
+use Rattle.service.specs.declared.responses.Response.{Response}
+use Rattle.service.specs.declared.serving.Served.{Served}
+use Rattle.service.specs.declared.serving.Served.TheVariants as served
+
+-- A request that was answered: the moment at which its call was made, and where the keeper failed. Of a request that is no call
+-- both say nothing.
+pub record Exchange : Type 0 where
+  pub wire : Wire
+  pub at : ℕ
+  pub choice : Choice
+
+-- what came of it
+abbrev pub exchange : ℕ → State → Exchange → Exchanged
+exchange lane s x = exchanged x.choice lane s x.at (requested_by x.wire)
+
+-- the state after requests, each in its turn
+abbrev pub state_after : ℕ → State → List Exchange → State
+state_after lane s [] = s
+state_after lane s (x ∷ xs) = state_after lane (exchange lane s x).state xs
+
+-- the bytes of their responses, each in its turn
+abbrev pub responses : ℕ → State → List Exchange → List ℕ
+responses lane s [] = []
+responses lane s (x ∷ xs) = bytes_of (exchange lane s x).response ++ responses lane (exchange lane s x).state xs
+
+-- bytes are these requests, and then what is left
+abbrev pub AreRequests : List ℕ → List Exchange → List ℕ → Type 0
+AreRequests bytes [] left = left ≡ bytes
+AreRequests bytes (x ∷ xs) left = (rest : List ℕ) × BeginsWithRequest bytes x.wire rest × AreRequests rest xs left
+
+-- a call was made at one of the clock's moments
+abbrev pub IsTimed : Option (List ℕ) → Exchange → Type 0
+IsTimed moments x = OnCall (requested_by x.wire) (IsRead moments x.at)
+
+-- a request after which the connection goes on
+abbrev pub IsOpen : Exchange → Type 0
+IsOpen x = x.wire.last ≡ false
+
+-- the last of them ends the connection
+abbrev pub EndsIt : List Exchange → Type 0
+EndsIt [] = ⊥
+EndsIt (x ∷ []) = x.wire.last ≡ true
+EndsIt (x ∷ y ∷ ys) = EndsIt (y ∷ ys)
+
+-- all but the last go on
+abbrev pub GoOn : List Exchange → Type 0
+GoOn [] = Unit {0}
+GoOn (x ∷ []) = Unit {0}
+GoOn (x ∷ y ∷ ys) = IsOpen x × GoOn (y ∷ ys)
+
+-- a front of bytes
+abbrev pub IsFrontOf : List ℕ → List ℕ → Type 0
+IsFrontOf whole piece = (more : List ℕ) × (whole ≡ piece ++ more)
+
+-- An answer was written whole, or a front of it, where the link failed.
+abbrev pub IsWritten : Type 0 → Response → List ℕ → Type 0
+IsWritten rose r piece = (piece ≡ bytes_of r) ⊎ (rose × IsFrontOf (bytes_of r) piece)
+
+-- where bytes are told, they have the property
+abbrev pub OnTold : Option (List ℕ) → (List ℕ → Type 0) → Type 0
+OnTold None P = Unit {0}
+OnTold (Some bytes) P = P bytes
+
+-- the bytes begin with a request for a call
+abbrev pub AsksCall : List ℕ → Type 0
+AsksCall bytes = (wire : Wire) × (rest : List ℕ) × BeginsWithRequest bytes wire rest × IsCall (requested_by wire)
+
+-- the answers that end a connection
+abbrev pub bad_head : Response
+bad_head = failing 400 (codes "BadHead")
+
+abbrev pub too_large : Response
+too_large = failing 413 (codes "TooLarge")
+
+abbrev pub no_length : Response
+no_length = failing 411 (codes "NoLength")
+
+abbrev pub wrong_method : Response
+wrong_method = failing 405 (codes "WrongMethod")
+
+abbrev pub clock_fault : Response
+clock_fault = failing 503 (codes "ClockFault")
+
+abbrev pub out_of_memory : Response
+out_of_memory = failing 500 (codes "OutOfMemory")
+
+-- ---- how a connection ends
+
+-- nothing was answered beyond what was written whole
+abbrev pub NoMore : List Exchange → State → State → Type 0
+NoMore more u t = (more ≡ []) × (t ≡ u)
+
+-- one request more was answered
+abbrev pub OneMore : ℕ → List Exchange → State → State → Exchange → Type 0
+OneMore lane more u t x = (more ≡ x ∷ []) × (t ≡ (exchange lane u x).state)
+
+-- where memory ran out: as before, or after the tick of a call, or after a request more
+abbrev pub MayHaveMore : ℕ → Option (List ℕ) → List Exchange → State → State → Type 0
+MayHaveMore lane moments more u t =
+    ((more ≡ []) × ((t ≡ u) ⊎ ((at : ℕ) × IsRead moments at × MayHaveTicked lane at u t)))
+    ⊎ ((x : Exchange) × OneMore lane more u t x)
+
+-- How a connection ends, where `xs` were answered whole, and `more` is a request more, if it was answered too: on the bytes that are
+-- left, with the state then, and with what was written after the whole responses. `link` and `clock` stand for a count that rose.
+abbrev pub Ends : ℕ → Option (List ℕ) → Type 0 → Type 0 → List Exchange → List Exchange → Option (List ℕ) → State → Served → State → List ℕ → Type 0
+Ends lane moments link clock xs more left u served.Ended t piece = NoMore more u t × (EndsIt xs ⊎ OnTold left (λ b. GivesNone b fault.End)) × (piece ≡ [])
+Ends lane moments link clock xs more left u served.Cut t piece = NoMore more u t × OnTold left (λ b. GivesNone b fault.Cut) × (piece ≡ [])
+Ends lane moments link clock xs more left u served.BadHead t piece = NoMore more u t × OnTold left (λ b. GivesNone b fault.BadHead) × IsWritten link bad_head piece
+Ends lane moments link clock xs more left u served.TooLarge t piece = NoMore more u t × OnTold left (λ b. GivesNone b fault.TooLarge) × IsWritten link too_large piece
+Ends lane moments link clock xs more left u served.NoLength t piece = NoMore more u t × OnTold left (λ b. GivesNone b fault.NoLength) × IsWritten link no_length piece
+Ends lane moments link clock xs more left u served.WrongMethod t piece = NoMore more u t × OnTold left (λ b. GivesNone b fault.WrongMethod) × IsWritten link wrong_method piece
+Ends lane moments link clock xs more left u served.ReadFault t piece = NoMore more u t × link × (piece ≡ [])
+Ends lane moments link clock xs more left u served.WriteFault t piece =
+    link × ((x : Exchange) × OneMore lane more u t x × IsFrontOf (bytes_of (exchange lane u x).response) piece)
+Ends lane moments link clock xs more left u served.ClockFault t piece = NoMore more u t × clock × OnTold left AsksCall × (IsWritten link clock_fault piece ⊎ (piece ≡ []))
+Ends lane moments link clock xs more left u served.OutOfMemory t piece = MayHaveMore lane moments more u t × IsFrontOf (bytes_of out_of_memory) piece
+
+-- of bytes and of what is left of them, where both are told
+abbrev pub OnBoth : Option (List ℕ) → Option (List ℕ) → (List ℕ → List ℕ → Type 0) → Type 0
+OnBoth None None P = Unit {0}
+OnBoth (Some bytes) (Some left) P = P bytes left
+OnBoth _ _ P = ⊥
+
+-- A connection of a lane, from a state to another: its requests, all but the last of which go on, each call at one of the clock's
+-- moments, under choices that the keeper's counts allow; the text is the responses to those that were answered whole, and how it ended.
+pub record IsConnection (lane : ℕ) (moments : Option (List ℕ)) (link clock : Type 0) (before after : ℕ) (s : State) (bytes : Option (List ℕ)) (served : Served) (t : State) (text : List ℕ) : Type 0 where
+  pub xs : List Exchange
+  pub more : List Exchange
+  pub left : Option (List ℕ)
+  pub piece : List ℕ
+  pub requests : OnBoth bytes left (λ b l. AreRequests b (xs ++ more) l)
+  pub timed : AllByRecursion (IsTimed moments) (xs ++ more)
+  pub open : GoOn (xs ++ more)
+  pub counted : Counted before (map (λ x. x.choice) (xs ++ more)) after
+  pub says : text ≡ responses lane s xs ++ piece
+  pub ends : Ends lane moments link clock xs more left (state_after lane s xs) served t piece
+
+-- requests after which the connection goes on, all answered whole
+pub record GoesOn (lane : ℕ) (moments : Option (List ℕ)) (before after : ℕ) (s : State) (bytes : Option (List ℕ)) (left : Option (List ℕ)) (t : State) (text : List ℕ) : Type 0 where
+  pub xs : List Exchange
+  pub requests : OnBoth bytes left (λ b l. AreRequests b xs l)
+  pub timed : AllByRecursion (IsTimed moments) xs
+  pub open : AllByRecursion IsOpen xs
+  pub counted : Counted before (map (λ x. x.choice) xs) after
+  pub says : text ≡ responses lane s xs
+  pub state : t ≡ state_after lane s xs
+
+-- one step of a connection: it goes on, or it ends
+abbrev pub IsStep : ℕ → Option (List ℕ) → Type 0 → Type 0 → ℕ → ℕ → State → Option (List ℕ) → Option (List ℕ) → State → List ℕ → Option Served → Type 0
+IsStep lane moments link clock before after s bytes left t text None = GoesOn lane moments before after s bytes left t text
+IsStep lane moments link clock before after s bytes left t text (Some served) = IsConnection lane moments link clock before after s bytes served t text
+
+-- a link gained a text, where it tells
+abbrev pub Gains : Option Line → Option Line → List ℕ → Type 0
+Gains None None text = Unit {0}
+Gains (Some old) (Some new) text = (new.input ≡ old.input) × (new.written ≡ old.written ++ text)
+Gains _ _ text = ⊥

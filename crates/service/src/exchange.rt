@@ -1,0 +1,117 @@
+ghost use Rattle.std.specs.Prelude.{◌≡◌, ◌≤◌, IfOk};
+ghost use Rattle.http.specs.StatusCode.{IsStatusCode};
+ghost use Rattle.plan_json.specs.Canonical.{CallHasForms};
+ghost use Rattle.kept_forms.specs.Formed.{AreFormed};
+ghost use Rattle.desk.specs.Keeping.{KeepsState};
+ghost use Rattle.desk_io.specs.Causes.{RoseOrFull};
+ghost use Rattle.service.specs.Forms.{RequestedHasForms};
+ghost use Rattle.service.specs.Requested.{requested_by as request_of};
+ghost use Rattle.service.specs.Steps.{AnswersTo, TextAnswersTo, ClockGoesOn};
+ghost use Rattle.service.specs.declared.exchange.NoAnswer.TheVariants.{OutOfMemory as NoMemory};
+
+use crate::requested::{Requested, requested_by};
+use crate::responses::Response;
+use asks::Call;
+use desk::{Desk, answer};
+use desk_http::Wire;
+use desk_io::{OutOfMemory, Text};
+use desk_net::Clock;
+use keeper::Keeper;
+use rules::Steps;
+use std::alloc::Global;
+use std::sync::ledger::Ledger;
+
+/// Why a request has no response.
+#[derive(Clone, Copy, Debug, PartialEq, Eq)]
+pub enum NoAnswer {
+    /// The clock failed, and counted it.
+    ClockFault,
+    /// Memory ran out.
+    OutOfMemory,
+}
+
+impl From<OutOfMemory> for NoAnswer {
+    ghost from_gives = { λ _ e. e ≡ NoMemory };
+
+    fn from(_: OutOfMemory) -> Self {
+        NoAnswer::OutOfMemory
+    }
+}
+
+// A call is made at the clock's moment.
+fn reply_to<K: Keeper, C: Clock, L: Ledger>(
+    alloc: Global,
+    desk: &mut Desk<K>,
+    lane: u32,
+    clock: &mut C,
+    call: &Call,
+    steps: &mut Steps<L>,
+) -> Result<Response, NoAnswer>
+    requires { CallHasForms call.now }
+    ensures answers { AnswersTo lane (C.moments clock.old) (RoseOrFull (C.fault_count clock.old) (C.fault_count clock.new)) (K.fault_count desk.old.keeper) (K.fault_count desk.new.keeper) desk.old.board.state (Requested.Call call.now) desk.new.board.state result }
+    ensures code { IfOk result (λ r. IsStatusCode r.status) }
+    ensures opening { desk.new.board.opening ≡ desk.old.board.opening }
+    ensures rows { KeepsState (K.told desk.old.keeper) desk.old.board.state → KeepsState (K.told desk.new.keeper) desk.new.board.state }
+    ensures later { K.fault_count desk.old.keeper ≤ K.fault_count desk.new.keeper }
+    ensures sound { K.sound desk.old.keeper → K.sound desk.new.keeper × (K.fault_count desk.new.keeper ≡ K.fault_count desk.old.keeper) }
+    ensures formed { AreFormed desk.old.board.state → AreFormed desk.new.board.state }
+    ensures moments { C.moments clock.new ≡ C.moments clock.old }
+    ensures clock { ClockGoesOn (C.sound clock.old) (C.sound clock.new) (C.fault_count clock.old) (C.fault_count clock.new) }
+{
+    let Ok(at) = clock.now() else {
+        return Err(NoAnswer::ClockFault);
+    };
+    let answered = answer(alloc, desk, lane, at, call, steps)?;
+    Ok(Response::of_said(alloc, &answered.outcome.said)?)
+}
+
+// What is answered to what a request asks.
+fn respond<K: Keeper, C: Clock, L: Ledger>(
+    alloc: Global,
+    desk: &mut Desk<K>,
+    lane: u32,
+    clock: &mut C,
+    requested: &Requested,
+    steps: &mut Steps<L>,
+) -> Result<Response, NoAnswer>
+    requires { RequestedHasForms requested.now }
+    ensures answers { AnswersTo lane (C.moments clock.old) (RoseOrFull (C.fault_count clock.old) (C.fault_count clock.new)) (K.fault_count desk.old.keeper) (K.fault_count desk.new.keeper) desk.old.board.state requested.now desk.new.board.state result }
+    ensures code { IfOk result (λ r. IsStatusCode r.status) }
+    ensures opening { desk.new.board.opening ≡ desk.old.board.opening }
+    ensures rows { KeepsState (K.told desk.old.keeper) desk.old.board.state → KeepsState (K.told desk.new.keeper) desk.new.board.state }
+    ensures later { K.fault_count desk.old.keeper ≤ K.fault_count desk.new.keeper }
+    ensures sound { K.sound desk.old.keeper → K.sound desk.new.keeper × (K.fault_count desk.new.keeper ≡ K.fault_count desk.old.keeper) }
+    ensures formed { AreFormed desk.old.board.state → AreFormed desk.new.board.state }
+    ensures moments { C.moments clock.new ≡ C.moments clock.old }
+    ensures clock { ClockGoesOn (C.sound clock.old) (C.sound clock.new) (C.fault_count clock.old) (C.fault_count clock.new) }
+{
+    match requested {
+        Requested::Call(call) => reply_to(alloc, desk, lane, clock, call, steps),
+        Requested::Bad(fault) => Ok(Response::of_bad(alloc, fault)?),
+        Requested::NoRoute => Ok(Response::no_route(alloc)?),
+        Requested::WrongMethod => Ok(Response::wrong_method(alloc)?),
+    }
+}
+
+/// The bytes that answer a request.
+pub fn exchange<K: Keeper, C: Clock, L: Ledger>(
+    alloc: Global,
+    desk: &mut Desk<K>,
+    lane: u32,
+    clock: &mut C,
+    wire: &Wire,
+    steps: &mut Steps<L>,
+) -> Result<Text, NoAnswer>
+    ensures answers { TextAnswersTo lane (C.moments clock.old) (RoseOrFull (C.fault_count clock.old) (C.fault_count clock.new)) (K.fault_count desk.old.keeper) (K.fault_count desk.new.keeper) desk.old.board.state (request_of wire.now) desk.new.board.state result }
+    ensures opening { desk.new.board.opening ≡ desk.old.board.opening }
+    ensures rows { KeepsState (K.told desk.old.keeper) desk.old.board.state → KeepsState (K.told desk.new.keeper) desk.new.board.state }
+    ensures later { K.fault_count desk.old.keeper ≤ K.fault_count desk.new.keeper }
+    ensures sound { K.sound desk.old.keeper → K.sound desk.new.keeper × (K.fault_count desk.new.keeper ≡ K.fault_count desk.old.keeper) }
+    ensures formed { AreFormed desk.old.board.state → AreFormed desk.new.board.state }
+    ensures moments { C.moments clock.new ≡ C.moments clock.old }
+    ensures clock { ClockGoesOn (C.sound clock.old) (C.sound clock.new) (C.fault_count clock.old) (C.fault_count clock.new) }
+{
+    let requested = requested_by(alloc, wire)?;
+    let response = respond(alloc, desk, lane, clock, &requested, steps)?;
+    Ok(response.bytes(alloc)?)
+}

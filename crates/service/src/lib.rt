@@ -1,0 +1,10 @@
+//! The desk over HTTP: what each request of a connection is answered, and how connections end.
+#![tactic(auto)]
+
+mod exchange;
+mod requested;
+mod responses;
+mod serving;
+mod statuses;
+
+pub use serving::{Served, serve_link};

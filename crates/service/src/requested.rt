@@ -1,0 +1,94 @@
+ghost use Rattle.std.specs.Prelude.{◌≡◌, IfOk};
+ghost use Rattle.desk_json.specs.Faults.{call_or_fault};
+ghost use Rattle.service.specs.Requested as spec;
+ghost use Rattle.service.specs.Forms.{RequestedHasForms};
+
+use asks::{Ask, BadCall, Call};
+use desk_http::{RouteFault, Routed, Wire, route};
+use desk_io::{OutOfMemory, Text};
+use desk_json::{CallFault, read_call};
+use std::alloc::Global;
+use std::str;
+
+/// What a request asks of the desk.
+#[derive(Debug, Drop)]
+pub enum Requested {
+    /// A call.
+    Call(Call),
+    /// A text that is no call, and its first fault.
+    Bad(BadCall),
+    /// A path that names nothing.
+    NoRoute,
+    /// A path that names something by the other method.
+    WrongMethod,
+}
+
+fn is_short(text: &[u8]) -> bool
+    ensures { result ≡ spec.is_short text.now }
+{
+    str::from_utf8(text).is_ok() && text.len() <= 64
+}
+
+// A name or a key of a view. What is no text of at most 64 bytes is taken as empty.
+fn short_or_empty(alloc: Global, text: &[u8]) -> Result<Text, OutOfMemory>
+    ensures { IfOk result (λ t. t ≡ spec.short_or_empty text.now) }
+{
+    if is_short(text) {
+        Text::of(alloc, text)
+    } else {
+        Text::of(alloc, b"")
+    }
+}
+
+// A view that is asked for by the name and the key of a request's head.
+fn view_by(alloc: Global, wire: &Wire, ask: Ask) -> Result<Requested, OutOfMemory>
+    ensures { IfOk result (λ r. r ≡ spec.viewed wire.now ask) }
+{
+    let actor = short_or_empty(alloc, wire.actor.bytes())?;
+    let key = short_or_empty(alloc, wire.key.bytes())?;
+    Ok(Requested::Call(Call {
+        actor,
+        key,
+        number: 0,
+        ask,
+    }))
+}
+
+// The call that a body is, or its first fault.
+fn of_text(alloc: Global, body: &[u8]) -> Result<Requested, OutOfMemory>
+    ensures { IfOk result (λ r. r ≡ spec.of_text (call_or_fault body.now)) }
+{
+    match read_call(alloc, body) {
+        Ok(call) => Ok(Requested::Call(call)),
+        Err(CallFault::Bad(fault)) => Ok(Requested::Bad(fault)),
+        Err(CallFault::OutOfMemory) => Err(OutOfMemory),
+    }
+}
+
+fn asked_by(alloc: Global, wire: &Wire, routed: Routed) -> Result<Requested, OutOfMemory>
+    ensures { IfOk result (λ r. r ≡ spec.asked_by wire.now routed) }
+{
+    match routed {
+        Routed::Post => of_text(alloc, wire.body.bytes()),
+        Routed::Board => view_by(alloc, wire, Ask::ViewBoard),
+        Routed::Alerts => view_by(alloc, wire, Ask::ViewAlerts),
+        Routed::Release(release) => view_by(alloc, wire, Ask::ViewRelease { release }),
+        Routed::Weather(station) => view_by(alloc, wire, Ask::ViewWeather { station }),
+        Routed::Deferred(tail) => view_by(alloc, wire, Ask::ViewDeferred { tail }),
+    }
+}
+
+/// What a request asks of the desk. The path comes first, then the method. A view is asked for by the name and the key
+/// of the request's head, under the number 0.
+#[tactic(auto, unfolding(crate::specs::Requested::requested_by))]
+pub fn requested_by(alloc: Global, wire: &Wire) -> Result<Requested, OutOfMemory>
+    ensures asked { IfOk result (λ r. r ≡ spec.requested_by wire.now) }
+    ensures forms { IfOk result RequestedHasForms }
+{
+    match route(alloc, wire) {
+        Ok(routed) => asked_by(alloc, wire, routed),
+        Err(RouteFault::NoRoute) => Ok(Requested::NoRoute),
+        Err(RouteFault::WrongMethod) => Ok(Requested::WrongMethod),
+        Err(RouteFault::OutOfMemory) => Err(OutOfMemory),
+    }
+}

@@ -1,0 +1,117 @@
+ghost use Rattle.std.specs.Prelude.{◌≡◌, codes, IfOk};
+ghost use Rattle.desk.specs.Run.{said_text as text_said};
+ghost use Rattle.desk.specs.Shown.{CanBeSaid};
+ghost use Rattle.desk_json.specs.Replies.{bad_text as text_of_bad};
+ghost use Rattle.http.specs.StatusCode.{IsStatusCode};
+ghost use Rattle.service.specs.Exchanges as spec;
+ghost use Rattle.service.specs.Connections as ends;
+ghost use Rattle.service.specs.Statuses as statuses;
+
+use crate::statuses::status_of;
+use asks::BadCall;
+use desk::said_text;
+use desk_http::response;
+use desk_io::{OutOfMemory, Text};
+use desk_json::bad_text;
+use machine::Said;
+use std::alloc::Global;
+
+/// What is answered to a request: a status of three digits, and a JSON body.
+#[derive(Drop)]
+pub struct Response {
+    pub status: u16,
+    pub body: Text,
+}
+
+impl Response {
+    /// The bytes of the response.
+    pub fn bytes(&self, alloc: Global) -> Result<Text, OutOfMemory>
+        requires { IsStatusCode self.now.status }
+        ensures { IfOk result (λ text. text ≡ spec.bytes_of self.now) }
+    {
+        response(alloc, self.status, self.body.bytes())
+    }
+
+    /// What is said of a call.
+    pub fn of_said(alloc: Global, said: &Said) -> Result<Response, OutOfMemory>
+        requires { CanBeSaid said.now }
+        ensures status { IfOk result (λ r. r.status ≡ statuses.status_of said.now) }
+        ensures body { IfOk result (λ r. r.body ≡ text_said said.now) }
+        ensures code { IfOk result (λ r. IsStatusCode r.status) }
+    {
+        let body = said_text(alloc, said)?;
+        Ok(Response {
+            status: status_of(said),
+            body,
+        })
+    }
+
+    /// The first fault of a text that is no call.
+    pub fn of_bad(alloc: Global, fault: &BadCall) -> Result<Response, OutOfMemory>
+        ensures status { IfOk result (λ r. r.status ≡ 400) }
+        ensures body { IfOk result (λ r. r.body ≡ text_of_bad fault.now) }
+    {
+        let body = bad_text(alloc, fault)?;
+        Ok(Response { status: 400, body })
+    }
+
+    /// A path that names nothing.
+    pub fn no_route(alloc: Global) -> Result<Response, OutOfMemory>
+        ensures { IfOk result (λ r. r ≡ spec.failing 404 (codes "NoRoute")) }
+    {
+        let body = Text::of(alloc, b"{\"error\":\"NoRoute\"}")?;
+        Ok(Response { status: 404, body })
+    }
+
+    /// A path that names something by the other method.
+    pub fn wrong_method(alloc: Global) -> Result<Response, OutOfMemory>
+        ensures { IfOk result (λ r. r ≡ spec.failing 405 (codes "WrongMethod")) }
+    {
+        let body = Text::of(alloc, b"{\"error\":\"WrongMethod\"}")?;
+        Ok(Response { status: 405, body })
+    }
+}
+
+// The answers that end a connection are fixed bytes, so that they take no memory.
+
+#[tactic(auto, unfolding(desk_http::specs::Responses::response))]
+pub fn bad_head() -> &'static [u8]
+    ensures { result.now ≡ spec.bytes_of ends.bad_head }
+{
+    b"HTTP/1.1 400 Bad Request\r\nContent-Type: application/json\r\nContent-Length: 19\r\n\r\n{\"error\":\"BadHead\"}"
+}
+
+#[tactic(auto, unfolding(desk_http::specs::Responses::response))]
+pub fn too_large() -> &'static [u8]
+    ensures { result.now ≡ spec.bytes_of ends.too_large }
+{
+    b"HTTP/1.1 413 Payload Too Large\r\nContent-Type: application/json\r\nContent-Length: 20\r\n\r\n{\"error\":\"TooLarge\"}"
+}
+
+#[tactic(auto, unfolding(desk_http::specs::Responses::response))]
+pub fn no_length() -> &'static [u8]
+    ensures { result.now ≡ spec.bytes_of ends.no_length }
+{
+    b"HTTP/1.1 411 Length Required\r\nContent-Type: application/json\r\nContent-Length: 20\r\n\r\n{\"error\":\"NoLength\"}"
+}
+
+#[tactic(auto, unfolding(desk_http::specs::Responses::response))]
+pub fn wrong_method() -> &'static [u8]
+    ensures { result.now ≡ spec.bytes_of ends.wrong_method }
+{
+    b"HTTP/1.1 405 Method Not Allowed\r\nContent-Type: application/json\r\nContent-Length: 23\r\n\r\n{\"error\":\"WrongMethod\"}"
+}
+
+#[tactic(auto, unfolding(desk_http::specs::Responses::response))]
+pub fn clock_fault() -> &'static [u8]
+    ensures { result.now ≡ spec.bytes_of ends.clock_fault }
+{
+    b"HTTP/1.1 503 Service Unavailable\r\nContent-Type: application/json\r\nContent-Length: 22\r\n\r\n{\"error\":\"ClockFault\"}"
+}
+
+#[tactic(auto, unfolding(desk_http::specs::Responses::response))]
+pub fn out_of_memory() -> &'static [u8]
+    ensures { result.now ≡ spec.bytes_of ends.out_of_memory }
+{
+    b"HTTP/1.1 500 Internal Server Error\r\nContent-Type: application/json\r\nContent-Length: 23\r\n\r\n{\"error\":\"OutOfMemory\"}"
+}

@@ -1,0 +1,186 @@
+ghost use Rattle.std.specs.Prelude.{◌≡◌, ◌≤◌, ◌⊎◌, []};
+ghost use Rattle.desk.specs.Keeping.{KeepsState};
+ghost use Rattle.desk_http.specs.Requests.{unread, unused};
+ghost use Rattle.desk_io.specs.Causes.{RoseOrFull};
+ghost use Rattle.kept_forms.specs.Formed.{AreFormed};
+ghost use Rattle.service.specs.Connections.{IsConnection, IsStep, IsWritten, clock_fault as clock_response};
+ghost use Rattle.service.specs.Exchanges.{bytes_of};
+ghost use Rattle.service.specs.Serving.{EndsAs, EndsWithout, LinkGoesOn, ServesRequest, WritesAll, Wrote};
+ghost use Rattle.service.specs.Steps.{ClockGoesOn};
+ghost use Rattle.service.specs.declared.responses.Response.{Response as AResponse};
+
+use crate::exchange::{NoAnswer, exchange};
+use crate::responses::{
+    bad_head, clock_fault, no_length, out_of_memory, too_large, wrong_method,
+};
+use desk::Desk;
+use desk_http::{Buffer, Wire, WireFault, next_request};
+use desk_io::PutFault;
+use desk_net::{Clock, Link};
+use keeper::Keeper;
+use rules::Steps;
+use std::alloc::Global;
+use std::sync::Wait;
+use std::sync::ledger::Ledger;
+
+/// How a connection ended.
+#[derive(Clone, Copy, Debug, PartialEq, Eq)]
+pub enum Served {
+    /// The link ended after a whole request, or a request that was to be the last was answered.
+    Ended,
+    /// The link ended within a request.
+    Cut,
+    /// What came makes no head.
+    BadHead,
+    /// A head or a body was too large.
+    TooLarge,
+    /// The length of a body wasn't stated as it must be.
+    NoLength,
+    /// The method was neither GET nor POST.
+    WrongMethod,
+    /// The link failed while it was read.
+    ReadFault,
+    /// The link failed while a response was written.
+    WriteFault,
+    /// The clock failed.
+    ClockFault,
+    /// Memory ran out.
+    OutOfMemory,
+}
+
+// Writes the answer that ends a connection. A link that fails now doesn't change why it ends.
+fn end_by<N: Link>(link: &mut N, text: &[u8], served: Served) -> Served
+    ensures wrote { (r : AResponse) → text.now ≡ bytes_of r → Wrote (N.told link.old) (N.told link.new) (EndsAs (RoseOrFull (N.fault_count link.old) (N.fault_count link.new)) served r result) }
+    ensures link { LinkGoesOn (N.sound link.old) (N.sound link.new) (N.fault_count link.old) (N.fault_count link.new) }
+{
+    match link.write(text) {
+        Ok(()) | Err(PutFault::Failed) => served,
+        Err(PutFault::OutOfMemory) => Served::OutOfMemory,
+    }
+}
+
+// After a fault of the clock the connection ends by it, whatever comes of the answer.
+fn end_by_clock<N: Link>(link: &mut N)
+    ensures wrote { Wrote (N.told link.old) (N.told link.new) (λ piece. IsWritten (RoseOrFull (N.fault_count link.old) (N.fault_count link.new)) clock_response piece ⊎ (piece ≡ [])) }
+    ensures link { LinkGoesOn (N.sound link.old) (N.sound link.new) (N.fault_count link.old) (N.fault_count link.new) }
+{
+    let _ = link.write(clock_fault());
+}
+
+// There is no further request.
+fn end_without<N: Link>(link: &mut N, fault: WireFault) -> Served
+    ensures wrote { Wrote (N.told link.old) (N.told link.new) (EndsWithout (RoseOrFull (N.fault_count link.old) (N.fault_count link.new)) fault result) }
+    ensures link { LinkGoesOn (N.sound link.old) (N.sound link.new) (N.fault_count link.old) (N.fault_count link.new) }
+{
+    match fault {
+        WireFault::End => Served::Ended,
+        WireFault::Cut => Served::Cut,
+        WireFault::ReadFault => Served::ReadFault,
+        WireFault::BadHead => end_by(link, bad_head(), Served::BadHead),
+        WireFault::TooLarge => end_by(link, too_large(), Served::TooLarge),
+        WireFault::NoLength => end_by(link, no_length(), Served::NoLength),
+        WireFault::WrongMethod => end_by(link, wrong_method(), Served::WrongMethod),
+        WireFault::OutOfMemory => end_by(link, out_of_memory(), Served::OutOfMemory),
+    }
+}
+
+// Writes a response. The connection ends where that fails, or where its request was to be the last.
+fn write_response<N: Link>(link: &mut N, bytes: &[u8], last: bool) -> Option<Served>
+    ensures wrote { Wrote (N.told link.old) (N.told link.new) (WritesAll (RoseOrFull (N.fault_count link.old) (N.fault_count link.new)) bytes.now last result) }
+    ensures link { LinkGoesOn (N.sound link.old) (N.sound link.new) (N.fault_count link.old) (N.fault_count link.new) }
+{
+    match link.write(bytes) {
+        Ok(()) if last => Some(Served::Ended),
+        Ok(()) => None,
+        Err(PutFault::Failed) => Some(Served::WriteFault),
+        Err(PutFault::OutOfMemory) => Some(Served::OutOfMemory),
+    }
+}
+
+fn serve_request<K: Keeper, N: Link, C: Clock, L: Ledger>(
+    alloc: Global,
+    desk: &mut Desk<K>,
+    lane: u32,
+    link: &mut N,
+    clock: &mut C,
+    wire: &Wire,
+    steps: &mut Steps<L>,
+) -> Option<Served>
+    ensures serves { Wrote (N.told link.old) (N.told link.new) (ServesRequest lane (C.moments clock.old) (RoseOrFull (N.fault_count link.old) (N.fault_count link.new)) (RoseOrFull (C.fault_count clock.old) (C.fault_count clock.new)) (K.fault_count desk.old.keeper) (K.fault_count desk.new.keeper) desk.old.board.state wire.now desk.new.board.state result) }
+    ensures opening { desk.new.board.opening ≡ desk.old.board.opening }
+    ensures rows { KeepsState (K.told desk.old.keeper) desk.old.board.state → KeepsState (K.told desk.new.keeper) desk.new.board.state }
+    ensures later { K.fault_count desk.old.keeper ≤ K.fault_count desk.new.keeper }
+    ensures sound { K.sound desk.old.keeper → K.sound desk.new.keeper × (K.fault_count desk.new.keeper ≡ K.fault_count desk.old.keeper) }
+    ensures formed { AreFormed desk.old.board.state → AreFormed desk.new.board.state }
+    ensures moments { C.moments clock.new ≡ C.moments clock.old }
+    ensures clock { ClockGoesOn (C.sound clock.old) (C.sound clock.new) (C.fault_count clock.old) (C.fault_count clock.new) }
+    ensures link { LinkGoesOn (N.sound link.old) (N.sound link.new) (N.fault_count link.old) (N.fault_count link.new) }
+{
+    match exchange(alloc, desk, lane, clock, wire, steps) {
+        Ok(bytes) => write_response(link, bytes.bytes(), wire.last),
+        Err(NoAnswer::ClockFault) => {
+            end_by_clock(link);
+            Some(Served::ClockFault)
+        }
+        Err(NoAnswer::OutOfMemory) => Some(end_by(link, out_of_memory(), Served::OutOfMemory)),
+    }
+}
+
+// The next request, or the end.
+fn serve_next<K: Keeper, N: Link, C: Clock, L: Ledger>(
+    alloc: Global,
+    desk: &mut Desk<K>,
+    lane: u32,
+    link: &mut N,
+    clock: &mut C,
+    buffer: &mut Buffer,
+    steps: &mut Steps<L>,
+) -> Option<Served>
+    ensures serves { Wrote (N.told link.old) (N.told link.new) (λ piece. IsStep lane (C.moments clock.old) (RoseOrFull (N.fault_count link.old) (N.fault_count link.new)) (RoseOrFull (C.fault_count clock.old) (C.fault_count clock.new)) (K.fault_count desk.old.keeper) (K.fault_count desk.new.keeper) desk.old.board.state (unused buffer.old (unread (N.told link.old))) (unused buffer.new (unread (N.told link.new))) desk.new.board.state piece result) }
+    ensures opening { desk.new.board.opening ≡ desk.old.board.opening }
+    ensures rows { KeepsState (K.told desk.old.keeper) desk.old.board.state → KeepsState (K.told desk.new.keeper) desk.new.board.state }
+    ensures later { K.fault_count desk.old.keeper ≤ K.fault_count desk.new.keeper }
+    ensures sound { K.sound desk.old.keeper → K.sound desk.new.keeper × (K.fault_count desk.new.keeper ≡ K.fault_count desk.old.keeper) }
+    ensures formed { AreFormed desk.old.board.state → AreFormed desk.new.board.state }
+    ensures moments { C.moments clock.new ≡ C.moments clock.old }
+    ensures clock { ClockGoesOn (C.sound clock.old) (C.sound clock.new) (C.fault_count clock.old) (C.fault_count clock.new) }
+    ensures link { LinkGoesOn (N.sound link.old) (N.sound link.new) (N.fault_count link.old) (N.fault_count link.new) }
+{
+    match next_request(alloc, link, buffer) {
+        Ok(wire) => serve_request(alloc, desk, lane, link, clock, &wire, steps),
+        Err(fault) => Some(end_without(link, fault)),
+    }
+}
+
+/// Serves a connection: its requests are answered in their turn, each call at the clock's moment, until it ends.
+///
+/// What was written is the responses to the requests of the link's bytes, each with the status and the body of what it was
+/// answered, and, where a request can't be read, the answer that ends the connection. Only the answer that was being written
+/// when the link failed, or when memory ran out, may be cut or missing. Between two requests it may wait for ever.
+pub fn serve_link<R: Wait, K: Keeper, N: Link, C: Clock, L: Ledger>(
+    rt: &R,
+    alloc: Global,
+    desk: &mut Desk<K>,
+    lane: u32,
+    link: &mut N,
+    clock: &mut C,
+    steps: &mut Steps<L>,
+) -> Served
+    ensures serves { Wrote (N.told link.old) (N.told link.new) (IsConnection lane (C.moments clock.old) (RoseOrFull (N.fault_count link.old) (N.fault_count link.new)) (RoseOrFull (C.fault_count clock.old) (C.fault_count clock.new)) (K.fault_count desk.old.keeper) (K.fault_count desk.new.keeper) desk.old.board.state (unread (N.told link.old)) result desk.new.board.state) }
+    ensures opening { desk.new.board.opening ≡ desk.old.board.opening }
+    ensures rows { KeepsState (K.told desk.old.keeper) desk.old.board.state → KeepsState (K.told desk.new.keeper) desk.new.board.state }
+    ensures later { K.fault_count desk.old.keeper ≤ K.fault_count desk.new.keeper }
+    ensures sound { K.sound desk.old.keeper → K.sound desk.new.keeper × (K.fault_count desk.new.keeper ≡ K.fault_count desk.old.keeper) }
+    ensures formed { AreFormed desk.old.board.state → AreFormed desk.new.board.state }
+    ensures moments { C.moments clock.new ≡ C.moments clock.old }
+    ensures clock { ClockGoesOn (C.sound clock.old) (C.sound clock.new) (C.fault_count clock.old) (C.fault_count clock.new) }
+    ensures link { LinkGoesOn (N.sound link.old) (N.sound link.new) (N.fault_count link.old) (N.fault_count link.new) }
+{
+    let mut buffer = Buffer::new(alloc);
+    for _ in rt.forever() {
+        if let Some(served) = serve_next(alloc, desk, lane, link, clock, &mut buffer, steps) {
+            return served;
+        }
+    }
+    unreachable!()
+}
