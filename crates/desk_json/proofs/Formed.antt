@@ -1,14 +1,10 @@
 -- What is read of a call has its forms.
-use Rattle.std.proofs.Common.{◌≡◌, ℕ, ◌≤◌, List, Option, None, Some, IfSome, codes, sym, subst}
+use Rattle.std.proofs.Common.{ℕ, ◌≤◌, List, None, Some, IfSome, codes}
 use Rattle.std.specs.Str.{bytes_eq}
 use Rattle.serde_json.specs.Data.{Data}
 use Rattle.serde_json.specs.Find.{get}
-use Rattle.serde_json.specs.View.{view}
-use Rattle.serde_json.specs.declared.value.Value.{Value}
 use Rattle.desk_time.specs.Digits.{◌>>=◌}
 use Rattle.plan.specs.Texts.{IsMoment}
-use Rattle.asks.specs.Forms.{IsCall}
-use Rattle.asks.specs.declared.call.Call.{Call}
 use Rattle.asks.specs.declared.call.Ask.{Ask}
 use Rattle.asks.specs.declared.call.Ask.TheVariants.{Admit, Defer, Clear, Draft, Prepare, Amend, Cancel, Acknowledge, Purge, Sweep, ViewBoard, ViewAlerts, ViewRelease, ViewWeather, ViewDeferred}
 use Rattle.plan_json.specs.Plain.{HasText}
@@ -19,11 +15,10 @@ use Rattle.plan_json.specs.Canonical.{IsAmount, IsId, IsShort, HasForms, AskHasF
 use Rattle.plan_json.proofs.Chains.{bind_if, bind_any, then_if, under, either}
 use Rattle.plan_json.proofs.PlanForms.{IsAirport, number_formed, id_formed, amount_formed, station_formed, moment_formed, plan_formed}
 use Rattle.plan_json.proofs.DoneForms.{digest_is}
-use Rattle.plan_json.proofs.AskForms.{call_from_forms}
-use Rattle.plan_json.proofs.ValueTexts.{view_has_text, found_has_text, text_formed, short_formed}
-use Rattle.desk_json.specs.declared.calls.Signed.{Signed}
-use Rattle.desk_json.specs.declared.calls.Flown.{Flown}
-use Rattle.desk_json.specs.Calls.{admit_of, plan_at, draft_of, amend_of, defer_of, clear_of, deferred_of, release_of, prepare_of, cancel_of, signed_of, sign_of, concur_of, flown_of, depart_of, arrive_of, acknowledge_of, purge_of, sweep_of, board_of, alerts_of, view_release_of, weather_of, view_named, ask_on_flight, ask_on_release, ask_on_equipment, ask_named, ask_of, asked_by, call_in, line_in}
+use Rattle.plan_json.proofs.ValueTexts.{found_has_text, text_formed, short_formed}
+use Rattle.desk_json.specs.declared.asked.Signed.{Signed}
+use Rattle.desk_json.specs.declared.asked.Flown.{Flown}
+use Rattle.desk_json.specs.Calls.{admit_of, plan_at, draft_of, amend_of, defer_of, clear_of, deferred_of, release_of, prepare_of, cancel_of, signed_of, sign_of, concur_of, flown_of, depart_of, arrive_of, acknowledge_of, purge_of, sweep_of, board_of, alerts_of, view_release_of, weather_of, view_named, ask_on_flight, ask_on_release, ask_on_equipment, ask_named, ask_of, asked_by, call_in}
 
 -- ---- asks
 
@@ -161,22 +156,7 @@ asked_formed d ask has is_ask =
     bind_if (number_at (codes "number") 1_000_000_000_000 d) _ (λ n. n ≤ 1_000_000_000_000) CallHasForms (number_formed (codes "number") 1_000_000_000_000 d) (λ number is_number.
     record { actor = is_actor; key = is_key; number = is_number; ask = is_ask })))
 
-call_formed : (d : Data) → HasText d → IfSome (call_in d) CallHasForms
+pub call_formed : (d : Data) → HasText d → IfSome (call_in d) CallHasForms
 call_formed d has =
     bind_if (get (codes "ask") d) _ HasText CallHasForms (found_has_text (codes "ask") d has) (λ inner has_inner.
     bind_if (ask_of inner) _ AskHasForms CallHasForms (ask_formed inner has_inner) (λ ask is_ask. asked_formed d ask has is_ask))
-
-line_formed : (d : Data) → HasText d → IfSome (line_in d) (λ p. CallHasForms p.1)
-line_formed d has =
-    bind_any (moment_at (codes "at") d) _ (λ p. CallHasForms p.1) (λ at.
-    bind_if (call_in d) _ CallHasForms (λ p. CallHasForms p.1) (call_formed d has) (λ call is.
-    under (has_members 5 d) (Some (at, call)) (λ p. CallHasForms p.1) (λ exact. is)))
-
--- the call that is read of a value has its forms
-pub line_has_forms : (v : Value) (read : Option (ℕ × Call)) → read ≡ line_in (view v) → IfSome read (λ p. CallHasForms p.1)
-line_has_forms v read is = subst (λ l. IfSome l (λ p. CallHasForms p.1)) (sym is) (line_formed (view v) (view_has_text v))
-
--- a call of good form may be made
-pub read_may_be_made : (read : Option (ℕ × Call)) → IfSome read (λ p. CallHasForms p.1) → IfSome read (λ p. IsCall p.1.ask)
-read_may_be_made None is = tt
-read_may_be_made (Some (at, call)) is = call_from_forms call.ask is.ask

@@ -1,3 +1,9 @@
 pub mod Again
 pub mod Formed
 pub mod Written
+pub mod Orders
+pub mod Exact
+pub mod AskLaws
+pub mod LineLaws
+pub mod LineForms
+pub mod Least

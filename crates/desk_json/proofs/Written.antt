@@ -7,8 +7,11 @@ use Rattle.asks.specs.declared.reply.Reply.{Reply}
 use Rattle.asks.specs.declared.reply.Reply.TheVariants.{Done, Seen, Refused}
 use Rattle.asks.specs.declared.reply.Refusal.{Refusal}
 use Rattle.asks.specs.declared.reply.Refusal.TheVariants.{UnknownActor, WrongKey, NotYourRole, NumberReused, BadReport, DayOutOfReach, ReportsFull, UnknownTail, NoSuchDeferral, NoSuchRelease, NotYours, BadPlan, NotPending, WrongRevision, WrongText, WeatherNewer, RuleFails, WrongPhase, AlreadySigned, NoSuchAlert, AlertMoved, TooYoung, ReleasesFull, HistoryFull, NoSuchStation, Unkept, NumberSwept, UnknownItem, BadFound, DeferralsFull}
-use Rattle.plan_json.proofs.Whole.{list_whole, done_whole}
-use Rattle.desk_json.specs.Replies.{finding_data, refusal_data, reply_data}
+use Rattle.asks.specs.declared.bad_call.BadCall.{BadCall}
+use Rattle.asks.specs.declared.call.Call.{Call}
+use Rattle.plan_json.proofs.Whole.{list_whole, done_whole, ask_whole}
+use Rattle.desk_json.specs.Canonical.{call_data}
+use Rattle.desk_json.specs.Replies.{finding_data, refusal_data, reply_data, bad_data}
 
 finding_whole : (f : Finding) → has_float (finding_data f) ≡ false
 finding_whole f = refl
@@ -53,3 +56,11 @@ whole (Refused refusal) = refusal_whole refusal
 -- no data of a reply has one
 pub reply_whole : (r : Reply) (d : Data) → d ≡ reply_data r → has_float d ≡ false
 reply_whole r d is = ap has_float is ∙ whole r
+
+-- nor has any of a call
+pub call_whole : (c : Call) (d : Data) → d ≡ call_data c → has_float d ≡ false
+call_whole c d is = ap has_float is ∙ rw (ask_whole c.ask) refl
+
+-- nor has any of a fault
+pub bad_whole : (b : BadCall) (d : Data) → d ≡ bad_data b → has_float d ≡ false
+bad_whole b d is = ap has_float is ∙ refl

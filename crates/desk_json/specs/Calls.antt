@@ -9,8 +9,8 @@ use Rattle.plan.specs.declared.flights.Plan.{Plan}
 use Rattle.asks.specs.declared.call.Call.{Call}
 use Rattle.asks.specs.declared.call.Ask.{Ask}
 use Rattle.asks.specs.declared.call.Ask.TheVariants.{Admit, Defer, Clear, Draft, Prepare, Sign, Concur, Amend, Cancel, Depart, Arrive, Acknowledge, Purge, Sweep, ViewBoard, ViewAlerts, ViewRelease, ViewWeather, ViewDeferred}
-use Rattle.desk_json.specs.declared.calls.Signed.{Signed}
-use Rattle.desk_json.specs.declared.calls.Flown.{Flown}
+use Rattle.desk_json.specs.declared.asked.Signed.{Signed}
+use Rattle.desk_json.specs.declared.asked.Flown.{Flown}
 use Rattle.plan_json.specs.Digests.{digest_at}
 use Rattle.plan_json.specs.Plans.{plan_of}
 use Rattle.plan_json.specs.Fields.{data_of, text_at, number_at, id_at, amount_at, short_at, station_at, moment_at, has_members}
@@ -173,3 +173,7 @@ line_in d = moment_at (codes "at") d >>= λ at. call_in d >>= λ call. if has_me
 -- the moment and the call of a line, where it has no fault
 unfoldable pub line_of : List ℕ → Option (ℕ × Call)
 line_of line = data_of line >>= λ d. line_in d
+
+-- the call of a text, where it has no fault: an object of the keys actor, ask, key and number, and no other
+unfoldable pub call_of : List ℕ → Option Call
+call_of text = data_of text >>= λ d. call_in d >>= λ call. if has_members 4 d then Some call else None

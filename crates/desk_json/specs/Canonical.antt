@@ -1,9 +1,12 @@
 -- The lines of scripts as JSON, each key in its place in byte order.
-use Rattle.std.specs.Prelude.{◌≡◌, ℕ, List, Option, Some, codes}
+use Rattle.std.specs.Prelude.{◌≡◌, ℕ, List, Some, codes, Result}
 use Rattle.serde_json.specs.Data.{Data, object, member, no_members}
+use Rattle.serde_json.specs.Written.{compact_text}
 use Rattle.plan.specs.Texts.{IsMoment}
 use Rattle.asks.specs.declared.call.Call.{Call}
 use Rattle.plan_json.specs.Fields.{data_of}
+use Rattle.desk_json.specs.declared.bad_call.CallFault.{CallFault}
+use Rattle.desk_json.specs.Faults.{Finds}
 use Rattle.plan_json.specs.Canonical.{count, text_data, moment_data, ask_data, CallHasForms}
 
 -- the JSON of a moment and a call, as a line of a script has it
@@ -15,6 +18,33 @@ line_data at c = object
     (member (codes "key") (text_data c.key)
     (member (codes "number") (count c.number) no_members)))))
 
--- What a line is read as. Where its JSON is that of a moment and a call of good form, it is these.
-abbrev pub IsReadAgain : List ℕ → Option (ℕ × Call) → Type 0
-IsReadAgain line read = (at : ℕ) (c : Call) → IsMoment at → CallHasForms c → data_of line ≡ Some (line_data at c) → read ≡ Some (at, c)
+-- the JSON of a call, as the body of a request has it
+unfoldable pub posted_data : Call → Data
+posted_data c = object
+    (member (codes "actor") (text_data c.actor)
+    (member (codes "ask") (ask_data c.ask)
+    (member (codes "key") (text_data c.key)
+    (member (codes "number") (count c.number) no_members))))
+
+-- a moment that can be read, and a call whose fields have their forms
+abbrev pub LineHasForms : ℕ × Call → Type 0
+LineHasForms line = IsMoment line.0 × CallHasForms line.1
+
+-- A reader answers the moment and the call of good form whose JSON a line is, but for want of memory.
+abbrev pub IsLineAgain : List ℕ → Result (ℕ × Call) CallFault → Type 0
+IsLineAgain line read = (at : ℕ) (c : Call) → IsMoment at → CallHasForms c → data_of line ≡ Some (line_data at c) → Finds (Some (at, c)) read
+
+-- So it does with the call whose JSON a text is.
+abbrev pub IsCallAgain : List ℕ → Result Call CallFault → Type 0
+IsCallAgain text read = (c : Call) → CallHasForms c → data_of text ≡ Some (posted_data c) → Finds (Some c) read
+
+-- the JSON of a call as a history shows it, without the key
+abbrev pub call_data : Call → Data
+call_data c = object
+    (member (codes "actor") (text_data c.actor)
+    (member (codes "ask") (ask_data c.ask)
+    (member (codes "number") (count c.number) no_members)))
+
+-- its text: JSON without blanks, its keys in byte order
+unfoldable pub call_text : Call → List ℕ
+call_text c = compact_text (call_data c)

@@ -1,3 +1,5 @@
 pub mod Calls
 pub mod Replies
 pub mod Canonical
+pub mod Keys
+pub mod Faults

@@ -1,4 +1,4 @@
--- The texts of replies: JSON without blanks, its keys in byte order.
+-- The texts of replies, and of faults of calls: JSON without blanks, its keys in byte order.
 use Rattle.std.specs.Prelude.{ℕ, List, codes}
 use Rattle.serde_json.specs.Data.{Data, object, Members, member, no_members, put, string}
 use Rattle.serde_json.specs.Written.{compact_text}
@@ -8,6 +8,9 @@ use Rattle.plan.specs.Texts.{finding_text, phase_text}
 use Rattle.plan.specs.declared.check.PlanWhy.{PlanWhy}
 use Rattle.plan.specs.declared.check.PlanWhy.TheVariants as plan_why
 use Rattle.plan.specs.declared.findings.Finding.{Finding}
+use Rattle.asks.specs.declared.bad_call.BadCall.{BadCall}
+use Rattle.asks.specs.declared.bad_call.CallWhy.{CallWhy}
+use Rattle.asks.specs.declared.bad_call.CallWhy.TheVariants as call_why
 use Rattle.asks.specs.declared.reply.Reply.{Reply}
 use Rattle.asks.specs.declared.reply.Reply.TheVariants.{Done, Seen, Refused}
 use Rattle.asks.specs.declared.reply.Refusal.{Refusal}
@@ -157,3 +160,19 @@ reply_data (Refused refusal) = refusal_data refusal
 -- the text of a reply
 unfoldable pub reply_text : Reply → List ℕ
 reply_text reply = compact_text (reply_data reply)
+
+-- the name of what is wrong with a call
+abbrev pub call_why_name : CallWhy → List ℕ
+call_why_name call_why.NotJson = codes "NotJson"
+call_why_name call_why.NotObject = codes "NotObject"
+call_why_name call_why.Extra = codes "Extra"
+call_why_name call_why.Missing = codes "Missing"
+call_why_name call_why.BadValue = codes "BadValue"
+call_why_name call_why.UnknownAsk = codes "UnknownAsk"
+
+abbrev pub bad_data : BadCall → Data
+bad_data bad = object (member (codes "bad") (string (call_why_name bad.why)) (member (codes "key") (text_data bad.key) no_members))
+
+-- the text of a fault of a call
+unfoldable pub bad_text : BadCall → List ℕ
+bad_text bad = compact_text (bad_data bad)

@@ -1,10 +1,16 @@
 //! Calls and replies as JSON.
 #![tactic(auto)]
 
-mod calls;
+mod asked;
+mod bad_call;
+mod keys;
+mod lines;
 mod refusals;
 mod replies;
+mod written_calls;
 
-pub use calls::read_line;
+pub use bad_call::CallFault;
+pub use lines::{read_call, read_line};
 pub use refusals::why_name;
-pub use replies::reply_text;
+pub use replies::{bad_text, reply_text};
+pub use written_calls::call_text;

@@ -2,12 +2,12 @@ ghost use Rattle.std.specs.Prelude.{◌≡◌, IfOk};
 ghost use Rattle.serde_json.specs.View.{view};
 ghost use Rattle.asks.specs.Forms.{ReplyHasMoment};
 ghost use Rattle.desk_json.specs.Replies as spec;
-ghost use Rattle.desk_json.specs.Replies.{reply_text};
+ghost use Rattle.desk_json.specs.Replies.{bad_text, reply_text};
 
 use crate::refusals::refusal_value;
-use asks::{Done, Reply};
+use asks::{BadCall, CallWhy, Done, Reply};
 use desk_io::{OutOfMemory, Text};
-use plan_json::{done_value, text_value};
+use plan_json::{done_value, text_value, with_name, with_text};
 use serde_json::{Map, Value};
 use std::alloc::Global;
 
@@ -47,5 +47,34 @@ pub fn reply_text(alloc: Global, reply: &Reply) -> Result<Text, OutOfMemory>
     ensures { IfOk result (λ t. t ≡ reply_text reply.now) }
 {
     let value = reply_value(alloc, reply)?;
+    Ok(Text::from_vec(value.to_vec(alloc)?))
+}
+
+fn call_why_name(why: CallWhy) -> &'static str
+    ensures { result.now ≡ spec.call_why_name why }
+{
+    match why {
+        CallWhy::NotJson => "NotJson",
+        CallWhy::NotObject => "NotObject",
+        CallWhy::Extra => "Extra",
+        CallWhy::Missing => "Missing",
+        CallWhy::BadValue => "BadValue",
+        CallWhy::UnknownAsk => "UnknownAsk",
+    }
+}
+
+fn bad_value(alloc: Global, bad: &BadCall) -> Result<Value, OutOfMemory>
+    ensures { IfOk result (λ v. view v ≡ spec.bad_data bad.now) }
+{
+    let members = with_name(alloc, Map::new(alloc), "bad", call_why_name(bad.why))?;
+    let members = with_text(alloc, members, "key", bad.key.bytes())?;
+    Ok(Value::Object(members))
+}
+
+/// The text of a fault of a call, which names what is wrong and the key: JSON without blanks, its keys in byte order.
+pub fn bad_text(alloc: Global, bad: &BadCall) -> Result<Text, OutOfMemory>
+    ensures { IfOk result (λ t. t ≡ bad_text bad.now) }
+{
+    let value = bad_value(alloc, bad)?;
     Ok(Text::from_vec(value.to_vec(alloc)?))
 }

@@ -1,8 +1,8 @@
 ghost use Rattle.asks.specs.Forms.{RefusalHasMoment};
 
 use asks::{Ask, Refusal, Reply};
-use desk_io::OutOfMemory;
-use desk_json::{read_line, reply_text};
+use desk_io::{OutOfMemory, Text};
+use desk_json::{CallFault, bad_text, read_call, read_line, reply_text};
 use desk_time::Minute;
 use std::alloc::Global;
 use std::test::Fail;
@@ -19,9 +19,10 @@ fn swept_before(alloc: Global, ask: &str) -> Result<Option<Minute>, OutOfMemory>
     let line = format!(in alloc;
         "{{\"actor\":\"S1\",\"ask\":{ask},\"at\":\"2025-04-01T00:00Z\",\"key\":\"kS1\",\"number\":1}}"
     )?;
-    match read_line(alloc, line.as_bytes())? {
-        Some((_, call)) => Ok(before_of(&call.ask)),
-        None => Ok(None),
+    match read_line(alloc, line.as_bytes()) {
+        Ok((_, call)) => Ok(before_of(&call.ask)),
+        Err(CallFault::Bad(_)) => Ok(None),
+        Err(CallFault::OutOfMemory) => Err(OutOfMemory),
     }
 }
 
@@ -54,6 +55,89 @@ fn a_line_may_ask_to_sweep(rt: HostRuntime) -> Result<(), Fail> {
         ),
     ] {
         assert!(rt; swept_before(rt.alloc(), ask)? == before, "{ask}");
+    }
+    Ok(())
+}
+
+// The text of the fault of a line.
+fn fault_of_line(alloc: Global, line: &str) -> Result<Option<Text>, OutOfMemory> {
+    match read_line(alloc, line.as_bytes()) {
+        Ok(_) => Ok(None),
+        Err(CallFault::Bad(bad)) => Ok(Some(bad_text(alloc, &bad)?)),
+        Err(CallFault::OutOfMemory) => Err(OutOfMemory),
+    }
+}
+
+// The text of the fault of a call.
+fn fault_of_call(alloc: Global, text: &str) -> Result<Option<Text>, OutOfMemory> {
+    match read_call(alloc, text.as_bytes()) {
+        Ok(_) => Ok(None),
+        Err(CallFault::Bad(bad)) => Ok(Some(bad_text(alloc, &bad)?)),
+        Err(CallFault::OutOfMemory) => Err(OutOfMemory),
+    }
+}
+
+fn is_text(text: &Option<Text>, told: &str) -> bool {
+    match text {
+        Some(text) => text.bytes() == told.as_bytes(),
+        None => told == "",
+    }
+}
+
+#[test]
+fn the_first_fault_of_a_line_is_told(rt: HostRuntime) -> Result<(), Fail> {
+    for (line, told) in [
+        (
+            r#"{"actor":"S1","ask":{"do":"board"},"at":"2099-12-31T23:59Z","key":"k","number":1000000000000}"#,
+            "",
+        ),
+        ("", r#"{"bad":"NotJson","key":""}"#),
+        ("7", r#"{"bad":"NotObject","key":""}"#),
+        ("{}", r#"{"bad":"Missing","key":"actor"}"#),
+        (r#"{"zzz":1,"extra":2}"#, r#"{"bad":"Extra","key":"extra"}"#),
+        (
+            r#"{"actor":"S1","ask":{"do":"fly"},"at":"2025-03-13T17:00Z","key":"k","number":1000000000001}"#,
+            r#"{"bad":"BadValue","key":"number"}"#,
+        ),
+        (
+            r#"{"actor":"S1","ask":{"do":"fly"},"at":"2100-01-01T00:00Z","key":7,"number":1}"#,
+            r#"{"bad":"BadValue","key":"at"}"#,
+        ),
+        (
+            r#"{"actor":"S1","ask":{"do":"fly","to":1},"at":"2025-03-13T17:00Z","key":"k","number":1}"#,
+            r#"{"bad":"UnknownAsk","key":"do"}"#,
+        ),
+        (
+            r#"{"actor":"S1","ask":{"do":"sign","release":0,"text":1},"at":"2025-03-13T17:00Z","key":"k","number":1}"#,
+            r#"{"bad":"Extra","key":"text"}"#,
+        ),
+        (
+            r#"{"actor":"S1","ask":{"do":"sign","release":0},"at":"2025-03-13T17:00Z","key":"k","number":1}"#,
+            r#"{"bad":"Missing","key":"digest"}"#,
+        ),
+    ] {
+        assert!(rt; is_text(&fault_of_line(rt.alloc(), line)?, told), "{line}");
+    }
+    Ok(())
+}
+
+#[test]
+fn the_first_fault_of_a_call_is_told(rt: HostRuntime) -> Result<(), Fail> {
+    for (text, told) in [
+        (
+            r#"{"actor":"S1","ask":{"do":"board"},"key":"k","number":1}"#,
+            "",
+        ),
+        (
+            r#"{"actor":"S1","ask":{"do":"board"},"at":"2025-03-13T17:00Z","key":"k","number":1}"#,
+            r#"{"bad":"Extra","key":"at"}"#,
+        ),
+        (
+            r#"{"actor":"S1","ask":[],"key":"k"}"#,
+            r#"{"bad":"BadValue","key":"ask"}"#,
+        ),
+    ] {
+        assert!(rt; is_text(&fault_of_call(rt.alloc(), text)?, told), "{text}");
     }
     Ok(())
 }

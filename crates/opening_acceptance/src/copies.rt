@@ -4,7 +4,7 @@ use alerts::Alert;
 use asks::{Call, Done, Refusal, Reply};
 use codes::ReportFault;
 use desk_io::{Copied, LineFeeds, OutOfMemory, Text, push_all, runs_between};
-use desk_json::read_line;
+use desk_json::{CallFault, read_line};
 use facts::{Report, read_report};
 use plan::{Finding, Findings, Rule};
 use records::{KeptAlert, KeptReport, Meta, Record, RowsFault, check_rows};
@@ -96,12 +96,19 @@ fn is_call_copied(alloc: Global, call: &Call) -> Result<bool, OutOfMemory> {
     Ok(format!(in alloc; "{call:?}")? == format!(in alloc; "{copy:?}")?)
 }
 
+// The call of a line, if it is one.
+fn is_line_copied(alloc: Global, line: &[u8]) -> Result<bool, OutOfMemory> {
+    match read_line(alloc, line) {
+        Ok((_, call)) => is_call_copied(alloc, &call),
+        Err(CallFault::Bad(_)) => Ok(true),
+        Err(CallFault::OutOfMemory) => Err(OutOfMemory),
+    }
+}
+
 // The calls of a script.
 fn calls_copied(alloc: Global, script: &[u8]) -> Result<bool, OutOfMemory> {
     for line in &runs_between::<LineFeeds>(alloc, script)? {
-        if let Some((_, call)) = read_line(alloc, line.bytes())?
-            && !is_call_copied(alloc, &call)?
-        {
+        if !is_line_copied(alloc, line.bytes())? {
             return Ok(false);
         }
     }

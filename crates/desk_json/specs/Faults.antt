@@ -1,0 +1,230 @@
+-- The calls and the lines that texts are, each to its first fault.
+use Rattle.std.specs.Prelude.{◌≡◌, ℕ, Bool, true, false, if◌then◌else◌, is_some, List, [], Option, None, Some, codes, option_and_then, Result, Ok, Err}
+use Rattle.std.specs.Ordering.{nat_cmp, is_gt}
+use Rattle.std.specs.Cmp.Lexicographic.{slice_cmp}
+use Rattle.std.specs.Str.{bytes_eq}
+use Rattle.serde_json.specs.Data.{Data}
+use Rattle.serde_json.specs.Find.{get, as_object}
+use Rattle.plan.specs.declared.flights.Plan.{Plan}
+use Rattle.asks.specs.declared.call.Call.{Call}
+use Rattle.asks.specs.declared.call.Ask.{Ask}
+use Rattle.asks.specs.declared.call.Ask.TheVariants.{Admit, Defer, Clear, Draft, Prepare, Sign, Concur, Amend, Cancel, Depart, Arrive, Acknowledge, Purge, Sweep, ViewBoard, ViewAlerts, ViewRelease, ViewWeather, ViewDeferred}
+use Rattle.plan_json.specs.Digests.{digest_at}
+use Rattle.plan_json.specs.Plans.{plan_of}
+use Rattle.plan_json.specs.Fields.{data_of, text_at, number_at, id_at, amount_at, short_at, station_at, moment_at}
+use Rattle.asks.specs.declared.bad_call.BadCall.{BadCall}
+use Rattle.asks.specs.declared.bad_call.CallWhy.TheVariants.{NotJson, Extra, UnknownAsk}
+use Rattle.desk_json.specs.declared.keys.AskKind.{AskKind}
+use Rattle.desk_json.specs.declared.keys.AskKind.TheVariants as kind
+use Rattle.desk_json.specs.declared.keys.Object.TheVariants as object
+use Rattle.desk_json.specs.declared.asked.Signed.{Signed}
+use Rattle.desk_json.specs.declared.asked.Flown.{Flown}
+use Rattle.desk_json.specs.declared.bad_call.CallFault.{CallFault}
+use Rattle.desk_json.specs.declared.bad_call.CallFault.TheVariants as fault
+use Rattle.desk_json.specs.Keys.{bad, keys_fault, unless, and_then, need}
+
+-- ---- kinds of asks
+
+-- the names board, alerts, release and weather
+abbrev pub kind_of_view : List ℕ → Option AskKind
+kind_of_view name =
+    if bytes_eq name (codes "board") then Some kind.Board
+    else (if bytes_eq name (codes "alerts") then Some kind.Alerts
+    else (if bytes_eq name (codes "release") then Some kind.Release
+    else (if bytes_eq name (codes "weather") then Some kind.Weather else None)))
+
+-- the names depart, arrive, acknowledge, purge and sweep, and else those of views
+abbrev pub kind_on_flight : List ℕ → Option AskKind
+kind_on_flight name =
+    if bytes_eq name (codes "depart") then Some kind.Depart
+    else (if bytes_eq name (codes "arrive") then Some kind.Arrive
+    else (if bytes_eq name (codes "acknowledge") then Some kind.Acknowledge
+    else (if bytes_eq name (codes "purge") then Some kind.Purge
+    else (if bytes_eq name (codes "sweep") then Some kind.Sweep else kind_of_view name))))
+
+-- the names prepare, sign, concur and cancel, and else the next
+abbrev pub kind_on_release : List ℕ → Option AskKind
+kind_on_release name =
+    if bytes_eq name (codes "prepare") then Some kind.Prepare
+    else (if bytes_eq name (codes "sign") then Some kind.Sign
+    else (if bytes_eq name (codes "concur") then Some kind.Concur
+    else (if bytes_eq name (codes "cancel") then Some kind.Cancel else kind_on_flight name)))
+
+-- the names defer, clear and deferred, and else the next
+abbrev pub kind_on_equipment : List ℕ → Option AskKind
+kind_on_equipment name =
+    if bytes_eq name (codes "defer") then Some kind.Defer
+    else (if bytes_eq name (codes "clear") then Some kind.Clear
+    else (if bytes_eq name (codes "deferred") then Some kind.Deferred else kind_on_release name))
+
+-- the kind of ask that has a name
+abbrev pub kind_of : List ℕ → Option AskKind
+kind_of name =
+    if bytes_eq name (codes "admit") then Some kind.Admit
+    else (if bytes_eq name (codes "draft") then Some kind.Draft
+    else (if bytes_eq name (codes "amend") then Some kind.Amend else kind_on_equipment name))
+
+-- ---- asks, each key in its turn
+
+abbrev pub plan_at : List ℕ → Data → Option Plan
+plan_at key d = option_and_then plan_of (get key d)
+
+abbrev pub admit_of : Data → Result Ask BadCall
+admit_of d = and_then (need text_at (codes "text") d) (λ text. Ok (Admit text))
+
+abbrev pub defer_of : Data → Result Ask BadCall
+defer_of d =
+    and_then (need moment_at (codes "found") d) (λ found.
+    and_then (need short_at (codes "item") d) (λ item.
+    and_then (need short_at (codes "tail") d) (λ tail. Ok (Defer tail item found))))
+
+abbrev pub clear_of : Data → Result Ask BadCall
+clear_of d = and_then (need id_at (codes "deferral") d) (λ deferral. Ok (Clear deferral))
+
+abbrev pub draft_of : Data → Result Ask BadCall
+draft_of d = and_then (need plan_at (codes "plan") d) (λ plan. Ok (Draft plan))
+
+abbrev pub release_of : Data → Result ℕ BadCall
+release_of d = need id_at (codes "release") d
+
+abbrev pub signed_of : Data → Result Signed BadCall
+signed_of d =
+    and_then (need digest_at (codes "digest") d) (λ digest.
+    and_then (release_of d) (λ release.
+    and_then (need id_at (codes "revision") d) (λ revision. Ok (record { release = release; revision = revision; digest = digest }))))
+
+abbrev pub amend_of : Data → Result Ask BadCall
+amend_of d =
+    and_then (need plan_at (codes "plan") d) (λ plan.
+    and_then (release_of d) (λ release. Ok (Amend release plan)))
+
+abbrev pub flown_of : Data → Result Flown BadCall
+flown_of d =
+    and_then (need amount_at (codes "leg") d) (λ leg.
+    and_then (release_of d) (λ release. Ok (record { release = release; leg = leg })))
+
+abbrev pub acknowledge_of : Data → Result Ask BadCall
+acknowledge_of d =
+    and_then (release_of d) (λ release.
+    and_then (need id_at (codes "version") d) (λ version. Ok (Acknowledge release version)))
+
+abbrev pub sweep_of : Data → Result Ask BadCall
+sweep_of d = and_then (need moment_at (codes "before") d) (λ before. Ok (Sweep before))
+
+abbrev pub weather_of : Data → Result Ask BadCall
+weather_of d = and_then (need station_at (codes "station") d) (λ station. Ok (ViewWeather station))
+
+abbrev pub deferred_of : Data → Result Ask BadCall
+deferred_of d = and_then (need short_at (codes "tail") d) (λ tail. Ok (ViewDeferred tail))
+
+-- what is read of the keys of an ask of a kind
+abbrev pub ask_of_kind : AskKind → Data → Result Ask BadCall
+ask_of_kind kind.Admit d = admit_of d
+ask_of_kind kind.Defer d = defer_of d
+ask_of_kind kind.Clear d = clear_of d
+ask_of_kind kind.Draft d = draft_of d
+ask_of_kind kind.Prepare d = and_then (release_of d) (λ release. Ok (Prepare release))
+ask_of_kind kind.Sign d = and_then (signed_of d) (λ s. Ok (Sign s.release s.revision s.digest))
+ask_of_kind kind.Concur d = and_then (signed_of d) (λ s. Ok (Concur s.release s.revision s.digest))
+ask_of_kind kind.Amend d = amend_of d
+ask_of_kind kind.Cancel d = and_then (release_of d) (λ release. Ok (Cancel release))
+ask_of_kind kind.Depart d = and_then (flown_of d) (λ f. Ok (Depart f.release f.leg))
+ask_of_kind kind.Arrive d = and_then (flown_of d) (λ f. Ok (Arrive f.release f.leg))
+ask_of_kind kind.Acknowledge d = acknowledge_of d
+ask_of_kind kind.Purge d = and_then (release_of d) (λ release. Ok (Purge release))
+ask_of_kind kind.Sweep d = sweep_of d
+ask_of_kind kind.Board d = Ok ViewBoard
+ask_of_kind kind.Alerts d = Ok ViewAlerts
+ask_of_kind kind.Release d = and_then (release_of d) (λ release. Ok (ViewRelease release))
+ask_of_kind kind.Weather d = weather_of d
+ask_of_kind kind.Deferred d = deferred_of d
+
+-- an ask of a kind: no key more, and then each key of it
+abbrev pub ask_by : Option AskKind → Data → Result Ask BadCall
+ask_by None d = Err (bad UnknownAsk (codes "do"))
+ask_by (Some k) d = unless (keys_fault (object.Asked k) d) (ask_of_kind k d)
+
+-- an ask: its name, whether an ask has that name, and then the ask of that kind
+abbrev pub ask_or_fault : Data → Result Ask BadCall
+ask_or_fault d = and_then (need text_at (codes "do") d) (λ name. ask_by (kind_of name) d)
+
+-- ---- calls and lines
+
+abbrev pub if_object : Data → Option Data
+if_object d = if is_some (as_object d) then Some d else None
+
+-- the object at a key
+abbrev pub object_at : List ℕ → Data → Option Data
+object_at key d = option_and_then if_object (get key d)
+
+-- the number of a request, at most 10 ^ 12
+abbrev pub request_at : List ℕ → Data → Option ℕ
+request_at key d = number_at key 1_000_000_000_000 d
+
+abbrev pub call_with : List ℕ → List ℕ → ℕ → Ask → Call
+call_with actor key number ask = record { actor = actor; key = key; number = number; ask = ask }
+
+-- the ask of a call whose other keys were read
+abbrev pub asked_with : List ℕ → List ℕ → ℕ → Data → Result Call BadCall
+asked_with actor key number ask = and_then (ask_or_fault ask) (λ asked. Ok (call_with actor key number asked))
+
+-- what is read of the keys of a call, and then of its ask
+abbrev pub call_fields : Data → Result Call BadCall
+call_fields d =
+    and_then (need short_at (codes "actor") d) (λ actor.
+    and_then (need object_at (codes "ask") d) (λ ask.
+    and_then (need short_at (codes "key") d) (λ key.
+    and_then (need request_at (codes "number") d) (λ number. asked_with actor key number ask))))
+
+-- what is read of the keys of a line, and then of its ask
+abbrev pub line_fields : Data → Result (ℕ × Call) BadCall
+line_fields d =
+    and_then (need short_at (codes "actor") d) (λ actor.
+    and_then (need object_at (codes "ask") d) (λ ask.
+    and_then (need moment_at (codes "at") d) (λ at.
+    and_then (need short_at (codes "key") d) (λ key.
+    and_then (need request_at (codes "number") d) (λ number.
+    and_then (asked_with actor key number ask) (λ call. Ok (at, call)))))))
+
+abbrev pub call_in : Data → Result Call BadCall
+call_in d = unless (keys_fault object.Call d) (call_fields d)
+
+abbrev pub line_in : Data → Result (ℕ × Call) BadCall
+line_in d = unless (keys_fault object.Line d) (line_fields d)
+
+-- what is read of JSON, where a text is JSON
+abbrev pub read_as : {A : Type 0} → (Data → Result A BadCall) → Option Data → Result A BadCall
+read_as f None = Err (bad NotJson [])
+read_as f (Some d) = f d
+
+-- the call that a text is, or its first fault
+unfoldable pub call_or_fault : List ℕ → Result Call BadCall
+call_or_fault text = read_as call_in (data_of text)
+
+-- the moment and the call that a line is, or its first fault
+unfoldable pub line_or_fault : List ℕ → Result (ℕ × Call) BadCall
+line_or_fault line = read_as line_in (data_of line)
+
+-- ---- answers
+
+-- A reader answers what was read or exactly its first fault, but for want of memory.
+abbrev pub Answers : {A : Type 0} → Result A BadCall → Result A CallFault → Type 0
+Answers r (Ok x) = r ≡ Ok x
+Answers r (Err (fault.Bad b)) = r ≡ Err b
+Answers r (Err fault.OutOfMemory) = Unit {0}
+
+-- A reader answers a call exactly where there is one, and then that, but for want of memory.
+abbrev pub Finds : {A : Type 0} → Option A → Result A CallFault → Type 0
+Finds o (Ok x) = o ≡ Some x
+Finds o (Err (fault.Bad b)) = o ≡ None
+Finds o (Err fault.OutOfMemory) = Unit {0}
+
+-- What is told where a key isn't expected: a key more, and it isn't after that key in byte order.
+abbrev pub IsExtraTold : {A : Type 0} → List ℕ → Result A CallFault → Type 0
+IsExtraTold k (Ok x) = ⊥
+IsExtraTold k (Err (fault.Bad b)) = (b.why ≡ Extra) × (is_gt (slice_cmp nat_cmp b.key k) ≡ false)
+IsExtraTold k (Err fault.OutOfMemory) = Unit {0}
+
+-- A reader tells, of the keys of an object that aren't expected, the least, but for want of memory.
+abbrev pub TellsExtra : {A : Type 0} → (List ℕ → Bool) → List ℕ → Result A CallFault → Type 0
+TellsExtra expected text r = (d : Data) (k : List ℕ) → data_of text ≡ Some d → is_some (get k d) ≡ true → expected k ≡ false → IsExtraTold k r

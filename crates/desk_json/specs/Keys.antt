@@ -1,0 +1,96 @@
+-- The keys of calls, of lines and of asks, and what is wrong with the keys of an object.
+use Rattle.std.specs.Prelude.{ℕ, Bool, false, ◌||◌, if◌then◌else◌, List, [], Option, None, Some, codes, Result, Ok, Err}
+use Rattle.std.specs.Str.{bytes_eq}
+use Rattle.serde_json.specs.Data.{Data, Members, no_members, member}
+use Rattle.serde_json.specs.Find.{get, as_object}
+use Rattle.asks.specs.declared.bad_call.BadCall.{BadCall}
+use Rattle.asks.specs.declared.bad_call.CallWhy.{CallWhy}
+use Rattle.asks.specs.declared.bad_call.CallWhy.TheVariants.{NotObject, Extra, Missing, BadValue}
+use Rattle.desk_json.specs.declared.keys.AskKind.{AskKind}
+use Rattle.desk_json.specs.declared.keys.AskKind.TheVariants as kind
+use Rattle.desk_json.specs.declared.keys.Object.{Object}
+use Rattle.desk_json.specs.declared.keys.Object.TheVariants as object
+
+abbrev pub bad : CallWhy → List ℕ → BadCall
+bad why key = record { why = why; key = key }
+
+-- ---- keys
+
+-- the keys of an ask of a kind, beside `do`
+abbrev pub is_asked : AskKind → List ℕ → Bool
+is_asked kind.Admit k = bytes_eq k (codes "text")
+is_asked kind.Defer k = bytes_eq k (codes "found") || bytes_eq k (codes "item") || bytes_eq k (codes "tail")
+is_asked kind.Clear k = bytes_eq k (codes "deferral")
+is_asked kind.Draft k = bytes_eq k (codes "plan")
+is_asked kind.Prepare k = bytes_eq k (codes "release")
+is_asked kind.Sign k = bytes_eq k (codes "digest") || bytes_eq k (codes "release") || bytes_eq k (codes "revision")
+is_asked kind.Concur k = bytes_eq k (codes "digest") || bytes_eq k (codes "release") || bytes_eq k (codes "revision")
+is_asked kind.Amend k = bytes_eq k (codes "plan") || bytes_eq k (codes "release")
+is_asked kind.Cancel k = bytes_eq k (codes "release")
+is_asked kind.Depart k = bytes_eq k (codes "leg") || bytes_eq k (codes "release")
+is_asked kind.Arrive k = bytes_eq k (codes "leg") || bytes_eq k (codes "release")
+is_asked kind.Acknowledge k = bytes_eq k (codes "release") || bytes_eq k (codes "version")
+is_asked kind.Purge k = bytes_eq k (codes "release")
+is_asked kind.Sweep k = bytes_eq k (codes "before")
+is_asked kind.Board k = false
+is_asked kind.Alerts k = false
+is_asked kind.Release k = bytes_eq k (codes "release")
+is_asked kind.Weather k = bytes_eq k (codes "station")
+is_asked kind.Deferred k = bytes_eq k (codes "tail")
+
+-- the keys of a call
+abbrev pub is_call_key : List ℕ → Bool
+is_call_key k = bytes_eq k (codes "actor") || bytes_eq k (codes "ask") || bytes_eq k (codes "key") || bytes_eq k (codes "number")
+
+-- the keys of a line
+abbrev pub is_line_key : List ℕ → Bool
+is_line_key k = bytes_eq k (codes "at") || is_call_key k
+
+-- the keys of an object
+abbrev pub is_key : Object → List ℕ → Bool
+is_key object.Call k = is_call_key k
+is_key object.Line k = is_line_key k
+is_key (object.Asked a) k = bytes_eq k (codes "do") || is_asked a k
+
+-- The least key that an object doesn't have. Members stand in the byte order of their keys.
+abbrev pub first_extra : Object → Members → Option (List ℕ)
+first_extra o no_members = None
+first_extra o (member k d ms) = if is_key o k then first_extra o ms else Some k
+
+-- ---- what is wrong with keys
+
+abbrev pub extra_fault : Option (List ℕ) → Option BadCall
+extra_fault None = None
+extra_fault (Some key) = Some (bad Extra key)
+
+abbrev pub members_fault : Object → Option Members → Option BadCall
+members_fault o None = Some (bad NotObject [])
+members_fault o (Some ms) = extra_fault (first_extra o ms)
+
+-- what is no object, or has a key more
+abbrev pub keys_fault : Object → Data → Option BadCall
+keys_fault o d = members_fault o (as_object d)
+
+-- why nothing is read at a key
+abbrev pub lack : Option Data → CallWhy
+lack None = Missing
+lack (Some d) = BadValue
+
+-- ---- the first fault along a chain
+
+abbrev pub unless : {A : Type 0} → Option BadCall → Result A BadCall → Result A BadCall
+unless None r = r
+unless (Some fault) r = Err fault
+
+abbrev pub and_then : {A B : Type 0} → Result A BadCall → (A → Result B BadCall) → Result B BadCall
+and_then (Err fault) f = Err fault
+and_then (Ok x) f = f x
+
+-- what was read at a key, or why nothing was
+abbrev pub found : {A : Type 0} → List ℕ → Data → Option A → Result A BadCall
+found key d None = Err (bad (lack (get key d)) key)
+found key d (Some x) = Ok x
+
+-- what is read at a key
+abbrev pub need : {A : Type 0} → (List ℕ → Data → Option A) → List ℕ → Data → Result A BadCall
+need read key d = found key d (read key d)
