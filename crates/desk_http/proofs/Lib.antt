@@ -1,0 +1,5 @@
+pub mod Bounds
+pub mod Room
+pub mod Links
+pub mod Streams
+pub mod Answered

@@ -1,0 +1,46 @@
+use Rattle.std.proofs.Common.{rules, ◌≡◌, ◌≤◌, ◌+◌, ℕ, List, length, arith, subst, true, false}
+use Rattle.desk_net.specs.Wires.{unread}
+use Rattle.desk_http.specs.Requests.{HasRead, EndsBy, BeginsWithRequest, IsUpTo}
+use Rattle.desk_http.proofs.Streams.{passed_on, outside_ends, read_on, not_shorter, begins_on, part_of_body, whole_request}
+use Rattle.desk_http.proofs.requests.request_in.Goals as goal
+
+pub overflow_add-end : goal.overflow_add-end
+overflow_add-end g c = omega (arith, c.in_ok-asked.ensures.next.short, c.in_ok-asked.ensures.next.few)
+
+pub returns-in_err-read_up_to-clause-next : goal.returns-in_err-read_up_to-clause-next
+returns-in_err-read_up_to-clause-next g c =
+    let before = unread (g.N.Link.told c.args.link.now) in
+    let now = unread (g.N.Link.told c.read_up_to.new.link) in
+    let kept = c.args.bytes.now.items in
+    let left = c.read_up_to.new.bytes.items in
+    passed_on c.from_residual-in_err-read_up_to.result c.in_err-read_up_to.field-0.0
+    (λ wire. (bytes : List ℕ) × HasRead before now kept bytes × BeginsWithRequest bytes wire left) (EndsBy before now kept left)
+    c.from_residual-in_err-read_up_to.ensures.0 c.from_residual-in_err-read_up_to.ensures.1 (outside_ends before now kept left _ c.in_err-read_up_to.ensures.next)
+
+pub returns-then-not-branch-clause-next : goal.returns-then-not-branch-clause-next
+returns-then-not-branch-clause-next g c =
+    let b = c.in_ok-asked.ensures.next in
+    let u = c.in_ok-read_up_to.ensures in
+    let s = c.read_up_to.new.bytes.items in
+    let start = c.in_ok-asked.start in
+    let a = c.in_ok-asked.asked in
+    let not_all : c.in_ok-read_up_to.field-0 ≡ false = search rules in
+    let end = subst (IsUpTo (start + a.length) s (unread (g.N.Link.told c.read_up_to.new.link))) not_all u.next in
+    let within : start ≤ length s = omega (arith, b.within, not_shorter _ _ _ s u.read) in
+    let few = end.0 in
+    (read_on _ _ _ _ _ _ b.read u.read, (part_of_body s start a (begins_on _ _ _ s start a u.read b.begins b.within) within few, end.1))
+
+pub returns-clause-next : goal.returns-clause-next
+returns-clause-next g c =
+    let b = c.in_ok-asked.ensures.next in
+    let u = c.in_ok-read_up_to.ensures in
+    let s = c.read_up_to.new.bytes.items in
+    let start = c.in_ok-asked.start in
+    let a = c.in_ok-asked.asked in
+    let all_there : c.in_ok-read_up_to.field-0 ≡ true = search rules in
+    let all = subst (IsUpTo (start + a.length) s (unread (g.N.Link.told c.read_up_to.new.link))) all_there u.next in
+    let within : start ≤ length s = omega (arith, b.within, not_shorter _ _ _ s u.read) in (
+      s,
+      read_on _ _ _ _ _ _ b.read u.read,
+      whole_request s start a c.in_ok-finish.field-0 c.finish.new.bytes.items (begins_on _ _ _ s start a u.read b.begins b.within) within all c.in_ok-finish.ensures.wire c.in_ok-finish.ensures.left,
+    )

@@ -1,0 +1,5 @@
+pub mod Digits
+pub mod Routes
+pub mod Responses
+pub mod Heads
+pub mod Requests

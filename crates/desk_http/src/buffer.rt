@@ -1,0 +1,35 @@
+ghost use Rattle.std.specs.Prelude.{◌≡◌, []};
+
+use httparse::spans::HeaderSpan;
+use std::alloc::Global;
+use std::marker::Model;
+
+/// Bytes that were read and belong to no request yet. A contract sees the list of them.
+#[derive(Debug, Drop)]
+pub struct Buffer {
+    pub(crate) bytes: Vec<u8>,
+    // Where bytes are read to, and the places of fields: empty until the first request.
+    pub(crate) piece: Vec<u8>,
+    pub(crate) spans: Vec<HeaderSpan>,
+}
+
+impl Model for Buffer {
+    ghost use Rattle.std.specs.Prelude.{List, ℕ};
+
+    ghost Value = { List ℕ };
+
+    ghost view = { λ b. b.bytes.items };
+}
+
+impl Buffer {
+    /// A buffer without bytes. It takes no memory.
+    pub fn new(alloc: Global) -> Buffer
+        ensures { result ≡ [] }
+    {
+        Buffer {
+            bytes: Vec::new(alloc),
+            piece: Vec::new(alloc),
+            spans: Vec::new(alloc),
+        }
+    }
+}

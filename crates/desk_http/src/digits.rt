@@ -1,0 +1,45 @@
+ghost use Rattle.std.specs.Prelude.{◌≡◌, ◌≤◌, ◌&&◌, ℕ, IsTrue, length, nat_le, if◌then◌else◌, Some, None};
+ghost use Rattle.std.specs.List.{list_all};
+ghost use Rattle.desk_http.specs.Digits as spec;
+
+fn is_digit(b: u8) -> bool
+    ensures { result ≡ spec.is_digit b }
+{
+    b'0' <= b && b <= b'9'
+}
+
+fn all_digits(text: &[u8]) -> bool
+    ensures { result ≡ list_all spec.is_digit text.now }
+{
+    text.iter().all(|b| is_digit(*b))
+}
+
+/// Whether a text has one to so many bytes.
+pub(crate) fn has_length(most: usize, text: &[u8]) -> bool
+    ensures { result ≡ spec.has_length most text.now }
+{
+    1 <= text.len() && text.len() <= most
+}
+
+fn digits_value(digits: &[u8]) -> u64
+    requires { length digits.now ≤ 10 }
+    ensures { result ≡ spec.digits_after 0 digits.now }
+{
+    let mut number = 0;
+    for digit in digits {
+        number = 10 * number + u64::from(digit.saturating_sub(b'0'));
+    }
+    number
+}
+
+/// The number of one to so many decimal digits. Zeros in front are allowed.
+pub(crate) fn number_of(most: usize, text: &[u8]) -> Option<u64>
+    requires { most ≤ 10 }
+    ensures { result ≡ spec.number_of most text.now }
+{
+    if has_length(most, text) && all_digits(text) {
+        Some(digits_value(text))
+    } else {
+        None
+    }
+}

@@ -1,0 +1,109 @@
+ghost use Rattle.std.specs.Prelude.{◌≡◌, ◌<◌, ◌≤◌, ◌+◌, ℕ, List, Option, length, take, IfOk, IfErr, MatchResult};
+ghost use Rattle.httparse.specs.Spans.{IsRequestOf};
+ghost use Rattle.desk_io.specs.Causes.{HasCause};
+ghost use Rattle.desk_net.specs.Wires.{unread, OnlyRead};
+ghost use Rattle.desk_http.specs.Heads.{head_limit};
+ghost use Rattle.desk_http.specs.Requests as spec;
+ghost use Rattle.desk_http.specs.Requests.{Splits, HasRead, AtEnd, StaysSound};
+
+use crate::fields::front;
+use crate::{FIELD_ROOM, Front, HEAD_LIMIT, WireFault, front_of};
+use desk_io::Failed;
+use desk_net::Link;
+use httparse::spans::{HeaderSpan, RequestSpans};
+
+// Reads some bytes, and answers how many: 0 exactly at the end.
+fn read_piece<N: Link>(link: &mut N, into: &mut [u8]) -> Result<usize, Failed>
+    requires { 0 < length into.old }
+    ensures bound { IfOk result (λ n. n ≤ length into.old) }
+    ensures given { IfOk result (λ n. Splits (unread (N.told link.old)) (take n into.new) (unread (N.told link.new))) }
+    ensures at_end { IfOk result (λ n. n ≡ 0 → AtEnd (unread (N.told link.new))) }
+    ensures same { OnlyRead (N.told link.old) (N.told link.new) }
+    ensures cause { HasCause (record {}) (N.fault_count link.old) (N.fault_count link.new) result }
+    ensures sound { StaysSound (record {}) (N.sound link.old) (N.sound link.new) (N.fault_count link.old) (N.fault_count link.new) result }
+{
+    link.read(into)
+}
+
+/// Reads some bytes to the end of those that are kept, and answers how many: 0 exactly at the end.
+pub(crate) fn read_more<N: Link>(
+    link: &mut N,
+    bytes: &mut Vec<u8>,
+    piece: &mut [u8],
+) -> Result<usize, WireFault>
+    requires { 0 < length piece.old }
+    ensures more { IfOk result (λ _. HasRead (unread (N.told link.old)) (unread (N.told link.new)) bytes.old.items bytes.new.items) }
+    ensures count { IfOk result (λ n. length bytes.new.items ≡ length bytes.old.items + n) }
+    ensures at_end { IfOk result (λ n. n ≡ 0 → AtEnd (unread (N.told link.new))) }
+    ensures outside { IfErr result spec.IsOutside }
+    ensures same { OnlyRead (N.told link.old) (N.told link.new) }
+    ensures cause { HasCause WireFault.ReadFault (N.fault_count link.old) (N.fault_count link.new) result }
+    ensures sound { StaysSound WireFault.ReadFault (N.sound link.old) (N.sound link.new) (N.fault_count link.old) (N.fault_count link.new) result }
+{
+    let count = read_piece(link, piece)?;
+    bytes.extend_from_slice(&piece[..count])?;
+    Ok(count)
+}
+
+/// The bytes in which a head is looked for.
+pub(crate) fn head_bytes(bytes: &[u8]) -> &[u8]
+    ensures value { result.now ≡ take head_limit bytes.now }
+    ensures short { length result.now ≤ head_limit }
+{
+    front(bytes, HEAD_LIMIT)
+}
+
+/// Reads until the bytes kept begin with a whole head, and answers where its parts are.
+pub(crate) fn read_head<N: Link>(
+    link: &mut N,
+    bytes: &mut Vec<u8>,
+    piece: &mut [u8],
+    spans: &mut [HeaderSpan],
+) -> Result<RequestSpans, WireFault>
+    requires piece { 0 < length piece.old }
+    requires room { FIELD_ROOM ≤ length spans.old }
+    ensures next { spec.ReadsHead (unread (N.told link.old)) (unread (N.told link.new)) bytes.old.items bytes.new.items spans.new result }
+    ensures same { OnlyRead (N.told link.old) (N.told link.new) }
+    ensures cause { HasCause WireFault.ReadFault (N.fault_count link.old) (N.fault_count link.new) result }
+    ensures sound { StaysSound WireFault.ReadFault (N.sound link.old) (N.sound link.new) (N.fault_count link.old) (N.fault_count link.new) result }
+{
+    loop {
+        match front_of(head_bytes(bytes), spans) {
+            Front::Whole(head) => return Ok(head),
+            Front::Never => return Err(WireFault::BadHead),
+            Front::More => {}
+        }
+        if bytes.len() >= HEAD_LIMIT {
+            return Err(WireFault::TooLarge);
+        }
+        if read_more(link, bytes, piece)? == 0 {
+            return Err(if bytes.as_slice().is_empty() {
+                WireFault::End
+            } else {
+                WireFault::Cut
+            });
+        }
+    }
+}
+
+/// Reads until so many bytes are kept, and answers whether they are: false where the end came first.
+pub(crate) fn read_up_to<N: Link>(
+    link: &mut N,
+    bytes: &mut Vec<u8>,
+    piece: &mut [u8],
+    count: usize,
+) -> Result<bool, WireFault>
+    requires { 0 < length piece.old }
+    ensures read { IfOk result (λ _. HasRead (unread (N.told link.old)) (unread (N.told link.new)) bytes.old.items bytes.new.items) }
+    ensures next { MatchResult result (spec.IsUpTo count bytes.new.items (unread (N.told link.new))) spec.IsOutside }
+    ensures same { OnlyRead (N.told link.old) (N.told link.new) }
+    ensures cause { HasCause WireFault.ReadFault (N.fault_count link.old) (N.fault_count link.new) result }
+    ensures sound { StaysSound WireFault.ReadFault (N.sound link.old) (N.sound link.new) (N.fault_count link.old) (N.fault_count link.new) result }
+{
+    while bytes.len() < count {
+        if read_more(link, bytes, piece)? == 0 {
+            return Ok(false);
+        }
+    }
+    Ok(true)
+}

@@ -1,0 +1,152 @@
+ghost use Rattle.std.specs.Prelude.{◌≡◌, ◌<◌, ◌≤◌, ◌+◌, ◌-◌, ℕ, List, Option, length, take, drop, slice_range, IfOk, OnOk, MatchResult};
+ghost use Rattle.desk_io.specs.Causes.{HasCause};
+ghost use Rattle.desk_net.specs.Wires.{unread, OnlyRead};
+ghost use Rattle.desk_http.specs.Requests as spec;
+ghost use Rattle.desk_http.specs.Requests.{NextRequest, StaysSound, unused, AnswersUnused};
+
+use crate::reading::{head_bytes, read_head, read_up_to};
+use crate::{Asked, Buffer, FIELD_ROOM, Wire, WireFault, asked};
+use desk_io::{OutOfMemory, Text};
+use desk_net::Link;
+use httparse::spans::{EMPTY_HEADER_SPAN, HeaderSpan};
+use std::alloc::Global;
+
+// How many bytes are asked for at once.
+const PIECE: usize = 4096;
+
+// Room to read to.
+fn make_piece(piece: &mut Vec<u8>) -> Result<(), OutOfMemory>
+    ensures { OnOk result (0 < length piece.new.items) }
+{
+    if piece.is_empty() {
+        piece.resize(PIECE, 0)?;
+    }
+    Ok(())
+}
+
+// Room for the fields of a head.
+fn make_room(spans: &mut Vec<HeaderSpan>) -> Result<(), OutOfMemory>
+    ensures { OnOk result (FIELD_ROOM ≤ length spans.new.items) }
+{
+    if spans.len() < FIELD_ROOM {
+        spans.resize(FIELD_ROOM, EMPTY_HEADER_SPAN)?;
+    }
+    Ok(())
+}
+
+// Reads a whole head, and answers what it asks for and where it ends.
+fn begin<N: Link>(
+    alloc: Global,
+    link: &mut N,
+    bytes: &mut Vec<u8>,
+    piece: &mut [u8],
+    spans: &mut [HeaderSpan],
+) -> Result<(Asked, usize), WireFault>
+    requires piece { 0 < length piece.old }
+    requires room { FIELD_ROOM ≤ length spans.old }
+    ensures next { MatchResult result (λ p. spec.IsBegun (unread (N.told link.old)) (unread (N.told link.new)) bytes.old.items bytes.new.items p.0 p.1) (spec.EndsBy (unread (N.told link.old)) (unread (N.told link.new)) bytes.old.items bytes.new.items) }
+    ensures same { OnlyRead (N.told link.old) (N.told link.new) }
+    ensures cause { HasCause WireFault.ReadFault (N.fault_count link.old) (N.fault_count link.new) result }
+    ensures sound { StaysSound WireFault.ReadFault (N.sound link.old) (N.sound link.new) (N.fault_count link.old) (N.fault_count link.new) result }
+{
+    let head = read_head(link, bytes, piece, spans)?;
+    match asked(alloc, head_bytes(bytes), &head, spans)? {
+        Ok(asked) => Ok((asked, head.len)),
+        Err(fault) => Err(fault),
+    }
+}
+
+// Drops the first so many bytes. It takes no memory.
+fn cut(bytes: &mut Vec<u8>, count: usize)
+    requires { count ≤ length bytes.old.items }
+    ensures { bytes.new.items ≡ drop count bytes.old.items }
+{
+    let left = bytes.len() - count;
+    bytes.rotate_left(count);
+    bytes.truncate(left);
+}
+
+// The request whose body stands between two places. It and what stands before are dropped.
+fn finish(
+    alloc: Global,
+    bytes: &mut Vec<u8>,
+    asked: Asked,
+    start: usize,
+    end: usize,
+) -> Result<Wire, OutOfMemory>
+    requires order { start ≤ end }
+    requires within { end ≤ length bytes.old.items }
+    ensures wire { IfOk result (λ w. w ≡ spec.wire_of asked (slice_range bytes.old.items start end)) }
+    ensures left { OnOk result (bytes.new.items ≡ drop end bytes.old.items) }
+{
+    let body = Text::of(alloc, &bytes[start..end])?;
+    cut(bytes, end);
+    let Asked {
+        get,
+        path,
+        actor,
+        key,
+        length: _,
+        last,
+    } = asked;
+    Ok(Wire {
+        get,
+        path,
+        actor,
+        key,
+        body,
+        last,
+    })
+}
+
+fn request_in<N: Link>(
+    alloc: Global,
+    link: &mut N,
+    bytes: &mut Vec<u8>,
+    piece: &mut [u8],
+    spans: &mut [HeaderSpan],
+) -> Result<Wire, WireFault>
+    requires piece { 0 < length piece.old }
+    requires room { FIELD_ROOM ≤ length spans.old }
+    ensures next { NextRequest (unread (N.told link.old)) (unread (N.told link.new)) bytes.old.items bytes.new.items result }
+    ensures same { OnlyRead (N.told link.old) (N.told link.new) }
+    ensures cause { HasCause WireFault.ReadFault (N.fault_count link.old) (N.fault_count link.new) result }
+    ensures sound { StaysSound WireFault.ReadFault (N.sound link.old) (N.sound link.new) (N.fault_count link.old) (N.fault_count link.new) result }
+{
+    let (asked, start) = begin(alloc, link, bytes, piece, spans)?;
+    let end = start + asked.length as usize;
+    if !read_up_to(link, bytes, piece, end)? {
+        return Err(WireFault::Cut);
+    }
+    Ok(finish(alloc, bytes, asked, start, end)?)
+}
+
+/// The next request of a connection: the first of the bytes that the buffer holds and of those that
+/// come in. What comes after it stays in the buffer.
+///
+/// `End` comes where the connection ends before a request, `Cut` where it ends within one, `BadHead`
+/// where the bytes make no head whatever follows, `TooLarge` where a head has more than `HEAD_LIMIT`
+/// bytes or states more than `BODY_LIMIT`, `WrongMethod` and `NoLength` by the head, in this order
+/// and before `TooLarge`. `ReadFault` comes only where the count of faults rose. After a fault the
+/// buffer isn't used again.
+pub fn next_request<N: Link>(
+    alloc: Global,
+    link: &mut N,
+    buffer: &mut Buffer,
+) -> Result<Wire, WireFault>
+    ensures next { NextRequest (unread (N.told link.old)) (unread (N.told link.new)) buffer.old buffer.new result }
+    ensures answers { AnswersUnused (unused buffer.old (unread (N.told link.old))) (unused buffer.new (unread (N.told link.new))) result }
+    ensures same { OnlyRead (N.told link.old) (N.told link.new) }
+    ensures cause { HasCause WireFault.ReadFault (N.fault_count link.old) (N.fault_count link.new) result }
+    ensures sound { StaysSound WireFault.ReadFault (N.sound link.old) (N.sound link.new) (N.fault_count link.old) (N.fault_count link.new) result }
+{
+    make_piece(&mut buffer.piece)?;
+    make_room(&mut buffer.spans)?;
+    request_in(
+        alloc,
+        link,
+        &mut buffer.bytes,
+        &mut buffer.piece,
+        &mut buffer.spans,
+    )
+}

@@ -1,0 +1,71 @@
+ghost use Rattle.std.specs.Prelude.{◌≡◌, IfOk, length};
+ghost use Rattle.http.specs.StatusCode.{IsStatusCode};
+ghost use Rattle.desk_http.specs.Responses as spec;
+
+use desk_io::{OutOfMemory, Text, push_all};
+use http::StatusCode;
+use std::alloc::Global;
+
+const LINE_END: &[u8] = b"\r\n";
+
+fn phrase_of(status: u16) -> &'static str
+    requires { IsStatusCode status }
+    ensures { result.now ≡ spec.phrase_of status }
+{
+    match StatusCode::from_u16(status) {
+        Ok(code) => code.canonical_reason().unwrap_or(""),
+        Err(_) => "",
+    }
+}
+
+fn status_line(alloc: Global, status: u16) -> Result<Vec<u8>, OutOfMemory>
+    requires { IsStatusCode status }
+    ensures { IfOk result (λ line. line.items ≡ spec.status_line status) }
+{
+    let code = status.to_string(alloc)?;
+    let phrase = phrase_of(status);
+    let mut line = Vec::new(alloc);
+    push_all(
+        &mut line,
+        &[
+            b"HTTP/1.1 ",
+            code.as_bytes(),
+            b" ",
+            phrase.as_bytes(),
+            LINE_END,
+        ],
+    )?;
+    Ok(line)
+}
+
+fn field_lines(alloc: Global, count: usize) -> Result<Vec<u8>, OutOfMemory>
+    ensures { IfOk result (λ lines. lines.items ≡ spec.field_lines count) }
+{
+    let count = count.to_string(alloc)?;
+    let mut lines = Vec::new(alloc);
+    push_all(
+        &mut lines,
+        &[
+            b"Content-Type: application/json",
+            LINE_END,
+            b"Content-Length: ",
+            count.as_bytes(),
+            LINE_END,
+        ],
+    )?;
+    Ok(lines)
+}
+
+/// The bytes that answer a request: the status line with the phrase of RFC 9110, Content-Type and
+/// Content-Length, an empty line, and the body, which is JSON. A status has three digits.
+#[tactic(auto, unfolding(crate::specs::Responses::response))]
+pub fn response(alloc: Global, status: u16, body: &[u8]) -> Result<Text, OutOfMemory>
+    requires { IsStatusCode status }
+    ensures { IfOk result (λ text. text ≡ spec.response status body.now) }
+{
+    let line = status_line(alloc, status)?;
+    let fields = field_lines(alloc, body.len())?;
+    let mut bytes = Vec::new(alloc);
+    push_all(&mut bytes, &[&line, &fields, LINE_END, body])?;
+    Ok(Text::from_vec(bytes))
+}

@@ -1,0 +1,4 @@
+pub mod Clocks
+pub mod Wires
+pub mod Doors
+pub mod Calls

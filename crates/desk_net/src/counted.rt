@@ -1,0 +1,21 @@
+ghost use Rattle.std.specs.Prelude.{◌≡◌, Ok, is_ok, IfOk, OnOk};
+ghost use Rattle.desk_io.specs.Causes.{HasCause};
+
+use desk_io::Failed;
+use std::io;
+
+// An error of the system is a counted fault, and nothing else is.
+pub(crate) fn counted<T>(answer: io::Result<T>, faults: &mut u64) -> Result<T, Failed>
+    ensures fails { is_ok result ≡ is_ok answer }
+    ensures value { IfOk result (λ x. answer ≡ Ok x) }
+    ensures cause { HasCause (record {}) faults.old faults.new result }
+    ensures kept { OnOk result (faults.new ≡ faults.old) }
+{
+    match answer {
+        Ok(x) => Ok(x),
+        Err(_) => {
+            *faults = faults.saturating_add(1);
+            Err(Failed)
+        }
+    }
+}

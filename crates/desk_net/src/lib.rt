@@ -1,0 +1,18 @@
+//! The outside of the service: a clock, links and the door that they come through, in memory and in reality.
+#![tactic(auto)]
+
+mod counted;
+mod memory_clock;
+mod memory_door;
+mod memory_link;
+mod outside;
+mod planned;
+mod system_clock;
+mod tcp;
+
+pub use memory_clock::MemoryClock;
+pub use memory_door::MemoryDoor;
+pub use memory_link::MemoryLink;
+pub use outside::{Clock, Door, Link};
+pub use system_clock::SystemClock;
+pub use tcp::{TcpDoor, TcpLink};

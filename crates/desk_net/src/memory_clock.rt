@@ -1,0 +1,77 @@
+ghost use Rattle.std.specs.Prelude.{◌≡◌, ◌+◌, ◌-◌, ◌<◌, min, not, [], Some, length, slice_index, IfOk, OnOk, OnErr, IsOk, is_ok};
+ghost use Rattle.std.specs.List.{All};
+ghost use Rattle.desk_io.specs.Causes.{HasCause};
+ghost use Rattle.desk_io.specs.Planned.{is_planned, after};
+ghost use Rattle.desk_net.specs.Clocks.{IsMoment, IsOneOf};
+
+use crate::Clock;
+use crate::planned::Calls;
+use desk_io::Failed;
+use desk_time::Minute;
+
+/// A clock in memory. It gives its moments in order, and then the last one again. Its calls of `now` are
+/// numbered from 0, and those in `fail` fail and use up no moment. With an empty `fail` it is sound.
+#[derive(Drop)]
+pub struct MemoryClock {
+    moments: Vec<Minute>,
+    place: usize,
+    calls: Calls,
+    ghost within: { place < length moments.items },
+    ghost in_range: { All IsMoment moments.items },
+}
+
+impl MemoryClock {
+    /// A clock of at least one moment, each from `FIRST` to `LAST`. It takes no memory.
+    pub fn new(moments: Vec<Minute>, fail: Vec<u64>) -> Self
+        requires some { 0 < length moments.items }
+        requires in_range { All IsMoment moments.items }
+        ensures moments { result.moments.items ≡ moments.items }
+        ensures place { result.place ≡ 0 }
+        ensures fail { result.calls.fail.items ≡ fail.items }
+        ensures calls { result.calls.made ≡ 0 }
+        ensures faults { result.calls.faults ≡ 0 }
+    {
+        MemoryClock {
+            moments,
+            place: 0,
+            calls: Calls::new(fail),
+        }
+    }
+}
+
+impl Clock for MemoryClock {
+    ghost moments = { λ c. Some c.moments.items };
+
+    ghost fault_count = { λ c. c.calls.faults };
+
+    ghost sound = { λ c. c.calls.fail.items ≡ [] };
+
+    fn now(&mut self) -> Result<Minute, Failed>
+        ensures range { IfOk result IsMoment }
+        ensures told { IfOk result (IsOneOf (Some self.old.moments.items)) }
+        ensures same { Some self.new.moments.items ≡ Some self.old.moments.items }
+        ensures cause { HasCause (record {}) self.old.calls.faults self.new.calls.faults result }
+        ensures sound { self.old.calls.fail.items ≡ [] → (self.new.calls.fail.items ≡ []) × IsOk result × (self.new.calls.faults ≡ self.old.calls.faults) }
+        // It gives the moment at its place exactly where the call isn't among those that fail, and goes on.
+        ensures planned { is_ok result ≡ not (is_planned self.old.calls.fail.items self.old.calls.made) }
+        ensures moment { IfOk result (λ m. m ≡ slice_index self.old.moments.items self.old.place) }
+        ensures onward { OnOk result (self.new.place ≡ min (self.old.place + 1) (length self.old.moments.items - 1)) }
+        ensures kept { OnErr result (self.new.place ≡ self.old.place) }
+        ensures moments { self.new.moments.items ≡ self.old.moments.items }
+        ensures fail { self.new.calls.fail.items ≡ self.old.calls.fail.items }
+        ensures calls { self.new.calls.made ≡ after self.old.calls.made }
+    {
+        if self.calls.next_fails() {
+            return Err(Failed);
+        }
+        let moment = self.moments[self.place];
+        if self.place + 1 < self.moments.len() {
+            self.place += 1;
+        }
+        Ok(moment)
+    }
+
+    fn faults(&self) -> u64 {
+        self.calls.faults()
+    }
+}

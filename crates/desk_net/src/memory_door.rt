@@ -1,0 +1,106 @@
+ghost use Rattle.std.specs.Prelude.{◌≡◌, ◌<◌, not, [], Some, IsOk, is_ok};
+ghost use Rattle.desk_io.specs.Causes.{HasCause};
+ghost use Rattle.desk_io.specs.Planned.{is_planned, after};
+ghost use Rattle.desk_net.specs.Doors.{links, Accepts, TakesBack, HasNext, accepts};
+
+use crate::planned::Calls;
+use crate::{Door, MemoryLink};
+use desk_io::{Failed, OutOfMemory};
+use std::alloc::Global;
+use std::collections::VecDeque;
+
+/// A door in memory. It fails when its links are used up. Its calls of `bind` and of `accept` are numbered
+/// together from 0, and those in `fail` fail with no link given. With an empty `fail` it is sound.
+#[derive(Drop)]
+pub struct MemoryDoor {
+    coming: VecDeque<MemoryLink>,
+    ended: Vec<MemoryLink>,
+    calls: Calls,
+}
+
+impl MemoryDoor {
+    /// A door to which these links come, in order. It takes no memory.
+    pub fn new(alloc: Global, links: Vec<MemoryLink>, fail: Vec<u64>) -> Self
+        ensures coming { result.coming.items ≡ links.items }
+        ensures ended { result.ended.items ≡ [] }
+        ensures fail { result.calls.fail.items ≡ fail.items }
+        ensures calls { result.calls.made ≡ 0 }
+        ensures faults { result.calls.faults ≡ 0 }
+    {
+        MemoryDoor {
+            coming: VecDeque::from(links),
+            ended: Vec::new(alloc),
+            calls: Calls::new(fail),
+        }
+    }
+
+    /// The links that were given back, in order.
+    pub fn ended(&self) -> &[MemoryLink]
+        ensures { result.now ≡ self.now.ended.items }
+    {
+        &self.ended
+    }
+}
+
+impl Door for MemoryDoor {
+    type Link = MemoryLink;
+
+    ghost told = { λ d. Some (links d.coming.items d.ended.items) };
+
+    ghost fault_count = { λ d. d.calls.faults };
+
+    ghost sound = { λ d. d.calls.fail.items ≡ [] };
+
+    fn bind(&mut self, _port: u16) -> Result<(), Failed>
+        ensures same { Some (links self.new.coming.items self.new.ended.items) ≡ Some (links self.old.coming.items self.old.ended.items) }
+        ensures cause { HasCause (record {}) self.old.calls.faults self.new.calls.faults result }
+        ensures sound { self.old.calls.fail.items ≡ [] → (self.new.calls.fail.items ≡ []) × IsOk result × (self.new.calls.faults ≡ self.old.calls.faults) }
+        // It fails exactly where its number is planned.
+        ensures planned { is_ok result ≡ not (is_planned self.old.calls.fail.items self.old.calls.made) }
+        ensures fail { self.new.calls.fail.items ≡ self.old.calls.fail.items }
+        ensures calls { self.new.calls.made ≡ after self.old.calls.made }
+    {
+        if self.calls.next_fails() {
+            return Err(Failed);
+        }
+        Ok(())
+    }
+
+    fn accept(&mut self) -> Result<MemoryLink, Failed>
+        ensures told { Accepts (Some (links self.old.coming.items self.old.ended.items)) (Some (links self.new.coming.items self.new.ended.items)) result }
+        ensures cause { HasCause (record {}) self.old.calls.faults self.new.calls.faults result }
+        ensures sound { self.old.calls.fail.items ≡ [] → (self.new.calls.fail.items ≡ []) ×
+            (HasNext (Some (links self.old.coming.items self.old.ended.items)) → IsOk result × (self.new.calls.faults ≡ self.old.calls.faults)) }
+        // It gives a link exactly where one is to come and the call isn't among those that fail.
+        ensures planned { is_ok result ≡ accepts self.old.coming.items (is_planned self.old.calls.fail.items self.old.calls.made) }
+        ensures fail { self.new.calls.fail.items ≡ self.old.calls.fail.items }
+        ensures calls { self.new.calls.made ≡ after self.old.calls.made }
+    {
+        if self.calls.next_fails() {
+            return Err(Failed);
+        }
+        match self.coming.pop_front() {
+            Some(link) => Ok(link),
+            None => {
+                self.calls.count_fault();
+                Err(Failed)
+            }
+        }
+    }
+
+    fn done(&mut self, link: MemoryLink) -> Result<(), OutOfMemory>
+        ensures told { TakesBack (Some (links self.old.coming.items self.old.ended.items)) (Some (links self.new.coming.items self.new.ended.items)) link result }
+        ensures count { self.new.calls.faults ≡ self.old.calls.faults }
+        ensures sound { self.old.calls.fail.items ≡ [] → self.new.calls.fail.items ≡ [] }
+        // It isn't numbered among the door's calls.
+        ensures fail { self.new.calls.fail.items ≡ self.old.calls.fail.items }
+        ensures calls { self.new.calls.made ≡ self.old.calls.made }
+    {
+        self.ended.push(link)?;
+        Ok(())
+    }
+
+    fn faults(&self) -> u64 {
+        self.calls.faults()
+    }
+}

@@ -1,0 +1,108 @@
+ghost use Rattle.std.specs.Prelude.{◌≡◌, ◌-◌, ◌<◌, ◌≤◌, min, not, [], Some, length, IfOk, IsOk, IsErrOf, OnErr, is_ok};
+ghost use Rattle.desk_io.specs.Causes.{HasCause};
+ghost use Rattle.desk_io.specs.Planned.{is_planned, after, Fails};
+ghost use Rattle.desk_io.specs.declared.faults.PutFault.TheVariants.{Failed as PutFailed};
+ghost use Rattle.desk_net.specs.Wires.{wire, Reads, Writes};
+
+use crate::Link;
+use crate::planned::Calls;
+use desk_io::{Failed, PutFault};
+use std::alloc::Global;
+
+/// A link in memory. A read gives at most `cut` bytes. Its calls of `read` and of `write` are numbered
+/// together from 0, and those in `fail` fail with nothing read or appended. With an empty `fail` it is sound.
+#[derive(Drop)]
+pub struct MemoryLink {
+    input: Vec<u8>,
+    taken: usize,
+    written: Vec<u8>,
+    cut: usize,
+    calls: Calls,
+    ghost some_cut: { 0 < cut },
+    ghost within: { taken ≤ length input.items },
+}
+
+impl MemoryLink {
+    /// A link of that input, of which nothing was read, and nothing was appended. `cut` is at least 1. It
+    /// takes no memory.
+    pub fn new(alloc: Global, input: Vec<u8>, cut: usize, fail: Vec<u64>) -> Self
+        requires { 0 < cut }
+        ensures input { result.input.items ≡ input.items }
+        ensures taken { result.taken ≡ 0 }
+        ensures written { result.written.items ≡ [] }
+        ensures cut { result.cut ≡ cut }
+        ensures fail { result.calls.fail.items ≡ fail.items }
+        ensures calls { result.calls.made ≡ 0 }
+        ensures faults { result.calls.faults ≡ 0 }
+    {
+        MemoryLink {
+            input,
+            taken: 0,
+            written: Vec::new(alloc),
+            cut,
+            calls: Calls::new(fail),
+        }
+    }
+
+    /// All that was appended.
+    pub fn written(&self) -> &[u8]
+        ensures { result.now ≡ self.now.written.items }
+    {
+        &self.written
+    }
+}
+
+impl Link for MemoryLink {
+    ghost told = { λ l. Some (wire l.input.items l.taken l.written.items) };
+
+    ghost fault_count = { λ l. l.calls.faults };
+
+    ghost sound = { λ l. l.calls.fail.items ≡ [] };
+
+    fn read(&mut self, into: &mut [u8]) -> Result<usize, Failed>
+        requires { 0 < length into.old }
+        ensures bound { IfOk result (λ n. n ≤ length into.old) }
+        ensures told { Reads (Some (wire self.old.input.items self.old.taken self.old.written.items))
+            (Some (wire self.new.input.items self.new.taken self.new.written.items)) into.new result }
+        ensures cause { HasCause (record {}) self.old.calls.faults self.new.calls.faults result }
+        ensures sound { self.old.calls.fail.items ≡ [] → (self.new.calls.fail.items ≡ []) × IsOk result × (self.new.calls.faults ≡ self.old.calls.faults) }
+        // It fails exactly where its number is planned, and gives as many bytes as it may.
+        ensures planned { is_ok result ≡ not (is_planned self.old.calls.fail.items self.old.calls.made) }
+        ensures count { IfOk result (λ n. n ≡ min (min (length self.old.input.items - self.old.taken) self.old.cut) (length into.old)) }
+        ensures cut { self.new.cut ≡ self.old.cut }
+        ensures fail { self.new.calls.fail.items ≡ self.old.calls.fail.items }
+        ensures calls { self.new.calls.made ≡ after self.old.calls.made }
+    {
+        if self.calls.next_fails() {
+            return Err(Failed);
+        }
+        let rest = &self.input[self.taken..];
+        let count = rest.len().min(self.cut).min(into.len());
+        into[..count].copy_from_slice(&rest[..count]);
+        self.taken += count;
+        Ok(count)
+    }
+
+    fn write(&mut self, bytes: &[u8]) -> Result<(), PutFault>
+        ensures told { Writes (Some (wire self.old.input.items self.old.taken self.old.written.items))
+            (Some (wire self.new.input.items self.new.taken self.new.written.items)) bytes.now result }
+        ensures cause { HasCause PutFailed self.old.calls.faults self.new.calls.faults result }
+        ensures sound { self.old.calls.fail.items ≡ [] → (self.new.calls.fail.items ≡ []) × (IsErrOf result PutFailed → ⊥) × (self.new.calls.faults ≡ self.old.calls.faults) }
+        // It fails exactly where its number is planned, with nothing appended.
+        ensures planned { Fails (is_planned self.old.calls.fail.items self.old.calls.made) result }
+        ensures err { OnErr result (self.new.written.items ≡ self.old.written.items) }
+        ensures cut { self.new.cut ≡ self.old.cut }
+        ensures fail { self.new.calls.fail.items ≡ self.old.calls.fail.items }
+        ensures calls { self.new.calls.made ≡ after self.old.calls.made }
+    {
+        if self.calls.next_fails() {
+            return Err(PutFault::Failed);
+        }
+        self.written.extend_from_slice(bytes)?;
+        Ok(())
+    }
+
+    fn faults(&self) -> u64 {
+        self.calls.faults()
+    }
+}

@@ -1,0 +1,162 @@
+ghost use Rattle.std.specs.Prelude.{◌≡◌, ◌<◌, ◌≤◌, length, None, IsSome, IfOk, IsOk, IsErr, OnOk};
+ghost use Rattle.std.specs.Io.KnownBytes.{Appends, ReadConsumes};
+ghost use Rattle.desk_io.specs.Causes.{HasCause};
+ghost use Rattle.desk_io.specs.declared.faults.PutFault.TheVariants.{Failed as PutFailed};
+
+use crate::counted::counted;
+use crate::{Door, Link};
+use desk_io::{Failed, OutOfMemory, PutFault};
+use std::io;
+use std::io::{Read, Write};
+use std::net::{Ipv4Addr, Net, OpenListener, TcpListener};
+
+fn read_some<S: Read>(stream: &mut S, into: &mut [u8]) -> io::Result<usize>
+    ensures bound { IfOk result (λ n. n ≤ length into.old) }
+    ensures bytes { ReadConsumes (S.remaining stream.old) (S.remaining stream.new) result into.new }
+{
+    stream.read(into)
+}
+
+// Writes all of the bytes, unless it answers an error.
+fn write_out<S: Write>(stream: &mut S, bytes: &[u8]) -> io::Result<()>
+    ensures { OnOk result (Appends (S.contents stream.old) (S.contents stream.new) bytes.now) }
+{
+    stream.write_all(bytes)
+}
+
+/// A connection over TCP (RFC 9293). It tells nothing of its bytes, and each error is a counted fault. The
+/// connection is closed where the link is dropped. A read and a write may wait for the peer without limit. It
+/// takes no memory.
+#[derive(Drop)]
+pub struct TcpLink<S: Read + Write + Drop> {
+    stream: S,
+    faults: u64,
+}
+
+impl<S: Read + Write + Drop> TcpLink<S> {
+    /// A link over an open stream.
+    pub fn new(stream: S) -> Self
+        ensures { result.faults ≡ 0 }
+    {
+        TcpLink { stream, faults: 0 }
+    }
+}
+
+impl<S: Read + Write + Drop> Link for TcpLink<S> {
+    ghost told = { λ l. None };
+
+    ghost fault_count = { λ l. l.faults };
+
+    ghost sound = { λ l. ⊥ };
+
+    fn read(&mut self, into: &mut [u8]) -> Result<usize, Failed>
+        requires { 0 < length into.old }
+        ensures bound { IfOk result (λ n. n ≤ length into.old) }
+        ensures cause { HasCause (record {}) self.old.faults self.new.faults result }
+        // It gives what the stream gave.
+        ensures bytes { ReadConsumes (S.remaining self.old.stream) (S.remaining self.new.stream) result into.new }
+    {
+        let answer = read_some(&mut self.stream, into);
+        counted(answer, &mut self.faults)
+    }
+
+    fn write(&mut self, bytes: &[u8]) -> Result<(), PutFault>
+        ensures cause { HasCause PutFailed self.old.faults self.new.faults result }
+        // The stream took all of the bytes.
+        ensures bytes { OnOk result (Appends (S.contents self.old.stream) (S.contents self.new.stream) bytes.now) }
+    {
+        let answer = write_out(&mut self.stream, bytes);
+        match counted(answer, &mut self.faults) {
+            Ok(()) => Ok(()),
+            Err(Failed) => Err(PutFault::Failed),
+        }
+    }
+
+    fn faults(&self) -> u64 {
+        self.faults
+    }
+}
+
+/// A door at 127.0.0.1, which only this machine reaches (RFC 1122, 3.2.1.3). It tells no links, and each error
+/// is a counted fault, as is an accept at a door that isn't open. An accept may wait for a caller without limit.
+/// It takes no memory.
+#[derive(Drop)]
+pub struct TcpDoor<R: Net + Drop> {
+    net: R,
+    listener: Option<R::Listener>,
+    faults: u64,
+}
+
+impl<R: Net + Drop> TcpDoor<R> {
+    /// A door that isn't open yet.
+    pub fn new(net: R) -> Self
+        ensures { result.faults ≡ 0 }
+    {
+        TcpDoor {
+            net,
+            listener: None,
+            faults: 0,
+        }
+    }
+
+    // Opens the door at that port. A door that was open stays so where this fails.
+    fn open(&mut self, port: u16) -> io::Result<()>
+        ensures faults { self.new.faults ≡ self.old.faults }
+        ensures opened { OnOk result (IsSome self.new.listener) }
+    {
+        let listener = TcpListener::bind(&self.net, (Ipv4Addr::LOCALHOST, port))?;
+        self.listener = Some(listener);
+        Ok(())
+    }
+
+    fn next_stream(&self) -> io::Result<R::Stream>
+        ensures shut { self.now.listener ≡ None → IsErr result }
+    {
+        match &self.listener {
+            None => Err(io::Error::from(io::ErrorKind::NotConnected)),
+            Some(listener) => Ok(listener.accept()?.0),
+        }
+    }
+}
+
+impl<R: Net + Drop> Door for TcpDoor<R> {
+    type Link = TcpLink<R::Stream>;
+
+    ghost told = { λ d. None };
+
+    ghost fault_count = { λ d. d.faults };
+
+    ghost sound = { λ d. ⊥ };
+
+    fn bind(&mut self, port: u16) -> Result<(), Failed>
+        ensures cause { HasCause (record {}) self.old.faults self.new.faults result }
+        ensures opened { OnOk result (IsSome self.new.listener) }
+    {
+        let answer = self.open(port);
+        counted(answer, &mut self.faults)
+    }
+
+    fn accept(&mut self) -> Result<TcpLink<R::Stream>, Failed>
+        ensures cause { HasCause (record {}) self.old.faults self.new.faults result }
+        ensures shut { self.old.listener ≡ None → IsErr result }
+        ensures fresh { IfOk result (λ link. link.faults ≡ 0) }
+    {
+        let answer = self.next_stream();
+        match counted(answer, &mut self.faults) {
+            Ok(stream) => Ok(TcpLink::new(stream)),
+            Err(Failed) => Err(Failed),
+        }
+    }
+
+    // It closes the connection, and takes no memory.
+    fn done(&mut self, _link: TcpLink<R::Stream>) -> Result<(), OutOfMemory>
+        ensures count { self.new.faults ≡ self.old.faults }
+        ensures always { IsOk result }
+    {
+        Ok(())
+    }
+
+    fn faults(&self) -> u64 {
+        self.faults
+    }
+}
