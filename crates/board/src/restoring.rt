@@ -99,6 +99,7 @@ pub(crate) fn restored<L: Ledger>(
 ) -> Result<Reopened, OutOfMemory>
     requires { AreOfDesk records.items }
     ensures state { IfOk result (λ r. state_of r.content ≡ reopened (state_in tables records.items)) }
+    ensures changes { IfOk result (λ r. r.changes.items ≡ keeping.judged_changes (state_in tables records.items) (alert_changes nothing (state_in tables records.items))) }
     ensures kept { IfOk result (λ r. (rows : Rows) → AreSame rows (rows_of (map row_of records.items)) → AreKept (changed_by r.changes.items rows) (reopened (state_in tables records.items))) }
 {
     let content = content_of(alloc, tables, records)?;

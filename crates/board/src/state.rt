@@ -9,7 +9,10 @@ ghost use Rattle.machine.specs.Sound.{IsBoard, IsEntered};
 ghost use Rattle.asks.specs.Forms.{IsCall, ReplyHasMoment};
 ghost use Rattle.desk_io.specs.Rows.{Rows, rows_of, changed_by};
 ghost use Rattle.keeper.specs.Kept.{AreSame};
+ghost use Rattle.keeping.specs.Judged.{judged_changes};
 ghost use Rattle.keeping.specs.Rows.{AreKept};
+ghost use Rattle.machine.specs.Effects.{nothing};
+ghost use Rattle.machine.specs.Events.{alert_changes};
 ghost use Rattle.records.specs.Bodies.{row_of};
 ghost use Rattle.reopening.specs.Held.{AreOfDesk, state_in};
 ghost use Rattle.reopening.specs.Opening.{reopened};
@@ -91,6 +94,8 @@ impl Board {
     ) -> Result<Restored, OutOfMemory>
         requires { AreOfDesk held.items }
         ensures board { IfOk result (λ r. r.board ≡ shown (reopened (state_in tables held.items)) (reopened (state_in tables held.items)) None) }
+        // Nothing where no alert changed.
+        ensures changes { IfOk result (λ r. r.changes.items ≡ judged_changes (state_in tables held.items) (alert_changes nothing (state_in tables held.items))) }
         ensures rows { IfOk result (λ r. (rows : Rows) → AreSame rows (rows_of (map row_of held.items)) → AreKept (changed_by r.changes.items rows) (reopened (state_in tables held.items))) }
     {
         let Reopened { content, changes } = restored(alloc, tables, held, steps)?;

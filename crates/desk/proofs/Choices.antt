@@ -23,7 +23,7 @@ use Rattle.machine.specs.declared.lanes.Item.TheVariants as item
 use Rattle.machine.specs.declared.lanes.Outcome.{Outcome}
 use Rattle.machine.specs.declared.lanes.Said.TheVariants as said
 use Rattle.asks.specs.declared.bad_call.BadCall.{BadCall}
-use Rattle.desk.specs.Keeping.{Choice, Given, GivenBetween, given, no_choice, kept_or, unkept_if, once_ticked, made_after, made_by, answer_with, item_with, bad_given, outcomes_with, after_with, Rise, numbers_of, AreNow, Counted, CountedOnce, IsGiven, AreGiven, AreGivenSoFar}
+use Rattle.desk.specs.Keeping.{Choice, Given, GivenBetween, given, no_choice, kept_or, unkept_if, once_ticked, made_after, made_by, answer_with, item_with, bad_given, commits_after_item, outcomes_with, after_with, Rise, numbers_of, AreNow, Counted, CountedOnce, IsGiven, AreGiven, AreGivenSoFar}
 use Rattle.desk.specs.Run.{items_of, lines_of, texts_of, run_from, run_with, after_run, IsRun}
 
 -- ---- the counts
@@ -289,17 +289,18 @@ pub is_run_of : (before after : ℕ) (s : State) (script : List ℕ) (t : State)
 is_run_of before after s script t made text items are all is =
     is_run before after s script t made text (subst (λ is. AreGiven 1 before after s is t made) are all) is
 
-no_call : (faults lane : ℕ) (s : State) (fault : BadCall) (o : Outcome) (ticked called : List Notice) → o ≡ (bad_given s fault).outcome → ticked ≡ [] → called ≡ []
-    → GivenBetween faults faults (λ c. item_with c lane s (item.Bad fault)) s o ticked called
-no_call faults lane s fault o ticked called outcome none nothing = record {
+no_call : (faults lane asked : ℕ) (s : State) (fault : BadCall) (o : Outcome) (ticked called : List Notice) → o ≡ (bad_given s fault).outcome → ticked ≡ [] → called ≡ []
+    → GivenBetween faults faults (λ c. asked ≡ commits_after_item c lane s (item.Bad fault) asked) (λ c. item_with c lane s (item.Bad fault)) s o ticked called
+no_call faults lane asked s fault o ticked called outcome none nothing = record {
   choice = no_choice;
   counted = omega arith;
   exact = tt;
+  asked = refl;
   is = record { its_outcome = outcome; its_state = refl; its_tick = none; its_call = nothing };
 }
 
 -- a line that is no call
-pub bad_between : (faults lane : ℕ) (s : State) (i : Item) (fault : BadCall) (o : Outcome) (ticked called : List Notice) → i ≡ item.Bad fault → o ≡ (bad_given s fault).outcome → ticked ≡ [] → called ≡ []
-    → GivenBetween faults faults (λ c. item_with c lane s i) s o ticked called
-bad_between faults lane s i fault o ticked called bad outcome none nothing =
-    subst (λ (x : Item). GivenBetween faults faults (λ c. item_with c lane s x) s o ticked called) (sym bad) (no_call faults lane s fault o ticked called outcome none nothing)
+pub bad_between : (faults lane asked : ℕ) (s : State) (i : Item) (fault : BadCall) (o : Outcome) (ticked called : List Notice) → i ≡ item.Bad fault → o ≡ (bad_given s fault).outcome → ticked ≡ [] → called ≡ []
+    → GivenBetween faults faults (λ c. asked ≡ commits_after_item c lane s i asked) (λ c. item_with c lane s i) s o ticked called
+bad_between faults lane asked s i fault o ticked called bad outcome none nothing =
+    subst (λ (x : Item). GivenBetween faults faults (λ c. asked ≡ commits_after_item c lane s x asked) (λ c. item_with c lane s x) s o ticked called) (sym bad) (no_call faults lane asked s fault o ticked called outcome none nothing)

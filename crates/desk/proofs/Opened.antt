@@ -16,7 +16,13 @@ use Rattle.records.specs.declared.record.Record.{Record}
 use Rattle.reopening.specs.Held.{comes_before, rises_from, rising, AreOfDesk}
 use Rattle.desk.proofs.Steps.{same_kept, still_keeps}
 use Rattle.desk.specs.Keeping.{KeepsState}
-use Rattle.desk.specs.Opening.{AreLoaded, OnLoaded, IsWhy, IsOfKeeper, IsOfRows}
+use Rattle.desk.specs.Opening.{AreLoaded, AreAsked, OnLoaded, IsWhy, IsOfKeeper, IsOfRows, commits_for, commits_where, commits_to_open}
+use Rattle.keeping.specs.Judged.{judged_changes}
+use Rattle.machine.specs.Effects.{nothing}
+use Rattle.machine.specs.Events.{alert_changes}
+use Rattle.machine.specs.declared.change.AlertChange.{AlertChange}
+use Rattle.ops_tables.specs.Tables.{TableRows}
+use Rattle.reopening.specs.Held.{state_in}
 use Rattle.desk.specs.declared.opening.OpenWhy.{OpenWhy}
 use Rattle.desk.specs.declared.opening.OpenWhy.TheVariants.{KeeperFault, BadRow, BadPair, OutOfMemory}
 
@@ -87,3 +93,24 @@ pub restored_keeps : {E : Type 0} (before after : Option Rows) (records : List R
 restored_keeps before after records changes s board (Ok b) is leads loaded shows kept =
     still_keeps after s b.state (ap (λ (x : Shown). x.state) (is ∙ shows)) (opened_keeps before after records changes s loaded leads kept)
 restored_keeps before after records changes s board (Err e) is leads loaded shows kept = tt
+
+-- ---- what is asked of the keeper
+
+asked_for : (s : State) (alerts : List AlertChange) (n : ℕ) → commits_for (judged_changes s alerts) n ≡ commits_where alerts n
+unfolding judged_changes
+asked_for s [] n = refl
+asked_for s (c ∷ cs) n = refl
+
+-- what restoring changed asks for a commit where an alert changed
+pub restored_asks : {T E : Type 0} (result : Result T E) (tables : TableRows) (records : List Record) (changes : List Change) (before now : ℕ) → now ≡ commits_for changes before
+    → changes ≡ judged_changes (state_in tables records) (alert_changes nothing (state_in tables records)) → IfOk result (λ b. now ≡ commits_to_open tables records before)
+restored_asks (Ok b) tables records changes before now asked are =
+    let s : State = state_in tables records in asked ∙ ap (λ cs. commits_for cs before) are ∙ asked_for s (alert_changes nothing s) before
+restored_asks (Err e) tables records changes before now asked are = tt
+
+-- the same of the records that were loaded
+pub opened_asks : {T E : Type 0} (count : T → ℕ) (result : Result T E) (told : Option Rows) (tables : TableRows) (records : List Record) (before middle : ℕ) → AreLoaded told records → middle ≡ before
+    → IfOk result (λ d. count d ≡ commits_to_open tables records middle) → IfOk result (λ d. AreAsked told tables before (count d))
+opened_asks count (Ok d) told tables records before middle loaded none asked =
+    record { records = records; loaded = loaded; asked = asked ∙ ap (commits_to_open tables records) none }
+opened_asks count (Err e) told tables records before middle loaded none asked = tt

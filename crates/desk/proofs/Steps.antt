@@ -1,7 +1,7 @@
 -- A prepared step that is kept, or isn't.
 use Rattle.std.proofs.Common.{◌≡◌, ℕ, ◌+◌, ◌<◌, Bool, true, false, List, [], ◌∷◌, ◌++◌, length, Option, None, Some, is_some, IfOk, Result, Ok, Err, refl, ap, sym, ◌∙◌, subst, arith, inl, inr, ◌⊎◌}
 use Rattle.std.specs.Prelude.{nat_lt}
-use Rattle.std.proofs.lemmas.Bool.{lt-ltb}
+use Rattle.std.proofs.lemmas.Bool.{lt-ltb, le-ltb}
 use Rattle.std.proofs.lemmas.List.{length-append}
 use Rattle.alerts.specs.declared.notices.Notice.{Notice}
 use Rattle.asks.specs.declared.reply.Refusal.TheVariants.{Unkept}
@@ -18,7 +18,7 @@ use Rattle.keeping.specs.Rows.{AreKept}
 use Rattle.machine.specs.State.{State}
 use Rattle.machine.specs.Step.{Stepped, answer_call}
 use Rattle.machine.proofs.Boards.{call_replies}
-use Rattle.desk.specs.Keeping.{adds, kept_or, unkept, unkept_if, KeepsState}
+use Rattle.desk.specs.Keeping.{adds, asked_if, kept_or, unkept, unkept_if, KeepsState}
 use Rattle.desk.specs.Settled.{stepped_by, IsSettled}
 use Rattle.desk.specs.declared.settling.Settled.{Settled}
 
@@ -51,6 +51,20 @@ no_event s p t is none = by (is_some p.event) refl
     by true e =
         let some : adds s t ≡ true = sym (ap (λ (u : State). nat_lt (length s.entries) (length u.entries)) is.state) ∙ adds_one p s e in
         absurd (cc)
+
+-- a step adds an entry exactly where it has an event
+pub adds_as : (s : State) (p : Prepared) (t : Stepped) → IsStepped s p t → adds s t ≡ is_some p.event
+adds_as s p t is = by (is_some p.event) refl
+  where
+    by : (b : Bool) → is_some p.event ≡ b → adds s t ≡ is_some p.event
+    by true e = ap (λ (u : State). nat_lt (length s.entries) (length u.entries)) (sym is.state) ∙ adds_one p s e ∙ sym e
+    by false e = ap (λ (u : State). nat_lt (length s.entries) (length u.entries)) (sym is.state ∙ stays p s e) ∙ le-ltb (length s.entries) (length s.entries) (omega arith) ∙ sym e
+
+-- what a step asks of a keeper, whatever comes of it
+pub asked_as : {E : Type 0} (result : Result Settled E) (before after : ℕ) (s : State) (p : Prepared) (t : Stepped) → IsStepped s p t → after ≡ asked_if (is_some p.event) before
+    → IfOk result (λ r. after ≡ asked_if (adds s t) before)
+asked_as (Ok r) before after s p t is asked = asked ∙ ap (λ b. asked_if b before) (sym (adds_as s p t is))
+asked_as (Err e) before after s p t is asked = tt
 
 -- a step that changes something and isn't kept is refused
 pub is_unkept : (r : Settled) (s : State) (p : Prepared) (faults : ℕ) → is_some p.event ≡ true → r.reply ≡ Some (Refused (Unkept faults)) → r.notices ≡ [] → r.fault ≡ Some faults

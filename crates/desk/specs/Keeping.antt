@@ -6,6 +6,7 @@ use Rattle.asks.specs.declared.call.Call.{Call}
 use Rattle.asks.specs.declared.reply.Refusal.TheVariants.{Unkept}
 use Rattle.asks.specs.declared.reply.Reply.{Reply}
 use Rattle.asks.specs.declared.reply.Reply.TheVariants.{Refused}
+use Rattle.desk_io.specs.Planned.{after}
 use Rattle.desk_io.specs.Rows.{Rows}
 use Rattle.desk_io.specs.declared.rows.Change.{Change}
 use Rattle.keeper.specs.Kept.{Leads}
@@ -125,6 +126,34 @@ CountedOnce before (Some n) after = (before < n) × (n ≡ after)
 abbrev pub AreNow : ℕ → Choice → Type 0
 AreNow now c = AllByRecursion (λ n. n ≡ now) (numbers_of c)
 
+-- ---- what is asked of a keeper
+
+-- a count of commits after a step that asks for one, or for none
+abbrev pub asked_if : Bool → ℕ → ℕ
+asked_if true n = after n
+asked_if false n = n
+
+-- A call asks for a commit where it adds an entry. Where its tick was refused it asks for none.
+abbrev pub asked_once : Option Reply → ℕ → State → Call → ℕ → ℕ
+asked_once (Some reply) lane s call n = n
+asked_once None lane s call n = asked_if (adds s (answer_call s lane call)) n
+
+abbrev pub asked_late : Option ℕ → ℕ → State → ℕ → Call → ℕ → ℕ
+asked_late tick lane s at call n = asked_once (ticked_with tick lane s at).reply lane (ticked_with tick lane s at).state call (asked_if (adds s (tick_to s lane at)) n)
+
+abbrev pub asked_by : Bool → Choice → ℕ → State → ℕ → Call → ℕ → ℕ
+asked_by true c lane s at call n = asked_late c.tick lane s at call n
+asked_by false c lane s at call n = asked_once None lane s call n
+
+-- the count of commits after a call at a moment, under a choice: one for the tick and one for the call, each where it adds an entry
+unfoldable pub commits_after : Choice → ℕ → State → ℕ → Call → ℕ → ℕ
+commits_after c lane s at call n = asked_by (nat_lt s.moment at) c lane s at call n
+
+-- the same for an item
+abbrev pub commits_after_item : Choice → ℕ → State → Item → ℕ → ℕ
+commits_after_item c lane s (item.Bad fault) n = n
+commits_after_item c lane s (item.Call at call) n = commits_after c lane s at call n
+
 -- ---- the rows
 
 -- what a keeper tells is kept for a state
@@ -144,11 +173,13 @@ pub record IsGiven (given : Given) (state : State) (outcome : Outcome) (ticked c
   pub its_tick : ticked ≡ given.ticked
   pub its_call : called ≡ given.called
 
--- what came of a call, under some choice that the keeper's counts before and after it allow: a refusal tells the new count
-pub record GivenBetween (before after : ℕ) (given : Choice → Given) (state : State) (outcome : Outcome) (ticked called : List Notice) : Type 0 where
+-- what came of a call, under some choice that the keeper's counts before and after it allow: a refusal tells the new count; and how
+-- many commits were asked for
+pub record GivenBetween (before after : ℕ) (asked : Choice → Type 0) (given : Choice → Given) (state : State) (outcome : Outcome) (ticked called : List Notice) : Type 0 where
   pub choice : Choice
   pub counted : Counted before (choice ∷ []) after
   pub exact : AreNow after choice
+  pub asked : asked choice
   pub is : IsGiven (given choice) state outcome ticked called
 
 -- the outcomes of items and the state after them, under some choices that the keeper's counts allow

@@ -1,7 +1,12 @@
 -- Which desk is opened over the rows of a keeper, or why none is.
-use Rattle.std.specs.Prelude.{◌≡◌, ◌<◌, ◌≤◌, List, [], length, Option, None, Some, IsTrue}
+use Rattle.std.specs.Prelude.{◌≡◌, ◌<◌, ◌≤◌, ℕ, List, [], ◌∷◌, length, Option, None, Some, IsTrue}
 use Rattle.board.specs.Prepare.{Shown, shown}
+use Rattle.desk_io.specs.Planned.{after}
 use Rattle.desk_io.specs.Rows.{Rows}
+use Rattle.desk_io.specs.declared.rows.Change.{Change}
+use Rattle.machine.specs.Effects.{nothing}
+use Rattle.machine.specs.Events.{alert_changes}
+use Rattle.machine.specs.declared.change.AlertChange.{AlertChange}
 use Rattle.desk_io.specs.declared.rows.Row.{Row}
 use Rattle.keeper.specs.Kept.{Lists}
 use Rattle.keeper.specs.Order.{rising}
@@ -90,6 +95,28 @@ under tables s = record s { tables = tables; entries = [] }
 -- the board that records stand for under some tables, once its releases are judged
 abbrev pub board_of : TableRows → List Record → Shown
 board_of tables records = shown (reopened (state_in tables records)) (reopened (state_in tables records)) None
+
+-- ---- what is asked of a keeper
+
+-- changes ask for one commit, where there are any
+abbrev pub commits_for : List Change → ℕ → ℕ
+commits_for [] n = n
+commits_for (change ∷ changes) n = after n
+
+-- one, where an alert changed by the judgement
+abbrev pub commits_where : List AlertChange → ℕ → ℕ
+commits_where [] n = n
+commits_where (change ∷ changes) n = after n
+
+-- the count of commits after the board of records is opened
+abbrev pub commits_to_open : TableRows → List Record → ℕ → ℕ
+commits_to_open tables records n = commits_where (alert_changes nothing (state_in tables records)) n
+
+-- the same, of the records of the rows that were loaded
+pub record AreAsked (told : Option Rows) (tables : TableRows) (before now : ℕ) : Type 0 where
+  pub records : List Record
+  pub loaded : AreLoaded told records
+  pub asked : now ≡ commits_to_open tables records before
 
 -- the board of the rows that were loaded
 pub record IsOpened (told : Option Rows) (tables : TableRows) (board : Shown) : Type 0 where

@@ -58,6 +58,7 @@ fn make_call<K: Keeper, L: Ledger>(
     ensures count { IfOk result (λ r. CountedOnce (K.fault_count desk.old.keeper) r.fault (K.fault_count desk.new.keeper)) }
     ensures later { K.fault_count desk.old.keeper ≤ K.fault_count desk.new.keeper }
     ensures sound { K.sound desk.old.keeper → K.sound desk.new.keeper × (K.fault_count desk.new.keeper ≡ K.fault_count desk.old.keeper) }
+    ensures asked { IfOk result (λ r. K.commits desk.new.keeper ≡ spec.asked_if (adds desk.old.board.state (answer_call desk.old.board.state lane call.now)) (K.commits desk.old.keeper)) }
     ensures still { adds desk.old.board.state (answer_call desk.old.board.state lane call.now) ≡ false → desk.new.keeper ≡ desk.old.keeper }
 {
     let prepared = desk.board.prepare_change(alloc, lane, call, steps)?;
@@ -81,6 +82,7 @@ fn make_tick<K: Keeper, L: Ledger>(
     ensures count { IfOk result (λ r. CountedOnce (K.fault_count desk.old.keeper) r.fault (K.fault_count desk.new.keeper)) }
     ensures later { K.fault_count desk.old.keeper ≤ K.fault_count desk.new.keeper }
     ensures sound { K.sound desk.old.keeper → K.sound desk.new.keeper × (K.fault_count desk.new.keeper ≡ K.fault_count desk.old.keeper) }
+    ensures asked { IfOk result (λ r. K.commits desk.new.keeper ≡ spec.asked_if (adds desk.old.board.state (tick_to desk.old.board.state lane to)) (K.commits desk.old.keeper)) }
     ensures told { IfOk result (λ r. IfSome r.fault (λ n. r.reply ≡ Some (Reply.Refused (Refusal.Unkept n)))) }
 {
     let prepared = desk.board.prepare_tick(alloc, lane, to, steps)?;
@@ -107,6 +109,7 @@ fn once_ticked<K: Keeper, L: Ledger>(
     ensures rows { KeepsState (K.told desk.old.keeper) desk.old.board.state → KeepsState (K.told desk.new.keeper) desk.new.board.state }
     ensures later { K.fault_count desk.old.keeper ≤ K.fault_count desk.new.keeper }
     ensures sound { K.sound desk.old.keeper → K.sound desk.new.keeper × (K.fault_count desk.new.keeper ≡ K.fault_count desk.old.keeper) }
+    ensures asked { IfOk result (λ r. K.commits desk.new.keeper ≡ spec.asked_once refused lane desk.old.board.state call.now (K.commits desk.old.keeper)) }
     ensures stays { IfOk result (λ r. IfSome refused (λ reply. (r.fault ≡ None) × (K.fault_count desk.new.keeper ≡ K.fault_count desk.old.keeper))) }
 {
     match refused {
@@ -176,6 +179,7 @@ fn answer_made<K: Keeper, L: Ledger>(
     ensures later { K.fault_count desk.old.keeper ≤ K.fault_count desk.new.keeper }
     ensures sound { K.sound desk.old.keeper → K.sound desk.new.keeper × (K.fault_count desk.new.keeper ≡ K.fault_count desk.old.keeper) }
     ensures exact { IfOk result (λ j. AreNow (K.fault_count desk.new.keeper) (choice_of j)) }
+    ensures asked { IfOk result (λ j. K.commits desk.new.keeper ≡ spec.asked_once None lane desk.old.board.state call.now (K.commits desk.old.keeper)) }
     ensures still { adds desk.old.board.state (answer_call desk.old.board.state lane call.now) ≡ false → desk.new.keeper ≡ desk.old.keeper }
 {
     let position = desk.board.entries() as u64;
@@ -202,6 +206,7 @@ fn answer_late<K: Keeper, L: Ledger>(
     ensures rows { KeepsState (K.told desk.old.keeper) desk.old.board.state → KeepsState (K.told desk.new.keeper) desk.new.board.state }
     ensures later { K.fault_count desk.old.keeper ≤ K.fault_count desk.new.keeper }
     ensures sound { K.sound desk.old.keeper → K.sound desk.new.keeper × (K.fault_count desk.new.keeper ≡ K.fault_count desk.old.keeper) }
+    ensures asked { IfOk result (λ j. K.commits desk.new.keeper ≡ spec.asked_late j.tick lane desk.old.board.state at call.now (K.commits desk.old.keeper)) }
     ensures exact { IfOk result (λ j. AreNow (K.fault_count desk.new.keeper) (choice_of j)) }
 {
     let Settled {
@@ -215,7 +220,7 @@ fn answer_late<K: Keeper, L: Ledger>(
 }
 
 // The same, without what is said of forms.
-#[tactic(auto, unfolding(crate::specs::Keeping::answer_with))]
+#[tactic(auto, unfolding(crate::specs::Keeping::answer_with, crate::specs::Keeping::commits_after))]
 fn judge_at<K: Keeper, L: Ledger>(
     alloc: Global,
     desk: &mut Desk<K>,
@@ -235,6 +240,7 @@ fn judge_at<K: Keeper, L: Ledger>(
     ensures later { K.fault_count desk.old.keeper ≤ K.fault_count desk.new.keeper }
     ensures sound { K.sound desk.old.keeper → K.sound desk.new.keeper × (K.fault_count desk.new.keeper ≡ K.fault_count desk.old.keeper) }
     ensures exact { IfOk result (λ j. AreNow (K.fault_count desk.new.keeper) (choice_of j)) }
+    ensures asked { IfOk result (λ j. K.commits desk.new.keeper ≡ spec.commits_after (choice_of j) lane desk.old.board.state at call.now (K.commits desk.old.keeper)) }
     ensures still { at ≤ desk.old.board.state.moment → adds desk.old.board.state (answer_call desk.old.board.state lane call.now) ≡ false → desk.new.keeper ≡ desk.old.keeper }
 {
     if desk.board.now() < at {
@@ -267,6 +273,7 @@ pub(crate) fn judge<K: Keeper, L: Ledger>(
     // The forms that each part of the state has stay.
     ensures formed { AreFormed desk.old.board.state → AreFormed desk.new.board.state }
     ensures exact { IfOk result (λ j. AreNow (K.fault_count desk.new.keeper) (choice_of j)) }
+    ensures asked { IfOk result (λ j. K.commits desk.new.keeper ≡ spec.commits_after (choice_of j) lane desk.old.board.state at call.now (K.commits desk.old.keeper)) }
     ensures still { at ≤ desk.old.board.state.moment → adds desk.old.board.state (answer_call desk.old.board.state lane call.now) ≡ false → desk.new.keeper ≡ desk.old.keeper }
 {
     // what holds of every board
@@ -287,8 +294,9 @@ pub fn answer<K: Keeper, L: Ledger>(
 ) -> Result<Answered, OutOfMemory>
     requires within { moment ≤ LAST }
     requires call { CallHasForms call.now }
-    // Under some choice that the keeper's counts allow: the numbers of refusals rise strictly.
-    ensures given { IfOk result (λ a. GivenBetween (K.fault_count desk.old.keeper) (K.fault_count desk.new.keeper) (λ c. spec.answer_with c lane desk.old.board.state moment call.now) desk.new.board.state a.outcome a.ticked a.called) }
+    // Under some choice that the keeper's counts allow: the numbers of refusals rise strictly. A commit is asked for by the tick and by
+    // the call, where each adds an entry, and by nothing else.
+    ensures given { IfOk result (λ a. GivenBetween (K.fault_count desk.old.keeper) (K.fault_count desk.new.keeper) (λ c. K.commits desk.new.keeper ≡ spec.commits_after c lane desk.old.board.state moment call.now (K.commits desk.old.keeper)) (λ c. spec.answer_with c lane desk.old.board.state moment call.now) desk.new.board.state a.outcome a.ticked a.called) }
     // Over a sound keeper nothing is refused for its sake.
     ensures quiet { K.sound desk.old.keeper → IfOk result (λ a. (a.outcome ≡ (lanes.answer lane desk.old.board.state moment call.now).outcome) × (desk.new.board.state ≡ (lanes.answer lane desk.old.board.state moment call.now).state)) }
     // A command that comes again is answered with what is kept of it, whatever the keeper does.

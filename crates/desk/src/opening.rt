@@ -12,7 +12,7 @@ ghost use Rattle.machine.specs.State.{State};
 ghost use Rattle.reopening.specs.Held.{AreOfDesk};
 ghost use Rattle.reopening.specs.Opening.{reopened};
 ghost use Rattle.desk.specs.Keeping.{KeepsState};
-ghost use Rattle.desk.specs.Opening.{of_keeper, of_rows, IsOfRows, IsOfKeeper, IsWhy, IsNoKeeperFault, AreLoaded, board_of, IsLeft, IsOpened, TellsRowsOf, under};
+ghost use Rattle.desk.specs.Opening.{commits_for, commits_to_open, AreAsked, of_keeper, of_rows, IsOfRows, IsOfKeeper, IsWhy, IsNoKeeperFault, AreLoaded, board_of, IsLeft, IsOpened, TellsRowsOf, under};
 ghost use Rattle.desk.specs.declared.opening.OpenWhy.TheVariants.{OutOfMemory as OpenMemory};
 
 use crate::settling::Desk;
@@ -76,6 +76,7 @@ fn load<K: Keeper>(alloc: Global, keeper: &mut K) -> Result<Vec<Row>, OpenWhy>
     ensures rows { IfOk result (λ rows. Lists (K.told keeper.old) rows.items) }
     ensures same { K.told keeper.new ≡ K.told keeper.old }
     ensures why { IfErr result (IsOfKeeper (RoseOrFull (K.fault_count keeper.old) (K.fault_count keeper.new))) }
+    ensures none { K.commits keeper.new ≡ K.commits keeper.old }
     ensures later { K.fault_count keeper.old ≤ K.fault_count keeper.new }
     ensures sound { K.sound keeper.old → K.sound keeper.new × (K.fault_count keeper.new ≡ K.fault_count keeper.old) × IfErr result IsNoKeeperFault }
 {
@@ -100,6 +101,7 @@ fn records_of<K: Keeper>(alloc: Global, keeper: &mut K) -> Result<Vec<Record>, O
     ensures desk { IfOk result (λ records. AreOfDesk records.items) }
     ensures same { K.told keeper.new ≡ K.told keeper.old }
     ensures why { IfErr result (IsWhy (K.told keeper.old) (RoseOrFull (K.fault_count keeper.old) (K.fault_count keeper.new))) }
+    ensures none { K.commits keeper.new ≡ K.commits keeper.old }
     ensures later { K.fault_count keeper.old ≤ K.fault_count keeper.new }
     ensures sound { K.sound keeper.old → K.sound keeper.new × (K.fault_count keeper.new ≡ K.fault_count keeper.old) × IfErr result IsNoKeeperFault }
 {
@@ -113,6 +115,7 @@ fn keep_changes<K: Keeper>(alloc: Global, keeper: &mut K, changes: &[Change]) ->
     ensures ok { OnOk result (Leads (K.told keeper.old) changes.now (K.told keeper.new)) }
     ensures err { OnErr result (K.told keeper.new ≡ K.told keeper.old) }
     ensures why { IfErr result (IsOfKeeper (RoseOrFull (K.fault_count keeper.old) (K.fault_count keeper.new))) }
+    ensures asked { K.commits keeper.new ≡ commits_for changes.now (K.commits keeper.old) }
     ensures later { K.fault_count keeper.old ≤ K.fault_count keeper.new }
     ensures sound { K.sound keeper.old → K.sound keeper.new × (K.fault_count keeper.new ≡ K.fault_count keeper.old) × IfErr result IsNoKeeperFault }
 {
@@ -137,6 +140,7 @@ fn finish<K: Keeper>(alloc: Global, keeper: &mut K, restored: Restored) -> Resul
     ensures ok { OnOk result (Leads (K.told keeper.old) restored.changes.items (K.told keeper.new)) }
     ensures err { OnErr result (K.told keeper.new ≡ K.told keeper.old) }
     ensures why { IfErr result (IsOfKeeper (RoseOrFull (K.fault_count keeper.old) (K.fault_count keeper.new))) }
+    ensures asked { K.commits keeper.new ≡ commits_for restored.changes.items (K.commits keeper.old) }
     ensures later { K.fault_count keeper.old ≤ K.fault_count keeper.new }
     ensures sound { K.sound keeper.old → K.sound keeper.new × (K.fault_count keeper.new ≡ K.fault_count keeper.old) × IfErr result IsNoKeeperFault }
 {
@@ -164,6 +168,7 @@ fn restore<K: Keeper, L: Ledger>(
     ensures kept { IfOk result (λ b. KeepsState (K.told keeper.new) b.state) }
     ensures err { OnErr result (K.told keeper.new ≡ K.told keeper.old) }
     ensures why { IfErr result (IsOfKeeper (RoseOrFull (K.fault_count keeper.old) (K.fault_count keeper.new))) }
+    ensures asked { IfOk result (λ b. K.commits keeper.new ≡ commits_to_open tables records.items (K.commits keeper.old)) }
     ensures later { K.fault_count keeper.old ≤ K.fault_count keeper.new }
     ensures sound { K.sound keeper.old → K.sound keeper.new × (K.fault_count keeper.new ≡ K.fault_count keeper.old) × IfErr result IsNoKeeperFault }
 {
@@ -184,6 +189,7 @@ fn open_over<K: Keeper, L: Ledger>(
     ensures kept { IfOk result (λ d. KeepsState (K.told d.keeper) d.board.state) }
     ensures same { IfErr result (λ f. K.told f.keeper ≡ K.told keeper) }
     ensures why { IfErr result (λ f. IsOfKeeper (RoseOrFull (K.fault_count keeper) (K.fault_count f.keeper)) f.why) }
+    ensures asked { IfOk result (λ d. K.commits d.keeper ≡ commits_to_open tables records.items (K.commits keeper)) }
     ensures later { MatchResult result (λ d. K.fault_count keeper ≤ K.fault_count d.keeper) (λ f. K.fault_count keeper ≤ K.fault_count f.keeper) }
     ensures sound { K.sound keeper → MatchResult result (λ d. K.sound d.keeper × (K.fault_count d.keeper ≡ K.fault_count keeper))
         (λ f. K.sound f.keeper × (K.fault_count f.keeper ≡ K.fault_count keeper) × IsNoKeeperFault f.why) }
@@ -205,6 +211,7 @@ fn open_desk<K: Keeper, L: Ledger>(
     ensures kept { IfOk result (λ d. KeepsState (K.told d.keeper) d.board.state) }
     ensures same { IfErr result (λ f. K.told f.keeper ≡ K.told keeper) }
     ensures why { IfErr result (λ f. IsWhy (K.told keeper) (RoseOrFull (K.fault_count keeper) (K.fault_count f.keeper)) f.why) }
+    ensures asked { IfOk result (λ d. AreAsked (K.told keeper) tables (K.commits keeper) (K.commits d.keeper)) }
     ensures later { MatchResult result (λ d. K.fault_count keeper ≤ K.fault_count d.keeper) (λ f. K.fault_count keeper ≤ K.fault_count f.keeper) }
     ensures sound { K.sound keeper → MatchResult result (λ d. K.sound d.keeper × (K.fault_count d.keeper ≡ K.fault_count keeper))
         (λ f. K.sound f.keeper × (K.fault_count f.keeper ≡ K.fault_count keeper) × IsNoKeeperFault f.why) }
@@ -232,6 +239,8 @@ pub fn open<K: Keeper, L: Ledger>(
     ensures kept { IfOk result (λ d. KeepsState (K.told d.keeper) d.board.state) }
     ensures same { IfErr result (λ f. K.told f.keeper ≡ K.told keeper) }
     ensures why { IfErr result (λ f. IsWhy (K.told keeper) (RoseOrFull (K.fault_count keeper) (K.fault_count f.keeper)) f.why) }
+    // A commit is asked for exactly where an alert changed.
+    ensures asked { IfOk result (λ d. AreAsked (K.told keeper) tables (K.commits keeper) (K.commits d.keeper)) }
     ensures later { MatchResult result (λ d. K.fault_count keeper ≤ K.fault_count d.keeper) (λ f. K.fault_count keeper ≤ K.fault_count f.keeper) }
     ensures sound { K.sound keeper → MatchResult result (λ d. K.sound d.keeper × (K.fault_count d.keeper ≡ K.fault_count keeper))
         (λ f. K.sound f.keeper × (K.fault_count f.keeper ≡ K.fault_count keeper) × IsNoKeeperFault f.why) }

@@ -2,7 +2,7 @@ ghost use Rattle.std.specs.Prelude.{◌≡◌, ◌≤◌, ◌++◌, ◌∷◌, [
 ghost use Rattle.std.specs.List.{AllByRecursion};
 ghost use Rattle.machine.specs.Texts.{closing};
 ghost use Rattle.kept_forms.specs.Formed.{AreFormed};
-ghost use Rattle.desk.specs.Keeping.{item_with, bad_given, GivenBetween, AreGiven, KeepsState};
+ghost use Rattle.desk.specs.Keeping.{item_with, bad_given, commits_after_item, GivenBetween, AreGiven, KeepsState};
 ghost use Rattle.desk.specs.Run as spec;
 ghost use Rattle.desk.specs.Run.{texts_of, IsRun};
 ghost use Rattle.desk.specs.Shown.{IsItem, IsShown, CanBeSaid};
@@ -48,7 +48,7 @@ fn answer_item<K: Keeper, L: Ledger>(
     steps: &mut Steps<L>,
 ) -> Result<Answered, OutOfMemory>
     requires { IsItem item.now }
-    ensures given { IfOk result (λ a. GivenBetween (K.fault_count desk.old.keeper) (K.fault_count desk.new.keeper) (λ c. item_with c LANE desk.old.board.state item.now) desk.new.board.state a.outcome a.ticked a.called) }
+    ensures given { IfOk result (λ a. GivenBetween (K.fault_count desk.old.keeper) (K.fault_count desk.new.keeper) (λ c. K.commits desk.new.keeper ≡ commits_after_item c LANE desk.old.board.state item.now (K.commits desk.old.keeper)) (λ c. item_with c LANE desk.old.board.state item.now) desk.new.board.state a.outcome a.ticked a.called) }
     ensures shown { IfOk result (λ a. IsShown a.outcome) }
     ensures opening { desk.new.board.opening ≡ desk.old.board.opening }
     ensures rows { KeepsState (K.told desk.old.keeper) desk.old.board.state → KeepsState (K.told desk.new.keeper) desk.new.board.state }

@@ -1,7 +1,8 @@
 ghost use Rattle.std.specs.Prelude.{◌≡◌, ◌≤◌, [], None, Some, false, is_some, IfOk, IfSome, OnErr};
 ghost use Rattle.asks.specs.Forms.{ReplyHasMoment};
 ghost use Rattle.board.specs.Prepare.{KeepsRows, installed};
-ghost use Rattle.desk.specs.Keeping.{kept_or, CountedOnce, KeepsState, KeptUnless};
+ghost use Rattle.desk_io.specs.Planned.{after};
+ghost use Rattle.desk.specs.Keeping.{asked_if, kept_or, CountedOnce, KeepsState, KeptUnless};
 ghost use Rattle.desk.specs.Settled.{stepped_by, IsSettled};
 
 use alerts::Notices;
@@ -48,6 +49,7 @@ fn keep<K: Keeper>(
     ensures rows { IfOk result (λ fault. KeptUnless fault (K.told keeper.old) changes.now (K.told keeper.new)) }
     ensures same { OnErr result (K.told keeper.new ≡ K.told keeper.old) }
     ensures count { IfOk result (λ fault. CountedOnce (K.fault_count keeper.old) fault (K.fault_count keeper.new)) }
+    ensures asked { K.commits keeper.new ≡ after (K.commits keeper.old) }
     ensures later { K.fault_count keeper.old ≤ K.fault_count keeper.new }
     ensures sound { K.sound keeper.old → K.sound keeper.new × (K.fault_count keeper.new ≡ K.fault_count keeper.old) }
 {
@@ -121,6 +123,7 @@ pub(crate) fn settle<K: Keeper>(
     ensures later { K.fault_count desk.old.keeper ≤ K.fault_count desk.new.keeper }
     ensures sound { K.sound desk.old.keeper → K.sound desk.new.keeper × (K.fault_count desk.new.keeper ≡ K.fault_count desk.old.keeper) }
     ensures told { IfOk result (λ r. IfSome r.fault (λ n. r.reply ≡ Some (Reply.Refused (Refusal.Unkept n)))) }
+    ensures asked { K.commits desk.new.keeper ≡ asked_if (is_some prepared.event) (K.commits desk.old.keeper) }
     // What changes nothing isn't kept.
     ensures still { is_some prepared.event ≡ false → desk.new.keeper ≡ desk.old.keeper }
 {

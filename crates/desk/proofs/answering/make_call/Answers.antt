@@ -1,5 +1,5 @@
 use Rattle.desk.proofs.Asked.{may_be_made}
-use Rattle.desk.proofs.Steps.{settled_is, keeps_as, no_event, replies_to}
+use Rattle.desk.proofs.Steps.{settled_is, keeps_as, no_event, replies_to, asked_as}
 use Rattle.desk.proofs.answering.make_call.Goals as goal
 
 pub settle-requires-clause-keeps : goal.settle-requires-clause-keeps
@@ -17,3 +17,6 @@ returns-clause-still g c = λ none. c.settle.ensures.still (no_event _ _ _ c.in_
 pub returns-clause-replied : goal.returns-clause-replied
 returns-clause-replied g c =
     replies_to _ _ _ _ _ (settled_is _ _ _ _ _ _ _ _ c.in_ok-prepared.ensures.ok c.in_ok-prepared.ensures.stepped c.settle.ensures.settled)
+
+pub returns-clause-asked : goal.returns-clause-asked
+returns-clause-asked g c = asked_as _ _ _ _ _ _ c.in_ok-prepared.ensures.stepped c.settle.ensures.asked
