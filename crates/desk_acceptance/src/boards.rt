@@ -7,7 +7,7 @@ use alerts::{Notice, NoticeKind, Notices};
 use asks::{Call, Reply};
 use board::Board;
 use desk_io::{LineFeeds, OutOfMemory, push_all, runs_between};
-use desk_json::read_line;
+use desk_json::{CallFault, read_line};
 use desk_time::{LAST, Minute};
 use machine::{Entry, What};
 use ops_tables::Tables;
@@ -71,8 +71,10 @@ fn make_all<L: Ledger>(
     told: &mut Vec<u8>,
 ) -> Result<(), OutOfMemory> {
     for line in &runs_between::<LineFeeds>(alloc, script)? {
-        if let Some((at, call)) = read_line(alloc, line.bytes())? {
-            make(alloc, board, at, &call, steps, told)?;
+        match read_line(alloc, line.bytes()) {
+            Ok((at, call)) => make(alloc, board, at, &call, steps, told)?,
+            Err(CallFault::Bad(_)) => {}
+            Err(CallFault::OutOfMemory) => return Err(OutOfMemory),
         }
     }
     Ok(())

@@ -24,8 +24,8 @@ pub const FAULTY: &[u8] = b"\
 
 /// What is said to it.
 pub const FAULTY_SAID: &[u8] = b"\
-    {\"bad\":\"NotBuilt\",\"key\":\"\"}\n\
-    {\"bad\":\"NotBuilt\",\"key\":\"\"}\n\
+    {\"bad\":\"Missing\",\"key\":\"actor\"}\n\
+    {\"bad\":\"NotJson\",\"key\":\"\"}\n\
     {\"group\":7,\"refused\":5,\"what\":\"BadSky\",\"why\":\"BadReport\"}\n\
     {\"group\":1,\"refused\":5,\"what\":\"Missing\",\"why\":\"BadReport\"}\n\
     {\"group\":3,\"refused\":6,\"why\":\"DayOutOfReach\"}\n\

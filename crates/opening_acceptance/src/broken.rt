@@ -10,6 +10,7 @@ use std::test::Fail;
 // A keeper whose rows can't be loaded.
 #[derive(Drop)]
 struct Broken {
+    commits: u64,
     faults: u64,
 }
 
@@ -17,6 +18,8 @@ impl Keeper for Broken {
     ghost told = { λ k. None };
 
     ghost fault_count = { λ k. k.faults };
+
+    ghost commits = { λ k. k.commits };
 
     ghost sound = { λ k. ⊥ };
 
@@ -26,6 +29,7 @@ impl Keeper for Broken {
     }
 
     fn commit(&mut self, _: Global, _: &[Change]) -> Result<(), KeepFault> {
+        self.commits = self.commits.saturating_add(1);
         self.faults = self.faults.saturating_add(1);
         Err(KeepFault::Failed)
     }
@@ -45,7 +49,10 @@ fn is_told(alloc: Global) -> Result<bool, OutOfMemory> {
         &words,
         &mut shelf,
         &mut sink,
-        Broken { faults: 0 },
+        Broken {
+            commits: 0,
+            faults: 0,
+        },
     );
     Ok(status == 5 && sink.written() == b"error 5 KeeperFault\n".as_slice())
 }

@@ -1,0 +1,9 @@
+//! Tests of the desk over HTTP: what connections are answered, and how they end.
+#![tactic(auto)]
+
+#[cfg(test)]
+mod endings;
+#[cfg(test)]
+mod links;
+#[cfg(test)]
+mod replies;
