@@ -16,6 +16,7 @@ use table_files::TableFault;
 
 /// A connection to a new desk of the small airline: what comes in, in pieces of so many bytes, and the numbers of the calls of the
 /// link, of the clock and of the keeper that fail.
+#[derive(Drop)]
 pub struct Connection<'a> {
     pub input: &'a [u8],
     pub cut: usize,
