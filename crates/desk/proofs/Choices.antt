@@ -12,18 +12,21 @@ use Rattle.asks.specs.declared.reply.Reply.TheVariants.{Done, Refused}
 use Rattle.alerts.specs.declared.notices.Notice.{Notice}
 use Rattle.machine.specs.Repeats.{MayAsk, IsKeptFor}
 use Rattle.machine.proofs.RepeatLaws.{repeat_stays}
-use Rattle.std.proofs.lemmas.Bool.{le-ltb}
+use Rattle.std.proofs.lemmas.Bool.{le-ltb, lt-ltb}
 use Rattle.machine.specs.Lanes as lanes
 use Rattle.machine.specs.Lanes.{outcomes, after_items}
-use Rattle.machine.specs.State.{State}
-use Rattle.machine.specs.Step.{Stepped, stay, answer_call, tick_to}
+use Rattle.machine.specs.State.{State, is_full}
+use Rattle.machine.specs.Step.{Stepped, stay, answer_call, tick_to, tick_unless, ticked, full_reply}
+use Rattle.machine.specs.People.{mistaken, not_his_role}
+use Rattle.machine.specs.Requests.{kept_at}
+use Rattle.ops_tables.specs.Tables.{TableRows, actor_of}
 use Rattle.machine.specs.Texts.{closing}
 use Rattle.machine.specs.declared.lanes.Item.{Item}
 use Rattle.machine.specs.declared.lanes.Item.TheVariants as item
 use Rattle.machine.specs.declared.lanes.Outcome.{Outcome}
 use Rattle.machine.specs.declared.lanes.Said.TheVariants as said
 use Rattle.asks.specs.declared.bad_call.BadCall.{BadCall}
-use Rattle.desk.specs.Keeping.{Choice, Given, GivenBetween, given, no_choice, kept_or, unkept_if, once_ticked, made_after, made_by, answer_with, item_with, bad_given, commits_after_item, outcomes_with, after_with, Rise, numbers_of, AreNow, Counted, CountedOnce, IsGiven, AreGiven, AreGivenSoFar}
+use Rattle.desk.specs.Keeping.{Choice, Given, GivenBetween, given, no_choice, adds, kept_or, unkept_if, once_ticked, made_after, made_by, answer_with, item_with, bad_given, commits_after_item, outcomes_with, after_with, Rise, numbers_of, AreNow, Counted, CountedOnce, IsGiven, AreGiven, AreGivenSoFar}
 use Rattle.desk.specs.Run.{items_of, lines_of, texts_of, run_from, run_with, after_run, IsRun}
 
 -- ---- the counts
@@ -250,6 +253,71 @@ pub again_answered : (lane : ℕ) (s : State) (at : ℕ) (call : Call) (k : Kept
 again_answered lane s at call k c t o ticked called within may is given =
     let same = again_is lane s at call k c within may is in
     (given.its_outcome ∙ ap (λ (g : Given). g.outcome) same, given.its_state ∙ ap (λ (g : Given). g.state) same)
+
+-- a tick leaves the tables and what is kept
+tick_leaves : (full : Bool) (s : State) (lane to : ℕ) → ((tick_unless full s lane to).state.tables ≡ s.tables) × ((tick_unless full s lane to).state.kept ≡ s.kept)
+tick_leaves true s lane to = (refl, refl)
+tick_leaves false s lane to = (refl, append-nil s.kept)
+
+may_ask_as : (s t : State) (call : Call) → t.tables ≡ s.tables → MayAsk s call → MayAsk t call
+may_ask_as s t call same may = record {
+  known = ap (λ (tables : TableRows). mistaken (actor_of tables call.actor) call.key) same ∙ may.known;
+  role = ap (λ (tables : TableRows). not_his_role (actor_of tables call.actor) call.ask) same ∙ may.role;
+  command = may.command;
+}
+
+kept_for_as : (s t : State) (call : Call) (k : KeptReply) → t.kept ≡ s.kept → IsKeptFor s call k → IsKeptFor t call k
+kept_for_as s t call k same is = record { held = ap (kept_at call.actor call.number) same ∙ is.held; same = is.same }
+
+-- what a command that comes again is given once its tick is put in place
+record IsAgain (t : State) (k : KeptReply) (g : Given) : Type 0 where
+  pub outcome : g.outcome ≡ (lanes.said_at t (said.Reply (Done k.done)) t).outcome
+  pub state : g.state ≡ t
+
+again_ticked : (lane : ℕ) (notices : List Notice) (t : State) (call : Call) (k : KeptReply) (o : Option ℕ) → MayAsk t call → IsKeptFor t call k
+    → IsAgain t k (given notices t (kept_or o t (answer_call t lane call)))
+again_ticked lane notices t call k o may is =
+    let same = ap (λ (u : Stepped). given notices t (kept_or o t u)) (repeat_stays t lane call k may is) ∙ ap (given notices t) (stays_answered o t (Done k.done)) in
+    record { outcome = ap (λ (g : Given). g.outcome) same; state = ap (λ (g : Given). g.state) same }
+
+again_late : (full : Bool) (tick : Option ℕ) (lane : ℕ) (s : State) (at : ℕ) (call : Call) (k : KeptReply) (o : Option ℕ) → s.moment < at → MayAsk s call → IsKeptFor s call k
+    → (made_after o lane (kept_or tick s (tick_unless full s lane at)) call).state.moment ≡ at
+    → IsAgain (tick_unless full s lane at).state k (made_after o lane (kept_or tick s (tick_unless full s lane at)) call)
+again_late true None lane s at call k o later may is reached = absurd (omega (arith, later, reached))
+again_late true (Some n) lane s at call k o later may is reached = by (adds s (stay s (full_reply s))) refl reached
+  where
+    by : (b : Bool) → adds s (stay s (full_reply s)) ≡ b → (made_after o lane (unkept_if b n s (stay s (full_reply s))) call).state.moment ≡ at
+        → IsAgain s k (made_after o lane (unkept_if (adds s (stay s (full_reply s))) n s (stay s (full_reply s))) call)
+    by true e reached = absurd (omega (arith, later, reached))
+    by false e reached = absurd (omega (arith, later, reached))
+again_late false None lane s at call k o later may is reached =
+    let t : State = (ticked s lane at).state in
+    let leaves = tick_leaves false s lane at in
+    again_ticked lane (ticked s lane at).notices t call k o (may_ask_as s t call leaves.0 may) (kept_for_as s t call k leaves.1 is)
+again_late false (Some n) lane s at call k o later may is reached = by (adds s (ticked s lane at)) reached
+  where
+    by : (b : Bool) → (made_after o lane (unkept_if b n s (ticked s lane at)) call).state.moment ≡ at → IsAgain (ticked s lane at).state k (made_after o lane (unkept_if b n s (ticked s lane at)) call)
+    by true reached = absurd (omega (arith, later, reached))
+    by false reached =
+        let t : State = (ticked s lane at).state in
+        let leaves = tick_leaves false s lane at in
+        again_ticked lane (ticked s lane at).notices t call k o (may_ask_as s t call leaves.0 may) (kept_for_as s t call k leaves.1 is)
+
+late_is : (lane : ℕ) (s : State) (at : ℕ) (call : Call) (k : KeptReply) (c : Choice) → s.moment < at → MayAsk s call → IsKeptFor s call k → (answer_with c lane s at call).state.moment ≡ at
+    → IsAgain (tick_to s lane at).state k (answer_with c lane s at call)
+unfolding answer_with tick_to
+late_is lane s at call k c later may is reached =
+    let late = lt-ltb s.moment at later in
+    subst (λ (b : Bool). IsAgain (tick_unless (is_full s) s lane at).state k (made_by b c lane s at call)) (sym late)
+    (again_late (is_full s) c.tick lane s at call k c.call later may is (ap (λ (b : Bool). (made_by b c lane s at call).state.moment) (sym late) ∙ reached))
+
+-- the same, once the tick that comes first is put in place
+pub again_after_tick : (lane : ℕ) (s : State) (at : ℕ) (call : Call) (k : KeptReply) (c : Choice) (t : State) (o : Outcome) (told called : List Notice) → s.moment < at → t.moment ≡ at → MayAsk s call
+    → IsKeptFor s call k → IsGiven (answer_with c lane s at call) t o told called
+    → (o ≡ (lanes.said_at (tick_to s lane at).state (said.Reply (Done k.done)) (tick_to s lane at).state).outcome) × (t ≡ (tick_to s lane at).state)
+again_after_tick lane s at call k c t o told called later reached may is given =
+    let again = late_is lane s at call k c later may is (ap (λ (u : State). u.moment) (sym given.its_state) ∙ reached) in
+    (given.its_outcome ∙ again.outcome, given.its_state ∙ again.state)
 
 -- ---- the text of a run
 

@@ -302,6 +302,10 @@ pub fn answer<K: Keeper, L: Ledger>(
     // A command that comes again is answered with what is kept of it, whatever the keeper does.
     ensures again { (k : AKept) → moment ≤ desk.old.board.state.moment → MayAsk desk.old.board.state call.now → IsKeptFor desk.old.board.state call.now k
         → IfOk result (λ a. (a.outcome ≡ (lanes.said_at desk.old.board.state (ASaid.Reply (Reply.Done k.done)) desk.old.board.state).outcome) × (desk.new.board.state ≡ desk.old.board.state)) }
+    // So is one that comes with a later moment, once the tick to it is put in place.
+    ensures late { (k : AKept) → desk.old.board.state.moment < moment → desk.new.board.state.moment ≡ moment → MayAsk desk.old.board.state call.now → IsKeptFor desk.old.board.state call.now k
+        → IfOk result (λ a. (a.outcome ≡ (lanes.said_at (tick_to desk.old.board.state lane moment).state (ASaid.Reply (Reply.Done k.done)) (tick_to desk.old.board.state lane moment).state).outcome)
+            × (desk.new.board.state ≡ (tick_to desk.old.board.state lane moment).state)) }
     ensures shown { IfOk result (λ a. IsShown a.outcome) }
     ensures err { OnErr result (MayHaveTicked lane moment desk.old.board.state desk.new.board.state) }
     ensures opening { desk.new.board.opening ≡ desk.old.board.opening }

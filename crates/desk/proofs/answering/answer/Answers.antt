@@ -1,5 +1,5 @@
 use Rattle.desk.specs.Settled.{choice_of}
-use Rattle.desk.proofs.Choices.{quiet_answer, again_answered}
+use Rattle.desk.proofs.Choices.{quiet_answer, again_answered, again_after_tick}
 use Rattle.desk.proofs.answering.answer.Goals as goal
 
 pub returns-clause-given : goal.returns-clause-given
@@ -13,3 +13,7 @@ returns-clause-quiet g c = λ sound.
 pub returns-clause-again : goal.returns-clause-again
 returns-clause-again g c = λ k within may is.
     again_answered _ _ _ _ k (choice_of c.in_ok-judged.judged) _ _ _ _ within may is c.in_ok-judged.ensures.given
+
+pub returns-clause-late : goal.returns-clause-late
+returns-clause-late g c = λ k later reached may is.
+    again_after_tick _ _ _ _ k (choice_of c.in_ok-judged.judged) _ _ _ _ later reached may is c.in_ok-judged.ensures.given
