@@ -7,3 +7,5 @@ pub mod AskLaws
 pub mod LineLaws
 pub mod LineForms
 pub mod Least
+pub mod ReplyForms
+pub mod ReplyAgain

@@ -3,3 +3,4 @@ pub mod Replies
 pub mod Canonical
 pub mod Keys
 pub mod Faults
+pub mod ReadReplies

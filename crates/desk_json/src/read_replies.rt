@@ -1,0 +1,357 @@
+ghost use Rattle.std.specs.Prelude.{◌≡◌, IfOk, IfSome};
+ghost use Rattle.std.specs.Str.{bytes_eq};
+ghost use Rattle.serde_json.specs.View.{view, items_view};
+ghost use Rattle.plan_json.specs.Fields.{each_read};
+ghost use Rattle.release_json.specs.Findings.{finding_in};
+ghost use Rattle.desk_json.specs.Replies.{reply_text};
+ghost use Rattle.desk_json.specs.ReadReplies as spec;
+ghost use Rattle.desk_json.specs.ReadReplies.{reply_in, ReplyHasForms, ReplyCanBeShown, AnswersReply, IsReplyOf, IsReplyAgain};
+
+use crate::bad_call::{CallFault, bad};
+use crate::replies::written_text;
+use asks::{CallWhy, Refusal, Reply};
+use codes::Why;
+use desk_io::{OutOfMemory, Text};
+use desk_time::{Minute, read_shown};
+use plan::{Finding, Findings, PlanWhy};
+use plan_json::{amount_at, data_of, digest_at, list_at, number_at, read_done, text_at};
+use release_json::{read_finding, read_phase};
+use serde_json::Value;
+use std::alloc::Global;
+
+fn wide_at(key: &str, value: &Value) -> Option<u64>
+    ensures { result ≡ spec.wide_at key.now (view value.now) }
+{
+    number_at(key, 18_446_744_073_709_551_615, value)
+}
+
+fn shown_at(key: &str, value: &Value) -> Option<Minute>
+    ensures { result ≡ spec.shown_at key.now (view value.now) }
+{
+    read_shown(text_at(key, value)?.as_bytes())
+}
+
+fn why_of(name: &str) -> Option<Why>
+    ensures { result ≡ spec.why_of name.now }
+{
+    if name == "TooLong" {
+        Some(Why::TooLong)
+    } else if name == "Missing" {
+        Some(Why::Missing)
+    } else if name == "NotStation" {
+        Some(Why::NotStation)
+    } else if name == "NotTime" {
+        Some(Why::NotTime)
+    } else if name == "DayOutOfReach" {
+        Some(Why::DayOutOfReach)
+    } else if name == "BadVisibility" {
+        Some(Why::BadVisibility)
+    } else if name == "BadSky" {
+        Some(Why::BadSky)
+    } else if name == "BadPeriod" {
+        Some(Why::BadPeriod)
+    } else {
+        None
+    }
+}
+
+fn plan_why_of(name: &str) -> Option<PlanWhy>
+    ensures { result ≡ spec.plan_why_of name.now }
+{
+    if name == "UnknownTail" {
+        Some(PlanWhy::UnknownTail)
+    } else if name == "UnknownCaptain" {
+        Some(PlanWhy::UnknownCaptain)
+    } else if name == "Count" {
+        Some(PlanWhy::Count)
+    } else if name == "NoAirport" {
+        Some(PlanWhy::NoAirport)
+    } else if name == "Repeated" {
+        Some(PlanWhy::Repeated)
+    } else if name == "Unjoined" {
+        Some(PlanWhy::Unjoined)
+    } else if name == "Times" {
+        Some(PlanWhy::Times)
+    } else if name == "Amount" {
+        Some(PlanWhy::Amount)
+    } else if name == "Changed" {
+        Some(PlanWhy::Changed)
+    } else if name == "Flown" {
+        Some(PlanWhy::Flown)
+    } else {
+        None
+    }
+}
+
+// The refusals that say no more than their number.
+fn plain_of(number: u64) -> Option<Refusal>
+    ensures { result ≡ spec.plain_of number }
+{
+    match number {
+        1 => Some(Refusal::UnknownActor),
+        2 => Some(Refusal::WrongKey),
+        3 => Some(Refusal::NotYourRole),
+        8 => Some(Refusal::UnknownTail),
+        9 => Some(Refusal::NoSuchDeferral),
+        10 => Some(Refusal::NoSuchRelease),
+        19 => Some(Refusal::AlreadySigned),
+        20 => Some(Refusal::NoSuchAlert),
+        25 => Some(Refusal::NoSuchStation),
+        28 => Some(Refusal::UnknownItem),
+        _ => None,
+    }
+}
+
+// Those that say one number of 64 bits, and else the last.
+fn counted_of(number: u64, value: &Value) -> Option<Refusal>
+    ensures { result ≡ spec.counted_of number (view value.now) }
+{
+    match number {
+        4 => Some(Refusal::NumberReused {
+            kept: wide_at("kept", value)?,
+        }),
+        7 => Some(Refusal::ReportsFull {
+            held: wide_at("held", value)?,
+        }),
+        14 => Some(Refusal::WrongRevision {
+            current: wide_at("current", value)?,
+        }),
+        16 => Some(Refusal::WeatherNewer {
+            report: wide_at("report", value)?,
+        }),
+        21 => Some(Refusal::AlertMoved {
+            version: wide_at("version", value)?,
+        }),
+        23 => Some(Refusal::ReleasesFull {
+            held: wide_at("held", value)?,
+        }),
+        26 => Some(Refusal::Unkept {
+            faults: wide_at("faults", value)?,
+        }),
+        27 => Some(Refusal::NumberSwept {
+            floor: wide_at("floor", value)?,
+        }),
+        30 => Some(Refusal::DeferralsFull {
+            held: wide_at("held", value)?,
+        }),
+        _ => plain_of(number),
+    }
+}
+
+fn bad_report_of(value: &Value) -> Option<Refusal>
+    ensures { result ≡ spec.bad_report_of (view value.now) }
+{
+    let group = amount_at("group", value)?;
+    let what = why_of(text_at("what", value)?)?;
+    Some(Refusal::BadReport { group, what })
+}
+
+fn bad_plan_of(value: &Value) -> Option<Refusal>
+    ensures { result ≡ spec.bad_plan_of (view value.now) }
+{
+    let leg = amount_at("leg", value)?;
+    let what = plan_why_of(text_at("what", value)?)?;
+    Some(Refusal::BadPlan { leg, what })
+}
+
+fn wrong_phase_of(value: &Value) -> Option<Refusal>
+    ensures { result ≡ spec.wrong_phase_of (view value.now) }
+{
+    Some(Refusal::WrongPhase {
+        phase: read_phase(text_at("phase", value)?.as_bytes())?,
+    })
+}
+
+fn history_full_of(value: &Value) -> Option<Refusal>
+    ensures { result ≡ spec.history_full_of (view value.now) }
+{
+    let entries = wide_at("entries", value)?;
+    let kept = wide_at("kept", value)?;
+    let events = wide_at("events", value)?;
+    Some(Refusal::HistoryFull {
+        entries,
+        kept,
+        events,
+    })
+}
+
+// Those that say something else, and else the next.
+fn fixed_of(number: u64, value: &Value) -> Option<Refusal>
+    ensures { result ≡ spec.fixed_of number (view value.now) }
+{
+    match number {
+        5 => bad_report_of(value),
+        6 => Some(Refusal::DayOutOfReach {
+            group: amount_at("group", value)?,
+        }),
+        12 => bad_plan_of(value),
+        13 => Some(Refusal::NotPending {
+            stage: number_at("stage", 255, value)? as u8,
+        }),
+        15 => Some(Refusal::WrongText {
+            digest: digest_at("digest", value)?,
+        }),
+        18 => wrong_phase_of(value),
+        22 => Some(Refusal::TooYoung {
+            until: shown_at("until", value)?,
+        }),
+        24 => history_full_of(value),
+        29 => Some(Refusal::BadFound {
+            moment: shown_at("now", value)?,
+        }),
+        _ => counted_of(number, value),
+    }
+}
+
+fn not_yours_of(alloc: Global, value: &Value) -> Result<Option<Refusal>, OutOfMemory>
+    ensures { IfOk result (λ r. r ≡ spec.not_yours_of (view value.now)) }
+{
+    match text_at("holder", value) {
+        Some(holder) => Ok(Some(Refusal::NotYours {
+            holder: Text::of(alloc, holder.as_bytes())?,
+        })),
+        None => Ok(None),
+    }
+}
+
+fn finding_of(value: &Value) -> Option<Finding>
+    ensures { result ≡ finding_in (view value.now) }
+{
+    read_finding(value.as_str()?.as_bytes())
+}
+
+fn findings_of(alloc: Global, items: &[Value]) -> Result<Option<Findings>, OutOfMemory>
+    ensures { IfOk result (λ findings. findings ≡ each_read finding_in (items_view items.now)) }
+{
+    let mut findings = Findings::new(alloc);
+    for item in items {
+        match finding_of(item) {
+            Some(finding) => findings.push(finding)?,
+            None => return Ok(None),
+        }
+    }
+    Ok(Some(findings))
+}
+
+fn rule_fails_of(alloc: Global, value: &Value) -> Result<Option<Refusal>, OutOfMemory>
+    ensures { IfOk result (λ r. r ≡ spec.rule_fails_of (view value.now)) }
+{
+    let Some(items) = list_at("findings", value) else {
+        return Ok(None);
+    };
+    match findings_of(alloc, items)? {
+        Some(findings) => Ok(Some(Refusal::RuleFails { findings })),
+        None => Ok(None),
+    }
+}
+
+// The refusal of a number, with its fields.
+fn refusal_of(alloc: Global, number: u64, value: &Value) -> Result<Option<Refusal>, OutOfMemory>
+    ensures { IfOk result (λ r. r ≡ spec.refusal_of number (view value.now)) }
+{
+    match number {
+        11 => not_yours_of(alloc, value),
+        17 => rule_fails_of(alloc, value),
+        _ => Ok(fixed_of(number, value)),
+    }
+}
+
+fn done_in(value: &Value) -> Option<Reply>
+    ensures { result ≡ spec.done_in (view value.now) }
+{
+    Some(Reply::Done(read_done(value.get("done")?)?))
+}
+
+fn seen_in(alloc: Global, value: &Value) -> Result<Option<Reply>, OutOfMemory>
+    ensures { IfOk result (λ r. r ≡ spec.seen_in (view value.now)) }
+{
+    match text_at("seen", value) {
+        Some(text) => Ok(Some(Reply::Seen(Text::of(alloc, text.as_bytes())?))),
+        None => Ok(None),
+    }
+}
+
+fn refused_in(alloc: Global, value: &Value) -> Result<Option<Reply>, OutOfMemory>
+    ensures { IfOk result (λ r. r ≡ spec.refused_in (view value.now)) }
+{
+    let Some(number) = wide_at("refused", value) else {
+        return Ok(None);
+    };
+    match refusal_of(alloc, number, value)? {
+        Some(refusal) => Ok(Some(Reply::Refused(refusal))),
+        None => Ok(None),
+    }
+}
+
+// What is read of JSON, whatever else it says.
+fn reply_of(alloc: Global, value: &Value) -> Result<Option<Reply>, OutOfMemory>
+    ensures { IfOk result (λ r. r ≡ spec.reply_of (view value.now)) }
+{
+    if value.get("done").is_some() {
+        Ok(done_in(value))
+    } else if value.get("seen").is_some() {
+        seen_in(alloc, value)
+    } else {
+        refused_in(alloc, value)
+    }
+}
+
+fn reply_with_forms(alloc: Global, value: &Value) -> Result<Option<Reply>, OutOfMemory>
+    ensures reply { IfOk result (λ r. r ≡ spec.reply_of (view value.now)) }
+    ensures forms { IfOk result (λ r. IfSome r ReplyHasForms) }
+    ensures shown { IfOk result (λ r. IfSome r ReplyCanBeShown) }
+{
+    reply_of(alloc, value)
+}
+
+fn is_text(alloc: Global, bytes: &[u8], reply: &Reply) -> Result<bool, OutOfMemory>
+    requires { ReplyCanBeShown reply.now }
+    ensures { IfOk result (λ b. b ≡ bytes_eq (reply_text reply.now) bytes.now) }
+{
+    let text = written_text(alloc, reply)?;
+    Ok(text.bytes() == bytes)
+}
+
+#[tactic(auto, unfolding(crate::specs::ReadReplies::reply_in))]
+fn reply_in(alloc: Global, bytes: &[u8]) -> Result<Option<Reply>, OutOfMemory>
+    ensures reply { IfOk result (λ r. r ≡ reply_in bytes.now) }
+    ensures forms { IfOk result (λ r. IfSome r ReplyHasForms) }
+{
+    let Some(value) = data_of(alloc, bytes)? else {
+        return Ok(None);
+    };
+    let Some(reply) = reply_with_forms(alloc, &value)? else {
+        return Ok(None);
+    };
+    if is_text(alloc, bytes, &reply)? {
+        Ok(Some(reply))
+    } else {
+        Ok(None)
+    }
+}
+
+fn reply_answer(alloc: Global, bytes: &[u8]) -> Result<Reply, CallFault>
+    ensures answer { AnswersReply (reply_in bytes.now) result }
+    ensures forms { IfOk result ReplyHasForms }
+{
+    match reply_in(alloc, bytes) {
+        Ok(Some(reply)) => Ok(reply),
+        Ok(None) => match bad(alloc, CallWhy::NotJson, "") {
+            Ok(fault) => Err(CallFault::Bad(fault)),
+            Err(_) => Err(CallFault::OutOfMemory),
+        },
+        Err(_) => Err(CallFault::OutOfMemory),
+    }
+}
+
+/// The reply whose text, as `reply_text` writes it, these bytes are: each field of its form, the moments of a phase
+/// from 2000 to 2099, and other moments as far as they can be shown. Any other text is `NotJson`, at no key.
+pub fn read_reply(alloc: Global, bytes: &[u8]) -> Result<Reply, CallFault>
+    ensures answer { AnswersReply (reply_in bytes.now) result }
+    // No other text is read.
+    ensures exact { IfOk result (IsReplyOf bytes.now) }
+    // A text that a reply of good form has is read as that reply.
+    ensures again { IsReplyAgain bytes.now result }
+{
+    reply_answer(alloc, bytes)
+}
