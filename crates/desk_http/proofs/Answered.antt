@@ -122,6 +122,10 @@ request s others result gives wire rest is =
     request_answer (asks h) wire rest others is.asked result is.begins.2 is.whole is.wire_is
     (headed s h (wire.body ++ rest) others result is.begins.1 gives)
 
+-- bytes begin with one request at most
+pub request_once : (s : List ℕ) (wire w : Wire) (rest others : List ℕ) → BeginsWithRequest s wire rest → BeginsWithRequest s w others → (w ≡ wire) × (others ≡ rest)
+request_once s wire w rest others one two = request s others (Ok w) two wire rest one
+
 refusal_answer : (r : Result Asked WireFault) (fault : WireFault) (rest others : List ℕ) (result : Result Wire WireFault) → r ≡ Err fault → Headed r rest others result
     → IsOneOf (λ _. ⊥) (λ f. f ≡ fault) result
 refusal_answer r fault rest others (Ok w) refuses (b, asked, parts, whole, is) = not_both r b fault asked refuses
@@ -250,13 +254,13 @@ answer s others result gives = record {
 
 -- Bytes that follow change nothing.
 
-has_more : (s more : List ℕ) (h : RequestHead) (r : List ℕ) → HasHead s h r → HasHead (s ++ more) h (r ++ more)
+pub has_more : (s more : List ℕ) (h : RequestHead) (r : List ℕ) → HasHead s h r → HasHead (s ++ more) h (r ++ more)
 has_more s more h r has = record { reads = ReadsRequest-append s h r more has.reads; short = has.short }
 
 begins_more : (s more : List ℕ) (a : Asked) (body left : List ℕ) → Begins s a (body ++ left) → Begins (s ++ more) a (body ++ (left ++ more))
 begins_more s more a body left (h, has, is) = (h, subst (HasHead (s ++ more) h) (append_assoc body left more) (has_more s more h (body ++ left) has), is)
 
-request_more : (s more : List ℕ) (wire : Wire) (left : List ℕ) → BeginsWithRequest s wire left → BeginsWithRequest (s ++ more) wire (left ++ more)
+pub request_more : (s more : List ℕ) (wire : Wire) (left : List ℕ) → BeginsWithRequest s wire left → BeginsWithRequest (s ++ more) wire (left ++ more)
 request_more s more wire left is = record {
   asked = is.asked;
   begins = begins_more s more is.asked wire.body left is.begins;
@@ -264,13 +268,13 @@ request_more s more wire left is = record {
   wire_is = is.wire_is;
 }
 
-refused_more : (s more : List ℕ) (fault : WireFault) → IsRefused s fault → IsRefused (s ++ more) fault
+pub refused_more : (s more : List ℕ) (fault : WireFault) → IsRefused s fault → IsRefused (s ++ more) fault
 refused_more s more fault (h, rest, has, is) = (h, rest ++ more, has_more s more h rest has, is)
 
-never_more : (s more : List ℕ) → NeverHasRequest s → NeverHasRequest (s ++ more)
+pub never_more : (s more : List ℕ) → NeverHasRequest s → NeverHasRequest (s ++ more)
 never_more s more never = λ after h rest reads. never (more ++ after) h rest (reads.0, sym (append_assoc s more after) ∙ reads.1)
 
-long_more : (s more : List ℕ) → IsTooLong s → IsTooLong (s ++ more)
+pub long_more : (s more : List ℕ) → IsTooLong s → IsTooLong (s ++ more)
 long_more s more (long, none) =
     let parts = length-append s more in
     (omega (arith, long, parts), subst HasNoRequest (sym (take-append-le head_limit s more long)) none)
