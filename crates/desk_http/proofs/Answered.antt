@@ -1,19 +1,17 @@
 -- Each kind of bytes has one answer.
-use Rattle.std.proofs.Common.{zero, suc, ◌≡◌, ◌≤◌, ◌<◌, ◌+◌, ◌-◌, ◌⊎◌, ℕ, List, [], ◌∷◌, ◌++◌, length, take, drop, Option, Some, None, Result, Ok, Err, inl, inr, true, refl, ap, sym, subst, ◌∙◌, arith, codes, length-append, append-nil}
-use Rattle.std.specs.Prelude.{MatchResult}
-use Rattle.std.specs.List.{All}
+use Rattle.std.proofs.Common.{zero, suc, ◌≡◌, ◌≤◌, ◌<◌, ◌+◌, ◌-◌, ◌⊎◌, ℕ, List, [], ◌++◌, length, take, drop, Option, Some, None, Result, Ok, Err, inl, inr, refl, ap, sym, subst, ◌∙◌, arith, codes, length-append, append-nil}
 use Rattle.std.proofs.lemmas.List.{append_assoc, take-append-le}
 use Rattle.std.proofs.lemmas.List.Elements.{All-nil}
 use Rattle.std.proofs.lemmas.List.Sums.{AllPass-from_list_all}
 use Rattle.std.proofs.Math.Seq.{take-append-add, take-append_seam, drop-append_seam}
 use Rattle.std.proofs.lemmas.Str.{IsUtf8-from_ascii}
 use Rattle.std.specs.Str.{IsAscii}
-use Rattle.httparse.specs.Grammar.{RequestHead, IsRequestHead, lf, print_request, ReadsRequest, HasNoRequest, NeverHasRequest, is_token_byte, is_uri_byte}
+use Rattle.httparse.specs.Grammar.{RequestHead, IsRequestHead, lf, print_request, HasNoRequest, NeverHasRequest, is_token_byte, is_uri_byte}
 use Rattle.httparse.proofs.GrammarLemmas.{request_unique, ReadsRequest-append}
 use Rattle.httparse.proofs.OnLiterals.{httparse_on_literals}
 use Rattle.desk_net.specs.Wires.{Wire as LinkWire, unread, OnlyRead}
 use Rattle.desk_http.specs.Heads.{head_limit, asks}
-use Rattle.desk_http.specs.Requests.{Splits, AtEnd, HasHead, wire_of, Begins, BeginsWithRequest, IsRefused, IsPart, IsPartOfHead, IsPartOfBody, IsTooLong, GivesNone, HasRead, EndsBy, NextRequest, IsOutside, unused, Gives, IsOneOf, Answers, AnswersUnused}
+use Rattle.desk_http.specs.Requests.{HasHead, wire_of, Begins, BeginsWithRequest, IsRefused, IsPart, IsPartOfHead, IsPartOfBody, IsTooLong, HasRead, NextRequest, IsOutside, unused, Gives, IsOneOf, Answers, AnswersUnused}
 use Rattle.desk_http.specs.declared.wire.Asked.{Asked}
 use Rattle.desk_http.specs.declared.wire.Wire.{Wire}
 use Rattle.desk_http.specs.declared.wire.WireFault.{WireFault}
@@ -123,6 +121,10 @@ request s others result gives wire rest is =
     let h = is.begins.0 in
     request_answer (asks h) wire rest others is.asked result is.begins.2 is.whole is.wire_is
     (headed s h (wire.body ++ rest) others result is.begins.1 gives)
+
+-- bytes begin with one request at most
+pub request_once : (s : List ℕ) (wire w : Wire) (rest others : List ℕ) → BeginsWithRequest s wire rest → BeginsWithRequest s w others → (w ≡ wire) × (others ≡ rest)
+request_once s wire w rest others one two = request s others (Ok w) two wire rest one
 
 refusal_answer : (r : Result Asked WireFault) (fault : WireFault) (rest others : List ℕ) (result : Result Wire WireFault) → r ≡ Err fault → Headed r rest others result
     → IsOneOf (λ _. ⊥) (λ f. f ≡ fault) result
@@ -252,13 +254,13 @@ answer s others result gives = record {
 
 -- Bytes that follow change nothing.
 
-has_more : (s more : List ℕ) (h : RequestHead) (r : List ℕ) → HasHead s h r → HasHead (s ++ more) h (r ++ more)
+pub has_more : (s more : List ℕ) (h : RequestHead) (r : List ℕ) → HasHead s h r → HasHead (s ++ more) h (r ++ more)
 has_more s more h r has = record { reads = ReadsRequest-append s h r more has.reads; short = has.short }
 
 begins_more : (s more : List ℕ) (a : Asked) (body left : List ℕ) → Begins s a (body ++ left) → Begins (s ++ more) a (body ++ (left ++ more))
 begins_more s more a body left (h, has, is) = (h, subst (HasHead (s ++ more) h) (append_assoc body left more) (has_more s more h (body ++ left) has), is)
 
-request_more : (s more : List ℕ) (wire : Wire) (left : List ℕ) → BeginsWithRequest s wire left → BeginsWithRequest (s ++ more) wire (left ++ more)
+pub request_more : (s more : List ℕ) (wire : Wire) (left : List ℕ) → BeginsWithRequest s wire left → BeginsWithRequest (s ++ more) wire (left ++ more)
 request_more s more wire left is = record {
   asked = is.asked;
   begins = begins_more s more is.asked wire.body left is.begins;
@@ -266,13 +268,13 @@ request_more s more wire left is = record {
   wire_is = is.wire_is;
 }
 
-refused_more : (s more : List ℕ) (fault : WireFault) → IsRefused s fault → IsRefused (s ++ more) fault
+pub refused_more : (s more : List ℕ) (fault : WireFault) → IsRefused s fault → IsRefused (s ++ more) fault
 refused_more s more fault (h, rest, has, is) = (h, rest ++ more, has_more s more h rest has, is)
 
-never_more : (s more : List ℕ) → NeverHasRequest s → NeverHasRequest (s ++ more)
+pub never_more : (s more : List ℕ) → NeverHasRequest s → NeverHasRequest (s ++ more)
 never_more s more never = λ after h rest reads. never (more ++ after) h rest (reads.0, sym (append_assoc s more after) ∙ reads.1)
 
-long_more : (s more : List ℕ) → IsTooLong s → IsTooLong (s ++ more)
+pub long_more : (s more : List ℕ) → IsTooLong s → IsTooLong (s ++ more)
 long_more s more (long, none) =
     let parts = length-append s more in
     (omega (arith, long, parts), subst HasNoRequest (sym (take-append-le head_limit s more long)) none)

@@ -3,3 +3,6 @@ pub mod Room
 pub mod Links
 pub mod Streams
 pub mod Answered
+pub mod Seeks
+pub mod Found
+pub mod RouteLaws

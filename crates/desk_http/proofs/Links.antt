@@ -1,9 +1,9 @@
 -- What a call of a link that reads did to it.
-use Rattle.std.proofs.Common.{◌≡◌, ℕ, ◌+◌, ◌-◌, ◌≤◌, List, [], ◌++◌, length, take, drop, Option, Some, None, Result, Ok, Err, refl, ap, sym, subst, ◌∙◌, arith}
-use Rattle.std.specs.Prelude.{MatchResult, IsErrOf, IfOk, IsOk}
+use Rattle.std.proofs.Common.{◌≡◌, ℕ, List, [], ◌++◌, length, take, drop, Option, Some, None, Result, Ok, Err, refl, ap, sym, ◌∙◌, arith}
+use Rattle.std.specs.Prelude.{IfOk}
 use Rattle.std.proofs.lemmas.List.{take-append-drop, drop-drop, drop_all}
 use Rattle.desk_net.specs.Wires.{Wire, Reads, TakesNext, unread, OnlyRead}
-use Rattle.desk_http.specs.Requests.{Splits, AtEnd, StaysSound}
+use Rattle.desk_http.specs.Requests.{Splits, AtEnd}
 
 took : (old new : Wire) (n : ℕ) (into : List ℕ) → TakesNext old new n into → drop old.taken old.input ≡ take n into ++ drop new.taken new.input
 took old new n into is =
@@ -48,4 +48,3 @@ only_on None (Some now) later a b = absurd a
 only_on (Some before) None later a b = absurd a
 only_on (Some before) (Some now) None a b = absurd b
 only_on (Some before) (Some now) (Some later) a b = (b.0 ∙ a.0, b.1 ∙ a.1)
-

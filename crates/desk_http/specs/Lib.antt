@@ -1,5 +1,6 @@
 pub mod Digits
 pub mod Routes
+pub mod Names
 pub mod Responses
 pub mod Heads
 pub mod Requests

@@ -46,10 +46,13 @@ route_among None None (Some name) deferred = weather_route name
 route_among None None None (Some tail) = deferred_route tail
 route_among None None None None = None
 
+-- the route of a path that is text
+abbrev pub route_in : List ℕ → Option Routed
+route_in path = route_among (fixed_route path) (after (codes "/release/") path) (after (codes "/weather/") path) (after (codes "/deferred/") path)
+
 -- the route of a path, if it has one
 unfoldable pub route_of : List ℕ → Option Routed
-route_of path =
-    if is_utf8 path then route_among (fixed_route path) (after (codes "/release/") path) (after (codes "/weather/") path) (after (codes "/deferred/") path) else None
+route_of path = if is_utf8 path then route_in path else None
 
 -- Calls are posted, and all else is a view, which is got.
 abbrev pub takes : Bool → Routed → Bool

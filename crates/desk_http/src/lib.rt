@@ -10,6 +10,7 @@ mod heads;
 mod reading;
 mod requests;
 mod responses;
+mod router;
 mod routes;
 mod wire;
 

@@ -121,14 +121,15 @@ fn request_in<N: Link>(
     Ok(finish(alloc, bytes, asked, start, end)?)
 }
 
-/// The next request of a connection: the first of the bytes that the buffer holds and of those that
-/// come in. What comes after it stays in the buffer.
+/// The next request of a connection: the first of its unused bytes, those that the buffer holds and then those
+/// that come in (RFC 9112, sections 2 to 6). What comes after it stays unused. In which pieces the bytes come
+/// plays no part.
 ///
-/// `End` comes where the connection ends before a request, `Cut` where it ends within one, `BadHead`
-/// where the bytes make no head whatever follows, `TooLarge` where a head has more than `HEAD_LIMIT`
-/// bytes or states more than `BODY_LIMIT`, `WrongMethod` and `NoLength` by the head, in this order
-/// and before `TooLarge`. `ReadFault` comes only where the count of faults rose. After a fault the
-/// buffer isn't used again.
+/// `End` comes where there are no unused bytes, and `Cut` where they end within a request. `BadHead` comes where
+/// they make no head whatever follows, as soon as this is seen. `TooLarge` comes where a head has more than
+/// `HEAD_LIMIT` bytes. On a whole head, `WrongMethod`, `NoLength` and then `TooLarge` for a body of more than
+/// `BODY_LIMIT` come before anything of the body is read. `ReadFault` comes only where the link's count of faults
+/// rose. Nothing is written. After a fault the buffer isn't used again.
 pub fn next_request<N: Link>(
     alloc: Global,
     link: &mut N,

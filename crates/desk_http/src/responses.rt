@@ -56,8 +56,9 @@ fn field_lines(alloc: Global, count: usize) -> Result<Vec<u8>, OutOfMemory>
     Ok(lines)
 }
 
-/// The bytes that answer a request: the status line with the phrase of RFC 9110, Content-Type and
-/// Content-Length, an empty line, and the body, which is JSON. A status has three digits.
+/// The bytes that answer a request (RFC 9112, section 4): the status line, Content-Type and Content-Length,
+/// an empty line, and the body, which is JSON. A status has three digits, and its phrase is that of the crate
+/// http, which is older than RFC 9110 for 413 and 422.
 #[tactic(auto, unfolding(crate::specs::Responses::response))]
 pub fn response(alloc: Global, status: u16, body: &[u8]) -> Result<Text, OutOfMemory>
     requires { IsStatusCode status }

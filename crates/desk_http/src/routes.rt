@@ -2,12 +2,14 @@ ghost use Rattle.std.specs.Prelude.{◌≡◌, ◌==◌, IfOk, not};
 ghost use Rattle.std.specs.List.{list_any};
 ghost use Rattle.std.specs.Option.{option_map};
 ghost use Rattle.std.specs.Str.{is_utf8};
+ghost use Rattle.desk_http.specs.Names as names;
 ghost use Rattle.desk_http.specs.Routes as spec;
 ghost use Rattle.desk_http.specs.Routes.{Routes};
 ghost use Rattle.desk_http.specs.declared.routes.RouteFault.TheVariants.{OutOfMemory as RouteMemory};
 
 use crate::Wire;
 use crate::digits::{has_length, number_of};
+use crate::router::{Named, name_of};
 use codes::Station;
 use desk_io::{OutOfMemory, Text};
 use std::alloc::Global;
@@ -49,15 +51,6 @@ impl From<OutOfMemory> for RouteFault {
     }
 }
 
-fn is_text(bytes: &[u8]) -> bool
-    ensures { result ≡ is_utf8 bytes.now }
-{
-    match str::from_utf8(bytes) {
-        Ok(_) => true,
-        Err(_) => false,
-    }
-}
-
 // What stands after a front of a path.
 fn after<'a>(front: &[u8], path: &'a [u8]) -> Option<&'a [u8]>
     ensures { option_map (λ rest. rest.now) result ≡ spec.after front.now path.now }
@@ -65,17 +58,12 @@ fn after<'a>(front: &[u8], path: &'a [u8]) -> Option<&'a [u8]>
     path.strip_prefix(front)
 }
 
-fn fixed_route(path: &[u8]) -> Option<Routed>
-    ensures { result ≡ spec.fixed_route path.now }
+fn rest_after<'a>(front: &[u8], path: &'a [u8]) -> &'a [u8]
+    ensures { result.now ≡ names.rest_after front.now path.now }
 {
-    if path == b"/call".as_slice() {
-        Some(Routed::Post)
-    } else if path == b"/board".as_slice() {
-        Some(Routed::Board)
-    } else if path == b"/alerts".as_slice() {
-        Some(Routed::Alerts)
-    } else {
-        None
+    match after(front, path) {
+        Some(rest) => rest,
+        None => &[],
     }
 }
 
@@ -119,25 +107,41 @@ fn deferred_route(alloc: Global, tail: &[u8]) -> Result<Option<Routed>, OutOfMem
     }
 }
 
+// The route of a name, by what follows in the path.
+fn named_route(
+    alloc: Global,
+    name: Option<Named>,
+    path: &[u8],
+) -> Result<Option<Routed>, OutOfMemory>
+    ensures { IfOk result (λ r. r ≡ names.named_route name path.now) }
+{
+    let Some(name) = name else {
+        return Ok(None);
+    };
+    match name {
+        Named::ToCall => Ok(Some(Routed::Post)),
+        Named::ToBoard => Ok(Some(Routed::Board)),
+        Named::ToAlerts => Ok(Some(Routed::Alerts)),
+        Named::ToRelease => Ok(release_route(rest_after(b"/release/", path))),
+        Named::ToWeather => Ok(weather_route(rest_after(b"/weather/", path))),
+        Named::ToDeferred => deferred_route(alloc, rest_after(b"/deferred/", path)),
+    }
+}
+
+fn route_in(alloc: Global, path: &str) -> Result<Option<Routed>, OutOfMemory>
+    ensures { IfOk result (λ r. r ≡ spec.route_in path.now) }
+{
+    let name = name_of(alloc, path)?;
+    named_route(alloc, name, path.as_bytes())
+}
+
 #[tactic(auto, unfolding(crate::specs::Routes::route_of))]
 fn route_of(alloc: Global, path: &[u8]) -> Result<Option<Routed>, OutOfMemory>
     ensures { IfOk result (λ r. r ≡ spec.route_of path.now) }
 {
-    if !is_text(path) {
-        return Ok(None);
-    }
-    if let Some(fixed) = fixed_route(path) {
-        return Ok(Some(fixed));
-    }
-    if let Some(id) = after(b"/release/", path) {
-        return Ok(release_route(id));
-    }
-    if let Some(name) = after(b"/weather/", path) {
-        return Ok(weather_route(name));
-    }
-    match after(b"/deferred/", path) {
-        Some(tail) => deferred_route(alloc, tail),
-        None => Ok(None),
+    match str::from_utf8(path) {
+        Ok(text) => route_in(alloc, text),
+        Err(_) => Ok(None),
     }
 }
 

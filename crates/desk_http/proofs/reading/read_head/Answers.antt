@@ -44,9 +44,9 @@ loop-head-preserved g c =
       later = omega (arith, c.loop-head.invariant.later, c.in_ok-read_more.ensures.cause.later);
       same = only_on _ _ _ c.loop-head.invariant.same c.in_ok-read_more.ensures.same;
       sound = λ sound.
-        let before = c.loop-head.invariant.sound sound in
-        let now = c.in_ok-read_more.ensures.sound before.0 in
-        (now.0, now.2 ∙ before.1);
+          let before = c.loop-head.invariant.sound sound in
+          let now = c.in_ok-read_more.ensures.sound before.0 in
+          (now.0, now.2 ∙ before.1);
       room = search rules;
       spans = search rules;
     }

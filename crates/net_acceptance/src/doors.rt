@@ -1,0 +1,125 @@
+use desk_io::{OutOfMemory, PutFault};
+use desk_net::{Door, Link, MemoryDoor, MemoryLink, TcpDoor};
+use std::alloc::Global;
+use std::io;
+use std::io::{Read, Write};
+use std::net::{Ipv4Addr, Net, OpenStream, Shutdown, TcpStream};
+use std::test::Fail;
+
+fn link_of(alloc: Global, input: &[u8]) -> Result<MemoryLink, OutOfMemory> {
+    let input = Vec::from_slice(alloc, input)?;
+    Ok(MemoryLink::new(alloc, input, 4, Vec::new(alloc)))
+}
+
+// Takes the next link, reads once, writes back what it read, and gives the link back.
+fn echo<D: Door>(door: &mut D) -> bool {
+    let Ok(mut link) = door.accept() else {
+        return false;
+    };
+    let mut into = [0; 4];
+    let Ok(count) = link.read(&mut into) else {
+        return false;
+    };
+    if count > 4 {
+        return false;
+    }
+    link.write(&into[..count]).is_ok() && door.done(link).is_ok()
+}
+
+#[test]
+fn a_door_gives_its_links_in_order(rt: HostRuntime) -> Result<(), Fail> {
+    let alloc = rt.alloc();
+    let links = vec![in alloc;
+        link_of(alloc, b"one".as_slice())?,
+        link_of(alloc, b"two".as_slice())?,
+    ]?;
+    let fail = vec![in alloc; 2]?;
+    let mut door = MemoryDoor::new(alloc, links, fail);
+    assert!(rt; door.bind(80).is_ok());
+    assert!(rt; echo(&mut door));
+    assert!(rt; !echo(&mut door));
+    assert!(rt; door.faults() == 1);
+    assert!(rt; echo(&mut door));
+    assert!(rt; !echo(&mut door));
+    assert!(rt; door.faults() == 2);
+    let ended = door.ended();
+    assert_eq!(rt; ended.len(), 2);
+    if ended.len() == 2 {
+        assert!(rt; ended[0].written() == b"one".as_slice());
+        assert!(rt; ended[1].written() == b"two".as_slice());
+    }
+    Ok(())
+}
+
+// Opens the door at the first port that is free, of forty.
+fn open<R: Net + Drop>(door: &mut TcpDoor<R>) -> Option<u16> {
+    for port in 28_461..28_501 {
+        if door.bind(port).is_ok() {
+            return Some(port);
+        }
+    }
+    None
+}
+
+// What comes back to a caller that says a word.
+fn call<N: Net>(net: &N, port: u16, word: &[u8]) -> io::Result<N::Stream> {
+    let mut caller = TcpStream::connect(net, (Ipv4Addr::LOCALHOST, port))?;
+    caller.write_all(word)?;
+    caller.shutdown(Shutdown::Write)?;
+    Ok(caller)
+}
+
+#[test]
+fn two_callers_are_served_over_the_loopback(rt: HostRuntime) -> Result<(), Fail> {
+    let mut door = TcpDoor::new(&rt);
+    assert!(rt; !echo(&mut door));
+    assert!(rt; door.faults() == 1);
+    let Some(port) = open(&mut door) else {
+        panic!(rt; "no port is free");
+    };
+    let mut first = call(&rt, port, b"ping".as_slice())?;
+    let mut second = call(&rt, port, b"abc".as_slice())?;
+    assert!(rt; echo(&mut door));
+    assert!(rt; echo(&mut door));
+    let mut heard = Vec::new(rt.alloc());
+    first.read_to_end(&mut heard)?;
+    assert!(rt; heard.as_slice() == b"ping".as_slice());
+    second.read_to_end(&mut heard)?;
+    assert!(rt; heard.as_slice() == b"pingabc".as_slice());
+    // a port that is taken
+    let mut other = TcpDoor::new(&rt);
+    assert!(rt; other.bind(port).is_err());
+    assert!(rt; other.faults() == 1);
+    Ok(())
+}
+
+// Writes until the link fails, a hundred times at most.
+fn fails_at_last<L: Link>(link: &mut L) -> bool {
+    for _ in 0..100 {
+        if link.write(&[0; 4_096]) == Err(PutFault::Failed) {
+            return true;
+        }
+    }
+    false
+}
+
+#[test]
+fn a_link_ends_and_fails_as_its_caller_goes(rt: HostRuntime) -> Result<(), Fail> {
+    let mut door = TcpDoor::new(&rt);
+    let Some(port) = open(&mut door) else {
+        panic!(rt; "no port is free");
+    };
+    let caller = call(&rt, port, b"ab".as_slice())?;
+    let Ok(mut link) = door.accept() else {
+        panic!(rt; "no link");
+    };
+    let mut into = [7; 8];
+    assert!(rt; link.read(&mut into) == Ok(2));
+    assert!(rt; into[..3] == [b'a', b'b', 7]);
+    assert!(rt; link.read(&mut into) == Ok(0));
+    assert!(rt; link.read(&mut into) == Ok(0));
+    drop(caller);
+    assert!(rt; fails_at_last(&mut link));
+    assert!(rt; link.faults() == 1);
+    Ok(())
+}

@@ -1,0 +1,94 @@
+use desk_io::{Failed, PutFault};
+use desk_net::{Link, MemoryLink, TcpLink};
+use std::io;
+use std::io::{Read, Write};
+use std::test::Fail;
+
+// Whether a read gives those bytes.
+fn gives<L: Link>(link: &mut L, room: usize, want: Option<&[u8]>) -> bool {
+    let mut into = [0; 16];
+    if room == 0 || room > 16 {
+        return false;
+    }
+    match (link.read(&mut into[..room]), want) {
+        (Ok(count), Some(want)) => count <= 16 && &into[..count] == want,
+        (Err(Failed), None) => true,
+        _ => false,
+    }
+}
+
+#[test]
+fn a_link_gives_its_input_in_pieces(rt: HostRuntime) -> Result<(), Fail> {
+    let input = Vec::from_slice(rt.alloc(), b"abcdefgh".as_slice())?;
+    let fail = vec![in rt.alloc(); 1, 4]?;
+    let mut link = MemoryLink::new(rt.alloc(), input, 3, fail);
+    assert!(rt; gives(&mut link, 16, Some(b"abc".as_slice())));
+    assert!(rt; gives(&mut link, 16, None));
+    assert!(rt; gives(&mut link, 2, Some(b"de".as_slice())));
+    assert!(rt; link.write(b"one ".as_slice()) == Ok(()));
+    assert!(rt; link.write(b"lost".as_slice()) == Err(PutFault::Failed));
+    assert!(rt; link.write(b"two".as_slice()) == Ok(()));
+    assert!(rt; gives(&mut link, 16, Some(b"fgh".as_slice())));
+    assert!(rt; gives(&mut link, 16, Some(b"".as_slice())));
+    assert!(rt; gives(&mut link, 16, Some(b"".as_slice())));
+    assert!(rt; link.written() == b"one two".as_slice());
+    assert_eq!(rt; link.faults(), 2);
+    Ok(())
+}
+
+// A stream that gives "ab", then fails, then gives "c", then ends. It takes two bytes a call, and fails at the
+// fourth.
+#[derive(Drop)]
+struct Stumbling {
+    reads: u8,
+    writes: u8,
+}
+
+impl Read for Stumbling {
+    fn read(&mut self, into: &mut [u8]) -> io::Result<usize> {
+        self.reads = self.reads.saturating_add(1);
+        let given = match self.reads {
+            1 => b"ab".as_slice(),
+            2 => return Err(io::Error::from(io::ErrorKind::Other)),
+            3 => b"c".as_slice(),
+            _ => b"".as_slice(),
+        };
+        if given.len() > into.len() {
+            return Err(io::Error::from(io::ErrorKind::Other));
+        }
+        into[..given.len()].copy_from_slice(given);
+        Ok(given.len())
+    }
+}
+
+impl Write for Stumbling {
+    fn write(&mut self, bytes: &[u8]) -> io::Result<usize> {
+        self.writes = self.writes.saturating_add(1);
+        if self.writes == 4 {
+            return Err(io::Error::from(io::ErrorKind::Other));
+        }
+        Ok(bytes.len().min(2))
+    }
+
+    fn flush(&mut self) -> io::Result<()> {
+        Ok(())
+    }
+}
+
+#[test]
+fn an_error_of_the_stream_is_a_fault(rt: HostRuntime) {
+    let mut link = TcpLink::new(Stumbling {
+        reads: 0,
+        writes: 0,
+    });
+    assert!(rt; gives(&mut link, 16, Some(b"ab".as_slice())));
+    assert!(rt; gives(&mut link, 16, None));
+    assert!(rt; link.faults() == 1);
+    assert!(rt; gives(&mut link, 16, Some(b"c".as_slice())));
+    assert!(rt; gives(&mut link, 16, Some(b"".as_slice())));
+    assert!(rt; link.write(b"12345".as_slice()) == Ok(()));
+    assert!(rt; link.write(b"6789".as_slice()) == Err(PutFault::Failed));
+    assert!(rt; link.faults() == 2);
+    assert!(rt; link.write(b"".as_slice()) == Ok(()));
+    assert!(rt; link.faults() == 2);
+}
