@@ -7,7 +7,7 @@ use Rattle.desk.specs.Keeping.{Choice, Counted, no_choice, answer_with}
 use Rattle.desk_json.specs.Replies.{bad_text}
 use Rattle.machine.specs.State.{State}
 use Rattle.service.specs.Exchanges.{exchanged, bytes_of}
-use Rattle.service.specs.Steps.{IsRead, IsAnswered, IsUnanswered, MayHaveStepped, OnCall}
+use Rattle.service.specs.Steps.{IsRead, IsAnswered, IsUnanswered, MayHaveStepped, OnCall, TextAnswersTo}
 use Rattle.service.specs.declared.exchange.NoAnswer.{NoAnswer}
 use Rattle.service.specs.declared.requested.Requested.{Requested}
 use Rattle.service.specs.declared.requested.Requested.TheVariants as requested
@@ -42,6 +42,13 @@ method_answered lane moments count s asked r same is = as_asked lane moments cou
 pub passed_on : {T : Type 0} (r : Result T NoAnswer) (why : NoAnswer) (P : T → Type 0) (Q : NoAnswer → Type 0) → IsErr r → IsErrAnd r (λ e. e ≡ why) → Q why → MatchResult r P Q
 passed_on (Ok t) why P Q fails is held = cc
 passed_on (Err e) why P Q fails is held = subst Q (sym is) held
+
+-- a request that has no response
+pub no_response : (lane : ℕ) (moments : Option (List ℕ)) (clock : Type 0) (before after : ℕ) (s t : State) (asked wanted : Requested) (r : Result (List ℕ) NoAnswer) (why : NoAnswer) → asked ≡ wanted → IsErr r
+    → IsErrAnd r (λ e. e ≡ why) → IsUnanswered lane moments clock before after s asked t why → TextAnswersTo lane moments clock before after s wanted t r
+no_response lane moments clock before after s t asked wanted r why same fails is none =
+    passed_on r why (λ text. (a : Response) × IsAnswered lane moments before after s wanted t a × (text ≡ bytes_of a)) (IsUnanswered lane moments clock before after s wanted t) fails is
+    (subst (λ (x : Requested). IsUnanswered lane moments clock before after s x t why) same none)
 
 -- a call that was made, where the memory for its response is wanting
 pub stepped_by_call : (lane : ℕ) (moments : Option (List ℕ)) (before after : ℕ) (s t : State) (at : ℕ) (call : Call) (choice : Choice) → IsRead moments at → Counted before (choice ∷ []) after

@@ -15,7 +15,9 @@ use Rattle.service.specs.Connections.{Exchange, exchange, responses, state_after
 use Rattle.service.specs.Exchanges.{bytes_of, exchanged}
 use Rattle.service.specs.Requested.{requested_by}
 use Rattle.service.specs.Serving.{EndsAs, EndsWithout, ServesRequest, WritesAll, Wrote}
-use Rattle.service.specs.Steps.{IsAnswered, IsCall, IsRead, MayHaveStepped}
+use Rattle.service.specs.Steps.{IsAnswered, IsCall, IsRead, IsUnanswered, MayHaveStepped}
+use Rattle.service.specs.declared.exchange.NoAnswer.{NoAnswer}
+use Rattle.service.specs.declared.exchange.NoAnswer.TheVariants.{OutOfMemory as NoMemory}
 use Rattle.service.specs.declared.responses.Response.{Response}
 use Rattle.service.specs.declared.serving.Served.{Served}
 use Rattle.service.specs.declared.serving.Served.TheVariants as served
@@ -294,8 +296,9 @@ served_step old mid new lane moments rose link clock before after s t wire bytes
         (requests_more lane moments rose link clock before after s t wire result piece more serves)) wrote
 
 -- memory ran out, and the answer for that was written
-pub served_last : (old new : Option Line) (lane : ℕ) (moments : Option (List ℕ)) (link clock : Type 0) (before after : ℕ) (s t : State) (wire : Wire) (how : Served) → MayHaveStepped lane moments before after s (requested_by wire) t
-    → Wrote old new (EndsAs link served.OutOfMemory out_of_memory how) → Wrote old new (ServesRequest lane moments link clock before after s wire t (Some how))
-served_last old new lane moments link clock before after s t wire how stepped wrote =
+pub served_last : (old new : Option Line) (lane : ℕ) (moments : Option (List ℕ)) (link clock : Type 0) (before after : ℕ) (s t : State) (wire : Wire) (why : NoAnswer) (how : Served) → why ≡ NoMemory
+    → IsUnanswered lane moments clock before after s (requested_by wire) t why → Wrote old new (EndsAs link served.OutOfMemory out_of_memory how) → Wrote old new (ServesRequest lane moments link clock before after s wire t (Some how))
+served_last old new lane moments link clock before after s t wire why how is none wrote =
+    let stepped : MayHaveStepped lane moments before after s (requested_by wire) t = subst (IsUnanswered lane moments clock before after s (requested_by wire) t) is none in
     wrote_as old new (EndsAs link served.OutOfMemory out_of_memory how) (ServesRequest lane moments link clock before after s wire t (Some how))
     (λ piece ends. inr (inr (ap Some (last_is link how piece ends), stepped, last_as link how piece ends))) wrote

@@ -1,5 +1,6 @@
 -- What a request names has its form.
 use Rattle.std.proofs.Common.{zero, suc, ◌≡◌, ℕ, ◌+◌, ◌*◌, ◌-◌, ◌^◌, ◌≤◌, ◌<◌, nat_le, ◌==◌, Bool, true, false, not, ◌&&◌, if◌then◌else◌, List, [], ◌∷◌, codes, length, take, drop, get_or, length-drop, Option, Some, None, IfSome, Result, Ok, Err, refl, ap, sym, subst, ◌∙◌, arith}
+use Rattle.std.specs.Prelude.{IfOk}
 use Rattle.std.specs.List.{list_all, list_any}
 use Rattle.std.specs.Option.{option_map}
 use Rattle.std.specs.Str.{bytes_eq, is_utf8, IsUtf8}
@@ -7,6 +8,7 @@ use Rattle.std.proofs.Math.Nat.{pow-le-pow_right}
 use Rattle.std.proofs.lemmas.Bool.{leb-true}
 use Rattle.std.proofs.lemmas.Grind.{pow_more}
 use Rattle.std.proofs.lemmas.List.{get_or-take}
+use Rattle.std.proofs.lemmas.Result.{IfOk-weaker}
 use Rattle.std.proofs.lemmas.Slice.Eq.{bytes_eq-Decides}
 use Rattle.std.proofs.lemmas.Str.{IsUtf8-from_is_utf8, IsUtf8-nil, IsUtf8-drop, IsCharBoundary-after_ascii}
 use Rattle.asks.specs.declared.call.Ask.{Ask}
@@ -38,6 +40,9 @@ short_by t false is = record { text = IsUtf8-nil; few = omega arith }
 
 short_or : (t : List ℕ) → IsShort (short_or_empty t)
 short_or t = short_by t (is_short t) refl
+
+pub short_ok : {E : Type 0} (t : List ℕ) (r : Result (List ℕ) E) → true ≡ is_short t → IfOk r (λ u. u ≡ t) → IfOk r IsShort
+short_ok t r short is = IfOk-weaker r _ _ (λ u same. subst IsShort (sym same) (short_by t true (sym short))) is
 
 pub short_short : (t u : List ℕ) → u ≡ short_or_empty t → IsShort u
 short_short t u is = subst IsShort (sym is) (short_or t)

@@ -50,7 +50,7 @@ pub loop-preserved : goal.loop-preserved
 loop-preserved g c =
     let inv = c.loop.invariant in
     let is = c.serve_next.ensures in record {
-      served = written_more _ _ _ _ _ _ _ _ _ _ _ _ _ _ _ inv.moments inv.served ?;
+      served = written_more _ _ _ _ _ _ _ _ _ _ _ _ _ _ _ inv.moments inv.served c.in_default.ensures.serves;
       opening = is.opening ∙ inv.opening;
       rows = λ kept. is.rows (inv.rows kept);
       later = omega (arith, is.later, inv.later);
