@@ -11,7 +11,7 @@ use Rattle.desk_io.specs.declared.faults.PutFault.{PutFault}
 use Rattle.desk_io.specs.declared.faults.PutFault.TheVariants.{Failed, OutOfMemory}
 use Rattle.desk_net.specs.Wires.{Wire as Line, Writes, OnlyRead, unread}
 use Rattle.machine.specs.State.{State}
-use Rattle.service.specs.Connections.{Exchange, exchange, responses, state_after, AreRequests, IsTimed, IsOpen, GoOn, EndsIt, IsFrontOf, IsWritten, OnTold, AsksCall, NoMore, OneMore, MayHaveMore, Ends, OnBoth, IsConnection, GoesOn, IsStep, out_of_memory, clock_fault}
+use Rattle.service.specs.Connections.{Exchange, exchange, responses, state_after, AreRequests, IsTimed, IsOpen, IsFrontOf, IsWritten, OnTold, AsksCall, NoMore, OneMore, MayHaveMore, Ends, OnBoth, IsConnection, GoesOn, IsStep, out_of_memory, clock_fault}
 use Rattle.service.specs.Exchanges.{bytes_of, exchanged}
 use Rattle.service.specs.Requested.{requested_by}
 use Rattle.service.specs.Serving.{EndsAs, EndsWithout, ServesRequest, WritesAll, Wrote}
@@ -59,7 +59,7 @@ same_both None = tt
 same_both (Some bytes) = refl
 
 bare : (lane : ℕ) (moments : Option (List ℕ)) (link clock : Type 0) (before after : ℕ) (s : State) (bytes : Option (List ℕ)) (how : Served) (t : State) (piece : List ℕ) → before ≤ after
-    → Ends lane moments link clock [] [] bytes s how t piece → IsConnection lane moments link clock before after s bytes how t piece
+    → Ends lane moments link clock [] bytes s how t piece → IsConnection lane moments link clock before after s bytes how t piece
 bare lane moments link clock before after s bytes how t piece later ends = record {
   xs = [];
   more = [];
@@ -73,14 +73,10 @@ bare lane moments link clock before after s bytes how t piece later ends = recor
   ends = ends;
 }
 
-front_all : (whole : List ℕ) → IsFrontOf whole whole
-front_all whole = ([], sym (append-nil whole))
-
--- the answer for want of memory, or a front of it
-front_of_last : (rose : Type 0) (how : Served) (piece : List ℕ) → EndsAs rose served.OutOfMemory out_of_memory how piece → IsFrontOf (bytes_of out_of_memory) piece
-front_of_last rose how piece (inl (is, inl whole)) = subst (IsFrontOf (bytes_of out_of_memory)) (sym whole) (front_all (bytes_of out_of_memory))
-front_of_last rose how piece (inl (is, inr (failed, front))) = front
-front_of_last rose how piece (inr (is, none)) = subst (IsFrontOf (bytes_of out_of_memory)) (sym none) (bytes_of out_of_memory, refl)
+-- the answer for want of memory was written, or as much as there was
+written_last : (rose : Type 0) (how : Served) (piece : List ℕ) → EndsAs rose served.OutOfMemory out_of_memory how piece → IsWritten rose out_of_memory piece ⊎ (piece ≡ [])
+written_last rose how piece (inl (is, written)) = inl written
+written_last rose how piece (inr (is, none)) = inr none
 
 last_is : (rose : Type 0) (how : Served) (piece : List ℕ) → EndsAs rose served.OutOfMemory out_of_memory how piece → how ≡ served.OutOfMemory
 last_is rose how piece (inl (is, written)) = is
@@ -90,12 +86,13 @@ last_as : (rose : Type 0) (how : Served) (piece : List ℕ) → EndsAs rose serv
 last_as rose how piece (inl (is, written)) = inl (refl, written)
 last_as rose how piece (inr (is, none)) = inr (refl, none)
 
-front_of_none : (whole piece : List ℕ) → piece ≡ [] → IsFrontOf whole piece
-front_of_none whole piece none = subst (IsFrontOf whole) (sym none) (whole, refl)
-
-written_more : (rose link : Type 0) (r : Response) (piece : List ℕ) → (rose → link) → IsWritten rose r piece → IsWritten link r piece
+pub written_more : (rose link : Type 0) (r : Response) (piece : List ℕ) → (rose → link) → IsWritten rose r piece → IsWritten link r piece
 written_more rose link r piece more (inl whole) = inl whole
 written_more rose link r piece more (inr (failed, front)) = inr (more failed, front)
+
+pub written_or : (rose link : Type 0) (r : Response) (piece : List ℕ) → (rose → link) → IsWritten rose r piece ⊎ (piece ≡ []) → IsWritten link r piece ⊎ (piece ≡ [])
+written_or rose link r piece more (inl written) = inl (written_more rose link r piece more written)
+written_or rose link r piece more (inr none) = inr none
 
 -- ---- no further request
 
@@ -107,22 +104,22 @@ told_none (Some bytes) None f answers = absurd answers
 
 -- want of memory, with nothing more answered
 bare_last : (lane : ℕ) (moments : Option (List ℕ)) (link clock : Type 0) (count : ℕ) (s : State) (bytes : Option (List ℕ)) (how : Served) (piece : List ℕ) → how ≡ served.OutOfMemory
-    → IsFrontOf (bytes_of out_of_memory) piece → IsConnection lane moments link clock count count s bytes how s piece
+    → IsWritten link out_of_memory piece ⊎ (piece ≡ []) → IsConnection lane moments link clock count count s bytes how s piece
 bare_last lane moments link clock count s bytes how piece is front =
     subst (λ (e : Served). IsConnection lane moments link clock count count s bytes e s piece) (sym is)
     (bare lane moments link clock count count s bytes served.OutOfMemory s piece (omega arith) (inl (refl, inl refl), front))
 
 -- the answer to a fault was written, or there was no memory for it
 bare_as : (lane : ℕ) (moments : Option (List ℕ)) (link clock rose : Type 0) (count : ℕ) (s : State) (bytes : Option (List ℕ)) (wanted : Served) (r : Response) (how : Served) (piece : List ℕ) → (rose → link)
-    → (IsWritten link r piece → Ends lane moments link clock [] [] bytes s wanted s piece) → EndsAs rose wanted r how piece → IsConnection lane moments link clock count count s bytes how s piece
+    → (IsWritten link r piece → Ends lane moments link clock [] bytes s wanted s piece) → EndsAs rose wanted r how piece → IsConnection lane moments link clock count count s bytes how s piece
 bare_as lane moments link clock rose count s bytes wanted r how piece more ends (inl (is, written)) =
     subst (λ (e : Served). IsConnection lane moments link clock count count s bytes e s piece) (sym is)
     (bare lane moments link clock count count s bytes wanted s piece (omega arith) (ends (written_more rose link r piece more written)))
 bare_as lane moments link clock rose count s bytes wanted r how piece more ends (inr (is, none)) =
-    bare_last lane moments link clock count s bytes how piece is (front_of_none (bytes_of out_of_memory) piece none)
+    bare_last lane moments link clock count s bytes how piece is (inr none)
 
 bare_is : (lane : ℕ) (moments : Option (List ℕ)) (link clock : Type 0) (count : ℕ) (s : State) (bytes : Option (List ℕ)) (wanted how : Served) (piece : List ℕ) → how ≡ wanted
-    → Ends lane moments link clock [] [] bytes s wanted s piece → IsConnection lane moments link clock count count s bytes how s piece
+    → Ends lane moments link clock [] bytes s wanted s piece → IsConnection lane moments link clock count count s bytes how s piece
 bare_is lane moments link clock count s bytes wanted how piece is ends =
     subst (λ (e : Served). IsConnection lane moments link clock count count s bytes e s piece) (sym is)
     (bare lane moments link clock count count s bytes wanted s piece (omega arith) ends)
@@ -130,7 +127,7 @@ bare_is lane moments link clock count s bytes wanted how piece is ends =
 pub ends_without : (lane : ℕ) (moments : Option (List ℕ)) (link clock rose : Type 0) (count : ℕ) (s : State) (f : WireFault) (bytes others : Option (List ℕ)) (how : Served) (piece : List ℕ)
     → (rose → link) → (f ≡ fault.ReadFault → link) → AnswersUnused bytes others (Err f) → EndsWithout rose f how piece → IsConnection lane moments link clock count count s bytes how s piece
 ends_without lane moments link clock rose count s fault.End bytes others how piece more read answers (is, none) =
-    bare_is lane moments link clock count s bytes served.Ended how piece is ((refl, refl), inr (told_none bytes others fault.End answers), none)
+    bare_is lane moments link clock count s bytes served.Ended how piece is (inl ((refl, refl), told_none bytes others fault.End answers, none))
 ends_without lane moments link clock rose count s fault.Cut bytes others how piece more read answers (is, none) =
     bare_is lane moments link clock count s bytes served.Cut how piece is ((refl, refl), told_none bytes others fault.Cut answers, none)
 ends_without lane moments link clock rose count s fault.ReadFault bytes others how piece more read answers (is, none) =
@@ -144,7 +141,7 @@ ends_without lane moments link clock rose count s fault.NoLength bytes others ho
 ends_without lane moments link clock rose count s fault.WrongMethod bytes others how piece more read answers ends =
     bare_as lane moments link clock rose count s bytes served.WrongMethod _ how piece more (λ written. ((refl, refl), told_none bytes others fault.WrongMethod answers, written)) ends
 ends_without lane moments link clock rose count s fault.OutOfMemory bytes others how piece more read answers ends =
-    bare_last lane moments link clock count s bytes how piece (last_is rose how piece ends) (front_of_last rose how piece ends)
+    bare_last lane moments link clock count s bytes how piece (last_is rose how piece ends) (written_or rose link out_of_memory piece more (written_last rose how piece ends))
 
 -- the same of what was written
 pub served_without : (old mid new : Option Line) (lane : ℕ) (moments : Option (List ℕ)) (link clock rose : Type 0) (count : ℕ) (s : State) (f : WireFault) (bytes others : Option (List ℕ)) (how : Served)
@@ -177,7 +174,7 @@ of_wire wire at choice = record { wire = wire; at = at; choice = choice }
 -- a request more was answered, and its response isn't known to be written whole
 one_more : (lane : ℕ) (moments : Option (List ℕ)) (link clock : Type 0) (before after : ℕ) (s t : State) (wire : Wire) (r : Response) (bytes others : Option (List ℕ)) (how : Served) (piece : List ℕ)
     → AnswersUnused bytes others (Ok wire) → (answered : IsAnswered lane moments before after s (requested_by wire) t r)
-    → Ends lane moments link clock [] (of_wire wire answered.at answered.choice ∷ []) others s how t piece
+    → Ends lane moments link clock (of_wire wire answered.at answered.choice ∷ []) others s how t piece
     → IsConnection lane moments link clock before after s bytes how t piece
 one_more lane moments link clock before after s t wire r bytes others how piece answers answered ends = record {
   xs = [];
@@ -210,24 +207,15 @@ serves_answered lane moments link clock before after s t wire r bytes others Non
   says = serves_whole lane moments before after s t wire r piece answered whole;
   state = answered.state;
 }
-serves_answered lane moments link clock before after s t wire r bytes others (Some served.Ended) piece answers answered (last, whole) = record {
-  xs = of_wire wire answered.at answered.choice ∷ [];
-  more = [];
-  left = others;
-  piece = [];
-  requests = one_request bytes others wire answered.at answered.choice answers;
-  timed = (answered.timed, tt);
-  going = tt;
-  counted = answered.counted;
-  says = serves_whole lane moments before after s t wire r piece answered whole ∙ sym (append-nil (responses lane s (of_wire wire answered.at answered.choice ∷ [])));
-  ends = ((refl, answered.state), inl last, refl);
-}
+serves_answered lane moments link clock before after s t wire r bytes others (Some served.Ended) piece answers answered (last, whole) =
+    one_more lane moments link clock before after s t wire r bytes others served.Ended piece answers answered
+    (inr (of_wire wire answered.at answered.choice, (refl, answered.state), last, whole ∙ ap bytes_of answered.response))
 serves_answered lane moments link clock before after s t wire r bytes others (Some served.WriteFault) piece answers answered (rose, front) =
     one_more lane moments link clock before after s t wire r bytes others served.WriteFault piece answers answered
     (rose, (of_wire wire answered.at answered.choice, (refl, answered.state), subst (λ (a : Response). IsFrontOf (bytes_of a) piece) answered.response front))
 serves_answered lane moments link clock before after s t wire r bytes others (Some served.OutOfMemory) piece answers answered none =
     one_more lane moments link clock before after s t wire r bytes others served.OutOfMemory piece answers answered
-    (inr (of_wire wire answered.at answered.choice, (refl, answered.state)), front_of_none (bytes_of out_of_memory) piece none)
+    (inr (of_wire wire answered.at answered.choice, (refl, answered.state)), inr none)
 serves_answered lane moments link clock before after s t wire r bytes others (Some served.Cut) piece answers answered never = absurd never
 serves_answered lane moments link clock before after s t wire r bytes others (Some served.BadHead) piece answers answered never = absurd never
 serves_answered lane moments link clock before after s t wire r bytes others (Some served.TooLarge) piece answers answered never = absurd never
@@ -238,7 +226,7 @@ serves_answered lane moments link clock before after s t wire r bytes others (So
 
 -- memory ran out
 serves_last : (lane : ℕ) (moments : Option (List ℕ)) (link clock : Type 0) (before after : ℕ) (s t : State) (wire : Wire) (bytes others : Option (List ℕ)) (piece : List ℕ) → before ≤ after
-    → AnswersUnused bytes others (Ok wire) → MayHaveStepped lane moments before after s (requested_by wire) t → IsFrontOf (bytes_of out_of_memory) piece
+    → AnswersUnused bytes others (Ok wire) → MayHaveStepped lane moments before after s (requested_by wire) t → IsWritten link out_of_memory piece ⊎ (piece ≡ [])
     → IsConnection lane moments link clock before after s bytes served.OutOfMemory t piece
 serves_last lane moments link clock before after s t wire bytes others piece later answers (inl still) front =
     bare lane moments link clock before after s bytes served.OutOfMemory t piece later (inl (refl, inl still), front)
@@ -258,7 +246,7 @@ serves_step lane moments link clock before after s t wire bytes others result pi
     (bare lane moments link clock before after s bytes served.ClockFault t piece later ((refl, still), failed, asks_call bytes others wire answers call, written))
 serves_step lane moments link clock before after s t wire bytes others result piece later answers (inr (inr (is, stepped, ends))) =
     subst (λ (o : Option Served). IsStep lane moments link clock before after s bytes others t piece o) (sym is)
-    (serves_last lane moments link clock before after s t wire bytes others piece later answers stepped (front_of_last link served.OutOfMemory piece ends))
+    (serves_last lane moments link clock before after s t wire bytes others piece later answers stepped (written_last link served.OutOfMemory piece ends))
 
 writes_more : (rose link : Type 0) (bytes : List ℕ) (last : Bool) (result : Option Served) (piece : List ℕ) → (rose → link) → WritesAll rose bytes last result piece → WritesAll link bytes last result piece
 writes_more rose link bytes last None piece more writes = writes
@@ -277,9 +265,8 @@ writes_more rose link bytes last (Some served.ClockFault) piece more never = abs
 requests_more : (lane : ℕ) (moments : Option (List ℕ)) (rose link clock : Type 0) (before after : ℕ) (s t : State) (wire : Wire) (result : Option Served) (piece : List ℕ) → (rose → link)
     → ServesRequest lane moments rose clock before after s wire t result piece → ServesRequest lane moments link clock before after s wire t result piece
 requests_more lane moments rose link clock before after s t wire result piece more (inl (r, answered, writes)) = inl (r, answered, writes_more rose link (bytes_of r) wire.last result piece more writes)
-requests_more lane moments rose link clock before after s t wire result piece more (inr (inl (is, failed, call, still, inl written))) =
-    inr (inl (is, failed, call, still, inl (written_more rose link clock_fault piece more written)))
-requests_more lane moments rose link clock before after s t wire result piece more (inr (inl (is, failed, call, still, inr none))) = inr (inl (is, failed, call, still, inr none))
+requests_more lane moments rose link clock before after s t wire result piece more (inr (inl (is, failed, call, still, written))) =
+    inr (inl (is, failed, call, still, written_or rose link clock_fault piece more written))
 requests_more lane moments rose link clock before after s t wire result piece more (inr (inr (is, stepped, inl (last, written)))) =
     inr (inr (is, stepped, inl (last, written_more rose link out_of_memory piece more written)))
 requests_more lane moments rose link clock before after s t wire result piece more (inr (inr (is, stepped, inr none))) = inr (inr (is, stepped, inr none))

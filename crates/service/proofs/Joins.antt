@@ -6,12 +6,13 @@ use Rattle.desk.proofs.Choices.{counted_on}
 use Rattle.desk_http.specs.Requests.{unused}
 use Rattle.desk_net.specs.Wires.{Wire as Line}
 use Rattle.machine.specs.State.{State}
-use Rattle.service.specs.Connections.{Exchange, exchange, responses, state_after, AreRequests, IsTimed, IsOpen, GoOn, EndsIt, IsWritten, Ends, OnBoth, IsConnection, GoesOn}
+use Rattle.service.specs.Connections.{Exchange, exchange, responses, state_after, AreRequests, IsTimed, IsOpen, IsWritten, Ends, OnBoth, IsConnection, GoesOn}
 use Rattle.service.specs.Exchanges.{bytes_of}
 use Rattle.service.specs.Serving.{Wrote}
 use Rattle.service.specs.declared.responses.Response.{Response}
 use Rattle.service.specs.declared.serving.Served.{Served}
 use Rattle.service.specs.declared.serving.Served.TheVariants as served
+use Rattle.service.proofs.Endings.{written_more as written_as, written_or}
 use Rattle.service.proofs.Lines.{wrote_on}
 
 state_on : (lane : ℕ) (s : State) (xs ys : List Exchange) → state_after lane s (xs ++ ys) ≡ state_after lane (state_after lane s xs) ys
@@ -42,18 +43,6 @@ all_on : (P : Exchange → Type 0) (xs ys : List Exchange) → AllByRecursion P 
 all_on P [] ys one two = two
 all_on P (x ∷ xs) ys one two = (one.0, all_on P xs ys one.1 two)
 
-going_on : (xs ys : List Exchange) → AllByRecursion IsOpen xs → GoOn ys → GoOn (xs ++ ys)
-going_on [] ys all going = going
-going_on (x ∷ []) [] all going = tt
-going_on (x ∷ []) (y ∷ ys) all going = (all.0, going)
-going_on (x ∷ z ∷ xs) ys all going = (all.0, going_on (z ∷ xs) ys all.1 going)
-
-ends_it_on : (xs ys : List Exchange) → EndsIt ys → EndsIt (xs ++ ys)
-ends_it_on [] ys ends = ends
-ends_it_on (x ∷ []) [] ends = absurd ends
-ends_it_on (x ∷ []) (y ∷ ys) ends = ends
-ends_it_on (x ∷ z ∷ xs) ys ends = ends_it_on (z ∷ xs) ys ends
-
 choices_on : (xs ys : List Exchange) → map (λ x. x.choice) (xs ++ ys) ≡ map (λ x. x.choice) xs ++ map (λ x. x.choice) ys
 choices_on [] ys = refl
 choices_on (x ∷ xs) ys = ap (λ cs. x.choice ∷ cs) (choices_on xs ys)
@@ -63,30 +52,18 @@ counted_both : (before middle after : ℕ) (xs ys : List Exchange) → Counted b
 counted_both before middle after xs ys one two =
     subst (λ cs. Counted before cs after) (sym (choices_on xs ys)) (counted_on before (map (λ x. x.choice) xs) (map (λ x. x.choice) ys) middle after one two)
 
-written_on : (rose link : Type 0) (r : Response) (piece : List ℕ) → (rose → link) → IsWritten rose r piece → IsWritten link r piece
-written_on rose link r piece more (inl whole) = inl whole
-written_on rose link r piece more (inr (failed, front)) = inr (more failed, front)
-
-clocked_on : (rose link : Type 0) (r : Response) (piece : List ℕ) → (rose → link) → IsWritten rose r piece ⊎ (piece ≡ []) → IsWritten link r piece ⊎ (piece ≡ [])
-clocked_on rose link r piece more (inl written) = inl (written_on rose link r piece more written)
-clocked_on rose link r piece more (inr none) = inr none
-
-ended_on : (A : Type 0) (xs ys : List Exchange) → EndsIt ys ⊎ A → EndsIt (xs ++ ys) ⊎ A
-ended_on A xs ys (inl last) = inl (ends_it_on xs ys last)
-ended_on A xs ys (inr none) = inr none
-
-ends_on : (lane : ℕ) (moments : Option (List ℕ)) (rose failed link clock : Type 0) (xs ys more : List Exchange) (left : Option (List ℕ)) (u : State) (how : Served) (t : State) (piece : List ℕ)
-    → (rose → link) → (failed → clock) → Ends lane moments rose failed ys more left u how t piece → Ends lane moments link clock (xs ++ ys) more left u how t piece
-ends_on lane moments rose failed link clock xs ys more left u served.Ended t piece of_link of_clock (none, why, is) = (none, ended_on _ xs ys why, is)
-ends_on lane moments rose failed link clock xs ys more left u served.Cut t piece of_link of_clock ends = ends
-ends_on lane moments rose failed link clock xs ys more left u served.BadHead t piece of_link of_clock (none, why, written) = (none, why, written_on rose link _ piece of_link written)
-ends_on lane moments rose failed link clock xs ys more left u served.TooLarge t piece of_link of_clock (none, why, written) = (none, why, written_on rose link _ piece of_link written)
-ends_on lane moments rose failed link clock xs ys more left u served.NoLength t piece of_link of_clock (none, why, written) = (none, why, written_on rose link _ piece of_link written)
-ends_on lane moments rose failed link clock xs ys more left u served.WrongMethod t piece of_link of_clock (none, why, written) = (none, why, written_on rose link _ piece of_link written)
-ends_on lane moments rose failed link clock xs ys more left u served.ReadFault t piece of_link of_clock (none, why, is) = (none, of_link why, is)
-ends_on lane moments rose failed link clock xs ys more left u served.WriteFault t piece of_link of_clock (why, one) = (of_link why, one)
-ends_on lane moments rose failed link clock xs ys more left u served.ClockFault t piece of_link of_clock (none, why, asks, written) = (none, of_clock why, asks, clocked_on rose link _ piece of_link written)
-ends_on lane moments rose failed link clock xs ys more left u served.OutOfMemory t piece of_link of_clock ends = ends
+ends_on : (lane : ℕ) (moments : Option (List ℕ)) (rose failed link clock : Type 0) (more : List Exchange) (left : Option (List ℕ)) (u : State) (how : Served) (t : State) (piece : List ℕ)
+    → (rose → link) → (failed → clock) → Ends lane moments rose failed more left u how t piece → Ends lane moments link clock more left u how t piece
+ends_on lane moments rose failed link clock more left u served.Ended t piece of_link of_clock ends = ends
+ends_on lane moments rose failed link clock more left u served.Cut t piece of_link of_clock ends = ends
+ends_on lane moments rose failed link clock more left u served.BadHead t piece of_link of_clock (none, why, written) = (none, why, written_as rose link _ piece of_link written)
+ends_on lane moments rose failed link clock more left u served.TooLarge t piece of_link of_clock (none, why, written) = (none, why, written_as rose link _ piece of_link written)
+ends_on lane moments rose failed link clock more left u served.NoLength t piece of_link of_clock (none, why, written) = (none, why, written_as rose link _ piece of_link written)
+ends_on lane moments rose failed link clock more left u served.WrongMethod t piece of_link of_clock (none, why, written) = (none, why, written_as rose link _ piece of_link written)
+ends_on lane moments rose failed link clock more left u served.ReadFault t piece of_link of_clock (none, why, is) = (none, of_link why, is)
+ends_on lane moments rose failed link clock more left u served.WriteFault t piece of_link of_clock (why, one) = (of_link why, one)
+ends_on lane moments rose failed link clock more left u served.ClockFault t piece of_link of_clock (none, why, asks, written) = (none, of_clock why, asks, written_or rose link _ piece of_link written)
+ends_on lane moments rose failed link clock more left u served.OutOfMemory t piece of_link of_clock (state, written) = (state, written_or rose link _ piece of_link written)
 
 -- ---- joined
 
@@ -115,11 +92,11 @@ ends_after lane moments rose failed link clock before middle after s t bytes mid
       piece = then.piece;
       requests = subst (λ all. OnBoth bytes then.left (λ b l. AreRequests b all l)) (sym whole) (both_on bytes mid then.left xs (then.xs ++ then.more) requests then.requests);
       timed = subst (AllByRecursion (IsTimed moments)) (sym whole) (all_on (IsTimed moments) xs (then.xs ++ then.more) timed then.timed);
-      going = subst GoOn (sym whole) (going_on xs (then.xs ++ then.more) going then.going);
+      going = all_on IsOpen xs then.xs going then.going;
       counted = subst (λ all. Counted before (map (λ x. x.choice) all) after) (sym whole) (counted_both before middle after xs (then.xs ++ then.more) counted then.counted);
       says = texts_on lane s xs then.xs one two then.piece says then.says;
-      ends = subst (λ (u : State). Ends lane moments link clock (xs ++ then.xs) then.more then.left u how t then.piece) (sym (state_on lane s xs then.xs))
-          (ends_on lane moments rose failed link clock xs then.xs then.more then.left (state_after lane (state_after lane s xs) then.xs) how t then.piece of_link of_clock then.ends);
+      ends = subst (λ (u : State). Ends lane moments link clock then.more then.left u how t then.piece) (sym (state_on lane s xs then.xs))
+          (ends_on lane moments rose failed link clock then.more then.left (state_after lane (state_after lane s xs) then.xs) how t then.piece of_link of_clock then.ends);
     }
 
 -- requests that were answered, and then a connection's end
