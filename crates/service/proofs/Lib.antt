@@ -1,0 +1,5 @@
+pub mod Lines
+pub mod Answered
+pub mod Endings
+pub mod Joins
+pub mod RouteForms
