@@ -1,8 +1,7 @@
 -- How connections end.
-use Rattle.std.proofs.Common.{◌≡◌, ℕ, ◌≤◌, ◌⊎◌, Bool, true, false, List, [], ◌∷◌, ◌++◌, map, Option, Some, None, Result, Ok, Err, inl, inr, refl, ap, sym, subst, ◌∙◌, arith, append-nil}
+use Rattle.std.proofs.Common.{◌≡◌, ℕ, ◌≤◌, ◌⊎◌, Bool, List, [], ◌∷◌, Option, Some, None, Result, Ok, Err, inl, inr, refl, ap, sym, subst, ◌∙◌, arith, append-nil}
 use Rattle.std.specs.Prelude.{IsErrOf}
-use Rattle.std.specs.List.{AllByRecursion}
-use Rattle.desk.specs.Keeping.{Choice, Counted}
+use Rattle.desk.specs.Keeping.{Choice}
 use Rattle.desk_http.specs.Requests.{AnswersUnused, GivesNone, unused}
 use Rattle.desk_http.specs.declared.wire.Wire.{Wire}
 use Rattle.desk_http.specs.declared.wire.WireFault.{WireFault}
@@ -11,11 +10,11 @@ use Rattle.desk_io.specs.declared.faults.PutFault.{PutFault}
 use Rattle.desk_io.specs.declared.faults.PutFault.TheVariants.{Failed, OutOfMemory}
 use Rattle.desk_net.specs.Wires.{Wire as Line, Writes, OnlyRead, unread}
 use Rattle.machine.specs.State.{State}
-use Rattle.service.specs.Connections.{Exchange, exchange, responses, state_after, AreRequests, IsTimed, IsOpen, IsFrontOf, IsWritten, OnTold, AsksCall, NoMore, OneMore, MayHaveMore, Ends, OnBoth, IsConnection, GoesOn, IsStep, out_of_memory, clock_fault}
+use Rattle.service.specs.Connections.{Exchange, responses, AreRequests, IsFrontOf, IsWritten, OnTold, AsksCall, Ends, OnBoth, IsConnection, IsStep, out_of_memory, clock_fault}
 use Rattle.service.specs.Exchanges.{bytes_of, exchanged}
 use Rattle.service.specs.Requested.{requested_by}
 use Rattle.service.specs.Serving.{EndsAs, EndsWithout, ServesRequest, WritesAll, Wrote}
-use Rattle.service.specs.Steps.{IsAnswered, IsCall, IsRead, IsUnanswered, MayHaveStepped}
+use Rattle.service.specs.Steps.{IsAnswered, IsCall, IsUnanswered, MayHaveStepped}
 use Rattle.service.specs.declared.exchange.NoAnswer.{NoAnswer}
 use Rattle.service.specs.declared.exchange.NoAnswer.TheVariants.{OutOfMemory as NoMemory}
 use Rattle.service.specs.declared.responses.Response.{Response}
@@ -279,8 +278,8 @@ pub served_step : (old mid new : Option Line) (lane : ℕ) (moments : Option (Li
 served_step old mid new lane moments rose link clock before after s t wire bytes kept result only more later same answers wrote =
     wrote_after old mid new (ServesRequest lane moments rose clock before after s wire t result) (λ piece. IsStep lane moments link clock before after s bytes (unused kept (unread new)) t piece result) only
     (λ piece serves. serves_step lane moments link clock before after s t wire bytes (unused kept (unread new)) result piece later
-        (subst (λ rest. AnswersUnused bytes (unused kept rest) (Ok wire)) (sym same) answers)
-        (requests_more lane moments rose link clock before after s t wire result piece more serves)) wrote
+    (subst (λ rest. AnswersUnused bytes (unused kept rest) (Ok wire)) (sym same) answers)
+    (requests_more lane moments rose link clock before after s t wire result piece more serves)) wrote
 
 -- memory ran out, and the answer for that was written
 pub served_last : (old new : Option Line) (lane : ℕ) (moments : Option (List ℕ)) (link clock : Type 0) (before after : ℕ) (s t : State) (wire : Wire) (why : NoAnswer) (how : Served) → why ≡ NoMemory

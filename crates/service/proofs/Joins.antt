@@ -1,15 +1,14 @@
 -- Requests that were answered, and then others: one connection.
-use Rattle.std.proofs.Common.{◌≡◌, ℕ, ◌⊎◌, List, [], ◌∷◌, ◌++◌, map, Option, Some, None, inl, inr, refl, ap, sym, subst, ◌∙◌, append_assoc, append-nil, arith}
+use Rattle.std.proofs.Common.{◌≡◌, ℕ, List, [], ◌∷◌, ◌++◌, map, Option, Some, None, refl, ap, sym, subst, ◌∙◌, append_assoc, arith}
 use Rattle.std.specs.List.{AllByRecursion}
-use Rattle.desk.specs.Keeping.{Choice, Counted}
+use Rattle.desk.specs.Keeping.{Counted}
 use Rattle.desk.proofs.Choices.{counted_on}
 use Rattle.desk_http.specs.Requests.{unused}
 use Rattle.desk_net.specs.Wires.{Wire as Line}
 use Rattle.machine.specs.State.{State}
-use Rattle.service.specs.Connections.{Exchange, exchange, responses, state_after, AreRequests, IsTimed, IsOpen, IsWritten, Ends, OnBoth, IsConnection, GoesOn}
+use Rattle.service.specs.Connections.{Exchange, exchange, responses, state_after, AreRequests, IsTimed, IsOpen, Ends, OnBoth, IsConnection, GoesOn}
 use Rattle.service.specs.Exchanges.{bytes_of}
 use Rattle.service.specs.Serving.{Wrote}
-use Rattle.service.specs.declared.responses.Response.{Response}
 use Rattle.service.specs.declared.serving.Served.{Served}
 use Rattle.service.specs.declared.serving.Served.TheVariants as served
 use Rattle.service.proofs.Endings.{written_more as written_as, written_or}
@@ -134,7 +133,7 @@ pub written_end : (old mid new : Option Line) (lane : ℕ) (moments told : Optio
 written_end old mid new lane moments told rose failed link clock before middle after s u t bytes rest how same of_link of_clock first then =
     wrote_on old mid new (GoesOn lane moments before middle s bytes rest u) (IsConnection lane told rose failed middle after u rest how t) (IsConnection lane moments link clock before after s bytes how t)
     (λ p q one two. joined lane moments rose failed link clock before middle after s u t bytes rest how p q of_link of_clock one
-        (subst (λ ms. IsConnection lane ms rose failed middle after u rest how t q) same two)) first then
+    (subst (λ ms. IsConnection lane ms rose failed middle after u rest how t q) same two)) first then
 
 pub written_more : (old mid new : Option Line) (lane : ℕ) (moments told : Option (List ℕ)) (before middle after : ℕ) (s u t : State) (bytes rest left : Option (List ℕ)) → told ≡ moments
     → Wrote old mid (GoesOn lane moments before middle s bytes rest u) → Wrote mid new (GoesOn lane told middle after u rest left t) → Wrote old new (GoesOn lane moments before after s bytes left t)

@@ -1,5 +1,5 @@
 -- What a request names has its form.
-use Rattle.std.proofs.Common.{zero, suc, ◌≡◌, ℕ, ◌+◌, ◌*◌, ◌-◌, ◌^◌, ◌≤◌, ◌<◌, nat_le, ◌==◌, Bool, true, false, not, ◌&&◌, if◌then◌else◌, List, [], ◌∷◌, codes, length, take, drop, get_or, length-drop, Option, Some, None, IfSome, Result, Ok, Err, refl, ap, sym, subst, ◌∙◌, arith}
+use Rattle.std.proofs.Common.{suc, ◌≡◌, ℕ, ◌+◌, ◌*◌, ◌-◌, ◌^◌, ◌≤◌, nat_le, ◌==◌, Bool, true, false, not, ◌&&◌, if◌then◌else◌, List, [], ◌∷◌, codes, length, take, drop, get_or, length-drop, Option, Some, None, IfSome, Result, Ok, Err, refl, ap, sym, subst, ◌∙◌, arith}
 use Rattle.std.specs.Prelude.{IfOk}
 use Rattle.std.specs.List.{list_all, list_any}
 use Rattle.std.specs.Option.{option_map}
@@ -11,8 +11,7 @@ use Rattle.std.proofs.lemmas.List.{get_or-take}
 use Rattle.std.proofs.lemmas.Result.{IfOk-weaker}
 use Rattle.std.proofs.lemmas.Slice.Eq.{bytes_eq-Decides}
 use Rattle.std.proofs.lemmas.Str.{IsUtf8-from_is_utf8, IsUtf8-nil, IsUtf8-drop, IsCharBoundary-after_ascii}
-use Rattle.asks.specs.declared.call.Ask.{Ask}
-use Rattle.codes.specs.Station.{is_station, station_of}
+use Rattle.codes.specs.Station.{is_station}
 use Rattle.desk_http.specs.Digits.{is_digit, are_digits, digits_after, has_length, number_of}
 use Rattle.desk_http.specs.Routes.{after, fixed_route, is_tail, release_route, weather_route, deferred_route, route_among, route_of, routed_by, routed, takes}
 use Rattle.desk_http.specs.declared.routes.RouteFault.{RouteFault}
@@ -23,7 +22,6 @@ use Rattle.desk_http.specs.declared.wire.Wire.{Wire}
 use Rattle.plan_json.specs.Canonical.{IsId, IsShort}
 use Rattle.service.specs.Forms.{RouteHasForms}
 use Rattle.service.specs.Requested.{is_short, short_or_empty, requested_on, requested_by, asked_by}
-use Rattle.service.specs.declared.requested.Requested.{Requested}
 use Rattle.service.specs.declared.requested.Requested.TheVariants as requested
 
 both_true : (a b : Bool) → a && b ≡ true → (a ≡ true) × (b ≡ true)

@@ -1,5 +1,5 @@
 -- What is answered over a connection, from its first request to its end.
-use Rattle.std.specs.Prelude.{◌≡◌, ◌≢◌, ◌⊎◌, ◌≤◌, ℕ, Bool, true, false, List, [], ◌∷◌, ◌++◌, map, codes, Option, None, Some}
+use Rattle.std.specs.Prelude.{◌≡◌, ◌⊎◌, ℕ, true, false, List, [], ◌∷◌, ◌++◌, map, codes, Option, None, Some}
 use Rattle.std.specs.List.{AllByRecursion}
 use Rattle.desk.specs.Keeping.{Choice, Counted}
 use Rattle.desk.specs.Settled.{MayHaveTicked}

@@ -11,9 +11,7 @@ ghost use Rattle.service.specs.Steps.{ClockGoesOn};
 ghost use Rattle.service.specs.declared.responses.Response.{Response as AResponse};
 
 use crate::exchange::{NoAnswer, exchange};
-use crate::responses::{
-    bad_head, clock_fault, no_length, out_of_memory, too_large, wrong_method,
-};
+use crate::responses::{bad_head, clock_fault, no_length, out_of_memory, too_large, wrong_method};
 use desk::Desk;
 use desk_http::{Buffer, Wire, WireFault, next_request};
 use desk_io::PutFault;

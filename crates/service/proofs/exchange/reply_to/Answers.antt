@@ -1,4 +1,3 @@
-use Rattle.service.specs.Steps.{IsAnswered, IsUnanswered}
 use Rattle.service.proofs.Answered.{passed_on, stepped_by_call}
 use Rattle.service.proofs.exchange.reply_to.Goals as goal
 

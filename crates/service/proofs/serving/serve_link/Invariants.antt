@@ -12,7 +12,7 @@ abbrev pub invariant-loop : goal.invariant-loop
 invariant-loop g l = record {
   served : Wrote (g.N.Link.told l.fn.link) (g.N.Link.told l.link)
       (GoesOn l.lane (g.C.Clock.moments l.fn.clock) (g.K.Keeper.fault_count l.fn.desk.keeper) (g.K.Keeper.fault_count l.desk.keeper) l.fn.desk.board.state (unread (g.N.Link.told l.fn.link))
-          (unused l.buffer (unread (g.N.Link.told l.link))) l.desk.board.state);
+      (unused l.buffer (unread (g.N.Link.told l.link))) l.desk.board.state);
   opening : l.desk.board.opening ≡ l.fn.desk.board.opening;
   rows : KeepsState (g.K.Keeper.told l.fn.desk.keeper) l.fn.desk.board.state → KeepsState (g.K.Keeper.told l.desk.keeper) l.desk.board.state;
   later : g.K.Keeper.fault_count l.fn.desk.keeper ≤ g.K.Keeper.fault_count l.desk.keeper;
