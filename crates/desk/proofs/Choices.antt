@@ -1,6 +1,6 @@
 -- The counts at which a keeper fails, and what comes of items under them.
 use Rattle.std.proofs.Common.{◌≡◌, ℕ, ◌<◌, ◌≤◌, List, [], ◌∷◌, ◌++◌, length, map, drop, get_or, ◌+◌, append-nil, append_assoc, Option, None, Some, IfSome, refl, ap, sym, ◌∙◌, subst, arith}
-use Rattle.std.specs.Prelude.{option_to_list, nat_lt, Bool, true, false}
+use Rattle.std.specs.Prelude.{option_to_list, nat_lt, Bool, true, false, Result, Ok, Err, IfOk}
 use Rattle.std.specs.List.{concat, AllByRecursion}
 use Rattle.desk.specs.Shown.{IsShown}
 use Rattle.std.proofs.lemmas.List.{drop_more, drop_all}
@@ -27,6 +27,7 @@ use Rattle.machine.specs.declared.lanes.Outcome.{Outcome}
 use Rattle.machine.specs.declared.lanes.Said.TheVariants as said
 use Rattle.asks.specs.declared.bad_call.BadCall.{BadCall}
 use Rattle.desk.specs.Keeping.{Choice, Given, GivenBetween, given, no_choice, adds, kept_or, unkept_if, once_ticked, made_after, made_by, answer_with, item_with, bad_given, commits_after_item, outcomes_with, after_with, Rise, numbers_of, AreNow, Counted, CountedOnce, IsGiven, AreGiven, AreGivenSoFar}
+use Rattle.desk.specs.declared.answering.Answered.{Answered}
 use Rattle.desk.specs.Run.{items_of, lines_of, texts_of, run_from, run_with, after_run, IsRun}
 
 -- ---- the counts
@@ -368,7 +369,13 @@ no_call faults lane asked s fault o ticked called outcome none nothing = record 
 }
 
 -- a line that is no call
-pub bad_between : (faults lane asked : ℕ) (s : State) (i : Item) (fault : BadCall) (o : Outcome) (ticked called : List Notice) → i ≡ item.Bad fault → o ≡ (bad_given s fault).outcome → ticked ≡ [] → called ≡ []
+bad_between : (faults lane asked : ℕ) (s : State) (i : Item) (fault : BadCall) (o : Outcome) (ticked called : List Notice) → i ≡ item.Bad fault → o ≡ (bad_given s fault).outcome → ticked ≡ [] → called ≡ []
     → GivenBetween faults faults (λ c. asked ≡ commits_after_item c lane s i asked) (λ c. item_with c lane s i) s o ticked called
 bad_between faults lane asked s i fault o ticked called bad outcome none nothing =
     subst (λ (x : Item). GivenBetween faults faults (λ c. asked ≡ commits_after_item c lane s x asked) (λ c. item_with c lane s x) s o ticked called) (sym bad) (no_call faults lane asked s fault o ticked called outcome none nothing)
+
+pub bad_answered : {E : Type 0} (r : Result Answered E) (faults lane asked : ℕ) (s : State) (i : Item) (fault : BadCall) → i ≡ item.Bad fault → IfOk r (λ a. a.outcome ≡ (bad_given s fault).outcome)
+    → IfOk r (λ a. a.ticked ≡ []) → IfOk r (λ a. a.called ≡ [])
+    → IfOk r (λ a. GivenBetween faults faults (λ c. asked ≡ commits_after_item c lane s i asked) (λ c. item_with c lane s i) s a.outcome a.ticked a.called)
+bad_answered (Ok a) faults lane asked s i fault bad outcome none nothing = bad_between faults lane asked s i fault a.outcome a.ticked a.called bad outcome none nothing
+bad_answered (Err e) faults lane asked s i fault bad outcome none nothing = tt
