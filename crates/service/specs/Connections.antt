@@ -143,7 +143,7 @@ pub record IsConnection (lane : ℕ) (moments : Option (List ℕ)) (link clock :
   pub piece : List ℕ
   pub requests : OnBoth bytes left (λ b l. AreRequests b (xs ++ more) l)
   pub timed : AllByRecursion (IsTimed moments) (xs ++ more)
-  pub open : GoOn (xs ++ more)
+  pub going : GoOn (xs ++ more)
   pub counted : Counted before (map (λ x. x.choice) (xs ++ more)) after
   pub says : text ≡ responses lane s xs ++ piece
   pub ends : Ends lane moments link clock xs more left (state_after lane s xs) served t piece
@@ -153,7 +153,7 @@ pub record GoesOn (lane : ℕ) (moments : Option (List ℕ)) (before after : ℕ
   pub xs : List Exchange
   pub requests : OnBoth bytes left (λ b l. AreRequests b xs l)
   pub timed : AllByRecursion (IsTimed moments) xs
-  pub open : AllByRecursion IsOpen xs
+  pub going : AllByRecursion IsOpen xs
   pub counted : Counted before (map (λ x. x.choice) xs) after
   pub says : text ≡ responses lane s xs
   pub state : t ≡ state_after lane s xs
