@@ -1,10 +1,9 @@
 -- Connections of a door, one after another.
 use Rattle.std.specs.Prelude.{◌≡◌, ◌≢◌, ◌≤◌, ℕ, ◌+◌, Bool, true, List, [], ◌∷◌, ◌++◌, length, map, filter, Option, None, Some, if◌then◌else◌}
 use Rattle.std.specs.List.{AllByRecursion}
-use Rattle.desk_http.specs.Requests.{unread}
 use Rattle.desk_io.specs.Causes.{RoseOrFull}
 use Rattle.desk_net.specs.Doors.{Links}
-use Rattle.desk_net.specs.Wires.{Wire as Line}
+use Rattle.desk_net.specs.Wires.{Wire as Line, unread}
 use Rattle.machine.specs.State.{State}
 use Rattle.service.specs.Connections.{IsConnection}
 use Rattle.service.specs.Serving.{Wrote}

@@ -4,9 +4,7 @@ ghost use Rattle.desk_io.specs.Causes.{RoseOrFull};
 ghost use Rattle.kept_forms.specs.Formed.{AreFormed};
 ghost use Rattle.service.specs.Doors as spec;
 ghost use Rattle.service.specs.Doors.{AreTaken, IsServing, IsVisit, Visit};
-ghost use Rattle.service.specs.Serving.{LinkGoesOn};
 ghost use Rattle.service.specs.Steps.{ClockGoesOn};
-ghost use Rattle.service.specs.declared.serving.Served.TheVariants.{ClockFault as ServedByClock, OutOfMemory as ServedWithoutMemory};
 
 use crate::serving::{Served, serve_link};
 use desk::Desk;
@@ -91,9 +89,9 @@ fn serve_next_link<R: Wait, K: Keeper, C: Clock, D: Door, L: Ledger>(
     steps: &mut Steps<L>,
 ) -> Result<Served, Failed>
     ensures visit { IfOk result (λ served. (v : Visit D.Link) × IsVisit D.Link.told D.Link.fault_count lane (C.moments clock.old) (RoseOrFull (C.fault_count clock.old) (C.fault_count clock.new)) (K.fault_count desk.old.keeper) (K.fault_count desk.new.keeper) desk.old.board.state v desk.new.board.state
-        × AreTaken (D.told door.old) (D.told door.new) (v ∷ []) × (served ≡ spec.counts_as v)
-        × (v.served ≡ ServedByClock → RoseOrFull (C.fault_count clock.old) (C.fault_count clock.new))) }
-    ensures none { IfErr result (λ _. RoseOrFull (D.fault_count door.old) (D.fault_count door.new) × (D.told door.new ≡ D.told door.old) × (desk.new.board.state ≡ desk.old.board.state)) }
+        × AreTaken (D.told door.old) (D.told door.new) (v ∷ []) × (served ≡ spec.counts_as v)) }
+    ensures none { IfErr result (λ _. RoseOrFull (D.fault_count door.old) (D.fault_count door.new) × (D.told door.new ≡ D.told door.old) × (desk.new.board.state ≡ desk.old.board.state)
+        × (K.fault_count desk.new.keeper ≡ K.fault_count desk.old.keeper)) }
     ensures opening { desk.new.board.opening ≡ desk.old.board.opening }
     ensures rows { KeepsState (K.told desk.old.keeper) desk.old.board.state → KeepsState (K.told desk.new.keeper) desk.new.board.state }
     ensures later { K.fault_count desk.old.keeper ≤ K.fault_count desk.new.keeper }
