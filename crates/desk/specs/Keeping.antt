@@ -175,11 +175,11 @@ pub record IsGiven (given : Given) (state : State) (outcome : Outcome) (ticked c
 
 -- what came of a call, under some choice that the keeper's counts before and after it allow: a refusal tells the new count; and how
 -- many commits were asked for
-pub record GivenBetween (before after : ℕ) (asked : Choice → Type 0) (given : Choice → Given) (state : State) (outcome : Outcome) (ticked called : List Notice) : Type 0 where
+pub record GivenBetween (before after : ℕ) (commits : Choice → Type 0) (given : Choice → Given) (state : State) (outcome : Outcome) (ticked called : List Notice) : Type 0 where
   pub choice : Choice
   pub counted : Counted before (choice ∷ []) after
   pub exact : AreNow after choice
-  pub asked : asked choice
+  pub asked : commits choice
   pub is : IsGiven (given choice) state outcome ticked called
 
 -- the outcomes of items and the state after them, under some choices that the keeper's counts allow

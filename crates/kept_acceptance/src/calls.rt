@@ -2,7 +2,7 @@ ghost use Rattle.asks.specs.Forms.{RefusalHasMoment};
 
 use asks::{Ask, Refusal, Reply};
 use desk_io::{OutOfMemory, Text};
-use desk_json::{CallFault, bad_text, read_call, read_line, reply_text};
+use desk_json::{CallFault, bad_text, read_call, read_line, read_reply, reply_text};
 use desk_time::Minute;
 use std::alloc::Global;
 use std::test::Fail;
@@ -182,5 +182,48 @@ fn what_is_not_kept_is_refused_in_json(rt: HostRuntime) -> Result<(), Fail> {
     assert!(rt; says_full(rt.alloc())?);
     assert!(rt; says_unkept(rt.alloc())?);
     assert!(rt; says_swept(rt.alloc())?);
+    Ok(())
+}
+
+fn is_reply(alloc: Global, text: &str) -> Result<bool, OutOfMemory> {
+    match read_reply(alloc, text.as_bytes()) {
+        Ok(_) => Ok(true),
+        Err(CallFault::Bad(_)) => Ok(false),
+        Err(CallFault::OutOfMemory) => Err(OutOfMemory),
+    }
+}
+
+#[test]
+fn only_the_text_of_a_reply_is_read(rt: HostRuntime) -> Result<(), Fail> {
+    for (text, read) in [
+        (r#"{"done":{"report":1}}"#, true),
+        (r#"{"done": {"report":1}}"#, false),
+        (r#"{"seen":"BOARD\n"}"#, true),
+        (r#"{"seen":"BOARD\u000a"}"#, false),
+        (
+            r#"{"held":18446744073709551615,"refused":7,"why":"ReportsFull"}"#,
+            true,
+        ),
+        (
+            r#"{"held":18446744073709551616,"refused":7,"why":"ReportsFull"}"#,
+            false,
+        ),
+        (r#"{"held":1,"refused":23,"why":"ReportsFull"}"#, false),
+        (
+            r#"{"phase":"COMPLETED 2099-12-31T23:59Z","refused":18,"why":"WrongPhase"}"#,
+            true,
+        ),
+        (
+            r#"{"phase":"COMPLETED 2100-01-01T00:00Z","refused":18,"why":"WrongPhase"}"#,
+            false,
+        ),
+        (
+            r#"{"now":"2100-01-01T00:00Z","refused":29,"why":"BadFound"}"#,
+            true,
+        ),
+        (r#"{"bad":"Missing","key":"actor"}"#, false),
+    ] {
+        assert!(rt; is_reply(rt.alloc(), text)? == read, "{text}");
+    }
     Ok(())
 }

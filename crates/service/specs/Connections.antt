@@ -1,5 +1,5 @@
 -- What is answered over a connection, from its first request to its end.
-use Rattle.std.specs.Prelude.{◌≡◌, ◌≢◌, ◌⊎◌, ◌≤◌, ℕ, Bool, true, false, List, [], ◌∷◌, ◌++◌, map, codes, Option, None, Some}
+use Rattle.std.specs.Prelude.{◌≡◌, ◌⊎◌, ℕ, true, false, List, [], ◌∷◌, ◌++◌, map, codes, Option, None, Some}
 use Rattle.std.specs.List.{AllByRecursion}
 use Rattle.desk.specs.Keeping.{Choice, Counted}
 use Rattle.desk.specs.Settled.{MayHaveTicked}
@@ -49,17 +49,9 @@ IsTimed moments x = OnCall (requested_by x.wire) (IsRead moments x.at)
 abbrev pub IsOpen : Exchange → Type 0
 IsOpen x = x.wire.last ≡ false
 
--- the last of them ends the connection
-abbrev pub EndsIt : List Exchange → Type 0
-EndsIt [] = ⊥
-EndsIt (x ∷ []) = x.wire.last ≡ true
-EndsIt (x ∷ y ∷ ys) = EndsIt (y ∷ ys)
-
--- all but the last go on
-abbrev pub GoOn : List Exchange → Type 0
-GoOn [] = Unit {0}
-GoOn (x ∷ []) = Unit {0}
-GoOn (x ∷ y ∷ ys) = IsOpen x × GoOn (y ∷ ys)
+-- a request that ends its connection
+abbrev pub IsLast : Exchange → Type 0
+IsLast x = x.wire.last ≡ true
 
 -- a front of bytes
 abbrev pub IsFrontOf : List ℕ → List ℕ → Type 0
@@ -113,20 +105,23 @@ MayHaveMore lane moments more u t =
     ((more ≡ []) × ((t ≡ u) ⊎ ((at : ℕ) × IsRead moments at × MayHaveTicked lane at u t)))
     ⊎ ((x : Exchange) × OneMore lane more u t x)
 
--- How a connection ends, where `xs` were answered whole, and `more` is a request more, if it was answered too: on the bytes that are
--- left, with the state then, and with what was written after the whole responses. `link` and `clock` stand for a count that rose.
-abbrev pub Ends : ℕ → Option (List ℕ) → Type 0 → Type 0 → List Exchange → List Exchange → Option (List ℕ) → State → Served → State → List ℕ → Type 0
-Ends lane moments link clock xs more left u served.Ended t piece = NoMore more u t × (EndsIt xs ⊎ OnTold left (λ b. GivesNone b fault.End)) × (piece ≡ [])
-Ends lane moments link clock xs more left u served.Cut t piece = NoMore more u t × OnTold left (λ b. GivesNone b fault.Cut) × (piece ≡ [])
-Ends lane moments link clock xs more left u served.BadHead t piece = NoMore more u t × OnTold left (λ b. GivesNone b fault.BadHead) × IsWritten link bad_head piece
-Ends lane moments link clock xs more left u served.TooLarge t piece = NoMore more u t × OnTold left (λ b. GivesNone b fault.TooLarge) × IsWritten link too_large piece
-Ends lane moments link clock xs more left u served.NoLength t piece = NoMore more u t × OnTold left (λ b. GivesNone b fault.NoLength) × IsWritten link no_length piece
-Ends lane moments link clock xs more left u served.WrongMethod t piece = NoMore more u t × OnTold left (λ b. GivesNone b fault.WrongMethod) × IsWritten link wrong_method piece
-Ends lane moments link clock xs more left u served.ReadFault t piece = NoMore more u t × link × (piece ≡ [])
-Ends lane moments link clock xs more left u served.WriteFault t piece =
+-- How a connection ends on the bytes that are left, from the state after the requests after which it went on: `more` is the request
+-- with which it ended, if that was answered, and the piece is what was written after their responses. `link` and `clock` stand for a
+-- count that rose.
+abbrev pub Ends : ℕ → Option (List ℕ) → Type 0 → Type 0 → List Exchange → Option (List ℕ) → State → Served → State → List ℕ → Type 0
+Ends lane moments link clock more left u served.Ended t piece =
+    (NoMore more u t × OnTold left (λ b. GivesNone b fault.End) × (piece ≡ []))
+    ⊎ ((x : Exchange) × OneMore lane more u t x × IsLast x × (piece ≡ bytes_of (exchange lane u x).response))
+Ends lane moments link clock more left u served.Cut t piece = NoMore more u t × OnTold left (λ b. GivesNone b fault.Cut) × (piece ≡ [])
+Ends lane moments link clock more left u served.BadHead t piece = NoMore more u t × OnTold left (λ b. GivesNone b fault.BadHead) × IsWritten link bad_head piece
+Ends lane moments link clock more left u served.TooLarge t piece = NoMore more u t × OnTold left (λ b. GivesNone b fault.TooLarge) × IsWritten link too_large piece
+Ends lane moments link clock more left u served.NoLength t piece = NoMore more u t × OnTold left (λ b. GivesNone b fault.NoLength) × IsWritten link no_length piece
+Ends lane moments link clock more left u served.WrongMethod t piece = NoMore more u t × OnTold left (λ b. GivesNone b fault.WrongMethod) × IsWritten link wrong_method piece
+Ends lane moments link clock more left u served.ReadFault t piece = NoMore more u t × link × (piece ≡ [])
+Ends lane moments link clock more left u served.WriteFault t piece =
     link × ((x : Exchange) × OneMore lane more u t x × IsFrontOf (bytes_of (exchange lane u x).response) piece)
-Ends lane moments link clock xs more left u served.ClockFault t piece = NoMore more u t × clock × OnTold left AsksCall × (IsWritten link clock_fault piece ⊎ (piece ≡ []))
-Ends lane moments link clock xs more left u served.OutOfMemory t piece = MayHaveMore lane moments more u t × IsFrontOf (bytes_of out_of_memory) piece
+Ends lane moments link clock more left u served.ClockFault t piece = NoMore more u t × clock × OnTold left AsksCall × (IsWritten link clock_fault piece ⊎ (piece ≡ []))
+Ends lane moments link clock more left u served.OutOfMemory t piece = MayHaveMore lane moments more u t × (IsWritten link out_of_memory piece ⊎ (piece ≡ []))
 
 -- of bytes and of what is left of them, where both are told
 abbrev pub OnBoth : Option (List ℕ) → Option (List ℕ) → (List ℕ → List ℕ → Type 0) → Type 0
@@ -134,8 +129,9 @@ OnBoth None None P = Unit {0}
 OnBoth (Some bytes) (Some left) P = P bytes left
 OnBoth _ _ P = ⊥
 
--- A connection of a lane, from a state to another: its requests, all but the last of which go on, each call at one of the clock's
--- moments, under choices that the keeper's counts allow; the text is the responses to those that were answered whole, and how it ended.
+-- A connection of a lane, from a state to another: the requests after which it went on, and at most one more with which it ended. Each
+-- call was made at one of the clock's moments, under choices that the keeper's counts allow; the text is the responses to those after
+-- which it went on, and what was written at the end.
 pub record IsConnection (lane : ℕ) (moments : Option (List ℕ)) (link clock : Type 0) (before after : ℕ) (s : State) (bytes : Option (List ℕ)) (served : Served) (t : State) (text : List ℕ) : Type 0 where
   pub xs : List Exchange
   pub more : List Exchange
@@ -143,10 +139,10 @@ pub record IsConnection (lane : ℕ) (moments : Option (List ℕ)) (link clock :
   pub piece : List ℕ
   pub requests : OnBoth bytes left (λ b l. AreRequests b (xs ++ more) l)
   pub timed : AllByRecursion (IsTimed moments) (xs ++ more)
-  pub going : GoOn (xs ++ more)
+  pub going : AllByRecursion IsOpen xs
   pub counted : Counted before (map (λ x. x.choice) (xs ++ more)) after
   pub says : text ≡ responses lane s xs ++ piece
-  pub ends : Ends lane moments link clock xs more left (state_after lane s xs) served t piece
+  pub ends : Ends lane moments link clock more left (state_after lane s xs) served t piece
 
 -- requests after which the connection goes on, all answered whole
 pub record GoesOn (lane : ℕ) (moments : Option (List ℕ)) (before after : ℕ) (s : State) (bytes : Option (List ℕ)) (left : Option (List ℕ)) (t : State) (text : List ℕ) : Type 0 where

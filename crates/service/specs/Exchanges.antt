@@ -1,5 +1,5 @@
 -- What is answered to a request.
-use Rattle.std.specs.Prelude.{◌≡◌, ℕ, List, ◌++◌, codes}
+use Rattle.std.specs.Prelude.{ℕ, List, ◌++◌, codes}
 use Rattle.desk.specs.Keeping.{Choice, Given, answer_with}
 use Rattle.desk.specs.Run.{said_text}
 use Rattle.desk_http.specs.Responses.{response}

@@ -1,5 +1,9 @@
 -- The forms of what is asked.
-use Rattle.plan_json.specs.Canonical.{CallHasForms}
+use Rattle.std.specs.Prelude.{◌≡◌, true}
+use Rattle.codes.specs.Station.{is_station}
+use Rattle.desk_http.specs.declared.routes.Routed.{Routed}
+use Rattle.desk_http.specs.declared.routes.Routed.TheVariants.{Post, Board, Alerts, Release, Weather, Deferred}
+use Rattle.plan_json.specs.Canonical.{CallHasForms, IsId, IsShort}
 use Rattle.service.specs.declared.requested.Requested.{Requested}
 use Rattle.service.specs.declared.requested.Requested.TheVariants as requested
 
@@ -9,3 +13,12 @@ RequestedHasForms (requested.Call call) = CallHasForms call
 RequestedHasForms (requested.Bad fault) = Unit {0}
 RequestedHasForms requested.NoRoute = Unit {0}
 RequestedHasForms requested.WrongMethod = Unit {0}
+
+-- a route whose number, station or tail has its form
+abbrev pub RouteHasForms : Routed → Type 0
+RouteHasForms Post = Unit {0}
+RouteHasForms Board = Unit {0}
+RouteHasForms Alerts = Unit {0}
+RouteHasForms (Release id) = IsId id
+RouteHasForms (Weather station) = is_station station ≡ true
+RouteHasForms (Deferred tail) = IsShort tail

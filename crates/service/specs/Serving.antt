@@ -1,12 +1,11 @@
 -- What one request adds to a connection.
-use Rattle.std.specs.Prelude.{◌≡◌, ◌≤◌, ◌⊎◌, ℕ, Bool, true, false, List, [], ◌∷◌, ◌++◌, Option, None, Some}
-use Rattle.desk.specs.Keeping.{Counted}
+use Rattle.std.specs.Prelude.{◌≡◌, ◌≤◌, ◌⊎◌, ℕ, Bool, true, false, List, [], Option, None, Some}
 use Rattle.desk_http.specs.declared.wire.Wire.{Wire}
 use Rattle.desk_http.specs.declared.wire.WireFault.{WireFault}
 use Rattle.desk_http.specs.declared.wire.WireFault.TheVariants as fault
 use Rattle.desk_net.specs.Wires.{Wire as Line}
 use Rattle.machine.specs.State.{State}
-use Rattle.service.specs.Connections.{Exchange, Gains, IsFrontOf, IsWritten, bad_head, too_large, no_length, wrong_method, clock_fault, out_of_memory}
+use Rattle.service.specs.Connections.{Gains, IsFrontOf, IsWritten, bad_head, too_large, no_length, wrong_method, clock_fault, out_of_memory}
 use Rattle.service.specs.Exchanges.{bytes_of}
 use Rattle.service.specs.Requested.{requested_by}
 use Rattle.service.specs.Steps.{IsAnswered, IsCall, MayHaveStepped}

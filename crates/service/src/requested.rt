@@ -1,7 +1,9 @@
 ghost use Rattle.std.specs.Prelude.{◌≡◌, IfOk};
+ghost use Rattle.std.specs.Str.{is_utf8};
 ghost use Rattle.desk_json.specs.Faults.{call_or_fault};
 ghost use Rattle.service.specs.Requested as spec;
-ghost use Rattle.service.specs.Forms.{RequestedHasForms};
+ghost use Rattle.plan_json.specs.Canonical.{AskHasForms, IsShort};
+ghost use Rattle.service.specs.Forms.{RequestedHasForms, RouteHasForms};
 
 use asks::{Ask, BadCall, Call};
 use desk_http::{RouteFault, Routed, Wire, route};
@@ -23,15 +25,26 @@ pub enum Requested {
     WrongMethod,
 }
 
+fn is_text(text: &[u8]) -> bool
+    ensures { result ≡ is_utf8 text.now }
+{
+    match str::from_utf8(text) {
+        Ok(_) => true,
+        Err(_) => false,
+    }
+}
+
 fn is_short(text: &[u8]) -> bool
     ensures { result ≡ spec.is_short text.now }
 {
-    str::from_utf8(text).is_ok() && text.len() <= 64
+    is_text(text) && text.len() <= 64
 }
 
 // A name or a key of a view. What is no text of at most 64 bytes is taken as empty.
+#[tactic(auto, using(crate::proofs::RouteForms::short_short))]
 fn short_or_empty(alloc: Global, text: &[u8]) -> Result<Text, OutOfMemory>
-    ensures { IfOk result (λ t. t ≡ spec.short_or_empty text.now) }
+    ensures exact { IfOk result (λ t. t ≡ spec.short_or_empty text.now) }
+    ensures form { IfOk result IsShort }
 {
     if is_short(text) {
         Text::of(alloc, text)
@@ -42,7 +55,9 @@ fn short_or_empty(alloc: Global, text: &[u8]) -> Result<Text, OutOfMemory>
 
 // A view that is asked for by the name and the key of a request's head.
 fn view_by(alloc: Global, wire: &Wire, ask: Ask) -> Result<Requested, OutOfMemory>
-    ensures { IfOk result (λ r. r ≡ spec.viewed wire.now ask) }
+    requires { AskHasForms ask }
+    ensures asked { IfOk result (λ r. r ≡ spec.viewed wire.now ask) }
+    ensures forms { IfOk result RequestedHasForms }
 {
     let actor = short_or_empty(alloc, wire.actor.bytes())?;
     let key = short_or_empty(alloc, wire.key.bytes())?;
@@ -56,7 +71,8 @@ fn view_by(alloc: Global, wire: &Wire, ask: Ask) -> Result<Requested, OutOfMemor
 
 // The call that a body is, or its first fault.
 fn of_text(alloc: Global, body: &[u8]) -> Result<Requested, OutOfMemory>
-    ensures { IfOk result (λ r. r ≡ spec.of_text (call_or_fault body.now)) }
+    ensures asked { IfOk result (λ r. r ≡ spec.of_text (call_or_fault body.now)) }
+    ensures forms { IfOk result RequestedHasForms }
 {
     match read_call(alloc, body) {
         Ok(call) => Ok(Requested::Call(call)),
@@ -66,7 +82,9 @@ fn of_text(alloc: Global, body: &[u8]) -> Result<Requested, OutOfMemory>
 }
 
 fn asked_by(alloc: Global, wire: &Wire, routed: Routed) -> Result<Requested, OutOfMemory>
-    ensures { IfOk result (λ r. r ≡ spec.asked_by wire.now routed) }
+    requires { RouteHasForms routed }
+    ensures asked { IfOk result (λ r. r ≡ spec.asked_by wire.now routed) }
+    ensures forms { IfOk result RequestedHasForms }
 {
     match routed {
         Routed::Post => of_text(alloc, wire.body.bytes()),

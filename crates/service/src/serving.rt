@@ -11,9 +11,7 @@ ghost use Rattle.service.specs.Steps.{ClockGoesOn};
 ghost use Rattle.service.specs.declared.responses.Response.{Response as AResponse};
 
 use crate::exchange::{NoAnswer, exchange};
-use crate::responses::{
-    bad_head, clock_fault, no_length, out_of_memory, too_large, wrong_method,
-};
+use crate::responses::{bad_head, clock_fault, no_length, out_of_memory, too_large, wrong_method};
 use desk::Desk;
 use desk_http::{Buffer, Wire, WireFault, next_request};
 use desk_io::PutFault;
@@ -53,9 +51,11 @@ pub enum Served {
 fn end_by<N: Link>(link: &mut N, text: &[u8], served: Served) -> Served
     ensures wrote { (r : AResponse) → text.now ≡ bytes_of r → Wrote (N.told link.old) (N.told link.new) (EndsAs (RoseOrFull (N.fault_count link.old) (N.fault_count link.new)) served r result) }
     ensures link { LinkGoesOn (N.sound link.old) (N.sound link.new) (N.fault_count link.old) (N.fault_count link.new) }
+    ensures left { unread (N.told link.new) ≡ unread (N.told link.old) }
 {
     match link.write(text) {
-        Ok(()) | Err(PutFault::Failed) => served,
+        Ok(()) => served,
+        Err(PutFault::Failed) => served,
         Err(PutFault::OutOfMemory) => Served::OutOfMemory,
     }
 }
@@ -64,6 +64,7 @@ fn end_by<N: Link>(link: &mut N, text: &[u8], served: Served) -> Served
 fn end_by_clock<N: Link>(link: &mut N)
     ensures wrote { Wrote (N.told link.old) (N.told link.new) (λ piece. IsWritten (RoseOrFull (N.fault_count link.old) (N.fault_count link.new)) clock_response piece ⊎ (piece ≡ [])) }
     ensures link { LinkGoesOn (N.sound link.old) (N.sound link.new) (N.fault_count link.old) (N.fault_count link.new) }
+    ensures left { unread (N.told link.new) ≡ unread (N.told link.old) }
 {
     let _ = link.write(clock_fault());
 }
@@ -89,6 +90,7 @@ fn end_without<N: Link>(link: &mut N, fault: WireFault) -> Served
 fn write_response<N: Link>(link: &mut N, bytes: &[u8], last: bool) -> Option<Served>
     ensures wrote { Wrote (N.told link.old) (N.told link.new) (WritesAll (RoseOrFull (N.fault_count link.old) (N.fault_count link.new)) bytes.now last result) }
     ensures link { LinkGoesOn (N.sound link.old) (N.sound link.new) (N.fault_count link.old) (N.fault_count link.new) }
+    ensures left { unread (N.told link.new) ≡ unread (N.told link.old) }
 {
     match link.write(bytes) {
         Ok(()) if last => Some(Served::Ended),
@@ -116,6 +118,7 @@ fn serve_request<K: Keeper, N: Link, C: Clock, L: Ledger>(
     ensures moments { C.moments clock.new ≡ C.moments clock.old }
     ensures clock { ClockGoesOn (C.sound clock.old) (C.sound clock.new) (C.fault_count clock.old) (C.fault_count clock.new) }
     ensures link { LinkGoesOn (N.sound link.old) (N.sound link.new) (N.fault_count link.old) (N.fault_count link.new) }
+    ensures left { unread (N.told link.new) ≡ unread (N.told link.old) }
 {
     match exchange(alloc, desk, lane, clock, wire, steps) {
         Ok(bytes) => write_response(link, bytes.bytes(), wire.last),
