@@ -1,14 +1,16 @@
 -- What is read of a reply has its forms, and the moments of such a reply can be shown.
-use Rattle.std.proofs.Common.{◌≡◌, ℕ, ◌≤◌, ◌==◌, List, Option, Some, IfSome, codes, IsUtf8, sym, subst, arith}
-use Rattle.std.specs.Prelude.{is_some, option_and_then}
+use Rattle.std.proofs.Common.{◌≡◌, ℕ, ◌≤◌, ◌==◌, Bool, true, false, List, Option, None, Some, IfSome, codes, IsUtf8, refl, sym, subst, arith}
+use Rattle.std.proofs.lemmas.Bool.{leb-true, leb-false}
+use Rattle.std.specs.Prelude.{is_some, nat_le, if◌then◌else◌, option_and_then}
 use Rattle.std.specs.List.{AllByRecursion}
 use Rattle.serde_json.specs.Data.{Data}
 use Rattle.serde_json.specs.Find.{get, as_str}
 use Rattle.serde_json.specs.View.{view}
 use Rattle.serde_json.specs.declared.value.Value.{Value}
 use Rattle.desk_time.specs.Digits.{◌>>=◌}
-use Rattle.desk_time.specs.Moments.{shown_of}
-use Rattle.plan.specs.Texts.{HasMoment}
+use Rattle.desk_time.specs.Limits.{last_moment, last_shown}
+use Rattle.desk_time.specs.Moments.{minute_of, shown_of, up_to, written}
+use Rattle.plan.specs.Texts.{HasMoment, IsMoment}
 use Rattle.plan.specs.declared.release.Phase.{Phase}
 use Rattle.plan.specs.declared.release.Phase.TheVariants.{Drafted, Ready, Flying, Stopped, Completed, Cancelled}
 use Rattle.asks.specs.Forms.{CanBeShown, RefusalHasMoment, ReplyHasMoment}
@@ -23,7 +25,7 @@ use Rattle.plan_json.specs.Dones.{done_of}
 use Rattle.plan_json.specs.Fields.{text_at, number_at, amount_at, list_at, each_read}
 use Rattle.plan_json.proofs.Chains.{bind_if, bind_any, then_if, under, either, weaker}
 use Rattle.plan_json.proofs.DoneForms.{digest_is, done_formed}
-use Rattle.plan_json.proofs.MomentRange.{shown_within}
+use Rattle.plan_json.proofs.MomentRange.{minute_within}
 use Rattle.plan_json.proofs.PlanForms.{number_formed, amount_formed, each_formed}
 use Rattle.plan_json.proofs.ValueTexts.{view_has_text, text_formed}
 use Rattle.release_json.specs.Findings.{finding_of, finding_in, IsFinding}
@@ -36,6 +38,21 @@ use Rattle.desk_json.specs.ReadReplies.{wide_at, shown_at, why_of, plan_why_of, 
 
 wide_formed : (key : List ℕ) (d : Data) → IfSome (wide_at key d) IsWide
 wide_formed key d = number_formed key 18_446_744_073_709_551_615 d
+
+-- A moment that is read up to 2099 lies from 2000 on; a later one does too.
+late_enough : (b : Bool) (at : ℕ) → nat_le at last_moment ≡ b → IfSome (if b then Some at else None) IsMoment → IfSome (up_to last_shown at) CanBeShown
+late_enough true at within is = under (nat_le at last_shown) (Some at) CanBeShown (λ shown. (is.0, leb-true at last_shown shown))
+late_enough false at within is =
+    let later = leb-false at last_moment within in
+    under (nat_le at last_shown) (Some at) CanBeShown (λ shown. (omega (arith, later), leb-true at last_shown shown))
+
+shown_from : (o : Option ℕ) → IfSome (o >>= up_to last_moment) IsMoment → IfSome (o >>= up_to last_shown) CanBeShown
+shown_from None is = tt
+shown_from (Some at) is = late_enough (nat_le at last_moment) at refl is
+
+shown_within : (text : List ℕ) → IfSome (shown_of text) CanBeShown
+unfolding shown_of minute_of
+shown_within text = shown_from (written text) (minute_within text)
 
 shown_formed : (key : List ℕ) (d : Data) → IfSome (shown_at key d) CanBeShown
 shown_formed key d = then_if shown_of (text_at key d) CanBeShown shown_within

@@ -1,4 +1,4 @@
--- Every moment that is read lies from 2000 to 2099, and of those that are shown, to the last of them.
+-- Every moment that is read lies from 2000 to 2099.
 use Rattle.std.proofs.Common.{◌≡◌, ℕ, ◌+◌, ◌*◌, ◌<◌, ◌≤◌, true, ◌&&◌, ◌==◌, List, [], ◌∷◌, Some, IfSome, pos, refl, ap, ◌∙◌, arith}
 use Rattle.std.specs.Prelude.{nat_le, nat_lt}
 use Rattle.std.proofs.lemmas.Bool.{and_parts, leb-true, ltb-true}
@@ -7,11 +7,10 @@ use Rattle.jiff_core.specs.Calendar.{days_in_month, days_of_months}
 use Rattle.jiff_core.proofs.CalendarLemmas.{day_count-lt_year}
 use Rattle.desk_time.specs.Calendar.{days_of_years, day_number, day_at, is_date}
 use Rattle.desk_time.specs.Digits.{pair, ◌>>=◌}
-use Rattle.desk_time.specs.Limits.{last_moment, last_shown}
-use Rattle.desk_time.specs.Moments.{written, up_to, minute_of, shown_of, date_at, time_at, time_of}
+use Rattle.desk_time.specs.Limits.{last_moment}
+use Rattle.desk_time.specs.Moments.{written, up_to, minute_of, date_at, time_at, time_of}
 use Rattle.desk_time.proofs.CalendarLaws.{day_number-count}
 use Rattle.plan.specs.Texts.{IsMoment}
-use Rattle.asks.specs.Forms.{CanBeShown}
 use Rattle.plan_json.proofs.Chains.{bind_if, bind_any, under}
 
 last_of_1999 : day_number 1999 12 31 ≡ 10_956
@@ -97,10 +96,3 @@ up_to_last at late = under (nat_le at last_moment) (Some at) IsMoment (λ is. (l
 pub minute_within : (text : List ℕ) → IfSome (minute_of text) IsMoment
 unfolding minute_of
 minute_within text = bind_if (written text) (up_to last_moment) IsLate IsMoment (written_late text) up_to_last
-
-up_to_shown : (at : ℕ) → IsLate at → IfSome (up_to last_shown at) CanBeShown
-up_to_shown at late = under (nat_le at last_shown) (Some at) CanBeShown (λ is. (late, leb-true at last_shown is))
-
-pub shown_within : (text : List ℕ) → IfSome (shown_of text) CanBeShown
-unfolding shown_of
-shown_within text = bind_if (written text) (up_to last_shown) IsLate CanBeShown (written_late text) up_to_shown
