@@ -240,3 +240,10 @@ served_to_fault {L} told count old mid new moments door rose clock done most met
         subst (λ n. AreVisits told count 1 moments clock before n s has.vs t) (sym counts) (subst (λ (x : State). AreVisits told count 1 moments clock before middle s has.vs x) (sym is) are),
         subst (λ (d : Option (Links L)). AreTaken old d has.vs) (sym same) has.taken,
         subst (EndsServing door clock most has.vs) (sym how) (door_ends door clock most has.vs met.memory fails has.had (omega (arith, many, within))))
+
+-- ---- the same, counted from before
+
+pub serving_from : {L : Type 0} (told : L → Option Line) (count : L → ℕ) (old new : Option (Links L)) (moments : Option (List ℕ)) (door clock : Type 0) (most : ℕ) (end : ServeEnd) (less before after : ℕ) (s t : State)
+    → less ≤ before → IsServing told count old new moments door clock most end before after s t → IsServing told count old new moments door clock most end less after s t
+serving_from told count old new moments door clock most end less before after s t under (vs, are, taken, ends) =
+    (vs, visits_from told count 1 moments clock clock less before after s vs t under (λ rose. rose) are, taken, ends)
