@@ -12,7 +12,7 @@ use Rattle.reopening.specs.Held.{state_in}
 use Rattle.reopening.specs.Opening.{reopened}
 use Rattle.commands.specs.Answers.{AreKeptFrom, AreKeptOver, Telling, telling, Left, HasNoBoard, OpeningSays, WhySays, IsRunWith, IsRunFrom, Serving, IsServedFrom, IsServedWith}
 use Rattle.desk.specs.Keeping.{numbers_of}
-use Rattle.desk.specs.Opening.{IsWhy, IsNoKeeperFault, IsOpened}
+use Rattle.desk.specs.Opening.{IsWhy, IsNoKeeperFault, IsOfKeeper, IsOpened}
 use Rattle.desk.specs.Run.{IsRun}
 use Rattle.desk.specs.declared.opening.OpenWhy.{OpenWhy}
 use Rattle.desk.specs.declared.opening.OpenWhy.TheVariants.{KeeperFault, BadRow, BadPair, OutOfMemory}
@@ -74,14 +74,17 @@ pub served_over : (tables : TableRows) (told : Option Rows) (before faults : ℕ
     → IsServedFrom start faults serving most status text board after → IsServedWith tables (telling told before) serving most status text board after
 served_over tables told before faults serving most status text start None after lower opened under is = absurd is
 served_over tables told before faults serving most status text start (Some b) after lower opened under (end, says, serves, opening, kept) =
-    let s : State = reopened (state_in tables opened.records) in
-    (end, says, record {
-      records = opened.records;
-      loaded = opened.loaded;
-      opening = opening ∙ ap (λ (x : Shown). x.opening) opened.shows;
-      serves = lower end before faults after.faults s b.state under (subst (λ (x : State). serving most end faults after.faults x b.state) (ap (λ (x : Shown). x.state) opened.shows) serves);
-      kept = kept;
-    })
+    let s : State = reopened (state_in tables opened.records) in (
+      end,
+      says,
+      record {
+        records = opened.records;
+        loaded = opened.loaded;
+        opening = opening ∙ ap (λ (x : Shown). x.opening) opened.shows;
+        served = lower end before faults after.faults s b.state under (subst (λ (x : State). serving most end faults after.faults x b.state) (ap (λ (x : Shown). x.state) opened.shows) serves);
+        kept = kept;
+      },
+    )
 
 -- what two clauses of an answer lead to
 pub both_ok : {T E : Type 0} (P Q R : T → Type 0) (r : Result T E) → ((x : T) → P x → Q x → R x) → IfOk r P → IfOk r Q → IfOk r R

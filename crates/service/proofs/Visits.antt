@@ -34,14 +34,17 @@ visit_from : {L : Type 0} (told : L → Option Line) (count : L → ℕ) (lane :
 visit_from told count lane moments failed clock less before after s v t under of_clock is =
     wrote_as (told v.came) (told v.went) _ _
     (λ piece one. joined lane moments _ failed _ clock less before after s s t (unread (told v.came)) (unread (told v.came)) v.served [] piece (λ rose. rose) of_clock
-        (nothing_yet lane moments less before s (unread (told v.came)) under) one) is
+    (nothing_yet lane moments less before s (unread (told v.came)) under) one) is
 
 pub visits_from : {L : Type 0} (told : L → Option Line) (count : L → ℕ) (lane : ℕ) (moments : Option (List ℕ)) (failed clock : Type 0) (less before after : ℕ) (s : State) (vs : List (Visit L)) (t : State)
     → less ≤ before → (failed → clock) → AreVisits told count lane moments failed before after s vs t → AreVisits told count lane moments clock less after s vs t
 visits_from told count lane moments failed clock less before after s [] t under of_clock are = let more = are.0 in (omega (arith, under, more), are.1)
-visits_from told count lane moments failed clock less before after s (v ∷ vs) t under of_clock (middle, u, one, rest) =
-    (middle, u, visit_from told count lane moments failed clock less before middle s v u under of_clock one,
-        visits_from told count (lane + 1) moments failed clock middle middle after u vs t (omega arith) of_clock rest)
+visits_from told count lane moments failed clock less before after s (v ∷ vs) t under of_clock (middle, u, one, rest) = (
+  middle,
+  u,
+  visit_from told count lane moments failed clock less before middle s v u under of_clock one,
+  visits_from told count (lane + 1) moments failed clock middle middle after u vs t (omega arith) of_clock rest,
+)
 
 -- ---- one more
 
@@ -55,9 +58,13 @@ pub visits_on : {L : Type 0} (told : L → Option Line) (count : L → ℕ) (lan
     → AreVisits told count lane moments clock before middle s vs u → IsVisit told count (lane + length vs) moments clock middle after u v t → AreVisits told count lane moments clock before after s (vs ++ v ∷ []) t
 visits_on told count lane moments clock before middle after s [] u v t are is =
     (after, t, visit_from told count lane moments clock clock before middle after s v t are.0 (λ rose. rose) (subst (λ (x : State). IsVisit told count lane moments clock middle after x v t) are.1 (subst (λ l. IsVisit told count l moments clock middle after u v t) (same_lane lane) is)), (omega arith, refl))
-visits_on told count lane moments clock before middle after s (w ∷ ws) u v t (first, x, one, rest) is =
-    (first, x, one, visits_on told count (lane + 1) moments clock first middle after x ws u v t rest
-        (subst (λ l. IsVisit told count l moments clock middle after u v t) (next_lane lane (length ws)) is))
+visits_on told count lane moments clock before middle after s (w ∷ ws) u v t (first, x, one, rest) is = (
+  first,
+  x,
+  one,
+  visits_on told count (lane + 1) moments clock first middle after x ws u v t rest
+      (subst (λ l. IsVisit told count l moments clock middle after u v t) (next_lane lane (length ws)) is),
+)
 
 all_on : {L : Type 0} (P : Visit L → Type 0) (vs : List (Visit L)) (v : Visit L) → AllByRecursion P vs → P v → AllByRecursion P (vs ++ v ∷ [])
 all_on P [] v all one = (one, tt)
@@ -207,7 +214,7 @@ served_next told count old mid new moments there rose failed clock done met next
     let many = has.many in
     let one : Adds met v next = subst (λ (m : Met). Adds met v m) (sym met_is) (adds met v how counts) in
     let here : IsVisit told count (1 + length has.vs) moments failed middle after u v t =
-        subst (λ l. IsVisit told count l moments failed middle after u v t) (omega (arith, many)) (subst (λ ms. IsVisit told count (done + 1) ms failed middle after u v t) same is) in
+    subst (λ l. IsVisit told count l moments failed middle after u v t) (omega (arith, many)) (subst (λ ms. IsVisit told count (done + 1) ms failed middle after u v t) same is) in
     record {
       vs = has.vs ++ v ∷ [];
       are = visits_on told count 1 moments clock before middle after s has.vs u v t (visits_from told count 1 moments rose clock before before middle s has.vs u (omega arith) of_rose has.are)
@@ -235,11 +242,12 @@ pub served_to_fault : {L : Type 0} (told : L → Option Line) (count : L → ℕ
     → IsServing told count old new moments door clock most end before after s t
 served_to_fault {L} told count old mid new moments door rose clock done most met end before middle after s u t how within fails of_rose same counts is has =
     let many = has.many in
-    let are : AreVisits told count 1 moments clock before middle s has.vs u = visits_from told count 1 moments rose clock before before middle s has.vs u (omega arith) of_rose has.are in
-    (has.vs,
-        subst (λ n. AreVisits told count 1 moments clock before n s has.vs t) (sym counts) (subst (λ (x : State). AreVisits told count 1 moments clock before middle s has.vs x) (sym is) are),
-        subst (λ (d : Option (Links L)). AreTaken old d has.vs) (sym same) has.taken,
-        subst (EndsServing door clock most has.vs) (sym how) (door_ends door clock most has.vs met.memory fails has.had (omega (arith, many, within))))
+    let are : AreVisits told count 1 moments clock before middle s has.vs u = visits_from told count 1 moments rose clock before before middle s has.vs u (omega arith) of_rose has.are in (
+      has.vs,
+      subst (λ n. AreVisits told count 1 moments clock before n s has.vs t) (sym counts) (subst (λ (x : State). AreVisits told count 1 moments clock before middle s has.vs x) (sym is) are),
+      subst (λ (d : Option (Links L)). AreTaken old d has.vs) (sym same) has.taken,
+      subst (EndsServing door clock most has.vs) (sym how) (door_ends door clock most has.vs met.memory fails has.had (omega (arith, many, within))),
+    )
 
 -- ---- the same, counted from before
 

@@ -10,7 +10,7 @@ pub returns-in-Err-ReadFault-clause-sound : goal.returns-in-Err-ReadFault-clause
 returns-in-Err-ReadFault-clause-sound g c = λ sound all.
     let arm = c.in-Err-ReadFault in
     absurd (none_missing (g.S.Shelf.sources c.args.shelf.now) _ [] (subst (All (HoldsName (g.S.Shelf.sources c.args.shelf.now))) (sym (append-nil (map name_of files))) all)
-        (rw arm.field-0-is at (arm.ensures.sound sound).1))
+    (rw arm.field-0-is at (arm.ensures.sound sound).1))
 
 pub returns-in-Ok-clause-formed : goal.returns-in-Ok-clause-formed
 returns-in-Ok-clause-formed g c = c.serve_over.ensures.formed (names_formed (g.S.Shelf.sources c.args.shelf.now) c.in-Ok.tables c.in-Ok.ensures.tables)

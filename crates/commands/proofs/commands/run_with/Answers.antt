@@ -20,7 +20,7 @@ returns-clause-says g c =
     let failed = c.in-Err.field-0 in
     IfOk-weaker c.answer_of_why.result _ _ (λ a says.
     inr (why_said (telling (g.K.Keeper.told c.args.keeper) (g.K.Keeper.fault_count c.args.keeper)) failed.why a.status a.text.items
-        (left_with None (g.K.Keeper.told failed.keeper) (g.K.Keeper.fault_count failed.keeper)) c.in-Err.ensures.why says (record { board = refl; rows = c.in-Err.ensures.same })))
+    (left_with None (g.K.Keeper.told failed.keeper) (g.K.Keeper.fault_count failed.keeper)) c.in-Err.ensures.why says (record { board = refl; rows = c.in-Err.ensures.same })))
     c.answer_of_why.ensures
 
 pub returns-clause-left : goal.returns-clause-left

@@ -12,7 +12,7 @@ pub returns-in-Ok-clause-says : goal.returns-in-Ok-clause-says
 returns-in-Ok-clause-says g c =
     IfOk-weaker c.serve_on.result.answer _ _
     (λ a is. inl (served_over _ _ _ _ _ _ _ _ _ c.serve_on.result.board _ (λ end less high now s t under serves. serving_from g.D.Link.Link.told g.D.Link.Link.fault_count _ _ _ _ _ _ end less high now s t under serves)
-        c.in-Ok.ensures.opened c.in-Ok.ensures.later is)) c.serve_on.ensures.serves
+    c.in-Ok.ensures.opened c.in-Ok.ensures.later is)) c.serve_on.ensures.serves
 
 pub returns-in-Ok-clause-steady : goal.returns-in-Ok-clause-steady
 returns-in-Ok-clause-steady g c = λ sound.
@@ -31,7 +31,7 @@ returns-clause-says g c =
     let failed = c.in-Err.field-0 in
     IfOk-weaker c.answer_of_why.result _ _ (λ a says.
     inr (why_said (telling (g.K.Keeper.told c.args.keeper) (g.K.Keeper.fault_count c.args.keeper)) failed.why a.status a.text.items
-        (left_with None (g.K.Keeper.told failed.keeper) (g.K.Keeper.fault_count failed.keeper)) c.in-Err.ensures.why says (record { board = refl; rows = c.in-Err.ensures.same })))
+    (left_with None (g.K.Keeper.told failed.keeper) (g.K.Keeper.fault_count failed.keeper)) c.in-Err.ensures.why says (record { board = refl; rows = c.in-Err.ensures.same })))
     c.answer_of_why.ensures
 
 pub returns-clause-left : goal.returns-clause-left
