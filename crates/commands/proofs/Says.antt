@@ -16,7 +16,11 @@ use Rattle.desk.specs.Opening.{IsWhy, IsNoKeeperFault, IsOfKeeper, IsOpened}
 use Rattle.desk.specs.Run.{IsRun}
 use Rattle.desk.specs.declared.opening.OpenWhy.{OpenWhy}
 use Rattle.desk.specs.declared.opening.OpenWhy.TheVariants.{KeeperFault, BadRow, BadPair, OutOfMemory}
+use Rattle.desk_net.specs.Doors.{Links}
+use Rattle.desk_net.specs.Wires.{Wire as Line}
+use Rattle.service.specs.Doors.{IsServing}
 use Rattle.service.specs.declared.doors.ServeEnd.{ServeEnd}
+use Rattle.service.proofs.Visits.{serving_from}
 use Rattle.desk.proofs.Choices.{rise_within, rise_lower}
 
 -- what is said where no desk is opened
@@ -69,7 +73,7 @@ run_over tables told before faults script text start (Some b) after opened under
     }
 
 -- connections on the desk that was opened
-pub served_over : (tables : TableRows) (told : Option Rows) (before faults : ℕ) (serving : Serving) (most status : ℕ) (text : List ℕ) (start : Shown) (board : Option Shown) (after : Telling)
+served_over : (tables : TableRows) (told : Option Rows) (before faults : ℕ) (serving : Serving) (most status : ℕ) (text : List ℕ) (start : Shown) (board : Option Shown) (after : Telling)
     → ((end : ServeEnd) (less high now : ℕ) (s t : State) → less ≤ high → serving most end high now s t → serving most end less now s t) → IsOpened told tables start → before ≤ faults
     → IsServedFrom start faults serving most status text board after → IsServedWith tables (telling told before) serving most status text board after
 served_over tables told before faults serving most status text start None after lower opened under is = absurd is
@@ -85,6 +89,14 @@ served_over tables told before faults serving most status text start (Some b) af
         kept = kept;
       },
     )
+
+pub door_over : {L : Type 0} (link : L → Option Line) (count : L → ℕ) (old new : Option (Links L)) (moments : Option (List ℕ)) (door clock : Type 0) (tables : TableRows) (told : Option Rows)
+    (before faults most status : ℕ) (text : List ℕ) (start : Shown) (board : Option Shown) (after : Telling) → IsOpened told tables start → before ≤ faults
+    → IsServedFrom start faults (IsServing link count old new moments door clock) most status text board after
+    → IsServedWith tables (telling told before) (IsServing link count old new moments door clock) most status text board after
+door_over link count old new moments door clock tables told before faults most status text start board after opened under is =
+    served_over tables told before faults (IsServing link count old new moments door clock) most status text start board after
+    (λ end less high now s t lower serves. serving_from link count old new moments door clock most end less high now s t lower serves) opened under is
 
 -- what two clauses of an answer lead to
 pub both_ok : {T E : Type 0} (P Q R : T → Type 0) (r : Result T E) → ((x : T) → P x → Q x → R x) → IfOk r P → IfOk r Q → IfOk r R

@@ -1,8 +1,7 @@
 use Rattle.std.proofs.Common.{None, refl, ◌∙◌, inl, inr}
 use Rattle.std.proofs.lemmas.Result.{IfOk-weaker}
 use Rattle.commands.specs.Answers.{telling, left_with}
-use Rattle.service.proofs.Visits.{serving_from}
-use Rattle.commands.proofs.Says.{kept_over, served_over, why_left, why_said}
+use Rattle.commands.proofs.Says.{kept_over, door_over, why_left, why_said}
 use Rattle.commands.proofs.commands.serve_with.Goals as goal
 
 pub returns-in-Ok-clause-known : goal.returns-in-Ok-clause-known
@@ -10,9 +9,11 @@ returns-in-Ok-clause-known g c = IfOk-weaker c.serve_on.result.answer _ _ (λ a 
 
 pub returns-in-Ok-clause-says : goal.returns-in-Ok-clause-says
 returns-in-Ok-clause-says g c =
-    IfOk-weaker c.serve_on.result.answer _ _
-    (λ a is. inl (served_over _ _ _ _ _ _ _ _ _ c.serve_on.result.board _ (λ end less high now s t under serves. serving_from g.D.Link.Link.told g.D.Link.Link.fault_count _ _ _ _ _ _ end less high now s t under serves)
-    c.in-Ok.ensures.opened c.in-Ok.ensures.later is)) c.serve_on.ensures.serves
+    let said = c.serve_on.result in
+    let after = telling (g.K.Keeper.told said.keeper) (g.K.Keeper.fault_count said.keeper) in
+    IfOk-weaker said.answer _ _
+    (λ a is. inl (door_over g.D.Link.Link.told g.D.Link.Link.fault_count _ _ _ _ _ c.args.tables _ _ _ c.args.connections a.status a.text.items _ said.board after c.in-Ok.ensures.opened c.in-Ok.ensures.later is))
+    c.serve_on.ensures.serves
 
 pub returns-in-Ok-clause-steady : goal.returns-in-Ok-clause-steady
 returns-in-Ok-clause-steady g c = λ sound.
