@@ -10,23 +10,28 @@ use Rattle.ops_tables.specs.Tables.{TableRows}
 use Rattle.records.specs.declared.faults.RowsFault.TheVariants as fault
 use Rattle.reopening.specs.Held.{state_in}
 use Rattle.reopening.specs.Opening.{reopened}
-use Rattle.commands.specs.Answers.{AreKeptFrom, AreKeptOver, Telling, telling, Left, HasNoBoard, ScriptSays, WhySays, IsRunWith, IsRunOver, IsRunFrom}
+use Rattle.commands.specs.Answers.{AreKeptFrom, AreKeptOver, Telling, telling, Left, HasNoBoard, OpeningSays, WhySays, IsRunWith, IsRunFrom, Serving, IsServedFrom, IsServedWith}
 use Rattle.desk.specs.Keeping.{numbers_of}
-use Rattle.desk.specs.Opening.{IsWhy, IsNoKeeperFault, IsOpened}
+use Rattle.desk.specs.Opening.{IsWhy, IsNoKeeperFault, IsOfKeeper, IsOpened}
 use Rattle.desk.specs.Run.{IsRun}
 use Rattle.desk.specs.declared.opening.OpenWhy.{OpenWhy}
 use Rattle.desk.specs.declared.opening.OpenWhy.TheVariants.{KeeperFault, BadRow, BadPair, OutOfMemory}
+use Rattle.desk_net.specs.Doors.{Links}
+use Rattle.desk_net.specs.Wires.{Wire as Line}
+use Rattle.service.specs.Doors.{IsServing}
+use Rattle.service.specs.declared.doors.ServeEnd.{ServeEnd}
+use Rattle.service.proofs.Visits.{serving_from}
 use Rattle.desk.proofs.Choices.{rise_within, rise_lower}
 
 -- what is said where no desk is opened
-pub why_said : (tables : TableRows) (before : Telling) (script : List ℕ) (why : OpenWhy) (status : ℕ) (text : List ℕ) (left : Left) → IsWhy before.rows (RoseOrFull before.faults left.keeper.faults) why
-    → WhySays why status text → HasNoBoard before left → ScriptSays tables before script status text left
-why_said tables before script KeeperFault status text left is says none = inr (inl (says.0, is, says.1, none))
-why_said tables before script (BadRow row why) status text left is says none =
-    inr (inr (says.0, record { rows = is.rows; listed = is.listed; order = is.order; has = (fault.BadRow row why, is.has, says.1) }, none))
-why_said tables before script (BadPair one two) status text left is says none =
-    inr (inr (says.0, record { rows = is.rows; listed = is.listed; order = is.order; has = (fault.BadPair one two, is.has, says.1) }, none))
-why_said tables before script OutOfMemory status text left is says none = absurd says
+pub why_said : (before : Telling) (why : OpenWhy) (status : ℕ) (text : List ℕ) (left : Left) → IsWhy before.rows (RoseOrFull before.faults left.keeper.faults) why → WhySays why status text
+    → HasNoBoard before left → OpeningSays before status text left
+why_said before KeeperFault status text left is says none = inl (says.0, is, says.1, none)
+why_said before (BadRow row why) status text left is says none =
+    inr (says.0, record { rows = is.rows; listed = is.listed; order = is.order; has = (fault.BadRow row why, is.has, says.1) }, none)
+why_said before (BadPair one two) status text left is says none =
+    inr (says.0, record { rows = is.rows; listed = is.listed; order = is.order; has = (fault.BadPair one two, is.has, says.1) }, none)
+why_said before OutOfMemory status text left is says none = absurd says
 
 -- such an answer is a fault of the keeper or of its rows
 pub why_status : (why : OpenWhy) (status : ℕ) (text : List ℕ) → WhySays why status text → (status ≢ 3) × (status ≢ 4)
@@ -66,6 +71,32 @@ run_over tables told before faults script text start (Some b) after opened under
       run = run_lower before faults after.faults s script b.state text under (subst (λ (x : State). IsRun faults after.faults x script b.state text) (ap (λ (x : Shown). x.state) opened.shows) run.0);
       kept = run.2;
     }
+
+-- connections on the desk that was opened
+served_over : (tables : TableRows) (told : Option Rows) (before faults : ℕ) (serving : Serving) (most status : ℕ) (text : List ℕ) (start : Shown) (board : Option Shown) (after : Telling)
+    → ((end : ServeEnd) (less high now : ℕ) (s t : State) → less ≤ high → serving most end high now s t → serving most end less now s t) → IsOpened told tables start → before ≤ faults
+    → IsServedFrom start faults serving most status text board after → IsServedWith tables (telling told before) serving most status text board after
+served_over tables told before faults serving most status text start None after lower opened under is = absurd is
+served_over tables told before faults serving most status text start (Some b) after lower opened under (end, says, serves, opening, kept) =
+    let s : State = reopened (state_in tables opened.records) in (
+      end,
+      says,
+      record {
+        records = opened.records;
+        loaded = opened.loaded;
+        opening = opening ∙ ap (λ (x : Shown). x.opening) opened.shows;
+        served = lower end before faults after.faults s b.state under (subst (λ (x : State). serving most end faults after.faults x b.state) (ap (λ (x : Shown). x.state) opened.shows) serves);
+        kept = kept;
+      },
+    )
+
+pub door_over : {L : Type 0} (link : L → Option Line) (count : L → ℕ) (old new : Option (Links L)) (moments : Option (List ℕ)) (door clock : Type 0) (tables : TableRows) (told : Option Rows)
+    (before faults most status : ℕ) (text : List ℕ) (start : Shown) (board : Option Shown) (after : Telling) → IsOpened told tables start → before ≤ faults
+    → IsServedFrom start faults (IsServing link count old new moments door clock) most status text board after
+    → IsServedWith tables (telling told before) (IsServing link count old new moments door clock) most status text board after
+door_over link count old new moments door clock tables told before faults most status text start board after opened under is =
+    served_over tables told before faults (IsServing link count old new moments door clock) most status text start board after
+    (λ end less high now s t lower serves. serving_from link count old new moments door clock most end less high now s t lower serves) opened under is
 
 -- what two clauses of an answer lead to
 pub both_ok : {T E : Type 0} (P Q R : T → Type 0) (r : Result T E) → ((x : T) → P x → Q x → R x) → IfOk r P → IfOk r Q → IfOk r R

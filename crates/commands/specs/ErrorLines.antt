@@ -29,6 +29,12 @@ bad_table bad = codes "error 6 BadTable " ++ bad.name ++ codes " " ++ decimal ba
 abbrev pub keeper_fault : List ℕ
 keeper_fault = codes "error 5 KeeperFault\n"
 
+abbrev pub door_fault : List ℕ
+door_fault = codes "error 9 DoorFault\n"
+
+abbrev pub clock_fault : List ℕ
+clock_fault = codes "error 11 ClockFault\n"
+
 abbrev pub row_why_name : RowWhy → List ℕ
 row_why_name row_why.NotCanonical = codes "NotCanonical"
 row_why_name row_why.NoMeta = codes "NoMeta"

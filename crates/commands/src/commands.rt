@@ -1,7 +1,9 @@
-ghost use Rattle.std.specs.Prelude.{◌≡◌, ◌≢◌, ◌<◌, ◌≤◌, map, string_bytes, All, IfOk, IfSome, None};
+ghost use Rattle.std.specs.Prelude.{◌≡◌, ◌≢◌, ◌<◌, ◌≤◌, [], map, string_bytes, All, IfOk, IfSome, None};
 ghost use Rattle.desk_io.specs.Causes.{RoseOrFull};
 ghost use Rattle.desk_io.specs.Told.{HoldsName};
-ghost use Rattle.commands.specs.Answers.{AreKeptFrom, AreKeptOver, telling, left_with, Says, RunSays, SourceSays, ScriptSays, ReportsSay, WhySays, IsRunFrom, IsUntouched, WholeSays, sources_for, sources_of};
+ghost use Rattle.commands.specs.Answers.{AreKeptFrom, AreKeptOver, telling, left_with, Says, RunSays, SourceSays, ScriptSays, ReportsSay, WhySays, IsRunFrom, IsUntouched, WholeSays, sources_for, sources_of, EndSays, IsServedFrom, ServeSays, ServingSays};
+ghost use Rattle.machine.specs.Texts.{closing};
+ghost use Rattle.service.specs.Doors.{IsServing};
 ghost use Rattle.kept_forms.specs.Formed.{AreFormed, NamesHaveForms};
 ghost use Rattle.machine.specs.State.{State};
 ghost use Rattle.desk.specs.Keeping.{KeepsState};
@@ -17,11 +19,14 @@ use crate::words::{Task, command};
 use board::Board;
 use desk::{Desk, OpenFault, OpenWhy, leave, open, text_from};
 use desk_io::{OutOfMemory, Shelf, WholeFault, read_whole};
+use desk_net::{Clock, Door};
 use keeper::Keeper;
 use ops_tables::Tables;
 use rules::Steps;
+use service::{ServeEnd, serve_door};
 use std::alloc::Global;
 use std::marker::Brand;
+use std::sync::Wait;
 use std::sync::ledger::{Blank, Ledger};
 use table_files::{TableFault, read_tables};
 
@@ -237,16 +242,166 @@ fn answer_of_run<S: Shelf, K: Keeper>(
     }
 }
 
+// The closing text of the board, once all connections were served.
+fn closing_of(alloc: Global, board: &Board) -> Result<Answer, OutOfMemory>
+    ensures status { IfOk result (λ a. a.status ≡ 0) }
+    ensures text { IfOk result (λ a. a.text.items ≡ closing board.now.state) }
+{
+    let closing = board.closing(alloc)?;
+    let text = Vec::from_slice(alloc, closing.bytes())?;
+    Ok(Answer { status: 0, text })
+}
+
+fn answer_of_end(alloc: Global, end: ServeEnd, board: &Board) -> Result<Answer, OutOfMemory>
+    ensures says { IfOk result (λ a. EndSays end board.now a.status a.text.items) }
+    ensures known { IfOk result (λ a. (a.status ≢ 3) × (a.status ≢ 4) × (a.status ≢ 5) × (a.status ≢ 7)) }
+{
+    match end {
+        ServeEnd::Done => closing_of(alloc, board),
+        ServeEnd::DoorFault => Answer::door_fault(alloc),
+        ServeEnd::ClockFault => Answer::clock_fault(alloc),
+        ServeEnd::OutOfMemory => Err(OutOfMemory),
+    }
+}
+
+fn serve_on<R: Wait, K: Keeper, C: Clock, D: Door, L: Ledger>(
+    rt: &R,
+    alloc: Global,
+    mut desk: Desk<K>,
+    clock: &mut C,
+    door: &mut D,
+    port: u16,
+    connections: u32,
+    steps: &mut Steps<L>,
+) -> Said<K>
+    requires { KeepsState (K.told desk.keeper) desk.board.state }
+    ensures known { IfOk result.answer (λ a. (a.status ≢ 3) × (a.status ≢ 4) × (a.status ≢ 5) × (a.status ≢ 7)) }
+    ensures serves { IfOk result.answer (λ a. IsServedFrom desk.board (K.fault_count desk.keeper) (IsServing D.Link.told D.Link.fault_count (D.told door.old) (D.told door.new) (C.moments clock.old) (RoseOrFull (D.fault_count door.old) (D.fault_count door.new)) (RoseOrFull (C.fault_count clock.old) (C.fault_count clock.new))) connections a.status a.text.items result.board (telling (K.told result.keeper) (K.fault_count result.keeper))) }
+    ensures later { K.fault_count desk.keeper ≤ K.fault_count result.keeper }
+    ensures steady { K.sound desk.keeper → K.sound result.keeper × (K.fault_count result.keeper ≡ K.fault_count desk.keeper) }
+    ensures formed { AreFormed desk.board.state → IfSome result.board (λ b. AreFormed b.state) }
+    ensures kept { AreKeptFrom desk.board result.board (telling (K.told result.keeper) (K.fault_count result.keeper)) }
+{
+    let end = serve_door(rt, alloc, &mut desk, door, clock, port, connections, steps);
+    let Desk { board, keeper } = desk;
+    let answer = answer_of_end(alloc, end, &board);
+    Said {
+        answer,
+        board: Some(board),
+        keeper,
+    }
+}
+
+fn serve_with<R: Wait, K: Keeper, C: Clock, D: Door, L: Ledger>(
+    rt: &R,
+    alloc: Global,
+    tables: Tables,
+    clock: &mut C,
+    door: &mut D,
+    port: u16,
+    connections: u32,
+    keeper: K,
+    blank: Blank,
+) -> Said<K>
+    requires name { blank.name ≡ L.name }
+    requires parts { blank.parts ≡ L.parts }
+    requires some { 0 < blank.parts }
+    ensures known { IfOk result.answer (λ a. (a.status ≢ 3) × (a.status ≢ 4)) }
+    ensures says { IfOk result.answer (λ a. ServeSays tables (telling (K.told keeper) (K.fault_count keeper)) (IsServing D.Link.told D.Link.fault_count (D.told door.old) (D.told door.new) (C.moments clock.old) (RoseOrFull (D.fault_count door.old) (D.fault_count door.new)) (RoseOrFull (C.fault_count clock.old) (C.fault_count clock.new))) connections a.status a.text.items (left_with result.board (K.told result.keeper) (K.fault_count result.keeper))) }
+    ensures later { K.fault_count keeper ≤ K.fault_count result.keeper }
+    ensures steady { K.sound keeper → K.sound result.keeper × (K.fault_count result.keeper ≡ K.fault_count keeper) × IfOk result.answer (λ a. a.status ≢ 5) }
+    ensures formed { NamesHaveForms tables → IfSome result.board (λ b. AreFormed b.state) }
+    ensures left { (s : State) → IsLeft s → TellsRowsOf (K.told keeper) s → IfOk result.answer (λ a. a.status ≢ 7) }
+    ensures kept { AreKeptOver (telling (K.told keeper) (K.fault_count keeper)) result.board (telling (K.told result.keeper) (K.fault_count result.keeper)) }
+{
+    let mut steps = Steps::<L>::new(blank);
+    match open(alloc, tables, keeper, &mut steps) {
+        Ok(desk) => serve_on(rt, alloc, desk, clock, door, port, connections, &mut steps),
+        Err(OpenFault { keeper, why }) => Said {
+            answer: answer_of_why(alloc, why),
+            board: None,
+            keeper,
+        },
+    }
+}
+
+// Connections are served over the tables, and over the rows of a keeper.
+fn serve_over<R: Wait, K: Keeper, C: Clock, D: Door>(
+    rt: &R,
+    alloc: Global,
+    tables: Tables,
+    clock: &mut C,
+    door: &mut D,
+    port: u16,
+    connections: u32,
+    keeper: K,
+) -> Said<K>
+    ensures known { IfOk result.answer (λ a. (a.status ≢ 3) × (a.status ≢ 4)) }
+    ensures says { IfOk result.answer (λ a. ServeSays tables (telling (K.told keeper) (K.fault_count keeper)) (IsServing D.Link.told D.Link.fault_count (D.told door.old) (D.told door.new) (C.moments clock.old) (RoseOrFull (D.fault_count door.old) (D.fault_count door.new)) (RoseOrFull (C.fault_count clock.old) (C.fault_count clock.new))) connections a.status a.text.items (left_with result.board (K.told result.keeper) (K.fault_count result.keeper))) }
+    ensures later { K.fault_count keeper ≤ K.fault_count result.keeper }
+    ensures steady { K.sound keeper → K.sound result.keeper × (K.fault_count result.keeper ≡ K.fault_count keeper) × IfOk result.answer (λ a. a.status ≢ 5) }
+    ensures formed { NamesHaveForms tables → IfSome result.board (λ b. AreFormed b.state) }
+    ensures left { (s : State) → IsLeft s → TellsRowsOf (K.told keeper) s → IfOk result.answer (λ a. a.status ≢ 7) }
+    ensures kept { AreKeptOver (telling (K.told keeper) (K.fault_count keeper)) result.board (telling (K.told result.keeper) (K.fault_count result.keeper)) }
+{
+    serve_with::<R, K, C, D, Brand>(
+        rt,
+        alloc,
+        tables,
+        clock,
+        door,
+        port,
+        connections,
+        keeper,
+        Blank::new(1),
+    )
+}
+
+fn answer_of_serve<R: Wait, S: Shelf, K: Keeper, C: Clock, D: Door>(
+    rt: &R,
+    alloc: Global,
+    shelf: &mut S,
+    clock: &mut C,
+    door: &mut D,
+    port: u16,
+    connections: u32,
+    keeper: K,
+) -> Said<K>
+    ensures sound { S.sound shelf.old → All (HoldsName (S.sources shelf.old)) (sources_for (task.Serve port connections) []) → IfOk result.answer (λ a. a.status ≢ 3) }
+    ensures known { IfOk result.answer (λ a. a.status ≢ 4) }
+    ensures says { IfOk result.answer (λ a. ServingSays (S.sources shelf.old) (RoseOrFull (S.fault_count shelf.old) (S.fault_count shelf.new)) (IsServing D.Link.told D.Link.fault_count (D.told door.old) (D.told door.new) (C.moments clock.old) (RoseOrFull (D.fault_count door.old) (D.fault_count door.new)) (RoseOrFull (C.fault_count clock.old) (C.fault_count clock.new))) (telling (K.told keeper) (K.fault_count keeper)) connections a.status a.text.items (left_with result.board (K.told result.keeper) (K.fault_count result.keeper))) }
+    ensures later { K.fault_count keeper ≤ K.fault_count result.keeper }
+    ensures steady { K.sound keeper → K.sound result.keeper × (K.fault_count result.keeper ≡ K.fault_count keeper) × IfOk result.answer (λ a. a.status ≢ 5) }
+    ensures formed { IfSome result.board (λ b. AreFormed b.state) }
+    ensures left { (s : State) → IsLeft s → TellsRowsOf (K.told keeper) s → IfOk result.answer (λ a. a.status ≢ 7) }
+    ensures kept { AreKeptOver (telling (K.told keeper) (K.fault_count keeper)) result.board (telling (K.told result.keeper) (K.fault_count result.keeper)) }
+{
+    match read_tables(alloc, shelf) {
+        Ok(tables) => serve_over(rt, alloc, tables, clock, door, port, connections, keeper),
+        Err(TableFault::Bad(bad)) => untouched(Answer::bad_table(alloc, &bad), keeper),
+        Err(TableFault::ReadFault(table)) => {
+            untouched(Answer::read_fault(alloc, table.bytes()), keeper)
+        }
+        Err(TableFault::TooLong(table)) => {
+            untouched(Answer::input_too_long(alloc, table.bytes()), keeper)
+        }
+        Err(TableFault::OutOfMemory) => untouched(Err(OutOfMemory), keeper),
+    }
+}
+
 /// What the program says to the words.
-pub(crate) fn answer_to<S: Shelf, K: Keeper>(
+pub(crate) fn answer_to<R: Wait, S: Shelf, K: Keeper, C: Clock, D: Door>(
+    rt: &R,
     alloc: Global,
     words: &[String],
     shelf: &mut S,
+    clock: &mut C,
+    door: &mut D,
     keeper: K,
 ) -> Said<K>
     ensures sound { S.sound shelf.old → All (HoldsName (S.sources shelf.old)) (sources_of (command_of (map string_bytes words.now))) → IfOk result.answer (λ a. a.status ≢ 3) }
     ensures known { IfOk result.answer (λ a. a.status ≢ 4) }
-    ensures says { IfOk result.answer (λ a. Says (S.sources shelf.old) (RoseOrFull (S.fault_count shelf.old) (S.fault_count shelf.new)) (telling (K.told keeper) (K.fault_count keeper)) (command_of (map string_bytes words.now)) a.status a.text.items (left_with result.board (K.told result.keeper) (K.fault_count result.keeper))) }
+    ensures says { IfOk result.answer (λ a. Says (S.sources shelf.old) (RoseOrFull (S.fault_count shelf.old) (S.fault_count shelf.new)) (IsServing D.Link.told D.Link.fault_count (D.told door.old) (D.told door.new) (C.moments clock.old) (RoseOrFull (D.fault_count door.old) (D.fault_count door.new)) (RoseOrFull (C.fault_count clock.old) (C.fault_count clock.new))) (telling (K.told keeper) (K.fault_count keeper)) (command_of (map string_bytes words.now)) a.status a.text.items (left_with result.board (K.told result.keeper) (K.fault_count result.keeper))) }
     ensures later { K.fault_count keeper ≤ K.fault_count result.keeper }
     ensures steady { K.sound keeper → K.sound result.keeper × (K.fault_count result.keeper ≡ K.fault_count keeper) × IfOk result.answer (λ a. a.status ≢ 5) }
     ensures formed { IfSome result.board (λ b. AreFormed b.state) }
@@ -257,5 +412,8 @@ pub(crate) fn answer_to<S: Shelf, K: Keeper>(
         None => untouched(Answer::usage(alloc), keeper),
         Some((Task::Run, name)) => answer_of_run(alloc, name, shelf, keeper),
         Some((Task::Weather, name)) => answer_of_weather(alloc, name, shelf, keeper),
+        Some((Task::Serve { port, connections }, _)) => {
+            answer_of_serve(rt, alloc, shelf, clock, door, port, connections, keeper)
+        }
     }
 }

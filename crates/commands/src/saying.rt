@@ -114,6 +114,24 @@ impl Answer {
         Ok(Answer { status: 5, text })
     }
 
+    /// The door failed.
+    pub fn door_fault(alloc: Global) -> Result<Answer, OutOfMemory>
+        ensures status { IfOk result (λ a. a.status ≡ 9) }
+        ensures text { IfOk result (λ a. a.text.items ≡ lines.door_fault) }
+    {
+        let text = Vec::from_slice(alloc, b"error 9 DoorFault\n")?;
+        Ok(Answer { status: 9, text })
+    }
+
+    /// The clock failed.
+    pub fn clock_fault(alloc: Global) -> Result<Answer, OutOfMemory>
+        ensures status { IfOk result (λ a. a.status ≡ 11) }
+        ensures text { IfOk result (λ a. a.text.items ≡ lines.clock_fault) }
+    {
+        let text = Vec::from_slice(alloc, b"error 11 ClockFault\n")?;
+        Ok(Answer { status: 11, text })
+    }
+
     /// A row isn't one of a desk.
     pub fn bad_row(alloc: Global, row: &Row, why: RowWhy) -> Result<Answer, OutOfMemory>
         ensures status { IfOk result (λ a. a.status ≡ 7) }

@@ -5,6 +5,7 @@ ghost use Rattle.desk_io.specs.Told.{HoldsName};
 ghost use Rattle.kept_forms.specs.Formed.{AreFormed};
 ghost use Rattle.machine.specs.State.{State};
 ghost use Rattle.desk.specs.Opening.{IsLeft, TellsRowsOf};
+ghost use Rattle.service.specs.Doors.{IsServing};
 ghost use Rattle.commands.specs.Words.{command_of};
 ghost use Rattle.commands.specs.Answers.{AreKeptOver, telling, left_with, Says, Ends, EndsWith, sources_of};
 
@@ -12,15 +13,18 @@ use crate::commands::{Said, answer_to};
 use crate::saying::Answer;
 use board::Board;
 use desk_io::{OutOfMemory, PutFault, Shelf, Sink};
+use desk_net::{Clock, Door};
 use keeper::Keeper;
 use std::alloc::Global;
+use std::sync::Wait;
 
-/// How the program ends, and what is left: the board of `run SCRIPT`, where a desk was opened, and the keeper.
+/// How the program ends, and what is left: the board of `run` and `serve`, where a desk was opened, the keeper and the clock.
 #[derive(Drop)]
-pub struct Ending<K> {
+pub struct Ending<K, C> {
     pub status: u8,
     pub board: Option<Board>,
     pub keeper: K,
+    pub clock: C,
 }
 
 // Writes an answer, and gives the status.
@@ -40,10 +44,11 @@ fn write<O: Sink>(answer: Result<Answer, OutOfMemory>, out: &mut O) -> u8
 
 /// Does what the words ask, and answers the status of the program. `run SCRIPT` reads the twelve tables and then the
 /// script, and loads the rows of the keeper; then the script is run on the desk of these rows. `weather FILE` reads
-/// the file alone, and asks nothing of the keeper. The first fault in this order is answered.
+/// the file alone, and asks nothing of the keeper. `serve PORT CONNECTIONS` reads the tables and loads the rows, and then so many
+/// connections are served at the port, one after another. The first fault in this order is answered.
 ///
 /// - 0: all of this was read to its end, and what is said of it was written: of `run SCRIPT` a reply for
-///   each line and the closing text, of `weather FILE` a line for each report.
+///   each line and the closing text, of `weather FILE` a line for each report, of `serve` the closing text.
 /// - 2: exactly where the words form no command; `error 2 Usage` is written.
 /// - 3: only where the shelf's count of faults rose, or is full; `error 3 ReadFault NAME`.
 /// - 4: only where the sink's count of faults rose, or is full; it gained a front of the text.
@@ -53,17 +58,24 @@ fn write<O: Sink>(answer: Result<Answer, OutOfMemory>, out: &mut O) -> u8
 /// - 7: exactly where the rows that were loaded aren't those of a desk: `error 7 BadRow KIND KEY WHY` or
 ///   `error 7 BadPair KIND KEY KIND KEY`, their first fault.
 /// - 8: want of memory; the sink gained nothing.
+/// - 9: only where the door's count of faults rose, or is full; `error 9 DoorFault`.
 /// - 10: exactly where the source of that name has more than 64 MiB; `error 10 InputTooLong NAME`.
-pub fn desk_main<S: Shelf, O: Sink, K: Keeper>(
+/// - 11: only where the clock's count of faults rose, or is full; `error 11 ClockFault`.
+pub fn desk_main<R: Wait, S: Shelf, O: Sink, C: Clock + Drop, K: Keeper, D: Door>(
+    rt: &R,
     alloc: Global,
     words: &[String],
     shelf: &mut S,
     out: &mut O,
+    mut clock: C,
     keeper: K,
-) -> Ending<K>
+    door: &mut D,
+) -> Ending<K, C>
     ensures complete { S.sound shelf.old → O.sound out.old → All (HoldsName (S.sources shelf.old)) (sources_of (command_of (map string_bytes words.now)))
         → (result.status ≢ 3) × (result.status ≢ 4) }
-    ensures ends { Ends (Says (S.sources shelf.old) (RoseOrFull (S.fault_count shelf.old) (S.fault_count shelf.new)) (telling (K.told keeper) (K.fault_count keeper)) (command_of (map string_bytes words.now)))
+    ensures ends { Ends (Says (S.sources shelf.old) (RoseOrFull (S.fault_count shelf.old) (S.fault_count shelf.new))
+        (IsServing D.Link.told D.Link.fault_count (D.told door.old) (D.told door.new) (C.moments clock) (RoseOrFull (D.fault_count door.old) (D.fault_count door.new)) (RoseOrFull (C.fault_count clock) (C.fault_count result.clock)))
+        (telling (K.told keeper) (K.fault_count keeper)) (command_of (map string_bytes words.now)))
         (RoseOrFull (O.fault_count out.old) (O.fault_count out.new)) (O.content out.old) (O.content out.new) result.status (left_with result.board (K.told result.keeper) (K.fault_count result.keeper)) }
     ensures later { K.fault_count keeper ≤ K.fault_count result.keeper }
     // A sound keeper never ends a run, and since its count stands still nothing is refused for its sake.
@@ -79,11 +91,12 @@ pub fn desk_main<S: Shelf, O: Sink, K: Keeper>(
         answer,
         board,
         keeper,
-    } = answer_to(alloc, words, shelf, keeper);
+    } = answer_to(rt, alloc, words, shelf, &mut clock, door, keeper);
     let status = write(answer, out);
     Ending {
         status,
         board,
         keeper,
+        clock,
     }
 }

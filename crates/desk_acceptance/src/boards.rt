@@ -330,8 +330,10 @@ fn all_are_prepared<L: Ledger>(
     let replies = [(b'D', true), (b'D', false), (b'S', false), (b'R', false)];
     let lines = runs_between::<LineFeeds>(alloc, PREPARED)?;
     for (line, (reply, changes)) in lines.iter().zip(replies) {
-        if let Some((_, call)) = read_line(alloc, line.bytes())? {
-            are = is_prepared(alloc, board, &call, steps, reply, changes)? && are;
+        match read_line(alloc, line.bytes()) {
+            Ok((_, call)) => are = is_prepared(alloc, board, &call, steps, reply, changes)? && are,
+            Err(CallFault::Bad(_)) => are = false,
+            Err(CallFault::OutOfMemory) => return Err(OutOfMemory),
         }
     }
     Ok(are && board.entries() == 2)

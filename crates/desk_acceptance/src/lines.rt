@@ -45,18 +45,66 @@ fn lines_are_calls_or_have_a_first_fault(rt: HostRuntime) -> Result<(), Fail> {
         (b"{", CallWhy::NotJson, b""),
         (b"[]", CallWhy::NotObject, b""),
         (b"\xff", CallWhy::NotJson, b""),
-        (br#"{"actor":"F1","ask":{"do":"admit","text":"A"},"at":"2025-03-12T17:00Z","key":"kF1","number":1,"zzz":1}"#, CallWhy::Extra, b"zzz"),
-        (br#"{"ask":{"do":"admit","text":"A"},"at":"2025-03-12T17:00Z","key":"kF1","number":1}"#, CallWhy::Missing, b"actor"),
-        (br#"{"actor":1,"ask":{"do":"admit","text":"A"},"at":"2025-03-12T17:00Z","key":"kF1","number":1}"#, CallWhy::BadValue, b"actor"),
-        (br#"{"actor":"12345678901234567890123456789012345678901234567890123456789012345","ask":{"do":"admit","text":"A"},"at":"2025-03-12T17:00Z","key":"kF1","number":1}"#, CallWhy::BadValue, b"actor"),
-        (br#"{"actor":"F1","ask":[],"at":"2025-03-12T17:00Z","key":"kF1","number":1}"#, CallWhy::BadValue, b"ask"),
-        (br#"{"actor":"F1","ask":{"text":"A"},"at":"2025-03-12T17:00Z","key":"kF1","number":1}"#, CallWhy::Missing, b"do"),
-        (br#"{"actor":"F1","ask":{"do":"fly"},"at":"2025-03-12T17:00Z","key":"kF1","number":1}"#, CallWhy::UnknownAsk, b"do"),
-        (br#"{"actor":"F1","ask":{"do":"admit"},"at":"2025-03-12T17:00Z","key":"kF1","number":1}"#, CallWhy::Missing, b"text"),
-        (br#"{"actor":"F1","ask":{"do":"admit","text":"A","zzz":1},"at":"2025-03-12T17:00Z","key":"kF1","number":1}"#, CallWhy::Extra, b"zzz"),
-        (br#"{"actor":"F1","ask":{"do":"admit","text":"A"},"at":"2100-01-01T00:00Z","key":"kF1","number":1}"#, CallWhy::BadValue, b"at"),
-        (br#"{"actor":"F1","ask":{"do":"admit","text":"A"},"at":"2025-03-12T17:00Z","key":"kF1","number":1.0}"#, CallWhy::BadValue, b"number"),
-        (br#"{"actor":"F1","ask":{"do":"admit","text":"A"},"at":"2025-03-12T17:00Z","key":"kF1","number":1000000000001}"#, CallWhy::BadValue, b"number"),
+        (
+            br#"{"actor":"F1","ask":{"do":"admit","text":"A"},"at":"2025-03-12T17:00Z","key":"kF1","number":1,"zzz":1}"#,
+            CallWhy::Extra,
+            b"zzz",
+        ),
+        (
+            br#"{"ask":{"do":"admit","text":"A"},"at":"2025-03-12T17:00Z","key":"kF1","number":1}"#,
+            CallWhy::Missing,
+            b"actor",
+        ),
+        (
+            br#"{"actor":1,"ask":{"do":"admit","text":"A"},"at":"2025-03-12T17:00Z","key":"kF1","number":1}"#,
+            CallWhy::BadValue,
+            b"actor",
+        ),
+        (
+            br#"{"actor":"12345678901234567890123456789012345678901234567890123456789012345","ask":{"do":"admit","text":"A"},"at":"2025-03-12T17:00Z","key":"kF1","number":1}"#,
+            CallWhy::BadValue,
+            b"actor",
+        ),
+        (
+            br#"{"actor":"F1","ask":[],"at":"2025-03-12T17:00Z","key":"kF1","number":1}"#,
+            CallWhy::BadValue,
+            b"ask",
+        ),
+        (
+            br#"{"actor":"F1","ask":{"text":"A"},"at":"2025-03-12T17:00Z","key":"kF1","number":1}"#,
+            CallWhy::Missing,
+            b"do",
+        ),
+        (
+            br#"{"actor":"F1","ask":{"do":"fly"},"at":"2025-03-12T17:00Z","key":"kF1","number":1}"#,
+            CallWhy::UnknownAsk,
+            b"do",
+        ),
+        (
+            br#"{"actor":"F1","ask":{"do":"admit"},"at":"2025-03-12T17:00Z","key":"kF1","number":1}"#,
+            CallWhy::Missing,
+            b"text",
+        ),
+        (
+            br#"{"actor":"F1","ask":{"do":"admit","text":"A","zzz":1},"at":"2025-03-12T17:00Z","key":"kF1","number":1}"#,
+            CallWhy::Extra,
+            b"zzz",
+        ),
+        (
+            br#"{"actor":"F1","ask":{"do":"admit","text":"A"},"at":"2100-01-01T00:00Z","key":"kF1","number":1}"#,
+            CallWhy::BadValue,
+            b"at",
+        ),
+        (
+            br#"{"actor":"F1","ask":{"do":"admit","text":"A"},"at":"2025-03-12T17:00Z","key":"kF1","number":1.0}"#,
+            CallWhy::BadValue,
+            b"number",
+        ),
+        (
+            br#"{"actor":"F1","ask":{"do":"admit","text":"A"},"at":"2025-03-12T17:00Z","key":"kF1","number":1000000000001}"#,
+            CallWhy::BadValue,
+            b"number",
+        ),
     ] {
         assert!(rt; has_fault(rt.alloc(), line, why, key)?);
     }

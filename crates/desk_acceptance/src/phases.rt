@@ -9,6 +9,7 @@ use crate::lives::{
 use crate::scripts::said_to;
 use desk_io::{LineFeeds, OutOfMemory, Run, push_all, runs_between};
 use std::alloc::Global;
+use std::sync::Wait;
 use std::test::Fail;
 
 fn line<'a>(lines: &[Run<'a>], n: usize) -> &'a [u8] {
@@ -33,15 +34,16 @@ fn life(alloc: Global, count: usize, more: &[u8], then: &[u8]) -> Result<Vec<u8>
 }
 
 // How the first release stands after a script: its line of the board.
-fn standing(alloc: Global, script: &[u8]) -> Result<Vec<u8>, OutOfMemory> {
+fn standing<R: Wait>(rt: &R, alloc: Global, script: &[u8]) -> Result<Vec<u8>, OutOfMemory> {
     let count = runs_between::<LineFeeds>(alloc, script)?.len();
-    let said = said_to(alloc, script)?;
+    let said = said_to(rt, alloc, script)?;
     let lines = runs_between::<LineFeeds>(alloc, &said)?;
     Ok(Vec::from_slice(alloc, line(&lines, count.saturating_add(1)))?)
 }
 
 // Adds what is said to an ask after a life, and how the first release stands then, where it didn't stand so.
-fn push_answer(
+fn push_answer<R: Wait>(
+    rt: &R,
     alloc: Global,
     out: &mut Vec<u8>,
     life: &[u8],
@@ -51,7 +53,7 @@ fn push_answer(
     let count = runs_between::<LineFeeds>(alloc, life)?.len();
     let mut script = Vec::new(alloc);
     push_all(&mut script, &[life, ask])?;
-    let said = said_to(alloc, &script)?;
+    let said = said_to(rt, alloc, &script)?;
     let lines = runs_between::<LineFeeds>(alloc, &said)?;
     push_all(out, &[line(&lines, count), b"\n"])?;
     let stands = line(&lines, count.saturating_add(2));
@@ -62,18 +64,24 @@ fn push_answer(
 }
 
 // How the first release stands after a life, and what is said to each of some asks.
-fn answers(alloc: Global, life: &[u8], asks: &[u8]) -> Result<Vec<u8>, OutOfMemory> {
+fn answers<R: Wait>(
+    rt: &R,
+    alloc: Global,
+    life: &[u8],
+    asks: &[u8],
+) -> Result<Vec<u8>, OutOfMemory> {
     let mut out = Vec::new(alloc);
-    let standing = standing(alloc, life)?;
+    let standing = standing(rt, alloc, life)?;
     push_all(&mut out, &[&standing, b"\n"])?;
     for ask in &runs_between::<LineFeeds>(alloc, asks)? {
-        push_answer(alloc, &mut out, life, ask.bytes(), &standing)?;
+        push_answer(rt, alloc, &mut out, life, ask.bytes(), &standing)?;
     }
     Ok(out)
 }
 
 // Whether the signatures, and then all other asks, are answered so at a point of the release's life.
-fn are_answered(
+fn are_answered<R: Wait>(
+    rt: &R,
     alloc: Global,
     count: usize,
     life_then: (&[u8], &[u8]),
@@ -83,7 +91,7 @@ fn are_answered(
     let life = life(alloc, count, life_then.0, life_then.1)?;
     let mut asks = Vec::new(alloc);
     push_all(&mut asks, &[signatures, ASKS])?;
-    Ok(answers(alloc, &life, &asks)?.as_slice() == wanted)
+    Ok(answers(rt, alloc, &life, &asks)?.as_slice() == wanted)
 }
 
 #[test]
@@ -123,7 +131,7 @@ fn each_ask_is_answered_in_each_phase(rt: HostRuntime) -> Result<(), Fail> {
         ("cancelled", 7, CANCELS, b"", first, CANCELLED),
     ] {
         assert!(rt;
-            are_answered(rt.alloc(), count, (more, then), signatures, wanted)?,
+            are_answered(&rt, rt.alloc(), count, (more, then), signatures, wanted)?,
             "{point}"
         );
     }

@@ -11,9 +11,12 @@ use crate::texts::{
 };
 use commands::desk_main;
 use desk_io::{MemoryShelf, MemorySink, OutOfMemory, Text, push_all};
+use desk_net::{MemoryClock, MemoryDoor};
+use desk_time::FIRST;
 use keeper::MemoryKeeper;
 use small_airline::{push_small, shelf_of};
 use std::alloc::Global;
+use std::sync::Wait;
 use std::test::Fail;
 
 // The words of a command, between blanks.
@@ -34,19 +37,31 @@ fn shelf(alloc: Global, script: &[u8]) -> Result<MemoryShelf, OutOfMemory> {
     Ok(MemoryShelf::new(sources, Vec::new(alloc)))
 }
 
-// The status of a command of an office that keeps nothing yet.
-fn status_of(
+// A clock that stands still.
+fn clock(alloc: Global) -> Result<MemoryClock, OutOfMemory> {
+    let mut moments = Vec::new(alloc);
+    moments.push(FIRST)?;
+    Ok(MemoryClock::new(moments, Vec::new(alloc)))
+}
+
+// The status of a command of an office that keeps nothing yet, and to which nobody connects.
+fn status_of<R: Wait>(
+    rt: &R,
     alloc: Global,
     words: &[String],
     shelf: &mut MemoryShelf,
     sink: &mut MemorySink,
-) -> u8 {
+) -> Result<u8, OutOfMemory> {
+    let clock = clock(alloc)?;
     let keeper = MemoryKeeper::new(Vec::new(alloc), Vec::new(alloc));
-    desk_main(alloc, words, shelf, sink, keeper).status
+    let mut door = MemoryDoor::new(alloc, Vec::new(alloc), Vec::new(alloc));
+    let ending = desk_main(rt, alloc, words, shelf, sink, clock, keeper, &mut door);
+    Ok(ending.status)
 }
 
 // Whether this is the status and the text of a command over the tables of the small airline and one source, `script`.
-fn is_said(
+fn is_said<R: Wait>(
+    rt: &R,
     alloc: Global,
     command: &str,
     script: &[u8],
@@ -56,16 +71,16 @@ fn is_said(
     let words = words(alloc, command)?;
     let mut shelf = shelf(alloc, script)?;
     let mut sink = MemorySink::new(alloc, Vec::new(alloc));
-    let ended = status_of(alloc, &words, &mut shelf, &mut sink);
+    let ended = status_of(rt, alloc, &words, &mut shelf, &mut sink)?;
     Ok(ended == status && sink.written() == text)
 }
 
 /// What a run of a script says, over the tables of the small airline.
-pub fn said_to(alloc: Global, script: &[u8]) -> Result<Vec<u8>, OutOfMemory> {
+pub fn said_to<R: Wait>(rt: &R, alloc: Global, script: &[u8]) -> Result<Vec<u8>, OutOfMemory> {
     let words = words(alloc, "run script")?;
     let mut shelf = shelf(alloc, script)?;
     let mut sink = MemorySink::new(alloc, Vec::new(alloc));
-    let _ = status_of(alloc, &words, &mut shelf, &mut sink);
+    let _ = status_of(rt, alloc, &words, &mut shelf, &mut sink)?;
     Ok(Vec::from_slice(alloc, sink.written())?)
 }
 
@@ -102,7 +117,7 @@ fn commands_are_answered(rt: HostRuntime) -> Result<(), Fail> {
         ("run script", SWEPT, 0, SWEPT_SAID),
     ] {
         assert!(rt;
-            is_said(rt.alloc(), command, script, status, text)?,
+            is_said(&rt, rt.alloc(), command, script, status, text)?,
             "{command}"
         );
     }
@@ -125,12 +140,13 @@ fn long_reports_are_refused(rt: HostRuntime) -> Result<(), Fail> {
     let said =
         b"{\"group\":0,\"refused\":5,\"what\":\"TooLong\",\"why\":\"BadReport\"}\nBOARD 2025-03-12T17:00Z\nEND\n";
     let line = long_line(alloc, 2049)?;
-    assert!(rt; is_said(alloc, "run script", &line, 0, said)?);
+    assert!(rt; is_said(&rt, alloc, "run script", &line, 0, said)?);
     Ok(())
 }
 
 // The status and the text of a run where one table has other records.
-fn is_said_with(
+fn is_said_with<R: Wait>(
+    rt: &R,
     alloc: Global,
     table: &str,
     records: &[u8],
@@ -140,7 +156,7 @@ fn is_said_with(
     let words = words(alloc, "run nowhere")?;
     let mut shelf = shelf_of(alloc, table, records)?;
     let mut sink = MemorySink::new(alloc, Vec::new(alloc));
-    let ended = status_of(alloc, &words, &mut shelf, &mut sink);
+    let ended = status_of(rt, alloc, &words, &mut shelf, &mut sink)?;
     Ok(ended == status && sink.written() == text)
 }
 
@@ -174,7 +190,7 @@ fn tables_come_before_the_script(rt: HostRuntime) -> Result<(), Fail> {
         ),
     ] {
         assert!(rt;
-            is_said_with(rt.alloc(), table, records, status, text)?,
+            is_said_with(&rt, rt.alloc(), table, records, status, text)?,
             "{table}"
         );
     }
@@ -182,7 +198,8 @@ fn tables_come_before_the_script(rt: HostRuntime) -> Result<(), Fail> {
 }
 
 // The status and the text of a run of an empty script where calls of the shelf and of the sink fail, by their numbers.
-fn is_said_at_faults(
+fn is_said_at_faults<R: Wait>(
+    rt: &R,
     alloc: Global,
     reads: &[u64],
     writes: &[u64],
@@ -195,7 +212,7 @@ fn is_said_at_faults(
     push_small(alloc, &mut sources)?;
     let mut shelf = MemoryShelf::new(sources, Vec::from_slice(alloc, reads)?);
     let mut sink = MemorySink::new(alloc, Vec::from_slice(alloc, writes)?);
-    let ended = status_of(alloc, &words, &mut shelf, &mut sink);
+    let ended = status_of(rt, alloc, &words, &mut shelf, &mut sink)?;
     Ok(ended == status && sink.written() == text)
 }
 
@@ -216,20 +233,21 @@ fn a_fault_of_the_outside_ends_a_run(rt: HostRuntime) -> Result<(), Fail> {
         (&[24], &[0], 4, b""),
         (&[], &[1], 0, b"BOARD 2000-01-01T00:00Z\nEND\n"),
     ] {
-        assert!(rt; is_said_at_faults(rt.alloc(), reads, writes, status, text)?);
+        assert!(rt; is_said_at_faults(&rt, rt.alloc(), reads, writes, status, text)?);
     }
     Ok(())
 }
 
 // What is said to a script of so many line feeds.
-fn is_said_to_feeds(
+fn is_said_to_feeds<R: Wait>(
+    rt: &R,
     alloc: Global,
     count: usize,
     status: u8,
     text: &[u8],
 ) -> Result<bool, OutOfMemory> {
     let script = vec![in alloc; b'\n'; count]?;
-    is_said(alloc, "run script", &script, status, text)
+    is_said(rt, alloc, "run script", &script, status, text)
 }
 
 #[test]
@@ -238,7 +256,7 @@ fn a_source_has_at_most_64_mebibytes(rt: HostRuntime) -> Result<(), Fail> {
         (67_108_864, 0, b"BOARD 2000-01-01T00:00Z\nEND\n".as_slice()),
         (67_108_865, 10, b"error 10 InputTooLong script\n"),
     ] {
-        assert!(rt; is_said_to_feeds(rt.alloc(), count, status, text)?);
+        assert!(rt; is_said_to_feeds(&rt, rt.alloc(), count, status, text)?);
     }
     Ok(())
 }

@@ -1,10 +1,12 @@
 ghost use Rattle.std.specs.Prelude.{None};
 
-use crate::runs::{shelf_with_script, words};
+use crate::runs::{clock, shelf_with_script, words};
 use commands::{Ending, desk_main};
 use desk_io::{Change, MemorySink, OutOfMemory, Row};
+use desk_net::MemoryDoor;
 use keeper::{KeepFault, Keeper};
 use std::alloc::Global;
+use std::sync::Wait;
 use std::test::Fail;
 
 // A keeper whose rows can't be loaded.
@@ -40,25 +42,30 @@ impl Keeper for Broken {
 }
 
 // Whether a run over such a keeper ends with the line of its fault.
-fn is_told(alloc: Global) -> Result<bool, OutOfMemory> {
+fn is_told<R: Wait>(rt: &R, alloc: Global) -> Result<bool, OutOfMemory> {
     let words = words(alloc)?;
     let mut shelf = shelf_with_script(alloc, b"")?;
     let mut sink = MemorySink::new(alloc, Vec::new(alloc));
+    let clock = clock(alloc)?;
+    let mut door = MemoryDoor::new(alloc, Vec::new(alloc), Vec::new(alloc));
     let Ending { status, .. } = desk_main(
+        rt,
         alloc,
         &words,
         &mut shelf,
         &mut sink,
+        clock,
         Broken {
             commits: 0,
             faults: 0,
         },
+        &mut door,
     );
     Ok(status == 5 && sink.written() == b"error 5 KeeperFault\n".as_slice())
 }
 
 #[test]
 fn rows_that_cant_be_loaded_are_a_fault(rt: HostRuntime) -> Result<(), Fail> {
-    assert!(rt; is_told(rt.alloc())?);
+    assert!(rt; is_told(&rt, rt.alloc())?);
     Ok(())
 }

@@ -9,6 +9,7 @@ use facts::{Report, read_report};
 use plan::{Finding, Findings, Rule};
 use records::{KeptAlert, KeptReport, Meta, Record, RowsFault, check_rows};
 use std::alloc::Global;
+use std::sync::Wait;
 use std::test::Fail;
 
 fn copy_of_meta(alloc: Global, meta: &Meta) -> Result<Meta, OutOfMemory> {
@@ -78,14 +79,21 @@ fn rows_are_copied(alloc: Global, rows: &[u8], count: usize) -> Result<bool, Out
 }
 
 // The rows of a release that both have signed, with a deferral and, under higher minima, an alert.
-fn rows_copied(alloc: Global) -> Result<bool, OutOfMemory> {
-    let Some(deferred) = run_over(alloc, "", DEFERRED)? else {
+fn rows_copied<R: Wait>(rt: &R, alloc: Global) -> Result<bool, OutOfMemory> {
+    let Some(deferred) = run_over(rt, alloc, "", DEFERRED)? else {
         return Ok(false);
     };
-    let Some(ready) = run_over(alloc, text_of(&deferred.rows), READY)? else {
+    let Some(ready) = run_over(rt, alloc, text_of(&deferred.rows), READY)? else {
         return Ok(false);
     };
-    match run_under(alloc, text_of(&ready.rows), &[], b"approaches.csv", HIGHER)? {
+    match run_under(
+        rt,
+        alloc,
+        text_of(&ready.rows),
+        &[],
+        b"approaches.csv",
+        HIGHER,
+    )? {
         None => Ok(false),
         Some(alerted) => rows_are_copied(alloc, &alerted.rows, 15),
     }
@@ -177,7 +185,7 @@ fn alert_copied(alloc: Global) -> Result<bool, OutOfMemory> {
 #[test]
 fn copies_equal(rt: HostRuntime) -> Result<(), Fail> {
     let alloc = rt.alloc();
-    assert!(rt; rows_copied(alloc)?);
+    assert!(rt; rows_copied(&rt, alloc)?);
     assert!(rt; calls_copied(alloc, READY)?);
     assert!(rt; replies_copied(alloc)?);
     assert!(rt; report_copied(alloc)?);

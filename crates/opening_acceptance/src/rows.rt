@@ -33,7 +33,7 @@ fn rows_that_are_no_desks_are_told(rt: HostRuntime) -> Result<(), Fail> {
             b"error 7 BadRow 0 0 OverLimit\n",
         ),
     ] {
-        let ran = run_over(rt.alloc(), rows, b"")?;
+        let ran = run_over(&rt, rt.alloc(), rows, b"")?;
         assert!(rt; came_to(&ran, 7, said, rows.as_bytes()), "{rows}");
     }
     Ok(())

@@ -1,9 +1,12 @@
 use crate::texts::{KEPT, REPORT, REPORT_SAID, SWEEP, SWEEP_SAID};
 use commands::{Ending, desk_main};
 use desk_io::{MemoryShelf, MemorySink, OutOfMemory, Row, Text, push_all};
+use desk_net::{MemoryClock, MemoryDoor};
+use desk_time::FIRST;
 use keeper::{MemoryKeeper, is_rising};
 use small_airline::push_small;
 use std::alloc::Global;
+use std::sync::Wait;
 use std::test::Fail;
 
 /// What a run came to: its status, what it wrote, and the rows that it left, each in a line of its own.
@@ -83,6 +86,13 @@ fn keeper_of(
     }
 }
 
+/// A clock that stands still.
+pub fn clock(alloc: Global) -> Result<MemoryClock, OutOfMemory> {
+    let mut moments = Vec::new(alloc);
+    moments.push(FIRST)?;
+    Ok(MemoryClock::new(moments, Vec::new(alloc)))
+}
+
 /// The words `run script`.
 pub fn words(alloc: Global) -> Result<Vec<String>, OutOfMemory> {
     let mut words = Vec::new(alloc);
@@ -107,7 +117,7 @@ pub fn shelf_with_script(alloc: Global, script: &[u8]) -> Result<MemoryShelf, Ou
 
 fn ran_of(
     alloc: Global,
-    ending: Ending<MemoryKeeper>,
+    ending: Ending<MemoryKeeper, MemoryClock>,
     sink: &MemorySink,
 ) -> Result<Ran, OutOfMemory> {
     let Ending { status, keeper, .. } = ending;
@@ -118,19 +128,25 @@ fn ran_of(
     })
 }
 
-fn run_with(
+fn run_with<R: Wait>(
+    rt: &R,
     alloc: Global,
     shelf: &mut MemoryShelf,
     keeper: MemoryKeeper,
 ) -> Result<Ran, OutOfMemory> {
     let words = words(alloc)?;
     let mut sink = MemorySink::new(alloc, Vec::new(alloc));
-    let ending = desk_main(alloc, &words, shelf, &mut sink, keeper);
+    let clock = clock(alloc)?;
+    let mut door = MemoryDoor::new(alloc, Vec::new(alloc), Vec::new(alloc));
+    let ending = desk_main(
+        rt, alloc, &words, shelf, &mut sink, clock, keeper, &mut door,
+    );
     ran_of(alloc, ending, &sink)
 }
 
 /// What a run of a script comes to over the rows of lines, where commits of some numbers fail.
-pub fn run_failing(
+pub fn run_failing<R: Wait>(
+    rt: &R,
     alloc: Global,
     lines: &str,
     fail: &[u64],
@@ -139,17 +155,23 @@ pub fn run_failing(
     let mut shelf = shelf_with_script(alloc, script)?;
     match keeper_of(alloc, lines, fail)? {
         None => Ok(None),
-        Some(keeper) => Ok(Some(run_with(alloc, &mut shelf, keeper)?)),
+        Some(keeper) => Ok(Some(run_with(rt, alloc, &mut shelf, keeper)?)),
     }
 }
 
 /// What a run of a script comes to over the rows of lines.
-pub fn run_over(alloc: Global, lines: &str, script: &[u8]) -> Result<Option<Ran>, OutOfMemory> {
-    run_failing(alloc, lines, &[], script)
+pub fn run_over<R: Wait>(
+    rt: &R,
+    alloc: Global,
+    lines: &str,
+    script: &[u8],
+) -> Result<Option<Ran>, OutOfMemory> {
+    run_failing(rt, alloc, lines, &[], script)
 }
 
 /// What a run of an empty script comes to over the rows of lines, where one table is another.
-pub fn run_under(
+pub fn run_under<R: Wait>(
+    rt: &R,
     alloc: Global,
     lines: &str,
     fail: &[u64],
@@ -159,7 +181,7 @@ pub fn run_under(
     let mut shelf = shelf_with(alloc, table, text)?;
     match keeper_of(alloc, lines, fail)? {
         None => Ok(None),
-        Some(keeper) => Ok(Some(run_with(alloc, &mut shelf, keeper)?)),
+        Some(keeper) => Ok(Some(run_with(rt, alloc, &mut shelf, keeper)?)),
     }
 }
 
@@ -179,29 +201,39 @@ pub fn came_to(ran: &Option<Ran>, status: u8, said: &[u8], rows: &[u8]) -> bool 
 }
 
 // Whether a run over rows comes to this.
-fn runs(
+fn runs<R: Wait>(
+    rt: &R,
     alloc: Global,
     lines: &str,
     script: &[u8],
     said: &[u8],
     rows: &[u8],
 ) -> Result<bool, OutOfMemory> {
-    let ran = run_over(alloc, lines, script)?;
+    let ran = run_over(rt, alloc, lines, script)?;
     Ok(came_to(&ran, 0, said, rows))
 }
 
 // A run leaves the rows of its report, and the next one over them says the same and changes none.
 #[test]
 fn a_run_goes_on_where_the_last_one_ended(rt: HostRuntime) -> Result<(), Fail> {
-    assert!(rt; runs(rt.alloc(), "", REPORT, REPORT_SAID, KEPT.as_bytes())?);
-    assert!(rt; runs(rt.alloc(), KEPT, REPORT, REPORT_SAID, KEPT.as_bytes())?);
-    assert!(rt; runs(rt.alloc(), "", b"", b"BOARD 2000-01-01T00:00Z\nEND\n", b"")?);
+    assert!(rt; runs(&rt, rt.alloc(), "", REPORT, REPORT_SAID, KEPT.as_bytes())?);
+    assert!(rt; runs(&rt, rt.alloc(), KEPT, REPORT, REPORT_SAID, KEPT.as_bytes())?);
+    assert!(rt;
+        runs(
+            &rt,
+            rt.alloc(),
+            "",
+            b"",
+            b"BOARD 2000-01-01T00:00Z\nEND\n",
+            b""
+        )?
+    );
     Ok(())
 }
 
 // What is kept is swept away, and its number is in the floors.
-fn sweeps(alloc: Global) -> Result<bool, OutOfMemory> {
-    let Some(swept) = run_over(alloc, KEPT, SWEEP)? else {
+fn sweeps<R: Wait>(rt: &R, alloc: Global) -> Result<bool, OutOfMemory> {
+    let Some(swept) = run_over(rt, alloc, KEPT, SWEEP)? else {
         return Ok(false);
     };
     let rows = text_of(&swept.rows);
@@ -215,6 +247,6 @@ fn sweeps(alloc: Global) -> Result<bool, OutOfMemory> {
 // What is swept away is gone from the rows, and its number stays used.
 #[test]
 fn a_swept_number_stays_used(rt: HostRuntime) -> Result<(), Fail> {
-    assert!(rt; sweeps(rt.alloc())?);
+    assert!(rt; sweeps(&rt, rt.alloc())?);
     Ok(())
 }

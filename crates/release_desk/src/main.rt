@@ -3,6 +3,7 @@
 
 use commands::desk_main;
 use desk_io::{FileShelf, StdoutSink};
+use desk_net::{SystemClock, TcpDoor};
 use sqlite_keeper::SqliteKeeper;
 use std::alloc::AllocError;
 use std::env;
@@ -32,6 +33,17 @@ fn main(rt: HostRuntime) -> ExitCode {
     };
     let mut shelf = FileShelf::new(rt);
     let mut out = StdoutSink::new(rt);
-    let ending = desk_main(rt.alloc(), &words, &mut shelf, &mut out, keeper);
+    let clock = SystemClock::new(rt);
+    let mut door = TcpDoor::new(rt);
+    let ending = desk_main(
+        &rt,
+        rt.alloc(),
+        &words,
+        &mut shelf,
+        &mut out,
+        clock,
+        keeper,
+        &mut door,
+    );
     ExitCode::from(ending.status)
 }

@@ -3,3 +3,4 @@ pub mod Answered
 pub mod Endings
 pub mod Joins
 pub mod RouteForms
+pub mod Visits

@@ -5,3 +5,4 @@ pub mod Exchanges
 pub mod Steps
 pub mod Connections
 pub mod Serving
+pub mod Doors

@@ -1,10 +1,12 @@
 //! The desk over HTTP: what each request of a connection is answered, and how connections end.
 #![tactic(auto)]
 
+mod doors;
 mod exchange;
 mod requested;
 mod responses;
 mod serving;
 mod statuses;
 
+pub use doors::{ServeEnd, serve_door};
 pub use serving::{Served, serve_link};

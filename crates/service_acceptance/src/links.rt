@@ -55,8 +55,8 @@ fn opened<L: Ledger>(
     }
 }
 
-// A clock at 17:00 on 2025-03-12.
-fn clock_of(alloc: Global, fail: &[u64]) -> Result<Option<MemoryClock>, OutOfMemory> {
+/// A clock at 17:00 on 2025-03-12, whose calls of those numbers fail.
+pub fn clock_of(alloc: Global, fail: &[u64]) -> Result<Option<MemoryClock>, OutOfMemory> {
     let Some(at) = read_minute(b"2025-03-12T17:00Z") else {
         return Ok(None);
     };
@@ -119,10 +119,12 @@ pub fn serves<R: Wait>(
     }
 }
 
-const BOARD: &[u8] =
+/// A request for the board.
+pub const BOARD: &[u8] =
     b"GET /board HTTP/1.1\r\nHost: desk\r\nDesk-Actor: D1\r\nDesk-Key: kD1\r\n\r\n";
 
-const BOARD_SEEN: &[u8] =
+/// What it is answered.
+pub const BOARD_SEEN: &[u8] =
     b"HTTP/1.1 200 OK\r\nContent-Type: application/json\r\nContent-Length: 36\r\n\r\n{\"seen\":\"BOARD 2025-03-12T17:00Z\\n\"}";
 
 // The board is seen the same however the bytes come.

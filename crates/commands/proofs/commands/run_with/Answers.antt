@@ -1,4 +1,4 @@
-use Rattle.std.proofs.Common.{None, refl, inl}
+use Rattle.std.proofs.Common.{None, refl, inl, inr}
 use Rattle.std.proofs.lemmas.Result.{IfOk-weaker}
 use Rattle.commands.specs.Answers.{telling, left_with}
 use Rattle.commands.proofs.Says.{why_left}
@@ -19,8 +19,8 @@ pub returns-clause-says : goal.returns-clause-says
 returns-clause-says g c =
     let failed = c.in-Err.field-0 in
     IfOk-weaker c.answer_of_why.result _ _ (λ a says.
-    why_said c.args.tables (telling (g.K.Keeper.told c.args.keeper) (g.K.Keeper.fault_count c.args.keeper)) c.args.script.now failed.why a.status a.text.items
-    (left_with None (g.K.Keeper.told failed.keeper) (g.K.Keeper.fault_count failed.keeper)) c.in-Err.ensures.why says (record { board = refl; rows = c.in-Err.ensures.same }))
+    inr (why_said (telling (g.K.Keeper.told c.args.keeper) (g.K.Keeper.fault_count c.args.keeper)) failed.why a.status a.text.items
+    (left_with None (g.K.Keeper.told failed.keeper) (g.K.Keeper.fault_count failed.keeper)) c.in-Err.ensures.why says (record { board = refl; rows = c.in-Err.ensures.same })))
     c.answer_of_why.ensures
 
 pub returns-clause-left : goal.returns-clause-left

@@ -1,0 +1,257 @@
+-- Connections that were served, and then one more.
+use Rattle.std.proofs.Common.{◌≡◌, ◌≢◌, ℕ, suc, ◌+◌, ◌≤◌, Bool, true, false, List, [], ◌∷◌, ◌++◌, ◌⊎◌, inl, inr, length, map, filter, Option, Some, None, Result, Ok, Err, refl, ap, sym, subst, ◌∙◌, append_assoc, append-nil, arith}
+use Rattle.std.specs.Prelude.{if◌then◌else◌}
+use Rattle.std.specs.List.{AllByRecursion}
+use Rattle.std.proofs.lemmas.List.{map-append}
+use Rattle.std.proofs.lemmas.List.Elements.{filter-append}
+use Rattle.desk_net.specs.Doors.{Links, Accepts, TakesBack}
+use Rattle.desk_net.specs.Wires.{Wire as Line, unread}
+use Rattle.machine.specs.State.{State}
+use Rattle.service.specs.Connections.{AreRequests, GoesOn, IsConnection, OnBoth}
+use Rattle.service.specs.Doors.{Visit, IsVisit, AreVisits, AreTaken, came_of, back_of, HadMemory, IsWell, EndsServing, IsServing, counts_as, met_after, end_of, end_at_door}
+use Rattle.service.specs.Serving.{Wrote}
+use Rattle.service.specs.declared.doors.Met.{Met}
+use Rattle.service.specs.declared.doors.ServeEnd.{ServeEnd}
+use Rattle.service.specs.declared.doors.ServeEnd.TheVariants as ends
+use Rattle.service.specs.declared.serving.Served.{Served}
+use Rattle.service.specs.declared.serving.Served.TheVariants as served
+use Rattle.service.proofs.Joins.{joined}
+use Rattle.service.proofs.Lines.{wrote_as}
+
+-- ---- a connection seen from before
+
+same_bytes : (bytes : Option (List ℕ)) → OnBoth bytes bytes (λ b l. AreRequests b [] l)
+same_bytes None = tt
+same_bytes (Some bytes) = refl
+
+nothing_yet : (lane : ℕ) (moments : Option (List ℕ)) (less before : ℕ) (s : State) (bytes : Option (List ℕ)) → less ≤ before → GoesOn lane moments less before s bytes bytes s []
+nothing_yet lane moments less before s bytes under =
+    record { xs = []; requests = same_bytes bytes; timed = tt; going = tt; counted = under; says = refl; state = refl }
+
+-- a visit, counted from before
+visit_from : {L : Type 0} (told : L → Option Line) (count : L → ℕ) (lane : ℕ) (moments : Option (List ℕ)) (failed clock : Type 0) (less before after : ℕ) (s : State) (v : Visit L) (t : State)
+    → less ≤ before → (failed → clock) → IsVisit told count lane moments failed before after s v t → IsVisit told count lane moments clock less after s v t
+visit_from told count lane moments failed clock less before after s v t under of_clock is =
+    wrote_as (told v.came) (told v.went) _ _
+    (λ piece one. joined lane moments _ failed _ clock less before after s s t (unread (told v.came)) (unread (told v.came)) v.served [] piece (λ rose. rose) of_clock
+    (nothing_yet lane moments less before s (unread (told v.came)) under) one) is
+
+pub visits_from : {L : Type 0} (told : L → Option Line) (count : L → ℕ) (lane : ℕ) (moments : Option (List ℕ)) (failed clock : Type 0) (less before after : ℕ) (s : State) (vs : List (Visit L)) (t : State)
+    → less ≤ before → (failed → clock) → AreVisits told count lane moments failed before after s vs t → AreVisits told count lane moments clock less after s vs t
+visits_from told count lane moments failed clock less before after s [] t under of_clock are = let more = are.0 in (omega (arith, under, more), are.1)
+visits_from told count lane moments failed clock less before after s (v ∷ vs) t under of_clock (middle, u, one, rest) = (
+  middle,
+  u,
+  visit_from told count lane moments failed clock less before middle s v u under of_clock one,
+  visits_from told count (lane + 1) moments failed clock middle middle after u vs t (omega arith) of_clock rest,
+)
+
+-- ---- one more
+
+same_lane : (lane : ℕ) → lane + 0 ≡ lane
+same_lane lane = omega arith
+
+next_lane : (lane n : ℕ) → lane + suc n ≡ (lane + 1) + n
+next_lane lane n = omega arith
+
+pub visits_on : {L : Type 0} (told : L → Option Line) (count : L → ℕ) (lane : ℕ) (moments : Option (List ℕ)) (clock : Type 0) (before middle after : ℕ) (s : State) (vs : List (Visit L)) (u : State) (v : Visit L) (t : State)
+    → AreVisits told count lane moments clock before middle s vs u → IsVisit told count (lane + length vs) moments clock middle after u v t → AreVisits told count lane moments clock before after s (vs ++ v ∷ []) t
+visits_on told count lane moments clock before middle after s [] u v t are is =
+    (after, t, visit_from told count lane moments clock clock before middle after s v t are.0 (λ rose. rose) (subst (λ (x : State). IsVisit told count lane moments clock middle after x v t) are.1 (subst (λ l. IsVisit told count l moments clock middle after u v t) (same_lane lane) is)), (omega arith, refl))
+visits_on told count lane moments clock before middle after s (w ∷ ws) u v t (first, x, one, rest) is = (
+  first,
+  x,
+  one,
+  visits_on told count (lane + 1) moments clock first middle after x ws u v t rest
+      (subst (λ l. IsVisit told count l moments clock middle after u v t) (next_lane lane (length ws)) is),
+)
+
+all_on : {L : Type 0} (P : Visit L → Type 0) (vs : List (Visit L)) (v : Visit L) → AllByRecursion P vs → P v → AllByRecursion P (vs ++ v ∷ [])
+all_on P [] v all one = (one, tt)
+all_on P (w ∷ ws) v all one = (all.0, all_on P ws v all.1 one)
+
+length_on : {L : Type 0} (vs : List (Visit L)) (v : Visit L) → length (vs ++ v ∷ []) ≡ length vs + 1
+length_on [] v = refl
+length_on (w ∷ ws) v = let more = length_on ws v in omega (arith, more)
+
+came_on : {L : Type 0} (vs ws : List (Visit L)) → came_of (vs ++ ws) ≡ came_of vs ++ came_of ws
+came_on vs ws = map-append (λ v. v.came) vs ws
+
+back_on : {L : Type 0} (vs ws : List (Visit L)) → back_of (vs ++ ws) ≡ back_of vs ++ back_of ws
+back_on {L} vs ws = ap (map (λ (v : Visit L). v.went)) (filter-append (λ (v : Visit L). v.back) vs ws) ∙ map-append (λ (v : Visit L). v.went) (filter (λ (v : Visit L). v.back) vs) (filter (λ (v : Visit L). v.back) ws)
+
+pub taken_on : {L : Type 0} (old mid new : Option (Links L)) (vs ws : List (Visit L)) → AreTaken old mid vs → AreTaken mid new ws → AreTaken old new (vs ++ ws)
+taken_on None None None vs ws one two = tt
+taken_on {L} (Some old) (Some mid) (Some new) vs ws one two = record {
+  coming = one.coming ∙ ap (λ ls. came_of vs ++ ls) two.coming ∙ sym (append_assoc (came_of vs) (came_of ws) new.coming) ∙ ap (λ (ls : List L). ls ++ new.coming) (sym (came_on vs ws));
+  ended = two.ended ∙ ap (λ (ls : List L). ls ++ back_of ws) one.ended ∙ append_assoc old.ended (back_of vs) (back_of ws) ∙ ap (λ ls. old.ended ++ ls) (sym (back_on vs ws));
+}
+taken_on None None (Some new) vs ws one two = absurd two
+taken_on None (Some mid) new vs ws one two = absurd one
+taken_on (Some old) None new vs ws one two = absurd one
+taken_on (Some old) (Some mid) None vs ws one two = absurd two
+
+pub taken_none : {L : Type 0} (old new : Option (Links L)) → new ≡ old → AreTaken old new []
+taken_none {L} old new same = subst (λ (d : Option (Links L)). AreTaken old d []) (sym same) (still old)
+  where
+    still : (d : Option (Links L)) → AreTaken d d []
+    still None = tt
+    still (Some d) = record { coming = refl; ended = sym (append-nil d.ended) }
+
+-- ---- one link
+
+pub given_back : {L T : Type 0} (E F : Type 0) (old mid new : Option (Links L)) (came went : L) (how : Served) (x : T) → Accepts {E = E} old mid (Ok came) → TakesBack {E = F} mid new went (Ok x)
+    → AreTaken old new (record { came = came; went = went; served = how; back = true } ∷ [])
+given_back E F None None None came went how x one two = tt
+given_back E F (Some old) (Some mid) (Some new) came went how x one two = record {
+  coming = one.first ∙ ap (λ ls. came ∷ ls) (sym two.coming);
+  ended = two.last ∙ ap (λ ls. ls ++ went ∷ []) one.ended;
+}
+given_back E F None None (Some new) came went how x one two = absurd two
+given_back E F None (Some mid) new came went how x one two = absurd one
+given_back E F (Some old) None new came went how x one two = absurd one
+given_back E F (Some old) (Some mid) None came went how x one two = absurd two
+
+pub left_out : {L F : Type 0} (T E : Type 0) (old mid new : Option (Links L)) (came went : L) (how : Served) (e : F) → Accepts {E = E} old mid (Ok came) → TakesBack {T = T} mid new went (Err e)
+    → AreTaken old new (record { came = came; went = went; served = how; back = false } ∷ [])
+left_out T E None None None came went how e one two = tt
+left_out {L} T E (Some old) (Some mid) (Some new) came went how e one two = record {
+  coming = one.first ∙ ap (λ (d : Links L). came ∷ d.coming) (sym two);
+  ended = ap (λ (d : Links L). d.ended) two ∙ one.ended ∙ sym (append-nil old.ended);
+}
+left_out T E None None (Some new) came went how e one two = absurd two
+left_out T E None (Some mid) new came went how e one two = absurd one
+left_out T E (Some old) None new came went how e one two = absurd one
+left_out T E (Some old) (Some mid) None came went how e one two = absurd two
+
+-- a connection ends by a fault of the clock only where its count rose
+ends_clock : (lane : ℕ) (moments : Option (List ℕ)) (link clock : Type 0) (before after : ℕ) (s : State) (bytes : Option (List ℕ)) (how : Served) (t : State) (text : List ℕ) → how ≡ served.ClockFault
+    → IsConnection lane moments link clock before after s bytes how t text → clock
+ends_clock lane moments link clock before after s bytes how t text is one =
+    (subst (λ (h : Served). IsConnection lane moments link clock before after s bytes h t text) is one).ends.1
+
+pub visit_clock : {L : Type 0} (told : L → Option Line) (count : L → ℕ) (lane : ℕ) (moments : Option (List ℕ)) (clock : Type 0) (before after : ℕ) (s : State) (v : Visit L) (t : State)
+    → IsVisit told count lane moments clock before after s v t → v.served ≡ served.ClockFault → clock
+visit_clock told count lane moments clock before after s v t is how = ends_clock lane moments _ clock before after s (unread (told v.came)) v.served t is.0 how is.2
+
+-- ---- what connections have met
+
+-- so many connections were served, and this was met
+pub record HasServed {L : Type 0} (told : L → Option Line) (count : L → ℕ) (old new : Option (Links L)) (moments : Option (List ℕ)) (clock : Type 0) (done : ℕ) (met : Met) (before after : ℕ) (s t : State) : Type 0 where
+  pub vs : List (Visit L)
+  pub are : AreVisits told count 1 moments clock before after s vs t
+  pub taken : AreTaken old new vs
+  pub many : length vs ≡ done
+  pub had : met.memory ≡ false → AllByRecursion HadMemory vs
+  pub well : met.memory ≡ false → met.clock ≡ false → AllByRecursion IsWell vs
+  pub fault : met.clock ≡ true → clock
+
+pub served_none : {L : Type 0} (told : L → Option Line) (count : L → ℕ) (old new : Option (Links L)) (moments : Option (List ℕ)) (clock : Type 0) (faults : ℕ) (s : State) → new ≡ old
+    → HasServed told count old new moments clock 0 (record { memory = false; clock = false }) faults faults s s
+served_none told count old new moments clock faults s same =
+    record { vs = []; are = (omega arith, refl); taken = taken_none old new same; many = refl; had = λ none. tt; well = λ none fine. tt; fault = λ e. absurd (cc) }
+
+abbrev is_memory : Served → Bool
+is_memory served.OutOfMemory = true
+is_memory other = false
+
+abbrev is_clock : Served → Bool
+is_clock served.ClockFault = true
+is_clock other = false
+
+not_memory : (how : Served) → is_memory how ≡ false → how ≢ served.OutOfMemory
+not_memory how other = λ e. let both : true ≡ false = sym (ap is_memory e) ∙ other in absurd (cc)
+
+not_clock : (how : Served) → is_clock how ≡ false → how ≢ served.ClockFault
+not_clock how other = λ e. let both : true ≡ false = sym (ap is_clock e) ∙ other in absurd (cc)
+
+-- what one connection more adds to what was met
+record Adds {L : Type 0} (met : Met) (v : Visit L) (next : Met) : Type 0 where
+  had : next.memory ≡ false → (met.memory ≡ false) × HadMemory v
+  well : next.memory ≡ false → next.clock ≡ false → (met.memory ≡ false) × (met.clock ≡ false) × IsWell v
+  fault : next.clock ≡ true → (met.clock ≡ true) ⊎ (v.served ≡ served.ClockFault)
+
+adds_memory : {L : Type 0} (met : Met) (v : Visit L) → Adds met v (record met { memory = true })
+adds_memory met v = record { had = λ none. absurd (cc); well = λ none fine. absurd (cc); fault = λ late. inl late }
+
+adds_clock : {L : Type 0} (met : Met) (v : Visit L) → v.back ≡ true → v.served ≡ served.ClockFault → Adds met v (record met { clock = true })
+adds_clock met v back how = record {
+  had = λ none. (none, (back, subst (λ (h : Served). h ≢ served.OutOfMemory) (sym how) (not_memory served.ClockFault refl)));
+  well = λ none fine. absurd (cc);
+  fault = λ late. inr how;
+}
+
+adds_nothing : {L : Type 0} (met : Met) (v : Visit L) (how : Served) → v.back ≡ true → v.served ≡ how → is_memory how ≡ false → is_clock how ≡ false → Adds met v met
+adds_nothing met v how back is memory clock =
+    let had : HadMemory v = (back, subst (λ (h : Served). h ≢ served.OutOfMemory) (sym is) (not_memory how memory)) in
+    record {
+      had = λ none. (none, had);
+      well = λ none fine. (none, fine, (had, subst (λ (h : Served). h ≢ served.ClockFault) (sym is) (not_clock how clock)));
+      fault = λ late. inl late;
+    }
+
+adds_by : {L : Type 0} (met : Met) (v : Visit L) (back : Bool) (how : Served) → v.back ≡ back → v.served ≡ how → Adds met v (met_after met (if back then how else served.OutOfMemory))
+adds_by met v false how back is = adds_memory met v
+adds_by met v true served.OutOfMemory back is = adds_memory met v
+adds_by met v true served.ClockFault back is = adds_clock met v back is
+adds_by met v true served.Ended back is = adds_nothing met v served.Ended back is refl refl
+adds_by met v true served.Cut back is = adds_nothing met v served.Cut back is refl refl
+adds_by met v true served.BadHead back is = adds_nothing met v served.BadHead back is refl refl
+adds_by met v true served.TooLarge back is = adds_nothing met v served.TooLarge back is refl refl
+adds_by met v true served.NoLength back is = adds_nothing met v served.NoLength back is refl refl
+adds_by met v true served.WrongMethod back is = adds_nothing met v served.WrongMethod back is refl refl
+adds_by met v true served.ReadFault back is = adds_nothing met v served.ReadFault back is refl refl
+adds_by met v true served.WriteFault back is = adds_nothing met v served.WriteFault back is refl refl
+
+adds : {L : Type 0} (met : Met) (v : Visit L) (how : Served) → how ≡ counts_as v → Adds met v (met_after met how)
+adds met v how is = subst (λ (h : Served). Adds met v (met_after met h)) (sym is) (adds_by met v v.back v.served refl refl)
+
+-- one connection more
+pub served_next : {L : Type 0} (told : L → Option Line) (count : L → ℕ) (old mid new : Option (Links L)) (moments there : Option (List ℕ)) (rose failed clock : Type 0) (done : ℕ) (met next : Met) (how : Served)
+    (before middle after : ℕ) (s u t : State) (v : Visit L) → there ≡ moments → (rose → clock) → (failed → clock) → HasServed told count old mid moments rose done met before middle s u
+    → IsVisit told count (done + 1) there failed middle after u v t → AreTaken mid new (v ∷ []) → how ≡ counts_as v → next ≡ met_after met how → HasServed told count old new moments clock (done + 1) next before after s t
+served_next told count old mid new moments there rose failed clock done met next how before middle after s u t v same of_rose of_failed has is taken counts met_is =
+    let many = has.many in
+    let one : Adds met v next = subst (λ (m : Met). Adds met v m) (sym met_is) (adds met v how counts) in
+    let here : IsVisit told count (1 + length has.vs) moments failed middle after u v t =
+    subst (λ l. IsVisit told count l moments failed middle after u v t) (omega (arith, many)) (subst (λ ms. IsVisit told count (done + 1) ms failed middle after u v t) same is) in
+    record {
+      vs = has.vs ++ v ∷ [];
+      are = visits_on told count 1 moments clock before middle after s has.vs u v t (visits_from told count 1 moments rose clock before before middle s has.vs u (omega arith) of_rose has.are)
+          (visit_from told count (1 + length has.vs) moments failed clock middle middle after u v t (omega arith) of_failed here);
+      taken = taken_on old mid new has.vs (v ∷ []) has.taken taken;
+      many = length_on has.vs v ∙ ap (λ n. n + 1) many;
+      had = λ none. let more = one.had none in all_on HadMemory has.vs v (has.had more.0) more.1;
+      well = λ none fine. let more = one.well none fine in all_on IsWell has.vs v (has.well more.0 more.1) more.2;
+      fault = λ late. by (one.fault late);
+    }
+  where
+    by : (met.clock ≡ true) ⊎ (v.served ≡ served.ClockFault) → clock
+    by (inl before_it) = of_rose (has.fault before_it)
+    by (inr now) = of_failed (visit_clock told count (done + 1) there failed middle after u v t is now)
+
+-- ---- how serving ends
+
+door_ends : {L : Type 0} (door clock : Type 0) (most : ℕ) (vs : List (Visit L)) (memory : Bool) → door → (memory ≡ false → AllByRecursion HadMemory vs) → length vs ≤ most
+    → EndsServing door clock most vs (if memory then ends.OutOfMemory else ends.DoorFault)
+door_ends door clock most vs true rose had within = within
+door_ends door clock most vs false rose had within = (rose, within, had refl)
+
+pub served_to_fault : {L : Type 0} (told : L → Option Line) (count : L → ℕ) (old mid new : Option (Links L)) (moments : Option (List ℕ)) (door rose clock : Type 0) (done most : ℕ) (met : Met) (end : ServeEnd)
+    (before middle after : ℕ) (s u t : State) → end ≡ end_at_door met → done ≤ most → door → (rose → clock) → new ≡ mid → after ≡ middle → t ≡ u → HasServed told count old mid moments rose done met before middle s u
+    → IsServing told count old new moments door clock most end before after s t
+served_to_fault {L} told count old mid new moments door rose clock done most met end before middle after s u t how within fails of_rose same counts is has =
+    let many = has.many in
+    let are : AreVisits told count 1 moments clock before middle s has.vs u = visits_from told count 1 moments rose clock before before middle s has.vs u (omega arith) of_rose has.are in (
+      has.vs,
+      subst (λ n. AreVisits told count 1 moments clock before n s has.vs t) (sym counts) (subst (λ (x : State). AreVisits told count 1 moments clock before middle s has.vs x) (sym is) are),
+      subst (λ (d : Option (Links L)). AreTaken old d has.vs) (sym same) has.taken,
+      subst (EndsServing door clock most has.vs) (sym how) (door_ends door clock most has.vs met.memory fails has.had (omega (arith, many, within))),
+    )
+
+-- ---- the same, counted from before
+
+pub serving_from : {L : Type 0} (told : L → Option Line) (count : L → ℕ) (old new : Option (Links L)) (moments : Option (List ℕ)) (door clock : Type 0) (most : ℕ) (end : ServeEnd) (less before after : ℕ) (s t : State)
+    → less ≤ before → IsServing told count old new moments door clock most end before after s t → IsServing told count old new moments door clock most end less after s t
+serving_from told count old new moments door clock most end less before after s t under (vs, are, taken, ends) =
+    (vs, visits_from told count 1 moments clock clock less before after s vs t under (λ rose. rose) are, taken, ends)

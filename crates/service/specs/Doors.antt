@@ -1,0 +1,85 @@
+-- Connections of a door, one after another.
+use Rattle.std.specs.Prelude.{◌≡◌, ◌≢◌, ◌≤◌, ℕ, ◌+◌, Bool, true, List, [], ◌∷◌, ◌++◌, length, map, filter, Option, None, Some, if◌then◌else◌}
+use Rattle.std.specs.List.{AllByRecursion}
+use Rattle.desk_io.specs.Causes.{RoseOrFull}
+use Rattle.desk_net.specs.Doors.{Links}
+use Rattle.desk_net.specs.Wires.{Wire as Line, unread}
+use Rattle.machine.specs.State.{State}
+use Rattle.service.specs.Connections.{IsConnection}
+use Rattle.service.specs.Serving.{Wrote}
+use Rattle.service.specs.declared.doors.ServeEnd.{ServeEnd}
+use Rattle.service.specs.declared.doors.ServeEnd.TheVariants as ends
+use Rattle.service.specs.declared.doors.Met.{Met}
+use Rattle.service.specs.declared.serving.Served.{Served}
+use Rattle.service.specs.declared.serving.Served.TheVariants as served
+
+-- a link as it came and as it was when its connection ended, how it ended, and whether the link was given back
+pub record Visit (L : Type 0) : Type 0 where
+  pub came : L
+  pub went : L
+  pub served : Served
+  pub back : Bool
+
+-- What the link gained is what its connection is answered, from a state to another.
+abbrev pub IsVisit : {L : Type 0} → (L → Option Line) → (L → ℕ) → ℕ → Option (List ℕ) → Type 0 → ℕ → ℕ → State → Visit L → State → Type 0
+IsVisit told count lane moments clock before after s v t =
+    Wrote (told v.came) (told v.went) (IsConnection lane moments (RoseOrFull (count v.came) (count v.went)) clock before after s (unread (told v.came)) v.served t)
+
+-- Links that come one after another, each in the lane of its number.
+abbrev pub AreVisits : {L : Type 0} → (L → Option Line) → (L → ℕ) → ℕ → Option (List ℕ) → Type 0 → ℕ → ℕ → State → List (Visit L) → State → Type 0
+AreVisits told count lane moments clock before after s [] t = (before ≤ after) × (t ≡ s)
+AreVisits told count lane moments clock before after s (v ∷ vs) t =
+    (middle : ℕ) × (u : State) × IsVisit told count lane moments clock before middle s v u × AreVisits told count (lane + 1) moments clock middle after u vs t
+
+abbrev pub came_of : {L : Type 0} → List (Visit L) → List L
+came_of vs = map (λ v. v.came) vs
+
+abbrev pub back_of : {L : Type 0} → List (Visit L) → List L
+back_of vs = map (λ v. v.went) (filter (λ v. v.back) vs)
+
+-- They were the first of those to come, and those that were given back stand last of those that were, in their order.
+pub record TakesLinks {L : Type 0} (old new : Links L) (vs : List (Visit L)) : Type 0 where
+  pub coming : old.coming ≡ came_of vs ++ new.coming
+  pub ended : new.ended ≡ old.ended ++ back_of vs
+
+abbrev pub AreTaken : {L : Type 0} → Option (Links L) → Option (Links L) → List (Visit L) → Type 0
+AreTaken None None vs = Unit {0}
+AreTaken (Some old) (Some new) vs = TakesLinks old new vs
+AreTaken _ _ vs = ⊥
+
+-- memory didn't run out
+abbrev pub HadMemory : {L : Type 0} → Visit L → Type 0
+HadMemory v = (v.back ≡ true) × (v.served ≢ served.OutOfMemory)
+
+-- nor did the clock fail
+abbrev pub IsWell : {L : Type 0} → Visit L → Type 0
+IsWell v = HadMemory v × (v.served ≢ served.ClockFault)
+
+-- How serving so many connections ends. Want of memory is free.
+abbrev pub EndsServing : {L : Type 0} → Type 0 → Type 0 → ℕ → List (Visit L) → ServeEnd → Type 0
+EndsServing door clock most vs ends.Done = (length vs ≡ most) × AllByRecursion IsWell vs
+EndsServing door clock most vs ends.DoorFault = door × (length vs ≤ most) × AllByRecursion HadMemory vs
+EndsServing door clock most vs ends.ClockFault = clock × (length vs ≡ most) × AllByRecursion HadMemory vs
+EndsServing door clock most vs ends.OutOfMemory = length vs ≤ most
+
+-- Connections of a door were served from a state to another, one after another, and so it ended.
+abbrev pub IsServing : {L : Type 0} → (L → Option Line) → (L → ℕ) → Option (Links L) → Option (Links L) → Option (List ℕ) → Type 0 → Type 0 → ℕ → ServeEnd → ℕ → ℕ → State → State → Type 0
+IsServing {L} told count old new moments door clock most end before after s t =
+    (vs : List (Visit L)) × AreVisits told count 1 moments clock before after s vs t × AreTaken old new vs × EndsServing door clock most vs end
+
+-- ---- what connections have met so far
+
+-- a link that can't be given back counts as want of memory
+abbrev pub counts_as : {L : Type 0} → Visit L → Served
+counts_as v = if v.back then v.served else served.OutOfMemory
+
+abbrev pub met_after : Met → Served → Met
+met_after m served.OutOfMemory = record m { memory = true }
+met_after m served.ClockFault = record m { clock = true }
+met_after m other = m
+
+abbrev pub end_of : Met → ServeEnd
+end_of m = if m.memory then ends.OutOfMemory else (if m.clock then ends.ClockFault else ends.Done)
+
+abbrev pub end_at_door : Met → ServeEnd
+end_at_door m = if m.memory then ends.OutOfMemory else ends.DoorFault

@@ -1,0 +1,148 @@
+ghost use Rattle.std.specs.Prelude.{◌≡◌, ◌≤◌, ◌∷◌, [], IfOk, IfErr};
+ghost use Rattle.desk.specs.Keeping.{KeepsState};
+ghost use Rattle.desk_io.specs.Causes.{RoseOrFull};
+ghost use Rattle.kept_forms.specs.Formed.{AreFormed};
+ghost use Rattle.service.specs.Doors as spec;
+ghost use Rattle.service.specs.Doors.{AreTaken, IsServing, IsVisit, Visit};
+ghost use Rattle.service.specs.Steps.{ClockGoesOn};
+
+use crate::serving::{Served, serve_link};
+use desk::Desk;
+use desk_io::{Failed, OutOfMemory};
+use desk_net::{Clock, Door};
+use keeper::Keeper;
+use rules::Steps;
+use std::alloc::Global;
+use std::sync::Wait;
+use std::sync::ledger::Ledger;
+
+/// How serving connections ended.
+#[derive(Clone, Copy, Debug, PartialEq, Eq)]
+pub enum ServeEnd {
+    /// As many connections as stated were served.
+    Done,
+    /// The door failed, and counted it.
+    DoorFault,
+    /// The clock failed, and counted it.
+    ClockFault,
+    /// Memory ran out.
+    OutOfMemory,
+}
+
+// What connections have met so far: want of memory, and a clock that failed.
+#[derive(Clone, Copy, Debug)]
+struct Met {
+    memory: bool,
+    clock: bool,
+}
+
+impl Met {
+    fn after(self, served: Served) -> Met
+        ensures { result ≡ spec.met_after self served }
+    {
+        match served {
+            Served::OutOfMemory => Met {
+                memory: true,
+                clock: self.clock,
+            },
+            Served::ClockFault => Met {
+                memory: self.memory,
+                clock: true,
+            },
+            _ => self,
+        }
+    }
+}
+
+// Want of memory comes before a fault of the clock.
+fn end_of(met: Met) -> ServeEnd
+    ensures { result ≡ spec.end_of met }
+{
+    if met.memory {
+        ServeEnd::OutOfMemory
+    } else if met.clock {
+        ServeEnd::ClockFault
+    } else {
+        ServeEnd::Done
+    }
+}
+
+// Want of memory comes before a fault of the door.
+fn end_at_door(met: Met) -> ServeEnd
+    ensures { result ≡ spec.end_at_door met }
+{
+    if met.memory {
+        ServeEnd::OutOfMemory
+    } else {
+        ServeEnd::DoorFault
+    }
+}
+
+// Serves the next link of the door and gives it back. One that can't be given back counts as want of memory.
+fn serve_next_link<R: Wait, K: Keeper, C: Clock, D: Door, L: Ledger>(
+    rt: &R,
+    alloc: Global,
+    desk: &mut Desk<K>,
+    lane: u32,
+    door: &mut D,
+    clock: &mut C,
+    steps: &mut Steps<L>,
+) -> Result<Served, Failed>
+    ensures visit { IfOk result (λ served. (v : Visit D.Link) × IsVisit D.Link.told D.Link.fault_count lane (C.moments clock.old) (RoseOrFull (C.fault_count clock.old) (C.fault_count clock.new)) (K.fault_count desk.old.keeper) (K.fault_count desk.new.keeper) desk.old.board.state v desk.new.board.state
+        × AreTaken (D.told door.old) (D.told door.new) (v ∷ []) × (served ≡ spec.counts_as v)) }
+    ensures none { IfErr result (λ _. RoseOrFull (D.fault_count door.old) (D.fault_count door.new) × (D.told door.new ≡ D.told door.old) × (desk.new.board.state ≡ desk.old.board.state)
+        × (K.fault_count desk.new.keeper ≡ K.fault_count desk.old.keeper)) }
+    ensures opening { desk.new.board.opening ≡ desk.old.board.opening }
+    ensures rows { KeepsState (K.told desk.old.keeper) desk.old.board.state → KeepsState (K.told desk.new.keeper) desk.new.board.state }
+    ensures later { K.fault_count desk.old.keeper ≤ K.fault_count desk.new.keeper }
+    ensures sound { K.sound desk.old.keeper → K.sound desk.new.keeper × (K.fault_count desk.new.keeper ≡ K.fault_count desk.old.keeper) }
+    ensures formed { AreFormed desk.old.board.state → AreFormed desk.new.board.state }
+    ensures moments { C.moments clock.new ≡ C.moments clock.old }
+    ensures clock { ClockGoesOn (C.sound clock.old) (C.sound clock.new) (C.fault_count clock.old) (C.fault_count clock.new) }
+    ensures door { D.fault_count door.old ≤ D.fault_count door.new }
+{
+    let mut link = door.accept()?;
+    let served = serve_link(rt, alloc, desk, lane, &mut link, clock, steps);
+    match door.done(link) {
+        Ok(()) => Ok(served),
+        Err(OutOfMemory) => Ok(Served::OutOfMemory),
+    }
+}
+
+/// Serves so many connections at a port, one after another, each in the lane of its number from 1, and gives each link back.
+/// A link's own fault ends its connection alone; a fault of the door ends the serving.
+pub fn serve_door<R: Wait, K: Keeper, C: Clock, D: Door, L: Ledger>(
+    rt: &R,
+    alloc: Global,
+    desk: &mut Desk<K>,
+    door: &mut D,
+    clock: &mut C,
+    port: u16,
+    connections: u32,
+    steps: &mut Steps<L>,
+) -> ServeEnd
+    ensures serves { IsServing D.Link.told D.Link.fault_count (D.told door.old) (D.told door.new) (C.moments clock.old) (RoseOrFull (D.fault_count door.old) (D.fault_count door.new)) (RoseOrFull (C.fault_count clock.old) (C.fault_count clock.new)) connections result (K.fault_count desk.old.keeper) (K.fault_count desk.new.keeper) desk.old.board.state desk.new.board.state }
+    ensures opening { desk.new.board.opening ≡ desk.old.board.opening }
+    ensures rows { KeepsState (K.told desk.old.keeper) desk.old.board.state → KeepsState (K.told desk.new.keeper) desk.new.board.state }
+    ensures later { K.fault_count desk.old.keeper ≤ K.fault_count desk.new.keeper }
+    ensures sound { K.sound desk.old.keeper → K.sound desk.new.keeper × (K.fault_count desk.new.keeper ≡ K.fault_count desk.old.keeper) }
+    ensures formed { AreFormed desk.old.board.state → AreFormed desk.new.board.state }
+    ensures moments { C.moments clock.new ≡ C.moments clock.old }
+    ensures clock { ClockGoesOn (C.sound clock.old) (C.sound clock.new) (C.fault_count clock.old) (C.fault_count clock.new) }
+    ensures door { D.fault_count door.old ≤ D.fault_count door.new }
+{
+    let mut met = Met {
+        memory: false,
+        clock: false,
+    };
+    if door.bind(port).is_err() {
+        return ServeEnd::DoorFault;
+    }
+    for before in 0..connections {
+        match serve_next_link(rt, alloc, desk, before + 1, door, clock, steps) {
+            Ok(served) => met = met.after(served),
+            Err(Failed) => return end_at_door(met),
+        }
+    }
+    end_of(met)
+}
