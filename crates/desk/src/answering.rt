@@ -305,7 +305,7 @@ pub fn answer<K: Keeper, L: Ledger>(
     // So is one that comes with a later moment, once the tick to it is put in place.
     ensures late { (k : AKept) → desk.old.board.state.moment < moment → desk.new.board.state.moment ≡ moment → MayAsk desk.old.board.state call.now → IsKeptFor desk.old.board.state call.now k
         → IfOk result (λ a. (a.outcome ≡ (lanes.said_at (tick_to desk.old.board.state lane moment).state (ASaid.Reply (Reply.Done k.done)) (tick_to desk.old.board.state lane moment).state).outcome)
-            × (desk.new.board.state ≡ (tick_to desk.old.board.state lane moment).state)) }
+        × (desk.new.board.state ≡ (tick_to desk.old.board.state lane moment).state)) }
     ensures shown { IfOk result (λ a. IsShown a.outcome) }
     ensures err { OnErr result (MayHaveTicked lane moment desk.old.board.state desk.new.board.state) }
     ensures opening { desk.new.board.opening ≡ desk.old.board.opening }

@@ -4,4 +4,4 @@ use Rattle.desk.proofs.run.answer_item.Goals as goal
 pub returns-in-Bad-clause-given : goal.returns-in-Bad-clause-given
 returns-in-Bad-clause-given g c =
     bad_answered _ (g.K.Keeper.fault_count c.args.desk.now.keeper) 1 (g.K.Keeper.commits c.args.desk.now.keeper) c.args.desk.now.board.state c.args.item.now _ c.in-Bad.is c.bad_line.ensures.outcome
-        c.bad_line.ensures.ticked c.bad_line.ensures.called
+    c.bad_line.ensures.ticked c.bad_line.ensures.called
