@@ -1,4 +1,4 @@
-ghost use Rattle.std.specs.Prelude.{◌≡◌, ◌<◌, ◌≤◌};
+ghost use Rattle.std.specs.Prelude.{◌≡◌, ◌<◌, ◌≤◌, IfOk, IfSome};
 ghost use Rattle.asks.specs.Forms.{IsCall};
 
 use crate::flown::{SIGNED, STOPPED, WATCHED};
@@ -62,6 +62,18 @@ fn make<L: Ledger>(
     Ok(())
 }
 
+// The moment and the call of a line, if it is one.
+fn call_in(alloc: Global, line: &[u8]) -> Result<Option<(Minute, Call)>, OutOfMemory>
+    ensures within { IfOk result (λ o. IfSome o (λ p. p.0 ≤ LAST)) }
+    ensures form { IfOk result (λ o. IfSome o (λ p. IsCall p.1.ask)) }
+{
+    match read_line(alloc, line) {
+        Ok((at, call)) => Ok(Some((at, call))),
+        Err(CallFault::Bad(_)) => Ok(None),
+        Err(CallFault::OutOfMemory) => Err(OutOfMemory),
+    }
+}
+
 // Makes the call of each line of a script.
 fn make_all<L: Ledger>(
     alloc: Global,
@@ -71,10 +83,8 @@ fn make_all<L: Ledger>(
     told: &mut Vec<u8>,
 ) -> Result<(), OutOfMemory> {
     for line in &runs_between::<LineFeeds>(alloc, script)? {
-        match read_line(alloc, line.bytes()) {
-            Ok((at, call)) => make(alloc, board, at, &call, steps, told)?,
-            Err(CallFault::Bad(_)) => {}
-            Err(CallFault::OutOfMemory) => return Err(OutOfMemory),
+        if let Some((at, call)) = call_in(alloc, line.bytes())? {
+            make(alloc, board, at, &call, steps, told)?;
         }
     }
     Ok(())
@@ -330,10 +340,8 @@ fn all_are_prepared<L: Ledger>(
     let replies = [(b'D', true), (b'D', false), (b'S', false), (b'R', false)];
     let lines = runs_between::<LineFeeds>(alloc, PREPARED)?;
     for (line, (reply, changes)) in lines.iter().zip(replies) {
-        match read_line(alloc, line.bytes()) {
-            Ok((_, call)) => are = is_prepared(alloc, board, &call, steps, reply, changes)? && are,
-            Err(CallFault::Bad(_)) => are = false,
-            Err(CallFault::OutOfMemory) => return Err(OutOfMemory),
+        if let Some((_, call)) = call_in(alloc, line.bytes())? {
+            are = is_prepared(alloc, board, &call, steps, reply, changes)? && are;
         }
     }
     Ok(are && board.entries() == 2)

@@ -65,7 +65,7 @@ fn came_of<R: Wait>(
 }
 
 // What a command comes to where calls of the door and of the clock of some numbers fail.
-fn came<R: Wait>(
+fn comes_to<R: Wait>(
     rt: &R,
     alloc: Global,
     command: &str,
@@ -99,7 +99,7 @@ fn is_seen(came: &Option<Came>) -> bool {
 // Each of two connections sees the board, each link is given back, and then the board is written.
 #[test]
 fn two_connections_are_served(rt: HostRuntime) -> Result<(), Fail> {
-    let came = came(&rt, rt.alloc(), "serve 8080 2", &[], &[])?;
+    let came = comes_to(&rt, rt.alloc(), "serve 8080 2", &[], &[])?;
     assert!(rt; is_so(&came, 0, b"BOARD 2025-03-12T17:00Z\nEND\n", 2));
     assert!(rt; is_seen(&came));
     Ok(())
@@ -108,13 +108,13 @@ fn two_connections_are_served(rt: HostRuntime) -> Result<(), Fail> {
 // The calls of the door are bind, the first accept, and the second.
 #[test]
 fn a_door_that_fails_ends_the_serving(rt: HostRuntime) -> Result<(), Fail> {
-    let second = came(&rt, rt.alloc(), "serve 8080 2", &[2], &[])?;
+    let second = comes_to(&rt, rt.alloc(), "serve 8080 2", &[2], &[])?;
     assert!(rt; is_so(&second, 9, b"error 9 DoorFault\n", 1));
     assert!(rt; is_seen(&second));
-    let shut = came(&rt, rt.alloc(), "serve 8080 2", &[0], &[])?;
+    let shut = comes_to(&rt, rt.alloc(), "serve 8080 2", &[0], &[])?;
     assert!(rt; is_so(&shut, 9, b"error 9 DoorFault\n", 0));
     // a third link doesn't come
-    let none = came(&rt, rt.alloc(), "serve 8080 3", &[], &[])?;
+    let none = comes_to(&rt, rt.alloc(), "serve 8080 3", &[], &[])?;
     assert!(rt; is_so(&none, 9, b"error 9 DoorFault\n", 2));
     Ok(())
 }
@@ -122,10 +122,10 @@ fn a_door_that_fails_ends_the_serving(rt: HostRuntime) -> Result<(), Fail> {
 // A fault of the clock ends its connection, and is told once all were served.
 #[test]
 fn a_clock_that_fails_is_told_at_the_end(rt: HostRuntime) -> Result<(), Fail> {
-    let first = came(&rt, rt.alloc(), "serve 8080 2", &[], &[0])?;
+    let first = comes_to(&rt, rt.alloc(), "serve 8080 2", &[], &[0])?;
     assert!(rt; is_so(&first, 11, b"error 11 ClockFault\n", 2));
     assert!(rt; !is_seen(&first));
-    let last = came(&rt, rt.alloc(), "serve 65535 2", &[], &[1])?;
+    let last = comes_to(&rt, rt.alloc(), "serve 65535 2", &[], &[1])?;
     assert!(rt; is_so(&last, 11, b"error 11 ClockFault\n", 2));
     Ok(())
 }
@@ -143,7 +143,7 @@ fn other_words_are_no_command(rt: HostRuntime) -> Result<(), Fail> {
         "serve 8080 1 1",
         "serve 8080 +1",
     ] {
-        let came = came(&rt, rt.alloc(), command, &[], &[])?;
+        let came = comes_to(&rt, rt.alloc(), command, &[], &[])?;
         assert!(rt; is_so(&came, 2, b"error 2 Usage\n", 0), "{command}");
     }
     Ok(())
