@@ -17,7 +17,7 @@ use Rattle.desk.specs.Run.{IsRun}
 use Rattle.desk.specs.declared.opening.OpenWhy.{OpenWhy}
 use Rattle.desk.specs.declared.opening.OpenWhy.TheVariants.{KeeperFault, BadRow, BadPair, OutOfMemory}
 use Rattle.desk_net.specs.Doors.{Links}
-use Rattle.desk_net.specs.Wires.{Wire as Line}
+use Rattle.desk_net.specs.Streams.{Stream as Line}
 use Rattle.service.specs.Doors.{IsServing}
 use Rattle.service.specs.declared.doors.ServeEnd.{ServeEnd}
 use Rattle.service.proofs.Visits.{serving_from}

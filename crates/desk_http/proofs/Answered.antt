@@ -9,7 +9,7 @@ use Rattle.std.specs.Str.{IsAscii}
 use Rattle.httparse.specs.Grammar.{RequestHead, IsRequestHead, lf, print_request, HasNoRequest, NeverHasRequest, is_token_byte, is_uri_byte}
 use Rattle.httparse.proofs.GrammarLemmas.{request_unique, ReadsRequest-append}
 use Rattle.httparse.proofs.OnLiterals.{httparse_on_literals}
-use Rattle.desk_net.specs.Wires.{Wire as LinkWire, unread, OnlyRead}
+use Rattle.desk_net.specs.Streams.{Stream, unread, OnlyRead}
 use Rattle.desk_http.specs.Heads.{head_limit, asks}
 use Rattle.desk_http.specs.Requests.{HasHead, wire_of, Begins, BeginsWithRequest, IsRefused, IsPart, IsPartOfHead, IsPartOfBody, IsTooLong, HasRead, NextRequest, IsOutside, unused, Gives, IsOneOf, Answers, AnswersUnused}
 use Rattle.desk_http.specs.declared.wire.Asked.{Asked}
@@ -299,7 +299,7 @@ gives_all u v kept left (Err ReadFault) next = tt
 gives_all u v kept left (Err OutOfMemory) next = tt
 
 -- so the answer depends on the unused bytes alone
-pub answers : (before now : Option LinkWire) (kept left : List ℕ) (result : Result Wire WireFault) → OnlyRead before now → NextRequest (unread before) (unread now) kept left result
+pub answers : (before now : Option Stream) (kept left : List ℕ) (result : Result Wire WireFault) → OnlyRead before now → NextRequest (unread before) (unread now) kept left result
     → AnswersUnused (unused kept (unread before)) (unused left (unread now)) result
 answers None None kept left result same next = tt
 answers (Some before) (Some now) kept left result same next = answer _ _ result (gives_all (drop before.taken before.input) (drop now.taken now.input) kept left result next)

@@ -1,7 +1,7 @@
 ghost use Rattle.std.specs.Prelude.{◌≡◌, ◌<◌, ◌≤◌, ◌+◌, ℕ, List, Option, length, take, IfOk, IfErr, MatchResult};
 ghost use Rattle.httparse.specs.Spans.{IsRequestOf};
 ghost use Rattle.desk_io.specs.Causes.{HasCause};
-ghost use Rattle.desk_net.specs.Wires.{unread, OnlyRead};
+ghost use Rattle.desk_net.specs.Streams.{unread, OnlyRead};
 ghost use Rattle.desk_http.specs.Heads.{head_limit};
 ghost use Rattle.desk_http.specs.Requests as spec;
 ghost use Rattle.desk_http.specs.Requests.{Splits, HasRead, AtEnd, StaysSound};

@@ -1,6 +1,6 @@
 ghost use Rattle.std.specs.Prelude.{◌≡◌, ◌<◌, ◌≤◌, ◌+◌, ◌-◌, ℕ, List, Option, length, take, drop, slice_range, IfOk, OnOk, MatchResult};
 ghost use Rattle.desk_io.specs.Causes.{HasCause};
-ghost use Rattle.desk_net.specs.Wires.{unread, OnlyRead};
+ghost use Rattle.desk_net.specs.Streams.{unread, OnlyRead};
 ghost use Rattle.desk_http.specs.Requests as spec;
 ghost use Rattle.desk_http.specs.Requests.{NextRequest, StaysSound, unused, AnswersUnused};
 

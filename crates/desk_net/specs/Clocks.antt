@@ -8,9 +8,9 @@ abbrev pub IsMoment : ℕ → Type 0
 IsMoment m = (first_moment ≤ m) × (m ≤ last_moment)
 
 -- it is one of the moments, where the clock tells them
-abbrev pub IsOneOf : Option (List ℕ) → ℕ → Type 0
-IsOneOf None m = Unit {0}
-IsOneOf (Some moments) m = Contains moments m
+abbrev pub IsAmong : Option (List ℕ) → ℕ → Type 0
+IsAmong None m = Unit {0}
+IsAmong (Some moments) m = Contains moments m
 
 abbrev pub in_reach : ℕ → Option ℕ
 in_reach minute = if nat_le first_moment minute && nat_le minute last_moment then Some minute else None

@@ -1,4 +1,4 @@
 pub mod Clocks
-pub mod Wires
+pub mod Streams
 pub mod Doors
 pub mod Calls

@@ -2,7 +2,7 @@ ghost use Rattle.std.specs.Prelude.{◌≡◌, ◌+◌, ◌-◌, ◌<◌, min, n
 ghost use Rattle.std.specs.List.{All};
 ghost use Rattle.desk_io.specs.Causes.{HasCause};
 ghost use Rattle.desk_io.specs.Planned.{is_planned, after};
-ghost use Rattle.desk_net.specs.Clocks.{IsMoment, IsOneOf};
+ghost use Rattle.desk_net.specs.Clocks.{IsMoment, IsAmong};
 
 use crate::Clock;
 use crate::planned::Calls;
@@ -48,7 +48,7 @@ impl Clock for MemoryClock {
 
     fn now(&mut self) -> Result<Minute, Failed>
         ensures range { IfOk result IsMoment }
-        ensures told { IfOk result (IsOneOf (Some self.old.moments.items)) }
+        ensures told { IfOk result (IsAmong (Some self.old.moments.items)) }
         ensures same { Some self.new.moments.items ≡ Some self.old.moments.items }
         ensures cause { HasCause (record {}) self.old.calls.faults self.new.calls.faults result }
         ensures sound { self.old.calls.fail.items ≡ [] → (self.new.calls.fail.items ≡ []) × IsOk result × (self.new.calls.faults ≡ self.old.calls.faults) }

@@ -2,7 +2,7 @@ ghost use Rattle.std.specs.Prelude.{◌≡◌, ◌-◌, ◌<◌, ◌≤◌, min,
 ghost use Rattle.desk_io.specs.Causes.{HasCause};
 ghost use Rattle.desk_io.specs.Planned.{is_planned, after, Fails};
 ghost use Rattle.desk_io.specs.declared.faults.PutFault.TheVariants.{Failed as PutFailed};
-ghost use Rattle.desk_net.specs.Wires.{wire, Reads, Writes};
+ghost use Rattle.desk_net.specs.Streams.{stream, Reads, Writes};
 
 use crate::Link;
 use crate::planned::Calls;
@@ -53,7 +53,7 @@ impl MemoryLink {
 }
 
 impl Link for MemoryLink {
-    ghost told = { λ l. Some (wire l.input.items l.taken l.written.items) };
+    ghost told = { λ l. Some (stream l.input.items l.taken l.written.items) };
 
     ghost fault_count = { λ l. l.calls.faults };
 
@@ -62,8 +62,8 @@ impl Link for MemoryLink {
     fn read(&mut self, into: &mut [u8]) -> Result<usize, Failed>
         requires { 0 < length into.old }
         ensures bound { IfOk result (λ n. n ≤ length into.old) }
-        ensures told { Reads (Some (wire self.old.input.items self.old.taken self.old.written.items))
-            (Some (wire self.new.input.items self.new.taken self.new.written.items)) into.new result }
+        ensures told { Reads (Some (stream self.old.input.items self.old.taken self.old.written.items))
+            (Some (stream self.new.input.items self.new.taken self.new.written.items)) into.new result }
         ensures cause { HasCause (record {}) self.old.calls.faults self.new.calls.faults result }
         ensures sound { self.old.calls.fail.items ≡ [] → (self.new.calls.fail.items ≡ []) × IsOk result × (self.new.calls.faults ≡ self.old.calls.faults) }
         // It fails exactly where its number is planned, and gives as many bytes as it may.
@@ -84,8 +84,8 @@ impl Link for MemoryLink {
     }
 
     fn write(&mut self, bytes: &[u8]) -> Result<(), PutFault>
-        ensures told { Writes (Some (wire self.old.input.items self.old.taken self.old.written.items))
-            (Some (wire self.new.input.items self.new.taken self.new.written.items)) bytes.now result }
+        ensures told { Writes (Some (stream self.old.input.items self.old.taken self.old.written.items))
+            (Some (stream self.new.input.items self.new.taken self.new.written.items)) bytes.now result }
         ensures cause { HasCause PutFailed self.old.calls.faults self.new.calls.faults result }
         ensures sound { self.old.calls.fail.items ≡ [] → (self.new.calls.fail.items ≡ []) × (IsErrOf result PutFailed → ⊥) × (self.new.calls.faults ≡ self.old.calls.faults) }
         // It fails exactly where its number is planned, with nothing appended.

@@ -1,8 +1,8 @@
 ghost use Rattle.std.specs.Prelude.{◌≡◌, ◌<◌, ◌≤◌, List, ℕ, Option, length, IfOk, IsOk, IsErrOf};
 ghost use Rattle.desk_io.specs.Causes.{HasCause};
 ghost use Rattle.desk_io.specs.declared.faults.PutFault.TheVariants.{Failed as PutFailed};
-ghost use Rattle.desk_net.specs.Clocks.{IsMoment, IsOneOf};
-ghost use Rattle.desk_net.specs.Wires.{Wire, Reads, Writes};
+ghost use Rattle.desk_net.specs.Clocks.{IsMoment, IsAmong};
+ghost use Rattle.desk_net.specs.Streams.{Stream, Reads, Writes};
 ghost use Rattle.desk_net.specs.Doors.{Links, Accepts, TakesBack, HasNext};
 
 use desk_io::{Failed, OutOfMemory, PutFault};
@@ -23,7 +23,7 @@ pub trait Clock {
     /// may answer an earlier moment.
     fn now(&mut self) -> Result<Minute, Failed>
         ensures range { IfOk result IsMoment }
-        ensures told { IfOk result (IsOneOf (moments self.old)) }
+        ensures told { IfOk result (IsAmong (moments self.old)) }
         ensures same { moments self.new ≡ moments self.old }
         ensures cause { HasCause (record {}) (fault_count self.old) (fault_count self.new) result }
         ensures sound { sound self.old → sound self.new × IsOk result × (fault_count self.new ≡ fault_count self.old) };
@@ -37,7 +37,7 @@ pub trait Clock {
 pub trait Link {
     /// Its whole input, how much of it was read, and what was appended, where the link tells them. No call
     /// changes whether it tells, nor its input.
-    ghost told: { Self → Option Wire };
+    ghost told: { Self → Option Stream };
 
     /// How often it has failed. The count stands still at its type's end.
     ghost fault_count: { Self → ℕ };

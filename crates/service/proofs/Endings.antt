@@ -8,7 +8,7 @@ use Rattle.desk_http.specs.declared.wire.WireFault.{WireFault}
 use Rattle.desk_http.specs.declared.wire.WireFault.TheVariants as fault
 use Rattle.desk_io.specs.declared.faults.PutFault.{PutFault}
 use Rattle.desk_io.specs.declared.faults.PutFault.TheVariants.{Failed, OutOfMemory}
-use Rattle.desk_net.specs.Wires.{Wire as Line, Writes, OnlyRead, unread}
+use Rattle.desk_net.specs.Streams.{Stream, Writes, OnlyRead, unread}
 use Rattle.machine.specs.State.{State}
 use Rattle.service.specs.Connections.{Exchange, responses, AreRequests, IsFrontOf, IsWritten, OnTold, AsksCall, Ends, OnBoth, IsConnection, IsStep, out_of_memory, clock_fault}
 use Rattle.service.specs.Exchanges.{bytes_of, exchanged}
@@ -24,31 +24,31 @@ use Rattle.service.proofs.Lines.{gains_all, gains_none, wrote_front, wrote_after
 
 -- ---- the answer that ends a connection
 
-pub ends_whole : {T : Type 0} (old new : Option Line) (text : List ℕ) (x : T) (rose : Type 0) (how : Served) (r : Response) → Writes old new text (Ok x) → text ≡ bytes_of r
+pub ends_whole : {T : Type 0} (old new : Option Stream) (text : List ℕ) (x : T) (rose : Type 0) (how : Served) (r : Response) → Writes old new text (Ok x) → text ≡ bytes_of r
     → Wrote old new (EndsAs rose how r how)
 ends_whole old new text x rose how r is same = (text, gains_all old new text x is, inl (refl, inl same))
 
-pub ends_front : (T : Type 0) (old new : Option Line) (text : List ℕ) (f : PutFault) (rose : Type 0) (how : Served) (r : Response) → f ≡ Failed → Writes {T = T} old new text (Err f) → rose → text ≡ bytes_of r
+pub ends_front : (T : Type 0) (old new : Option Stream) (text : List ℕ) (f : PutFault) (rose : Type 0) (how : Served) (r : Response) → f ≡ Failed → Writes {T = T} old new text (Err f) → rose → text ≡ bytes_of r
     → Wrote old new (EndsAs rose how r how)
 ends_front T old new text f rose how r failed is risen same =
     wrote_as old new (IsFrontOf text) (EndsAs rose how r how) (λ piece front. inl (refl, inr (risen, subst (λ t. IsFrontOf t piece) same front)))
     (wrote_front T old new text (subst (λ e. Writes {T = T} old new text (Err e)) failed is))
 
 -- a response whose writing failed
-pub fails_front : (T : Type 0) (old new : Option Line) (text : List ℕ) (f : PutFault) (rose : Type 0) → f ≡ Failed → Writes {T = T} old new text (Err f) → rose
+pub fails_front : (T : Type 0) (old new : Option Stream) (text : List ℕ) (f : PutFault) (rose : Type 0) → f ≡ Failed → Writes {T = T} old new text (Err f) → rose
     → Wrote old new (λ piece. rose × IsFrontOf text piece)
 fails_front T old new text f rose failed is risen =
     wrote_as old new (IsFrontOf text) (λ piece. rose × IsFrontOf text piece) (λ piece front. (risen, front)) (wrote_front T old new text (subst (λ e. Writes {T = T} old new text (Err e)) failed is))
 
 -- the answer to a fault of the clock was written, or as much as there was
-pub ends_clock : {T : Type 0} (old new : Option Line) (text : List ℕ) (result : Result T PutFault) (rose : Type 0) → Writes old new text result → (IsErrOf result Failed → rose) → text ≡ bytes_of clock_fault
+pub ends_clock : {T : Type 0} (old new : Option Stream) (text : List ℕ) (result : Result T PutFault) (rose : Type 0) → Writes old new text result → (IsErrOf result Failed → rose) → text ≡ bytes_of clock_fault
     → Wrote old new (λ piece. IsWritten rose clock_fault piece ⊎ (piece ≡ []))
 ends_clock old new text (Ok x) rose is risen same = (text, gains_all old new text x is, inl (inl same))
 ends_clock {T} old new text (Err Failed) rose is risen same =
     wrote_as old new (IsFrontOf text) (λ piece. IsWritten rose clock_fault piece ⊎ (piece ≡ [])) (λ piece front. inl (inr (risen refl, subst (λ t. IsFrontOf t piece) same front))) (wrote_front T old new text is)
 ends_clock {T} old new text (Err OutOfMemory) rose is risen same = ([], gains_none T old new text is, inr refl)
 
-pub without_as : (old new : Option Line) (rose : Type 0) (f wanted : WireFault) (how : Served) → f ≡ wanted → Wrote old new (EndsWithout rose wanted how) → Wrote old new (EndsWithout rose f how)
+pub without_as : (old new : Option Stream) (rose : Type 0) (f wanted : WireFault) (how : Served) → f ≡ wanted → Wrote old new (EndsWithout rose wanted how) → Wrote old new (EndsWithout rose f how)
 without_as old new rose f wanted how is wrote = subst (λ (e : WireFault). Wrote old new (EndsWithout rose e how)) (sym is) wrote
 
 -- ---- a connection that ends with nothing more that was answered whole
@@ -143,7 +143,7 @@ ends_without lane moments link clock rose count s fault.OutOfMemory bytes others
     bare_last lane moments link clock count s bytes how piece (last_is rose how piece ends) (written_or rose link out_of_memory piece more (written_last rose how piece ends))
 
 -- the same of what was written
-pub served_without : (old mid new : Option Line) (lane : ℕ) (moments : Option (List ℕ)) (link clock rose : Type 0) (count : ℕ) (s : State) (f : WireFault) (bytes others : Option (List ℕ)) (how : Served)
+pub served_without : (old mid new : Option Stream) (lane : ℕ) (moments : Option (List ℕ)) (link clock rose : Type 0) (count : ℕ) (s : State) (f : WireFault) (bytes others : Option (List ℕ)) (how : Served)
     → OnlyRead old mid → (rose → link) → (f ≡ fault.ReadFault → link) → AnswersUnused bytes others (Err f) → Wrote mid new (EndsWithout rose f how)
     → Wrote old new (IsConnection lane moments link clock count count s bytes how s)
 served_without old mid new lane moments link clock rose count s f bytes others how only more read answers wrote =
@@ -271,7 +271,7 @@ requests_more lane moments rose link clock before after s t wire result piece mo
 requests_more lane moments rose link clock before after s t wire result piece more (inr (inr (is, stepped, inr none))) = inr (inr (is, stepped, inr none))
 
 -- a request was read, and served
-pub served_step : (old mid new : Option Line) (lane : ℕ) (moments : Option (List ℕ)) (rose link clock : Type 0) (before after : ℕ) (s t : State) (wire : Wire) (bytes : Option (List ℕ)) (kept : List ℕ) (result : Option Served)
+pub served_step : (old mid new : Option Stream) (lane : ℕ) (moments : Option (List ℕ)) (rose link clock : Type 0) (before after : ℕ) (s t : State) (wire : Wire) (bytes : Option (List ℕ)) (kept : List ℕ) (result : Option Served)
     → OnlyRead old mid → (rose → link) → before ≤ after → unread new ≡ unread mid → AnswersUnused bytes (unused kept (unread mid)) (Ok wire)
     → Wrote mid new (ServesRequest lane moments rose clock before after s wire t result)
     → Wrote old new (λ piece. IsStep lane moments link clock before after s bytes (unused kept (unread new)) t piece result)
@@ -282,7 +282,7 @@ served_step old mid new lane moments rose link clock before after s t wire bytes
     (requests_more lane moments rose link clock before after s t wire result piece more serves)) wrote
 
 -- memory ran out, and the answer for that was written
-pub served_last : (old new : Option Line) (lane : ℕ) (moments : Option (List ℕ)) (link clock : Type 0) (before after : ℕ) (s t : State) (wire : Wire) (why : NoAnswer) (how : Served) → why ≡ NoMemory
+pub served_last : (old new : Option Stream) (lane : ℕ) (moments : Option (List ℕ)) (link clock : Type 0) (before after : ℕ) (s t : State) (wire : Wire) (why : NoAnswer) (how : Served) → why ≡ NoMemory
     → IsUnanswered lane moments clock before after s (requested_by wire) t why → Wrote old new (EndsAs link served.OutOfMemory out_of_memory how) → Wrote old new (ServesRequest lane moments link clock before after s wire t (Some how))
 served_last old new lane moments link clock before after s t wire why how is none wrote =
     let stepped : MayHaveStepped lane moments before after s (requested_by wire) t = subst (IsUnanswered lane moments clock before after s (requested_by wire) t) is none in

@@ -4,7 +4,7 @@ use Rattle.std.specs.List.{AllByRecursion}
 use Rattle.desk.specs.Keeping.{Counted}
 use Rattle.desk.proofs.Choices.{counted_on}
 use Rattle.desk_http.specs.Requests.{unused}
-use Rattle.desk_net.specs.Wires.{Wire as Line}
+use Rattle.desk_net.specs.Streams.{Stream}
 use Rattle.machine.specs.State.{State}
 use Rattle.service.specs.Connections.{Exchange, exchange, responses, state_after, AreRequests, IsTimed, IsOpen, Ends, OnBoth, IsConnection, GoesOn}
 use Rattle.service.specs.Exchanges.{bytes_of}
@@ -127,7 +127,7 @@ gone_on lane moments before middle after s u t bytes mid left one two first then
     (subst (λ (v : State). GoesOn lane moments middle after v mid left t two) first.state then)
 
 -- the same of what was written
-pub written_end : (old mid new : Option Line) (lane : ℕ) (moments told : Option (List ℕ)) (rose failed link clock : Type 0) (before middle after : ℕ) (s u t : State) (bytes rest : Option (List ℕ)) (how : Served)
+pub written_end : (old mid new : Option Stream) (lane : ℕ) (moments told : Option (List ℕ)) (rose failed link clock : Type 0) (before middle after : ℕ) (s u t : State) (bytes rest : Option (List ℕ)) (how : Served)
     → told ≡ moments → (rose → link) → (failed → clock) → Wrote old mid (GoesOn lane moments before middle s bytes rest u) → Wrote mid new (IsConnection lane told rose failed middle after u rest how t)
     → Wrote old new (IsConnection lane moments link clock before after s bytes how t)
 written_end old mid new lane moments told rose failed link clock before middle after s u t bytes rest how same of_link of_clock first then =
@@ -135,7 +135,7 @@ written_end old mid new lane moments told rose failed link clock before middle a
     (λ p q one two. joined lane moments rose failed link clock before middle after s u t bytes rest how p q of_link of_clock one
     (subst (λ ms. IsConnection lane ms rose failed middle after u rest how t q) same two)) first then
 
-pub written_more : (old mid new : Option Line) (lane : ℕ) (moments told : Option (List ℕ)) (before middle after : ℕ) (s u t : State) (bytes rest left : Option (List ℕ)) → told ≡ moments
+pub written_more : (old mid new : Option Stream) (lane : ℕ) (moments told : Option (List ℕ)) (before middle after : ℕ) (s u t : State) (bytes rest left : Option (List ℕ)) → told ≡ moments
     → Wrote old mid (GoesOn lane moments before middle s bytes rest u) → Wrote mid new (GoesOn lane told middle after u rest left t) → Wrote old new (GoesOn lane moments before after s bytes left t)
 written_more old mid new lane moments told before middle after s u t bytes rest left same first then =
     wrote_on old mid new (GoesOn lane moments before middle s bytes rest u) (GoesOn lane told middle after u rest left t) (GoesOn lane moments before after s bytes left t)

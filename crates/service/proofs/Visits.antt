@@ -5,7 +5,7 @@ use Rattle.std.specs.List.{AllByRecursion}
 use Rattle.std.proofs.lemmas.List.{map-append}
 use Rattle.std.proofs.lemmas.List.Elements.{filter-append}
 use Rattle.desk_net.specs.Doors.{Links, Accepts, TakesBack}
-use Rattle.desk_net.specs.Wires.{Wire as Line, unread}
+use Rattle.desk_net.specs.Streams.{Stream, unread}
 use Rattle.machine.specs.State.{State}
 use Rattle.service.specs.Connections.{AreRequests, GoesOn, IsConnection, OnBoth}
 use Rattle.service.specs.Doors.{Visit, IsVisit, AreVisits, AreTaken, came_of, back_of, HadMemory, IsWell, EndsServing, IsServing, counts_as, met_after, end_of, end_at_door}
@@ -29,14 +29,14 @@ nothing_yet lane moments less before s bytes under =
     record { xs = []; requests = same_bytes bytes; timed = tt; going = tt; counted = under; says = refl; state = refl }
 
 -- a visit, counted from before
-visit_from : {L : Type 0} (told : L → Option Line) (count : L → ℕ) (lane : ℕ) (moments : Option (List ℕ)) (failed clock : Type 0) (less before after : ℕ) (s : State) (v : Visit L) (t : State)
+visit_from : {L : Type 0} (told : L → Option Stream) (count : L → ℕ) (lane : ℕ) (moments : Option (List ℕ)) (failed clock : Type 0) (less before after : ℕ) (s : State) (v : Visit L) (t : State)
     → less ≤ before → (failed → clock) → IsVisit told count lane moments failed before after s v t → IsVisit told count lane moments clock less after s v t
 visit_from told count lane moments failed clock less before after s v t under of_clock is =
     wrote_as (told v.came) (told v.went) _ _
     (λ piece one. joined lane moments _ failed _ clock less before after s s t (unread (told v.came)) (unread (told v.came)) v.served [] piece (λ rose. rose) of_clock
     (nothing_yet lane moments less before s (unread (told v.came)) under) one) is
 
-pub visits_from : {L : Type 0} (told : L → Option Line) (count : L → ℕ) (lane : ℕ) (moments : Option (List ℕ)) (failed clock : Type 0) (less before after : ℕ) (s : State) (vs : List (Visit L)) (t : State)
+pub visits_from : {L : Type 0} (told : L → Option Stream) (count : L → ℕ) (lane : ℕ) (moments : Option (List ℕ)) (failed clock : Type 0) (less before after : ℕ) (s : State) (vs : List (Visit L)) (t : State)
     → less ≤ before → (failed → clock) → AreVisits told count lane moments failed before after s vs t → AreVisits told count lane moments clock less after s vs t
 visits_from told count lane moments failed clock less before after s [] t under of_clock are = let more = are.0 in (omega (arith, under, more), are.1)
 visits_from told count lane moments failed clock less before after s (v ∷ vs) t under of_clock (middle, u, one, rest) = (
@@ -54,7 +54,7 @@ same_lane lane = omega arith
 next_lane : (lane n : ℕ) → lane + suc n ≡ (lane + 1) + n
 next_lane lane n = omega arith
 
-pub visits_on : {L : Type 0} (told : L → Option Line) (count : L → ℕ) (lane : ℕ) (moments : Option (List ℕ)) (clock : Type 0) (before middle after : ℕ) (s : State) (vs : List (Visit L)) (u : State) (v : Visit L) (t : State)
+pub visits_on : {L : Type 0} (told : L → Option Stream) (count : L → ℕ) (lane : ℕ) (moments : Option (List ℕ)) (clock : Type 0) (before middle after : ℕ) (s : State) (vs : List (Visit L)) (u : State) (v : Visit L) (t : State)
     → AreVisits told count lane moments clock before middle s vs u → IsVisit told count (lane + length vs) moments clock middle after u v t → AreVisits told count lane moments clock before after s (vs ++ v ∷ []) t
 visits_on told count lane moments clock before middle after s [] u v t are is =
     (after, t, visit_from told count lane moments clock clock before middle after s v t are.0 (λ rose. rose) (subst (λ (x : State). IsVisit told count lane moments clock middle after x v t) are.1 (subst (λ l. IsVisit told count l moments clock middle after u v t) (same_lane lane) is)), (omega arith, refl))
@@ -130,14 +130,14 @@ ends_clock : (lane : ℕ) (moments : Option (List ℕ)) (link clock : Type 0) (b
 ends_clock lane moments link clock before after s bytes how t text is one =
     (subst (λ (h : Served). IsConnection lane moments link clock before after s bytes h t text) is one).ends.1
 
-pub visit_clock : {L : Type 0} (told : L → Option Line) (count : L → ℕ) (lane : ℕ) (moments : Option (List ℕ)) (clock : Type 0) (before after : ℕ) (s : State) (v : Visit L) (t : State)
+pub visit_clock : {L : Type 0} (told : L → Option Stream) (count : L → ℕ) (lane : ℕ) (moments : Option (List ℕ)) (clock : Type 0) (before after : ℕ) (s : State) (v : Visit L) (t : State)
     → IsVisit told count lane moments clock before after s v t → v.served ≡ served.ClockFault → clock
 visit_clock told count lane moments clock before after s v t is how = ends_clock lane moments _ clock before after s (unread (told v.came)) v.served t is.0 how is.2
 
 -- ---- what connections have met
 
 -- so many connections were served, and this was met
-pub record HasServed {L : Type 0} (told : L → Option Line) (count : L → ℕ) (old new : Option (Links L)) (moments : Option (List ℕ)) (clock : Type 0) (done : ℕ) (met : Met) (before after : ℕ) (s t : State) : Type 0 where
+pub record HasServed {L : Type 0} (told : L → Option Stream) (count : L → ℕ) (old new : Option (Links L)) (moments : Option (List ℕ)) (clock : Type 0) (done : ℕ) (met : Met) (before after : ℕ) (s t : State) : Type 0 where
   pub vs : List (Visit L)
   pub are : AreVisits told count 1 moments clock before after s vs t
   pub taken : AreTaken old new vs
@@ -146,7 +146,7 @@ pub record HasServed {L : Type 0} (told : L → Option Line) (count : L → ℕ)
   pub well : met.memory ≡ false → met.clock ≡ false → AllByRecursion IsWell vs
   pub fault : met.clock ≡ true → clock
 
-pub served_none : {L : Type 0} (told : L → Option Line) (count : L → ℕ) (old new : Option (Links L)) (moments : Option (List ℕ)) (clock : Type 0) (faults : ℕ) (s : State) → new ≡ old
+pub served_none : {L : Type 0} (told : L → Option Stream) (count : L → ℕ) (old new : Option (Links L)) (moments : Option (List ℕ)) (clock : Type 0) (faults : ℕ) (s : State) → new ≡ old
     → HasServed told count old new moments clock 0 (record { memory = false; clock = false }) faults faults s s
 served_none told count old new moments clock faults s same =
     record { vs = []; are = (omega arith, refl); taken = taken_none old new same; many = refl; had = λ none. tt; well = λ none fine. tt; fault = λ e. absurd (cc) }
@@ -207,7 +207,7 @@ adds : {L : Type 0} (met : Met) (v : Visit L) (how : Served) → how ≡ counts_
 adds met v how is = subst (λ (h : Served). Adds met v (met_after met h)) (sym is) (adds_by met v v.back v.served refl refl)
 
 -- one connection more
-pub served_next : {L : Type 0} (told : L → Option Line) (count : L → ℕ) (old mid new : Option (Links L)) (moments there : Option (List ℕ)) (rose failed clock : Type 0) (done : ℕ) (met next : Met) (how : Served)
+pub served_next : {L : Type 0} (told : L → Option Stream) (count : L → ℕ) (old mid new : Option (Links L)) (moments there : Option (List ℕ)) (rose failed clock : Type 0) (done : ℕ) (met next : Met) (how : Served)
     (before middle after : ℕ) (s u t : State) (v : Visit L) → there ≡ moments → (rose → clock) → (failed → clock) → HasServed told count old mid moments rose done met before middle s u
     → IsVisit told count (done + 1) there failed middle after u v t → AreTaken mid new (v ∷ []) → how ≡ counts_as v → next ≡ met_after met how → HasServed told count old new moments clock (done + 1) next before after s t
 served_next told count old mid new moments there rose failed clock done met next how before middle after s u t v same of_rose of_failed has is taken counts met_is =
@@ -237,7 +237,7 @@ door_ends : {L : Type 0} (door clock : Type 0) (most : ℕ) (vs : List (Visit L)
 door_ends door clock most vs true rose had within = within
 door_ends door clock most vs false rose had within = (rose, within, had refl)
 
-pub served_to_fault : {L : Type 0} (told : L → Option Line) (count : L → ℕ) (old mid new : Option (Links L)) (moments : Option (List ℕ)) (door rose clock : Type 0) (done most : ℕ) (met : Met) (end : ServeEnd)
+pub served_to_fault : {L : Type 0} (told : L → Option Stream) (count : L → ℕ) (old mid new : Option (Links L)) (moments : Option (List ℕ)) (door rose clock : Type 0) (done most : ℕ) (met : Met) (end : ServeEnd)
     (before middle after : ℕ) (s u t : State) → end ≡ end_at_door met → done ≤ most → door → (rose → clock) → new ≡ mid → after ≡ middle → t ≡ u → HasServed told count old mid moments rose done met before middle s u
     → IsServing told count old new moments door clock most end before after s t
 served_to_fault {L} told count old mid new moments door rose clock done most met end before middle after s u t how within fails of_rose same counts is has =
@@ -251,7 +251,7 @@ served_to_fault {L} told count old mid new moments door rose clock done most met
 
 -- ---- the same, counted from before
 
-pub serving_from : {L : Type 0} (told : L → Option Line) (count : L → ℕ) (old new : Option (Links L)) (moments : Option (List ℕ)) (door clock : Type 0) (most : ℕ) (end : ServeEnd) (less before after : ℕ) (s t : State)
+pub serving_from : {L : Type 0} (told : L → Option Stream) (count : L → ℕ) (old new : Option (Links L)) (moments : Option (List ℕ)) (door clock : Type 0) (most : ℕ) (end : ServeEnd) (less before after : ℕ) (s t : State)
     → less ≤ before → IsServing told count old new moments door clock most end before after s t → IsServing told count old new moments door clock most end less after s t
 serving_from told count old new moments door clock most end less before after s t under (vs, are, taken, ends) =
     (vs, visits_from told count 1 moments clock clock less before after s vs t under (λ rose. rose) are, taken, ends)

@@ -6,7 +6,7 @@ use Rattle.desk.specs.Settled.{MayHaveTicked}
 use Rattle.desk_http.specs.Requests.{BeginsWithRequest, GivesNone}
 use Rattle.desk_http.specs.declared.wire.Wire.{Wire}
 use Rattle.desk_http.specs.declared.wire.WireFault.TheVariants as fault
-use Rattle.desk_net.specs.Wires.{Wire as Line}
+use Rattle.desk_net.specs.Streams.{Stream}
 use Rattle.machine.specs.State.{State}
 use Rattle.service.specs.Exchanges.{Exchanged, exchanged, bytes_of, failing}
 use Rattle.service.specs.Requested.{requested_by}
@@ -160,7 +160,7 @@ IsStep lane moments link clock before after s bytes left t text None = GoesOn la
 IsStep lane moments link clock before after s bytes left t text (Some served) = IsConnection lane moments link clock before after s bytes served t text
 
 -- a link gained a text, where it tells
-abbrev pub Gains : Option Line → Option Line → List ℕ → Type 0
+abbrev pub Gains : Option Stream → Option Stream → List ℕ → Type 0
 Gains None None text = Unit {0}
 Gains (Some old) (Some new) text = (new.input ≡ old.input) × (new.written ≡ old.written ++ text)
 Gains _ _ text = ⊥

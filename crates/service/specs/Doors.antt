@@ -3,7 +3,7 @@ use Rattle.std.specs.Prelude.{◌≡◌, ◌≢◌, ◌≤◌, ℕ, ◌+◌, Boo
 use Rattle.std.specs.List.{AllByRecursion}
 use Rattle.desk_io.specs.Causes.{RoseOrFull}
 use Rattle.desk_net.specs.Doors.{Links}
-use Rattle.desk_net.specs.Wires.{Wire as Line, unread}
+use Rattle.desk_net.specs.Streams.{Stream, unread}
 use Rattle.machine.specs.State.{State}
 use Rattle.service.specs.Connections.{IsConnection}
 use Rattle.service.specs.Serving.{Wrote}
@@ -21,12 +21,12 @@ pub record Visit (L : Type 0) : Type 0 where
   pub back : Bool
 
 -- What the link gained is what its connection is answered, from a state to another.
-abbrev pub IsVisit : {L : Type 0} → (L → Option Line) → (L → ℕ) → ℕ → Option (List ℕ) → Type 0 → ℕ → ℕ → State → Visit L → State → Type 0
+abbrev pub IsVisit : {L : Type 0} → (L → Option Stream) → (L → ℕ) → ℕ → Option (List ℕ) → Type 0 → ℕ → ℕ → State → Visit L → State → Type 0
 IsVisit told count lane moments clock before after s v t =
     Wrote (told v.came) (told v.went) (IsConnection lane moments (RoseOrFull (count v.came) (count v.went)) clock before after s (unread (told v.came)) v.served t)
 
 -- Links that come one after another, each in the lane of its number.
-abbrev pub AreVisits : {L : Type 0} → (L → Option Line) → (L → ℕ) → ℕ → Option (List ℕ) → Type 0 → ℕ → ℕ → State → List (Visit L) → State → Type 0
+abbrev pub AreVisits : {L : Type 0} → (L → Option Stream) → (L → ℕ) → ℕ → Option (List ℕ) → Type 0 → ℕ → ℕ → State → List (Visit L) → State → Type 0
 AreVisits told count lane moments clock before after s [] t = (before ≤ after) × (t ≡ s)
 AreVisits told count lane moments clock before after s (v ∷ vs) t =
     (middle : ℕ) × (u : State) × IsVisit told count lane moments clock before middle s v u × AreVisits told count (lane + 1) moments clock middle after u vs t
@@ -63,7 +63,7 @@ EndsServing door clock most vs ends.ClockFault = clock × (length vs ≡ most) �
 EndsServing door clock most vs ends.OutOfMemory = length vs ≤ most
 
 -- Connections of a door were served from a state to another, one after another, and so it ended.
-abbrev pub IsServing : {L : Type 0} → (L → Option Line) → (L → ℕ) → Option (Links L) → Option (Links L) → Option (List ℕ) → Type 0 → Type 0 → ℕ → ServeEnd → ℕ → ℕ → State → State → Type 0
+abbrev pub IsServing : {L : Type 0} → (L → Option Stream) → (L → ℕ) → Option (Links L) → Option (Links L) → Option (List ℕ) → Type 0 → Type 0 → ℕ → ServeEnd → ℕ → ℕ → State → State → Type 0
 IsServing {L} told count old new moments door clock most end before after s t =
     (vs : List (Visit L)) × AreVisits told count 1 moments clock before after s vs t × AreTaken old new vs × EndsServing door clock most vs end
 

@@ -3,7 +3,7 @@ use Rattle.std.specs.Prelude.{◌≡◌, ◌≤◌, ◌⊎◌, ℕ, Bool, true, 
 use Rattle.desk_http.specs.declared.wire.Wire.{Wire}
 use Rattle.desk_http.specs.declared.wire.WireFault.{WireFault}
 use Rattle.desk_http.specs.declared.wire.WireFault.TheVariants as fault
-use Rattle.desk_net.specs.Wires.{Wire as Line}
+use Rattle.desk_net.specs.Streams.{Stream}
 use Rattle.machine.specs.State.{State}
 use Rattle.service.specs.Connections.{Gains, IsFrontOf, IsWritten, bad_head, too_large, no_length, wrong_method, clock_fault, out_of_memory}
 use Rattle.service.specs.Exchanges.{bytes_of}
@@ -14,7 +14,7 @@ use Rattle.service.specs.declared.serving.Served.{Served}
 use Rattle.service.specs.declared.serving.Served.TheVariants as served
 
 -- a link gained bytes that have the property; of one that doesn't tell, some bytes have it
-abbrev pub Wrote : Option Line → Option Line → (List ℕ → Type 0) → Type 0
+abbrev pub Wrote : Option Stream → Option Stream → (List ℕ → Type 0) → Type 0
 Wrote old new P = (piece : List ℕ) × Gains old new piece × P piece
 
 -- a link whose count may have risen, but not of one that is sound

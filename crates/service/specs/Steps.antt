@@ -2,7 +2,7 @@
 use Rattle.std.specs.Prelude.{◌≡◌, ◌≤◌, ◌⊎◌, ℕ, List, [], ◌∷◌, Option, Result, MatchResult}
 use Rattle.desk.specs.Keeping.{Choice, Counted}
 use Rattle.desk.specs.Settled.{MayHaveTicked}
-use Rattle.desk_net.specs.Clocks.{IsMoment, IsOneOf}
+use Rattle.desk_net.specs.Clocks.{IsMoment, IsAmong}
 use Rattle.machine.specs.State.{State}
 use Rattle.service.specs.Exchanges.{exchanged, bytes_of}
 use Rattle.service.specs.declared.exchange.NoAnswer.{NoAnswer}
@@ -27,7 +27,7 @@ IsCall requested.WrongMethod = ⊥
 
 -- a moment that the desk can take, one of the clock's where it tells them
 abbrev pub IsRead : Option (List ℕ) → ℕ → Type 0
-IsRead moments at = IsMoment at × IsOneOf moments at
+IsRead moments at = IsMoment at × IsAmong moments at
 
 -- What is asked is answered at a moment, under a choice that the keeper's counts allow.
 pub record IsAnswered (lane : ℕ) (moments : Option (List ℕ)) (before after : ℕ) (s : State) (asked : Requested) (t : State) (r : Response) : Type 0 where

@@ -2,7 +2,7 @@ ghost use Rattle.std.specs.Prelude.{◌≡◌, ◌≤◌, ◌⊎◌, []};
 ghost use Rattle.desk.specs.Keeping.{KeepsState};
 ghost use Rattle.desk_http.specs.Requests.{unused};
 ghost use Rattle.desk_io.specs.Causes.{RoseOrFull};
-ghost use Rattle.desk_net.specs.Wires.{unread};
+ghost use Rattle.desk_net.specs.Streams.{unread};
 ghost use Rattle.kept_forms.specs.Formed.{AreFormed};
 ghost use Rattle.service.specs.Connections.{IsConnection, IsStep, IsWritten, clock_fault as clock_response};
 ghost use Rattle.service.specs.Exchanges.{bytes_of};

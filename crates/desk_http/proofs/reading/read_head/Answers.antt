@@ -1,7 +1,7 @@
 use Rattle.std.proofs.Common.{rules, ◌==◌, ◌+◌, ◌<◌, take, ap, sym, subst, ◌∙◌, length, arith}
 use Rattle.httparse.specs.Grammar.{NeverHasRequest, HasNoRequest}
 use Rattle.httparse.specs.Spans.{IsRequestOf}
-use Rattle.desk_net.specs.Wires.{unread}
+use Rattle.desk_net.specs.Streams.{unread}
 use Rattle.desk_http.specs.Heads.{head_limit}
 use Rattle.desk_http.specs.Requests.{HasRead, EndsBy, IsPart}
 use Rattle.desk_http.proofs.Links.{only_on}

@@ -1,5 +1,5 @@
 use Rattle.std.proofs.Common.{◌≡◌, ◌-◌, ◌<◌, ◌≤◌, length}
-use Rattle.desk_net.specs.Wires.{unread, OnlyRead}
+use Rattle.desk_net.specs.Streams.{unread, OnlyRead}
 use Rattle.desk_http.specs.Requests.{HasRead}
 use Rattle.desk_http.proofs.reading.read_head.Given as goal
 

@@ -1,5 +1,5 @@
 use Rattle.std.proofs.Common.{subst}
-use Rattle.desk_net.specs.Wires.{unread}
+use Rattle.desk_net.specs.Streams.{unread}
 use Rattle.desk_http.specs.Requests.{unused, AnswersUnused}
 use Rattle.desk_http.proofs.Answered.{answers}
 use Rattle.desk_http.proofs.requests.next_request.Goals as goal

@@ -1,5 +1,5 @@
 use Rattle.std.proofs.Common.{rules, ◌≡◌, ◌≤◌, ◌+◌, ℕ, List, length, arith, subst, true, false}
-use Rattle.desk_net.specs.Wires.{unread}
+use Rattle.desk_net.specs.Streams.{unread}
 use Rattle.desk_http.specs.Requests.{HasRead, EndsBy, BeginsWithRequest, IsUpTo}
 use Rattle.desk_http.proofs.Streams.{passed_on, outside_ends, read_on, not_shorter, begins_on, part_of_body, whole_request}
 use Rattle.desk_http.proofs.requests.request_in.Goals as goal

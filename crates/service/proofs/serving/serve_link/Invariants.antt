@@ -1,7 +1,7 @@
 use Rattle.std.proofs.Common.{◌≡◌, ◌≤◌}
 use Rattle.desk.specs.Keeping.{KeepsState}
 use Rattle.desk_http.specs.Requests.{unused}
-use Rattle.desk_net.specs.Wires.{unread}
+use Rattle.desk_net.specs.Streams.{unread}
 use Rattle.kept_forms.specs.Formed.{AreFormed}
 use Rattle.service.specs.Connections.{GoesOn}
 use Rattle.service.specs.Serving.{LinkGoesOn, Wrote}
