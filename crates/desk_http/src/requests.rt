@@ -126,10 +126,10 @@ fn request_in<N: Link>(
 /// plays no part.
 ///
 /// `End` comes where there are no unused bytes, and `Cut` where they end within a request. `BadHead` comes where
-/// they make no head whatever follows, as soon as this is seen. `TooLarge` comes where a head has more than
-/// `HEAD_LIMIT` bytes. On a whole head, `WrongMethod`, `NoLength` and then `TooLarge` for a body of more than
-/// `BODY_LIMIT` come before anything of the body is read. `ReadFault` comes only where the link's count of faults
-/// rose. Nothing is written. After a fault the buffer isn't used again.
+/// they make no head whatever follows, as soon as this is seen. `TooLarge` comes where the first `HEAD_LIMIT` bytes
+/// hold no whole head. On a whole head, `WrongMethod`, `NoLength` and then `TooLarge`, where a body of more than
+/// `BODY_LIMIT` bytes is stated, come before anything of the body is read. `ReadFault` comes only where the link's
+/// count of faults rose. Nothing is written. After a fault the buffer isn't used again.
 pub fn next_request<N: Link>(
     alloc: Global,
     link: &mut N,

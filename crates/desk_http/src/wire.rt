@@ -47,7 +47,7 @@ pub enum WireFault {
     Cut,
     /// The bytes make no head, whatever follows them.
     BadHead,
-    /// The head has more than `HEAD_LIMIT` bytes, or states a body of more than `BODY_LIMIT`.
+    /// The first `HEAD_LIMIT` bytes hold no whole head, or a whole head states a body of more than `BODY_LIMIT` bytes.
     TooLarge,
     /// The head doesn't state the length of the body as it must.
     NoLength,
