@@ -10,11 +10,11 @@ use Rattle.desk_io.specs.declared.faults.PutFault.{PutFault}
 use Rattle.desk_io.specs.declared.faults.PutFault.TheVariants.{Failed, OutOfMemory}
 use Rattle.desk_net.specs.Streams.{Stream, Writes, OnlyRead, unread}
 use Rattle.machine.specs.State.{State}
-use Rattle.service.specs.Connections.{Exchange, responses, AreRequests, IsFrontOf, IsWritten, OnTold, AsksCall, Ends, OnBoth, IsConnection, IsStep, out_of_memory, clock_fault}
+use Rattle.service.specs.Connections.{Exchange, responses, AreRequests, IsFrontOf, IsWritten, OnTold, AsksCall, Ends, OnBoth, IsConnection, IsStep, out_of_memory_answer, clock_fault_answer}
 use Rattle.service.specs.Exchanges.{bytes_of, exchanged}
 use Rattle.service.specs.Requested.{requested_by}
 use Rattle.service.specs.Serving.{EndsAs, EndsWithout, ServesRequest, WritesAll, Wrote}
-use Rattle.service.specs.Steps.{IsAnswered, IsCall, IsUnanswered, MayHaveStepped}
+use Rattle.service.specs.Steps.{IsAnswered, MakesCall, IsUnanswered, MayHaveStepped}
 use Rattle.service.specs.declared.exchange.NoAnswer.{NoAnswer}
 use Rattle.service.specs.declared.exchange.NoAnswer.TheVariants.{OutOfMemory as NoMemory}
 use Rattle.service.specs.declared.responses.Response.{Response}
@@ -41,11 +41,11 @@ fails_front T old new text f rose failed is risen =
     wrote_as old new (IsFrontOf text) (λ piece. rose × IsFrontOf text piece) (λ piece front. (risen, front)) (wrote_front T old new text (subst (λ e. Writes {T = T} old new text (Err e)) failed is))
 
 -- the answer to a fault of the clock was written, or as much as there was
-pub ends_clock : {T : Type 0} (old new : Option Stream) (text : List ℕ) (result : Result T PutFault) (rose : Type 0) → Writes old new text result → (IsErrOf result Failed → rose) → text ≡ bytes_of clock_fault
-    → Wrote old new (λ piece. IsWritten rose clock_fault piece ⊎ (piece ≡ []))
+pub ends_clock : {T : Type 0} (old new : Option Stream) (text : List ℕ) (result : Result T PutFault) (rose : Type 0) → Writes old new text result → (IsErrOf result Failed → rose) → text ≡ bytes_of clock_fault_answer
+    → Wrote old new (λ piece. IsWritten rose clock_fault_answer piece ⊎ (piece ≡ []))
 ends_clock old new text (Ok x) rose is risen same = (text, gains_all old new text x is, inl (inl same))
 ends_clock {T} old new text (Err Failed) rose is risen same =
-    wrote_as old new (IsFrontOf text) (λ piece. IsWritten rose clock_fault piece ⊎ (piece ≡ [])) (λ piece front. inl (inr (risen refl, subst (λ t. IsFrontOf t piece) same front))) (wrote_front T old new text is)
+    wrote_as old new (IsFrontOf text) (λ piece. IsWritten rose clock_fault_answer piece ⊎ (piece ≡ [])) (λ piece front. inl (inr (risen refl, subst (λ t. IsFrontOf t piece) same front))) (wrote_front T old new text is)
 ends_clock {T} old new text (Err OutOfMemory) rose is risen same = ([], gains_none T old new text is, inr refl)
 
 pub without_as : (old new : Option Stream) (rose : Type 0) (f wanted : WireFault) (how : Served) → f ≡ wanted → Wrote old new (EndsWithout rose wanted how) → Wrote old new (EndsWithout rose f how)
@@ -73,15 +73,15 @@ bare lane moments link clock before after s bytes how t piece later ends = recor
 }
 
 -- the answer for want of memory was written, or as much as there was
-written_last : (rose : Type 0) (how : Served) (piece : List ℕ) → EndsAs rose served.OutOfMemory out_of_memory how piece → IsWritten rose out_of_memory piece ⊎ (piece ≡ [])
+written_last : (rose : Type 0) (how : Served) (piece : List ℕ) → EndsAs rose served.OutOfMemory out_of_memory_answer how piece → IsWritten rose out_of_memory_answer piece ⊎ (piece ≡ [])
 written_last rose how piece (inl (is, written)) = inl written
 written_last rose how piece (inr (is, none)) = inr none
 
-last_is : (rose : Type 0) (how : Served) (piece : List ℕ) → EndsAs rose served.OutOfMemory out_of_memory how piece → how ≡ served.OutOfMemory
+last_is : (rose : Type 0) (how : Served) (piece : List ℕ) → EndsAs rose served.OutOfMemory out_of_memory_answer how piece → how ≡ served.OutOfMemory
 last_is rose how piece (inl (is, written)) = is
 last_is rose how piece (inr (is, none)) = is
 
-last_as : (rose : Type 0) (how : Served) (piece : List ℕ) → EndsAs rose served.OutOfMemory out_of_memory how piece → EndsAs rose served.OutOfMemory out_of_memory served.OutOfMemory piece
+last_as : (rose : Type 0) (how : Served) (piece : List ℕ) → EndsAs rose served.OutOfMemory out_of_memory_answer how piece → EndsAs rose served.OutOfMemory out_of_memory_answer served.OutOfMemory piece
 last_as rose how piece (inl (is, written)) = inl (refl, written)
 last_as rose how piece (inr (is, none)) = inr (refl, none)
 
@@ -103,7 +103,7 @@ told_none (Some bytes) None f answers = absurd answers
 
 -- want of memory, with nothing more answered
 bare_last : (lane : ℕ) (moments : Option (List ℕ)) (link clock : Type 0) (count : ℕ) (s : State) (bytes : Option (List ℕ)) (how : Served) (piece : List ℕ) → how ≡ served.OutOfMemory
-    → IsWritten link out_of_memory piece ⊎ (piece ≡ []) → IsConnection lane moments link clock count count s bytes how s piece
+    → IsWritten link out_of_memory_answer piece ⊎ (piece ≡ []) → IsConnection lane moments link clock count count s bytes how s piece
 bare_last lane moments link clock count s bytes how piece is front =
     subst (λ (e : Served). IsConnection lane moments link clock count count s bytes e s piece) (sym is)
     (bare lane moments link clock count count s bytes served.OutOfMemory s piece (omega arith) (inl (refl, inl refl), front))
@@ -140,7 +140,7 @@ ends_without lane moments link clock rose count s fault.NoLength bytes others ho
 ends_without lane moments link clock rose count s fault.WrongMethod bytes others how piece more read answers ends =
     bare_as lane moments link clock rose count s bytes served.WrongMethod _ how piece more (λ written. ((refl, refl), told_none bytes others fault.WrongMethod answers, written)) ends
 ends_without lane moments link clock rose count s fault.OutOfMemory bytes others how piece more read answers ends =
-    bare_last lane moments link clock count s bytes how piece (last_is rose how piece ends) (written_or rose link out_of_memory piece more (written_last rose how piece ends))
+    bare_last lane moments link clock count s bytes how piece (last_is rose how piece ends) (written_or rose link out_of_memory_answer piece more (written_last rose how piece ends))
 
 -- the same of what was written
 pub served_without : (old mid new : Option Stream) (lane : ℕ) (moments : Option (List ℕ)) (link clock rose : Type 0) (count : ℕ) (s : State) (f : WireFault) (bytes others : Option (List ℕ)) (how : Served)
@@ -160,7 +160,7 @@ one_request (Some bytes) (Some others) wire at choice answers = (others, answers
 one_request None (Some others) wire at choice answers = absurd answers
 one_request (Some bytes) None wire at choice answers = absurd answers
 
-asks_call : (bytes others : Option (List ℕ)) (wire : Wire) → AnswersUnused bytes others (Ok wire) → IsCall (requested_by wire) → OnTold bytes AsksCall
+asks_call : (bytes others : Option (List ℕ)) (wire : Wire) → AnswersUnused bytes others (Ok wire) → MakesCall (requested_by wire) → OnTold bytes AsksCall
 asks_call None None wire answers call = tt
 asks_call (Some bytes) (Some others) wire answers call = (wire, others, answers.gives, call)
 asks_call None (Some others) wire answers call = absurd answers
@@ -225,12 +225,12 @@ serves_answered lane moments link clock before after s t wire r bytes others (So
 
 -- memory ran out
 serves_last : (lane : ℕ) (moments : Option (List ℕ)) (link clock : Type 0) (before after : ℕ) (s t : State) (wire : Wire) (bytes others : Option (List ℕ)) (piece : List ℕ) → before ≤ after
-    → AnswersUnused bytes others (Ok wire) → MayHaveStepped lane moments before after s (requested_by wire) t → IsWritten link out_of_memory piece ⊎ (piece ≡ [])
+    → AnswersUnused bytes others (Ok wire) → MayHaveStepped lane moments before after s (requested_by wire) t → IsWritten link out_of_memory_answer piece ⊎ (piece ≡ [])
     → IsConnection lane moments link clock before after s bytes served.OutOfMemory t piece
 serves_last lane moments link clock before after s t wire bytes others piece later answers (inl still) front =
     bare lane moments link clock before after s bytes served.OutOfMemory t piece later (inl (refl, inl still), front)
-serves_last lane moments link clock before after s t wire bytes others piece later answers (inr (inl (at, read, ticked))) front =
-    bare lane moments link clock before after s bytes served.OutOfMemory t piece later (inl (refl, inr (at, read, ticked)), front)
+serves_last lane moments link clock before after s t wire bytes others piece later answers (inr (inl (call, ticked))) front =
+    bare lane moments link clock before after s bytes served.OutOfMemory t piece later (inl (refl, inr (asks_call bytes others wire answers call, ticked)), front)
 serves_last lane moments link clock before after s t wire bytes others piece later answers (inr (inr (r, answered))) front =
     one_more lane moments link clock before after s t wire r bytes others served.OutOfMemory piece answers answered
     (inr (of_wire wire answered.at answered.choice, (refl, answered.state)), front)
@@ -265,9 +265,9 @@ requests_more : (lane : ℕ) (moments : Option (List ℕ)) (rose link clock : Ty
     → ServesRequest lane moments rose clock before after s wire t result piece → ServesRequest lane moments link clock before after s wire t result piece
 requests_more lane moments rose link clock before after s t wire result piece more (inl (r, answered, writes)) = inl (r, answered, writes_more rose link (bytes_of r) wire.last result piece more writes)
 requests_more lane moments rose link clock before after s t wire result piece more (inr (inl (is, failed, call, still, written))) =
-    inr (inl (is, failed, call, still, written_or rose link clock_fault piece more written))
+    inr (inl (is, failed, call, still, written_or rose link clock_fault_answer piece more written))
 requests_more lane moments rose link clock before after s t wire result piece more (inr (inr (is, stepped, inl (last, written)))) =
-    inr (inr (is, stepped, inl (last, written_more rose link out_of_memory piece more written)))
+    inr (inr (is, stepped, inl (last, written_more rose link out_of_memory_answer piece more written)))
 requests_more lane moments rose link clock before after s t wire result piece more (inr (inr (is, stepped, inr none))) = inr (inr (is, stepped, inr none))
 
 -- a request was read, and served
@@ -283,8 +283,8 @@ served_step old mid new lane moments rose link clock before after s t wire bytes
 
 -- memory ran out, and the answer for that was written
 pub served_last : (old new : Option Stream) (lane : ℕ) (moments : Option (List ℕ)) (link clock : Type 0) (before after : ℕ) (s t : State) (wire : Wire) (why : NoAnswer) (how : Served) → why ≡ NoMemory
-    → IsUnanswered lane moments clock before after s (requested_by wire) t why → Wrote old new (EndsAs link served.OutOfMemory out_of_memory how) → Wrote old new (ServesRequest lane moments link clock before after s wire t (Some how))
+    → IsUnanswered lane moments clock before after s (requested_by wire) t why → Wrote old new (EndsAs link served.OutOfMemory out_of_memory_answer how) → Wrote old new (ServesRequest lane moments link clock before after s wire t (Some how))
 served_last old new lane moments link clock before after s t wire why how is none wrote =
     let stepped : MayHaveStepped lane moments before after s (requested_by wire) t = subst (IsUnanswered lane moments clock before after s (requested_by wire) t) is none in
-    wrote_as old new (EndsAs link served.OutOfMemory out_of_memory how) (ServesRequest lane moments link clock before after s wire t (Some how))
+    wrote_as old new (EndsAs link served.OutOfMemory out_of_memory_answer how) (ServesRequest lane moments link clock before after s wire t (Some how))
     (λ piece ends. inr (inr (ap Some (last_is link how piece ends), stepped, last_as link how piece ends))) wrote

@@ -1,3 +1,4 @@
+pub mod Onward
 pub mod Lines
 pub mod Answered
 pub mod Endings

@@ -1,7 +1,6 @@
 -- What writes do to a link.
-use Rattle.std.proofs.Common.{◌≡◌, ℕ, ◌≤◌, List, [], ◌++◌, take, drop, Option, Some, None, Result, Ok, Err, refl, ap, sym, ◌∙◌, arith, append-nil, append_assoc}
+use Rattle.std.proofs.Common.{◌≡◌, ℕ, List, [], ◌++◌, take, drop, Option, Some, None, Result, Ok, Err, refl, ap, sym, ◌∙◌, append-nil, append_assoc}
 use Rattle.std.proofs.lemmas.List.{take-append-drop}
-use Rattle.desk_io.specs.Causes.{RoseOrFull}
 use Rattle.desk_io.specs.declared.faults.PutFault.{PutFault}
 use Rattle.desk_io.specs.declared.faults.PutFault.TheVariants.{Failed, OutOfMemory}
 use Rattle.desk_net.specs.Streams.{Stream, Writes, OnlyRead, unread}
@@ -61,10 +60,3 @@ wrote_on old mid new P Q R step one two = (one.0 ++ two.0, gains_on old mid new 
 
 pub wrote_as : (old new : Option Stream) (P Q : List ℕ → Type 0) → ((piece : List ℕ) → P piece → Q piece) → Wrote old new P → Wrote old new Q
 wrote_as old new P Q step wrote = (wrote.0, wrote.1, step wrote.0 wrote.2)
-
--- a count that rose in a part of a call rose in all of it
-pub rose_later : (before middle after : ℕ) → middle ≤ after → RoseOrFull before middle → RoseOrFull before after
-rose_later before middle after more rose = omega (arith, more, rose)
-
-pub rose_before : (before middle after : ℕ) → before ≤ middle → RoseOrFull middle after → RoseOrFull before after
-rose_before before middle after less rose = omega (arith, less, rose)

@@ -1,14 +1,16 @@
 -- Connections that were served, and then one more.
-use Rattle.std.proofs.Common.{◌≡◌, ◌≢◌, ℕ, suc, ◌+◌, ◌≤◌, Bool, true, false, List, [], ◌∷◌, ◌++◌, ◌⊎◌, inl, inr, length, map, filter, Option, Some, None, Result, Ok, Err, refl, ap, sym, subst, ◌∙◌, append_assoc, append-nil, arith}
+use Rattle.std.proofs.Common.{◌≡◌, ◌≢◌, ℕ, suc, ◌+◌, ◌<◌, ◌≤◌, Bool, true, false, List, [], ◌∷◌, ◌++◌, ◌⊎◌, inl, inr, length, map, filter, Option, Some, None, Ok, Err, refl, ap, sym, subst, ◌∙◌, append_assoc, append-nil, arith}
 use Rattle.std.specs.Prelude.{if◌then◌else◌}
 use Rattle.std.specs.List.{AllByRecursion}
 use Rattle.std.proofs.lemmas.List.{map-append}
 use Rattle.std.proofs.lemmas.List.Elements.{filter-append}
-use Rattle.desk_net.specs.Doors.{Links, Accepts, TakesBack}
+use Rattle.desk_io.specs.Causes.{RoseOrFull}
+use Rattle.desk_net.specs.Doors.{Links, Accepts, TakesBack, HasNext}
 use Rattle.desk_net.specs.Streams.{Stream, unread}
 use Rattle.machine.specs.State.{State}
 use Rattle.service.specs.Connections.{AreRequests, GoesOn, IsConnection, OnBoth}
-use Rattle.service.specs.Doors.{Visit, IsVisit, AreVisits, AreTaken, came_of, back_of, HadMemory, IsWell, EndsServing, IsServing, counts_as, met_after, end_of, end_at_door}
+use Rattle.service.specs.Doors.{Visit, IsVisit, AreVisits, AreTaken, HasLinks, came_of, back_of, HadMemory, IsWell, EndsServing, IsServing, counts_as, met_after, end_of, end_at_door}
+use Rattle.service.specs.Onward.{HasFailed}
 use Rattle.service.specs.Serving.{Wrote}
 use Rattle.service.specs.declared.doors.Met.{Met}
 use Rattle.service.specs.declared.doors.ServeEnd.{ServeEnd}
@@ -45,6 +47,21 @@ visits_from told count lane moments failed clock less before after s (v ∷ vs) 
   visit_from told count lane moments failed clock less before middle s v u under of_clock one,
   visits_from told count (lane + 1) moments failed clock middle middle after u vs t (omega arith) of_clock rest,
 )
+
+-- a connection seen under a weaker cause of the link's faults
+connection_by : (lane : ℕ) (moments : Option (List ℕ)) (failed link clock : Type 0) (before after : ℕ) (s : State) (bytes : Option (List ℕ)) (how : Served) (t : State) (text : List ℕ) → (failed → link)
+    → IsConnection lane moments failed clock before after s bytes how t text → IsConnection lane moments link clock before after s bytes how t text
+connection_by lane moments failed link clock before after s bytes how t text of_link one =
+    joined lane moments failed clock link clock before before after s s t bytes bytes how [] text of_link (λ rose. rose) (nothing_yet lane moments before before s bytes (omega arith)) one
+
+-- what a link gained, whose own fault is seen by its count alone
+pub visited : {L : Type 0} (told : L → Option Stream) (count : L → ℕ) (steady : L → Type 0) (lane : ℕ) (moments : Option (List ℕ)) (clock : Type 0) (before after : ℕ) (s : State) (came went : L) (how : Served) (t : State)
+    → Wrote (told came) (told went) (IsConnection lane moments (HasFailed count steady came went) clock before after s (unread (told came)) how t)
+    → Wrote (told came) (told went) (IsConnection lane moments (RoseOrFull (count came) (count went)) clock before after s (unread (told came)) how t)
+visited told count steady lane moments clock before after s came went how t wrote =
+    wrote_as (told came) (told went) (IsConnection lane moments (HasFailed count steady came went) clock before after s (unread (told came)) how t)
+    (IsConnection lane moments (RoseOrFull (count came) (count went)) clock before after s (unread (told came)) how t)
+    (λ piece one. connection_by lane moments (HasFailed count steady came went) (RoseOrFull (count came) (count went)) clock before after s (unread (told came)) how t piece (λ failed. failed.0) one) wrote
 
 -- ---- one more
 
@@ -129,6 +146,19 @@ ends_clock : (lane : ℕ) (moments : Option (List ℕ)) (link clock : Type 0) (b
     → IsConnection lane moments link clock before after s bytes how t text → clock
 ends_clock lane moments link clock before after s bytes how t text is one =
     (subst (λ (h : Served). IsConnection lane moments link clock before after s bytes h t text) is one).ends.1
+
+-- where the clock hasn't failed none ends by it
+pub not_by_clock : (lane : ℕ) (moments : Option (List ℕ)) (link clock : Type 0) (before after : ℕ) (s : State) (bytes : Option (List ℕ)) (how : Served) (t : State) (text : List ℕ)
+    → IsConnection lane moments link clock before after s bytes how t text → (clock → ⊥) → how ≢ served.ClockFault
+not_by_clock lane moments link clock before after s bytes how t text one never = λ is. never (ends_clock lane moments link clock before after s bytes how t text is one)
+
+-- where the link hasn't failed none ends by it
+pub not_by_link : (lane : ℕ) (moments : Option (List ℕ)) (link clock : Type 0) (before after : ℕ) (s : State) (bytes : Option (List ℕ)) (how : Served) (t : State) (text : List ℕ)
+    → IsConnection lane moments link clock before after s bytes how t text → (link → ⊥) → (how ≢ served.ReadFault) × (how ≢ served.WriteFault)
+not_by_link lane moments link clock before after s bytes how t text one never = (
+  λ is. never (subst (λ (h : Served). IsConnection lane moments link clock before after s bytes h t text) is one).ends.1,
+  λ is. never (subst (λ (h : Served). IsConnection lane moments link clock before after s bytes h t text) is one).ends.0,
+)
 
 pub visit_clock : {L : Type 0} (told : L → Option Stream) (count : L → ℕ) (lane : ℕ) (moments : Option (List ℕ)) (clock : Type 0) (before after : ℕ) (s : State) (v : Visit L) (t : State)
     → IsVisit told count lane moments clock before after s v t → v.served ≡ served.ClockFault → clock
@@ -248,6 +278,46 @@ served_to_fault {L} told count old mid new moments door rose clock done most met
       subst (λ (d : Option (Links L)). AreTaken old d has.vs) (sym same) has.taken,
       subst (EndsServing door clock most has.vs) (sym how) (door_ends door clock most has.vs met.memory fails has.had (omega (arith, many, within))),
     )
+
+all_end : {L : Type 0} (door failed clock : Type 0) (most : ℕ) (vs : List (Visit L)) (memory late : Bool) → (failed → clock) → (late ≡ true → failed) → (memory ≡ false → AllByRecursion HadMemory vs)
+    → (memory ≡ false → late ≡ false → AllByRecursion IsWell vs) → length vs ≡ most → EndsServing door clock most vs (if memory then ends.OutOfMemory else (if late then ends.ClockFault else ends.Done))
+all_end door failed clock most vs true late of_clock fault had well many = omega (arith, many)
+all_end door failed clock most vs false true of_clock fault had well many = (of_clock (fault refl), many, had refl)
+all_end door failed clock most vs false false of_clock fault had well many = (many, well refl refl)
+
+-- as many connections were served as stated
+pub served_to_end : {L : Type 0} (told : L → Option Stream) (count : L → ℕ) (old new : Option (Links L)) (moments : Option (List ℕ)) (door failed clock : Type 0) (done most : ℕ) (met : Met) (end : ServeEnd)
+    (before after : ℕ) (s t : State) → end ≡ end_of met → done ≤ most → most ≤ done → (failed → clock) → HasServed told count old new moments failed done met before after s t
+    → IsServing told count old new moments door clock most end before after s t
+served_to_end told count old new moments door failed clock done most met end before after s t how within all of_clock has =
+    let many = has.many in (
+      has.vs,
+      visits_from told count 1 moments failed clock before before after s has.vs t (omega arith) of_clock has.are,
+      has.taken,
+      subst (EndsServing door clock most has.vs) (sym how) (all_end door failed clock most has.vs met.memory met.clock of_clock has.fault has.had has.well (omega (arith, many, within, all))),
+    )
+
+-- ---- what never ends serving
+
+at_door : (memory : Bool) → (if memory then ends.OutOfMemory else ends.DoorFault) ≢ ends.ClockFault
+at_door true = λ is. absurd (cc)
+at_door false = λ is. absurd (cc)
+
+pub door_not_clock : (met : Met) (end : ServeEnd) → end ≡ end_at_door met → end ≢ ends.ClockFault
+door_not_clock met end how = λ is. at_door met.memory (sym how ∙ is)
+
+length_came : {L : Type 0} (vs : List (Visit L)) (ls : List L) → length (came_of vs ++ ls) ≡ length vs + length ls
+length_came [] ls = omega arith
+length_came (v ∷ vs) ls = let more = length_came vs ls in omega (arith, more)
+
+-- a link is to come while fewer were served than there were to come
+pub next_comes : {L : Type 0} (old new : Option (Links L)) (vs : List (Visit L)) (done most : ℕ) → AreTaken old new vs → length vs ≡ done → done < most → HasLinks old most → HasNext new
+next_comes None None vs done most taken many few links = tt
+next_comes {L} (Some old) (Some new) vs done most taken many few links =
+    let lengths : length old.coming ≡ length vs + length new.coming = ap (λ (ls : List L). length ls) taken.coming ∙ length_came vs new.coming in
+    omega (arith, lengths, many, few, links)
+next_comes None (Some new) vs done most taken many few links = absurd taken
+next_comes (Some old) None vs done most taken many few links = absurd taken
 
 -- ---- the same, counted from before
 

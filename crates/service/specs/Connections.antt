@@ -10,7 +10,7 @@ use Rattle.desk_net.specs.Streams.{Stream}
 use Rattle.machine.specs.State.{State}
 use Rattle.service.specs.Exchanges.{Exchanged, exchanged, bytes_of, failing}
 use Rattle.service.specs.Requested.{requested_by}
-use Rattle.service.specs.Steps.{IsCall, IsRead, OnCall}
+use Rattle.service.specs.Steps.{MakesCall, IsRead, OnCall}
 use Rattle.service.specs.declared.responses.Response.{Response}
 use Rattle.service.specs.declared.serving.Served.{Served}
 use Rattle.service.specs.declared.serving.Served.TheVariants as served
@@ -68,26 +68,26 @@ OnTold (Some bytes) P = P bytes
 
 -- the bytes begin with a request for a call
 abbrev pub AsksCall : List ℕ → Type 0
-AsksCall bytes = (wire : Wire) × (rest : List ℕ) × BeginsWithRequest bytes wire rest × IsCall (requested_by wire)
+AsksCall bytes = (wire : Wire) × (rest : List ℕ) × BeginsWithRequest bytes wire rest × MakesCall (requested_by wire)
 
 -- the answers that end a connection
-abbrev pub bad_head : Response
-bad_head = failing 400 (codes "BadHead")
+abbrev pub bad_head_answer : Response
+bad_head_answer = failing 400 (codes "BadHead")
 
-abbrev pub too_large : Response
-too_large = failing 413 (codes "TooLarge")
+abbrev pub too_large_answer : Response
+too_large_answer = failing 413 (codes "TooLarge")
 
-abbrev pub no_length : Response
-no_length = failing 411 (codes "NoLength")
+abbrev pub no_length_answer : Response
+no_length_answer = failing 411 (codes "NoLength")
 
-abbrev pub wrong_method : Response
-wrong_method = failing 405 (codes "WrongMethod")
+abbrev pub wrong_method_answer : Response
+wrong_method_answer = failing 405 (codes "WrongMethod")
 
-abbrev pub clock_fault : Response
-clock_fault = failing 503 (codes "ClockFault")
+abbrev pub clock_fault_answer : Response
+clock_fault_answer = failing 503 (codes "ClockFault")
 
-abbrev pub out_of_memory : Response
-out_of_memory = failing 500 (codes "OutOfMemory")
+abbrev pub out_of_memory_answer : Response
+out_of_memory_answer = failing 500 (codes "OutOfMemory")
 
 -- ---- how a connection ends
 
@@ -99,29 +99,29 @@ NoMore more u t = (more ≡ []) × (t ≡ u)
 abbrev pub OneMore : ℕ → List Exchange → State → State → Exchange → Type 0
 OneMore lane more u t x = (more ≡ x ∷ []) × (t ≡ (exchange lane u x).state)
 
--- where memory ran out: as before, or after the tick of a call, or after a request more
-abbrev pub MayHaveMore : ℕ → Option (List ℕ) → List Exchange → State → State → Type 0
-MayHaveMore lane moments more u t =
-    ((more ≡ []) × ((t ≡ u) ⊎ ((at : ℕ) × IsRead moments at × MayHaveTicked lane at u t)))
+-- where memory ran out: as before, or after the tick of the call that the bytes left ask for, or after a request more
+abbrev pub MayHaveMore : ℕ → Option (List ℕ) → List Exchange → Option (List ℕ) → State → State → Type 0
+MayHaveMore lane moments more left u t =
+    ((more ≡ []) × ((t ≡ u) ⊎ (OnTold left AsksCall × ((at : ℕ) × IsRead moments at × MayHaveTicked lane at u t))))
     ⊎ ((x : Exchange) × OneMore lane more u t x)
 
 -- How a connection ends on the bytes that are left, from the state after the requests after which it went on: `more` is the request
--- with which it ended, if that was answered, and the piece is what was written after their responses. `link` and `clock` stand for a
--- count that rose.
+-- with which it ended, if that was answered, and the piece is what was written after their responses. `link` and `clock` say that
+-- the link and the clock have failed.
 abbrev pub Ends : ℕ → Option (List ℕ) → Type 0 → Type 0 → List Exchange → Option (List ℕ) → State → Served → State → List ℕ → Type 0
 Ends lane moments link clock more left u served.Ended t piece =
     (NoMore more u t × OnTold left (λ b. GivesNone b fault.End) × (piece ≡ []))
     ⊎ ((x : Exchange) × OneMore lane more u t x × IsLast x × (piece ≡ bytes_of (exchange lane u x).response))
 Ends lane moments link clock more left u served.Cut t piece = NoMore more u t × OnTold left (λ b. GivesNone b fault.Cut) × (piece ≡ [])
-Ends lane moments link clock more left u served.BadHead t piece = NoMore more u t × OnTold left (λ b. GivesNone b fault.BadHead) × IsWritten link bad_head piece
-Ends lane moments link clock more left u served.TooLarge t piece = NoMore more u t × OnTold left (λ b. GivesNone b fault.TooLarge) × IsWritten link too_large piece
-Ends lane moments link clock more left u served.NoLength t piece = NoMore more u t × OnTold left (λ b. GivesNone b fault.NoLength) × IsWritten link no_length piece
-Ends lane moments link clock more left u served.WrongMethod t piece = NoMore more u t × OnTold left (λ b. GivesNone b fault.WrongMethod) × IsWritten link wrong_method piece
+Ends lane moments link clock more left u served.BadHead t piece = NoMore more u t × OnTold left (λ b. GivesNone b fault.BadHead) × IsWritten link bad_head_answer piece
+Ends lane moments link clock more left u served.TooLarge t piece = NoMore more u t × OnTold left (λ b. GivesNone b fault.TooLarge) × IsWritten link too_large_answer piece
+Ends lane moments link clock more left u served.NoLength t piece = NoMore more u t × OnTold left (λ b. GivesNone b fault.NoLength) × IsWritten link no_length_answer piece
+Ends lane moments link clock more left u served.WrongMethod t piece = NoMore more u t × OnTold left (λ b. GivesNone b fault.WrongMethod) × IsWritten link wrong_method_answer piece
 Ends lane moments link clock more left u served.ReadFault t piece = NoMore more u t × link × (piece ≡ [])
 Ends lane moments link clock more left u served.WriteFault t piece =
     link × ((x : Exchange) × OneMore lane more u t x × IsFrontOf (bytes_of (exchange lane u x).response) piece)
-Ends lane moments link clock more left u served.ClockFault t piece = NoMore more u t × clock × OnTold left AsksCall × (IsWritten link clock_fault piece ⊎ (piece ≡ []))
-Ends lane moments link clock more left u served.OutOfMemory t piece = MayHaveMore lane moments more u t × (IsWritten link out_of_memory piece ⊎ (piece ≡ []))
+Ends lane moments link clock more left u served.ClockFault t piece = NoMore more u t × clock × OnTold left AsksCall × (IsWritten link clock_fault_answer piece ⊎ (piece ≡ []))
+Ends lane moments link clock more left u served.OutOfMemory t piece = MayHaveMore lane moments more left u t × (IsWritten link out_of_memory_answer piece ⊎ (piece ≡ []))
 
 -- of bytes and of what is left of them, where both are told
 abbrev pub OnBoth : Option (List ℕ) → Option (List ℕ) → (List ℕ → List ℕ → Type 0) → Type 0

@@ -47,6 +47,11 @@ AreTaken None None vs = Unit {0}
 AreTaken (Some old) (Some new) vs = TakesLinks old new vs
 AreTaken _ _ vs = ⊥
 
+-- so many links are to come, or the door doesn't tell
+abbrev pub HasLinks : {L : Type 0} → Option (Links L) → ℕ → Type 0
+HasLinks None n = Unit {0}
+HasLinks (Some told) n = n ≤ length told.coming
+
 -- memory didn't run out
 abbrev pub HadMemory : {L : Type 0} → Visit L → Type 0
 HadMemory v = (v.back ≡ true) × (v.served ≢ served.OutOfMemory)

@@ -1,14 +1,14 @@
 -- What one request adds to a connection.
-use Rattle.std.specs.Prelude.{◌≡◌, ◌≤◌, ◌⊎◌, ℕ, Bool, true, false, List, [], Option, None, Some}
+use Rattle.std.specs.Prelude.{◌≡◌, ◌⊎◌, ℕ, Bool, true, false, List, [], Option, None, Some}
 use Rattle.desk_http.specs.declared.wire.Wire.{Wire}
 use Rattle.desk_http.specs.declared.wire.WireFault.{WireFault}
 use Rattle.desk_http.specs.declared.wire.WireFault.TheVariants as fault
 use Rattle.desk_net.specs.Streams.{Stream}
 use Rattle.machine.specs.State.{State}
-use Rattle.service.specs.Connections.{Gains, IsFrontOf, IsWritten, bad_head, too_large, no_length, wrong_method, clock_fault, out_of_memory}
+use Rattle.service.specs.Connections.{Gains, IsFrontOf, IsWritten, bad_head_answer, too_large_answer, no_length_answer, wrong_method_answer, clock_fault_answer, out_of_memory_answer}
 use Rattle.service.specs.Exchanges.{bytes_of}
 use Rattle.service.specs.Requested.{requested_by}
-use Rattle.service.specs.Steps.{IsAnswered, IsCall, MayHaveStepped}
+use Rattle.service.specs.Steps.{IsAnswered, MakesCall, MayHaveStepped}
 use Rattle.service.specs.declared.responses.Response.{Response}
 use Rattle.service.specs.declared.serving.Served.{Served}
 use Rattle.service.specs.declared.serving.Served.TheVariants as served
@@ -16,10 +16,6 @@ use Rattle.service.specs.declared.serving.Served.TheVariants as served
 -- a link gained bytes that have the property; of one that doesn't tell, some bytes have it
 abbrev pub Wrote : Option Stream → Option Stream → (List ℕ → Type 0) → Type 0
 Wrote old new P = (piece : List ℕ) × Gains old new piece × P piece
-
--- a link whose count may have risen, but not of one that is sound
-abbrev pub LinkGoesOn : Type 0 → Type 0 → ℕ → ℕ → Type 0
-LinkGoesOn sound still before after = (before ≤ after) × (sound → still × (after ≡ before))
 
 -- an answer that ends a connection was written, or a front of it, where the link failed; or there was no memory to write it
 abbrev pub EndsAs : Type 0 → Served → Response → Served → List ℕ → Type 0
@@ -30,11 +26,11 @@ abbrev pub EndsWithout : Type 0 → WireFault → Served → List ℕ → Type 0
 EndsWithout rose fault.End result piece = (result ≡ served.Ended) × (piece ≡ [])
 EndsWithout rose fault.Cut result piece = (result ≡ served.Cut) × (piece ≡ [])
 EndsWithout rose fault.ReadFault result piece = (result ≡ served.ReadFault) × (piece ≡ [])
-EndsWithout rose fault.BadHead result piece = EndsAs rose served.BadHead bad_head result piece
-EndsWithout rose fault.TooLarge result piece = EndsAs rose served.TooLarge too_large result piece
-EndsWithout rose fault.NoLength result piece = EndsAs rose served.NoLength no_length result piece
-EndsWithout rose fault.WrongMethod result piece = EndsAs rose served.WrongMethod wrong_method result piece
-EndsWithout rose fault.OutOfMemory result piece = EndsAs rose served.OutOfMemory out_of_memory result piece
+EndsWithout rose fault.BadHead result piece = EndsAs rose served.BadHead bad_head_answer result piece
+EndsWithout rose fault.TooLarge result piece = EndsAs rose served.TooLarge too_large_answer result piece
+EndsWithout rose fault.NoLength result piece = EndsAs rose served.NoLength no_length_answer result piece
+EndsWithout rose fault.WrongMethod result piece = EndsAs rose served.WrongMethod wrong_method_answer result piece
+EndsWithout rose fault.OutOfMemory result piece = EndsAs rose served.OutOfMemory out_of_memory_answer result piece
 
 -- A response was written whole, and the connection ends where its request was the last; or a front of it, where the link failed; or
 -- there was no memory to write it.
@@ -49,5 +45,5 @@ WritesAll rose bytes last (Some other) piece = ⊥
 abbrev pub ServesRequest : ℕ → Option (List ℕ) → Type 0 → Type 0 → ℕ → ℕ → State → Wire → State → Option Served → List ℕ → Type 0
 ServesRequest lane moments link clock before after s wire t result piece =
     ((r : Response) × IsAnswered lane moments before after s (requested_by wire) t r × WritesAll link (bytes_of r) wire.last result piece)
-    ⊎ (((result ≡ Some served.ClockFault) × clock × IsCall (requested_by wire) × (t ≡ s) × (IsWritten link clock_fault piece ⊎ (piece ≡ [])))
-    ⊎ ((result ≡ Some served.OutOfMemory) × MayHaveStepped lane moments before after s (requested_by wire) t × EndsAs link served.OutOfMemory out_of_memory served.OutOfMemory piece))
+    ⊎ (((result ≡ Some served.ClockFault) × clock × MakesCall (requested_by wire) × (t ≡ s) × (IsWritten link clock_fault_answer piece ⊎ (piece ≡ [])))
+    ⊎ ((result ≡ Some served.OutOfMemory) × MayHaveStepped lane moments before after s (requested_by wire) t × EndsAs link served.OutOfMemory out_of_memory_answer served.OutOfMemory piece))

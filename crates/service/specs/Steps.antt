@@ -1,5 +1,5 @@
 -- What one request comes to, and why it may have no response.
-use Rattle.std.specs.Prelude.{◌≡◌, ◌≤◌, ◌⊎◌, ℕ, List, [], ◌∷◌, Option, Result, MatchResult}
+use Rattle.std.specs.Prelude.{◌≡◌, ◌⊎◌, ℕ, List, [], ◌∷◌, Option, Result, MatchResult}
 use Rattle.desk.specs.Keeping.{Choice, Counted}
 use Rattle.desk.specs.Settled.{MayHaveTicked}
 use Rattle.desk_net.specs.Clocks.{IsMoment, IsAmong}
@@ -18,12 +18,12 @@ OnCall (requested.Bad fault) P = Unit {0}
 OnCall requested.NoRoute P = Unit {0}
 OnCall requested.WrongMethod P = Unit {0}
 
--- a call is asked
-abbrev pub IsCall : Requested → Type 0
-IsCall (requested.Call call) = Unit {0}
-IsCall (requested.Bad fault) = ⊥
-IsCall requested.NoRoute = ⊥
-IsCall requested.WrongMethod = ⊥
+-- it asks for a call
+abbrev pub MakesCall : Requested → Type 0
+MakesCall (requested.Call call) = Unit {0}
+MakesCall (requested.Bad fault) = ⊥
+MakesCall requested.NoRoute = ⊥
+MakesCall requested.WrongMethod = ⊥
 
 -- a moment that the desk can take, one of the clock's where it tells them
 abbrev pub IsRead : Option (List ℕ) → ℕ → Type 0
@@ -38,14 +38,14 @@ pub record IsAnswered (lane : ℕ) (moments : Option (List ℕ)) (before after :
   pub response : r ≡ (exchanged choice lane s at asked).response
   pub state : t ≡ (exchanged choice lane s at asked).state
 
--- a state where memory ran out: as before, or after the tick of a call, or after what was asked was answered
+-- a state where memory ran out: as before, or after the tick of the call that was asked for, or after what was asked was answered
 abbrev pub MayHaveStepped : ℕ → Option (List ℕ) → ℕ → ℕ → State → Requested → State → Type 0
 MayHaveStepped lane moments before after s asked t =
-    (t ≡ s) ⊎ (((at : ℕ) × IsRead moments at × MayHaveTicked lane at s t) ⊎ ((r : Response) × IsAnswered lane moments before after s asked t r))
+    (t ≡ s) ⊎ ((MakesCall asked × ((at : ℕ) × IsRead moments at × MayHaveTicked lane at s t)) ⊎ ((r : Response) × IsAnswered lane moments before after s asked t r))
 
 -- Why there is no response: the clock failed before the call was made, or memory ran out.
 abbrev pub IsUnanswered : ℕ → Option (List ℕ) → Type 0 → ℕ → ℕ → State → Requested → State → NoAnswer → Type 0
-IsUnanswered lane moments clock before after s asked t ClockFault = clock × IsCall asked × (t ≡ s)
+IsUnanswered lane moments clock before after s asked t ClockFault = clock × MakesCall asked × (t ≡ s)
 IsUnanswered lane moments clock before after s asked t OutOfMemory = MayHaveStepped lane moments before after s asked t
 
 -- what comes of what is asked
@@ -57,7 +57,3 @@ AnswersTo lane moments clock before after s asked t result =
 abbrev pub TextAnswersTo : ℕ → Option (List ℕ) → Type 0 → ℕ → ℕ → State → Requested → State → Result (List ℕ) NoAnswer → Type 0
 TextAnswersTo lane moments clock before after s asked t result =
     MatchResult result (λ text. (r : Response) × IsAnswered lane moments before after s asked t r × (text ≡ bytes_of r)) (IsUnanswered lane moments clock before after s asked t)
-
--- a clock whose count may have risen, but not of one that is sound
-abbrev pub ClockGoesOn : Type 0 → Type 0 → ℕ → ℕ → Type 0
-ClockGoesOn sound still before after = (before ≤ after) × (sound → still × (after ≡ before))

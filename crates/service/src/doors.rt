@@ -1,10 +1,10 @@
-ghost use Rattle.std.specs.Prelude.{◌≡◌, ◌≤◌, ◌∷◌, [], IfOk, IfErr};
-ghost use Rattle.desk.specs.Keeping.{KeepsState};
+ghost use Rattle.std.specs.Prelude.{◌≡◌, ◌≢◌, ◌≤◌, ◌∷◌, [], IfOk, IfErr, IsOk};
 ghost use Rattle.desk_io.specs.Causes.{RoseOrFull};
-ghost use Rattle.kept_forms.specs.Formed.{AreFormed};
+ghost use Rattle.desk_net.specs.Doors.{HasNext};
 ghost use Rattle.service.specs.Doors as spec;
-ghost use Rattle.service.specs.Doors.{AreTaken, IsServing, IsVisit, Visit};
-ghost use Rattle.service.specs.Steps.{ClockGoesOn};
+ghost use Rattle.service.specs.Doors.{AreTaken, HasLinks, IsServing, IsVisit, Visit};
+ghost use Rattle.service.specs.Onward.{DeskGoesOn, ClockGoesOn, HasFailed};
+ghost use Rattle.service.specs.declared.doors.ServeEnd.TheVariants as ends;
 
 use crate::serving::{Served, serve_link};
 use desk::Desk;
@@ -88,18 +88,14 @@ fn serve_next_link<R: Wait, K: Keeper, C: Clock, D: Door, L: Ledger>(
     clock: &mut C,
     steps: &mut Steps<L>,
 ) -> Result<Served, Failed>
-    ensures visit { IfOk result (λ served. (v : Visit D.Link) × IsVisit D.Link.told D.Link.fault_count lane (C.moments clock.old) (RoseOrFull (C.fault_count clock.old) (C.fault_count clock.new)) (K.fault_count desk.old.keeper) (K.fault_count desk.new.keeper) desk.old.board.state v desk.new.board.state
+    ensures visit { IfOk result (λ served. (v : Visit D.Link) × IsVisit D.Link.told D.Link.fault_count lane (C.moments clock.old) (HasFailed C.fault_count C.sound clock.old clock.new) (K.fault_count desk.old.keeper) (K.fault_count desk.new.keeper) desk.old.board.state v desk.new.board.state
         × AreTaken (D.told door.old) (D.told door.new) (v ∷ []) × (served ≡ spec.counts_as v)) }
     ensures none { IfErr result (λ _. RoseOrFull (D.fault_count door.old) (D.fault_count door.new) × (D.told door.new ≡ D.told door.old) × (desk.new.board.state ≡ desk.old.board.state)
         × (K.fault_count desk.new.keeper ≡ K.fault_count desk.old.keeper)) }
-    ensures opening { desk.new.board.opening ≡ desk.old.board.opening }
-    ensures rows { KeepsState (K.told desk.old.keeper) desk.old.board.state → KeepsState (K.told desk.new.keeper) desk.new.board.state }
-    ensures later { K.fault_count desk.old.keeper ≤ K.fault_count desk.new.keeper }
-    ensures sound { K.sound desk.old.keeper → K.sound desk.new.keeper × (K.fault_count desk.new.keeper ≡ K.fault_count desk.old.keeper) }
-    ensures formed { AreFormed desk.old.board.state → AreFormed desk.new.board.state }
-    ensures moments { C.moments clock.new ≡ C.moments clock.old }
-    ensures clock { ClockGoesOn (C.sound clock.old) (C.sound clock.new) (C.fault_count clock.old) (C.fault_count clock.new) }
+    ensures desk { DeskGoesOn K.told K.fault_count K.sound desk.old desk.new }
+    ensures clock { ClockGoesOn C.moments C.fault_count C.sound clock.old clock.new }
     ensures door { D.fault_count door.old ≤ D.fault_count door.new }
+    ensures steady_door { D.sound door.old → D.sound door.new × (HasNext (D.told door.old) → IsOk result) }
 {
     let mut link = door.accept()?;
     let served = serve_link(rt, alloc, desk, lane, &mut link, clock, steps);
@@ -122,14 +118,12 @@ pub fn serve_door<R: Wait, K: Keeper, C: Clock, D: Door, L: Ledger>(
     steps: &mut Steps<L>,
 ) -> ServeEnd
     ensures serves { IsServing D.Link.told D.Link.fault_count (D.told door.old) (D.told door.new) (C.moments clock.old) (RoseOrFull (D.fault_count door.old) (D.fault_count door.new)) (RoseOrFull (C.fault_count clock.old) (C.fault_count clock.new)) connections result (K.fault_count desk.old.keeper) (K.fault_count desk.new.keeper) desk.old.board.state desk.new.board.state }
-    ensures opening { desk.new.board.opening ≡ desk.old.board.opening }
-    ensures rows { KeepsState (K.told desk.old.keeper) desk.old.board.state → KeepsState (K.told desk.new.keeper) desk.new.board.state }
-    ensures later { K.fault_count desk.old.keeper ≤ K.fault_count desk.new.keeper }
-    ensures sound { K.sound desk.old.keeper → K.sound desk.new.keeper × (K.fault_count desk.new.keeper ≡ K.fault_count desk.old.keeper) }
-    ensures formed { AreFormed desk.old.board.state → AreFormed desk.new.board.state }
-    ensures moments { C.moments clock.new ≡ C.moments clock.old }
-    ensures clock { ClockGoesOn (C.sound clock.old) (C.sound clock.new) (C.fault_count clock.old) (C.fault_count clock.new) }
+    ensures desk { DeskGoesOn K.told K.fault_count K.sound desk.old desk.new }
+    ensures clock { ClockGoesOn C.moments C.fault_count C.sound clock.old clock.new }
     ensures door { D.fault_count door.old ≤ D.fault_count door.new }
+    // Neither ends the serving where it is sound, and the door has a link to come for each connection.
+    ensures steady_clock { C.sound clock.old → result ≢ ends.ClockFault }
+    ensures steady_door { D.sound door.old → HasLinks (D.told door.old) connections → result ≢ ends.DoorFault }
 {
     let mut met = Met {
         memory: false,

@@ -1,13 +1,11 @@
-ghost use Rattle.std.specs.Prelude.{◌≡◌, ◌≤◌, IfOk};
+ghost use Rattle.std.specs.Prelude.{◌≡◌, IfOk, IsErrOf};
 ghost use Rattle.http.specs.StatusCode.{IsStatusCode};
 ghost use Rattle.plan_json.specs.Canonical.{CallHasForms};
-ghost use Rattle.kept_forms.specs.Formed.{AreFormed};
-ghost use Rattle.desk.specs.Keeping.{KeepsState};
-ghost use Rattle.desk_io.specs.Causes.{RoseOrFull};
 ghost use Rattle.service.specs.Forms.{RequestedHasForms};
+ghost use Rattle.service.specs.Onward.{DeskGoesOn, ClockGoesOn, HasFailed};
 ghost use Rattle.service.specs.Requested.{requested_by as request_of};
-ghost use Rattle.service.specs.Steps.{AnswersTo, TextAnswersTo, ClockGoesOn};
-ghost use Rattle.service.specs.declared.exchange.NoAnswer.TheVariants.{OutOfMemory as NoMemory};
+ghost use Rattle.service.specs.Steps.{AnswersTo, TextAnswersTo};
+ghost use Rattle.service.specs.declared.exchange.NoAnswer.TheVariants.{ClockFault as ByClock, OutOfMemory as NoMemory};
 
 use crate::requested::{Requested, requested_by};
 use crate::responses::Response;
@@ -48,15 +46,10 @@ fn reply_to<K: Keeper, C: Clock, L: Ledger>(
     steps: &mut Steps<L>,
 ) -> Result<Response, NoAnswer>
     requires { CallHasForms call.now }
-    ensures answers { AnswersTo lane (C.moments clock.old) (RoseOrFull (C.fault_count clock.old) (C.fault_count clock.new)) (K.fault_count desk.old.keeper) (K.fault_count desk.new.keeper) desk.old.board.state (Requested.Call call.now) desk.new.board.state result }
+    ensures answers { AnswersTo lane (C.moments clock.old) (HasFailed C.fault_count C.sound clock.old clock.new) (K.fault_count desk.old.keeper) (K.fault_count desk.new.keeper) desk.old.board.state (Requested.Call call.now) desk.new.board.state result }
     ensures code { IfOk result (λ r. IsStatusCode r.status) }
-    ensures opening { desk.new.board.opening ≡ desk.old.board.opening }
-    ensures rows { KeepsState (K.told desk.old.keeper) desk.old.board.state → KeepsState (K.told desk.new.keeper) desk.new.board.state }
-    ensures later { K.fault_count desk.old.keeper ≤ K.fault_count desk.new.keeper }
-    ensures sound { K.sound desk.old.keeper → K.sound desk.new.keeper × (K.fault_count desk.new.keeper ≡ K.fault_count desk.old.keeper) }
-    ensures formed { AreFormed desk.old.board.state → AreFormed desk.new.board.state }
-    ensures moments { C.moments clock.new ≡ C.moments clock.old }
-    ensures clock { ClockGoesOn (C.sound clock.old) (C.sound clock.new) (C.fault_count clock.old) (C.fault_count clock.new) }
+    ensures desk { DeskGoesOn K.told K.fault_count K.sound desk.old desk.new }
+    ensures clock { ClockGoesOn C.moments C.fault_count C.sound clock.old clock.new }
 {
     let Ok(at) = clock.now() else {
         return Err(NoAnswer::ClockFault);
@@ -75,15 +68,10 @@ fn respond<K: Keeper, C: Clock, L: Ledger>(
     steps: &mut Steps<L>,
 ) -> Result<Response, NoAnswer>
     requires { RequestedHasForms requested.now }
-    ensures answers { AnswersTo lane (C.moments clock.old) (RoseOrFull (C.fault_count clock.old) (C.fault_count clock.new)) (K.fault_count desk.old.keeper) (K.fault_count desk.new.keeper) desk.old.board.state requested.now desk.new.board.state result }
+    ensures answers { AnswersTo lane (C.moments clock.old) (HasFailed C.fault_count C.sound clock.old clock.new) (K.fault_count desk.old.keeper) (K.fault_count desk.new.keeper) desk.old.board.state requested.now desk.new.board.state result }
     ensures code { IfOk result (λ r. IsStatusCode r.status) }
-    ensures opening { desk.new.board.opening ≡ desk.old.board.opening }
-    ensures rows { KeepsState (K.told desk.old.keeper) desk.old.board.state → KeepsState (K.told desk.new.keeper) desk.new.board.state }
-    ensures later { K.fault_count desk.old.keeper ≤ K.fault_count desk.new.keeper }
-    ensures sound { K.sound desk.old.keeper → K.sound desk.new.keeper × (K.fault_count desk.new.keeper ≡ K.fault_count desk.old.keeper) }
-    ensures formed { AreFormed desk.old.board.state → AreFormed desk.new.board.state }
-    ensures moments { C.moments clock.new ≡ C.moments clock.old }
-    ensures clock { ClockGoesOn (C.sound clock.old) (C.sound clock.new) (C.fault_count clock.old) (C.fault_count clock.new) }
+    ensures desk { DeskGoesOn K.told K.fault_count K.sound desk.old desk.new }
+    ensures clock { ClockGoesOn C.moments C.fault_count C.sound clock.old clock.new }
 {
     match requested {
         Requested::Call(call) => reply_to(alloc, desk, lane, clock, call, steps),
@@ -102,14 +90,11 @@ pub fn exchange<K: Keeper, C: Clock, L: Ledger>(
     wire: &Wire,
     steps: &mut Steps<L>,
 ) -> Result<Text, NoAnswer>
-    ensures answers { TextAnswersTo lane (C.moments clock.old) (RoseOrFull (C.fault_count clock.old) (C.fault_count clock.new)) (K.fault_count desk.old.keeper) (K.fault_count desk.new.keeper) desk.old.board.state (request_of wire.now) desk.new.board.state result }
-    ensures opening { desk.new.board.opening ≡ desk.old.board.opening }
-    ensures rows { KeepsState (K.told desk.old.keeper) desk.old.board.state → KeepsState (K.told desk.new.keeper) desk.new.board.state }
-    ensures later { K.fault_count desk.old.keeper ≤ K.fault_count desk.new.keeper }
-    ensures sound { K.sound desk.old.keeper → K.sound desk.new.keeper × (K.fault_count desk.new.keeper ≡ K.fault_count desk.old.keeper) }
-    ensures formed { AreFormed desk.old.board.state → AreFormed desk.new.board.state }
-    ensures moments { C.moments clock.new ≡ C.moments clock.old }
-    ensures clock { ClockGoesOn (C.sound clock.old) (C.sound clock.new) (C.fault_count clock.old) (C.fault_count clock.new) }
+    ensures answers { TextAnswersTo lane (C.moments clock.old) (HasFailed C.fault_count C.sound clock.old clock.new) (K.fault_count desk.old.keeper) (K.fault_count desk.new.keeper) desk.old.board.state (request_of wire.now) desk.new.board.state result }
+    ensures desk { DeskGoesOn K.told K.fault_count K.sound desk.old desk.new }
+    ensures clock { ClockGoesOn C.moments C.fault_count C.sound clock.old clock.new }
+    // Over a sound clock only want of memory leaves a request without a response.
+    ensures steady_clock { C.sound clock.old → IsErrOf result ByClock → ⊥ }
 {
     let requested = requested_by(alloc, wire)?;
     let response = respond(alloc, desk, lane, clock, &requested, steps)?;

@@ -10,3 +10,4 @@ mod statuses;
 
 pub use doors::{ServeEnd, serve_door};
 pub use serving::{Served, serve_link};
+pub use statuses::status_of;

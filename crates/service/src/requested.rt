@@ -1,5 +1,4 @@
 ghost use Rattle.std.specs.Prelude.{◌≡◌, IfOk};
-ghost use Rattle.std.specs.Str.{is_utf8};
 ghost use Rattle.desk_json.specs.Faults.{call_or_fault};
 ghost use Rattle.service.specs.Requested as spec;
 ghost use Rattle.plan_json.specs.Canonical.{AskHasForms, IsShort};
@@ -25,19 +24,13 @@ pub enum Requested {
     WrongMethod,
 }
 
-fn is_text(text: &[u8]) -> bool
-    ensures { result ≡ is_utf8 text.now }
-{
-    match str::from_utf8(text) {
-        Ok(_) => true,
-        Err(_) => false,
-    }
-}
-
 fn is_short(text: &[u8]) -> bool
     ensures { result ≡ spec.is_short text.now }
 {
-    is_text(text) && text.len() <= 64
+    match str::from_utf8(text) {
+        Ok(_) => text.len() <= 64,
+        Err(_) => false,
+    }
 }
 
 // A name or a key of a view. What is no text of at most 64 bytes is taken as empty.

@@ -75,43 +75,43 @@ impl Response {
 // The answers that end a connection are fixed bytes, so that they take no memory.
 
 #[tactic(auto, unfolding(desk_http::specs::Responses::response))]
-pub fn bad_head() -> &'static [u8]
-    ensures { result.now ≡ spec.bytes_of ends.bad_head }
+pub fn bad_head_answer() -> &'static [u8]
+    ensures { result.now ≡ spec.bytes_of ends.bad_head_answer }
 {
     b"HTTP/1.1 400 Bad Request\r\nContent-Type: application/json\r\nContent-Length: 19\r\n\r\n{\"error\":\"BadHead\"}"
 }
 
 #[tactic(auto, unfolding(desk_http::specs::Responses::response))]
-pub fn too_large() -> &'static [u8]
-    ensures { result.now ≡ spec.bytes_of ends.too_large }
+pub fn too_large_answer() -> &'static [u8]
+    ensures { result.now ≡ spec.bytes_of ends.too_large_answer }
 {
     b"HTTP/1.1 413 Payload Too Large\r\nContent-Type: application/json\r\nContent-Length: 20\r\n\r\n{\"error\":\"TooLarge\"}"
 }
 
 #[tactic(auto, unfolding(desk_http::specs::Responses::response))]
-pub fn no_length() -> &'static [u8]
-    ensures { result.now ≡ spec.bytes_of ends.no_length }
+pub fn no_length_answer() -> &'static [u8]
+    ensures { result.now ≡ spec.bytes_of ends.no_length_answer }
 {
     b"HTTP/1.1 411 Length Required\r\nContent-Type: application/json\r\nContent-Length: 20\r\n\r\n{\"error\":\"NoLength\"}"
 }
 
 #[tactic(auto, unfolding(desk_http::specs::Responses::response))]
-pub fn wrong_method() -> &'static [u8]
-    ensures { result.now ≡ spec.bytes_of ends.wrong_method }
+pub fn wrong_method_answer() -> &'static [u8]
+    ensures { result.now ≡ spec.bytes_of ends.wrong_method_answer }
 {
     b"HTTP/1.1 405 Method Not Allowed\r\nContent-Type: application/json\r\nContent-Length: 23\r\n\r\n{\"error\":\"WrongMethod\"}"
 }
 
 #[tactic(auto, unfolding(desk_http::specs::Responses::response))]
-pub fn clock_fault() -> &'static [u8]
-    ensures { result.now ≡ spec.bytes_of ends.clock_fault }
+pub fn clock_fault_answer() -> &'static [u8]
+    ensures { result.now ≡ spec.bytes_of ends.clock_fault_answer }
 {
     b"HTTP/1.1 503 Service Unavailable\r\nContent-Type: application/json\r\nContent-Length: 22\r\n\r\n{\"error\":\"ClockFault\"}"
 }
 
 #[tactic(auto, unfolding(desk_http::specs::Responses::response))]
-pub fn out_of_memory() -> &'static [u8]
-    ensures { result.now ≡ spec.bytes_of ends.out_of_memory }
+pub fn out_of_memory_answer() -> &'static [u8]
+    ensures { result.now ≡ spec.bytes_of ends.out_of_memory_answer }
 {
     b"HTTP/1.1 500 Internal Server Error\r\nContent-Type: application/json\r\nContent-Length: 23\r\n\r\n{\"error\":\"OutOfMemory\"}"
 }

@@ -1,17 +1,18 @@
-ghost use Rattle.std.specs.Prelude.{◌≡◌, ◌≤◌, ◌⊎◌, []};
-ghost use Rattle.desk.specs.Keeping.{KeepsState};
+ghost use Rattle.std.specs.Prelude.{◌≡◌, ◌≢◌, ◌⊎◌, []};
 ghost use Rattle.desk_http.specs.Requests.{unused};
-ghost use Rattle.desk_io.specs.Causes.{RoseOrFull};
 ghost use Rattle.desk_net.specs.Streams.{unread};
-ghost use Rattle.kept_forms.specs.Formed.{AreFormed};
-ghost use Rattle.service.specs.Connections.{IsConnection, IsStep, IsWritten, clock_fault as clock_response};
+ghost use Rattle.service.specs.Connections.{IsConnection, IsStep, IsWritten, clock_fault_answer as clock_response};
 ghost use Rattle.service.specs.Exchanges.{bytes_of};
-ghost use Rattle.service.specs.Serving.{EndsAs, EndsWithout, LinkGoesOn, ServesRequest, WritesAll, Wrote};
-ghost use Rattle.service.specs.Steps.{ClockGoesOn};
+ghost use Rattle.service.specs.Onward.{DeskGoesOn, ClockGoesOn, LinkGoesOn, HasFailed};
+ghost use Rattle.service.specs.Serving.{EndsAs, EndsWithout, ServesRequest, WritesAll, Wrote};
 ghost use Rattle.service.specs.declared.responses.Response.{Response as AResponse};
+ghost use Rattle.service.specs.declared.serving.Served.TheVariants as ended;
 
 use crate::exchange::{NoAnswer, exchange};
-use crate::responses::{bad_head, clock_fault, no_length, out_of_memory, too_large, wrong_method};
+use crate::responses::{
+    bad_head_answer, clock_fault_answer, no_length_answer, out_of_memory_answer, too_large_answer,
+    wrong_method_answer,
+};
 use desk::Desk;
 use desk_http::{Buffer, Wire, WireFault, next_request};
 use desk_io::PutFault;
@@ -25,13 +26,14 @@ use std::sync::ledger::Ledger;
 /// How a connection ended.
 #[derive(Clone, Copy, Debug, PartialEq, Eq)]
 pub enum Served {
-    /// The link ended after a whole request, or a request that was to be the last was answered.
+    /// The link ended where no request had begun: before the first one, or after a whole one. Or a request that was to be
+    /// the last was answered.
     Ended,
     /// The link ended within a request.
     Cut,
     /// What came makes no head.
     BadHead,
-    /// A head or a body was too large.
+    /// No head was whole within as many bytes as one may have, or a body was stated that is too large.
     TooLarge,
     /// The length of a body wasn't stated as it must be.
     NoLength,
@@ -49,8 +51,8 @@ pub enum Served {
 
 // Writes the answer that ends a connection. A link that fails now doesn't change why it ends.
 fn end_by<N: Link>(link: &mut N, text: &[u8], served: Served) -> Served
-    ensures wrote { (r : AResponse) → text.now ≡ bytes_of r → Wrote (N.told link.old) (N.told link.new) (EndsAs (RoseOrFull (N.fault_count link.old) (N.fault_count link.new)) served r result) }
-    ensures link { LinkGoesOn (N.sound link.old) (N.sound link.new) (N.fault_count link.old) (N.fault_count link.new) }
+    ensures wrote { (r : AResponse) → text.now ≡ bytes_of r → Wrote (N.told link.old) (N.told link.new) (EndsAs (HasFailed N.fault_count N.sound link.old link.new) served r result) }
+    ensures link { LinkGoesOn N.fault_count N.sound link.old link.new }
     ensures left { unread (N.told link.new) ≡ unread (N.told link.old) }
 {
     match link.write(text) {
@@ -62,34 +64,34 @@ fn end_by<N: Link>(link: &mut N, text: &[u8], served: Served) -> Served
 
 // After a fault of the clock the connection ends by it, whatever comes of the answer.
 fn end_by_clock<N: Link>(link: &mut N)
-    ensures wrote { Wrote (N.told link.old) (N.told link.new) (λ piece. IsWritten (RoseOrFull (N.fault_count link.old) (N.fault_count link.new)) clock_response piece ⊎ (piece ≡ [])) }
-    ensures link { LinkGoesOn (N.sound link.old) (N.sound link.new) (N.fault_count link.old) (N.fault_count link.new) }
+    ensures wrote { Wrote (N.told link.old) (N.told link.new) (λ piece. IsWritten (HasFailed N.fault_count N.sound link.old link.new) clock_response piece ⊎ (piece ≡ [])) }
+    ensures link { LinkGoesOn N.fault_count N.sound link.old link.new }
     ensures left { unread (N.told link.new) ≡ unread (N.told link.old) }
 {
-    let _ = link.write(clock_fault());
+    let _ = link.write(clock_fault_answer());
 }
 
 // There is no further request.
 fn end_without<N: Link>(link: &mut N, fault: WireFault) -> Served
-    ensures wrote { Wrote (N.told link.old) (N.told link.new) (EndsWithout (RoseOrFull (N.fault_count link.old) (N.fault_count link.new)) fault result) }
-    ensures link { LinkGoesOn (N.sound link.old) (N.sound link.new) (N.fault_count link.old) (N.fault_count link.new) }
+    ensures wrote { Wrote (N.told link.old) (N.told link.new) (EndsWithout (HasFailed N.fault_count N.sound link.old link.new) fault result) }
+    ensures link { LinkGoesOn N.fault_count N.sound link.old link.new }
 {
     match fault {
         WireFault::End => Served::Ended,
         WireFault::Cut => Served::Cut,
         WireFault::ReadFault => Served::ReadFault,
-        WireFault::BadHead => end_by(link, bad_head(), Served::BadHead),
-        WireFault::TooLarge => end_by(link, too_large(), Served::TooLarge),
-        WireFault::NoLength => end_by(link, no_length(), Served::NoLength),
-        WireFault::WrongMethod => end_by(link, wrong_method(), Served::WrongMethod),
-        WireFault::OutOfMemory => end_by(link, out_of_memory(), Served::OutOfMemory),
+        WireFault::BadHead => end_by(link, bad_head_answer(), Served::BadHead),
+        WireFault::TooLarge => end_by(link, too_large_answer(), Served::TooLarge),
+        WireFault::NoLength => end_by(link, no_length_answer(), Served::NoLength),
+        WireFault::WrongMethod => end_by(link, wrong_method_answer(), Served::WrongMethod),
+        WireFault::OutOfMemory => end_by(link, out_of_memory_answer(), Served::OutOfMemory),
     }
 }
 
 // Writes a response. The connection ends where that fails, or where its request was to be the last.
 fn write_response<N: Link>(link: &mut N, bytes: &[u8], last: bool) -> Option<Served>
-    ensures wrote { Wrote (N.told link.old) (N.told link.new) (WritesAll (RoseOrFull (N.fault_count link.old) (N.fault_count link.new)) bytes.now last result) }
-    ensures link { LinkGoesOn (N.sound link.old) (N.sound link.new) (N.fault_count link.old) (N.fault_count link.new) }
+    ensures wrote { Wrote (N.told link.old) (N.told link.new) (WritesAll (HasFailed N.fault_count N.sound link.old link.new) bytes.now last result) }
+    ensures link { LinkGoesOn N.fault_count N.sound link.old link.new }
     ensures left { unread (N.told link.new) ≡ unread (N.told link.old) }
 {
     match link.write(bytes) {
@@ -109,15 +111,10 @@ fn serve_request<K: Keeper, N: Link, C: Clock, L: Ledger>(
     wire: &Wire,
     steps: &mut Steps<L>,
 ) -> Option<Served>
-    ensures serves { Wrote (N.told link.old) (N.told link.new) (ServesRequest lane (C.moments clock.old) (RoseOrFull (N.fault_count link.old) (N.fault_count link.new)) (RoseOrFull (C.fault_count clock.old) (C.fault_count clock.new)) (K.fault_count desk.old.keeper) (K.fault_count desk.new.keeper) desk.old.board.state wire.now desk.new.board.state result) }
-    ensures opening { desk.new.board.opening ≡ desk.old.board.opening }
-    ensures rows { KeepsState (K.told desk.old.keeper) desk.old.board.state → KeepsState (K.told desk.new.keeper) desk.new.board.state }
-    ensures later { K.fault_count desk.old.keeper ≤ K.fault_count desk.new.keeper }
-    ensures sound { K.sound desk.old.keeper → K.sound desk.new.keeper × (K.fault_count desk.new.keeper ≡ K.fault_count desk.old.keeper) }
-    ensures formed { AreFormed desk.old.board.state → AreFormed desk.new.board.state }
-    ensures moments { C.moments clock.new ≡ C.moments clock.old }
-    ensures clock { ClockGoesOn (C.sound clock.old) (C.sound clock.new) (C.fault_count clock.old) (C.fault_count clock.new) }
-    ensures link { LinkGoesOn (N.sound link.old) (N.sound link.new) (N.fault_count link.old) (N.fault_count link.new) }
+    ensures serves { Wrote (N.told link.old) (N.told link.new) (ServesRequest lane (C.moments clock.old) (HasFailed N.fault_count N.sound link.old link.new) (HasFailed C.fault_count C.sound clock.old clock.new) (K.fault_count desk.old.keeper) (K.fault_count desk.new.keeper) desk.old.board.state wire.now desk.new.board.state result) }
+    ensures desk { DeskGoesOn K.told K.fault_count K.sound desk.old desk.new }
+    ensures clock { ClockGoesOn C.moments C.fault_count C.sound clock.old clock.new }
+    ensures link { LinkGoesOn N.fault_count N.sound link.old link.new }
     ensures left { unread (N.told link.new) ≡ unread (N.told link.old) }
 {
     match exchange(alloc, desk, lane, clock, wire, steps) {
@@ -126,7 +123,11 @@ fn serve_request<K: Keeper, N: Link, C: Clock, L: Ledger>(
             end_by_clock(link);
             Some(Served::ClockFault)
         }
-        Err(NoAnswer::OutOfMemory) => Some(end_by(link, out_of_memory(), Served::OutOfMemory)),
+        Err(NoAnswer::OutOfMemory) => Some(end_by(
+            link,
+            out_of_memory_answer(),
+            Served::OutOfMemory,
+        )),
     }
 }
 
@@ -140,15 +141,10 @@ fn serve_next<K: Keeper, N: Link, C: Clock, L: Ledger>(
     buffer: &mut Buffer,
     steps: &mut Steps<L>,
 ) -> Option<Served>
-    ensures serves { Wrote (N.told link.old) (N.told link.new) (λ piece. IsStep lane (C.moments clock.old) (RoseOrFull (N.fault_count link.old) (N.fault_count link.new)) (RoseOrFull (C.fault_count clock.old) (C.fault_count clock.new)) (K.fault_count desk.old.keeper) (K.fault_count desk.new.keeper) desk.old.board.state (unused buffer.old (unread (N.told link.old))) (unused buffer.new (unread (N.told link.new))) desk.new.board.state piece result) }
-    ensures opening { desk.new.board.opening ≡ desk.old.board.opening }
-    ensures rows { KeepsState (K.told desk.old.keeper) desk.old.board.state → KeepsState (K.told desk.new.keeper) desk.new.board.state }
-    ensures later { K.fault_count desk.old.keeper ≤ K.fault_count desk.new.keeper }
-    ensures sound { K.sound desk.old.keeper → K.sound desk.new.keeper × (K.fault_count desk.new.keeper ≡ K.fault_count desk.old.keeper) }
-    ensures formed { AreFormed desk.old.board.state → AreFormed desk.new.board.state }
-    ensures moments { C.moments clock.new ≡ C.moments clock.old }
-    ensures clock { ClockGoesOn (C.sound clock.old) (C.sound clock.new) (C.fault_count clock.old) (C.fault_count clock.new) }
-    ensures link { LinkGoesOn (N.sound link.old) (N.sound link.new) (N.fault_count link.old) (N.fault_count link.new) }
+    ensures serves { Wrote (N.told link.old) (N.told link.new) (λ piece. IsStep lane (C.moments clock.old) (HasFailed N.fault_count N.sound link.old link.new) (HasFailed C.fault_count C.sound clock.old clock.new) (K.fault_count desk.old.keeper) (K.fault_count desk.new.keeper) desk.old.board.state (unused buffer.old (unread (N.told link.old))) (unused buffer.new (unread (N.told link.new))) desk.new.board.state piece result) }
+    ensures desk { DeskGoesOn K.told K.fault_count K.sound desk.old desk.new }
+    ensures clock { ClockGoesOn C.moments C.fault_count C.sound clock.old clock.new }
+    ensures link { LinkGoesOn N.fault_count N.sound link.old link.new }
 {
     match next_request(alloc, link, buffer) {
         Ok(wire) => serve_request(alloc, desk, lane, link, clock, &wire, steps),
@@ -160,7 +156,8 @@ fn serve_next<K: Keeper, N: Link, C: Clock, L: Ledger>(
 ///
 /// What was written is the responses to the requests of the link's bytes, each with the status and the body of what it was
 /// answered, and, where a request can't be read, the answer that ends the connection. Only the answer that was being written
-/// when the link failed, or when memory ran out, may be cut or missing. Between two requests it may wait for ever.
+/// when the link failed, which a sound one never does, or when memory ran out, may be cut or missing. Between two requests it
+/// may wait for ever.
 pub fn serve_link<R: Wait, K: Keeper, N: Link, C: Clock, L: Ledger>(
     rt: &R,
     alloc: Global,
@@ -170,15 +167,13 @@ pub fn serve_link<R: Wait, K: Keeper, N: Link, C: Clock, L: Ledger>(
     clock: &mut C,
     steps: &mut Steps<L>,
 ) -> Served
-    ensures serves { Wrote (N.told link.old) (N.told link.new) (IsConnection lane (C.moments clock.old) (RoseOrFull (N.fault_count link.old) (N.fault_count link.new)) (RoseOrFull (C.fault_count clock.old) (C.fault_count clock.new)) (K.fault_count desk.old.keeper) (K.fault_count desk.new.keeper) desk.old.board.state (unread (N.told link.old)) result desk.new.board.state) }
-    ensures opening { desk.new.board.opening ≡ desk.old.board.opening }
-    ensures rows { KeepsState (K.told desk.old.keeper) desk.old.board.state → KeepsState (K.told desk.new.keeper) desk.new.board.state }
-    ensures later { K.fault_count desk.old.keeper ≤ K.fault_count desk.new.keeper }
-    ensures sound { K.sound desk.old.keeper → K.sound desk.new.keeper × (K.fault_count desk.new.keeper ≡ K.fault_count desk.old.keeper) }
-    ensures formed { AreFormed desk.old.board.state → AreFormed desk.new.board.state }
-    ensures moments { C.moments clock.new ≡ C.moments clock.old }
-    ensures clock { ClockGoesOn (C.sound clock.old) (C.sound clock.new) (C.fault_count clock.old) (C.fault_count clock.new) }
-    ensures link { LinkGoesOn (N.sound link.old) (N.sound link.new) (N.fault_count link.old) (N.fault_count link.new) }
+    ensures serves { Wrote (N.told link.old) (N.told link.new) (IsConnection lane (C.moments clock.old) (HasFailed N.fault_count N.sound link.old link.new) (HasFailed C.fault_count C.sound clock.old clock.new) (K.fault_count desk.old.keeper) (K.fault_count desk.new.keeper) desk.old.board.state (unread (N.told link.old)) result desk.new.board.state) }
+    ensures desk { DeskGoesOn K.told K.fault_count K.sound desk.old desk.new }
+    ensures clock { ClockGoesOn C.moments C.fault_count C.sound clock.old clock.new }
+    ensures link { LinkGoesOn N.fault_count N.sound link.old link.new }
+    // Neither ends it where it is sound.
+    ensures steady_clock { C.sound clock.old → result ≢ ended.ClockFault }
+    ensures steady_link { N.sound link.old → (result ≢ ended.ReadFault) × (result ≢ ended.WriteFault) }
 {
     let mut buffer = Buffer::new(alloc);
     for _ in rt.forever() {

@@ -51,7 +51,18 @@ fn status_of_reply(reply: &Reply) -> u16
     }
 }
 
-/// The status that goes with what is said of a call.
+/// The status that goes with what is said of a call (RFC 9110, section 15):
+///
+/// - 200: it was accepted, or shows what it asked to see;
+/// - 400: a text is no call;
+/// - 401: `UnknownActor`, `WrongKey`;
+/// - 403: `NotYourRole`, `NotYours`;
+/// - 404: `UnknownTail`, `NoSuchDeferral`, `NoSuchRelease`, `NoSuchAlert`, `NoSuchStation`, `UnknownItem`;
+/// - 409: `NumberReused`, `NotPending`, `WrongRevision`, `WrongText`, `WeatherNewer`, `RuleFails`, `WrongPhase`,
+///   `AlreadySigned`, `AlertMoved`, `TooYoung`, `NumberSwept`;
+/// - 422: `BadReport`, `DayOutOfReach`, `BadPlan`, `BadFound`;
+/// - 503: `Unkept`;
+/// - 507: `ReportsFull`, `ReleasesFull`, `HistoryFull`, `DeferralsFull`.
 pub fn status_of(said: &Said) -> u16
     ensures status { result ≡ spec.status_of said.now }
     ensures code { IsStatusCode result }

@@ -1,20 +1,16 @@
-use Rattle.std.proofs.Common.{refl, arith, ◌∙◌}
-use Rattle.service.proofs.Lines.{rose_before, rose_later}
-use Rattle.service.proofs.Visits.{served_none, served_next, served_to_fault}
+use Rattle.std.proofs.Common.{◌≡◌, true, false, arith}
+use Rattle.service.proofs.Onward.{desk_stays, desk_on, clock_stays, clock_on, failed_first, failed_last, rose_before}
+use Rattle.service.proofs.Visits.{door_not_clock, next_comes, served_none, served_next, served_to_end, served_to_fault}
 use Rattle.service.proofs.doors.serve_door.Goals as goal
 
 pub loop-before-init : goal.loop-before-init
 loop-before-init g c = record {
   served = served_none _ _ _ _ _ _ _ _ c.bind.ensures.same;
   within = omega arith;
-  opening = refl;
-  rows = λ kept. kept;
-  later = omega arith;
-  sound = λ sound. (sound, refl);
-  formed = λ formed. formed;
-  moments = refl;
-  clock = (omega arith, λ sound. (sound, refl));
+  desk = desk_stays g.K.Keeper.told g.K.Keeper.fault_count g.K.Keeper.sound _;
+  clock = clock_stays g.C.Clock.moments g.C.Clock.fault_count g.C.Clock.sound _;
   door = c.bind.ensures.cause.later;
+  steady = λ sound. (c.bind.ensures.sound sound).0;
 }
 
 pub returns-in-Err-clause-serves : goal.returns-in-Err-clause-serves
@@ -23,7 +19,29 @@ returns-in-Err-clause-serves g c =
     let none = c.in-Err.ensures.none in
     let clock = c.in-Err.ensures.clock in
     served_to_fault g.D.Link.Link.told g.D.Link.Link.fault_count _ _ _ _ _ _ _ _ _ c.loop-before.met _ _ _ _ _ _ _ c.end_at_door.ensures inv.within (rose_before _ _ _ inv.door none.0)
-    (λ rose. rose_later _ _ _ clock.0 rose) none.1 none.3 none.2 inv.served
+    (λ failed. (failed_first g.C.Clock.fault_count g.C.Clock.sound _ _ _ clock.later failed).0) none.1 none.3 none.2 inv.served
+
+pub returns-in-Err-clause-desk : goal.returns-in-Err-clause-desk
+returns-in-Err-clause-desk g c = desk_on _ _ _ _ _ _ c.loop-before.invariant.desk c.in-Err.ensures.desk
+
+pub returns-in-Err-clause-clock : goal.returns-in-Err-clause-clock
+returns-in-Err-clause-clock g c = clock_on _ _ _ _ _ _ c.loop-before.invariant.clock c.in-Err.ensures.clock
+
+pub returns-in-Err-clause-steady_clock : goal.returns-in-Err-clause-steady_clock
+returns-in-Err-clause-steady_clock g c = λ sound. door_not_clock c.loop-before.met _ c.end_at_door.ensures
+
+pub returns-in-Err-clause-steady_door : goal.returns-in-Err-clause-steady_door
+returns-in-Err-clause-steady_door g c = λ sound links is.
+    let inv = c.loop-before.invariant in
+    let within = c.loop-before-test.true in
+    let next = next_comes _ _ inv.served.vs _ _ inv.served.taken inv.served.many (omega (arith, within)) links in
+    let given : false ≡ true = (c.in-Err.ensures.steady_door (inv.steady sound)).1 next in cc
+
+pub returns-clause-serves : goal.returns-clause-serves
+returns-clause-serves g c =
+    let inv = c.loop-before.invariant in
+    let all = c.loop-before-test.false in
+    served_to_end g.D.Link.Link.told g.D.Link.Link.fault_count _ _ _ _ _ _ _ _ c.loop-before.met _ _ _ _ _ c.end_of.ensures inv.within (omega (arith, all)) (λ failed. failed.0) inv.served
 
 pub loop-before-preserved : goal.loop-before-preserved
 loop-before-preserved g c =
@@ -32,15 +50,11 @@ loop-before-preserved g c =
     let is = c.in-Ok.ensures in
     let visit = is.visit in
     record {
-      served = served_next g.D.Link.Link.told g.D.Link.Link.fault_count _ _ _ _ _ _ _ _ c.loop-before.before c.loop-before.met _ _ _ _ _ _ _ _ visit.0 inv.moments (λ rose. rose_later _ _ _ is.clock.0 rose)
-          (λ rose. rose_before _ _ _ inv.clock.0 rose) inv.served visit.1 visit.2 visit.3 c.after-met.ensures;
+      served = served_next g.D.Link.Link.told g.D.Link.Link.fault_count _ _ _ _ _ _ _ _ c.loop-before.before c.loop-before.met _ _ _ _ _ _ _ _ visit.0 inv.clock.moments (failed_first g.C.Clock.fault_count g.C.Clock.sound _ _ _ is.clock.later)
+          (failed_last g.C.Clock.fault_count g.C.Clock.sound _ _ _ inv.clock.later (λ sound. (inv.clock.sound sound).0)) inv.served visit.1 visit.2 visit.3 c.after-met.ensures;
       within = omega (arith, within);
-      opening = is.opening ∙ inv.opening;
-      rows = λ kept. is.rows (inv.rows kept);
-      later = omega (arith, is.later, inv.later);
-      sound = λ sound. let before = inv.sound sound in let after = is.sound before.0 in (after.0, after.1 ∙ before.1);
-      formed = λ formed. is.formed (inv.formed formed);
-      moments = is.moments ∙ inv.moments;
-      clock = (omega (arith, inv.clock.0, is.clock.0), λ sound. let before = inv.clock.1 sound in let after = is.clock.1 before.0 in (after.0, after.1 ∙ before.1));
-      door = omega (arith, inv.door, is.door);
+      desk = desk_on _ _ _ _ _ _ inv.desk is.desk;
+      clock = clock_on _ _ _ _ _ _ inv.clock is.clock;
+      door = let before = inv.door in let after = is.door in omega (arith, before, after);
+      steady = λ sound. (is.steady_door (inv.steady sound)).0;
     }

@@ -6,4 +6,7 @@ pub returns-in-Ok-clause-wrote : goal.returns-in-Ok-clause-wrote
 returns-in-Ok-clause-wrote g c = λ r same. ends_whole _ _ _ _ _ _ r c.in-Ok.ensures.told same
 
 pub returns-in-Err-Failed-clause-wrote : goal.returns-in-Err-Failed-clause-wrote
-returns-in-Err-Failed-clause-wrote g c = λ r same. ends_front _ _ _ _ _ _ _ r c.in-Err-Failed.field-0-is c.in-Err-Failed.ensures.told (c.in-Err-Failed.ensures.cause.failed (ap Err c.in-Err-Failed.field-0-is)) same
+returns-in-Err-Failed-clause-wrote g c = λ r same.
+    let is = c.in-Err-Failed.ensures in
+    let fails = ap Err c.in-Err-Failed.field-0-is in
+    ends_front _ _ _ _ _ _ _ r c.in-Err-Failed.field-0-is is.told (is.cause.failed fails, λ sound. (is.sound sound).1 fails) same

@@ -1,62 +1,48 @@
-use Rattle.std.proofs.Common.{[], refl, arith, ◌∙◌}
+use Rattle.std.proofs.Common.{[]}
 use Rattle.service.proofs.Joins.{begins, written_end, written_more}
-use Rattle.service.proofs.Lines.{gains_still, rose_before}
+use Rattle.service.proofs.Lines.{gains_still}
+use Rattle.service.proofs.Onward.{desk_stays, desk_on, clock_stays, clock_on, link_stays, link_on, failed_last}
+use Rattle.service.proofs.Visits.{not_by_clock, not_by_link}
 use Rattle.service.proofs.serving.serve_link.Goals as goal
 
 pub loop-init : goal.loop-init
 loop-init g c = record {
   served = ([], gains_still _, begins _ _ _ _ _ _ c.new-buffer.ensures);
-  opening = refl;
-  rows = λ kept. kept;
-  later = omega arith;
-  sound = λ sound. (sound, refl);
-  formed = λ formed. formed;
-  moments = refl;
-  clock = (omega arith, λ sound. (sound, refl));
-  link = (omega arith, λ sound. (sound, refl));
+  desk = desk_stays g.K.Keeper.told g.K.Keeper.fault_count g.K.Keeper.sound _;
+  clock = clock_stays g.C.Clock.moments g.C.Clock.fault_count g.C.Clock.sound _;
+  link = link_stays g.N.Link.fault_count g.N.Link.sound _;
 }
 
 pub returns-in-Some-serve_next-clause-serves : goal.returns-in-Some-serve_next-clause-serves
 returns-in-Some-serve_next-clause-serves g c =
     let inv = c.loop.invariant in
     let is = c.in-Some-serve_next.ensures in
-    written_end _ _ _ _ _ _ _ _ _ _ _ _ _ _ _ _ _ _ _ inv.moments (λ rose. rose_before _ _ _ inv.link.0 rose) (λ rose. rose_before _ _ _ inv.clock.0 rose) inv.served is.serves
+    written_end _ _ _ _ _ _ _ _ _ _ _ _ _ _ _ _ _ _ _ inv.clock.moments (failed_last g.N.Link.fault_count g.N.Link.sound _ _ _ inv.link.later (λ sound. (inv.link.sound sound).0))
+    (failed_last g.C.Clock.fault_count g.C.Clock.sound _ _ _ inv.clock.later (λ sound. (inv.clock.sound sound).0)) inv.served is.serves
 
-pub returns-in-Some-serve_next-clause-opening : goal.returns-in-Some-serve_next-clause-opening
-returns-in-Some-serve_next-clause-opening g c = c.serve_next.ensures.opening ∙ c.loop.invariant.opening
-
-pub returns-in-Some-serve_next-clause-later : goal.returns-in-Some-serve_next-clause-later
-returns-in-Some-serve_next-clause-later g c = omega (arith, c.serve_next.ensures.later, c.loop.invariant.later)
-
-pub returns-in-Some-serve_next-clause-sound : goal.returns-in-Some-serve_next-clause-sound
-returns-in-Some-serve_next-clause-sound g c = λ sound. let before = c.loop.invariant.sound sound in let after = c.serve_next.ensures.sound before.0 in (after.0, after.1 ∙ before.1)
-
-pub returns-in-Some-serve_next-clause-moments : goal.returns-in-Some-serve_next-clause-moments
-returns-in-Some-serve_next-clause-moments g c = c.serve_next.ensures.moments ∙ c.loop.invariant.moments
+pub returns-in-Some-serve_next-clause-desk : goal.returns-in-Some-serve_next-clause-desk
+returns-in-Some-serve_next-clause-desk g c = desk_on _ _ _ _ _ _ c.loop.invariant.desk c.serve_next.ensures.desk
 
 pub returns-in-Some-serve_next-clause-clock : goal.returns-in-Some-serve_next-clause-clock
-returns-in-Some-serve_next-clause-clock g c =
-    let one = c.loop.invariant.clock in
-    let two = c.serve_next.ensures.clock in
-    (omega (arith, one.0, two.0), λ sound. let before = one.1 sound in let after = two.1 before.0 in (after.0, after.1 ∙ before.1))
+returns-in-Some-serve_next-clause-clock g c = clock_on _ _ _ _ _ _ c.loop.invariant.clock c.serve_next.ensures.clock
 
 pub returns-in-Some-serve_next-clause-link : goal.returns-in-Some-serve_next-clause-link
-returns-in-Some-serve_next-clause-link g c =
-    let one = c.loop.invariant.link in
-    let two = c.serve_next.ensures.link in
-    (omega (arith, one.0, two.0), λ sound. let before = one.1 sound in let after = two.1 before.0 in (after.0, after.1 ∙ before.1))
+returns-in-Some-serve_next-clause-link g c = link_on _ _ _ _ _ c.loop.invariant.link c.serve_next.ensures.link
+
+pub returns-in-Some-serve_next-clause-steady_clock : goal.returns-in-Some-serve_next-clause-steady_clock
+returns-in-Some-serve_next-clause-steady_clock g c =
+    let serves = returns-in-Some-serve_next-clause-serves g c in λ sound. not_by_clock _ _ _ _ _ _ _ _ _ _ _ serves.2 (λ failed. failed.1 sound)
+
+pub returns-in-Some-serve_next-clause-steady_link : goal.returns-in-Some-serve_next-clause-steady_link
+returns-in-Some-serve_next-clause-steady_link g c =
+    let serves = returns-in-Some-serve_next-clause-serves g c in λ sound. not_by_link _ _ _ _ _ _ _ _ _ _ _ serves.2 (λ failed. failed.1 sound)
 
 pub loop-preserved : goal.loop-preserved
 loop-preserved g c =
     let inv = c.loop.invariant in
     let is = c.serve_next.ensures in record {
-      served = written_more _ _ _ _ _ _ _ _ _ _ _ _ _ _ _ inv.moments inv.served c.in_default.ensures.serves;
-      opening = is.opening ∙ inv.opening;
-      rows = λ kept. is.rows (inv.rows kept);
-      later = omega (arith, is.later, inv.later);
-      sound = λ sound. let before = inv.sound sound in let after = is.sound before.0 in (after.0, after.1 ∙ before.1);
-      formed = λ formed. is.formed (inv.formed formed);
-      moments = is.moments ∙ inv.moments;
-      clock = (omega (arith, inv.clock.0, is.clock.0), λ sound. let before = inv.clock.1 sound in let after = is.clock.1 before.0 in (after.0, after.1 ∙ before.1));
-      link = (omega (arith, inv.link.0, is.link.0), λ sound. let before = inv.link.1 sound in let after = is.link.1 before.0 in (after.0, after.1 ∙ before.1));
+      served = written_more _ _ _ _ _ _ _ _ _ _ _ _ _ _ _ inv.clock.moments inv.served c.in_default.ensures.serves;
+      desk = desk_on _ _ _ _ _ _ inv.desk is.desk;
+      clock = clock_on _ _ _ _ _ _ inv.clock is.clock;
+      link = link_on _ _ _ _ _ inv.link is.link;
     }
