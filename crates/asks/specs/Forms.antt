@@ -65,7 +65,7 @@ RefusalHasMoment NoSuchStation = Unit {0}
 RefusalHasMoment (Unkept faults) = Unit {0}
 RefusalHasMoment (NumberSwept floor) = Unit {0}
 RefusalHasMoment UnknownItem = Unit {0}
-RefusalHasMoment (BadFound moment) = IsMoment moment
+RefusalHasMoment (BadFound moment) = CanBeShown moment
 RefusalHasMoment (DeferralsFull held) = Unit {0}
 
 abbrev pub ReplyHasMoment : Reply → Type 0

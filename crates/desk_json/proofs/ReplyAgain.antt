@@ -32,13 +32,13 @@ use Rattle.plan_json.proofs.Compact.{read_compact, utf8_compact}
 use Rattle.plan_json.proofs.DigestLaws.{digest_again}
 use Rattle.plan_json.proofs.Plain.{order_of, text_of, list_plain, list_has_text, list_depth, done_plain, done_has_text, done_depth}
 use Rattle.plan_json.proofs.Texts.{written_utf8, moment_utf8, digest_utf8}
-use Rattle.release_json.specs.Findings.{finding_in, IsFinding}
+use Rattle.release_json.specs.Findings.{IsSaidFinding}
 use Rattle.release_json.specs.Phases.{phase_of, IsPhase}
 use Rattle.release_json.proofs.FindingLaws.{finding_again, finding_utf8}
 use Rattle.release_json.proofs.PhaseLaws.{phase_again}
 use Rattle.release_json.proofs.ReleaseLaws.{phase_utf8}
 use Rattle.desk_json.specs.Replies.{why_name, plan_why_name, finding_data, with_fields, refusal_members, refusal_data, reply_data, reply_text}
-use Rattle.desk_json.specs.ReadReplies.{why_of, plan_why_of, reply_of, if_text, reply_in, IsWide, RefusalHasForms, ReplyHasForms, AnswersReply, IsReplyOf, Gives, IsReplyAgain}
+use Rattle.desk_json.specs.ReadReplies.{why_of, plan_why_of, finding_in, reply_of, if_text, reply_in, IsWide, RefusalHasForms, ReplyHasForms, AnswersReply, IsReplyOf, Gives, IsReplyAgain}
 use Rattle.desk_json.specs.declared.bad_call.CallFault.{CallFault}
 use Rattle.desk_json.specs.declared.bad_call.CallFault.TheVariants as fault
 
@@ -97,8 +97,8 @@ moment_again m is = ap shown_of (utf8_lossy-IsUtf8 (shown m) (moment_utf8 m is.1
 phase_written : (p : Phase) → IsPhase p → phase_of (utf8_lossy (phase_text p)) ≡ Some p
 phase_written p is = ap phase_of (utf8_lossy-IsUtf8 (phase_text p) (phase_utf8 p is)) ∙ phase_again p is
 
-item_again : (f : Finding) → IsFinding f → finding_in (finding_data f) ≡ Some f
-item_again f is = rw (utf8_lossy-IsUtf8 (finding_text f) (finding_utf8 f is)) (finding_again f is)
+item_again : (f : Finding) → IsSaidFinding f → finding_in (finding_data f) ≡ Some f
+item_again f is = rw (utf8_lossy-IsUtf8 (finding_text f) (finding_utf8 18_446_744_073_709_551_615 f (omega arith) is)) (finding_again 18_446_744_073_709_551_615 f (omega arith) is)
 
 -- ---- the JSON that is written is read
 
@@ -119,7 +119,7 @@ refusal_again (NotPending stage) is = rw (small_again stage 255 is) refl
 refusal_again (WrongRevision current) is = rw (wide_again current is) refl
 refusal_again (WrongText digest) is = rw (digest_again digest is) refl
 refusal_again (WeatherNewer report) is = rw (wide_again report is) refl
-refusal_again (RuleFails findings) is = rw (each_again IsFinding finding_in finding_data item_again findings is) refl
+refusal_again (RuleFails findings) is = rw (each_again IsSaidFinding finding_in finding_data item_again findings is) refl
 refusal_again (WrongPhase phase) is = rw (phase_written phase is) refl
 refusal_again AlreadySigned is = refl
 refusal_again NoSuchAlert is = refl
@@ -135,7 +135,7 @@ refusal_again (BadFound moment) is = rw (moment_again moment is) refl
 refusal_again (DeferralsFull held) is = rw (wide_again held is) refl
 
 reply_again : (r : Reply) → ReplyHasForms r → reply_of (reply_data r) ≡ Some r
-reply_again (Done done) is = rw (done_again done is) refl
+reply_again (Done done) is = rw (done_again _ _ done is) refl
 reply_again (Seen text) is = rw (utf8_lossy-IsUtf8 text is) refl
 reply_again (Refused refusal) is = refusal_again refusal is
 
@@ -167,7 +167,7 @@ refusal_plain (NotPending stage) is = (order_of (with_fields (NotPending stage) 
 refusal_plain (WrongRevision current) is = (order_of (with_fields (WrongRevision current) (refusal_members (WrongRevision current))) refl, (wide_plain current is, (small_plain 14 (omega arith), (tt, tt))))
 refusal_plain (WrongText digest) is = (order_of (with_fields (WrongText digest) (refusal_members (WrongText digest))) refl, (tt, (small_plain 15 (omega arith), (tt, tt))))
 refusal_plain (WeatherNewer report) is = (order_of (with_fields (WeatherNewer report) (refusal_members (WeatherNewer report))) refl, (small_plain 16 (omega arith), (wide_plain report is, (tt, tt))))
-refusal_plain (RuleFails findings) is = (order_of (with_fields (RuleFails findings) (refusal_members (RuleFails findings))) refl, (list_plain IsFinding finding_data (λ f has. tt) findings is, (small_plain 17 (omega arith), (tt, tt))))
+refusal_plain (RuleFails findings) is = (order_of (with_fields (RuleFails findings) (refusal_members (RuleFails findings))) refl, (list_plain IsSaidFinding finding_data (λ f has. tt) findings is, (small_plain 17 (omega arith), (tt, tt))))
 refusal_plain (WrongPhase phase) is = (order_of (with_fields (WrongPhase phase) (refusal_members (WrongPhase phase))) refl, (tt, (small_plain 18 (omega arith), (tt, tt))))
 refusal_plain AlreadySigned is = (order_of (with_fields AlreadySigned (refusal_members AlreadySigned)) refl, (small_plain 19 (omega arith), (tt, tt)))
 refusal_plain NoSuchAlert is = (order_of (with_fields NoSuchAlert (refusal_members NoSuchAlert)) refl, (small_plain 20 (omega arith), (tt, tt)))

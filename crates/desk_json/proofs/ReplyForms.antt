@@ -19,20 +19,20 @@ use Rattle.asks.specs.declared.reply.Reply.TheVariants.{Done, Seen, Refused}
 use Rattle.asks.specs.declared.reply.Refusal.{Refusal}
 use Rattle.asks.specs.declared.reply.Refusal.TheVariants.{UnknownActor, WrongKey, NotYourRole, NumberReused, BadReport, DayOutOfReach, ReportsFull, UnknownTail, NoSuchDeferral, NoSuchRelease, NotYours, BadPlan, NotPending, WrongRevision, WrongText, WeatherNewer, RuleFails, WrongPhase, AlreadySigned, NoSuchAlert, AlertMoved, TooYoung, ReleasesFull, HistoryFull, NoSuchStation, Unkept, NumberSwept, UnknownItem, BadFound, DeferralsFull}
 use Rattle.plan_json.specs.Plain.{HasText}
-use Rattle.plan_json.specs.Canonical.{IsAmount, DoneHasForms}
+use Rattle.plan_json.specs.Canonical.{IsAmount, SaidDoneHasForms}
 use Rattle.plan_json.specs.Digests.{digest_at, IsDigest}
-use Rattle.plan_json.specs.Dones.{done_of}
+use Rattle.plan_json.specs.Dones.{said_done_of}
 use Rattle.plan_json.specs.Fields.{text_at, number_at, amount_at, list_at, each_read}
 use Rattle.plan_json.proofs.Chains.{bind_if, bind_any, then_if, under, either, weaker}
 use Rattle.plan_json.proofs.DoneForms.{digest_is, done_formed}
 use Rattle.plan_json.proofs.MomentRange.{minute_within}
 use Rattle.plan_json.proofs.PlanForms.{number_formed, amount_formed, each_formed}
 use Rattle.plan_json.proofs.ValueTexts.{view_has_text, text_formed}
-use Rattle.release_json.specs.Findings.{finding_of, finding_in, IsFinding}
+use Rattle.release_json.specs.Findings.{said_finding_of, IsSaidFinding}
 use Rattle.release_json.specs.Phases.{phase_of, IsPhase}
 use Rattle.release_json.proofs.FindingLaws.{finding_formed}
 use Rattle.release_json.proofs.PhaseLaws.{phase_formed}
-use Rattle.desk_json.specs.ReadReplies.{wide_at, shown_at, why_of, plan_why_of, plain_of, counted_of, bad_report_of, bad_plan_of, wrong_phase_of, history_full_of, fixed_of, not_yours_of, rule_fails_of, refusal_of, done_in, seen_in, refused_in, reply_of, IsWide, RefusalHasForms, ReplyHasForms, RefusalCanBeShown, ReplyCanBeShown}
+use Rattle.desk_json.specs.ReadReplies.{wide_at, shown_at, why_of, plan_why_of, plain_of, counted_of, bad_report_of, bad_plan_of, wrong_phase_of, history_full_of, fixed_of, not_yours_of, finding_in, rule_fails_of, refusal_of, done_in, seen_in, refused_in, reply_of, IsWide, RefusalHasForms, ReplyHasForms}
 
 -- ---- fields
 
@@ -125,13 +125,13 @@ fixed_formed n d =
 not_yours_formed : (d : Data) → HasText d → IfSome (not_yours_of d) RefusalHasForms
 not_yours_formed d has = bind_if (text_at (codes "holder") d) _ IsUtf8 RefusalHasForms (text_formed (codes "holder") d has) (λ holder is. is)
 
-finding_in_formed : (d : Data) → IfSome (finding_in d) IsFinding
-finding_in_formed d = then_if finding_of (as_str d) IsFinding finding_formed
+finding_in_formed : (d : Data) → IfSome (finding_in d) IsSaidFinding
+finding_in_formed d = then_if said_finding_of (as_str d) IsSaidFinding (finding_formed 18_446_744_073_709_551_615)
 
 rule_fails_formed : (d : Data) → IfSome (rule_fails_of d) RefusalHasForms
 rule_fails_formed d =
     bind_any (list_at (codes "findings") d) _ RefusalHasForms (λ items.
-    bind_if (each_read finding_in items) _ (AllByRecursion IsFinding) RefusalHasForms (each_formed IsFinding finding_in finding_in_formed items) (λ findings all. all))
+    bind_if (each_read finding_in items) _ (AllByRecursion IsSaidFinding) RefusalHasForms (each_formed IsSaidFinding finding_in finding_in_formed items) (λ findings all. all))
 
 refusal_formed : (n : ℕ) (d : Data) → HasText d → IfSome (refusal_of n d) RefusalHasForms
 refusal_formed n d has =
@@ -142,7 +142,7 @@ refusal_formed n d has =
 
 done_in_formed : (d : Data) → IfSome (done_in d) ReplyHasForms
 done_in_formed d =
-    bind_if (option_and_then done_of (get (codes "done") d)) _ DoneHasForms ReplyHasForms (then_if done_of (get (codes "done") d) DoneHasForms done_formed) (λ done is. is)
+    bind_if (option_and_then said_done_of (get (codes "done") d)) _ SaidDoneHasForms ReplyHasForms (then_if said_done_of (get (codes "done") d) SaidDoneHasForms (done_formed 18_446_744_073_709_551_615 18_446_744_073_709_551_615)) (λ done is. is)
 
 seen_in_formed : (d : Data) → HasText d → IfSome (seen_in d) ReplyHasForms
 seen_in_formed d has = bind_if (text_at (codes "seen") d) _ IsUtf8 ReplyHasForms (text_formed (codes "seen") d has) (λ text is. is)
@@ -167,7 +167,7 @@ phase_shown (Stopped next since again) is = is.1
 phase_shown (Completed at) is = is
 phase_shown (Cancelled at) is = is
 
-refusal_shown : (r : Refusal) → RefusalHasForms r → RefusalCanBeShown r
+refusal_shown : (r : Refusal) → RefusalHasForms r → RefusalHasMoment r
 refusal_shown UnknownActor is = tt
 refusal_shown WrongKey is = tt
 refusal_shown NotYourRole is = tt
@@ -199,53 +199,15 @@ refusal_shown UnknownItem is = tt
 refusal_shown (BadFound moment) is = is
 refusal_shown (DeferralsFull held) is = tt
 
-reply_shown : (r : Reply) → ReplyHasForms r → ReplyCanBeShown r
+reply_shown : (r : Reply) → ReplyHasForms r → ReplyHasMoment r
 reply_shown (Done done) is = tt
 reply_shown (Seen text) is = tt
 reply_shown (Refused refusal) is = refusal_shown refusal is
-
-refusal_with_moment : (r : Refusal) → RefusalHasMoment r → RefusalCanBeShown r
-refusal_with_moment UnknownActor is = tt
-refusal_with_moment WrongKey is = tt
-refusal_with_moment NotYourRole is = tt
-refusal_with_moment (NumberReused kept) is = tt
-refusal_with_moment (BadReport group what) is = tt
-refusal_with_moment (DayOutOfReach group) is = tt
-refusal_with_moment (ReportsFull held) is = tt
-refusal_with_moment UnknownTail is = tt
-refusal_with_moment NoSuchDeferral is = tt
-refusal_with_moment NoSuchRelease is = tt
-refusal_with_moment (NotYours holder) is = tt
-refusal_with_moment (BadPlan leg what) is = tt
-refusal_with_moment (NotPending stage) is = tt
-refusal_with_moment (WrongRevision current) is = tt
-refusal_with_moment (WrongText digest) is = tt
-refusal_with_moment (WeatherNewer report) is = tt
-refusal_with_moment (RuleFails findings) is = tt
-refusal_with_moment (WrongPhase phase) is = is
-refusal_with_moment AlreadySigned is = tt
-refusal_with_moment NoSuchAlert is = tt
-refusal_with_moment (AlertMoved version) is = tt
-refusal_with_moment (TooYoung until) is = is
-refusal_with_moment (ReleasesFull held) is = tt
-refusal_with_moment (HistoryFull entries kept events) is = tt
-refusal_with_moment NoSuchStation is = tt
-refusal_with_moment (Unkept faults) is = tt
-refusal_with_moment (NumberSwept floor) is = tt
-refusal_with_moment UnknownItem is = tt
-refusal_with_moment (BadFound moment) is = (is.0, let last = is.1 in omega arith)
-refusal_with_moment (DeferralsFull held) is = tt
-
--- a reply that may be written
-pub moment_shown : (r : Reply) → ReplyHasMoment r → ReplyCanBeShown r
-moment_shown (Done done) is = tt
-moment_shown (Seen text) is = tt
-moment_shown (Refused refusal) is = refusal_with_moment refusal is
 
 -- ---- what is read of a value
 
 pub value_forms : (v : Value) (read : Option Reply) → read ≡ reply_of (view v) → IfSome read ReplyHasForms
 value_forms v read is = subst (λ (o : Option Reply). IfSome o ReplyHasForms) (sym is) (reply_formed (view v) (view_has_text v))
 
-pub value_shown : (v : Value) (read : Option Reply) → read ≡ reply_of (view v) → IfSome read ReplyCanBeShown
+pub value_shown : (v : Value) (read : Option Reply) → read ≡ reply_of (view v) → IfSome read ReplyHasMoment
 value_shown v read is = weaker read (value_forms v read is) reply_shown

@@ -3,25 +3,25 @@ use Rattle.std.specs.Prelude.{◌≡◌, ℕ, ◌≤◌, ◌==◌, if◌then◌e
 use Rattle.std.specs.List.{AllByRecursion}
 use Rattle.std.specs.Str.{bytes_eq}
 use Rattle.serde_json.specs.Data.{Data}
-use Rattle.serde_json.specs.Find.{get}
+use Rattle.serde_json.specs.Find.{get, as_str}
 use Rattle.desk_time.specs.Digits.{◌>>=◌}
 use Rattle.desk_time.specs.Moments.{shown_of}
 use Rattle.codes.specs.declared.fault.Why.{Why}
 use Rattle.codes.specs.declared.fault.Why.TheVariants as why
-use Rattle.plan.specs.Texts.{HasMoment}
 use Rattle.plan.specs.declared.check.PlanWhy.{PlanWhy}
 use Rattle.plan.specs.declared.check.PlanWhy.TheVariants as plan_why
+use Rattle.plan.specs.declared.findings.Finding.{Finding}
 use Rattle.asks.specs.Forms.{CanBeShown}
 use Rattle.asks.specs.declared.bad_call.CallWhy.TheVariants.{NotJson}
 use Rattle.asks.specs.declared.reply.Reply.{Reply}
 use Rattle.asks.specs.declared.reply.Reply.TheVariants.{Done, Seen, Refused}
 use Rattle.asks.specs.declared.reply.Refusal.{Refusal}
 use Rattle.asks.specs.declared.reply.Refusal.TheVariants.{UnknownActor, WrongKey, NotYourRole, NumberReused, BadReport, DayOutOfReach, ReportsFull, UnknownTail, NoSuchDeferral, NoSuchRelease, NotYours, BadPlan, NotPending, WrongRevision, WrongText, WeatherNewer, RuleFails, WrongPhase, AlreadySigned, NoSuchAlert, AlertMoved, TooYoung, ReleasesFull, HistoryFull, NoSuchStation, Unkept, NumberSwept, UnknownItem, BadFound, DeferralsFull}
-use Rattle.plan_json.specs.Canonical.{IsAmount, DoneHasForms}
+use Rattle.plan_json.specs.Canonical.{IsAmount, SaidDoneHasForms}
 use Rattle.plan_json.specs.Digests.{digest_at, IsDigest}
-use Rattle.plan_json.specs.Dones.{done_of}
+use Rattle.plan_json.specs.Dones.{said_done_of}
 use Rattle.plan_json.specs.Fields.{data_of, text_at, number_at, amount_at, list_at, each_read}
-use Rattle.release_json.specs.Findings.{finding_in, IsFinding}
+use Rattle.release_json.specs.Findings.{said_finding_of, IsSaidFinding}
 use Rattle.release_json.specs.Phases.{phase_of, IsPhase}
 use Rattle.desk_json.specs.Keys.{bad}
 use Rattle.desk_json.specs.Replies.{reply_text}
@@ -123,6 +123,9 @@ fixed_of n d =
 abbrev pub not_yours_of : Data → Option Refusal
 not_yours_of d = text_at (codes "holder") d >>= λ holder. Some (NotYours holder)
 
+abbrev pub finding_in : Data → Option Finding
+finding_in d = option_and_then said_finding_of (as_str d)
+
 -- findings in any order
 abbrev pub rule_fails_of : Data → Option Refusal
 rule_fails_of d = list_at (codes "findings") d >>= λ items. each_read finding_in items >>= λ findings. Some (RuleFails findings)
@@ -134,7 +137,7 @@ refusal_of n d = if n == 11 then not_yours_of d else (if n == 17 then rule_fails
 -- ---- replies
 
 abbrev pub done_in : Data → Option Reply
-done_in d = option_and_then done_of (get (codes "done") d) >>= λ done. Some (Done done)
+done_in d = option_and_then said_done_of (get (codes "done") d) >>= λ done. Some (Done done)
 
 abbrev pub seen_in : Data → Option Reply
 seen_in d = text_at (codes "seen") d >>= λ text. Some (Seen text)
@@ -159,8 +162,8 @@ reply_in text = data_of text >>= λ d. reply_of d >>= λ reply. if_text text rep
 abbrev pub IsWide : ℕ → Type 0
 IsWide n = n ≤ 18_446_744_073_709_551_615
 
--- A refusal whose fields have their forms: numbers within their types, texts that are UTF-8, findings and phases
--- as they are kept, and moments that can be shown.
+-- A refusal whose fields have their forms: numbers within their types, texts that are UTF-8, phases as they are kept,
+-- and moments that can be shown.
 abbrev pub RefusalHasForms : Refusal → Type 0
 RefusalHasForms UnknownActor = Unit {0}
 RefusalHasForms WrongKey = Unit {0}
@@ -178,7 +181,7 @@ RefusalHasForms (NotPending stage) = stage ≤ 255
 RefusalHasForms (WrongRevision current) = IsWide current
 RefusalHasForms (WrongText digest) = IsDigest digest
 RefusalHasForms (WeatherNewer report) = IsWide report
-RefusalHasForms (RuleFails findings) = AllByRecursion IsFinding findings
+RefusalHasForms (RuleFails findings) = AllByRecursion IsSaidFinding findings
 RefusalHasForms (WrongPhase phase) = IsPhase phase
 RefusalHasForms AlreadySigned = Unit {0}
 RefusalHasForms NoSuchAlert = Unit {0}
@@ -195,20 +198,9 @@ RefusalHasForms (DeferralsFull held) = IsWide held
 
 -- a reply whose fields have their forms
 abbrev pub ReplyHasForms : Reply → Type 0
-ReplyHasForms (Done done) = DoneHasForms done
+ReplyHasForms (Done done) = SaidDoneHasForms done
 ReplyHasForms (Seen text) = IsUtf8 text
 ReplyHasForms (Refused refusal) = RefusalHasForms refusal
-
--- the moments of a refusal can be shown
-abbrev pub RefusalCanBeShown : Refusal → Type 0
-RefusalCanBeShown (WrongPhase phase) = HasMoment phase
-RefusalCanBeShown (TooYoung until) = CanBeShown until
-RefusalCanBeShown (BadFound moment) = CanBeShown moment
-RefusalCanBeShown _ = Unit {0}
-
-abbrev pub ReplyCanBeShown : Reply → Type 0
-ReplyCanBeShown (Refused refusal) = RefusalCanBeShown refusal
-ReplyCanBeShown _ = Unit {0}
 
 -- ---- answers
 

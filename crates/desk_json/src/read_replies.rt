@@ -2,27 +2,27 @@ ghost use Rattle.std.specs.Prelude.{◌≡◌, IfOk, IfSome};
 ghost use Rattle.std.specs.Str.{bytes_eq};
 ghost use Rattle.serde_json.specs.View.{view, items_view};
 ghost use Rattle.plan_json.specs.Fields.{each_read};
-ghost use Rattle.release_json.specs.Findings.{finding_in};
 ghost use Rattle.desk_json.specs.Replies.{reply_text};
 ghost use Rattle.desk_json.specs.ReadReplies as spec;
-ghost use Rattle.desk_json.specs.ReadReplies.{reply_in, ReplyHasForms, ReplyCanBeShown, AnswersReply, IsReplyOf, IsReplyAgain};
+ghost use Rattle.asks.specs.Forms.{ReplyHasMoment};
+ghost use Rattle.desk_json.specs.ReadReplies.{finding_in, reply_in, ReplyHasForms, AnswersReply, IsReplyOf, IsReplyAgain};
 
 use crate::bad_call::{CallFault, bad};
-use crate::replies::written_text;
+use crate::replies::reply_text;
 use asks::{CallWhy, Refusal, Reply};
 use codes::Why;
 use desk_io::{OutOfMemory, Text};
 use desk_time::{Minute, read_shown};
 use plan::{Finding, Findings, PlanWhy};
-use plan_json::{amount_at, data_of, digest_at, list_at, number_at, read_done, text_at};
-use release_json::{read_finding, read_phase};
+use plan_json::{amount_at, data_of, digest_at, list_at, number_at, read_said_done, text_at};
+use release_json::{read_phase, read_said_finding};
 use serde_json::Value;
 use std::alloc::Global;
 
 fn wide_at(key: &str, value: &Value) -> Option<u64>
     ensures { result ≡ spec.wide_at key.now (view value.now) }
 {
-    number_at(key, 18_446_744_073_709_551_615, value)
+    number_at(key, u64::MAX, value)
 }
 
 fn shown_at(key: &str, value: &Value) -> Option<Minute>
@@ -217,7 +217,7 @@ fn not_yours_of(alloc: Global, value: &Value) -> Result<Option<Refusal>, OutOfMe
 fn finding_of(value: &Value) -> Option<Finding>
     ensures { result ≡ finding_in (view value.now) }
 {
-    read_finding(value.as_str()?.as_bytes())
+    read_said_finding(value.as_str()?.as_bytes())
 }
 
 fn findings_of(alloc: Global, items: &[Value]) -> Result<Option<Findings>, OutOfMemory>
@@ -259,7 +259,7 @@ fn refusal_of(alloc: Global, number: u64, value: &Value) -> Result<Option<Refusa
 fn done_in(value: &Value) -> Option<Reply>
     ensures { result ≡ spec.done_in (view value.now) }
 {
-    Some(Reply::Done(read_done(value.get("done")?)?))
+    Some(Reply::Done(read_said_done(value.get("done")?)?))
 }
 
 fn seen_in(alloc: Global, value: &Value) -> Result<Option<Reply>, OutOfMemory>
@@ -299,16 +299,16 @@ fn reply_of(alloc: Global, value: &Value) -> Result<Option<Reply>, OutOfMemory>
 fn reply_with_forms(alloc: Global, value: &Value) -> Result<Option<Reply>, OutOfMemory>
     ensures reply { IfOk result (λ r. r ≡ spec.reply_of (view value.now)) }
     ensures forms { IfOk result (λ r. IfSome r ReplyHasForms) }
-    ensures shown { IfOk result (λ r. IfSome r ReplyCanBeShown) }
+    ensures shown { IfOk result (λ r. IfSome r ReplyHasMoment) }
 {
     reply_of(alloc, value)
 }
 
 fn is_text(alloc: Global, bytes: &[u8], reply: &Reply) -> Result<bool, OutOfMemory>
-    requires { ReplyCanBeShown reply.now }
+    requires { ReplyHasMoment reply.now }
     ensures { IfOk result (λ b. b ≡ bytes_eq (reply_text reply.now) bytes.now) }
 {
-    let text = written_text(alloc, reply)?;
+    let text = reply_text(alloc, reply)?;
     Ok(text.bytes() == bytes)
 }
 

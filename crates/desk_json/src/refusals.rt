@@ -3,7 +3,7 @@ ghost use Rattle.serde_json.specs.Data.{string, put};
 ghost use Rattle.serde_json.specs.View.{view, members_view};
 ghost use Rattle.plan.specs.Texts.{HasMoment, phase_text};
 ghost use Rattle.plan_json.specs.Canonical.{count, text_data, list_data};
-ghost use Rattle.desk_json.specs.ReadReplies.{RefusalCanBeShown};
+ghost use Rattle.asks.specs.Forms.{RefusalHasMoment};
 ghost use Rattle.desk_json.specs.Replies as spec;
 
 use asks::Refusal;
@@ -197,7 +197,7 @@ fn with_counts(
 
 // Some members and those of a refusal that say more than its number and its name.
 fn with_fields(alloc: Global, refusal: &Refusal, members: Members) -> Result<Members, OutOfMemory>
-    requires { RefusalCanBeShown refusal.now }
+    requires { RefusalHasMoment refusal.now }
     ensures { IfOk result (λ all. members_view all.entries ≡ spec.with_fields refusal.now (members_view members.entries)) }
 {
     match refusal {
@@ -258,7 +258,7 @@ fn refusal_members(alloc: Global, refusal: &Refusal) -> Result<Members, OutOfMem
 
 /// A refusal as a JSON object.
 pub(crate) fn refusal_value(alloc: Global, refusal: &Refusal) -> Result<Value, OutOfMemory>
-    requires { RefusalCanBeShown refusal.now }
+    requires { RefusalHasMoment refusal.now }
     ensures { IfOk result (λ v. view v ≡ spec.refusal_data refusal.now) }
 {
     let members = refusal_members(alloc, refusal)?;

@@ -1,7 +1,6 @@
 ghost use Rattle.std.specs.Prelude.{◌≡◌, IfOk};
 ghost use Rattle.serde_json.specs.View.{view};
 ghost use Rattle.asks.specs.Forms.{ReplyHasMoment};
-ghost use Rattle.desk_json.specs.ReadReplies.{ReplyCanBeShown};
 ghost use Rattle.desk_json.specs.Replies as spec;
 ghost use Rattle.desk_json.specs.Replies.{bad_text, reply_text};
 
@@ -32,7 +31,7 @@ fn seen_reply(alloc: Global, text: &Text) -> Result<Value, OutOfMemory>
 }
 
 fn reply_value(alloc: Global, reply: &Reply) -> Result<Value, OutOfMemory>
-    requires { ReplyCanBeShown reply.now }
+    requires { ReplyHasMoment reply.now }
     ensures { IfOk result (λ v. view v ≡ spec.reply_data reply.now) }
 {
     match reply {
@@ -42,22 +41,13 @@ fn reply_value(alloc: Global, reply: &Reply) -> Result<Value, OutOfMemory>
     }
 }
 
-/// The text of a reply whose moments can be shown.
-pub(crate) fn written_text(alloc: Global, reply: &Reply) -> Result<Text, OutOfMemory>
-    requires { ReplyCanBeShown reply.now }
-    ensures { IfOk result (λ t. t ≡ reply_text reply.now) }
-{
-    let value = reply_value(alloc, reply)?;
-    Ok(Text::from_vec(value.to_vec(alloc)?))
-}
-
 /// The text of a reply: JSON without blanks, its keys in byte order.
-#[tactic(auto, using(crate::proofs::ReplyForms::moment_shown))]
 pub fn reply_text(alloc: Global, reply: &Reply) -> Result<Text, OutOfMemory>
     requires { ReplyHasMoment reply.now }
     ensures { IfOk result (λ t. t ≡ reply_text reply.now) }
 {
-    written_text(alloc, reply)
+    let value = reply_value(alloc, reply)?;
+    Ok(Text::from_vec(value.to_vec(alloc)?))
 }
 
 fn call_why_name(why: CallWhy) -> &'static str

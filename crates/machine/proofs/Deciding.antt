@@ -516,11 +516,15 @@ admit s text kept =
     (λ read e. passed s (d.no_airport s (station_of_read read)) _ (if_stops _ _ tt)
     (λ f. admit_read (same_id s.reports (canonical (groups_of text)) (minute_of_read read)) s (canonical (groups_of text)) read kept.moment refl))
 
+-- each moment that the desk takes can be shown
+now_shown : (m : ℕ) → IsMoment m → CanBeShown m
+now_shown m is = let low = is.0 in let high = is.1 in (omega (arith, low), omega (arith, high))
+
 defer : (s : State) (tail item : List ℕ) (found : ℕ) → InBounds s → IsMoment found → DecisionFits s (d.decide_defer s tail item found)
 defer s tail item found kept shown =
     given s (d.aircraft s tail) _ (some_stops _ (type_of s.tables tail) tt)
     (λ kind e. passed s (d.unlisted s kind item) _ (if_stops _ _ tt)
-    (λ f. passed s (d.found_later s found) _ (if_stops _ _ kept.moment)
+    (λ f. passed s (d.found_later s found) _ (if_stops _ _ (now_shown s.moment kept.moment))
     (λ g. passed s (d.deferrals_full s) _ (if_stops _ _ tt)
     (λ h. (tt, record { moment = tt; report = tt; apart = tt; deferrals = record { is_new = refl; found = shown; few = leb-false 50_000 (length s.deferrals) (not_so (nat_le 50_000 (length s.deferrals)) _ h) }; releases = tt })))))
 

@@ -22,8 +22,8 @@ use Rattle.plan_json.specs.declared.plans.Form.{Form}
 use Rattle.plan_json.specs.Fields.{each_read, up_to, short}
 use Rattle.plan_json.specs.Legs.{alternate_of, takeoff_in, leg_of, legs_of}
 use Rattle.plan_json.specs.Plans.{has_form, formed, kind_of, plan_of}
-use Rattle.plan_json.specs.Dones.{done_of}
-use Rattle.plan_json.specs.Canonical.{option_data, alternate_data, takeoff_data, leg_data, kind_name, plan_data, done_data, IsAmount, IsId, IsShort, IsAlternate, MayBeTakeoff, IsLeg, HasForms, DoneHasForms}
+use Rattle.plan_json.specs.Dones.{done_within}
+use Rattle.plan_json.specs.Canonical.{option_data, alternate_data, takeoff_data, leg_data, kind_name, plan_data, done_data, IsAmount, IsId, IsShort, IsAlternate, MayBeTakeoff, IsLeg, HasForms, DoneWithin}
 use Rattle.plan_json.proofs.Texts.{name_utf8, station_utf8, moment_utf8}
 use Rattle.plan_json.proofs.DigestLaws.{digest_again}
 
@@ -95,11 +95,11 @@ pub id_again : (n : ℕ) → IsId n → up_to 1_000_000_000_000_000 n ≡ Some n
 id_again n few = small_again n 1_000_000_000_000_000 few
 
 -- what was done is read of what is written of it
-pub done_again : (d : Done) → DoneHasForms d → done_of (done_data d) ≡ Some d
-unfolding done_of
-done_again (Report id) is = rw (id_again id is) refl
-done_again (Deferral id) is = rw (id_again id is) refl
-done_again (Filed release revision) is = rw (id_again release is.0, id_again revision is.1) refl
-done_again (Prepared release revision digest) is = rw (id_again release is.0, id_again revision is.1, digest_again digest is.2) refl
-done_again (Release id) is = rw (id_again id is) refl
-done_again (Swept reports kept) is = rw (amount_again reports is.0, amount_again kept is.1) refl
+pub done_again : (ids counts : ℕ) (d : Done) → DoneWithin ids counts d → done_within ids counts (done_data d) ≡ Some d
+unfolding done_within
+done_again ids counts (Report id) is = rw (small_again id ids is) refl
+done_again ids counts (Deferral id) is = rw (small_again id ids is) refl
+done_again ids counts (Filed release revision) is = rw (small_again release ids is.0, small_again revision ids is.1) refl
+done_again ids counts (Prepared release revision digest) is = rw (small_again release ids is.0, small_again revision ids is.1, digest_again digest is.2) refl
+done_again ids counts (Release id) is = rw (small_again id ids is) refl
+done_again ids counts (Swept reports kept) is = rw (small_again reports counts is.0, small_again kept counts is.1) refl

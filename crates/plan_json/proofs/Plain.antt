@@ -16,7 +16,7 @@ use Rattle.plan.specs.declared.flights.Plan.{Plan}
 use Rattle.asks.specs.declared.reply.Done.{Done}
 use Rattle.asks.specs.declared.reply.Done.TheVariants.{Report, Deferral, Filed, Prepared, Release, Swept}
 use Rattle.plan_json.specs.Plain.{IsBefore, AreInOrder, IsPlain, ItemsArePlain, HasText, ItemsHaveText, MembersHaveText}
-use Rattle.plan_json.specs.Canonical.{option_data, alternate_members, alternate_data, takeoff_members, takeoff_data, leg_members, leg_data, kind_name, plan_members, plan_data, done_members, done_data, IsAmount, IsId, IsAlternate, MayBeTakeoff, IsLeg, HasForms, DoneHasForms}
+use Rattle.plan_json.specs.Canonical.{option_data, alternate_members, alternate_data, takeoff_members, takeoff_data, leg_members, leg_data, kind_name, plan_members, plan_data, done_members, done_data, IsAmount, IsId, IsAlternate, MayBeTakeoff, IsLeg, HasForms, DoneHasForms, SaidDoneHasForms}
 use Rattle.plan_json.proofs.Texts.{written_utf8, digest_utf8}
 
 -- ---- objects whose keys are literal
@@ -199,24 +199,33 @@ plan_depth p = let legs = list_depth leg_data 3 leg_depth p.legs in omega (arith
 
 -- ---- what was done
 
-id_plain : (n : ℕ) → IsId n → n < 2 ^ 64
-id_plain n few = omega arith
+wide_plain : (n : ℕ) → n ≤ 18_446_744_073_709_551_615 → n < 2 ^ 64
+wide_plain n few = omega arith
 
-pub done_plain : (d : Done) → DoneHasForms d → IsPlain (done_data d)
-done_plain (Report id) is = (order_of (done_members (Report id)) refl, (id_plain id is, tt))
-done_plain (Deferral id) is = (order_of (done_members (Deferral id)) refl, (id_plain id is, tt))
-done_plain (Filed release revision) is = (order_of (done_members (Filed release revision)) refl, (id_plain release is.0, (id_plain revision is.1, tt)))
-done_plain (Prepared release revision digest) is = (order_of (done_members (Prepared release revision digest)) refl, (tt, (id_plain release is.0, (id_plain revision is.1, tt))))
-done_plain (Release id) is = (order_of (done_members (Release id)) refl, (id_plain id is, tt))
-done_plain (Swept reports kept) is = (order_of (done_members (Swept reports kept)) refl, (amount_plain kept is.1, (amount_plain reports is.0, tt)))
+pub done_plain : (d : Done) → SaidDoneHasForms d → IsPlain (done_data d)
+done_plain (Report id) is = (order_of (done_members (Report id)) refl, (wide_plain id is, tt))
+done_plain (Deferral id) is = (order_of (done_members (Deferral id)) refl, (wide_plain id is, tt))
+done_plain (Filed release revision) is = (order_of (done_members (Filed release revision)) refl, (wide_plain release is.0, (wide_plain revision is.1, tt)))
+done_plain (Prepared release revision digest) is = (order_of (done_members (Prepared release revision digest)) refl, (tt, (wide_plain release is.0, (wide_plain revision is.1, tt))))
+done_plain (Release id) is = (order_of (done_members (Release id)) refl, (wide_plain id is, tt))
+done_plain (Swept reports kept) is = (order_of (done_members (Swept reports kept)) refl, (wide_plain kept is.1, (wide_plain reports is.0, tt)))
 
-pub done_has_text : (d : Done) → DoneHasForms d → HasText (done_data d)
+pub done_has_text : (d : Done) → SaidDoneHasForms d → HasText (done_data d)
 done_has_text (Report id) is = text_of (done_members (Report id)) refl (tt, tt)
 done_has_text (Deferral id) is = text_of (done_members (Deferral id)) refl (tt, tt)
 done_has_text (Filed release revision) is = text_of (done_members (Filed release revision)) refl (tt, (tt, tt))
 done_has_text (Prepared release revision digest) is = text_of (done_members (Prepared release revision digest)) refl (digest_utf8 digest is.2, (tt, (tt, tt)))
 done_has_text (Release id) is = text_of (done_members (Release id)) refl (tt, tt)
 done_has_text (Swept reports kept) is = text_of (done_members (Swept reports kept)) refl (tt, (tt, tt))
+
+-- what is kept may be said
+pub kept_said : (d : Done) → DoneHasForms d → SaidDoneHasForms d
+kept_said (Report id) is = omega arith
+kept_said (Deferral id) is = omega arith
+kept_said (Filed release revision) is = let one = is.0 in let two = is.1 in (omega (arith, one), omega (arith, two))
+kept_said (Prepared release revision digest) is = let one = is.0 in let two = is.1 in (omega (arith, one), omega (arith, two), is.2)
+kept_said (Release id) is = omega arith
+kept_said (Swept reports kept) is = let one = is.0 in let two = is.1 in (omega (arith, one), omega (arith, two))
 
 pub done_depth : (d : Done) → depth (done_data d) ≤ 1
 done_depth (Report id) = omega arith

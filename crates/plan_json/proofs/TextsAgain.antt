@@ -9,7 +9,7 @@ use Rattle.plan_json.specs.Dones.{done_of}
 use Rattle.plan_json.specs.Plans.{plan_of}
 use Rattle.plan_json.proofs.Again.{plan_again, done_again}
 use Rattle.plan_json.proofs.Compact.{read_compact, utf8_compact}
-use Rattle.plan_json.proofs.Plain.{plan_plain, plan_has_text, plan_depth, done_plain, done_has_text, done_depth}
+use Rattle.plan_json.proofs.Plain.{plan_plain, plan_has_text, plan_depth, done_plain, done_has_text, done_depth, kept_said}
 
 pub plan_text_again : (p : Plan) → HasForms p → option_and_then plan_of (read (compact_text (plan_data p))) ≡ Some p
 plan_text_again p is = ap (option_and_then plan_of) (read_compact (plan_data p) (plan_plain p is) (omega (arith, plan_depth p))) ∙ plan_again p is
@@ -18,7 +18,7 @@ pub plan_text_utf8 : (p : Plan) → HasForms p → IsUtf8 (compact_text (plan_da
 plan_text_utf8 p is = utf8_compact (plan_data p) (plan_plain p is) (plan_has_text p)
 
 pub done_text_again : (d : Done) → DoneHasForms d → option_and_then done_of (read (compact_text (done_data d))) ≡ Some d
-done_text_again d is = ap (option_and_then done_of) (read_compact (done_data d) (done_plain d is) (omega (arith, done_depth d))) ∙ done_again d is
+done_text_again d is = ap (option_and_then done_of) (read_compact (done_data d) (done_plain d (kept_said d is)) (omega (arith, done_depth d))) ∙ done_again _ _ d is
 
 pub done_text_utf8 : (d : Done) → DoneHasForms d → IsUtf8 (compact_text (done_data d))
-done_text_utf8 d is = utf8_compact (done_data d) (done_plain d is) (done_has_text d is)
+done_text_utf8 d is = utf8_compact (done_data d) (done_plain d (kept_said d is)) (done_has_text d (kept_said d is))

@@ -249,11 +249,19 @@ pub record CallHasForms (c : Call) : Type 0 where
   pub number : c.number ≤ 1_000_000_000_000
   pub ask : AskHasForms c.ask
 
--- what was done, with its numbers and its digest in their forms
+-- What was done, with its digest in its form: ids and numbers of revisions are within one limit, counts within another.
+abbrev pub DoneWithin : ℕ → ℕ → Done → Type 0
+DoneWithin ids counts (Report id) = id ≤ ids
+DoneWithin ids counts (Deferral id) = id ≤ ids
+DoneWithin ids counts (Filed release revision) = (release ≤ ids) × (revision ≤ ids)
+DoneWithin ids counts (Prepared release revision digest) = (release ≤ ids) × (revision ≤ ids) × IsDigest digest
+DoneWithin ids counts (Release id) = id ≤ ids
+DoneWithin ids counts (Swept reports kept) = (reports ≤ counts) × (kept ≤ counts)
+
+-- as it is kept
 abbrev pub DoneHasForms : Done → Type 0
-DoneHasForms (Report id) = IsId id
-DoneHasForms (Deferral id) = IsId id
-DoneHasForms (Filed release revision) = IsId release × IsId revision
-DoneHasForms (Prepared release revision digest) = IsId release × IsId revision × IsDigest digest
-DoneHasForms (Release id) = IsId id
-DoneHasForms (Swept reports kept) = IsAmount reports × IsAmount kept
+DoneHasForms done = DoneWithin 1_000_000_000_000_000 4_294_967_295 done
+
+-- as a reply may say it: numbers of 64 bits
+abbrev pub SaidDoneHasForms : Done → Type 0
+SaidDoneHasForms done = DoneWithin 18_446_744_073_709_551_615 18_446_744_073_709_551_615 done

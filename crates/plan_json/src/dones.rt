@@ -3,10 +3,10 @@ ghost use Rattle.serde_json.specs.Data.{put};
 ghost use Rattle.serde_json.specs.View.{view, members_view};
 ghost use Rattle.plan_json.specs.Canonical as spec;
 ghost use Rattle.plan_json.specs.Dones as dones;
-ghost use Rattle.plan_json.specs.Dones.{done_of};
+ghost use Rattle.plan_json.specs.Dones.{done_of, said_done_of, done_within};
 
 use crate::digests::{digest_at, with_digest};
-use crate::fields::{amount_at, has_members, id_at};
+use crate::fields::{has_members, number_at};
 use crate::members::{Members, with_count};
 use asks::Done;
 use desk_io::OutOfMemory;
@@ -57,10 +57,10 @@ pub fn done_value(alloc: Global, done: &Done) -> Result<Value, OutOfMemory>
     Ok(Value::Object(done_members(alloc, done)?))
 }
 
-fn report_of(value: &Value) -> Option<Done>
-    ensures { result ≡ dones.report_of (view value.now) }
+fn report_of(ids: u64, value: &Value) -> Option<Done>
+    ensures { result ≡ dones.report_of ids (view value.now) }
 {
-    let id = id_at("report", value)?;
+    let id = number_at("report", ids, value)?;
     if has_members(1, value) {
         Some(Done::Report(id))
     } else {
@@ -68,10 +68,10 @@ fn report_of(value: &Value) -> Option<Done>
     }
 }
 
-fn deferral_of(value: &Value) -> Option<Done>
-    ensures { result ≡ dones.deferral_of (view value.now) }
+fn deferral_of(ids: u64, value: &Value) -> Option<Done>
+    ensures { result ≡ dones.deferral_of ids (view value.now) }
 {
-    let id = id_at("deferral", value)?;
+    let id = number_at("deferral", ids, value)?;
     if has_members(1, value) {
         Some(Done::Deferral(id))
     } else {
@@ -79,11 +79,11 @@ fn deferral_of(value: &Value) -> Option<Done>
     }
 }
 
-fn filed_of(value: &Value) -> Option<Done>
-    ensures { result ≡ dones.filed_of (view value.now) }
+fn filed_of(ids: u64, value: &Value) -> Option<Done>
+    ensures { result ≡ dones.filed_of ids (view value.now) }
 {
-    let release = id_at("release", value)?;
-    let revision = id_at("revision", value)?;
+    let release = number_at("release", ids, value)?;
+    let revision = number_at("revision", ids, value)?;
     if has_members(2, value) {
         Some(Done::Filed { release, revision })
     } else {
@@ -91,11 +91,11 @@ fn filed_of(value: &Value) -> Option<Done>
     }
 }
 
-fn prepared_of(value: &Value) -> Option<Done>
-    ensures { result ≡ dones.prepared_of (view value.now) }
+fn prepared_of(ids: u64, value: &Value) -> Option<Done>
+    ensures { result ≡ dones.prepared_of ids (view value.now) }
 {
-    let release = id_at("release", value)?;
-    let revision = id_at("revision", value)?;
+    let release = number_at("release", ids, value)?;
+    let revision = number_at("revision", ids, value)?;
     let digest = digest_at("digest", value)?;
     if has_members(3, value) {
         Some(Done::Prepared {
@@ -108,10 +108,10 @@ fn prepared_of(value: &Value) -> Option<Done>
     }
 }
 
-fn release_of(value: &Value) -> Option<Done>
-    ensures { result ≡ dones.release_of (view value.now) }
+fn release_of(ids: u64, value: &Value) -> Option<Done>
+    ensures { result ≡ dones.release_of ids (view value.now) }
 {
-    let id = id_at("release", value)?;
+    let id = number_at("release", ids, value)?;
     if has_members(1, value) {
         Some(Done::Release(id))
     } else {
@@ -119,11 +119,11 @@ fn release_of(value: &Value) -> Option<Done>
     }
 }
 
-fn swept_of(value: &Value) -> Option<Done>
-    ensures { result ≡ dones.swept_of (view value.now) }
+fn swept_of(counts: u64, value: &Value) -> Option<Done>
+    ensures { result ≡ dones.swept_of counts (view value.now) }
 {
-    let reports = amount_at("reports", value)? as u64;
-    let kept = amount_at("kept", value)? as u64;
+    let reports = number_at("reports", counts, value)?;
+    let kept = number_at("kept", counts, value)?;
     if has_members(2, value) {
         Some(Done::Swept { reports, kept })
     } else {
@@ -131,24 +131,39 @@ fn swept_of(value: &Value) -> Option<Done>
     }
 }
 
-#[tactic(auto, unfolding(crate::specs::Dones::done_of))]
-fn done_in(value: &Value) -> Option<Done>
-    ensures { result ≡ done_of (view value.now) }
+#[tactic(auto, unfolding(crate::specs::Dones::done_within))]
+fn done_in(ids: u64, counts: u64, value: &Value) -> Option<Done>
+    ensures { result ≡ done_within ids counts (view value.now) }
 {
-    report_of(value)
-        .or(deferral_of(value))
-        .or(filed_of(value))
-        .or(prepared_of(value))
-        .or(release_of(value))
-        .or(swept_of(value))
+    report_of(ids, value)
+        .or(deferral_of(ids, value))
+        .or(filed_of(ids, value))
+        .or(prepared_of(ids, value))
+        .or(release_of(ids, value))
+        .or(swept_of(counts, value))
 }
 
-/// What was done, where an object has exactly the keys of one kind, and each field its form: ids and numbers of
-/// revisions of at most 10^15, counts of at most 4,294,967,295, and 64 hexadecimal digits, none of them a
+fn done_within(ids: u64, counts: u64, value: &Value) -> Option<Done>
+    ensures value { result ≡ done_within ids counts (view value.now) }
+    ensures form { IfSome result (spec.DoneWithin ids counts) }
+{
+    done_in(ids, counts, value)
+}
+
+/// What was done, as it is kept, where an object has exactly the keys of one kind, and each field its form: ids and
+/// numbers of revisions of at most 10^15, counts of at most 4,294,967,295, and 64 hexadecimal digits, none of them a
 /// capital letter.
 pub fn read_done(value: &Value) -> Option<Done>
     ensures value { result ≡ done_of (view value.now) }
     ensures form { IfSome result spec.DoneHasForms }
 {
-    done_in(value)
+    done_within(1_000_000_000_000_000, 4_294_967_295, value)
+}
+
+/// What was done, as a reply says it: the same, but each number as far as its 64 bits go.
+pub fn read_said_done(value: &Value) -> Option<Done>
+    ensures value { result ≡ said_done_of (view value.now) }
+    ensures form { IfSome result spec.SaidDoneHasForms }
+{
+    done_within(u64::MAX, u64::MAX, value)
 }

@@ -14,7 +14,7 @@ mod values;
 
 pub use ask_values::{ask_digest, ask_text, ask_value};
 pub use digests::{digest_at, digest_value, with_digest};
-pub use dones::{done_value, read_done};
+pub use dones::{done_value, read_done, read_said_done};
 pub use fields::{
     amount_at, data_of, has_members, id_at, list_at, moment_at, number_at, short_at, station_at,
     text_at,

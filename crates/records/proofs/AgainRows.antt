@@ -62,7 +62,7 @@ in_again (Report r) is = rw (moment_again r.received is.received, text_lossy r.t
 in_again (Deferral d) is = rw (moment_again d.found is.found, item_again d.item is.item, tail_again d.tail is.tail) refl
 in_again (Release r) is = rw (release_again r is.1) refl
 in_again (Kept k) is =
-    rw (moment_again k.at is.at, digest_again k.digest is.digest, small_again k.number 1_000_000_000_000 is.number, done_again k.done is.done, person_again k.actor is.actor) refl
+    rw (moment_again k.at is.at, digest_again k.digest is.digest, small_again k.number 1_000_000_000_000 is.number, done_again 1_000_000_000_000_000 4_294_967_295 k.done is.done, person_again k.actor is.actor) refl
 in_again (Alert a) is =
     rw (
       moment_again a.opened is.opened,

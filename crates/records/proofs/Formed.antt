@@ -155,7 +155,7 @@ digest_at_formed key d = then_if digest_of (text_at key d) IsDigest digest_forme
 
 reply_formed : (d : Data) → IfSome (read.reply_of d) DoneHasForms
 reply_formed d =
-    bind_if (option_and_then done_of (get (codes "done") d)) _ DoneHasForms DoneHasForms (then_if done_of (get (codes "done") d) DoneHasForms done_formed) (λ done has.
+    bind_if (option_and_then done_of (get (codes "done") d)) _ DoneHasForms DoneHasForms (then_if done_of (get (codes "done") d) DoneHasForms (done_formed 1_000_000_000_000_000 4_294_967_295)) (λ done has.
     under (has_members 1 d) (Some done) DoneHasForms (λ exact. has))
 
 done_at_formed : (d : Data) → IfSome (read.done_at d) DoneHasForms
@@ -206,7 +206,7 @@ opening_formed d =
     under (has_members 5 d) _ IsOpening (λ exact. record { opened = at; version = is.few; first = is.first }))))
 
 finding_in_formed : (d : Data) → IfSome (finding_in d) IsFinding
-finding_in_formed d = then_if finding_of (as_str d) IsFinding finding_formed
+finding_in_formed d = then_if finding_of (as_str d) IsFinding (finding_formed 1_000_000_000_000_000)
 
 findings_formed : (ds : Items) → IfSome (findings_of ds) AreFindings
 unfolding findings_of

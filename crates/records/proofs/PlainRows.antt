@@ -5,7 +5,7 @@ use Rattle.serde_json.specs.Data.{object, depth}
 use Rattle.asks.specs.declared.kept.Floor.{Floor}
 use Rattle.plan_json.specs.Canonical.{IsId}
 use Rattle.plan_json.specs.Plain.{IsPlain, HasText}
-use Rattle.plan_json.proofs.Plain.{order_of, text_of, done_plain, done_has_text, done_depth}
+use Rattle.plan_json.proofs.Plain.{order_of, text_of, done_plain, done_has_text, done_depth, kept_said}
 use Rattle.plan_json.proofs.Texts.{written_utf8, digest_utf8}
 use Rattle.release_json.proofs.PlainLaws.{release_plain, release_has_text, release_depth, findings_plain, findings_have_text, findings_depth}
 use Rattle.records.specs.Bodies.{floors_data, meta_members, report_members, deferral_members, reply_members, kept_members, alert_members, body_data}
@@ -50,7 +50,7 @@ body_plain (Deferral d) is = (order_of (deferral_members d) refl, (tt, (tt, (tt,
 body_plain (Release r) is = release_plain r is.1.formed
 body_plain (Kept k) is = (
   order_of (kept_members k) refl,
-  (tt, (tt, (tt, ((let few = is.number in omega arith), ((order_of (reply_members k) refl, (done_plain k.done is.done, tt)), tt))))),
+  (tt, (tt, (tt, ((let few = is.number in omega arith), ((order_of (reply_members k) refl, (done_plain k.done (kept_said k.done is.done), tt)), tt))))),
 )
 body_plain (Alert a) is = (
   order_of (alert_members a) refl,
@@ -64,7 +64,7 @@ body_has_text (Report r) is = text_of (report_members r) refl (written_utf8 _, (
 body_has_text (Deferral d) is = text_of (deferral_members d) refl (written_utf8 _, (written_utf8 d.item, (written_utf8 d.tail, tt)))
 body_has_text (Release r) is = release_has_text r is.1.formed
 body_has_text (Kept k) is =
-    text_of (kept_members k) refl (written_utf8 k.actor, (written_utf8 _, (digest_utf8 k.digest is.digest, (tt, (text_of (reply_members k) refl (done_has_text k.done is.done, tt), tt)))))
+    text_of (kept_members k) refl (written_utf8 k.actor, (written_utf8 _, (digest_utf8 k.digest is.digest, (tt, (text_of (reply_members k) refl (done_has_text k.done (kept_said k.done is.done), tt), tt)))))
 body_has_text (Alert a) is = text_of (alert_members a) refl (tt, (findings_have_text a.ever, (findings_have_text a.failing, (written_utf8 _, (tt, tt)))))
 
 pub body_depth : (r : Record) → IsRecord r → depth (body_data r) ≤ 7

@@ -9,7 +9,7 @@ use Rattle.std.proofs.lemmas.List.{take_at, take-append-drop, drop_more}
 use Rattle.std.proofs.lemmas.List.Quantifiers.{position-Some}
 use Rattle.std.proofs.lemmas.Str.Parse.{IsDigitsTest, FoldsDigits, IsNumeralModel, numerals_by_fold}
 use Rattle.plan_json.proofs.Chains.{bind_known, under}
-use Rattle.release_json.specs.Numbers.{is_digit, digits_after, is_decimal, number_of, leg_of, cut}
+use Rattle.release_json.specs.Numbers.{is_digit, digits_after, is_decimal, number_in, leg_of, cut}
 
 grows : (n : ℕ) (ds : List ℕ) → n ≤ digits_after n ds
 grows n [] = omega arith
@@ -50,7 +50,7 @@ pub is_decimal-decimal : (n : ℕ) → n < 2 ^ 64 → is_decimal (decimal n) ≡
 is_decimal-decimal n small = decimal_from (decimal n) (digits_decimal own n small) (decimal_nonempty n small) (zero_alone n small)
 
 -- a number that is written is read
-pub number_again : (limit n : ℕ) → n ≤ limit → n < 2 ^ 64 → number_of limit (decimal n) ≡ Some n
+pub number_again : (limit n : ℕ) → n ≤ limit → n < 2 ^ 64 → number_in limit (decimal n) ≡ Some n
 number_again limit n few small = rw (is_decimal-decimal n small, digits_value-decimal own n small, le-leb n limit few) refl
 
 pub leg_again : (n : ℕ) → n ≤ 4_294_967_295 → leg_of (decimal n) ≡ Some n
@@ -64,7 +64,7 @@ within_if true limit n is = is refl
 within_if false limit n is = tt
 
 -- what is read is within the limit
-pub number_within : (limit : ℕ) (text : List ℕ) → IfSome (number_of limit text) (λ n. n ≤ limit)
+pub number_within : (limit : ℕ) (text : List ℕ) → IfSome (number_in limit text) (λ n. n ≤ limit)
 number_within limit text = within_if (is_decimal text && nat_le (digits_after 0 text) limit) limit (digits_after 0 text) (chosen (is_decimal text) limit (digits_after 0 text))
 
 alone : (d k : ℕ) → (not (d == 48) || (k == 0)) ≡ true → d ≡ 48 → suc k ≡ 1
@@ -77,7 +77,7 @@ back (d ∷ ds) is few =
     decimal-digits_value own (d ∷ ds) parts.0 (omega arith) (alone d (length ds) parts.1) few
 
 -- what is read is what the text writes
-pub number_back : (limit : ℕ) (text : List ℕ) → limit < 2 ^ 64 → IfSome (number_of limit text) (λ n. decimal n ≡ text)
+pub number_back : (limit : ℕ) (text : List ℕ) → limit < 2 ^ 64 → IfSome (number_in limit text) (λ n. decimal n ≡ text)
 number_back limit text few =
     under (is_decimal text && nat_le (digits_after 0 text) limit) (Some (digits_after 0 text)) (λ n. decimal n ≡ text) (λ is.
     let parts = and_parts (is_decimal text) (nat_le (digits_after 0 text) limit) is in
@@ -89,10 +89,10 @@ of_some limit text None n is few same = absurd (cc is)
 of_some limit text (Some k) n is few same = let e : k ≡ n = cc is in rw (← e) (few, sym same)
 
 -- a text is read as a number exactly where it writes it
-pub number_exact : (limit : ℕ) (text : List ℕ) (read : Option ℕ) → limit ≤ 1_000_000_000_000_000 → read ≡ number_of limit text → (n : ℕ) → (read ≡ Some n) ↔ ((n ≤ limit) × (text ≡ decimal n))
+pub number_exact : (limit : ℕ) (text : List ℕ) (read : Option ℕ) → limit < 2 ^ 64 → read ≡ number_in limit text → (n : ℕ) → (read ≡ Some n) ↔ ((n ≤ limit) × (text ≡ decimal n))
 number_exact limit text read small is n = (
-  λ found. of_some limit text (number_of limit text) n (sym is ∙ found) (number_within limit text) (number_back limit text (omega arith)),
-  λ all. is ∙ ap (number_of limit) all.1 ∙ number_again limit n all.0 (omega (arith, all.0)),
+  λ found. of_some limit text (number_in limit text) n (sym is ∙ found) (number_within limit text) (number_back limit text small),
+  λ all. is ∙ ap (number_in limit) all.1 ∙ number_again limit n all.0 (omega (arith, small, all.0)),
 )
 
 -- ---- texts that are cut

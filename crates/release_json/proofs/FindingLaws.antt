@@ -1,5 +1,5 @@
 -- The text of a finding is read as it, and lists of findings in order, each once, are read again.
-use Rattle.std.proofs.Common.{◌≡◌, ◌↔◌, ℕ, ◌≤◌, true, List, [], ◌∷◌, ◌++◌, map, Option, None, Some, IfSome, decimal, IsUtf8, refl, ap, sym, subst, ◌∙◌, arith}
+use Rattle.std.proofs.Common.{◌≡◌, ◌↔◌, ℕ, ◌^◌, ◌<◌, ◌≤◌, true, List, [], ◌∷◌, ◌++◌, map, Option, None, Some, IfSome, decimal, IsUtf8, refl, ap, sym, subst, ◌∙◌, arith}
 use Rattle.std.specs.List.{AllByRecursion}
 use Rattle.std.specs.Str.{bytes_eq}
 use Rattle.std.proofs.lemmas.Bool.{and_parts}
@@ -19,8 +19,8 @@ use Rattle.plan.specs.declared.findings.Rule.TheVariants.{No1, No2, No3, No4, No
 use Rattle.plan.specs.declared.findings.Finding.{Finding}
 use Rattle.plan_json.specs.Fields.{each_read}
 use Rattle.plan_json.proofs.Again.{each_again}
-use Rattle.release_json.specs.Numbers.{number_of, leg_of, cut}
-use Rattle.release_json.specs.Findings.{every_rule, rule_among, rule_of, finding_at, finding_with, finding_of, finding_data, finding_in, comes_before, are_in_order, findings_of, IsFinding}
+use Rattle.release_json.specs.Numbers.{number_in, leg_of, cut}
+use Rattle.release_json.specs.Findings.{every_rule, rule_among, rule_of, finding_at, finding_with, finding_within, finding_data, finding_in, comes_before, are_in_order, findings_of, IsFinding, FindingWithin}
 use Rattle.plan_json.proofs.Chains.{bind_if, bind_any, under, either_known}
 use Rattle.release_json.proofs.Digits.{leg_again, number_again, number_within, number_back, decimal_free, is_free, IsCut, cut_at, cut_back}
 
@@ -87,36 +87,36 @@ code_utf8 No17 = IsUtf8-are_ascii _ refl
 code_utf8 No18 = IsUtf8-are_ascii _ refl
 code_utf8 No19 = IsUtf8-are_ascii _ refl
 
-at_again : (r : Rule) (leg place : ℕ) → leg ≤ 4_294_967_295 → place ≤ 1_000_000_000_000_000
-    → finding_at r (decimal leg, decimal place ++ []) ≡ Some (record { rule = r; leg = leg; place = place })
-at_again r leg place few small =
-    rw (append-nil (decimal place), leg_again leg few, number_again 1_000_000_000_000_000 place small (omega arith)) refl
+at_again : (places : ℕ) (r : Rule) (leg place : ℕ) → leg ≤ 4_294_967_295 → place ≤ places → places < 2 ^ 64
+    → finding_at places r (decimal leg, decimal place ++ []) ≡ Some (record { rule = r; leg = leg; place = place })
+at_again places r leg place few small most =
+    rw (append-nil (decimal place), leg_again leg few, number_again places place small (omega (arith, small, most))) refl
 
-with_again : (r : Rule) (leg place : ℕ) → leg ≤ 4_294_967_295 → place ≤ 1_000_000_000_000_000
-    → finding_with (code_of r, decimal leg ++ 47 ∷ (decimal place ++ [])) ≡ Some (record { rule = r; leg = leg; place = place })
-with_again r leg place few small =
-    ap (λ o. o >>= λ rule. cut 47 (decimal leg ++ 47 ∷ (decimal place ++ [])) >>= λ both. finding_at rule both) (rule_again r)
-    ∙ ap (λ o. o >>= λ both. finding_at r both) (cut_at 47 (decimal leg) (decimal place ++ []) (decimal_free 47 leg refl (omega arith)))
-    ∙ at_again r leg place few small
+with_again : (places : ℕ) (r : Rule) (leg place : ℕ) → leg ≤ 4_294_967_295 → place ≤ places → places < 2 ^ 64
+    → finding_with places (code_of r, decimal leg ++ 47 ∷ (decimal place ++ [])) ≡ Some (record { rule = r; leg = leg; place = place })
+with_again places r leg place few small most =
+    ap (λ o. o >>= λ rule. cut 47 (decimal leg ++ 47 ∷ (decimal place ++ [])) >>= λ both. finding_at places rule both) (rule_again r)
+    ∙ ap (λ o. o >>= λ both. finding_at places r both) (cut_at 47 (decimal leg) (decimal place ++ []) (decimal_free 47 leg refl (omega arith)))
+    ∙ at_again places r leg place few small most
 
 -- the finding whose text it is
-pub finding_again : (f : Finding) → IsFinding f → finding_of (finding_text f) ≡ Some f
-unfolding finding_of finding_text
-finding_again f is =
-    ap (λ o. o >>= finding_with) (cut_at 47 (code_of f.rule) (decimal f.leg ++ 47 ∷ (decimal f.place ++ [])) (code_free f.rule))
-    ∙ with_again f.rule f.leg f.place is.leg is.place
+pub finding_again : (places : ℕ) (f : Finding) → places < 2 ^ 64 → FindingWithin places f → finding_within places (finding_text f) ≡ Some f
+unfolding finding_within finding_text
+finding_again places f most is =
+    ap (λ o. o >>= finding_with places) (cut_at 47 (code_of f.rule) (decimal f.leg ++ 47 ∷ (decimal f.place ++ [])) (code_free f.rule))
+    ∙ with_again places f.rule f.leg f.place is.leg is.place most
 
-pub finding_utf8 : (f : Finding) → IsFinding f → IsUtf8 (finding_text f)
+pub finding_utf8 : (places : ℕ) (f : Finding) → places < 2 ^ 64 → FindingWithin places f → IsUtf8 (finding_text f)
 unfolding finding_text
-finding_utf8 f is =
+finding_utf8 places f most is =
     IsUtf8-append (code_of f.rule) _ (code_utf8 f.rule)
     (IsUtf8-append (47 ∷ []) _ (IsUtf8-are_ascii _ refl)
     (IsUtf8-append (decimal f.leg) _ (IsUtf8-from_ascii _ (IsAscii-decimal f.leg (let few = is.leg in omega arith)))
     (IsUtf8-append (47 ∷ []) _ (IsUtf8-are_ascii _ refl)
-    (IsUtf8-append (decimal f.place) [] (IsUtf8-from_ascii _ (IsAscii-decimal f.place (let few = is.place in omega arith))) (IsUtf8-are_ascii [] refl)))))
+    (IsUtf8-append (decimal f.place) [] (IsUtf8-from_ascii _ (IsAscii-decimal f.place (let few = is.place in omega (arith, few, most)))) (IsUtf8-are_ascii [] refl)))))
 
 item_again : (f : Finding) → IsFinding f → finding_in (finding_data f) ≡ Some f
-item_again f is = rw (utf8_lossy-IsUtf8 (finding_text f) (finding_utf8 f is)) (finding_again f is)
+item_again f is = rw (utf8_lossy-IsUtf8 (finding_text f) (finding_utf8 1_000_000_000_000_000 f (omega arith) is)) (finding_again 1_000_000_000_000_000 f (omega arith) is)
 
 -- ---- the order
 
@@ -159,15 +159,15 @@ findings_ordered ds = bind_any (each_read finding_in ds) _ AreInOrder (λ fs. un
 
 -- ---- what is read has its form
 
-at_formed : (r : Rule) (halves : List ℕ × List ℕ) → IfSome (finding_at r halves) IsFinding
-at_formed r halves =
-    bind_if (leg_of halves.0) _ (λ leg. leg ≤ 4_294_967_295) IsFinding (number_within 4_294_967_295 halves.0) (λ leg few.
-    bind_if (number_of 1_000_000_000_000_000 halves.1) _ (λ place. place ≤ 1_000_000_000_000_000) IsFinding (number_within 1_000_000_000_000_000 halves.1) (λ place small. record { leg = few; place = small }))
+at_formed : (places : ℕ) (r : Rule) (halves : List ℕ × List ℕ) → IfSome (finding_at places r halves) (FindingWithin places)
+at_formed places r halves =
+    bind_if (leg_of halves.0) _ (λ leg. leg ≤ 4_294_967_295) (FindingWithin places) (number_within 4_294_967_295 halves.0) (λ leg few.
+    bind_if (number_in places halves.1) _ (λ place. place ≤ places) (FindingWithin places) (number_within places halves.1) (λ place small. record { leg = few; place = small }))
 
-pub finding_formed : (text : List ℕ) → IfSome (finding_of text) IsFinding
-unfolding finding_of
-finding_formed text =
-    bind_any (cut 47 text) _ IsFinding (λ halves. bind_any (rule_of halves.0) _ IsFinding (λ r. bind_any (cut 47 halves.1) _ IsFinding (λ both. at_formed r both)))
+pub finding_formed : (places : ℕ) (text : List ℕ) → IfSome (finding_within places text) (FindingWithin places)
+unfolding finding_within
+finding_formed places text =
+    bind_any (cut 47 text) _ (FindingWithin places) (λ halves. bind_any (rule_of halves.0) _ (FindingWithin places) (λ r. bind_any (cut 47 halves.1) _ (FindingWithin places) (λ both. at_formed places r both)))
 
 -- ---- only the text of a finding is read
 
@@ -186,35 +186,35 @@ written r leg place code number last one two three =
     ∙ ap (λ (l : List ℕ). code ++ 47 ∷ (l ++ 47 ∷ (decimal place ++ []))) two
     ∙ ap (λ (l : List ℕ). code ++ 47 ∷ (number ++ 47 ∷ l)) (append-nil (decimal place) ∙ three)
 
-at_back : (r : Rule) (code : List ℕ) (both : List ℕ × List ℕ) → code_of r ≡ code → IfSome (finding_at r both) (Writes (code ++ 47 ∷ (both.0 ++ 47 ∷ both.1)))
-at_back r code both one =
+at_back : (places : ℕ) (r : Rule) (code : List ℕ) (both : List ℕ × List ℕ) → code_of r ≡ code → places < 2 ^ 64 → IfSome (finding_at places r both) (Writes (code ++ 47 ∷ (both.0 ++ 47 ∷ both.1)))
+at_back places r code both one most =
     let Q = Writes (code ++ 47 ∷ (both.0 ++ 47 ∷ both.1)) in
-    bind_if (leg_of both.0) (λ leg. number_of 1_000_000_000_000_000 both.1 >>= λ place. Some (record { rule = r; leg = leg; place = place })) (λ leg. decimal leg ≡ both.0) Q (number_back 4_294_967_295 both.0 (omega arith)) (λ leg two.
-    bind_if (number_of 1_000_000_000_000_000 both.1) (λ place. Some (record { rule = r; leg = leg; place = place })) (λ place. decimal place ≡ both.1) Q (number_back 1_000_000_000_000_000 both.1 (omega arith)) (λ place three.
+    bind_if (leg_of both.0) (λ leg. number_in places both.1 >>= λ place. Some (record { rule = r; leg = leg; place = place })) (λ leg. decimal leg ≡ both.0) Q (number_back 4_294_967_295 both.0 (omega arith)) (λ leg two.
+    bind_if (number_in places both.1) (λ place. Some (record { rule = r; leg = leg; place = place })) (λ place. decimal place ≡ both.1) Q (number_back places both.1 most) (λ place three.
     written r leg place code both.0 both.1 one two three))
 
-rest_back : (r : Rule) (code rest : List ℕ) → code_of r ≡ code → IfSome (cut 47 rest >>= λ both. finding_at r both) (Writes (code ++ 47 ∷ rest))
-rest_back r code rest one =
-    bind_if (cut 47 rest) (λ both. finding_at r both) (IsCut 47 rest) (Writes (code ++ 47 ∷ rest)) (cut_back 47 rest) (λ both is.
-    subst (λ (l : List ℕ). IfSome (finding_at r both) (Writes (code ++ 47 ∷ l))) (sym is) (at_back r code both one))
+rest_back : (places : ℕ) (r : Rule) (code rest : List ℕ) → code_of r ≡ code → places < 2 ^ 64 → IfSome (cut 47 rest >>= λ both. finding_at places r both) (Writes (code ++ 47 ∷ rest))
+rest_back places r code rest one most =
+    bind_if (cut 47 rest) (λ both. finding_at places r both) (IsCut 47 rest) (Writes (code ++ 47 ∷ rest)) (cut_back 47 rest) (λ both is.
+    subst (λ (l : List ℕ). IfSome (finding_at places r both) (Writes (code ++ 47 ∷ l))) (sym is) (at_back places r code both one most))
 
-with_back : (halves : List ℕ × List ℕ) → IfSome (finding_with halves) (Writes (halves.0 ++ 47 ∷ halves.1))
-with_back halves =
-    bind_if (rule_of halves.0) (λ r. cut 47 halves.1 >>= λ both. finding_at r both) (λ r. code_of r ≡ halves.0) (Writes (halves.0 ++ 47 ∷ halves.1)) (code_back halves.0 every_rule) (λ r one. rest_back r halves.0 halves.1 one)
+with_back : (places : ℕ) (halves : List ℕ × List ℕ) → places < 2 ^ 64 → IfSome (finding_with places halves) (Writes (halves.0 ++ 47 ∷ halves.1))
+with_back places halves most =
+    bind_if (rule_of halves.0) (λ r. cut 47 halves.1 >>= λ both. finding_at places r both) (λ r. code_of r ≡ halves.0) (Writes (halves.0 ++ 47 ∷ halves.1)) (code_back halves.0 every_rule) (λ r one. rest_back places r halves.0 halves.1 one most)
 
 -- what is read of a text is the finding whose text it is
-pub finding_back : (text : List ℕ) → IfSome (finding_of text) (λ f. finding_text f ≡ text)
-unfolding finding_of
-finding_back text =
-    bind_if (cut 47 text) finding_with (IsCut 47 text) (Writes text) (cut_back 47 text) (λ halves is. subst (λ (l : List ℕ). IfSome (finding_with halves) (Writes l)) (sym is) (with_back halves))
+pub finding_back : (places : ℕ) (text : List ℕ) → places < 2 ^ 64 → IfSome (finding_within places text) (λ f. finding_text f ≡ text)
+unfolding finding_within
+finding_back places text most =
+    bind_if (cut 47 text) (finding_with places) (IsCut 47 text) (Writes text) (cut_back 47 text) (λ halves is. subst (λ (l : List ℕ). IfSome (finding_with places halves) (Writes l)) (sym is) (with_back places halves most))
 
-of_some : (text : List ℕ) (o : Option Finding) (f : Finding) → o ≡ Some f → IfSome o IsFinding → IfSome o (λ g. finding_text g ≡ text) → IsFinding f × (text ≡ finding_text f)
-of_some text None f is formed same = absurd (cc is)
-of_some text (Some g) f is formed same = let e : g ≡ f = cc is in rw (← e) (formed, sym same)
+of_some : (places : ℕ) (text : List ℕ) (o : Option Finding) (f : Finding) → o ≡ Some f → IfSome o (FindingWithin places) → IfSome o (λ g. finding_text g ≡ text) → FindingWithin places f × (text ≡ finding_text f)
+of_some places text None f is formed same = absurd (cc is)
+of_some places text (Some g) f is formed same = let e : g ≡ f = cc is in rw (← e) (formed, sym same)
 
 -- a text is read as a finding exactly where it is its text
-pub finding_exact : (text : List ℕ) (read : Option Finding) → read ≡ finding_of text → (f : Finding) → (read ≡ Some f) ↔ (IsFinding f × (text ≡ finding_text f))
-finding_exact text read is f = (
-  λ found. of_some text (finding_of text) f (sym is ∙ found) (finding_formed text) (finding_back text),
-  λ all. is ∙ ap finding_of all.1 ∙ finding_again f all.0,
+pub finding_exact : (places : ℕ) (text : List ℕ) (read : Option Finding) → places < 2 ^ 64 → read ≡ finding_within places text → (f : Finding) → (read ≡ Some f) ↔ (FindingWithin places f × (text ≡ finding_text f))
+finding_exact places text read most is f = (
+  λ found. of_some places text (finding_within places text) f (sym is ∙ found) (finding_formed places text) (finding_back places text most),
+  λ all. is ∙ ap (finding_within places) all.1 ∙ finding_again places f most all.0,
 )

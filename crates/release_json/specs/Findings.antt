@@ -1,5 +1,5 @@
 -- The findings that texts say, and lists of them in order, each once.
-use Rattle.std.specs.Prelude.{ℕ, Bool, true, ◌&&◌, if◌then◌else◌, List, [], ◌∷◌, find, Option, None, Some, option_and_then}
+use Rattle.std.specs.Prelude.{ℕ, ◌≤◌, Bool, true, ◌&&◌, if◌then◌else◌, List, [], ◌∷◌, find, Option, None, Some, option_and_then}
 use Rattle.std.specs.Str.{bytes_eq}
 use Rattle.serde_json.specs.Data.{Data, Items}
 use Rattle.serde_json.specs.Find.{as_str}
@@ -9,9 +9,9 @@ use Rattle.plan.specs.Texts.{finding_text}
 use Rattle.plan.specs.declared.findings.Rule.{Rule}
 use Rattle.plan.specs.declared.findings.Rule.TheVariants.{No1, No2, No3, No4, No5, No6, No7, No8, No9, No10, No11, No12, No13, No14, No15, No16, No17, No18, No19}
 use Rattle.plan.specs.declared.findings.Finding.{Finding}
-use Rattle.plan_json.specs.Canonical.{text_data, list_data, IsAmount, IsId}
+use Rattle.plan_json.specs.Canonical.{text_data, list_data, IsAmount}
 use Rattle.plan_json.specs.Fields.{each_read}
-use Rattle.release_json.specs.Numbers.{number_of, leg_of, cut}
+use Rattle.release_json.specs.Numbers.{number_in, leg_of, cut}
 
 abbrev pub every_rule : List Rule
 every_rule = No1 ∷ No2 ∷ No3 ∷ No4 ∷ No5 ∷ No6 ∷ No7 ∷ No8 ∷ No9 ∷ No10 ∷ No11 ∷ No12 ∷ No13 ∷ No14 ∷ No15 ∷ No16 ∷ No17 ∷ No18 ∷ No19 ∷ []
@@ -23,17 +23,25 @@ rule_among rules code = find (λ r. bytes_eq (code_of r) code) rules
 abbrev pub rule_of : List ℕ → Option Rule
 rule_of code = rule_among every_rule code
 
--- the finding of a rule, a leg and a place
-abbrev pub finding_at : Rule → List ℕ × List ℕ → Option Finding
-finding_at rule halves =
-    leg_of halves.0 >>= λ leg. number_of 1_000_000_000_000_000 halves.1 >>= λ place. Some (record { rule = rule; leg = leg; place = place })
+-- the finding of a rule, a leg and a place, of which the place has a limit
+abbrev pub finding_at : ℕ → Rule → List ℕ × List ℕ → Option Finding
+finding_at places rule halves =
+    leg_of halves.0 >>= λ leg. number_in places halves.1 >>= λ place. Some (record { rule = rule; leg = leg; place = place })
 
-abbrev pub finding_with : List ℕ × List ℕ → Option Finding
-finding_with halves = rule_of halves.0 >>= λ rule. cut 47 halves.1 >>= λ both. finding_at rule both
+abbrev pub finding_with : ℕ → List ℕ × List ℕ → Option Finding
+finding_with places halves = rule_of halves.0 >>= λ rule. cut 47 halves.1 >>= λ both. finding_at places rule both
 
 -- the finding of a text
-unfoldable pub finding_of : List ℕ → Option Finding
-finding_of text = cut 47 text >>= λ halves. finding_with halves
+unfoldable pub finding_within : ℕ → List ℕ → Option Finding
+finding_within places text = cut 47 text >>= λ halves. finding_with places halves
+
+-- as it is kept
+abbrev pub finding_of : List ℕ → Option Finding
+finding_of text = finding_within 1_000_000_000_000_000 text
+
+-- as a reply may say it: a place as its type has it
+abbrev pub said_finding_of : List ℕ → Option Finding
+said_finding_of text = finding_within 18_446_744_073_709_551_615 text
 
 -- a finding as a JSON string, and findings as a list of them
 abbrev pub finding_data : Finding → Data
@@ -61,7 +69,15 @@ in_order fs = if are_in_order fs then Some fs else None
 unfoldable pub findings_of : Items → Option (List Finding)
 findings_of ds = each_read finding_in ds >>= λ fs. in_order fs
 
--- a finding whose leg and place have their forms
-pub record IsFinding (f : Finding) : Type 0 where
+-- a finding whose leg is a number of 32 bits, and whose place has a limit
+pub record FindingWithin (places : ℕ) (f : Finding) : Type 0 where
   pub leg : IsAmount f.leg
-  pub place : IsId f.place
+  pub place : f.place ≤ places
+
+-- as it is kept
+abbrev pub IsFinding : Finding → Type 0
+IsFinding f = FindingWithin 1_000_000_000_000_000 f
+
+-- as a reply may say it
+abbrev pub IsSaidFinding : Finding → Type 0
+IsSaidFinding f = FindingWithin 18_446_744_073_709_551_615 f

@@ -17,12 +17,12 @@ is_decimal [] = false
 is_decimal (d ∷ ds) = list_all is_digit (d ∷ ds) && (not (d == 48) || (length ds == 0))
 
 -- the number of a text, at most the limit
-abbrev pub number_of : ℕ → List ℕ → Option ℕ
-number_of limit text = if is_decimal text && nat_le (digits_after 0 text) limit then Some (digits_after 0 text) else None
+abbrev pub number_in : ℕ → List ℕ → Option ℕ
+number_in limit text = if is_decimal text && nat_le (digits_after 0 text) limit then Some (digits_after 0 text) else None
 
 -- the number of a leg
 abbrev pub leg_of : List ℕ → Option ℕ
-leg_of text = number_of 4_294_967_295 text
+leg_of text = number_in 4_294_967_295 text
 
 -- what stands before the first sign of a text, and what stands after it
 abbrev pub cut : ℕ → List ℕ → Option (List ℕ × List ℕ)

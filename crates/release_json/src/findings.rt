@@ -52,36 +52,44 @@ fn rule_of(code: &[u8]) -> Option<Rule>
     rule_among(&RULES, code)
 }
 
-fn finding_at(rule: Rule, leg: &[u8], place: &[u8]) -> Option<Finding>
-    ensures { result ≡ spec.finding_at rule (leg.now, place.now) }
+fn finding_at(places: u64, rule: Rule, leg: &[u8], place: &[u8]) -> Option<Finding>
+    ensures { result ≡ spec.finding_at places rule (leg.now, place.now) }
 {
     let leg = leg_of(leg)?;
-    let place = read_number(1_000_000_000_000_000, place)?;
+    let place = read_number(places, place)?;
     Some(Finding { rule, leg, place })
 }
 
-fn finding_with(code: &[u8], rest: &[u8]) -> Option<Finding>
-    ensures { result ≡ spec.finding_with (code.now, rest.now) }
+fn finding_with(places: u64, code: &[u8], rest: &[u8]) -> Option<Finding>
+    ensures { result ≡ spec.finding_with places (code.now, rest.now) }
 {
     let rule = rule_of(code)?;
     let (leg, place) = cut(b'/', rest)?;
-    finding_at(rule, leg, place)
+    finding_at(places, rule, leg, place)
 }
 
-#[tactic(auto, unfolding(crate::specs::Findings::finding_of))]
-fn finding_of(text: &[u8]) -> Option<Finding>
-    ensures { result ≡ spec.finding_of text.now }
+#[tactic(auto, unfolding(crate::specs::Findings::finding_within))]
+fn finding_within(places: u64, text: &[u8]) -> Option<Finding>
+    ensures { result ≡ spec.finding_within places text.now }
 {
     let (code, rest) = cut(b'/', text)?;
-    finding_with(code, rest)
+    finding_with(places, code, rest)
 }
 
-/// The finding whose text this is: a leg is at most 4,294,967,295, a place at most 10^15.
+/// The finding whose text this is, as it is kept: a leg is at most 4,294,967,295, a place at most 10^15.
 pub fn read_finding(text: &[u8]) -> Option<Finding>
     ensures value { result ≡ spec.finding_of text.now }
     ensures exact { (f : Finding) → (result ≡ Some f) ↔ (spec.IsFinding f × (text.now ≡ finding_text f)) }
 {
-    finding_of(text)
+    finding_within(1_000_000_000_000_000, text)
+}
+
+/// The finding whose text this is, as a reply says it: a place is a number of 64 bits.
+pub fn read_said_finding(text: &[u8]) -> Option<Finding>
+    ensures value { result ≡ spec.said_finding_of text.now }
+    ensures exact { (f : Finding) → (result ≡ Some f) ↔ (spec.IsSaidFinding f × (text.now ≡ finding_text f)) }
+{
+    finding_within(u64::MAX, text)
 }
 
 fn finding_in(value: &Value) -> Option<Finding>

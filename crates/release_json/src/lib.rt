@@ -9,7 +9,7 @@ mod releases;
 mod revisions;
 mod rows;
 
-pub use findings::{findings_value, read_finding, read_findings};
+pub use findings::{findings_value, read_finding, read_findings, read_said_finding};
 pub use numbers::read_number;
 pub use phases::read_phase;
 pub use releases::read_release;

@@ -26,22 +26,21 @@ fn is_decimal(text: &[u8]) -> bool
 
 // The number of some digits, where it isn't above the limit.
 fn number_up_to(limit: u64, digits: &[u8]) -> Option<u64>
-    requires { limit ≤ 1_000_000_000_000_000 }
     ensures { result ≡ if nat_le (spec.digits_after 0 digits.now) limit then Some (spec.digits_after 0 digits.now) else None }
 {
-    let mut number = 0;
+    let mut number: u64 = 0;
     for digit in digits {
-        number = 10 * number + u64::from(digit.saturating_sub(b'0'));
-        if number > limit {
+        let next = 10 * u128::from(number) + u128::from(digit.saturating_sub(b'0'));
+        if next > u128::from(limit) {
             return None;
         }
+        number = next as u64;
     }
     Some(number)
 }
 
-fn number_of(limit: u64, text: &[u8]) -> Option<u64>
-    requires { limit ≤ 1_000_000_000_000_000 }
-    ensures { result ≡ spec.number_of limit text.now }
+fn number_in(limit: u64, text: &[u8]) -> Option<u64>
+    ensures { result ≡ spec.number_in limit text.now }
 {
     if is_decimal(text) {
         number_up_to(limit, text)
@@ -52,12 +51,11 @@ fn number_of(limit: u64, text: &[u8]) -> Option<u64>
 
 /// The number that this text writes in decimal, at most the limit.
 pub fn read_number(limit: u64, text: &[u8]) -> Option<u64>
-    requires { limit ≤ 1_000_000_000_000_000 }
-    ensures value { result ≡ spec.number_of limit text.now }
+    ensures value { result ≡ spec.number_in limit text.now }
     ensures bound { IfSome result (λ n. n ≤ limit) }
     ensures exact { (n : ℕ) → (result ≡ Some n) ↔ ((n ≤ limit) × (text.now ≡ decimal n)) }
 {
-    number_of(limit, text)
+    number_in(limit, text)
 }
 
 /// The number of a leg.

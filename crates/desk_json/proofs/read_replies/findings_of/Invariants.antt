@@ -2,7 +2,7 @@ use Rattle.std.proofs.Common.{◌≡◌, drop}
 use Rattle.serde_json.specs.View.{items_view}
 use Rattle.plan_json.specs.Fields.{each_read}
 use Rattle.plan_json.proofs.Lists.{onto}
-use Rattle.release_json.specs.Findings.{finding_in}
+use Rattle.desk_json.specs.ReadReplies.{finding_in}
 use Rattle.desk_json.proofs.read_replies.findings_of.Given as goal
 
 abbrev pub invariant-loop-item : goal.invariant-loop-item

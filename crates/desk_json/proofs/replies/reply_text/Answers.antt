@@ -2,7 +2,7 @@ use Rattle.std.proofs.Common.{◌∙◌, ap}
 use Rattle.serde_json.specs.Written.{compact_text}
 use Rattle.desk_json.specs.Replies.{reply_text}
 use Rattle.desk_json.proofs.Written.{reply_whole}
-use Rattle.desk_json.proofs.replies.written_text.Goals as goal
+use Rattle.desk_json.proofs.replies.reply_text.Goals as goal
 
 pub returns : goal.returns
 unfolding reply_text
