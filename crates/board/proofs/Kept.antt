@@ -23,7 +23,7 @@ use Rattle.std.proofs.lemmas.List.Elements.{All-from_recursion}
 use Rattle.machine.specs.Allowed.{MayLeadTo, MayTickTo}
 use Rattle.machine.specs.Told.{takes_alert, AreDifferences, takes_none}
 use Rattle.machine.proofs.ToldLaws.{call_told, tick_told}
-use Rattle.machine.proofs.AllowedLaws.{call_leads, tick_leads}
+use Rattle.machine.proofs.LeadingLaws.{call_leads, tick_leads}
 use Rattle.machine.proofs.Changes.{changes_lead}
 use Rattle.machine.proofs.Deciding.{decision_fits}
 use Rattle.machine.specs.Contents.{state_of}

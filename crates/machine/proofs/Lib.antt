@@ -5,5 +5,6 @@ pub mod Deciding
 pub mod Boards
 pub mod Changes
 pub mod AllowedLaws
+pub mod LeadingLaws
 pub mod ToldLaws
 pub mod RepeatLaws

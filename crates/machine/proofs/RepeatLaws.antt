@@ -29,7 +29,7 @@ use Rattle.machine.specs.declared.effect.Effect.{Effect}
 use Rattle.machine.specs.declared.lanes.Item.{Item}
 use Rattle.machine.specs.declared.lanes.Item.TheVariants as item
 use Rattle.machine.specs.declared.lanes.Said.TheVariants as said
-use Rattle.machine.proofs.AllowedLaws.{call_leads, tick_leads}
+use Rattle.machine.proofs.LeadingLaws.{call_leads, tick_leads}
 use Rattle.machine.proofs.Boards.{call_keeps, tick_keeps}
 use Rattle.machine.proofs.Parts.{still_unused}
 

@@ -395,9 +395,22 @@ IsAnswer s call (Refused refusal) = Unit {0}
 IsAnswer s call (Seen text) = IsView call.ask
 IsAnswer s call (Done made) = IsHeldReport s made call.ask ⊎ IsRepeat s call made
 
+-- the call is of a person of that name and that key, whose role the ask is for
+pub record IsPermitted (s : State) (call : Call) : Type 0 where
+  pub person : Actor
+  pub known : actor_of s.tables call.actor ≡ Some person
+  pub key : person.key ≡ call.key
+  pub role : may_ask call.ask person.role ≡ true
+
+-- Anyone may be refused. What was done and what is seen is said only to a person who may ask it.
+abbrev pub IsSaidTo : State → Call → Reply → Type 0
+IsSaidTo s call (Refused refusal) = Unit {0}
+IsSaidTo s call (Seen text) = IsPermitted s call
+IsSaidTo s call (Done made) = IsPermitted s call
+
 abbrev pub Stays : State → Call → Option Reply → Type 0
 Stays s call None = ⊥
-Stays s call (Some reply) = IsAnswer s call reply
+Stays s call (Some reply) = IsAnswer s call reply × IsSaidTo s call reply
 
 -- what an ask of a person comes to
 abbrev pub AskedOf : State → List ℕ → Ask → Result Decision Refusal → Type 0
@@ -467,20 +480,13 @@ pub record IsAfter (effect : Effect) (e : Entry) (s t : State) : Type 0 where
   pub entries : t.entries ≡ s.entries ++ e ∷ []
   pub events : t.counters.events ≡ s.counters.events + 1
 
--- the call is of a person of that name and that key, whose role the ask is for
-pub record IsPermitted (s : State) (call : Call) : Type 0 where
-  pub person : Actor
-  pub known : actor_of s.tables call.actor ≡ Some person
-  pub key : person.key ≡ call.key
-  pub role : may_ask call.ask person.role ≡ true
-
 -- what has been kept of accepted commands stays, but for what a sweep takes away, and that of the call comes after it
 pub record IsKeptOf (s t : State) (call : Call) (does : Effect) (made : DoneType) : Type 0 where
   pub unused : IsUnused s call
   pub kept : t.kept ≡ kept_after does.sweep s.kept ++ kept_reply (effected does s) call made ∷ []
 
--- Nothing changes, and the reply says that something was done only where it was before; or the call is permitted and new and
--- changes what its ask may change, every active release is then judged, and the call is entered with its reply, which is kept.
+-- Nothing changes, and the reply says that something was done only where it was before, and to a person who may ask; or the call is
+-- permitted and new and changes what its ask may change, every active release is then judged, and the call is entered with its reply, which is kept.
 abbrev pub MayLeadTo : ℕ → Call → State → State → Option Reply → Type 0
 MayLeadTo lane call s t reply =
     ((t ≡ s) × Stays s call reply)
