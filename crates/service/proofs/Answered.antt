@@ -7,7 +7,7 @@ use Rattle.desk.specs.Keeping.{Choice, Counted, no_choice, answer_with}
 use Rattle.desk_json.specs.Replies.{bad_text}
 use Rattle.machine.specs.State.{State}
 use Rattle.service.specs.Exchanges.{exchanged, bytes_of}
-use Rattle.service.specs.Steps.{IsRead, IsAnswered, IsUnanswered, MayHaveStepped, OnCall, TextAnswersTo}
+use Rattle.service.specs.Steps.{IsClockMoment, IsAnswered, IsUnanswered, MayHaveStepped, OnCall, TextAnswersTo}
 use Rattle.service.specs.declared.exchange.NoAnswer.{NoAnswer}
 use Rattle.service.specs.declared.requested.Requested.{Requested}
 use Rattle.service.specs.declared.requested.Requested.TheVariants as requested
@@ -17,7 +17,7 @@ response_as : (r : Response) (status : ℕ) (body : List ℕ) → r.status ≡ s
 response_as r status body one two = ap (λ (n : ℕ). record { status = n; body = r.body }) one ∙ ap (λ (t : List ℕ). record { status = status; body = t }) two
 
 -- what is no call changes nothing
-uncalled : (lane : ℕ) (moments : Option (List ℕ)) (count : ℕ) (s : State) (asked : Requested) (r : Response) → OnCall asked (IsRead moments 0)
+uncalled : (lane : ℕ) (moments : Option (List ℕ)) (count : ℕ) (s : State) (asked : Requested) (r : Response) → OnCall asked (IsClockMoment moments 0)
     → r ≡ (exchanged no_choice lane s 0 asked).response → s ≡ (exchanged no_choice lane s 0 asked).state → IsAnswered lane moments count count s asked s r
 uncalled lane moments count s asked r timed response state =
     record { at = 0; choice = no_choice; timed = timed; counted = omega arith; response = response; state = state }
@@ -51,7 +51,7 @@ no_response lane moments clock before after s t asked wanted r why same fails is
     (subst (λ (x : Requested). IsUnanswered lane moments clock before after s x t why) same none)
 
 -- a call that was made, where the memory for its response is wanting
-pub stepped_by_call : (lane : ℕ) (moments : Option (List ℕ)) (before after : ℕ) (s t : State) (at : ℕ) (call : Call) (choice : Choice) → IsRead moments at → Counted before (choice ∷ []) after
+pub stepped_by_call : (lane : ℕ) (moments : Option (List ℕ)) (before after : ℕ) (s t : State) (at : ℕ) (call : Call) (choice : Choice) → IsClockMoment moments at → Counted before (choice ∷ []) after
     → t ≡ (answer_with choice lane s at call).state → MayHaveStepped lane moments before after s (requested.Call call) t
 stepped_by_call lane moments before after s t at call choice timed counted state =
     inr (inr ((exchanged choice lane s at (requested.Call call)).response, record { at = at; choice = choice; timed = timed; counted = counted; response = refl; state = state }))

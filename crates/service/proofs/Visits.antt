@@ -1,17 +1,14 @@
 -- Connections that were served, and then one more.
-use Rattle.std.proofs.Common.{◌≡◌, ◌≢◌, ℕ, suc, ◌+◌, ◌<◌, ◌≤◌, Bool, true, false, List, [], ◌∷◌, ◌++◌, ◌⊎◌, inl, inr, length, map, filter, Option, Some, None, Ok, Err, refl, ap, sym, subst, ◌∙◌, append_assoc, append-nil, arith}
+use Rattle.std.proofs.Common.{◌≡◌, ◌≢◌, ℕ, suc, ◌+◌, ◌<◌, ◌≤◌, Bool, true, false, List, [], ◌∷◌, ◌++◌, ◌⊎◌, inl, inr, length, map, filter, Option, Some, None, Ok, Err, refl, ap, sym, subst, ◌∙◌, append_assoc, append-nil, arith, ◌||◌}
 use Rattle.std.specs.Prelude.{if◌then◌else◌}
-use Rattle.std.specs.List.{AllByRecursion}
+use Rattle.std.specs.List.{AllByRecursion, list_any}
 use Rattle.std.proofs.lemmas.List.{map-append}
 use Rattle.std.proofs.lemmas.List.Elements.{filter-append}
-use Rattle.desk_io.specs.Causes.{RoseOrFull}
 use Rattle.desk_net.specs.Doors.{Links, Accepts, TakesBack, HasNext}
 use Rattle.desk_net.specs.Streams.{Stream, unread}
 use Rattle.machine.specs.State.{State}
 use Rattle.service.specs.Connections.{AreRequests, GoesOn, IsConnection, OnBoth}
-use Rattle.service.specs.Doors.{Visit, IsVisit, AreVisits, AreTaken, HasLinks, came_of, back_of, HadMemory, IsWell, EndsServing, IsServing, counts_as, met_after, end_of, end_at_door}
-use Rattle.service.specs.Onward.{HasFailed}
-use Rattle.service.specs.Serving.{Wrote}
+use Rattle.service.specs.Doors.{Visit, IsVisit, AreVisits, AreTaken, HasLinks, came_of, back_of, HadMemory, IsWell, is_clock_fault, ended_by_clock, AreFewer, EndsServing, IsServing, counts_as, met_after, end_of, end_at_door}
 use Rattle.service.specs.declared.doors.Met.{Met}
 use Rattle.service.specs.declared.doors.ServeEnd.{ServeEnd}
 use Rattle.service.specs.declared.doors.ServeEnd.TheVariants as ends
@@ -31,37 +28,22 @@ nothing_yet lane moments less before s bytes under =
     record { xs = []; requests = same_bytes bytes; timed = tt; going = tt; counted = under; says = refl; state = refl }
 
 -- a visit, counted from before
-visit_from : {L : Type 0} (told : L → Option Stream) (count : L → ℕ) (lane : ℕ) (moments : Option (List ℕ)) (failed clock : Type 0) (less before after : ℕ) (s : State) (v : Visit L) (t : State)
-    → less ≤ before → (failed → clock) → IsVisit told count lane moments failed before after s v t → IsVisit told count lane moments clock less after s v t
-visit_from told count lane moments failed clock less before after s v t under of_clock is =
+visit_from : {L : Type 0} (told : L → Option Stream) (fails : L → L → Type 0) (lane : ℕ) (moments : Option (List ℕ)) (failed clock : Type 0) (less before after : ℕ) (s : State) (v : Visit L) (t : State)
+    → less ≤ before → (failed → clock) → IsVisit told fails lane moments failed before after s v t → IsVisit told fails lane moments clock less after s v t
+visit_from told fails lane moments failed clock less before after s v t under of_clock is =
     wrote_as (told v.came) (told v.went) _ _
     (λ piece one. joined lane moments _ failed _ clock less before after s s t (unread (told v.came)) (unread (told v.came)) v.served [] piece (λ rose. rose) of_clock
     (nothing_yet lane moments less before s (unread (told v.came)) under) one) is
 
-pub visits_from : {L : Type 0} (told : L → Option Stream) (count : L → ℕ) (lane : ℕ) (moments : Option (List ℕ)) (failed clock : Type 0) (less before after : ℕ) (s : State) (vs : List (Visit L)) (t : State)
-    → less ≤ before → (failed → clock) → AreVisits told count lane moments failed before after s vs t → AreVisits told count lane moments clock less after s vs t
-visits_from told count lane moments failed clock less before after s [] t under of_clock are = let more = are.0 in (omega (arith, under, more), are.1)
-visits_from told count lane moments failed clock less before after s (v ∷ vs) t under of_clock (middle, u, one, rest) = (
+pub visits_from : {L : Type 0} (told : L → Option Stream) (fails : L → L → Type 0) (lane : ℕ) (moments : Option (List ℕ)) (failed clock : Type 0) (less before after : ℕ) (s : State) (vs : List (Visit L)) (t : State)
+    → less ≤ before → (failed → clock) → AreVisits told fails lane moments failed before after s vs t → AreVisits told fails lane moments clock less after s vs t
+visits_from told fails lane moments failed clock less before after s [] t under of_clock are = let more = are.0 in (omega (arith, under, more), are.1)
+visits_from told fails lane moments failed clock less before after s (v ∷ vs) t under of_clock (middle, u, one, rest) = (
   middle,
   u,
-  visit_from told count lane moments failed clock less before middle s v u under of_clock one,
-  visits_from told count (lane + 1) moments failed clock middle middle after u vs t (omega arith) of_clock rest,
+  visit_from told fails lane moments failed clock less before middle s v u under of_clock one,
+  visits_from told fails (lane + 1) moments failed clock middle middle after u vs t (omega arith) of_clock rest,
 )
-
--- a connection seen under a weaker cause of the link's faults
-connection_by : (lane : ℕ) (moments : Option (List ℕ)) (failed link clock : Type 0) (before after : ℕ) (s : State) (bytes : Option (List ℕ)) (how : Served) (t : State) (text : List ℕ) → (failed → link)
-    → IsConnection lane moments failed clock before after s bytes how t text → IsConnection lane moments link clock before after s bytes how t text
-connection_by lane moments failed link clock before after s bytes how t text of_link one =
-    joined lane moments failed clock link clock before before after s s t bytes bytes how [] text of_link (λ rose. rose) (nothing_yet lane moments before before s bytes (omega arith)) one
-
--- what a link gained, whose own fault is seen by its count alone
-pub visited : {L : Type 0} (told : L → Option Stream) (count : L → ℕ) (steady : L → Type 0) (lane : ℕ) (moments : Option (List ℕ)) (clock : Type 0) (before after : ℕ) (s : State) (came went : L) (how : Served) (t : State)
-    → Wrote (told came) (told went) (IsConnection lane moments (HasFailed count steady came went) clock before after s (unread (told came)) how t)
-    → Wrote (told came) (told went) (IsConnection lane moments (RoseOrFull (count came) (count went)) clock before after s (unread (told came)) how t)
-visited told count steady lane moments clock before after s came went how t wrote =
-    wrote_as (told came) (told went) (IsConnection lane moments (HasFailed count steady came went) clock before after s (unread (told came)) how t)
-    (IsConnection lane moments (RoseOrFull (count came) (count went)) clock before after s (unread (told came)) how t)
-    (λ piece one. connection_by lane moments (HasFailed count steady came went) (RoseOrFull (count came) (count went)) clock before after s (unread (told came)) how t piece (λ failed. failed.0) one) wrote
 
 -- ---- one more
 
@@ -71,21 +53,37 @@ same_lane lane = omega arith
 next_lane : (lane n : ℕ) → lane + suc n ≡ (lane + 1) + n
 next_lane lane n = omega arith
 
-pub visits_on : {L : Type 0} (told : L → Option Stream) (count : L → ℕ) (lane : ℕ) (moments : Option (List ℕ)) (clock : Type 0) (before middle after : ℕ) (s : State) (vs : List (Visit L)) (u : State) (v : Visit L) (t : State)
-    → AreVisits told count lane moments clock before middle s vs u → IsVisit told count (lane + length vs) moments clock middle after u v t → AreVisits told count lane moments clock before after s (vs ++ v ∷ []) t
-visits_on told count lane moments clock before middle after s [] u v t are is =
-    (after, t, visit_from told count lane moments clock clock before middle after s v t are.0 (λ rose. rose) (subst (λ (x : State). IsVisit told count lane moments clock middle after x v t) are.1 (subst (λ l. IsVisit told count l moments clock middle after u v t) (same_lane lane) is)), (omega arith, refl))
-visits_on told count lane moments clock before middle after s (w ∷ ws) u v t (first, x, one, rest) is = (
+pub visits_on : {L : Type 0} (told : L → Option Stream) (fails : L → L → Type 0) (lane : ℕ) (moments : Option (List ℕ)) (clock : Type 0) (before middle after : ℕ) (s : State) (vs : List (Visit L)) (u : State) (v : Visit L) (t : State)
+    → AreVisits told fails lane moments clock before middle s vs u → IsVisit told fails (lane + length vs) moments clock middle after u v t → AreVisits told fails lane moments clock before after s (vs ++ v ∷ []) t
+visits_on told fails lane moments clock before middle after s [] u v t are is =
+    (after, t, visit_from told fails lane moments clock clock before middle after s v t are.0 (λ rose. rose) (subst (λ (x : State). IsVisit told fails lane moments clock middle after x v t) are.1 (subst (λ l. IsVisit told fails l moments clock middle after u v t) (same_lane lane) is)), (omega arith, refl))
+visits_on told fails lane moments clock before middle after s (w ∷ ws) u v t (first, x, one, rest) is = (
   first,
   x,
   one,
-  visits_on told count (lane + 1) moments clock first middle after x ws u v t rest
-      (subst (λ l. IsVisit told count l moments clock middle after u v t) (next_lane lane (length ws)) is),
+  visits_on told fails (lane + 1) moments clock first middle after x ws u v t rest
+      (subst (λ l. IsVisit told fails l moments clock middle after u v t) (next_lane lane (length ws)) is),
 )
 
 all_on : {L : Type 0} (P : Visit L → Type 0) (vs : List (Visit L)) (v : Visit L) → AllByRecursion P vs → P v → AllByRecursion P (vs ++ v ∷ [])
 all_on P [] v all one = (one, tt)
 all_on P (w ∷ ws) v all one = (all.0, all_on P ws v all.1 one)
+
+or_more : (a b c : Bool) → (b ≡ true → c ≡ true) → (a || b) ≡ true → (a || c) ≡ true
+or_more true b c more is = refl
+or_more false b c more is = more is
+
+or_last : (a b : Bool) → b ≡ true → (a || b) ≡ true
+or_last true b is = refl
+or_last false b is = is
+
+some_first : {L : Type 0} (vs : List (Visit L)) (v : Visit L) → list_any ended_by_clock vs ≡ true → list_any ended_by_clock (vs ++ v ∷ []) ≡ true
+some_first [] v is = absurd (cc is)
+some_first (w ∷ ws) v is = or_more (ended_by_clock w) (list_any ended_by_clock ws) (list_any ended_by_clock (ws ++ v ∷ [])) (some_first ws v) is
+
+some_last : {L : Type 0} (vs : List (Visit L)) (v : Visit L) → v.served ≡ served.ClockFault → list_any ended_by_clock (vs ++ v ∷ []) ≡ true
+some_last [] v how = ap (λ (h : Served). is_clock_fault h || false) how
+some_last (w ∷ ws) v how = or_last (ended_by_clock w) (list_any ended_by_clock (ws ++ v ∷ [])) (some_last ws v how)
 
 length_on : {L : Type 0} (vs : List (Visit L)) (v : Visit L) → length (vs ++ v ∷ []) ≡ length vs + 1
 length_on [] v = refl
@@ -160,40 +158,37 @@ not_by_link lane moments link clock before after s bytes how t text one never = 
   λ is. never (subst (λ (h : Served). IsConnection lane moments link clock before after s bytes h t text) is one).ends.0,
 )
 
-pub visit_clock : {L : Type 0} (told : L → Option Stream) (count : L → ℕ) (lane : ℕ) (moments : Option (List ℕ)) (clock : Type 0) (before after : ℕ) (s : State) (v : Visit L) (t : State)
-    → IsVisit told count lane moments clock before after s v t → v.served ≡ served.ClockFault → clock
-visit_clock told count lane moments clock before after s v t is how = ends_clock lane moments _ clock before after s (unread (told v.came)) v.served t is.0 how is.2
+pub visit_clock : {L : Type 0} (told : L → Option Stream) (fails : L → L → Type 0) (lane : ℕ) (moments : Option (List ℕ)) (clock : Type 0) (before after : ℕ) (s : State) (v : Visit L) (t : State)
+    → IsVisit told fails lane moments clock before after s v t → v.served ≡ served.ClockFault → clock
+visit_clock told fails lane moments clock before after s v t is how = ends_clock lane moments _ clock before after s (unread (told v.came)) v.served t is.0 how is.2
 
 -- ---- what connections have met
 
 -- so many connections were served, and this was met
-pub record HasServed {L : Type 0} (told : L → Option Stream) (count : L → ℕ) (old new : Option (Links L)) (moments : Option (List ℕ)) (clock : Type 0) (done : ℕ) (met : Met) (before after : ℕ) (s t : State) : Type 0 where
+pub record HasServed {L : Type 0} (told : L → Option Stream) (fails : L → L → Type 0) (old new : Option (Links L)) (moments : Option (List ℕ)) (clock : Type 0) (done : ℕ) (met : Met) (before after : ℕ) (s t : State) : Type 0 where
   pub vs : List (Visit L)
-  pub are : AreVisits told count 1 moments clock before after s vs t
+  pub are : AreVisits told fails 1 moments clock before after s vs t
   pub taken : AreTaken old new vs
   pub many : length vs ≡ done
   pub had : met.memory ≡ false → AllByRecursion HadMemory vs
   pub well : met.memory ≡ false → met.clock ≡ false → AllByRecursion IsWell vs
   pub fault : met.clock ≡ true → clock
+  pub some : met.clock ≡ true → list_any ended_by_clock vs ≡ true
 
-pub served_none : {L : Type 0} (told : L → Option Stream) (count : L → ℕ) (old new : Option (Links L)) (moments : Option (List ℕ)) (clock : Type 0) (faults : ℕ) (s : State) → new ≡ old
-    → HasServed told count old new moments clock 0 (record { memory = false; clock = false }) faults faults s s
-served_none told count old new moments clock faults s same =
-    record { vs = []; are = (omega arith, refl); taken = taken_none old new same; many = refl; had = λ none. tt; well = λ none fine. tt; fault = λ e. absurd (cc) }
+pub served_none : {L : Type 0} (told : L → Option Stream) (fails : L → L → Type 0) (old new : Option (Links L)) (moments : Option (List ℕ)) (clock : Type 0) (faults : ℕ) (s : State) → new ≡ old
+    → HasServed told fails old new moments clock 0 (record { memory = false; clock = false }) faults faults s s
+served_none told fails old new moments clock faults s same =
+    record { vs = []; are = (omega arith, refl); taken = taken_none old new same; many = refl; had = λ none. tt; well = λ none fine. tt; fault = λ e. absurd (cc); some = λ e. absurd (cc) }
 
 abbrev is_memory : Served → Bool
 is_memory served.OutOfMemory = true
 is_memory other = false
 
-abbrev is_clock : Served → Bool
-is_clock served.ClockFault = true
-is_clock other = false
-
 not_memory : (how : Served) → is_memory how ≡ false → how ≢ served.OutOfMemory
 not_memory how other = λ e. let both : true ≡ false = sym (ap is_memory e) ∙ other in absurd (cc)
 
-not_clock : (how : Served) → is_clock how ≡ false → how ≢ served.ClockFault
-not_clock how other = λ e. let both : true ≡ false = sym (ap is_clock e) ∙ other in absurd (cc)
+not_clock : (how : Served) → is_clock_fault how ≡ false → how ≢ served.ClockFault
+not_clock how other = λ e. let both : true ≡ false = sym (ap is_clock_fault e) ∙ other in absurd (cc)
 
 -- what one connection more adds to what was met
 record Adds {L : Type 0} (met : Met) (v : Visit L) (next : Met) : Type 0 where
@@ -211,7 +206,7 @@ adds_clock met v back how = record {
   fault = λ late. inr how;
 }
 
-adds_nothing : {L : Type 0} (met : Met) (v : Visit L) (how : Served) → v.back ≡ true → v.served ≡ how → is_memory how ≡ false → is_clock how ≡ false → Adds met v met
+adds_nothing : {L : Type 0} (met : Met) (v : Visit L) (how : Served) → v.back ≡ true → v.served ≡ how → is_memory how ≡ false → is_clock_fault how ≡ false → Adds met v met
 adds_nothing met v how back is memory clock =
     let had : HadMemory v = (back, subst (λ (h : Served). h ≢ served.OutOfMemory) (sym is) (not_memory how memory)) in
     record {
@@ -237,64 +232,73 @@ adds : {L : Type 0} (met : Met) (v : Visit L) (how : Served) → how ≡ counts_
 adds met v how is = subst (λ (h : Served). Adds met v (met_after met h)) (sym is) (adds_by met v v.back v.served refl refl)
 
 -- one connection more
-pub served_next : {L : Type 0} (told : L → Option Stream) (count : L → ℕ) (old mid new : Option (Links L)) (moments there : Option (List ℕ)) (rose failed clock : Type 0) (done : ℕ) (met next : Met) (how : Served)
-    (before middle after : ℕ) (s u t : State) (v : Visit L) → there ≡ moments → (rose → clock) → (failed → clock) → HasServed told count old mid moments rose done met before middle s u
-    → IsVisit told count (done + 1) there failed middle after u v t → AreTaken mid new (v ∷ []) → how ≡ counts_as v → next ≡ met_after met how → HasServed told count old new moments clock (done + 1) next before after s t
-served_next told count old mid new moments there rose failed clock done met next how before middle after s u t v same of_rose of_failed has is taken counts met_is =
+pub served_next : {L : Type 0} (told : L → Option Stream) (fails : L → L → Type 0) (old mid new : Option (Links L)) (moments there : Option (List ℕ)) (rose failed clock : Type 0) (done : ℕ) (met next : Met) (how : Served)
+    (before middle after : ℕ) (s u t : State) (v : Visit L) → there ≡ moments → (rose → clock) → (failed → clock) → HasServed told fails old mid moments rose done met before middle s u
+    → IsVisit told fails (done + 1) there failed middle after u v t → AreTaken mid new (v ∷ []) → how ≡ counts_as v → next ≡ met_after met how → HasServed told fails old new moments clock (done + 1) next before after s t
+served_next told fails old mid new moments there rose failed clock done met next how before middle after s u t v same of_rose of_failed has is taken counts met_is =
     let many = has.many in
     let one : Adds met v next = subst (λ (m : Met). Adds met v m) (sym met_is) (adds met v how counts) in
-    let here : IsVisit told count (1 + length has.vs) moments failed middle after u v t =
-    subst (λ l. IsVisit told count l moments failed middle after u v t) (omega (arith, many)) (subst (λ ms. IsVisit told count (done + 1) ms failed middle after u v t) same is) in
+    let here : IsVisit told fails (1 + length has.vs) moments failed middle after u v t =
+    subst (λ l. IsVisit told fails l moments failed middle after u v t) (omega (arith, many)) (subst (λ ms. IsVisit told fails (done + 1) ms failed middle after u v t) same is) in
     record {
       vs = has.vs ++ v ∷ [];
-      are = visits_on told count 1 moments clock before middle after s has.vs u v t (visits_from told count 1 moments rose clock before before middle s has.vs u (omega arith) of_rose has.are)
-          (visit_from told count (1 + length has.vs) moments failed clock middle middle after u v t (omega arith) of_failed here);
+      are = visits_on told fails 1 moments clock before middle after s has.vs u v t (visits_from told fails 1 moments rose clock before before middle s has.vs u (omega arith) of_rose has.are)
+          (visit_from told fails (1 + length has.vs) moments failed clock middle middle after u v t (omega arith) of_failed here);
       taken = taken_on old mid new has.vs (v ∷ []) has.taken taken;
       many = length_on has.vs v ∙ ap (λ n. n + 1) many;
       had = λ none. let more = one.had none in all_on HadMemory has.vs v (has.had more.0) more.1;
       well = λ none fine. let more = one.well none fine in all_on IsWell has.vs v (has.well more.0 more.1) more.2;
       fault = λ late. by (one.fault late);
+      some = λ late. some_by (one.fault late);
     }
   where
     by : (met.clock ≡ true) ⊎ (v.served ≡ served.ClockFault) → clock
     by (inl before_it) = of_rose (has.fault before_it)
-    by (inr now) = of_failed (visit_clock told count (done + 1) there failed middle after u v t is now)
+    by (inr now) = of_failed (visit_clock told fails (done + 1) there failed middle after u v t is now)
+
+    some_by : (met.clock ≡ true) ⊎ (v.served ≡ served.ClockFault) → list_any ended_by_clock (has.vs ++ v ∷ []) ≡ true
+    some_by (inl before_it) = some_first has.vs v (has.some before_it)
+    some_by (inr now) = some_last has.vs v now
 
 -- ---- how serving ends
 
-door_ends : {L : Type 0} (door clock : Type 0) (most : ℕ) (vs : List (Visit L)) (memory : Bool) → door → (memory ≡ false → AllByRecursion HadMemory vs) → length vs ≤ most
-    → EndsServing door clock most vs (if memory then ends.OutOfMemory else ends.DoorFault)
-door_ends door clock most vs true rose had within = within
-door_ends door clock most vs false rose had within = (rose, within, had refl)
+fewer : {L : Type 0} (vs : List (Visit L)) (done most : ℕ) → length vs ≡ done → done < most → AreFewer most vs
+fewer [] done most many few = tt
+fewer (v ∷ vs) done most many few = omega (arith, many, few)
 
-pub served_to_fault : {L : Type 0} (told : L → Option Stream) (count : L → ℕ) (old mid new : Option (Links L)) (moments : Option (List ℕ)) (door rose clock : Type 0) (done most : ℕ) (met : Met) (end : ServeEnd)
-    (before middle after : ℕ) (s u t : State) → end ≡ end_at_door met → done ≤ most → door → (rose → clock) → new ≡ mid → after ≡ middle → t ≡ u → HasServed told count old mid moments rose done met before middle s u
-    → IsServing told count old new moments door clock most end before after s t
-served_to_fault {L} told count old mid new moments door rose clock done most met end before middle after s u t how within fails of_rose same counts is has =
+door_ends : {L : Type 0} (door clock : Type 0) (most : ℕ) (vs : List (Visit L)) (memory : Bool) → door → (memory ≡ false → AllByRecursion HadMemory vs) → AreFewer most vs
+    → EndsServing door clock most vs (if memory then ends.OutOfMemory else ends.DoorFault)
+door_ends door clock most vs true rose had few = inr (rose, few)
+door_ends door clock most vs false rose had few = (rose, few, had refl)
+
+pub served_to_fault : {L : Type 0} (told : L → Option Stream) (fails : L → L → Type 0) (old mid new : Option (Links L)) (moments : Option (List ℕ)) (door rose clock : Type 0) (done most : ℕ) (met : Met) (end : ServeEnd)
+    (before middle after : ℕ) (s u t : State) → end ≡ end_at_door met → done < most → door → (rose → clock) → new ≡ mid → after ≡ middle → t ≡ u → HasServed told fails old mid moments rose done met before middle s u
+    → IsServing told fails old new moments door clock most end before after s t
+served_to_fault {L} told fails old mid new moments door rose clock done most met end before middle after s u t how within failing of_rose same counts is has =
     let many = has.many in
-    let are : AreVisits told count 1 moments clock before middle s has.vs u = visits_from told count 1 moments rose clock before before middle s has.vs u (omega arith) of_rose has.are in (
+    let are : AreVisits told fails 1 moments clock before middle s has.vs u = visits_from told fails 1 moments rose clock before before middle s has.vs u (omega arith) of_rose has.are in (
       has.vs,
-      subst (λ n. AreVisits told count 1 moments clock before n s has.vs t) (sym counts) (subst (λ (x : State). AreVisits told count 1 moments clock before middle s has.vs x) (sym is) are),
+      subst (λ n. AreVisits told fails 1 moments clock before n s has.vs t) (sym counts) (subst (λ (x : State). AreVisits told fails 1 moments clock before middle s has.vs x) (sym is) are),
       subst (λ (d : Option (Links L)). AreTaken old d has.vs) (sym same) has.taken,
-      subst (EndsServing door clock most has.vs) (sym how) (door_ends door clock most has.vs met.memory fails has.had (omega (arith, many, within))),
+      subst (EndsServing door clock most has.vs) (sym how) (door_ends door clock most has.vs met.memory failing has.had (fewer has.vs done most many within)),
     )
 
 all_end : {L : Type 0} (door failed clock : Type 0) (most : ℕ) (vs : List (Visit L)) (memory late : Bool) → (failed → clock) → (late ≡ true → failed) → (memory ≡ false → AllByRecursion HadMemory vs)
-    → (memory ≡ false → late ≡ false → AllByRecursion IsWell vs) → length vs ≡ most → EndsServing door clock most vs (if memory then ends.OutOfMemory else (if late then ends.ClockFault else ends.Done))
-all_end door failed clock most vs true late of_clock fault had well many = omega (arith, many)
-all_end door failed clock most vs false true of_clock fault had well many = (of_clock (fault refl), many, had refl)
-all_end door failed clock most vs false false of_clock fault had well many = (many, well refl refl)
+    → (memory ≡ false → late ≡ false → AllByRecursion IsWell vs) → (late ≡ true → list_any ended_by_clock vs ≡ true) → length vs ≡ most → EndsServing door clock most vs (if memory then ends.OutOfMemory else (if late then ends.ClockFault else ends.Done))
+all_end door failed clock most vs true late of_clock fault had well some many = inl many
+all_end door failed clock most vs false true of_clock fault had well some many = (of_clock (fault refl), many, had refl, some refl)
+all_end door failed clock most vs false false of_clock fault had well some many = (many, well refl refl)
 
 -- as many connections were served as stated
-pub served_to_end : {L : Type 0} (told : L → Option Stream) (count : L → ℕ) (old new : Option (Links L)) (moments : Option (List ℕ)) (door failed clock : Type 0) (done most : ℕ) (met : Met) (end : ServeEnd)
-    (before after : ℕ) (s t : State) → end ≡ end_of met → done ≤ most → most ≤ done → (failed → clock) → HasServed told count old new moments failed done met before after s t
-    → IsServing told count old new moments door clock most end before after s t
-served_to_end told count old new moments door failed clock done most met end before after s t how within all of_clock has =
+pub served_to_end : {L : Type 0} (told : L → Option Stream) (fails : L → L → Type 0) (old new : Option (Links L)) (moments : Option (List ℕ)) (door failed clock : Type 0) (done most : ℕ) (met : Met) (end : ServeEnd)
+    (before after : ℕ) (s t : State) → end ≡ end_of met → done ≤ most → most ≤ done → (failed → clock) → HasServed told fails old new moments failed done met before after s t
+    → IsServing told fails old new moments door clock most end before after s t
+served_to_end told fails old new moments door failed clock done most met end before after s t how within all of_clock has =
     let many = has.many in (
       has.vs,
-      visits_from told count 1 moments failed clock before before after s has.vs t (omega arith) of_clock has.are,
+      visits_from told fails 1 moments failed clock before before after s has.vs t (omega arith) of_clock has.are,
       has.taken,
-      subst (EndsServing door clock most has.vs) (sym how) (all_end door failed clock most has.vs met.memory met.clock of_clock has.fault has.had has.well (omega (arith, many, within, all))),
+      subst (EndsServing door clock most has.vs) (sym how) (all_end door failed clock most has.vs met.memory met.clock of_clock has.fault has.had has.well has.some (omega (arith, many, within, all))),
     )
 
 -- ---- what never ends serving
@@ -321,7 +325,7 @@ next_comes (Some old) None vs done most taken many few links = absurd taken
 
 -- ---- the same, counted from before
 
-pub serving_from : {L : Type 0} (told : L → Option Stream) (count : L → ℕ) (old new : Option (Links L)) (moments : Option (List ℕ)) (door clock : Type 0) (most : ℕ) (end : ServeEnd) (less before after : ℕ) (s t : State)
-    → less ≤ before → IsServing told count old new moments door clock most end before after s t → IsServing told count old new moments door clock most end less after s t
-serving_from told count old new moments door clock most end less before after s t under (vs, are, taken, ends) =
-    (vs, visits_from told count 1 moments clock clock less before after s vs t under (λ rose. rose) are, taken, ends)
+pub serving_from : {L : Type 0} (told : L → Option Stream) (fails : L → L → Type 0) (old new : Option (Links L)) (moments : Option (List ℕ)) (door clock : Type 0) (most : ℕ) (end : ServeEnd) (less before after : ℕ) (s t : State)
+    → less ≤ before → IsServing told fails old new moments door clock most end before after s t → IsServing told fails old new moments door clock most end less after s t
+serving_from told fails old new moments door clock most end less before after s t under (vs, are, taken, ends) =
+    (vs, visits_from told fails 1 moments clock clock less before after s vs t under (λ rose. rose) are, taken, ends)

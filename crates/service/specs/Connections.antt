@@ -10,7 +10,7 @@ use Rattle.desk_net.specs.Streams.{Stream}
 use Rattle.machine.specs.State.{State}
 use Rattle.service.specs.Exchanges.{Exchanged, exchanged, bytes_of, failing}
 use Rattle.service.specs.Requested.{requested_by}
-use Rattle.service.specs.Steps.{MakesCall, IsRead, OnCall}
+use Rattle.service.specs.Steps.{MakesCall, IsClockMoment, OnCall}
 use Rattle.service.specs.declared.responses.Response.{Response}
 use Rattle.service.specs.declared.serving.Served.{Served}
 use Rattle.service.specs.declared.serving.Served.TheVariants as served
@@ -43,7 +43,7 @@ AreRequests bytes (x ∷ xs) left = (rest : List ℕ) × BeginsWithRequest bytes
 
 -- a call was made at one of the clock's moments
 abbrev pub IsTimed : Option (List ℕ) → Exchange → Type 0
-IsTimed moments x = OnCall (requested_by x.wire) (IsRead moments x.at)
+IsTimed moments x = OnCall (requested_by x.wire) (IsClockMoment moments x.at)
 
 -- a request after which the connection goes on
 abbrev pub IsOpen : Exchange → Type 0
@@ -102,7 +102,7 @@ OneMore lane more u t x = (more ≡ x ∷ []) × (t ≡ (exchange lane u x).stat
 -- where memory ran out: as before, or after the tick of the call that the bytes left ask for, or after a request more
 abbrev pub MayHaveMore : ℕ → Option (List ℕ) → List Exchange → Option (List ℕ) → State → State → Type 0
 MayHaveMore lane moments more left u t =
-    ((more ≡ []) × ((t ≡ u) ⊎ (OnTold left AsksCall × ((at : ℕ) × IsRead moments at × MayHaveTicked lane at u t))))
+    ((more ≡ []) × ((t ≡ u) ⊎ (OnTold left AsksCall × ((at : ℕ) × IsClockMoment moments at × MayHaveTicked lane at u t))))
     ⊎ ((x : Exchange) × OneMore lane more u t x)
 
 -- How a connection ends on the bytes that are left, from the state after the requests after which it went on: `more` is the request

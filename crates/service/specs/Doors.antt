@@ -1,7 +1,6 @@
 -- Connections of a door, one after another.
-use Rattle.std.specs.Prelude.{◌≡◌, ◌≢◌, ◌≤◌, ℕ, ◌+◌, Bool, true, List, [], ◌∷◌, ◌++◌, length, map, filter, Option, None, Some, if◌then◌else◌}
-use Rattle.std.specs.List.{AllByRecursion}
-use Rattle.desk_io.specs.Causes.{RoseOrFull}
+use Rattle.std.specs.Prelude.{◌≡◌, ◌≢◌, ◌⊎◌, ◌<◌, ◌≤◌, ℕ, ◌+◌, Bool, true, false, List, [], ◌∷◌, ◌++◌, length, map, filter, Option, None, Some, if◌then◌else◌}
+use Rattle.std.specs.List.{AllByRecursion, list_any}
 use Rattle.desk_net.specs.Doors.{Links}
 use Rattle.desk_net.specs.Streams.{Stream, unread}
 use Rattle.machine.specs.State.{State}
@@ -20,16 +19,16 @@ pub record Visit (L : Type 0) : Type 0 where
   pub served : Served
   pub back : Bool
 
--- What the link gained is what its connection is answered, from a state to another.
-abbrev pub IsVisit : {L : Type 0} → (L → Option Stream) → (L → ℕ) → ℕ → Option (List ℕ) → Type 0 → ℕ → ℕ → State → Visit L → State → Type 0
-IsVisit told count lane moments clock before after s v t =
-    Wrote (told v.came) (told v.went) (IsConnection lane moments (RoseOrFull (count v.came) (count v.went)) clock before after s (unread (told v.came)) v.served t)
+-- What the link gained is what its connection is answered, from a state to another. `fails` says that a link has failed since it came.
+abbrev pub IsVisit : {L : Type 0} → (L → Option Stream) → (L → L → Type 0) → ℕ → Option (List ℕ) → Type 0 → ℕ → ℕ → State → Visit L → State → Type 0
+IsVisit told fails lane moments clock before after s v t =
+    Wrote (told v.came) (told v.went) (IsConnection lane moments (fails v.came v.went) clock before after s (unread (told v.came)) v.served t)
 
 -- Links that come one after another, each in the lane of its number.
-abbrev pub AreVisits : {L : Type 0} → (L → Option Stream) → (L → ℕ) → ℕ → Option (List ℕ) → Type 0 → ℕ → ℕ → State → List (Visit L) → State → Type 0
-AreVisits told count lane moments clock before after s [] t = (before ≤ after) × (t ≡ s)
-AreVisits told count lane moments clock before after s (v ∷ vs) t =
-    (middle : ℕ) × (u : State) × IsVisit told count lane moments clock before middle s v u × AreVisits told count (lane + 1) moments clock middle after u vs t
+abbrev pub AreVisits : {L : Type 0} → (L → Option Stream) → (L → L → Type 0) → ℕ → Option (List ℕ) → Type 0 → ℕ → ℕ → State → List (Visit L) → State → Type 0
+AreVisits told fails lane moments clock before after s [] t = (before ≤ after) × (t ≡ s)
+AreVisits told fails lane moments clock before after s (v ∷ vs) t =
+    (middle : ℕ) × (u : State) × IsVisit told fails lane moments clock before middle s v u × AreVisits told fails (lane + 1) moments clock middle after u vs t
 
 abbrev pub came_of : {L : Type 0} → List (Visit L) → List L
 came_of vs = map (λ v. v.came) vs
@@ -60,17 +59,30 @@ HadMemory v = (v.back ≡ true) × (v.served ≢ served.OutOfMemory)
 abbrev pub IsWell : {L : Type 0} → Visit L → Type 0
 IsWell v = HadMemory v × (v.served ≢ served.ClockFault)
 
--- How serving so many connections ends. Want of memory is free.
+abbrev pub is_clock_fault : Served → Bool
+is_clock_fault served.ClockFault = true
+is_clock_fault other = false
+
+-- a connection that ended by a fault of the clock
+abbrev pub ended_by_clock : {L : Type 0} → Visit L → Bool
+ended_by_clock v = is_clock_fault v.served
+
+-- fewer than so many, or none
+abbrev pub AreFewer : {L : Type 0} → ℕ → List (Visit L) → Type 0
+AreFewer most [] = Unit {0}
+AreFewer most (v ∷ vs) = length (v ∷ vs) < most
+
+-- How serving so many connections ends: a fault of the door alone ends it early, and want of memory is free.
 abbrev pub EndsServing : {L : Type 0} → Type 0 → Type 0 → ℕ → List (Visit L) → ServeEnd → Type 0
 EndsServing door clock most vs ends.Done = (length vs ≡ most) × AllByRecursion IsWell vs
-EndsServing door clock most vs ends.DoorFault = door × (length vs ≤ most) × AllByRecursion HadMemory vs
-EndsServing door clock most vs ends.ClockFault = clock × (length vs ≡ most) × AllByRecursion HadMemory vs
-EndsServing door clock most vs ends.OutOfMemory = length vs ≤ most
+EndsServing door clock most vs ends.DoorFault = door × AreFewer most vs × AllByRecursion HadMemory vs
+EndsServing door clock most vs ends.ClockFault = clock × (length vs ≡ most) × AllByRecursion HadMemory vs × (list_any ended_by_clock vs ≡ true)
+EndsServing door clock most vs ends.OutOfMemory = (length vs ≡ most) ⊎ (door × AreFewer most vs)
 
 -- Connections of a door were served from a state to another, one after another, and so it ended.
-abbrev pub IsServing : {L : Type 0} → (L → Option Stream) → (L → ℕ) → Option (Links L) → Option (Links L) → Option (List ℕ) → Type 0 → Type 0 → ℕ → ServeEnd → ℕ → ℕ → State → State → Type 0
-IsServing {L} told count old new moments door clock most end before after s t =
-    (vs : List (Visit L)) × AreVisits told count 1 moments clock before after s vs t × AreTaken old new vs × EndsServing door clock most vs end
+abbrev pub IsServing : {L : Type 0} → (L → Option Stream) → (L → L → Type 0) → Option (Links L) → Option (Links L) → Option (List ℕ) → Type 0 → Type 0 → ℕ → ServeEnd → ℕ → ℕ → State → State → Type 0
+IsServing {L} told fails old new moments door clock most end before after s t =
+    (vs : List (Visit L)) × AreVisits told fails 1 moments clock before after s vs t × AreTaken old new vs × EndsServing door clock most vs end
 
 -- ---- what connections have met so far
 

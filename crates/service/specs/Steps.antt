@@ -26,14 +26,14 @@ MakesCall requested.NoRoute = ⊥
 MakesCall requested.WrongMethod = ⊥
 
 -- a moment that the desk can take, one of the clock's where it tells them
-abbrev pub IsRead : Option (List ℕ) → ℕ → Type 0
-IsRead moments at = IsMoment at × IsAmong moments at
+abbrev pub IsClockMoment : Option (List ℕ) → ℕ → Type 0
+IsClockMoment moments at = IsMoment at × IsAmong moments at
 
 -- What is asked is answered at a moment, under a choice that the keeper's counts allow.
 pub record IsAnswered (lane : ℕ) (moments : Option (List ℕ)) (before after : ℕ) (s : State) (asked : Requested) (t : State) (r : Response) : Type 0 where
   pub at : ℕ
   pub choice : Choice
-  pub timed : OnCall asked (IsRead moments at)
+  pub timed : OnCall asked (IsClockMoment moments at)
   pub counted : Counted before (choice ∷ []) after
   pub response : r ≡ (exchanged choice lane s at asked).response
   pub state : t ≡ (exchanged choice lane s at asked).state
@@ -41,7 +41,7 @@ pub record IsAnswered (lane : ℕ) (moments : Option (List ℕ)) (before after :
 -- a state where memory ran out: as before, or after the tick of the call that was asked for, or after what was asked was answered
 abbrev pub MayHaveStepped : ℕ → Option (List ℕ) → ℕ → ℕ → State → Requested → State → Type 0
 MayHaveStepped lane moments before after s asked t =
-    (t ≡ s) ⊎ ((MakesCall asked × ((at : ℕ) × IsRead moments at × MayHaveTicked lane at s t)) ⊎ ((r : Response) × IsAnswered lane moments before after s asked t r))
+    (t ≡ s) ⊎ ((MakesCall asked × ((at : ℕ) × IsClockMoment moments at × MayHaveTicked lane at s t)) ⊎ ((r : Response) × IsAnswered lane moments before after s asked t r))
 
 -- Why there is no response: the clock failed before the call was made, or memory ran out.
 abbrev pub IsUnanswered : ℕ → Option (List ℕ) → Type 0 → ℕ → ℕ → State → Requested → State → NoAnswer → Type 0

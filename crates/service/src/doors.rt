@@ -88,7 +88,7 @@ fn serve_next_link<R: Wait, K: Keeper, C: Clock, D: Door, L: Ledger>(
     clock: &mut C,
     steps: &mut Steps<L>,
 ) -> Result<Served, Failed>
-    ensures visit { IfOk result (λ served. (v : Visit D.Link) × IsVisit D.Link.told D.Link.fault_count lane (C.moments clock.old) (HasFailed C.fault_count C.sound clock.old clock.new) (K.fault_count desk.old.keeper) (K.fault_count desk.new.keeper) desk.old.board.state v desk.new.board.state
+    ensures visit { IfOk result (λ served. (v : Visit D.Link) × IsVisit D.Link.told (HasFailed D.Link.fault_count D.Link.sound) lane (C.moments clock.old) (HasFailed C.fault_count C.sound clock.old clock.new) (K.fault_count desk.old.keeper) (K.fault_count desk.new.keeper) desk.old.board.state v desk.new.board.state
         × AreTaken (D.told door.old) (D.told door.new) (v ∷ []) × (served ≡ spec.counts_as v)) }
     ensures none { IfErr result (λ _. RoseOrFull (D.fault_count door.old) (D.fault_count door.new) × (D.told door.new ≡ D.told door.old) × (desk.new.board.state ≡ desk.old.board.state)
         × (K.fault_count desk.new.keeper ≡ K.fault_count desk.old.keeper)) }
@@ -117,7 +117,7 @@ pub fn serve_door<R: Wait, K: Keeper, C: Clock, D: Door, L: Ledger>(
     connections: u32,
     steps: &mut Steps<L>,
 ) -> ServeEnd
-    ensures serves { IsServing D.Link.told D.Link.fault_count (D.told door.old) (D.told door.new) (C.moments clock.old) (RoseOrFull (D.fault_count door.old) (D.fault_count door.new)) (RoseOrFull (C.fault_count clock.old) (C.fault_count clock.new)) connections result (K.fault_count desk.old.keeper) (K.fault_count desk.new.keeper) desk.old.board.state desk.new.board.state }
+    ensures serves { IsServing D.Link.told (HasFailed D.Link.fault_count D.Link.sound) (D.told door.old) (D.told door.new) (C.moments clock.old) (RoseOrFull (D.fault_count door.old) (D.fault_count door.new)) (RoseOrFull (C.fault_count clock.old) (C.fault_count clock.new)) connections result (K.fault_count desk.old.keeper) (K.fault_count desk.new.keeper) desk.old.board.state desk.new.board.state }
     ensures desk { DeskGoesOn K.told K.fault_count K.sound desk.old desk.new }
     ensures clock { ClockGoesOn C.moments C.fault_count C.sound clock.old clock.new }
     ensures door { D.fault_count door.old ≤ D.fault_count door.new }

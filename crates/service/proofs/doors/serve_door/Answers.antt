@@ -1,4 +1,5 @@
 use Rattle.std.proofs.Common.{◌≡◌, true, false, arith}
+use Rattle.service.specs.Onward.{HasFailed}
 use Rattle.service.proofs.Onward.{desk_stays, desk_on, clock_stays, clock_on, failed_first, failed_last, rose_before}
 use Rattle.service.proofs.Visits.{door_not_clock, next_comes, served_none, served_next, served_to_end, served_to_fault}
 use Rattle.service.proofs.doors.serve_door.Goals as goal
@@ -18,7 +19,7 @@ returns-in-Err-clause-serves g c =
     let inv = c.loop-before.invariant in
     let none = c.in-Err.ensures.none in
     let clock = c.in-Err.ensures.clock in
-    served_to_fault g.D.Link.Link.told g.D.Link.Link.fault_count _ _ _ _ _ _ _ _ _ c.loop-before.met _ _ _ _ _ _ _ c.end_at_door.ensures inv.within (rose_before _ _ _ inv.door none.0)
+    served_to_fault g.D.Link.Link.told (HasFailed g.D.Link.Link.fault_count g.D.Link.Link.sound) _ _ _ _ _ _ _ _ _ c.loop-before.met _ _ _ _ _ _ _ c.end_at_door.ensures (omega (arith, c.loop-before-test.true)) (rose_before _ _ _ inv.door none.0)
     (λ failed. (failed_first g.C.Clock.fault_count g.C.Clock.sound _ _ _ clock.later failed).0) none.1 none.3 none.2 inv.served
 
 pub returns-in-Err-clause-desk : goal.returns-in-Err-clause-desk
@@ -41,7 +42,7 @@ pub returns-clause-serves : goal.returns-clause-serves
 returns-clause-serves g c =
     let inv = c.loop-before.invariant in
     let all = c.loop-before-test.false in
-    served_to_end g.D.Link.Link.told g.D.Link.Link.fault_count _ _ _ _ _ _ _ _ c.loop-before.met _ _ _ _ _ c.end_of.ensures inv.within (omega (arith, all)) (λ failed. failed.0) inv.served
+    served_to_end g.D.Link.Link.told (HasFailed g.D.Link.Link.fault_count g.D.Link.Link.sound) _ _ _ _ _ _ _ _ c.loop-before.met _ _ _ _ _ c.end_of.ensures inv.within (omega (arith, all)) (λ failed. failed.0) inv.served
 
 pub loop-before-preserved : goal.loop-before-preserved
 loop-before-preserved g c =
@@ -50,7 +51,7 @@ loop-before-preserved g c =
     let is = c.in-Ok.ensures in
     let visit = is.visit in
     record {
-      served = served_next g.D.Link.Link.told g.D.Link.Link.fault_count _ _ _ _ _ _ _ _ c.loop-before.before c.loop-before.met _ _ _ _ _ _ _ _ visit.0 inv.clock.moments (failed_first g.C.Clock.fault_count g.C.Clock.sound _ _ _ is.clock.later)
+      served = served_next g.D.Link.Link.told (HasFailed g.D.Link.Link.fault_count g.D.Link.Link.sound) _ _ _ _ _ _ _ _ c.loop-before.before c.loop-before.met _ _ _ _ _ _ _ _ visit.0 inv.clock.moments (failed_first g.C.Clock.fault_count g.C.Clock.sound _ _ _ is.clock.later)
           (failed_last g.C.Clock.fault_count g.C.Clock.sound _ _ _ inv.clock.later (λ sound. (inv.clock.sound sound).0)) inv.served visit.1 visit.2 visit.3 c.after-met.ensures;
       within = omega (arith, within);
       desk = desk_on _ _ _ _ _ _ inv.desk is.desk;

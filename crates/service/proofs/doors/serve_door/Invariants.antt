@@ -5,7 +5,7 @@ use Rattle.service.proofs.doors.serve_door.Given as goal
 
 abbrev pub invariant-loop-before : goal.invariant-loop-before
 invariant-loop-before g l = record {
-  served : HasServed g.D.Link.Link.told g.D.Link.Link.fault_count (g.D.Door.told l.fn.door) (g.D.Door.told l.door) (g.C.Clock.moments l.fn.clock)
+  served : HasServed g.D.Link.Link.told (HasFailed g.D.Link.Link.fault_count g.D.Link.Link.sound) (g.D.Door.told l.fn.door) (g.D.Door.told l.door) (g.C.Clock.moments l.fn.clock)
       (HasFailed g.C.Clock.fault_count g.C.Clock.sound l.fn.clock l.clock) l.before l.met (g.K.Keeper.fault_count l.fn.desk.keeper) (g.K.Keeper.fault_count l.desk.keeper) l.fn.desk.board.state l.desk.board.state;
   within : l.before ≤ l.connections;
   desk : DeskGoesOn g.K.Keeper.told g.K.Keeper.fault_count g.K.Keeper.sound l.fn.desk l.desk;

@@ -1,11 +1,11 @@
 use Rattle.std.proofs.Common.{true, false, refl}
-use Rattle.service.proofs.Visits.{given_back, left_out, visited}
+use Rattle.service.proofs.Visits.{given_back, left_out}
 use Rattle.service.proofs.doors.serve_next_link.Goals as goal
 
 pub returns-in-Ok-clause-visit : goal.returns-in-Ok-clause-visit
 returns-in-Ok-clause-visit g c = (
   record { came = c.in_ok-link.link; went = c.serve_link-served.new.link; served = c.serve_link-served.result; back = true },
-  visited g.D.Link.Link.told g.D.Link.Link.fault_count g.D.Link.Link.sound _ _ _ _ _ _ _ _ _ _ c.serve_link-served.ensures.serves,
+  c.serve_link-served.ensures.serves,
   given_back _ _ _ _ _ _ _ _ _ c.in_ok-link.ensures.told c.in-Ok.ensures.told,
   refl,
 )
@@ -13,7 +13,7 @@ returns-in-Ok-clause-visit g c = (
 pub returns-in-Err-clause-visit : goal.returns-in-Err-clause-visit
 returns-in-Err-clause-visit g c = (
   record { came = c.in_ok-link.link; went = c.serve_link-served.new.link; served = c.serve_link-served.result; back = false },
-  visited g.D.Link.Link.told g.D.Link.Link.fault_count g.D.Link.Link.sound _ _ _ _ _ _ _ _ _ _ c.serve_link-served.ensures.serves,
+  c.serve_link-served.ensures.serves,
   left_out _ _ _ _ _ _ _ _ _ c.in_ok-link.ensures.told c.in-Err.ensures.told,
   refl,
 )
