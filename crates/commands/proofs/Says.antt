@@ -1,50 +1,29 @@
 -- What is said of a desk that was opened, or that can't be.
-use Rattle.std.proofs.Common.{◌≡◌, ◌≢◌, ℕ, ◌≤◌, List, map, Option, None, Some, ap, ◌∙◌, subst, arith, inl, inr}
-use Rattle.std.specs.Prelude.{Result, Ok, Err, IfOk}
+use Rattle.std.proofs.Common.{◌≢◌, ℕ, ◌≤◌, List, map, Option, None, Some, ap, ◌∙◌, subst, arith}
+use Rattle.std.specs.Prelude.{All, ◌++◌, Result, Ok, Err, IfOk}
 use Rattle.std.specs.List.{concat}
 use Rattle.board.specs.Prepare.{Shown}
-use Rattle.desk_io.specs.Causes.{RoseOrFull}
 use Rattle.desk_io.specs.Rows.{Rows}
+use Rattle.desk_io.specs.Told.{HoldsName}
 use Rattle.machine.specs.State.{State}
 use Rattle.ops_tables.specs.Tables.{TableRows}
-use Rattle.records.specs.declared.faults.RowsFault.TheVariants as fault
 use Rattle.reopening.specs.Held.{state_in}
 use Rattle.reopening.specs.Opening.{reopened}
-use Rattle.commands.specs.Answers.{AreKeptFrom, AreKeptOver, Telling, telling, Left, HasNoBoard, OpeningSays, WhySays, IsRunWith, IsRunFrom, Serving, IsServedFrom, IsServedWith}
+use Rattle.table_files.specs.Files.{files, name_of}
+use Rattle.table_files.specs.Whole.{StopsAtMissing, Told}
+use Rattle.table_files.specs.declared.faults.TableFault.{TableFault}
+use Rattle.table_files.specs.declared.faults.TableFault.TheVariants as fault_of
+use Rattle.commands.specs.Answers.{Telling, telling, TablesSay, IsRunWith, IsRunFrom, Serving, IsServedFrom, IsServedWith}
+use Rattle.commands.proofs.Reading.{none_missing}
 use Rattle.desk.specs.Keeping.{numbers_of}
-use Rattle.desk.specs.Opening.{IsWhy, IsNoKeeperFault, IsOfKeeper, IsOpened}
+use Rattle.desk.specs.Opening.{IsOpened}
 use Rattle.desk.specs.Run.{IsRun}
-use Rattle.desk.specs.declared.opening.OpenWhy.{OpenWhy}
-use Rattle.desk.specs.declared.opening.OpenWhy.TheVariants.{KeeperFault, BadRow, BadPair, OutOfMemory}
 use Rattle.desk_net.specs.Doors.{Links}
-use Rattle.desk_net.specs.Streams.{Stream as Line}
+use Rattle.desk_net.specs.Wires.{Wire as Line}
 use Rattle.service.specs.Doors.{IsServing}
 use Rattle.service.specs.declared.doors.ServeEnd.{ServeEnd}
 use Rattle.service.proofs.Visits.{serving_from}
 use Rattle.desk.proofs.Choices.{rise_within, rise_lower}
-
--- what is said where no desk is opened
-pub why_said : (before : Telling) (why : OpenWhy) (status : ℕ) (text : List ℕ) (left : Left) → IsWhy before.rows (RoseOrFull before.faults left.keeper.faults) why → WhySays why status text
-    → HasNoBoard before left → OpeningSays before status text left
-why_said before KeeperFault status text left is says none = inl (says.0, is, says.1, none)
-why_said before (BadRow row why) status text left is says none =
-    inr (says.0, record { rows = is.rows; listed = is.listed; order = is.order; has = (fault.BadRow row why, is.has, says.1) }, none)
-why_said before (BadPair one two) status text left is says none =
-    inr (says.0, record { rows = is.rows; listed = is.listed; order = is.order; has = (fault.BadPair one two, is.has, says.1) }, none)
-why_said before OutOfMemory status text left is says none = absurd says
-
--- such an answer is a fault of the keeper or of its rows
-pub why_status : (why : OpenWhy) (status : ℕ) (text : List ℕ) → WhySays why status text → (status ≢ 3) × (status ≢ 4)
-why_status KeeperFault status text says = let is = says.0 in ((λ e. omega (arith, is, e)), (λ e. omega (arith, is, e)))
-why_status (BadRow row why) status text says = let is = says.0 in ((λ e. omega (arith, is, e)), (λ e. omega (arith, is, e)))
-why_status (BadPair one two) status text says = let is = says.0 in ((λ e. omega (arith, is, e)), (λ e. omega (arith, is, e)))
-why_status OutOfMemory status text says = absurd says
-
-pub why_steady : (why : OpenWhy) (status : ℕ) (text : List ℕ) → IsNoKeeperFault why → WhySays why status text → status ≢ 5
-why_steady KeeperFault status text none says = absurd none
-why_steady (BadRow row why) status text none says = let is = says.0 in λ e. omega (arith, is, e)
-why_steady (BadPair one two) status text none says = let is = says.0 in λ e. omega (arith, is, e)
-why_steady OutOfMemory status text none says = absurd says
 
 -- a run that counts from before
 run_lower : (less before after : ℕ) (s : State) (script : List ℕ) (t : State) (text : List ℕ) → less ≤ before → IsRun before after s script t text → IsRun less after s script t text
@@ -103,23 +82,9 @@ pub both_ok : {T E : Type 0} (P Q R : T → Type 0) (r : Result T E) → ((x : T
 both_ok P Q R (Ok x) follows one two = follows x one two
 both_ok P Q R (Err e) follows one two = tt
 
-pub not_seven : (status : ℕ) → status ≡ 0 → status ≢ 7
-not_seven status zero = λ e. omega (arith, zero, e)
-
--- what is kept once a script was run on the desk that was opened
-pub kept_over : (tables : TableRows) (before : Telling) (start : Shown) (board : Option Shown) (after : Telling) → IsOpened before.rows tables start → AreKeptFrom start board after → AreKeptOver before board after
-kept_over tables before start None after opened kept = absurd kept
-kept_over tables before start (Some b) after opened kept = record {
-  tables = tables;
-  records = opened.records;
-  loaded = opened.loaded;
-  opening = kept.0 ∙ ap (λ (x : Shown). x.opening) opened.shows;
-  kept = kept.1;
-}
-
--- a fault of the keeper isn't told as one of rows
-pub why_left : (rose : Type 0) (why : OpenWhy) (status : ℕ) (text : List ℕ) → IsOfKeeper rose why → WhySays why status text → status ≢ 7
-why_left rose KeeperFault status text is says = let five = says.0 in λ e. omega (arith, five, e)
-why_left rose (BadRow row why) status text is says = absurd is
-why_left rose (BadPair one two) status text is says = absurd is
-why_left rose OutOfMemory status text is says = absurd says
+-- none is missing, so it isn't told that one can't be read
+pub fault_known : (told : Told) (stop : TableFault) (rest : List (List ℕ)) (status : ℕ) (text : List ℕ) → All (HoldsName told) (map name_of files ++ rest) → StopsAtMissing told stop → TablesSay stop status text → status ≢ 3
+fault_known told (fault_of.Bad bad) rest status text all stops says = let six = says.0 in λ e. omega (arith, six, e)
+fault_known told (fault_of.ReadFault name) rest status text all stops says = absurd (none_missing told name rest all stops)
+fault_known told (fault_of.TooLong name) rest status text all stops says = let ten = says.0 in λ e. omega (arith, ten, e)
+fault_known told fault_of.OutOfMemory rest status text all stops says = absurd says

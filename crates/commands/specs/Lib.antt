@@ -1,4 +1,4 @@
-pub mod Words
 pub mod ErrorLines
 pub mod Weather
 pub mod Answers
+pub mod Onward

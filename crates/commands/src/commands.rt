@@ -1,21 +1,21 @@
 ghost use Rattle.std.specs.Prelude.{◌≡◌, ◌≢◌, ◌<◌, ◌≤◌, [], map, string_bytes, All, IfOk, IfSome, None};
 ghost use Rattle.desk_io.specs.Causes.{RoseOrFull};
 ghost use Rattle.desk_io.specs.Told.{HoldsName};
-ghost use Rattle.commands.specs.Answers.{AreKeptFrom, AreKeptOver, telling, left_with, Says, RunSays, SourceSays, ScriptSays, ReportsSay, WhySays, IsRunFrom, IsUntouched, WholeSays, sources_for, sources_of, EndSays, IsServedFrom, ServeSays, ServingSays};
-ghost use Rattle.machine.specs.Texts.{closing};
-ghost use Rattle.service.specs.Doors.{IsServing};
-ghost use Rattle.kept_forms.specs.Formed.{AreFormed, NamesHaveForms};
-ghost use Rattle.machine.specs.State.{State};
-ghost use Rattle.desk.specs.Keeping.{KeepsState};
-ghost use Rattle.desk.specs.Opening.{IsLeft, TellsRowsOf};
-ghost use Rattle.desk.specs.Run.{IsRun};
+ghost use Rattle.commands.specs.Answers.{AreIdle, telling, left_with, Says, RunSays, SourceSays, ScriptSays, ReportsSay, TablesSay, WhySays, IsRunFrom, IsUntouched, WholeSays, sources_for, sources_of, links_of, EndSays, IsServedFrom, ServeSays, ServingSays};
+ghost use Rattle.commands.specs.Onward.{KeeperGoesOn, LeavesDesk};
 ghost use Rattle.commands.specs.Weather.{weather_text};
-ghost use Rattle.commands.specs.Words.{command_of};
-ghost use Rattle.commands.specs.declared.words.Task.TheVariants as task;
+ghost use Rattle.machine.specs.Texts.{closing};
+ghost use Rattle.service.specs.Doors.{HasLinks, IsServing};
+ghost use Rattle.service.specs.Onward.{ClockGoesOn, DeskGoesOn};
+ghost use Rattle.service.specs.declared.doors.ServeEnd.TheVariants as ends;
+ghost use Rattle.kept_forms.specs.Formed.{AreFormed, NamesHaveForms};
+ghost use Rattle.desk.specs.Keeping.{KeepsState};
+ghost use Rattle.desk.specs.Run.{IsRun};
+ghost use Rattle.words.specs.Words.{command_of};
+ghost use Rattle.words.specs.declared.task.Task.TheVariants as task;
 
 use crate::saying::Answer;
 use crate::weather::text_of_weather;
-use crate::words::{Task, command};
 use board::Board;
 use desk::{Desk, OpenFault, OpenWhy, leave, open, text_from};
 use desk_io::{OutOfMemory, Shelf, WholeFault, read_whole};
@@ -29,8 +29,9 @@ use std::marker::Brand;
 use std::sync::Wait;
 use std::sync::ledger::{Blank, Ledger};
 use table_files::{TableFault, read_tables};
+use words::{Task, command};
 
-/// What the program says, and what is left: the board, where a script was run, and the keeper.
+/// What the program says, and what is left: the board, where a desk was opened, and the keeper.
 #[derive(Drop)]
 pub(crate) struct Said<K> {
     pub answer: Result<Answer, OutOfMemory>,
@@ -40,11 +41,11 @@ pub(crate) struct Said<K> {
 
 // Nothing is asked of the keeper.
 fn untouched<K: Keeper>(answer: Result<Answer, OutOfMemory>, keeper: K) -> Said<K>
+    requires { IfOk answer (λ a. (a.status ≢ 5) × (a.status ≢ 7)) }
     ensures answer { result.answer ≡ answer }
-    ensures board { result.board ≡ None }
-    ensures keeper { result.keeper ≡ keeper }
     ensures untouched { IsUntouched (telling (K.told keeper) (K.fault_count keeper)) (left_with result.board (K.told result.keeper) (K.fault_count result.keeper)) }
-    ensures kept { AreKeptOver (telling (K.told keeper) (K.fault_count keeper)) result.board (telling (K.told result.keeper) (K.fault_count result.keeper)) }
+    ensures none { result.board ≡ None }
+    ensures keeper { KeeperGoesOn K.told K.fault_count K.sound keeper result }
 {
     Said {
         answer,
@@ -64,14 +65,42 @@ fn answer_of_why(alloc: Global, why: OpenWhy) -> Result<Answer, OutOfMemory>
     }
 }
 
+// No desk was opened.
+fn unopened<K: Keeper>(alloc: Global, fault: OpenFault<K>) -> Said<K>
+    ensures why { IfOk result.answer (λ a. WhySays fault.why a.status a.text.items) }
+    ensures none { result.board ≡ None }
+    ensures keeper { result.keeper ≡ fault.keeper }
+{
+    let OpenFault { keeper, why } = fault;
+    Said {
+        answer: answer_of_why(alloc, why),
+        board: None,
+        keeper,
+    }
+}
+
 // What is said of a source that can't be read.
 fn answer_of_fault(alloc: Global, name: &[u8], fault: WholeFault) -> Result<Answer, OutOfMemory>
-    ensures { IfOk result (λ a. WholeSays fault name.now a.status a.text.items) }
+    ensures says { IfOk result (λ a. WholeSays fault name.now a.status a.text.items) }
+    ensures never { IfOk result (λ a. (a.status ≢ 5) × (a.status ≢ 7)) }
 {
     match fault {
         WholeFault::ReadFault => Answer::read_fault(alloc, name),
         WholeFault::TooLong => Answer::input_too_long(alloc, name),
         WholeFault::OutOfMemory => Err(OutOfMemory),
+    }
+}
+
+// What is said of tables that can't be read.
+fn answer_of_tables(alloc: Global, fault: TableFault) -> Result<Answer, OutOfMemory>
+    ensures says { IfOk result (λ a. TablesSay fault a.status a.text.items) }
+    ensures never { IfOk result (λ a. (a.status ≢ 5) × (a.status ≢ 7)) }
+{
+    match fault {
+        TableFault::Bad(bad) => Answer::bad_table(alloc, &bad),
+        TableFault::ReadFault(name) => Answer::read_fault(alloc, name.bytes()),
+        TableFault::TooLong(name) => Answer::input_too_long(alloc, name.bytes()),
+        TableFault::OutOfMemory => Err(OutOfMemory),
     }
 }
 
@@ -84,11 +113,7 @@ fn answer_on<K: Keeper, L: Ledger>(
 ) -> Result<Answer, OutOfMemory>
     ensures status { IfOk result (λ a. a.status ≡ 0) }
     ensures run { IfOk result (λ a. IsRun (K.fault_count desk.old.keeper) (K.fault_count desk.new.keeper) desk.old.board.state script.now desk.new.board.state a.text.items) }
-    ensures opening { desk.new.board.opening ≡ desk.old.board.opening }
-    ensures rows { KeepsState (K.told desk.old.keeper) desk.old.board.state → KeepsState (K.told desk.new.keeper) desk.new.board.state }
-    ensures later { K.fault_count desk.old.keeper ≤ K.fault_count desk.new.keeper }
-    ensures sound { K.sound desk.old.keeper → K.sound desk.new.keeper × (K.fault_count desk.new.keeper ≡ K.fault_count desk.old.keeper) }
-    ensures formed { AreFormed desk.old.board.state → AreFormed desk.new.board.state }
+    ensures desk { DeskGoesOn K.told K.fault_count K.sound desk.old desk.new }
 {
     let text = text_from(alloc, desk, script, steps)?;
     Ok(Answer { status: 0, text })
@@ -103,10 +128,7 @@ fn run_on<K: Keeper, L: Ledger>(
     requires { KeepsState (K.told desk.keeper) desk.board.state }
     ensures status { IfOk result.answer (λ a. a.status ≡ 0) }
     ensures run { IfOk result.answer (λ a. IsRunFrom desk.board (K.fault_count desk.keeper) script.now a.text.items result.board (telling (K.told result.keeper) (K.fault_count result.keeper))) }
-    ensures later { K.fault_count desk.keeper ≤ K.fault_count result.keeper }
-    ensures steady { K.sound desk.keeper → K.sound result.keeper × (K.fault_count result.keeper ≡ K.fault_count desk.keeper) × IfOk result.answer (λ a. a.status ≢ 5) }
-    ensures formed { AreFormed desk.board.state → IfSome result.board (λ b. AreFormed b.state) }
-    ensures kept { AreKeptFrom desk.board result.board (telling (K.told result.keeper) (K.fault_count result.keeper)) }
+    ensures leaves { LeavesDesk K.told K.fault_count K.sound desk result }
 {
     let answer = answer_on(alloc, &mut desk, script, steps);
     let Desk { board, keeper } = desk;
@@ -127,57 +149,24 @@ fn run_with<K: Keeper, L: Ledger>(
     requires name { blank.name ≡ L.name }
     requires parts { blank.parts ≡ L.parts }
     requires some { 0 < blank.parts }
-    ensures known { IfOk result.answer (λ a. (a.status ≢ 3) × (a.status ≢ 4)) }
     ensures says { IfOk result.answer (λ a. ScriptSays tables (telling (K.told keeper) (K.fault_count keeper)) script.now a.status a.text.items (left_with result.board (K.told result.keeper) (K.fault_count result.keeper))) }
-    ensures later { K.fault_count keeper ≤ K.fault_count result.keeper }
-    ensures steady { K.sound keeper → K.sound result.keeper × (K.fault_count result.keeper ≡ K.fault_count keeper) × IfOk result.answer (λ a. a.status ≢ 5) }
+    ensures keeper { KeeperGoesOn K.told K.fault_count K.sound keeper result }
     ensures formed { NamesHaveForms tables → IfSome result.board (λ b. AreFormed b.state) }
-    ensures left { (s : State) → IsLeft s → TellsRowsOf (K.told keeper) s → IfOk result.answer (λ a. a.status ≢ 7) }
-    ensures kept { AreKeptOver (telling (K.told keeper) (K.fault_count keeper)) result.board (telling (K.told result.keeper) (K.fault_count result.keeper)) }
 {
     let mut steps = Steps::<L>::new(blank);
     match open(alloc, tables, keeper, &mut steps) {
         Ok(desk) => run_on(alloc, desk, script, &mut steps),
-        Err(OpenFault { keeper, why }) => Said {
-            answer: answer_of_why(alloc, why),
-            board: None,
-            keeper,
-        },
+        Err(fault) => unopened(alloc, fault),
     }
 }
 
 // A script is run over the tables, and over the rows of a keeper.
 fn run_over<K: Keeper>(alloc: Global, tables: Tables, script: &[u8], keeper: K) -> Said<K>
-    ensures known { IfOk result.answer (λ a. (a.status ≢ 3) × (a.status ≢ 4)) }
     ensures says { IfOk result.answer (λ a. ScriptSays tables (telling (K.told keeper) (K.fault_count keeper)) script.now a.status a.text.items (left_with result.board (K.told result.keeper) (K.fault_count result.keeper))) }
-    ensures later { K.fault_count keeper ≤ K.fault_count result.keeper }
-    ensures steady { K.sound keeper → K.sound result.keeper × (K.fault_count result.keeper ≡ K.fault_count keeper) × IfOk result.answer (λ a. a.status ≢ 5) }
+    ensures keeper { KeeperGoesOn K.told K.fault_count K.sound keeper result }
     ensures formed { NamesHaveForms tables → IfSome result.board (λ b. AreFormed b.state) }
-    ensures left { (s : State) → IsLeft s → TellsRowsOf (K.told keeper) s → IfOk result.answer (λ a. a.status ≢ 7) }
-    ensures kept { AreKeptOver (telling (K.told keeper) (K.fault_count keeper)) result.board (telling (K.told result.keeper) (K.fault_count result.keeper)) }
 {
     run_with::<K, Brand>(alloc, tables, script, keeper, Blank::new(1))
-}
-
-fn answer_of_weather<S: Shelf, K: Keeper>(
-    alloc: Global,
-    name: &str,
-    shelf: &mut S,
-    keeper: K,
-) -> Said<K>
-    ensures sound { S.sound shelf.old → HoldsName (S.sources shelf.old) name.now → IfOk result.answer (λ a. a.status ≢ 3) }
-    ensures known { IfOk result.answer (λ a. a.status ≢ 4) }
-    ensures says { IfOk result.answer (λ a. SourceSays (S.sources shelf.old) (RoseOrFull (S.fault_count shelf.old) (S.fault_count shelf.new)) (telling (K.told keeper) (K.fault_count keeper)) (ReportsSay (telling (K.told keeper) (K.fault_count keeper))) name.now a.status a.text.items (left_with result.board (K.told result.keeper) (K.fault_count result.keeper))) }
-    ensures later { K.fault_count keeper ≤ K.fault_count result.keeper }
-    ensures steady { K.sound keeper → K.sound result.keeper × (K.fault_count result.keeper ≡ K.fault_count keeper) × IfOk result.answer (λ a. a.status ≢ 5) }
-    ensures none { result.board ≡ None }
-    ensures never { IfOk result.answer (λ a. a.status ≢ 7) }
-    ensures kept { AreKeptOver (telling (K.told keeper) (K.fault_count keeper)) result.board (telling (K.told result.keeper) (K.fault_count result.keeper)) }
-{
-    match read_whole(alloc, shelf, name) {
-        Ok(source) => untouched(reports_of(alloc, source.bytes()), keeper),
-        Err(fault) => untouched(answer_of_fault(alloc, name.as_bytes(), fault), keeper),
-    }
 }
 
 fn reports_of(alloc: Global, file: &[u8]) -> Result<Answer, OutOfMemory>
@@ -186,6 +175,23 @@ fn reports_of(alloc: Global, file: &[u8]) -> Result<Answer, OutOfMemory>
 {
     let text = text_of_weather(alloc, file)?;
     Ok(Answer { status: 0, text })
+}
+
+fn answer_of_weather<S: Shelf, K: Keeper>(
+    alloc: Global,
+    file: &str,
+    shelf: &mut S,
+    keeper: K,
+) -> Said<K>
+    ensures sound { S.sound shelf.old → HoldsName (S.sources shelf.old) file.now → IfOk result.answer (λ a. a.status ≢ 3) }
+    ensures says { IfOk result.answer (λ a. SourceSays (S.sources shelf.old) (RoseOrFull (S.fault_count shelf.old) (S.fault_count shelf.new)) (telling (K.told keeper) (K.fault_count keeper)) (ReportsSay (telling (K.told keeper) (K.fault_count keeper))) file.now a.status a.text.items (left_with result.board (K.told result.keeper) (K.fault_count result.keeper))) }
+    ensures none { result.board ≡ None }
+    ensures keeper { KeeperGoesOn K.told K.fault_count K.sound keeper result }
+{
+    match read_whole(alloc, shelf, file) {
+        Ok(source) => untouched(reports_of(alloc, source.bytes()), keeper),
+        Err(fault) => untouched(answer_of_fault(alloc, file.as_bytes(), fault), keeper),
+    }
 }
 
 // The script is read after the tables, and run over them.
@@ -197,13 +203,9 @@ fn answer_over<S: Shelf, K: Keeper>(
     keeper: K,
 ) -> Said<K>
     ensures sound { S.sound shelf.old → HoldsName (S.sources shelf.old) name.now → IfOk result.answer (λ a. a.status ≢ 3) }
-    ensures known { IfOk result.answer (λ a. a.status ≢ 4) }
     ensures says { IfOk result.answer (λ a. SourceSays (S.sources shelf.old) (RoseOrFull (S.fault_count shelf.old) (S.fault_count shelf.new)) (telling (K.told keeper) (K.fault_count keeper)) (ScriptSays tables (telling (K.told keeper) (K.fault_count keeper))) name.now a.status a.text.items (left_with result.board (K.told result.keeper) (K.fault_count result.keeper))) }
-    ensures later { K.fault_count keeper ≤ K.fault_count result.keeper }
-    ensures steady { K.sound keeper → K.sound result.keeper × (K.fault_count result.keeper ≡ K.fault_count keeper) × IfOk result.answer (λ a. a.status ≢ 5) }
+    ensures keeper { KeeperGoesOn K.told K.fault_count K.sound keeper result }
     ensures formed { NamesHaveForms tables → IfSome result.board (λ b. AreFormed b.state) }
-    ensures left { (s : State) → IsLeft s → TellsRowsOf (K.told keeper) s → IfOk result.answer (λ a. a.status ≢ 7) }
-    ensures kept { AreKeptOver (telling (K.told keeper) (K.fault_count keeper)) result.board (telling (K.told result.keeper) (K.fault_count result.keeper)) }
 {
     match read_whole(alloc, shelf, name) {
         Ok(script) => run_over(alloc, tables, script.bytes(), keeper),
@@ -221,24 +223,13 @@ fn answer_of_run<S: Shelf, K: Keeper>(
     keeper: K,
 ) -> Said<K>
     ensures sound { S.sound shelf.old → All (HoldsName (S.sources shelf.old)) (sources_for task.Run name.now) → IfOk result.answer (λ a. a.status ≢ 3) }
-    ensures known { IfOk result.answer (λ a. a.status ≢ 4) }
     ensures says { IfOk result.answer (λ a. RunSays (S.sources shelf.old) (RoseOrFull (S.fault_count shelf.old) (S.fault_count shelf.new)) (telling (K.told keeper) (K.fault_count keeper)) name.now a.status a.text.items (left_with result.board (K.told result.keeper) (K.fault_count result.keeper))) }
-    ensures later { K.fault_count keeper ≤ K.fault_count result.keeper }
-    ensures steady { K.sound keeper → K.sound result.keeper × (K.fault_count result.keeper ≡ K.fault_count keeper) × IfOk result.answer (λ a. a.status ≢ 5) }
+    ensures keeper { KeeperGoesOn K.told K.fault_count K.sound keeper result }
     ensures formed { IfSome result.board (λ b. AreFormed b.state) }
-    ensures left { (s : State) → IsLeft s → TellsRowsOf (K.told keeper) s → IfOk result.answer (λ a. a.status ≢ 7) }
-    ensures kept { AreKeptOver (telling (K.told keeper) (K.fault_count keeper)) result.board (telling (K.told result.keeper) (K.fault_count result.keeper)) }
 {
     match read_tables(alloc, shelf) {
         Ok(tables) => answer_over(alloc, tables, name, shelf, keeper),
-        Err(TableFault::Bad(bad)) => untouched(Answer::bad_table(alloc, &bad), keeper),
-        Err(TableFault::ReadFault(table)) => {
-            untouched(Answer::read_fault(alloc, table.bytes()), keeper)
-        }
-        Err(TableFault::TooLong(table)) => {
-            untouched(Answer::input_too_long(alloc, table.bytes()), keeper)
-        }
-        Err(TableFault::OutOfMemory) => untouched(Err(OutOfMemory), keeper),
+        Err(fault) => untouched(answer_of_tables(alloc, fault), keeper),
     }
 }
 
@@ -254,7 +245,9 @@ fn closing_of(alloc: Global, board: &Board) -> Result<Answer, OutOfMemory>
 
 fn answer_of_end(alloc: Global, end: ServeEnd, board: &Board) -> Result<Answer, OutOfMemory>
     ensures says { IfOk result (λ a. EndSays end board.now a.status a.text.items) }
-    ensures known { IfOk result (λ a. (a.status ≢ 3) × (a.status ≢ 4) × (a.status ≢ 5) × (a.status ≢ 7)) }
+    ensures never { IfOk result (λ a. (a.status ≢ 5) × (a.status ≢ 7)) }
+    ensures clock { end ≢ ends.ClockFault → IfOk result (λ a. a.status ≢ 11) }
+    ensures door { end ≢ ends.DoorFault → IfOk result (λ a. a.status ≢ 9) }
 {
     match end {
         ServeEnd::Done => closing_of(alloc, board),
@@ -275,12 +268,13 @@ fn serve_on<R: Wait, K: Keeper, C: Clock, D: Door, L: Ledger>(
     steps: &mut Steps<L>,
 ) -> Said<K>
     requires { KeepsState (K.told desk.keeper) desk.board.state }
-    ensures known { IfOk result.answer (λ a. (a.status ≢ 3) × (a.status ≢ 4) × (a.status ≢ 5) × (a.status ≢ 7)) }
     ensures serves { IfOk result.answer (λ a. IsServedFrom desk.board (K.fault_count desk.keeper) (IsServing D.Link.told D.Link.fault_count (D.told door.old) (D.told door.new) (C.moments clock.old) (RoseOrFull (D.fault_count door.old) (D.fault_count door.new)) (RoseOrFull (C.fault_count clock.old) (C.fault_count clock.new))) connections a.status a.text.items result.board (telling (K.told result.keeper) (K.fault_count result.keeper))) }
-    ensures later { K.fault_count desk.keeper ≤ K.fault_count result.keeper }
-    ensures steady { K.sound desk.keeper → K.sound result.keeper × (K.fault_count result.keeper ≡ K.fault_count desk.keeper) }
-    ensures formed { AreFormed desk.board.state → IfSome result.board (λ b. AreFormed b.state) }
-    ensures kept { AreKeptFrom desk.board result.board (telling (K.told result.keeper) (K.fault_count result.keeper)) }
+    ensures never { IfOk result.answer (λ a. (a.status ≢ 5) × (a.status ≢ 7)) }
+    ensures leaves { LeavesDesk K.told K.fault_count K.sound desk result }
+    ensures clock { ClockGoesOn C.moments C.fault_count C.sound clock.old clock.new }
+    ensures door { D.fault_count door.old ≤ D.fault_count door.new }
+    ensures steady_clock { C.sound clock.old → IfOk result.answer (λ a. a.status ≢ 11) }
+    ensures steady_door { D.sound door.old → HasLinks (D.told door.old) connections → IfOk result.answer (λ a. a.status ≢ 9) }
 {
     let end = serve_door(rt, alloc, &mut desk, door, clock, port, connections, steps);
     let Desk { board, keeper } = desk;
@@ -306,22 +300,18 @@ fn serve_with<R: Wait, K: Keeper, C: Clock, D: Door, L: Ledger>(
     requires name { blank.name ≡ L.name }
     requires parts { blank.parts ≡ L.parts }
     requires some { 0 < blank.parts }
-    ensures known { IfOk result.answer (λ a. (a.status ≢ 3) × (a.status ≢ 4)) }
-    ensures says { IfOk result.answer (λ a. ServeSays tables (telling (K.told keeper) (K.fault_count keeper)) (IsServing D.Link.told D.Link.fault_count (D.told door.old) (D.told door.new) (C.moments clock.old) (RoseOrFull (D.fault_count door.old) (D.fault_count door.new)) (RoseOrFull (C.fault_count clock.old) (C.fault_count clock.new))) connections a.status a.text.items (left_with result.board (K.told result.keeper) (K.fault_count result.keeper))) }
-    ensures later { K.fault_count keeper ≤ K.fault_count result.keeper }
-    ensures steady { K.sound keeper → K.sound result.keeper × (K.fault_count result.keeper ≡ K.fault_count keeper) × IfOk result.answer (λ a. a.status ≢ 5) }
+    ensures says { IfOk result.answer (λ a. ServeSays tables (telling (K.told keeper) (K.fault_count keeper)) (IsServing D.Link.told D.Link.fault_count (D.told door.old) (D.told door.new) (C.moments clock.old) (RoseOrFull (D.fault_count door.old) (D.fault_count door.new)) (RoseOrFull (C.fault_count clock.old) (C.fault_count clock.new))) (AreIdle clock.old clock.new door.old door.new) connections a.status a.text.items (left_with result.board (K.told result.keeper) (K.fault_count result.keeper))) }
+    ensures keeper { KeeperGoesOn K.told K.fault_count K.sound keeper result }
     ensures formed { NamesHaveForms tables → IfSome result.board (λ b. AreFormed b.state) }
-    ensures left { (s : State) → IsLeft s → TellsRowsOf (K.told keeper) s → IfOk result.answer (λ a. a.status ≢ 7) }
-    ensures kept { AreKeptOver (telling (K.told keeper) (K.fault_count keeper)) result.board (telling (K.told result.keeper) (K.fault_count result.keeper)) }
+    ensures clock { ClockGoesOn C.moments C.fault_count C.sound clock.old clock.new }
+    ensures door { D.fault_count door.old ≤ D.fault_count door.new }
+    ensures steady_clock { C.sound clock.old → IfOk result.answer (λ a. a.status ≢ 11) }
+    ensures steady_door { D.sound door.old → HasLinks (D.told door.old) connections → IfOk result.answer (λ a. a.status ≢ 9) }
 {
     let mut steps = Steps::<L>::new(blank);
     match open(alloc, tables, keeper, &mut steps) {
         Ok(desk) => serve_on(rt, alloc, desk, clock, door, port, connections, &mut steps),
-        Err(OpenFault { keeper, why }) => Said {
-            answer: answer_of_why(alloc, why),
-            board: None,
-            keeper,
-        },
+        Err(fault) => unopened(alloc, fault),
     }
 }
 
@@ -336,13 +326,13 @@ fn serve_over<R: Wait, K: Keeper, C: Clock, D: Door>(
     connections: u32,
     keeper: K,
 ) -> Said<K>
-    ensures known { IfOk result.answer (λ a. (a.status ≢ 3) × (a.status ≢ 4)) }
-    ensures says { IfOk result.answer (λ a. ServeSays tables (telling (K.told keeper) (K.fault_count keeper)) (IsServing D.Link.told D.Link.fault_count (D.told door.old) (D.told door.new) (C.moments clock.old) (RoseOrFull (D.fault_count door.old) (D.fault_count door.new)) (RoseOrFull (C.fault_count clock.old) (C.fault_count clock.new))) connections a.status a.text.items (left_with result.board (K.told result.keeper) (K.fault_count result.keeper))) }
-    ensures later { K.fault_count keeper ≤ K.fault_count result.keeper }
-    ensures steady { K.sound keeper → K.sound result.keeper × (K.fault_count result.keeper ≡ K.fault_count keeper) × IfOk result.answer (λ a. a.status ≢ 5) }
+    ensures says { IfOk result.answer (λ a. ServeSays tables (telling (K.told keeper) (K.fault_count keeper)) (IsServing D.Link.told D.Link.fault_count (D.told door.old) (D.told door.new) (C.moments clock.old) (RoseOrFull (D.fault_count door.old) (D.fault_count door.new)) (RoseOrFull (C.fault_count clock.old) (C.fault_count clock.new))) (AreIdle clock.old clock.new door.old door.new) connections a.status a.text.items (left_with result.board (K.told result.keeper) (K.fault_count result.keeper))) }
+    ensures keeper { KeeperGoesOn K.told K.fault_count K.sound keeper result }
     ensures formed { NamesHaveForms tables → IfSome result.board (λ b. AreFormed b.state) }
-    ensures left { (s : State) → IsLeft s → TellsRowsOf (K.told keeper) s → IfOk result.answer (λ a. a.status ≢ 7) }
-    ensures kept { AreKeptOver (telling (K.told keeper) (K.fault_count keeper)) result.board (telling (K.told result.keeper) (K.fault_count result.keeper)) }
+    ensures clock { ClockGoesOn C.moments C.fault_count C.sound clock.old clock.new }
+    ensures door { D.fault_count door.old ≤ D.fault_count door.new }
+    ensures steady_clock { C.sound clock.old → IfOk result.answer (λ a. a.status ≢ 11) }
+    ensures steady_door { D.sound door.old → HasLinks (D.told door.old) connections → IfOk result.answer (λ a. a.status ≢ 9) }
 {
     serve_with::<R, K, C, D, Brand>(
         rt,
@@ -368,24 +358,17 @@ fn answer_of_serve<R: Wait, S: Shelf, K: Keeper, C: Clock, D: Door>(
     keeper: K,
 ) -> Said<K>
     ensures sound { S.sound shelf.old → All (HoldsName (S.sources shelf.old)) (sources_for (task.Serve port connections) []) → IfOk result.answer (λ a. a.status ≢ 3) }
-    ensures known { IfOk result.answer (λ a. a.status ≢ 4) }
-    ensures says { IfOk result.answer (λ a. ServingSays (S.sources shelf.old) (RoseOrFull (S.fault_count shelf.old) (S.fault_count shelf.new)) (IsServing D.Link.told D.Link.fault_count (D.told door.old) (D.told door.new) (C.moments clock.old) (RoseOrFull (D.fault_count door.old) (D.fault_count door.new)) (RoseOrFull (C.fault_count clock.old) (C.fault_count clock.new))) (telling (K.told keeper) (K.fault_count keeper)) connections a.status a.text.items (left_with result.board (K.told result.keeper) (K.fault_count result.keeper))) }
-    ensures later { K.fault_count keeper ≤ K.fault_count result.keeper }
-    ensures steady { K.sound keeper → K.sound result.keeper × (K.fault_count result.keeper ≡ K.fault_count keeper) × IfOk result.answer (λ a. a.status ≢ 5) }
+    ensures says { IfOk result.answer (λ a. ServingSays (S.sources shelf.old) (RoseOrFull (S.fault_count shelf.old) (S.fault_count shelf.new)) (IsServing D.Link.told D.Link.fault_count (D.told door.old) (D.told door.new) (C.moments clock.old) (RoseOrFull (D.fault_count door.old) (D.fault_count door.new)) (RoseOrFull (C.fault_count clock.old) (C.fault_count clock.new))) (AreIdle clock.old clock.new door.old door.new) (telling (K.told keeper) (K.fault_count keeper)) connections a.status a.text.items (left_with result.board (K.told result.keeper) (K.fault_count result.keeper))) }
+    ensures keeper { KeeperGoesOn K.told K.fault_count K.sound keeper result }
     ensures formed { IfSome result.board (λ b. AreFormed b.state) }
-    ensures left { (s : State) → IsLeft s → TellsRowsOf (K.told keeper) s → IfOk result.answer (λ a. a.status ≢ 7) }
-    ensures kept { AreKeptOver (telling (K.told keeper) (K.fault_count keeper)) result.board (telling (K.told result.keeper) (K.fault_count result.keeper)) }
+    ensures clock { ClockGoesOn C.moments C.fault_count C.sound clock.old clock.new }
+    ensures door { D.fault_count door.old ≤ D.fault_count door.new }
+    ensures steady_clock { C.sound clock.old → IfOk result.answer (λ a. a.status ≢ 11) }
+    ensures steady_door { D.sound door.old → HasLinks (D.told door.old) connections → IfOk result.answer (λ a. a.status ≢ 9) }
 {
     match read_tables(alloc, shelf) {
         Ok(tables) => serve_over(rt, alloc, tables, clock, door, port, connections, keeper),
-        Err(TableFault::Bad(bad)) => untouched(Answer::bad_table(alloc, &bad), keeper),
-        Err(TableFault::ReadFault(table)) => {
-            untouched(Answer::read_fault(alloc, table.bytes()), keeper)
-        }
-        Err(TableFault::TooLong(table)) => {
-            untouched(Answer::input_too_long(alloc, table.bytes()), keeper)
-        }
-        Err(TableFault::OutOfMemory) => untouched(Err(OutOfMemory), keeper),
+        Err(fault) => untouched(answer_of_tables(alloc, fault), keeper),
     }
 }
 
@@ -400,19 +383,20 @@ pub(crate) fn answer_to<R: Wait, S: Shelf, K: Keeper, C: Clock, D: Door>(
     keeper: K,
 ) -> Said<K>
     ensures sound { S.sound shelf.old → All (HoldsName (S.sources shelf.old)) (sources_of (command_of (map string_bytes words.now))) → IfOk result.answer (λ a. a.status ≢ 3) }
-    ensures known { IfOk result.answer (λ a. a.status ≢ 4) }
-    ensures says { IfOk result.answer (λ a. Says (S.sources shelf.old) (RoseOrFull (S.fault_count shelf.old) (S.fault_count shelf.new)) (IsServing D.Link.told D.Link.fault_count (D.told door.old) (D.told door.new) (C.moments clock.old) (RoseOrFull (D.fault_count door.old) (D.fault_count door.new)) (RoseOrFull (C.fault_count clock.old) (C.fault_count clock.new))) (telling (K.told keeper) (K.fault_count keeper)) (command_of (map string_bytes words.now)) a.status a.text.items (left_with result.board (K.told result.keeper) (K.fault_count result.keeper))) }
-    ensures later { K.fault_count keeper ≤ K.fault_count result.keeper }
-    ensures steady { K.sound keeper → K.sound result.keeper × (K.fault_count result.keeper ≡ K.fault_count keeper) × IfOk result.answer (λ a. a.status ≢ 5) }
+    ensures says { IfOk result.answer (λ a. Says (S.sources shelf.old) (RoseOrFull (S.fault_count shelf.old) (S.fault_count shelf.new)) (IsServing D.Link.told D.Link.fault_count (D.told door.old) (D.told door.new) (C.moments clock.old) (RoseOrFull (D.fault_count door.old) (D.fault_count door.new)) (RoseOrFull (C.fault_count clock.old) (C.fault_count clock.new))) (AreIdle clock.old clock.new door.old door.new) (telling (K.told keeper) (K.fault_count keeper)) (command_of (map string_bytes words.now)) a.status a.text.items (left_with result.board (K.told result.keeper) (K.fault_count result.keeper))) }
+    ensures keeper { KeeperGoesOn K.told K.fault_count K.sound keeper result }
     ensures formed { IfSome result.board (λ b. AreFormed b.state) }
-    ensures left { (s : State) → IsLeft s → TellsRowsOf (K.told keeper) s → IfOk result.answer (λ a. a.status ≢ 7) }
-    ensures kept { AreKeptOver (telling (K.told keeper) (K.fault_count keeper)) result.board (telling (K.told result.keeper) (K.fault_count result.keeper)) }
+    ensures clock { ClockGoesOn C.moments C.fault_count C.sound clock.old clock.new }
+    ensures door { D.fault_count door.old ≤ D.fault_count door.new }
+    ensures steady_clock { C.sound clock.old → IfOk result.answer (λ a. a.status ≢ 11) }
+    ensures steady_door { D.sound door.old → HasLinks (D.told door.old) (links_of (command_of (map string_bytes words.now))) → IfOk result.answer (λ a. a.status ≢ 9) }
 {
-    match command(words) {
-        None => untouched(Answer::usage(alloc), keeper),
-        Some((Task::Run, name)) => answer_of_run(alloc, name, shelf, keeper),
-        Some((Task::Weather, name)) => answer_of_weather(alloc, name, shelf, keeper),
-        Some((Task::Serve { port, connections }, _)) => {
+    match command(alloc, words) {
+        Err(OutOfMemory) => untouched(Err(OutOfMemory), keeper),
+        Ok(None) => untouched(Answer::usage(alloc), keeper),
+        Ok(Some((Task::Run, name))) => answer_of_run(alloc, name, shelf, keeper),
+        Ok(Some((Task::Weather, name))) => answer_of_weather(alloc, name, shelf, keeper),
+        Ok(Some((Task::Serve { port, connections }, _))) => {
             answer_of_serve(rt, alloc, shelf, clock, door, port, connections, keeper)
         }
     }

@@ -5,6 +5,5 @@ mod commands;
 mod saying;
 mod top;
 mod weather;
-mod words;
 
 pub use top::{Ending, desk_main};

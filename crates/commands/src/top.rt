@@ -1,13 +1,15 @@
-ghost use Rattle.std.specs.Prelude.{◌≡◌, ◌≢◌, ◌≤◌, map, string_bytes, All, IfSome, MatchResult};
+ghost use Rattle.std.specs.Prelude.{◌≡◌, ◌≢◌, ◌≤◌, [], ◌∷◌, map, string_bytes, All, IfSome, MatchResult};
+ghost use Rattle.std.specs.List.{Contains};
 ghost use Rattle.std.specs.Io.KnownBytes.{Appends, Keeps};
 ghost use Rattle.desk_io.specs.Causes.{RoseOrFull};
 ghost use Rattle.desk_io.specs.Told.{HoldsName};
 ghost use Rattle.kept_forms.specs.Formed.{AreFormed};
 ghost use Rattle.machine.specs.State.{State};
 ghost use Rattle.desk.specs.Opening.{IsLeft, TellsRowsOf};
-ghost use Rattle.service.specs.Doors.{IsServing};
-ghost use Rattle.commands.specs.Words.{command_of};
-ghost use Rattle.commands.specs.Answers.{AreKeptOver, telling, left_with, Says, Ends, EndsWith, sources_of};
+ghost use Rattle.service.specs.Doors.{HasLinks, IsServing};
+ghost use Rattle.service.specs.Onward.{ClockGoesOn};
+ghost use Rattle.words.specs.Words.{command_of};
+ghost use Rattle.commands.specs.Answers.{AreIdle, AreKeptOver, Blames, telling, left_with, Says, Ends, EndsWith, links_of, sources_of};
 
 use crate::commands::{Said, answer_to};
 use crate::saying::Answer;
@@ -61,6 +63,10 @@ fn write<O: Sink>(answer: Result<Answer, OutOfMemory>, out: &mut O) -> u8
 /// - 9: only where the door's count of faults rose, or is full; `error 9 DoorFault`.
 /// - 10: exactly where the source of that name has more than 64 MiB; `error 10 InputTooLong NAME`.
 /// - 11: only where the clock's count of faults rose, or is full; `error 11 ClockFault`.
+///
+/// 3, 4, 5, 9 and 11 tell that the shelf, the sink, the keeper, the door or the clock isn't sound, or that the shelf lacks
+/// a source, or that fewer links come to the door than are to be served. Where nothing is served, the door and the clock are
+/// given back as they were.
 pub fn desk_main<R: Wait, S: Shelf, O: Sink, C: Clock + Drop, K: Keeper, D: Door>(
     rt: &R,
     alloc: Global,
@@ -71,12 +77,21 @@ pub fn desk_main<R: Wait, S: Shelf, O: Sink, C: Clock + Drop, K: Keeper, D: Door
     keeper: K,
     door: &mut D,
 ) -> Ending<K, C>
-    ensures complete { S.sound shelf.old → O.sound out.old → All (HoldsName (S.sources shelf.old)) (sources_of (command_of (map string_bytes words.now)))
-        → (result.status ≢ 3) × (result.status ≢ 4) }
+    // Over an outside that is sound, with the sources that the words name and a link to come for each connection, nothing fails
+    // but memory: all was read and said, or the words, a source, a table or a row are at fault.
+    ensures complete { S.sound shelf.old → O.sound out.old → K.sound keeper → C.sound clock → D.sound door.old
+        → All (HoldsName (S.sources shelf.old)) (sources_of (command_of (map string_bytes words.now))) → HasLinks (D.told door.old) (links_of (command_of (map string_bytes words.now)))
+        → Contains (0 ∷ 2 ∷ 6 ∷ 7 ∷ 8 ∷ 10 ∷ []) result.status }
+    ensures blames { Blames (S.sound shelf.old × All (HoldsName (S.sources shelf.old)) (sources_of (command_of (map string_bytes words.now)))) (O.sound out.old) (K.sound keeper)
+        (D.sound door.old × HasLinks (D.told door.old) (links_of (command_of (map string_bytes words.now)))) (C.sound clock) result.status }
     ensures ends { Ends (Says (S.sources shelf.old) (RoseOrFull (S.fault_count shelf.old) (S.fault_count shelf.new))
         (IsServing D.Link.told D.Link.fault_count (D.told door.old) (D.told door.new) (C.moments clock) (RoseOrFull (D.fault_count door.old) (D.fault_count door.new)) (RoseOrFull (C.fault_count clock) (C.fault_count result.clock)))
-        (telling (K.told keeper) (K.fault_count keeper)) (command_of (map string_bytes words.now)))
+        (AreIdle clock result.clock door.old door.new) (telling (K.told keeper) (K.fault_count keeper)) (command_of (map string_bytes words.now)))
         (RoseOrFull (O.fault_count out.old) (O.fault_count out.new)) (O.content out.old) (O.content out.new) result.status (left_with result.board (K.told result.keeper) (K.fault_count result.keeper)) }
+    // Whatever the status: the clock tells the same moments, and neither its count nor the door's falls. A sound clock stays sound,
+    // and its count stands still.
+    ensures clock { ClockGoesOn C.moments C.fault_count C.sound clock result.clock }
+    ensures door { D.fault_count door.old ≤ D.fault_count door.new }
     ensures later { K.fault_count keeper ≤ K.fault_count result.keeper }
     // A sound keeper never ends a run, and since its count stands still nothing is refused for its sake.
     ensures steady { K.sound keeper → K.sound result.keeper × (K.fault_count result.keeper ≡ K.fault_count keeper) × (result.status ≢ 5) }

@@ -1,0 +1,35 @@
+-- What the reader of words is told: the names of commands, and any words after each.
+use Rattle.std.specs.Prelude.{ℕ, List, Option, None, Some, true, codes}
+use Rattle.clap.specs.Lexer.{usize_max}
+use Rattle.clap.specs.Simple.{App, new_app, new_rule, with_rule, with_subcommand}
+use Rattle.clap.specs.Walk.{Row, Rule, Text, all_of}
+use Rattle.desk_time.specs.Digits.{◌>>=◌}
+use Rattle.words.specs.Words.{asked_by}
+use Rattle.words.specs.declared.task.Task.{Task}
+
+-- the words after a name, as many as there are
+abbrev pub rest_rule : Rule
+rest_rule = record (new_rule (codes "words")) { range = Some (record { start_inclusive = 0; end_inclusive = usize_max }) }
+
+abbrev pub leaf : List ℕ → App
+leaf name = with_rule (new_app name) rest_rule
+
+-- no name of the program, no help and no version
+abbrev pub top : App
+top = let a = new_app (codes "desk") in record a {
+  top = record a.top {
+    no_binary_name = true;
+    disable_help_flag = true;
+    disable_help_subcommand = true;
+    disable_version_flag = true;
+    subcommand_required = true;
+  };
+}
+
+abbrev pub desk_app : App
+desk_app = with_subcommand (with_subcommand (with_subcommand top (leaf (codes "run")).top) (leaf (codes "weather")).top) (leaf (codes "serve")).top
+
+-- what the reader found: a name, and the words after it
+abbrev pub asked_in : Option (Text × List Row) → Option (Task × List ℕ)
+asked_in None = None
+asked_in (Some found) = all_of (codes "words") found.1 >>= λ rest. asked_by found.0 rest

@@ -1,0 +1,9 @@
+//! Which words form a command.
+#![tactic(auto)]
+
+mod asked;
+mod reading;
+mod task;
+
+pub use reading::command;
+pub use task::Task;

@@ -1,0 +1,107 @@
+ghost use Rattle.std.specs.Prelude.{◌≡◌, false, true, map, string_bytes, IfOk, IfErr};
+ghost use Rattle.std.specs.List.{list_all};
+ghost use Rattle.std.specs.Option.{option_map};
+ghost use Rattle.clap.specs.Words.{app_of, kind_of, subcommand_rows_of};
+ghost use Rattle.clap.specs.declared.builder.command.Command.TheViews.{out-Command};
+ghost use Rattle.words.specs.Names as names;
+ghost use Rattle.words.specs.Words as spec;
+ghost use Rattle.words.specs.Words.{command_of};
+
+use crate::Task;
+use crate::asked::asked_by;
+use clap::error::ErrorKind;
+use clap::{Arg, ArgMatches, Command, Error};
+use desk_io::OutOfMemory;
+use std::alloc::{AllocError, Global};
+
+fn is_word(word: &str) -> bool
+    ensures { result ≡ spec.is_word word.now }
+{
+    match word.as_bytes() {
+        [] => false,
+        [first, ..] => *first != b'-',
+    }
+}
+
+fn is_name(word: &str) -> bool
+    ensures { result ≡ spec.is_name word.now }
+{
+    word == "run" || word == "weather" || word == "serve"
+}
+
+fn are_words(words: &[String]) -> bool
+    ensures { result ≡ list_all spec.is_word (map string_bytes words.now) }
+{
+    for word in words {
+        if !is_word(word.as_str()) {
+            return false;
+        }
+    }
+    true
+}
+
+// A name, and words after it.
+fn are_named(words: &[String]) -> bool
+    ensures { result ≡ spec.are_named (map string_bytes words.now) }
+{
+    match words {
+        [] => false,
+        [name, rest @ ..] => is_name(name.as_str()) && are_words(rest),
+    }
+}
+
+// A name, and any words after it.
+fn leaf<'a>(alloc: Global, name: &'a str) -> Result<Command<'a>, AllocError>
+    ensures app { IfOk result (λ c. app_of c ≡ names.leaf name.entry.now) }
+    ensures local { IfOk result (λ c. (out-Command c).has_globals ≡ false) }
+{
+    Command::new(alloc, name).arg(Arg::new(alloc, "words").num_args(..))
+}
+
+// The names of commands, with help turned off.
+fn desk<'a>(alloc: Global) -> Result<Command<'a>, AllocError>
+    ensures { IfOk result (λ c. app_of c ≡ names.desk_app) }
+{
+    Command::new(alloc, "desk")
+        .no_binary_name(true)
+        .disable_help_flag(true)
+        .disable_help_subcommand(true)
+        .disable_version_flag(true)
+        .subcommand_required(true)
+        .subcommand(leaf(alloc, "run")?)?
+        .subcommand(leaf(alloc, "weather")?)?
+        .subcommand(leaf(alloc, "serve")?)
+}
+
+// A name and words after it are read, unless memory runs out.
+fn read<'a>(alloc: Global, words: &'a [String]) -> Result<ArgMatches<'a>, Error>
+    requires { spec.are_named (map string_bytes words.now) ≡ true }
+    ensures asked { IfOk result (λ m. names.asked_in (subcommand_rows_of m) ≡ command_of (map string_bytes words.now)) }
+    ensures fails { IfErr result (λ e. kind_of e ≡ ErrorKind.OutOfMemory) }
+{
+    // As many values as clap can count.
+    prove!(words.len() <= usize::MAX);
+    desk(alloc)?.try_get_matches_from(words)
+}
+
+// What was found: a name, and the words after it.
+fn asked_in<'a>(matches: &ArgMatches<'a>) -> Option<(Task, &'a str)>
+    ensures { option_map (λ c. (c.0, c.1.now)) result ≡ names.asked_in (subcommand_rows_of matches.now) }
+{
+    let (name, found) = matches.subcommand()?;
+    asked_by(name, found.get_strs("words")?)
+}
+
+/// The command that the words form: what is to be done, and the name of a source, empty where there is none.
+pub fn command(alloc: Global, words: &[String]) -> Result<Option<(Task, &str)>, OutOfMemory>
+    ensures { IfOk result (λ c. option_map (λ c. (c.0, c.1.now)) c ≡ command_of (map string_bytes words.now)) }
+{
+    if !are_named(words) {
+        return Ok(None);
+    }
+    match read(alloc, words) {
+        Ok(matches) => Ok(asked_in(&matches)),
+        // It is want of memory.
+        Err(_) => Err(OutOfMemory),
+    }
+}
