@@ -1,4 +1,4 @@
--- The lines that say why a command did nothing.
+-- The lines that say why a command ended so.
 use Rattle.std.specs.Prelude.{ℕ, List, ◌++◌, codes, decimal}
 use Rattle.desk_io.specs.declared.rows.Row.{Row}
 use Rattle.records.specs.declared.faults.RowWhy.{RowWhy}

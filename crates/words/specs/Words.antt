@@ -3,7 +3,7 @@ use Rattle.std.specs.Prelude.{ℕ, Bool, false, not, ◌==◌, ◌&&◌, ◌||�
 use Rattle.std.specs.List.{list_all}
 use Rattle.std.specs.Str.{bytes_eq}
 use Rattle.desk_time.specs.Digits.{◌>>=◌}
-use Rattle.release_json.specs.Numbers.{number_of}
+use Rattle.release_json.specs.Numbers.{number_in}
 use Rattle.words.specs.declared.task.Task.{Task}
 use Rattle.words.specs.declared.task.Task.TheVariants.{Run, Weather, Serve}
 
@@ -30,7 +30,7 @@ from_one n = if nat_le 1 n then Some n else None
 
 -- a number from 1 to a greatest one, in decimal
 abbrev pub count_of : ℕ → List ℕ → Option ℕ
-count_of most word = number_of most word >>= λ n. from_one n
+count_of most word = number_in most word >>= λ n. from_one n
 
 abbrev pub serve_of : List ℕ → List ℕ → Option (Task × List ℕ)
 serve_of port connections = count_of 65_535 port >>= λ p. count_of 1_000 connections >>= λ c. Some (Serve p c, [])
