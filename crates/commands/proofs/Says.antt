@@ -19,7 +19,7 @@ use Rattle.desk.specs.Keeping.{numbers_of}
 use Rattle.desk.specs.Opening.{IsOpened}
 use Rattle.desk.specs.Run.{IsRun}
 use Rattle.desk_net.specs.Doors.{Links}
-use Rattle.desk_net.specs.Wires.{Wire as Line}
+use Rattle.desk_net.specs.Streams.{Stream as Line}
 use Rattle.service.specs.Doors.{IsServing}
 use Rattle.service.specs.declared.doors.ServeEnd.{ServeEnd}
 use Rattle.service.proofs.Visits.{serving_from}
