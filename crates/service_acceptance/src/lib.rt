@@ -1,0 +1,18 @@
+//! Tests of the desk over HTTP: what connections are answered, how they and the serving of a door end, and which status goes
+//! with what is said.
+#![tactic(auto)]
+
+#[cfg(test)]
+mod endings;
+#[cfg(test)]
+mod faults;
+#[cfg(test)]
+mod links;
+#[cfg(test)]
+mod replies;
+#[cfg(test)]
+mod serving;
+#[cfg(test)]
+mod statuses;
+#[cfg(test)]
+mod texts;
