@@ -6,7 +6,7 @@ use std::sync::Wait;
 use std::test::Fail;
 use table_files::TableFault;
 
-// What a request for the board comes to, whose link gives it byte by byte and fails at the call of that number.
+// What a request for the board comes to, whose link gives seven bytes at a time and fails at the call of that number.
 fn fails_at<R: Wait>(
     rt: &R,
     alloc: Global,
@@ -17,7 +17,7 @@ fn fails_at<R: Wait>(
 ) -> Result<bool, TableFault> {
     let connection = Connection {
         input: BOARD,
-        cut: 1,
+        cut: 7,
         link_fails: &[call],
         clock_fails: &[],
         commits_fail: &[],
@@ -30,19 +30,19 @@ fn fails_at<R: Wait>(
     comes_to(rt, alloc, &connection, &wanted)
 }
 
-// The link is read 66 times, then the answer is written, and then it is read once more.
+// The 66 bytes are read in ten calls, then the answer is written, and then the end is read.
 #[test]
 fn a_link_fails_at_each_of_its_calls(rt: HostRuntime) -> Result<(), Fail> {
     let alloc = rt.alloc();
-    for call in 0..66 {
+    for call in 0..10 {
         assert!(rt;
             fails_at(&rt, alloc, call, Served::ReadFault, b"", 0)?,
             "{call}"
         );
     }
-    assert!(rt; fails_at(&rt, alloc, 66, Served::WriteFault, b"", 1)?);
-    assert!(rt; fails_at(&rt, alloc, 67, Served::ReadFault, BOARD_SEEN, 1)?);
-    assert!(rt; fails_at(&rt, alloc, 68, Served::Ended, BOARD_SEEN, 1)?);
+    assert!(rt; fails_at(&rt, alloc, 10, Served::WriteFault, b"", 1)?);
+    assert!(rt; fails_at(&rt, alloc, 11, Served::ReadFault, BOARD_SEEN, 1)?);
+    assert!(rt; fails_at(&rt, alloc, 12, Served::Ended, BOARD_SEEN, 1)?);
     Ok(())
 }
 

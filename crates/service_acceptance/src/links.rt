@@ -202,8 +202,8 @@ fn a_view_is_answered_for_every_cut(rt: HostRuntime) -> Result<(), Fail> {
 
 // A connection goes on, and each call has its own moment.
 #[test]
-fn two_views_are_answered_for_every_cut(rt: HostRuntime) -> Result<(), Fail> {
-    for cut in 1..=TWO.len() {
+fn two_views_have_two_moments(rt: HostRuntime) -> Result<(), Fail> {
+    for cut in [1, 5, 65, 66, 67, 131, 1000] {
         assert!(rt;
             is_answered(&rt, rt.alloc(), TWO, cut, TWO_SEEN, 2)?,
             "{cut}"
