@@ -1,5 +1,5 @@
 -- What is said of a desk that was opened, or that can't be.
-use Rattle.std.proofs.Common.{◌≢◌, ℕ, ◌≤◌, List, map, Option, None, Some, ap, ◌∙◌, subst, arith}
+use Rattle.std.proofs.Common.{◌≢◌, ℕ, ◌≤◌, List, map, Option, None, Some, ap, ◌∙◌, subst, arith, ◌≡◌, inl, inr, sym}
 use Rattle.std.specs.Prelude.{All, ◌++◌, Result, Ok, Err, IfOk}
 use Rattle.std.specs.List.{concat}
 use Rattle.board.specs.Prepare.{Shown}
@@ -13,10 +13,14 @@ use Rattle.table_files.specs.Files.{files, name_of}
 use Rattle.table_files.specs.Whole.{StopsAtMissing, Told}
 use Rattle.table_files.specs.declared.faults.TableFault.{TableFault}
 use Rattle.table_files.specs.declared.faults.TableFault.TheVariants as fault_of
-use Rattle.commands.specs.Answers.{Telling, telling, TablesSay, IsRunWith, IsRunFrom, Serving, IsServedFrom, IsServedWith}
+use Rattle.commands.specs.Answers.{Telling, telling, Left, left_with, HasNoBoard, OpeningSays, WhySays, TablesSay, IsRunWith, IsRunFrom, Serving, IsServedFrom, IsServedWith}
 use Rattle.commands.proofs.Reading.{none_missing}
 use Rattle.desk.specs.Keeping.{numbers_of}
-use Rattle.desk.specs.Opening.{IsOpened}
+use Rattle.desk.specs.Opening.{IsOpened, IsWhy}
+use Rattle.desk.specs.declared.opening.OpenWhy.{OpenWhy}
+use Rattle.desk.specs.declared.opening.OpenWhy.TheVariants.{KeeperFault, BadRow, BadPair, OutOfMemory}
+use Rattle.desk_io.specs.Causes.{RoseOrFull}
+use Rattle.records.specs.declared.faults.RowsFault.TheVariants as rows
 use Rattle.desk.specs.Run.{IsRun}
 use Rattle.desk_net.specs.Doors.{Links}
 use Rattle.desk_net.specs.Streams.{Stream as Line}
@@ -24,6 +28,24 @@ use Rattle.service.specs.Doors.{IsServing}
 use Rattle.service.specs.declared.doors.ServeEnd.{ServeEnd}
 use Rattle.service.proofs.Visits.{serving_from}
 use Rattle.desk.proofs.Choices.{rise_within, rise_lower}
+
+-- what is said where no desk is opened
+why_said : (before : Telling) (why : OpenWhy) (status : ℕ) (text : List ℕ) (left : Left) → IsWhy before.rows (RoseOrFull before.faults left.keeper.faults) why → WhySays why status text
+    → HasNoBoard before left → OpeningSays before status text left
+why_said before KeeperFault status text left is says none = inl (says.0, is, says.1, none)
+why_said before (BadRow row why) status text left is says none =
+    inr (says.0, record { rows = is.rows; listed = is.listed; order = is.order; has = (rows.BadRow row why, is.has, says.1) }, none)
+why_said before (BadPair one two) status text left is says none =
+    inr (says.0, record { rows = is.rows; listed = is.listed; order = is.order; has = (rows.BadPair one two, is.has, says.1) }, none)
+why_said before OutOfMemory status text left is says none = absurd says
+
+-- the keeper is given back that failed
+pub opening_says : {K : Type 0} (told : K → Option Rows) (count : K → ℕ) (lent failed kept : K) (why : OpenWhy) (board : Option Shown) (status : ℕ) (text : List ℕ) → kept ≡ failed → board ≡ None
+    → told failed ≡ told lent → IsWhy (told lent) (RoseOrFull (count lent) (count failed)) why → WhySays why status text
+    → OpeningSays (telling (told lent) (count lent)) status text (left_with board (told kept) (count kept))
+opening_says {K} told count lent failed kept why board status text is none same because says =
+    subst (λ (k : K). OpeningSays (telling (told lent) (count lent)) status text (left_with board (told k) (count k))) (sym is)
+    (why_said (telling (told lent) (count lent)) why status text (left_with board (told failed) (count failed)) because says (record { board = none; rows = same }))
 
 -- a run that counts from before
 run_lower : (less before after : ℕ) (s : State) (script : List ℕ) (t : State) (text : List ℕ) → less ≤ before → IsRun before after s script t text → IsRun less after s script t text

@@ -119,6 +119,18 @@ pub remains : {E : Type 0} (answer : Result Answer E) (told : Told) (rose : Type
 remains (Err e) told rose serving idle before command left says three five nine eleven = tt
 remains (Ok a) told rose serving idle before command left says three five nine eleven = said_remains told rose serving idle before command a.status a.text.items left says three five nine eleven
 
+-- nothing that is said has the status of a sink that failed
+said_four : (told : Told) (rose : Type 0) (serving : Serving) (idle : Type 0) (before : Telling) (command : Option (Task × List ℕ)) (status : ℕ) (text : List ℕ) (left : Left)
+    → Says told rose serving idle before command status text left → status ≢ 4
+said_four told rose serving idle before command status text left says =
+    says_by (λ n. n ≢ 4) (λ e. omega (arith, e)) (λ e. omega (arith, e)) (λ e. omega (arith, e)) (λ e. omega (arith, e)) (λ e. omega (arith, e)) (λ e. omega (arith, e)) (λ e. omega (arith, e))
+    (λ e. omega (arith, e)) (λ e. omega (arith, e)) told rose serving idle before command status text left says
+
+pub not_four : {E : Type 0} (answer : Result Answer E) (told : Told) (rose : Type 0) (serving : Serving) (idle : Type 0) (before : Telling) (command : Option (Task × List ℕ)) (left : Left)
+    → IfOk answer (λ a. Says told rose serving idle before command a.status a.text.items left) → IfOk answer (λ a. a.status ≢ 4)
+not_four (Err e) told rose serving idle before command left says = tt
+not_four (Ok a) told rose serving idle before command left says = said_four told rose serving idle before command a.status a.text.items left says
+
 -- what is said is written, or it isn't
 pub ended : {E : Type 0} (answer : Result Answer E) (told : Told) (rose : Type 0) (serving : Serving) (idle : Type 0) (before : Telling) (command : Option (Task × List ℕ)) (unsound fails : Type 0)
     (old new : Option (List ℕ)) (status : ℕ) (left : Left) → IfOk answer (λ a. Says told rose serving idle before command a.status a.text.items left)
