@@ -11,8 +11,6 @@ mod links;
 #[cfg(test)]
 mod replies;
 #[cfg(test)]
-mod serving;
-#[cfg(test)]
 mod statuses;
 #[cfg(test)]
 mod texts;
