@@ -31,7 +31,7 @@ IsCall (ask.ViewRelease release) = Unit {0}
 IsCall (ask.ViewWeather station) = Unit {0}
 IsCall (ask.ViewDeferred tail) = Unit {0}
 
--- a moment that has a text: until a year after the last that can be read
+-- a moment that has a text: until some fourteen months after the last that can be read
 abbrev pub CanBeShown : ℕ → Type 0
 CanBeShown at = (15_778_080 ≤ at) × (at ≤ 69_000_000)
 
