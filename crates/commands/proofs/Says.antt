@@ -74,11 +74,11 @@ run_over tables told before faults script text start (Some b) after opened under
     }
 
 -- connections on the desk that was opened
-served_over : (tables : TableRows) (told : Option Rows) (before faults : ℕ) (serving : Serving) (most status : ℕ) (text : List ℕ) (start : Shown) (board : Option Shown) (after : Telling)
-    → ((end : ServeEnd) (less high now : ℕ) (s t : State) → less ≤ high → serving most end high now s t → serving most end less now s t) → IsOpened told tables start → before ≤ faults
-    → IsServedFrom start faults serving most status text board after → IsServedWith tables (telling told before) serving most status text board after
-served_over tables told before faults serving most status text start None after lower opened under is = absurd is
-served_over tables told before faults serving most status text start (Some b) after lower opened under (end, says, serves, opening, kept) =
+served_over : (tables : TableRows) (told : Option Rows) (before faults : ℕ) (serving : Serving) (port most status : ℕ) (text : List ℕ) (start : Shown) (board : Option Shown) (after : Telling)
+    → ((end : ServeEnd) (less high now : ℕ) (s t : State) → less ≤ high → serving port most end high now s t → serving port most end less now s t) → IsOpened told tables start → before ≤ faults
+    → IsServedFrom start faults serving port most status text board after → IsServedWith tables (telling told before) serving port most status text board after
+served_over tables told before faults serving port most status text start None after lower opened under is = absurd is
+served_over tables told before faults serving port most status text start (Some b) after lower opened under (end, says, serves, opening, kept) =
     let s : State = reopened (state_in tables opened.records) in (
       end,
       says,
@@ -86,18 +86,18 @@ served_over tables told before faults serving most status text start (Some b) af
         records = opened.records;
         loaded = opened.loaded;
         opening = opening ∙ ap (λ (x : Shown). x.opening) opened.shows;
-        served = lower end before faults after.faults s b.state under (subst (λ (x : State). serving most end faults after.faults x b.state) (ap (λ (x : Shown). x.state) opened.shows) serves);
+        served = lower end before faults after.faults s b.state under (subst (λ (x : State). serving port most end faults after.faults x b.state) (ap (λ (x : Shown). x.state) opened.shows) serves);
         kept = kept;
       },
     )
 
-pub door_over : {L : Type 0} (link : L → Option Line) (fails : L → L → Type 0) (old new : Option (Links L)) (moments : Option (List ℕ)) (door clock : Type 0) (tables : TableRows) (told : Option Rows)
-    (before faults most status : ℕ) (text : List ℕ) (start : Shown) (board : Option Shown) (after : Telling) → IsOpened told tables start → before ≤ faults
-    → IsServedFrom start faults (IsServing link fails old new moments door clock) most status text board after
-    → IsServedWith tables (telling told before) (IsServing link fails old new moments door clock) most status text board after
-door_over link fails old new moments door clock tables told before faults most status text start board after opened under is =
-    served_over tables told before faults (IsServing link fails old new moments door clock) most status text start board after
-    (λ end less high now s t lower serves. serving_from link fails old new moments door clock most end less high now s t lower serves) opened under is
+pub door_over : {L : Type 0} (link : L → Option Line) (fails : L → L → Type 0) (old new : Option (Links L)) (bound : Option ℕ) (moments : Option (List ℕ)) (door clock : Type 0) (tables : TableRows) (told : Option Rows)
+    (before faults port most status : ℕ) (text : List ℕ) (start : Shown) (board : Option Shown) (after : Telling) → IsOpened told tables start → before ≤ faults
+    → IsServedFrom start faults (IsServing link fails old new bound moments door clock) port most status text board after
+    → IsServedWith tables (telling told before) (IsServing link fails old new bound moments door clock) port most status text board after
+door_over link fails old new bound moments door clock tables told before faults port most status text start board after opened under is =
+    served_over tables told before faults (IsServing link fails old new bound moments door clock) port most status text start board after
+    (λ end less high now s t lower serves. serving_from link fails old new bound moments door clock port most end less high now s t lower serves) opened under is
 
 -- what two clauses of an answer lead to
 pub both_ok : {T E : Type 0} (P Q R : T → Type 0) (r : Result T E) → ((x : T) → P x → Q x → R x) → IfOk r P → IfOk r Q → IfOk r R

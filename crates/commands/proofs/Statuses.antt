@@ -12,7 +12,7 @@ use Rattle.words.specs.declared.task.Task.TheVariants.{Run, Weather, Serve}
 use Rattle.service.specs.declared.doors.ServeEnd.{ServeEnd}
 use Rattle.service.specs.declared.doors.ServeEnd.TheVariants as ends
 use Rattle.board.specs.Prepare.{Shown}
-use Rattle.commands.specs.Answers.{Telling, Left, Serving, OpeningSays, ScriptSays, ReportsSay, SourceSays, FaultSays, RunSays, EndSays, IsServedWith, ServeSays, ServingSays, TaskSays, Says, Ends, EndsWith}
+use Rattle.commands.specs.Answers.{Telling, Left, Serving, OpeningSays, ScriptSays, ReportsSay, SourceSays, FaultSays, RunSays, EndSays, IsServedWith, ServeSays, ServingSays, TaskSays, Says, EndsProgram, EndsWith}
 use Rattle.commands.specs.declared.saying.Answer.{Answer}
 
 at_number : (P : ℕ → Type 0) (n status : ℕ) → P n → status ≡ n → P status
@@ -57,21 +57,21 @@ end_by P zero nine eleven ends.DoorFault board status text says = at_number P 9 
 end_by P zero nine eleven ends.ClockFault board status text says = at_number P 11 status eleven says.0
 end_by P zero nine eleven ends.OutOfMemory board status text says = absurd says
 
-served_by : (P : ℕ → Type 0) → P 0 → P 9 → P 11 → (tables : TableRows) (before : Telling) (serving : Serving) (most status : ℕ) (text : List ℕ) (board : Option Shown) (after : Telling)
-    → IsServedWith tables before serving most status text board after → P status
-served_by P zero nine eleven tables before serving most status text None after is = absurd is
-served_by P zero nine eleven tables before serving most status text (Some board) after (end, says, over) = end_by P zero nine eleven end board status text says
+served_by : (P : ℕ → Type 0) → P 0 → P 9 → P 11 → (tables : TableRows) (before : Telling) (serving : Serving) (port most status : ℕ) (text : List ℕ) (board : Option Shown) (after : Telling)
+    → IsServedWith tables before serving port most status text board after → P status
+served_by P zero nine eleven tables before serving port most status text None after is = absurd is
+served_by P zero nine eleven tables before serving port most status text (Some board) after (end, says, over) = end_by P zero nine eleven end board status text says
 
-serve_by : (P : ℕ → Type 0) → P 0 → P 5 → P 7 → P 9 → P 11 → (tables : TableRows) (before : Telling) (serving : Serving) (idle : Type 0) (most status : ℕ) (text : List ℕ) (left : Left)
-    → ServeSays tables before serving idle most status text left → P status
-serve_by P zero five seven nine eleven tables before serving idle most status text left (inl is) = served_by P zero nine eleven tables before serving most status text left.board left.keeper is
-serve_by P zero five seven nine eleven tables before serving idle most status text left (inr says) = opening_by P five seven before status text left says.0
+serve_by : (P : ℕ → Type 0) → P 0 → P 5 → P 7 → P 9 → P 11 → (tables : TableRows) (before : Telling) (serving : Serving) (idle : Type 0) (port most status : ℕ) (text : List ℕ) (left : Left)
+    → ServeSays tables before serving idle port most status text left → P status
+serve_by P zero five seven nine eleven tables before serving idle port most status text left (inl is) = served_by P zero nine eleven tables before serving port most status text left.board left.keeper is
+serve_by P zero five seven nine eleven tables before serving idle port most status text left (inr says) = opening_by P five seven before status text left says.0
 
-serving_by : (P : ℕ → Type 0) → P 0 → P 3 → P 5 → P 6 → P 7 → P 9 → P 10 → P 11 → (told : Told) (rose : Type 0) (serving : Serving) (idle : Type 0) (before : Telling) (most status : ℕ) (text : List ℕ)
-    (left : Left) → ServingSays told rose serving idle before most status text left → P status
-serving_by P zero three five six seven nine ten eleven told rose serving idle before most status text left (Ok tables, read, says) =
-    serve_by P zero five seven nine eleven tables before serving idle most status text left says
-serving_by P zero three five six seven nine ten eleven told rose serving idle before most status text left (Err stop, read, says) =
+serving_by : (P : ℕ → Type 0) → P 0 → P 3 → P 5 → P 6 → P 7 → P 9 → P 10 → P 11 → (told : Told) (rose : Type 0) (serving : Serving) (idle : Type 0) (before : Telling) (port most status : ℕ) (text : List ℕ)
+    (left : Left) → ServingSays told rose serving idle before port most status text left → P status
+serving_by P zero three five six seven nine ten eleven told rose serving idle before port most status text left (Ok tables, read, says) =
+    serve_by P zero five seven nine eleven tables before serving idle port most status text left says
+serving_by P zero three five six seven nine ten eleven told rose serving idle before port most status text left (Err stop, read, says) =
     fault_by P three six ten rose before stop status text left says.0
 
 task_by : (P : ℕ → Type 0) → P 0 → P 3 → P 5 → P 6 → P 7 → P 9 → P 10 → P 11 → (told : Told) (rose : Type 0) (serving : Serving) (idle : Type 0) (before : Telling) (t : Task) (name : List ℕ)
@@ -80,7 +80,7 @@ task_by P zero three five six seven nine ten eleven told rose serving idle befor
     run_by P zero three five six seven ten told rose before name status text left says.0
 task_by P zero three five six seven nine ten eleven told rose serving idle before Weather name status text left says = weather_by P zero three ten told rose before name status text left says.0
 task_by P zero three five six seven nine ten eleven told rose serving idle before (Serve port connections) name status text left says =
-    serving_by P zero three five six seven nine ten eleven told rose serving idle before connections status text left says
+    serving_by P zero three five six seven nine ten eleven told rose serving idle before port connections status text left says
 
 says_by : (P : ℕ → Type 0) → P 0 → P 2 → P 3 → P 5 → P 6 → P 7 → P 9 → P 10 → P 11 → (told : Told) (rose : Type 0) (serving : Serving) (idle : Type 0) (before : Telling)
     (command : Option (Task × List ℕ)) (status : ℕ) (text : List ℕ) (left : Left) → Says told rose serving idle before command status text left → P status
@@ -134,7 +134,7 @@ not_four (Ok a) told rose serving idle before command left says = said_four told
 -- what is said is written, or it isn't
 pub ended : {E : Type 0} (answer : Result Answer E) (told : Told) (rose : Type 0) (serving : Serving) (idle : Type 0) (before : Telling) (command : Option (Task × List ℕ)) (unsound fails : Type 0)
     (old new : Option (List ℕ)) (status : ℕ) (left : Left) → IfOk answer (λ a. Says told rose serving idle before command a.status a.text.items left)
-    → MatchResult answer (λ a. EndsWith a.status a.text.items unsound fails old new status) (λ e. (status ≡ 8) × Keeps old new) → Ends (Says told rose serving idle before command) fails old new status left
+    → MatchResult answer (λ a. EndsWith a.status a.text.items unsound fails old new status) (λ e. (status ≡ 8) × Keeps old new) → EndsProgram (Says told rose serving idle before command) fails old new status left
 ended (Err e) told rose serving idle before command unsound fails old new status left says is = inr (inr is)
 ended (Ok a) told rose serving idle before command unsound fails old new status left says (inl is) =
     inl (a.text.items, subst (λ n. Says told rose serving idle before command n a.text.items left) (sym is.0) says, is.1)

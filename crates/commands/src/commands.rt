@@ -2,11 +2,11 @@ ghost use Rattle.std.specs.Prelude.{◌≡◌, ◌≢◌, ◌<◌, ◌≤◌, []
 ghost use Rattle.desk_io.specs.Causes.{RoseOrFull};
 ghost use Rattle.desk_io.specs.Told.{HoldsName};
 ghost use Rattle.commands.specs.Answers.{AreIdle, telling, left_with, Says, RunSays, SourceSays, ScriptSays, ReportsSay, TablesSay, WhySays, IsRunFrom, IsUntouched, WholeSays, sources_for, sources_of, links_of, EndSays, IsServedFrom, ServeSays, ServingSays};
-ghost use Rattle.commands.specs.Onward.{KeeperGoesOn, LeavesDesk};
+ghost use Rattle.commands.specs.Onward.{KeeperGoesOn, LeavesDesk, OutsideGoesOn};
 ghost use Rattle.commands.specs.Weather.{weather_text};
 ghost use Rattle.machine.specs.Texts.{closing};
-ghost use Rattle.service.specs.Doors.{HasLinks, IsServing};
-ghost use Rattle.service.specs.Onward.{ClockGoesOn, DeskGoesOn, HasFailed};
+ghost use Rattle.service.specs.Doors.{IsServing};
+ghost use Rattle.service.specs.Onward.{DeskGoesOn, HasFailed};
 ghost use Rattle.service.specs.declared.doors.ServeEnd.TheVariants as ends;
 ghost use Rattle.kept_forms.specs.Formed.{AreFormed, NamesHaveForms};
 ghost use Rattle.desk.specs.Keeping.{KeepsState};
@@ -268,13 +268,10 @@ fn serve_on<R: Wait, K: Keeper, C: Clock, D: Door, L: Ledger>(
     steps: &mut Steps<L>,
 ) -> Said<K>
     requires { KeepsState (K.told desk.keeper) desk.board.state }
-    ensures serves { IfOk result.answer (λ a. IsServedFrom desk.board (K.fault_count desk.keeper) (IsServing D.Link.told (HasFailed D.Link.fault_count D.Link.sound) (D.told door.old) (D.told door.new) (C.moments clock.old) (RoseOrFull (D.fault_count door.old) (D.fault_count door.new)) (RoseOrFull (C.fault_count clock.old) (C.fault_count clock.new))) connections a.status a.text.items result.board (telling (K.told result.keeper) (K.fault_count result.keeper))) }
+    ensures serves { IfOk result.answer (λ a. IsServedFrom desk.board (K.fault_count desk.keeper) (IsServing D.Link.told (HasFailed D.Link.fault_count D.Link.sound) (D.told door.old) (D.told door.new) (D.bound door.new) (C.moments clock.old) (RoseOrFull (D.fault_count door.old) (D.fault_count door.new)) (RoseOrFull (C.fault_count clock.old) (C.fault_count clock.new))) port connections a.status a.text.items result.board (telling (K.told result.keeper) (K.fault_count result.keeper))) }
     ensures never { IfOk result.answer (λ a. (a.status ≢ 5) × (a.status ≢ 7)) }
     ensures leaves { LeavesDesk K.told K.fault_count K.sound desk result }
-    ensures clock { ClockGoesOn C.moments C.fault_count C.sound clock.old clock.new }
-    ensures door { D.fault_count door.old ≤ D.fault_count door.new }
-    ensures steady_clock { C.sound clock.old → IfOk result.answer (λ a. a.status ≢ 11) }
-    ensures steady_door { D.sound door.old → HasLinks (D.told door.old) connections → IfOk result.answer (λ a. a.status ≢ 9) }
+    ensures outside { OutsideGoesOn C.moments C.fault_count C.sound D.told D.fault_count D.sound connections clock.old clock.new door.old door.new result.answer }
 {
     let end = serve_door(rt, alloc, &mut desk, door, clock, port, connections, steps);
     let Desk { board, keeper } = desk;
@@ -300,13 +297,10 @@ fn serve_with<R: Wait, K: Keeper, C: Clock, D: Door, L: Ledger>(
     requires name { blank.name ≡ L.name }
     requires parts { blank.parts ≡ L.parts }
     requires some { 0 < blank.parts }
-    ensures says { IfOk result.answer (λ a. ServeSays tables (telling (K.told keeper) (K.fault_count keeper)) (IsServing D.Link.told (HasFailed D.Link.fault_count D.Link.sound) (D.told door.old) (D.told door.new) (C.moments clock.old) (RoseOrFull (D.fault_count door.old) (D.fault_count door.new)) (RoseOrFull (C.fault_count clock.old) (C.fault_count clock.new))) (AreIdle clock.old clock.new door.old door.new) connections a.status a.text.items (left_with result.board (K.told result.keeper) (K.fault_count result.keeper))) }
+    ensures says { IfOk result.answer (λ a. ServeSays tables (telling (K.told keeper) (K.fault_count keeper)) (IsServing D.Link.told (HasFailed D.Link.fault_count D.Link.sound) (D.told door.old) (D.told door.new) (D.bound door.new) (C.moments clock.old) (RoseOrFull (D.fault_count door.old) (D.fault_count door.new)) (RoseOrFull (C.fault_count clock.old) (C.fault_count clock.new))) (AreIdle clock.old clock.new door.old door.new) port connections a.status a.text.items (left_with result.board (K.told result.keeper) (K.fault_count result.keeper))) }
     ensures keeper { KeeperGoesOn K.told K.fault_count K.sound keeper result }
     ensures formed { NamesHaveForms tables → IfSome result.board (λ b. AreFormed b.state) }
-    ensures clock { ClockGoesOn C.moments C.fault_count C.sound clock.old clock.new }
-    ensures door { D.fault_count door.old ≤ D.fault_count door.new }
-    ensures steady_clock { C.sound clock.old → IfOk result.answer (λ a. a.status ≢ 11) }
-    ensures steady_door { D.sound door.old → HasLinks (D.told door.old) connections → IfOk result.answer (λ a. a.status ≢ 9) }
+    ensures outside { OutsideGoesOn C.moments C.fault_count C.sound D.told D.fault_count D.sound connections clock.old clock.new door.old door.new result.answer }
 {
     let mut steps = Steps::<L>::new(blank);
     match open(alloc, tables, keeper, &mut steps) {
@@ -326,13 +320,10 @@ fn serve_over<R: Wait, K: Keeper, C: Clock, D: Door>(
     connections: u32,
     keeper: K,
 ) -> Said<K>
-    ensures says { IfOk result.answer (λ a. ServeSays tables (telling (K.told keeper) (K.fault_count keeper)) (IsServing D.Link.told (HasFailed D.Link.fault_count D.Link.sound) (D.told door.old) (D.told door.new) (C.moments clock.old) (RoseOrFull (D.fault_count door.old) (D.fault_count door.new)) (RoseOrFull (C.fault_count clock.old) (C.fault_count clock.new))) (AreIdle clock.old clock.new door.old door.new) connections a.status a.text.items (left_with result.board (K.told result.keeper) (K.fault_count result.keeper))) }
+    ensures says { IfOk result.answer (λ a. ServeSays tables (telling (K.told keeper) (K.fault_count keeper)) (IsServing D.Link.told (HasFailed D.Link.fault_count D.Link.sound) (D.told door.old) (D.told door.new) (D.bound door.new) (C.moments clock.old) (RoseOrFull (D.fault_count door.old) (D.fault_count door.new)) (RoseOrFull (C.fault_count clock.old) (C.fault_count clock.new))) (AreIdle clock.old clock.new door.old door.new) port connections a.status a.text.items (left_with result.board (K.told result.keeper) (K.fault_count result.keeper))) }
     ensures keeper { KeeperGoesOn K.told K.fault_count K.sound keeper result }
     ensures formed { NamesHaveForms tables → IfSome result.board (λ b. AreFormed b.state) }
-    ensures clock { ClockGoesOn C.moments C.fault_count C.sound clock.old clock.new }
-    ensures door { D.fault_count door.old ≤ D.fault_count door.new }
-    ensures steady_clock { C.sound clock.old → IfOk result.answer (λ a. a.status ≢ 11) }
-    ensures steady_door { D.sound door.old → HasLinks (D.told door.old) connections → IfOk result.answer (λ a. a.status ≢ 9) }
+    ensures outside { OutsideGoesOn C.moments C.fault_count C.sound D.told D.fault_count D.sound connections clock.old clock.new door.old door.new result.answer }
 {
     serve_with::<R, K, C, D, Brand>(
         rt,
@@ -358,13 +349,10 @@ fn answer_of_serve<R: Wait, S: Shelf, K: Keeper, C: Clock, D: Door>(
     keeper: K,
 ) -> Said<K>
     ensures sound { S.sound shelf.old → All (HoldsName (S.sources shelf.old)) (sources_for (task.Serve port connections) []) → IfOk result.answer (λ a. a.status ≢ 3) }
-    ensures says { IfOk result.answer (λ a. ServingSays (S.sources shelf.old) (RoseOrFull (S.fault_count shelf.old) (S.fault_count shelf.new)) (IsServing D.Link.told (HasFailed D.Link.fault_count D.Link.sound) (D.told door.old) (D.told door.new) (C.moments clock.old) (RoseOrFull (D.fault_count door.old) (D.fault_count door.new)) (RoseOrFull (C.fault_count clock.old) (C.fault_count clock.new))) (AreIdle clock.old clock.new door.old door.new) (telling (K.told keeper) (K.fault_count keeper)) connections a.status a.text.items (left_with result.board (K.told result.keeper) (K.fault_count result.keeper))) }
+    ensures says { IfOk result.answer (λ a. ServingSays (S.sources shelf.old) (RoseOrFull (S.fault_count shelf.old) (S.fault_count shelf.new)) (IsServing D.Link.told (HasFailed D.Link.fault_count D.Link.sound) (D.told door.old) (D.told door.new) (D.bound door.new) (C.moments clock.old) (RoseOrFull (D.fault_count door.old) (D.fault_count door.new)) (RoseOrFull (C.fault_count clock.old) (C.fault_count clock.new))) (AreIdle clock.old clock.new door.old door.new) (telling (K.told keeper) (K.fault_count keeper)) port connections a.status a.text.items (left_with result.board (K.told result.keeper) (K.fault_count result.keeper))) }
     ensures keeper { KeeperGoesOn K.told K.fault_count K.sound keeper result }
     ensures formed { IfSome result.board (λ b. AreFormed b.state) }
-    ensures clock { ClockGoesOn C.moments C.fault_count C.sound clock.old clock.new }
-    ensures door { D.fault_count door.old ≤ D.fault_count door.new }
-    ensures steady_clock { C.sound clock.old → IfOk result.answer (λ a. a.status ≢ 11) }
-    ensures steady_door { D.sound door.old → HasLinks (D.told door.old) connections → IfOk result.answer (λ a. a.status ≢ 9) }
+    ensures outside { OutsideGoesOn C.moments C.fault_count C.sound D.told D.fault_count D.sound connections clock.old clock.new door.old door.new result.answer }
 {
     match read_tables(alloc, shelf) {
         Ok(tables) => serve_over(rt, alloc, tables, clock, door, port, connections, keeper),
@@ -383,13 +371,10 @@ pub(crate) fn answer_to<R: Wait, S: Shelf, K: Keeper, C: Clock, D: Door>(
     keeper: K,
 ) -> Said<K>
     ensures sound { S.sound shelf.old → All (HoldsName (S.sources shelf.old)) (sources_of (command_of (map string_bytes words.now))) → IfOk result.answer (λ a. a.status ≢ 3) }
-    ensures says { IfOk result.answer (λ a. Says (S.sources shelf.old) (RoseOrFull (S.fault_count shelf.old) (S.fault_count shelf.new)) (IsServing D.Link.told (HasFailed D.Link.fault_count D.Link.sound) (D.told door.old) (D.told door.new) (C.moments clock.old) (RoseOrFull (D.fault_count door.old) (D.fault_count door.new)) (RoseOrFull (C.fault_count clock.old) (C.fault_count clock.new))) (AreIdle clock.old clock.new door.old door.new) (telling (K.told keeper) (K.fault_count keeper)) (command_of (map string_bytes words.now)) a.status a.text.items (left_with result.board (K.told result.keeper) (K.fault_count result.keeper))) }
+    ensures says { IfOk result.answer (λ a. Says (S.sources shelf.old) (RoseOrFull (S.fault_count shelf.old) (S.fault_count shelf.new)) (IsServing D.Link.told (HasFailed D.Link.fault_count D.Link.sound) (D.told door.old) (D.told door.new) (D.bound door.new) (C.moments clock.old) (RoseOrFull (D.fault_count door.old) (D.fault_count door.new)) (RoseOrFull (C.fault_count clock.old) (C.fault_count clock.new))) (AreIdle clock.old clock.new door.old door.new) (telling (K.told keeper) (K.fault_count keeper)) (command_of (map string_bytes words.now)) a.status a.text.items (left_with result.board (K.told result.keeper) (K.fault_count result.keeper))) }
     ensures keeper { KeeperGoesOn K.told K.fault_count K.sound keeper result }
     ensures formed { IfSome result.board (λ b. AreFormed b.state) }
-    ensures clock { ClockGoesOn C.moments C.fault_count C.sound clock.old clock.new }
-    ensures door { D.fault_count door.old ≤ D.fault_count door.new }
-    ensures steady_clock { C.sound clock.old → IfOk result.answer (λ a. a.status ≢ 11) }
-    ensures steady_door { D.sound door.old → HasLinks (D.told door.old) (links_of (command_of (map string_bytes words.now))) → IfOk result.answer (λ a. a.status ≢ 9) }
+    ensures outside { OutsideGoesOn C.moments C.fault_count C.sound D.told D.fault_count D.sound (links_of (command_of (map string_bytes words.now))) clock.old clock.new door.old door.new result.answer }
 {
     match command(alloc, words) {
         Err(OutOfMemory) => untouched(Err(OutOfMemory), keeper),

@@ -86,14 +86,22 @@ fn bad_table_line(alloc: Global, bad: &BadTable) -> Result<Vec<u8>, OutOfMemory>
     Ok(line)
 }
 
+// An answer of one line that names nothing.
+fn plain(alloc: Global, status: u8, line: &[u8]) -> Result<Answer, OutOfMemory>
+    ensures status { IfOk result (λ a. a.status ≡ status) }
+    ensures text { IfOk result (λ a. a.text.items ≡ line.now) }
+{
+    let text = Vec::from_slice(alloc, line)?;
+    Ok(Answer { status, text })
+}
+
 impl Answer {
     /// The words form no command.
     pub fn usage(alloc: Global) -> Result<Answer, OutOfMemory>
         ensures status { IfOk result (λ a. a.status ≡ 2) }
         ensures text { IfOk result (λ a. a.text.items ≡ lines.usage) }
     {
-        let text = Vec::from_slice(alloc, b"error 2 Usage\n")?;
-        Ok(Answer { status: 2, text })
+        plain(alloc, 2, b"error 2 Usage\n")
     }
 
     /// The source of that name can't be read.
@@ -110,8 +118,7 @@ impl Answer {
         ensures status { IfOk result (λ a. a.status ≡ 5) }
         ensures text { IfOk result (λ a. a.text.items ≡ lines.keeper_fault) }
     {
-        let text = Vec::from_slice(alloc, b"error 5 KeeperFault\n")?;
-        Ok(Answer { status: 5, text })
+        plain(alloc, 5, b"error 5 KeeperFault\n")
     }
 
     /// The door failed.
@@ -119,8 +126,7 @@ impl Answer {
         ensures status { IfOk result (λ a. a.status ≡ 9) }
         ensures text { IfOk result (λ a. a.text.items ≡ lines.door_fault) }
     {
-        let text = Vec::from_slice(alloc, b"error 9 DoorFault\n")?;
-        Ok(Answer { status: 9, text })
+        plain(alloc, 9, b"error 9 DoorFault\n")
     }
 
     /// The clock failed.
@@ -128,8 +134,7 @@ impl Answer {
         ensures status { IfOk result (λ a. a.status ≡ 11) }
         ensures text { IfOk result (λ a. a.text.items ≡ lines.clock_fault) }
     {
-        let text = Vec::from_slice(alloc, b"error 11 ClockFault\n")?;
-        Ok(Answer { status: 11, text })
+        plain(alloc, 11, b"error 11 ClockFault\n")
     }
 
     /// A row isn't one of a desk.

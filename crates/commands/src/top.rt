@@ -9,7 +9,7 @@ ghost use Rattle.desk.specs.Opening.{IsLeft, TellsRowsOf};
 ghost use Rattle.service.specs.Doors.{HasLinks, IsServing};
 ghost use Rattle.service.specs.Onward.{ClockGoesOn, HasFailed};
 ghost use Rattle.words.specs.Words.{command_of};
-ghost use Rattle.commands.specs.Answers.{AreIdle, AreKeptOver, Blames, telling, left_with, Says, Ends, EndsWith, links_of, sources_of};
+ghost use Rattle.commands.specs.Answers.{AreIdle, AreKeptOver, Blames, telling, left_with, Says, EndsProgram, EndsWith, links_of, sources_of};
 
 use crate::commands::{Said, answer_to};
 use crate::saying::Answer;
@@ -84,8 +84,8 @@ pub fn desk_main<R: Wait, S: Shelf, O: Sink, C: Clock + Drop, K: Keeper, D: Door
         → Contains (0 ∷ 2 ∷ 6 ∷ 7 ∷ 8 ∷ 10 ∷ []) result.status }
     ensures blames { Blames (S.sound shelf.old × All (HoldsName (S.sources shelf.old)) (sources_of (command_of (map string_bytes words.now)))) (O.sound out.old) (K.sound keeper)
         (D.sound door.old × HasLinks (D.told door.old) (links_of (command_of (map string_bytes words.now)))) (C.sound clock) result.status }
-    ensures ends { Ends (Says (S.sources shelf.old) (RoseOrFull (S.fault_count shelf.old) (S.fault_count shelf.new))
-        (IsServing D.Link.told (HasFailed D.Link.fault_count D.Link.sound) (D.told door.old) (D.told door.new) (C.moments clock) (RoseOrFull (D.fault_count door.old) (D.fault_count door.new)) (RoseOrFull (C.fault_count clock) (C.fault_count result.clock)))
+    ensures ends { EndsProgram (Says (S.sources shelf.old) (RoseOrFull (S.fault_count shelf.old) (S.fault_count shelf.new))
+        (IsServing D.Link.told (HasFailed D.Link.fault_count D.Link.sound) (D.told door.old) (D.told door.new) (D.bound door.new) (C.moments clock) (RoseOrFull (D.fault_count door.old) (D.fault_count door.new)) (RoseOrFull (C.fault_count clock) (C.fault_count result.clock)))
         (AreIdle clock result.clock door.old door.new) (telling (K.told keeper) (K.fault_count keeper)) (command_of (map string_bytes words.now)))
         (RoseOrFull (O.fault_count out.old) (O.fault_count out.new)) (O.content out.old) (O.content out.new) result.status (left_with result.board (K.told result.keeper) (K.fault_count result.keeper)) }
     // Whatever the status: the clock tells the same moments, and neither its count nor the door's falls. A sound clock stays sound,

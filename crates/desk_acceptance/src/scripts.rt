@@ -9,39 +9,21 @@ use crate::texts::{
     ADMITTED, ADMITTED_SAID, AFTERNOON, AFTERNOON_SAID, DEFERRED, DEFERRED_SAID, DUE, DUE_SAID,
     FAULTY, FAULTY_SAID, FUEL, FUEL_SAID, PEOPLE, PEOPLE_SAID, WEATHER, WEATHER_SAID,
 };
-use commands::desk_main;
 use desk_io::{MemoryShelf, MemorySink, OutOfMemory, Text, push_all};
-use desk_net::{MemoryClock, MemoryDoor};
+use desk_net::MemoryDoor;
 use desk_time::FIRST;
 use keeper::MemoryKeeper;
+use memory_desk::{clock_at, ended, words_of};
 use small_airline::{push_small, shelf_of};
 use std::alloc::Global;
 use std::sync::Wait;
 use std::test::Fail;
-
-// The words of a command, between blanks.
-fn words(alloc: Global, command: &str) -> Result<Vec<String>, OutOfMemory> {
-    let mut words = Vec::new(alloc);
-    for word in command.split(" ") {
-        if !word.is_empty() {
-            words.push(String::from_str(alloc, word)?)?;
-        }
-    }
-    Ok(words)
-}
 
 fn shelf(alloc: Global, script: &[u8]) -> Result<MemoryShelf, OutOfMemory> {
     let mut sources = Vec::new(alloc);
     sources.push((Text::of(alloc, b"script")?, Text::of(alloc, script)?))?;
     push_small(alloc, &mut sources)?;
     Ok(MemoryShelf::new(sources, Vec::new(alloc)))
-}
-
-// A clock that stands still.
-fn clock(alloc: Global) -> Result<MemoryClock, OutOfMemory> {
-    let mut moments = Vec::new(alloc);
-    moments.push(FIRST)?;
-    Ok(MemoryClock::new(moments, Vec::new(alloc)))
 }
 
 // The status of a command of an office that keeps nothing yet, and to which nobody connects.
@@ -52,11 +34,10 @@ fn status_of<R: Wait>(
     shelf: &mut MemoryShelf,
     sink: &mut MemorySink,
 ) -> Result<u8, OutOfMemory> {
-    let clock = clock(alloc)?;
+    let clock = clock_at(alloc, FIRST, &[])?;
     let keeper = MemoryKeeper::new(Vec::new(alloc), Vec::new(alloc));
     let mut door = MemoryDoor::new(alloc, Vec::new(alloc), Vec::new(alloc));
-    let ending = desk_main(rt, alloc, words, shelf, sink, clock, keeper, &mut door);
-    Ok(ending.status)
+    Ok(ended(rt, alloc, words, shelf, sink, clock, keeper, &mut door).status)
 }
 
 // Whether this is the status and the text of a command over the tables of the small airline and one source, `script`.
@@ -68,7 +49,7 @@ fn is_said<R: Wait>(
     status: u8,
     text: &[u8],
 ) -> Result<bool, OutOfMemory> {
-    let words = words(alloc, command)?;
+    let words = words_of(alloc, command)?;
     let mut shelf = shelf(alloc, script)?;
     let mut sink = MemorySink::new(alloc, Vec::new(alloc));
     let ended = status_of(rt, alloc, &words, &mut shelf, &mut sink)?;
@@ -77,7 +58,7 @@ fn is_said<R: Wait>(
 
 /// What a run of a script says, over the tables of the small airline.
 pub fn said_to<R: Wait>(rt: &R, alloc: Global, script: &[u8]) -> Result<Vec<u8>, OutOfMemory> {
-    let words = words(alloc, "run script")?;
+    let words = words_of(alloc, "run script")?;
     let mut shelf = shelf(alloc, script)?;
     let mut sink = MemorySink::new(alloc, Vec::new(alloc));
     let _ = status_of(rt, alloc, &words, &mut shelf, &mut sink)?;
@@ -153,7 +134,7 @@ fn is_said_with<R: Wait>(
     status: u8,
     text: &[u8],
 ) -> Result<bool, OutOfMemory> {
-    let words = words(alloc, "run nowhere")?;
+    let words = words_of(alloc, "run nowhere")?;
     let mut shelf = shelf_of(alloc, table, records)?;
     let mut sink = MemorySink::new(alloc, Vec::new(alloc));
     let ended = status_of(rt, alloc, &words, &mut shelf, &mut sink)?;
@@ -206,7 +187,7 @@ fn is_said_at_faults<R: Wait>(
     status: u8,
     text: &[u8],
 ) -> Result<bool, OutOfMemory> {
-    let words = words(alloc, "run script")?;
+    let words = words_of(alloc, "run script")?;
     let mut sources = Vec::new(alloc);
     sources.push((Text::of(alloc, b"script")?, Text::of(alloc, b"")?))?;
     push_small(alloc, &mut sources)?;

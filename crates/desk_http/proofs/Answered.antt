@@ -11,7 +11,7 @@ use Rattle.httparse.proofs.GrammarLemmas.{request_unique, ReadsRequest-append}
 use Rattle.httparse.proofs.OnLiterals.{httparse_on_literals}
 use Rattle.desk_net.specs.Streams.{Stream, unread, OnlyRead}
 use Rattle.desk_http.specs.Heads.{head_limit, asks}
-use Rattle.desk_http.specs.Requests.{HasHead, wire_of, Begins, BeginsWithRequest, IsRefused, IsPart, IsPartOfHead, IsPartOfBody, IsTooLong, HasRead, NextRequest, IsOutside, unused, Gives, IsOneOf, Answers, AnswersUnused}
+use Rattle.desk_http.specs.Requests.{HasHead, wire_of, Begins, BeginsWithRequest, IsRefused, IsPart, IsPartOfHead, IsPartOfBody, IsTooLong, HasRead, NextRequest, IsOutside, unused, GivesRequest, IsOneOf, AnswersBytes, AnswersUnused}
 use Rattle.desk_http.specs.declared.wire.Asked.{Asked}
 use Rattle.desk_http.specs.declared.wire.Wire.{Wire}
 use Rattle.desk_http.specs.declared.wire.WireFault.{WireFault}
@@ -59,7 +59,7 @@ abbrev Headed : Result Asked WireFault → List ℕ → List ℕ → Result Wire
 Headed asked rest others (Ok wire) = (a : Asked) × (asked ≡ Ok a) × (rest ≡ wire.body ++ others) × (length wire.body ≡ a.length) × (wire ≡ wire_of a wire.body)
 Headed asked rest others (Err fault) = IsOutside fault ⊎ ((asked ≡ Err fault) ⊎ ((fault ≡ Cut) × ((a : Asked) × (asked ≡ Ok a) × (length rest < a.length))))
 
-headed : (s : List ℕ) (h : RequestHead) (r others : List ℕ) (result : Result Wire WireFault) → HasHead s h r → Gives s others result → Headed (asks h) r others result
+headed : (s : List ℕ) (h : RequestHead) (r others : List ℕ) (result : Result Wire WireFault) → HasHead s h r → GivesRequest s others result → Headed (asks h) r others result
 headed s h r others (Ok wire) has gives =
     let same = begins_same s gives.asked h r (wire.body ++ others) gives.begins has in
     (gives.asked, same.0, sym same.1, gives.whole, gives.wire_is)
@@ -115,7 +115,7 @@ request_answer r wire rest others a (Err fault) asked whole is (inr (inl refuses
 request_answer r wire rest others a (Err fault) asked whole is (inr (inr (cut, (b, asked_too, few)))) =
     absurd (not_short r wire.body rest a b asked whole asked_too few)
 
-request : (s others : List ℕ) (result : Result Wire WireFault) → Gives s others result → (wire : Wire) (rest : List ℕ) → BeginsWithRequest s wire rest
+request : (s others : List ℕ) (result : Result Wire WireFault) → GivesRequest s others result → (wire : Wire) (rest : List ℕ) → BeginsWithRequest s wire rest
     → IsOneOf (λ w. (w ≡ wire) × (others ≡ rest)) (λ _. ⊥) result
 request s others result gives wire rest is =
     let h = is.begins.0 in
@@ -133,7 +133,7 @@ refusal_answer r fault rest others (Err f) refuses (inl outside) = inl outside
 refusal_answer r fault rest others (Err f) refuses (inr (inl too)) = inr (refused_once r f fault too refuses)
 refusal_answer r fault rest others (Err f) refuses (inr (inr (cut, (b, asked, few)))) = absurd (not_both r b fault asked refuses)
 
-refused : (s others : List ℕ) (result : Result Wire WireFault) → Gives s others result → (fault : WireFault) → IsRefused s fault → IsOneOf (λ _. ⊥) (λ f. f ≡ fault) result
+refused : (s others : List ℕ) (result : Result Wire WireFault) → GivesRequest s others result → (fault : WireFault) → IsRefused s fault → IsOneOf (λ _. ⊥) (λ f. f ≡ fault) result
 refused s others result gives fault (h, rest, has, is) = refusal_answer (asks h) fault rest others result is (headed s h rest others result has gives)
 
 too_few : (body others rest : List ℕ) (a b : Asked) (r : Result Asked WireFault) → r ≡ Ok a → length rest < a.length → r ≡ Ok b → rest ≡ body ++ others → length body ≡ b.length → ⊥
@@ -149,7 +149,7 @@ body_answer r a rest others (Err f) asked few (inl outside) = inl outside
 body_answer r a rest others (Err f) asked few (inr (inl refuses)) = absurd (not_both r a f asked refuses)
 body_answer r a rest others (Err f) asked few (inr (inr (cut, others_too))) = inr cut
 
-in_body : (s others : List ℕ) (result : Result Wire WireFault) → Gives s others result → IsPartOfBody s → IsOneOf (λ _. ⊥) (λ f. f ≡ Cut) result
+in_body : (s others : List ℕ) (result : Result Wire WireFault) → GivesRequest s others result → IsPartOfBody s → IsOneOf (λ _. ⊥) (λ f. f ≡ Cut) result
 in_body s others result gives (a, body, (h, has, is), few) = body_answer (asks h) a body others result is few (headed s h body others result has gives)
 
 -- Bytes that begin with none.
@@ -192,7 +192,7 @@ refused_some s fault (h, rest, has, is) none = has_some s h rest has none
 long_some : (s : List ℕ) → IsTooLong s → s ≡ [] → ⊥
 long_some s (long, without) none = let empty = ap length none in omega (arith, long, empty)
 
-empty : (s others : List ℕ) (result : Result Wire WireFault) → Gives s others result → s ≡ [] → IsOneOf (λ _. ⊥) (λ f. f ≡ End) result
+empty : (s others : List ℕ) (result : Result Wire WireFault) → GivesRequest s others result → s ≡ [] → IsOneOf (λ _. ⊥) (λ f. f ≡ End) result
 empty s others (Ok wire) gives none = begins_some s gives.asked (wire.body ++ others) gives.begins none
 empty s others (Err End) gives none = inr refl
 empty s others (Err Cut) (inl part) none = absurd (part.0 none)
@@ -211,7 +211,7 @@ begins_head s a rest (h, has, is) none = none h rest has.reads
 refused_head : (s : List ℕ) (fault : WireFault) → IsRefused s fault → HasNoRequest s → ⊥
 refused_head s fault (h, rest, has, is) none = none h rest has.reads
 
-in_head : (s others : List ℕ) (result : Result Wire WireFault) → Gives s others result → IsPartOfHead s → IsOneOf (λ _. ⊥) (λ f. (f ≡ Cut) ⊎ (f ≡ BadHead)) result
+in_head : (s others : List ℕ) (result : Result Wire WireFault) → GivesRequest s others result → IsPartOfHead s → IsOneOf (λ _. ⊥) (λ f. (f ≡ Cut) ⊎ (f ≡ BadHead)) result
 in_head s others (Ok wire) gives (some, without, short) = begins_head s gives.asked (wire.body ++ others) gives.begins without
 in_head s others (Err End) gives (some, without, short) = absurd (some gives)
 in_head s others (Err Cut) gives part = inr (inl refl)
@@ -229,7 +229,7 @@ begins_long s a rest (h, has, is) long = has_long s h rest has long
 refused_long : (s : List ℕ) (fault : WireFault) → IsRefused s fault → IsTooLong s → ⊥
 refused_long s fault (h, rest, has, is) long = has_long s h rest has long
 
-too_long : (s others : List ℕ) (result : Result Wire WireFault) → Gives s others result → IsTooLong s → IsOneOf (λ _. ⊥) (λ f. (f ≡ TooLarge) ⊎ (f ≡ BadHead)) result
+too_long : (s others : List ℕ) (result : Result Wire WireFault) → GivesRequest s others result → IsTooLong s → IsOneOf (λ _. ⊥) (λ f. (f ≡ TooLarge) ⊎ (f ≡ BadHead)) result
 too_long s others (Ok wire) gives long = begins_long s gives.asked (wire.body ++ others) gives.begins long
 too_long s others (Err End) gives long = absurd (long_some s long gives)
 too_long s others (Err Cut) (inl (some, without, short)) long = absurd (omega (arith, long.0, short))
@@ -241,7 +241,7 @@ too_long s others (Err WrongMethod) gives long = absurd (refused_long s WrongMet
 too_long s others (Err ReadFault) gives long = inl tt
 too_long s others (Err OutOfMemory) gives long = inl tt
 
-answer : (s others : List ℕ) (result : Result Wire WireFault) → Gives s others result → Answers s others result
+answer : (s others : List ℕ) (result : Result Wire WireFault) → GivesRequest s others result → AnswersBytes s others result
 answer s others result gives = record {
   gives = gives;
   request = request s others result gives;
@@ -285,7 +285,7 @@ all_bytes kept u left v (read, grown, splits) = ap (λ x. kept ++ x) splits ∙ 
 none_left : (left v : List ℕ) → v ≡ [] → left ≡ left ++ v
 none_left left v none = sym (append-nil left) ∙ ap (λ x. left ++ x) (sym none)
 
-gives_all : (u v kept left : List ℕ) (result : Result Wire WireFault) → NextRequest (Some u) (Some v) kept left result → Gives (kept ++ u) (left ++ v) result
+gives_all : (u v kept left : List ℕ) (result : Result Wire WireFault) → NextRequest (Some u) (Some v) kept left result → GivesRequest (kept ++ u) (left ++ v) result
 gives_all u v kept left (Ok wire) (bytes, read, begins) =
     subst (λ x. BeginsWithRequest x wire (left ++ v)) (sym (all_bytes kept u bytes v read)) (request_more bytes v wire left begins)
 gives_all u v kept left (Err End) (read, (none, at_end)) = all_bytes kept u left v read ∙ sym (none_left left v at_end) ∙ none

@@ -119,8 +119,8 @@ unused kept None = None
 unused kept (Some unread) = Some (kept ++ unread)
 
 -- Bytes are the first request and then others, or there is none.
-abbrev pub Gives : List ℕ → List ℕ → Result Wire WireFault → Type 0
-Gives bytes others result = MatchResult result (λ wire. BeginsWithRequest bytes wire others) (GivesNone bytes)
+abbrev pub GivesRequest : List ℕ → List ℕ → Result Wire WireFault → Type 0
+GivesRequest bytes others result = MatchResult result (λ wire. BeginsWithRequest bytes wire others) (GivesNone bytes)
 
 -- the answer is this request or a fault of these, unless the link failed or memory ran out
 abbrev pub IsOneOf : (Wire → Type 0) → (WireFault → Type 0) → Result Wire WireFault → Type 0
@@ -128,8 +128,8 @@ IsOneOf request faults result = MatchResult result request (λ fault. IsOutside 
 
 -- The answer to bytes, which leaves others. Each kind of bytes has one answer, but that bytes which will
 -- never make a head may be refused as soon as this is seen.
-pub record Answers (bytes others : List ℕ) (result : Result Wire WireFault) : Type 0 where
-  pub gives : Gives bytes others result
+pub record AnswersBytes (bytes others : List ℕ) (result : Result Wire WireFault) : Type 0 where
+  pub gives : GivesRequest bytes others result
   pub request : (wire : Wire) (rest : List ℕ) → BeginsWithRequest bytes wire rest → IsOneOf (λ w. (w ≡ wire) × (others ≡ rest)) (λ _. ⊥) result
   pub refused : (fault : WireFault) → IsRefused bytes fault → IsOneOf (λ _. ⊥) (λ f. f ≡ fault) result
   pub empty : bytes ≡ [] → IsOneOf (λ _. ⊥) (λ f. f ≡ End) result
@@ -140,7 +140,7 @@ pub record Answers (bytes others : List ℕ) (result : Result Wire WireFault) : 
 -- what the unused bytes are answered, and which are left, where the link tells
 abbrev pub AnswersUnused : Option (List ℕ) → Option (List ℕ) → Result Wire WireFault → Type 0
 AnswersUnused None None result = Unit {0}
-AnswersUnused (Some bytes) (Some others) result = Answers bytes others result
+AnswersUnused (Some bytes) (Some others) result = AnswersBytes bytes others result
 AnswersUnused _ _ result = ⊥
 
 -- so many bytes are kept, or the end has come

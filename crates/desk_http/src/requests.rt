@@ -125,11 +125,11 @@ fn request_in<N: Link>(
 /// that come in (RFC 9112, sections 2 to 6). What comes after it stays unused. In which pieces the bytes come
 /// plays no part.
 ///
-/// `End` comes where there are no unused bytes, and `Cut` where they end within a request. `BadHead` comes where
-/// they make no head whatever follows, as soon as this is seen. `TooLarge` comes where the first `HEAD_LIMIT` bytes
-/// hold no whole head. On a whole head, `WrongMethod`, `NoLength` and then `TooLarge`, where a body of more than
-/// `BODY_LIMIT` bytes is stated, come before anything of the body is read. `ReadFault` comes only where the link's
-/// count of faults rose. Nothing is written. After a fault the buffer isn't used again.
+/// `End` comes where there are no unused bytes, and `Cut` where they end within a request. `TooLarge` comes where the
+/// first `HEAD_LIMIT` bytes hold no whole head. `BadHead` comes where they make no head whatever follows, and may come
+/// in place of these two where that holds as well. On a whole head, `WrongMethod`, `NoLength` and then `TooLarge`, where
+/// a body of more than `BODY_LIMIT` bytes is stated, come before anything of the body is read. `ReadFault` comes only
+/// where the link's count of faults rose. Nothing is written. After a fault the buffer isn't used again.
 pub fn next_request<N: Link>(
     alloc: Global,
     link: &mut N,

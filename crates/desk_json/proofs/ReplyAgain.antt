@@ -38,7 +38,7 @@ use Rattle.release_json.proofs.FindingLaws.{finding_again, finding_utf8}
 use Rattle.release_json.proofs.PhaseLaws.{phase_again}
 use Rattle.release_json.proofs.ReleaseLaws.{phase_utf8}
 use Rattle.desk_json.specs.Replies.{why_name, plan_why_name, finding_data, with_fields, refusal_members, refusal_data, reply_data, reply_text}
-use Rattle.desk_json.specs.ReadReplies.{why_of, plan_why_of, finding_in, reply_of, if_text, reply_in, IsWide, RefusalHasForms, ReplyHasForms, AnswersReply, IsReplyOf, Gives, IsReplyAgain}
+use Rattle.desk_json.specs.ReadReplies.{why_of, plan_why_of, finding_in, reply_of, if_text, reply_in, IsWide, RefusalHasForms, ReplyHasForms, AnswersReply, IsReplyOf, GivesReply, IsReplyAgain}
 use Rattle.desk_json.specs.declared.bad_call.CallFault.{CallFault}
 use Rattle.desk_json.specs.declared.bad_call.CallFault.TheVariants as fault
 
@@ -291,7 +291,7 @@ text_back text =
 
 -- ---- answers
 
-gives : (o : Option Reply) (read : Result Reply CallFault) (r : Reply) → AnswersReply o read → o ≡ Some r → Gives r read
+gives : (o : Option Reply) (read : Result Reply CallFault) (r : Reply) → AnswersReply o read → o ≡ Some r → GivesReply r read
 gives o (Ok x) r is same = cc (is, same)
 gives o (Err (fault.Bad b)) r is same = absurd (cc (is.0, same))
 gives o (Err fault.OutOfMemory) r is same = tt

@@ -1,5 +1,5 @@
 -- The calls and the lines that texts are, each to its first fault.
-use Rattle.std.specs.Prelude.{◌≡◌, ℕ, Bool, true, false, if◌then◌else◌, is_some, List, [], Option, None, Some, codes, option_and_then, Result, Ok, Err}
+use Rattle.std.specs.Prelude.{◌≡◌, ◌⊎◌, ℕ, Bool, true, false, if◌then◌else◌, is_some, List, [], Option, None, Some, codes, option_and_then, Result, Ok, Err}
 use Rattle.std.specs.Ordering.{nat_cmp, is_gt}
 use Rattle.std.specs.Cmp.Lexicographic.{slice_cmp}
 use Rattle.std.specs.Str.{bytes_eq}
@@ -228,3 +228,25 @@ IsExtraTold k (Err fault.OutOfMemory) = Unit {0}
 -- A reader tells, of the keys of an object that aren't expected, the least, but for want of memory.
 abbrev pub TellsExtra : {A : Type 0} → (List ℕ → Bool) → List ℕ → Result A CallFault → Type 0
 TellsExtra expected text r = (d : Data) (k : List ℕ) → data_of text ≡ Some d → is_some (get k d) ≡ true → expected k ≡ false → IsExtraTold k r
+
+-- that is the key, and nothing that fits it is read at it
+abbrev pub Lacks : {A : Type 0} → (List ℕ → Data → Option A) → List ℕ → Data → List ℕ → Type 0
+Lacks read key d k = (k ≡ key) × (read key d ≡ None)
+
+-- a key of a call that is missing, or has a value that doesn't fit
+abbrev pub CallLacks : Data → List ℕ → Type 0
+CallLacks d k = Lacks short_at (codes "actor") d k ⊎ (Lacks short_at (codes "key") d k ⊎ (Lacks request_at (codes "number") d k ⊎ Lacks object_at (codes "ask") d k))
+
+-- a key of a line
+abbrev pub LineLacks : Data → List ℕ → Type 0
+LineLacks d k = Lacks moment_at (codes "at") d k ⊎ CallLacks d k
+
+-- What is told where a key lacks: a key more, or a key that lacks, and that isn't after this one in byte order.
+abbrev pub IsLackTold : {A : Type 0} → (List ℕ → Type 0) → List ℕ → Result A CallFault → Type 0
+IsLackTold lacks k (Ok x) = ⊥
+IsLackTold lacks k (Err (fault.Bad b)) = (b.why ≡ Extra) ⊎ (lacks b.key × (is_gt (slice_cmp nat_cmp b.key k) ≡ false))
+IsLackTold lacks k (Err fault.OutOfMemory) = Unit {0}
+
+-- A reader tells, of the keys of an object that lack, the least, unless the object has a key more, but for want of memory.
+abbrev pub TellsLack : {A : Type 0} → (Data → List ℕ → Type 0) → List ℕ → Result A CallFault → Type 0
+TellsLack lacks text r = (d : Data) (k : List ℕ) → data_of text ≡ Some d → is_some (as_object d) ≡ true → lacks d k → IsLackTold (lacks d) k r

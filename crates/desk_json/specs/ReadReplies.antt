@@ -216,11 +216,11 @@ pub record IsReplyOf (text : List ℕ) (reply : Reply) : Type 0 where
   pub same : reply_text reply ≡ text
 
 -- A reader answers that reply, but for want of memory.
-abbrev pub Gives : Reply → Result Reply CallFault → Type 0
-Gives reply (Ok read) = read ≡ reply
-Gives reply (Err (fault.Bad b)) = ⊥
-Gives reply (Err fault.OutOfMemory) = Unit {0}
+abbrev pub GivesReply : Reply → Result Reply CallFault → Type 0
+GivesReply reply (Ok read) = read ≡ reply
+GivesReply reply (Err (fault.Bad b)) = ⊥
+GivesReply reply (Err fault.OutOfMemory) = Unit {0}
 
 -- Each reply of good form is read of its text.
 abbrev pub IsReplyAgain : List ℕ → Result Reply CallFault → Type 0
-IsReplyAgain text read = (reply : Reply) → IsReplyOf text reply → Gives reply read
+IsReplyAgain text read = (reply : Reply) → IsReplyOf text reply → GivesReply reply read

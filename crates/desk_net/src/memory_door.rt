@@ -1,4 +1,4 @@
-ghost use Rattle.std.specs.Prelude.{◌≡◌, ◌<◌, not, [], Some, IsOk, is_ok};
+ghost use Rattle.std.specs.Prelude.{◌≡◌, ◌<◌, not, [], None, Some, OnOk, OnErr, IsOk, is_ok};
 ghost use Rattle.desk_io.specs.Causes.{HasCause};
 ghost use Rattle.desk_io.specs.Planned.{is_planned, after};
 ghost use Rattle.desk_net.specs.Doors.{links, Accepts, TakesBack, HasNext, accepts};
@@ -15,6 +15,7 @@ use std::collections::VecDeque;
 pub struct MemoryDoor {
     coming: VecDeque<MemoryLink>,
     ended: Vec<MemoryLink>,
+    port: Option<u16>,
     calls: Calls,
 }
 
@@ -23,6 +24,7 @@ impl MemoryDoor {
     pub fn new(alloc: Global, links: Vec<MemoryLink>, fail: Vec<u64>) -> Self
         ensures coming { result.coming.items ≡ links.items }
         ensures ended { result.ended.items ≡ [] }
+        ensures port { result.port ≡ None }
         ensures fail { result.calls.fail.items ≡ fail.items }
         ensures calls { result.calls.made ≡ 0 }
         ensures faults { result.calls.faults ≡ 0 }
@@ -30,8 +32,16 @@ impl MemoryDoor {
         MemoryDoor {
             coming: VecDeque::from(links),
             ended: Vec::new(alloc),
+            port: None,
             calls: Calls::new(fail),
         }
+    }
+
+    /// The port at which it was opened last.
+    pub fn port(&self) -> Option<u16>
+        ensures { result ≡ self.now.port }
+    {
+        self.port
     }
 
     /// The links that were given back, in order.
@@ -47,12 +57,16 @@ impl Door for MemoryDoor {
 
     ghost told = { λ d. Some (links d.coming.items d.ended.items) };
 
+    ghost bound = { λ d. d.port };
+
     ghost fault_count = { λ d. d.calls.faults };
 
     ghost sound = { λ d. d.calls.fail.items ≡ [] };
 
-    fn bind(&mut self, _port: u16) -> Result<(), Failed>
+    fn bind(&mut self, port: u16) -> Result<(), Failed>
         ensures same { Some (links self.new.coming.items self.new.ended.items) ≡ Some (links self.old.coming.items self.old.ended.items) }
+        ensures opened { OnOk result (self.new.port ≡ Some port) }
+        ensures unopened { OnErr result (self.new.port ≡ self.old.port) }
         ensures cause { HasCause (record {}) self.old.calls.faults self.new.calls.faults result }
         ensures sound { self.old.calls.fail.items ≡ [] → (self.new.calls.fail.items ≡ []) × IsOk result × (self.new.calls.faults ≡ self.old.calls.faults) }
         // It fails exactly where its number is planned.
@@ -63,11 +77,13 @@ impl Door for MemoryDoor {
         if self.calls.next_fails() {
             return Err(Failed);
         }
+        self.port = Some(port);
         Ok(())
     }
 
     fn accept(&mut self) -> Result<MemoryLink, Failed>
         ensures told { Accepts (Some (links self.old.coming.items self.old.ended.items)) (Some (links self.new.coming.items self.new.ended.items)) result }
+        ensures bound { self.new.port ≡ self.old.port }
         ensures cause { HasCause (record {}) self.old.calls.faults self.new.calls.faults result }
         ensures sound { self.old.calls.fail.items ≡ [] → (self.new.calls.fail.items ≡ []) ×
             (HasNext (Some (links self.old.coming.items self.old.ended.items)) → IsOk result × (self.new.calls.faults ≡ self.old.calls.faults)) }
@@ -90,6 +106,7 @@ impl Door for MemoryDoor {
 
     fn done(&mut self, link: MemoryLink) -> Result<(), OutOfMemory>
         ensures told { TakesBack (Some (links self.old.coming.items self.old.ended.items)) (Some (links self.new.coming.items self.new.ended.items)) link result }
+        ensures bound { self.new.port ≡ self.old.port }
         ensures count { self.new.calls.faults ≡ self.old.calls.faults }
         ensures sound { self.old.calls.fail.items ≡ [] → self.new.calls.fail.items ≡ [] }
         // It isn't numbered among the door's calls.

@@ -1,4 +1,4 @@
-ghost use Rattle.std.specs.Prelude.{◌≡◌, ◌<◌, ◌≤◌, length, None, IsSome, IfOk, IsOk, IsErr, OnOk};
+ghost use Rattle.std.specs.Prelude.{◌≡◌, ◌<◌, ◌≤◌, length, None, Some, IsSome, IfOk, IsOk, IsErr, OnOk, OnErr};
 ghost use Rattle.std.specs.Io.KnownBytes.{Appends, ReadConsumes};
 ghost use Rattle.desk_io.specs.Causes.{HasCause};
 ghost use Rattle.desk_io.specs.declared.faults.PutFault.TheVariants.{Failed as PutFailed};
@@ -84,17 +84,20 @@ impl<S: Read + Write + Drop> Link for TcpLink<S> {
 pub struct TcpDoor<R: Net + Drop> {
     net: R,
     listener: Option<R::Listener>,
+    port: Option<u16>,
     faults: u64,
 }
 
 impl<R: Net + Drop> TcpDoor<R> {
     /// A door that isn't open yet.
     pub fn new(net: R) -> Self
-        ensures { result.faults ≡ 0 }
+        ensures faults { result.faults ≡ 0 }
+        ensures port { result.port ≡ None }
     {
         TcpDoor {
             net,
             listener: None,
+            port: None,
             faults: 0,
         }
     }
@@ -102,10 +105,12 @@ impl<R: Net + Drop> TcpDoor<R> {
     // Opens the door at that port. A door that was open stays so where this fails.
     fn open(&mut self, port: u16) -> io::Result<()>
         ensures faults { self.new.faults ≡ self.old.faults }
-        ensures opened { OnOk result (IsSome self.new.listener) }
+        ensures opened { OnOk result (IsSome self.new.listener × (self.new.port ≡ Some port)) }
+        ensures unopened { OnErr result (self.new.port ≡ self.old.port) }
     {
         let listener = TcpListener::bind(&self.net, (Ipv4Addr::LOCALHOST, port))?;
         self.listener = Some(listener);
+        self.port = Some(port);
         Ok(())
     }
 
@@ -124,13 +129,17 @@ impl<R: Net + Drop> Door for TcpDoor<R> {
 
     ghost told = { λ d. None };
 
+    ghost bound = { λ d. d.port };
+
     ghost fault_count = { λ d. d.faults };
 
     ghost sound = { λ d. ⊥ };
 
     fn bind(&mut self, port: u16) -> Result<(), Failed>
         ensures cause { HasCause (record {}) self.old.faults self.new.faults result }
-        ensures opened { OnOk result (IsSome self.new.listener) }
+        ensures listens { OnOk result (IsSome self.new.listener) }
+        ensures opened { OnOk result (self.new.port ≡ Some port) }
+        ensures unopened { OnErr result (self.new.port ≡ self.old.port) }
     {
         let answer = self.open(port);
         counted(answer, &mut self.faults)
@@ -138,6 +147,7 @@ impl<R: Net + Drop> Door for TcpDoor<R> {
 
     fn accept(&mut self) -> Result<TcpLink<R::Stream>, Failed>
         ensures cause { HasCause (record {}) self.old.faults self.new.faults result }
+        ensures bound { self.new.port ≡ self.old.port }
         ensures shut { self.old.listener ≡ None → IsErr result }
         ensures fresh { IfOk result (λ link. link.faults ≡ 0) }
     {
@@ -150,6 +160,7 @@ impl<R: Net + Drop> Door for TcpDoor<R> {
 
     // It closes the connection, and takes no memory.
     fn done(&mut self, _link: TcpLink<R::Stream>) -> Result<(), OutOfMemory>
+        ensures bound { self.new.port ≡ self.old.port }
         ensures count { self.new.faults ≡ self.old.faults }
         ensures always { IsOk result }
     {

@@ -1,10 +1,11 @@
 ghost use Rattle.std.specs.Prelude.{None};
 
-use crate::runs::{clock, shelf_with_script, words};
-use commands::{Ending, desk_main};
+use crate::runs::shelf_with_script;
 use desk_io::{Change, MemorySink, OutOfMemory, Row};
 use desk_net::MemoryDoor;
+use desk_time::FIRST;
 use keeper::{KeepFault, Keeper};
+use memory_desk::{clock_at, ended, words_of};
 use std::alloc::Global;
 use std::sync::Wait;
 use std::test::Fail;
@@ -43,25 +44,19 @@ impl Keeper for Broken {
 
 // Whether a run over such a keeper ends with the line of its fault.
 fn is_told<R: Wait>(rt: &R, alloc: Global) -> Result<bool, OutOfMemory> {
-    let words = words(alloc)?;
+    let words = words_of(alloc, "run script")?;
     let mut shelf = shelf_with_script(alloc, b"")?;
     let mut sink = MemorySink::new(alloc, Vec::new(alloc));
-    let clock = clock(alloc)?;
+    let clock = clock_at(alloc, FIRST, &[])?;
     let mut door = MemoryDoor::new(alloc, Vec::new(alloc), Vec::new(alloc));
-    let Ending { status, .. } = desk_main(
-        rt,
-        alloc,
-        &words,
-        &mut shelf,
-        &mut sink,
-        clock,
-        Broken {
-            commits: 0,
-            faults: 0,
-        },
-        &mut door,
+    let broken = Broken {
+        commits: 0,
+        faults: 0,
+    };
+    let ended = ended(
+        rt, alloc, &words, &mut shelf, &mut sink, clock, broken, &mut door,
     );
-    Ok(status == 5 && sink.written() == b"error 5 KeeperFault\n".as_slice())
+    Ok(ended.status == 5 && sink.written() == b"error 5 KeeperFault\n".as_slice())
 }
 
 #[test]

@@ -1,9 +1,9 @@
 use crate::texts::{KEPT, REPORT, REPORT_SAID, SWEEP, SWEEP_SAID};
-use commands::{Ending, desk_main};
 use desk_io::{MemoryShelf, MemorySink, OutOfMemory, Row, Text, push_all};
-use desk_net::{MemoryClock, MemoryDoor};
+use desk_net::MemoryDoor;
 use desk_time::FIRST;
 use keeper::{MemoryKeeper, is_rising};
+use memory_desk::{Ended, clock_at, ended, words_of};
 use small_airline::push_small;
 use std::alloc::Global;
 use std::sync::Wait;
@@ -86,21 +86,6 @@ fn keeper_of(
     }
 }
 
-/// A clock that stands still.
-pub fn clock(alloc: Global) -> Result<MemoryClock, OutOfMemory> {
-    let mut moments = Vec::new(alloc);
-    moments.push(FIRST)?;
-    Ok(MemoryClock::new(moments, Vec::new(alloc)))
-}
-
-/// The words `run script`.
-pub fn words(alloc: Global) -> Result<Vec<String>, OutOfMemory> {
-    let mut words = Vec::new(alloc);
-    words.push(String::from_str(alloc, "run")?)?;
-    words.push(String::from_str(alloc, "script")?)?;
-    Ok(words)
-}
-
 // The files of the small airline and one more. Of two with one name the first counts.
 fn shelf_with(alloc: Global, name: &[u8], text: &[u8]) -> Result<MemoryShelf, OutOfMemory> {
     let mut sources = Vec::new(alloc);
@@ -117,10 +102,10 @@ pub fn shelf_with_script(alloc: Global, script: &[u8]) -> Result<MemoryShelf, Ou
 
 fn ran_of(
     alloc: Global,
-    ending: Ending<MemoryKeeper, MemoryClock>,
+    ended: Ended<MemoryKeeper>,
     sink: &MemorySink,
 ) -> Result<Ran, OutOfMemory> {
-    let Ending { status, keeper, .. } = ending;
+    let Ended { status, keeper, .. } = ended;
     Ok(Ran {
         status,
         said: Vec::from_slice(alloc, sink.written())?,
@@ -134,14 +119,14 @@ fn run_with<R: Wait>(
     shelf: &mut MemoryShelf,
     keeper: MemoryKeeper,
 ) -> Result<Ran, OutOfMemory> {
-    let words = words(alloc)?;
+    let words = words_of(alloc, "run script")?;
     let mut sink = MemorySink::new(alloc, Vec::new(alloc));
-    let clock = clock(alloc)?;
+    let clock = clock_at(alloc, FIRST, &[])?;
     let mut door = MemoryDoor::new(alloc, Vec::new(alloc), Vec::new(alloc));
-    let ending = desk_main(
+    let ended = ended(
         rt, alloc, &words, shelf, &mut sink, clock, keeper, &mut door,
     );
-    ran_of(alloc, ending, &sink)
+    ran_of(alloc, ended, &sink)
 }
 
 /// What a run of a script comes to over the rows of lines, where commits of some numbers fail.

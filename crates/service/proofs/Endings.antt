@@ -10,7 +10,7 @@ use Rattle.desk_io.specs.declared.faults.PutFault.{PutFault}
 use Rattle.desk_io.specs.declared.faults.PutFault.TheVariants.{Failed, OutOfMemory}
 use Rattle.desk_net.specs.Streams.{Stream, Writes, OnlyRead, unread}
 use Rattle.machine.specs.State.{State}
-use Rattle.service.specs.Connections.{Exchange, responses, AreRequests, IsFrontOf, IsWritten, OnTold, AsksCall, Ends, OnBoth, IsConnection, IsStep, out_of_memory_answer, clock_fault_answer}
+use Rattle.service.specs.Connections.{Exchange, responses, AreRequests, IsFrontOf, IsWritten, OnTold, AsksCall, EndsConnection, OnBoth, IsConnection, IsStep, out_of_memory_answer, clock_fault_answer}
 use Rattle.service.specs.Exchanges.{bytes_of, exchanged}
 use Rattle.service.specs.Requested.{requested_by}
 use Rattle.service.specs.Serving.{EndsAs, EndsWithout, ServesRequest, WritesAll, Wrote}
@@ -58,7 +58,7 @@ same_both None = tt
 same_both (Some bytes) = refl
 
 bare : (lane : ℕ) (moments : Option (List ℕ)) (link clock : Type 0) (before after : ℕ) (s : State) (bytes : Option (List ℕ)) (how : Served) (t : State) (piece : List ℕ) → before ≤ after
-    → Ends lane moments link clock [] bytes s how t piece → IsConnection lane moments link clock before after s bytes how t piece
+    → EndsConnection lane moments link clock [] bytes s how t piece → IsConnection lane moments link clock before after s bytes how t piece
 bare lane moments link clock before after s bytes how t piece later ends = record {
   xs = [];
   more = [];
@@ -110,7 +110,7 @@ bare_last lane moments link clock count s bytes how piece is front =
 
 -- the answer to a fault was written, or there was no memory for it
 bare_as : (lane : ℕ) (moments : Option (List ℕ)) (link clock rose : Type 0) (count : ℕ) (s : State) (bytes : Option (List ℕ)) (wanted : Served) (r : Response) (how : Served) (piece : List ℕ) → (rose → link)
-    → (IsWritten link r piece → Ends lane moments link clock [] bytes s wanted s piece) → EndsAs rose wanted r how piece → IsConnection lane moments link clock count count s bytes how s piece
+    → (IsWritten link r piece → EndsConnection lane moments link clock [] bytes s wanted s piece) → EndsAs rose wanted r how piece → IsConnection lane moments link clock count count s bytes how s piece
 bare_as lane moments link clock rose count s bytes wanted r how piece more ends (inl (is, written)) =
     subst (λ (e : Served). IsConnection lane moments link clock count count s bytes e s piece) (sym is)
     (bare lane moments link clock count count s bytes wanted s piece (omega arith) (ends (written_more rose link r piece more written)))
@@ -118,7 +118,7 @@ bare_as lane moments link clock rose count s bytes wanted r how piece more ends 
     bare_last lane moments link clock count s bytes how piece is (inr none)
 
 bare_is : (lane : ℕ) (moments : Option (List ℕ)) (link clock : Type 0) (count : ℕ) (s : State) (bytes : Option (List ℕ)) (wanted how : Served) (piece : List ℕ) → how ≡ wanted
-    → Ends lane moments link clock [] bytes s wanted s piece → IsConnection lane moments link clock count count s bytes how s piece
+    → EndsConnection lane moments link clock [] bytes s wanted s piece → IsConnection lane moments link clock count count s bytes how s piece
 bare_is lane moments link clock count s bytes wanted how piece is ends =
     subst (λ (e : Served). IsConnection lane moments link clock count count s bytes e s piece) (sym is)
     (bare lane moments link clock count count s bytes wanted s piece (omega arith) ends)
@@ -173,7 +173,7 @@ of_wire wire at choice = record { wire = wire; at = at; choice = choice }
 -- a request more was answered, and its response isn't known to be written whole
 one_more : (lane : ℕ) (moments : Option (List ℕ)) (link clock : Type 0) (before after : ℕ) (s t : State) (wire : Wire) (r : Response) (bytes others : Option (List ℕ)) (how : Served) (piece : List ℕ)
     → AnswersUnused bytes others (Ok wire) → (answered : IsAnswered lane moments before after s (requested_by wire) t r)
-    → Ends lane moments link clock (of_wire wire answered.at answered.choice ∷ []) others s how t piece
+    → EndsConnection lane moments link clock (of_wire wire answered.at answered.choice ∷ []) others s how t piece
     → IsConnection lane moments link clock before after s bytes how t piece
 one_more lane moments link clock before after s t wire r bytes others how piece answers answered ends = record {
   xs = [];

@@ -6,7 +6,7 @@ use Rattle.desk.proofs.Choices.{counted_on}
 use Rattle.desk_http.specs.Requests.{unused}
 use Rattle.desk_net.specs.Streams.{Stream}
 use Rattle.machine.specs.State.{State}
-use Rattle.service.specs.Connections.{Exchange, exchange, responses, state_after, AreRequests, IsTimed, IsOpen, Ends, OnBoth, IsConnection, GoesOn}
+use Rattle.service.specs.Connections.{Exchange, exchange, responses, state_after, AreRequests, IsTimed, IsOpen, EndsConnection, OnBoth, IsConnection, GoesOn}
 use Rattle.service.specs.Exchanges.{bytes_of}
 use Rattle.service.specs.Serving.{Wrote}
 use Rattle.service.specs.declared.serving.Served.{Served}
@@ -52,7 +52,7 @@ counted_both before middle after xs ys one two =
     subst (λ cs. Counted before cs after) (sym (choices_on xs ys)) (counted_on before (map (λ x. x.choice) xs) (map (λ x. x.choice) ys) middle after one two)
 
 ends_on : (lane : ℕ) (moments : Option (List ℕ)) (rose failed link clock : Type 0) (more : List Exchange) (left : Option (List ℕ)) (u : State) (how : Served) (t : State) (piece : List ℕ)
-    → (rose → link) → (failed → clock) → Ends lane moments rose failed more left u how t piece → Ends lane moments link clock more left u how t piece
+    → (rose → link) → (failed → clock) → EndsConnection lane moments rose failed more left u how t piece → EndsConnection lane moments link clock more left u how t piece
 ends_on lane moments rose failed link clock more left u served.Ended t piece of_link of_clock ends = ends
 ends_on lane moments rose failed link clock more left u served.Cut t piece of_link of_clock ends = ends
 ends_on lane moments rose failed link clock more left u served.BadHead t piece of_link of_clock (none, why, written) = (none, why, written_as rose link _ piece of_link written)
@@ -94,7 +94,7 @@ ends_after lane moments rose failed link clock before middle after s t bytes mid
       going = all_on IsOpen xs then.xs going then.going;
       counted = subst (λ all. Counted before (map (λ x. x.choice) all) after) (sym whole) (counted_both before middle after xs (then.xs ++ then.more) counted then.counted);
       says = texts_on lane s xs then.xs one two then.piece says then.says;
-      ends = subst (λ (u : State). Ends lane moments link clock then.more then.left u how t then.piece) (sym (state_on lane s xs then.xs))
+      ends = subst (λ (u : State). EndsConnection lane moments link clock then.more then.left u how t then.piece) (sym (state_on lane s xs then.xs))
           (ends_on lane moments rose failed link clock then.more then.left (state_after lane (state_after lane s xs) then.xs) how t then.piece of_link of_clock then.ends);
     }
 

@@ -8,7 +8,7 @@ use Rattle.desk_net.specs.Doors.{Links, Accepts, TakesBack, HasNext}
 use Rattle.desk_net.specs.Streams.{Stream, unread}
 use Rattle.machine.specs.State.{State}
 use Rattle.service.specs.Connections.{AreRequests, GoesOn, IsConnection, OnBoth}
-use Rattle.service.specs.Doors.{Visit, IsVisit, AreVisits, AreTaken, HasLinks, came_of, back_of, HadMemory, IsWell, is_clock_fault, ended_by_clock, AreFewer, EndsServing, IsServing, counts_as, met_after, end_of, end_at_door}
+use Rattle.service.specs.Doors.{Visit, IsVisit, AreVisits, AreTaken, AreAtPort, HasLinks, came_of, back_of, HadMemory, IsWell, is_clock_fault, ended_by_clock, AreFewer, EndsServing, IsServing, counts_as, met_after, end_of, end_at_door}
 use Rattle.service.specs.declared.doors.Met.{Met}
 use Rattle.service.specs.declared.doors.ServeEnd.{ServeEnd}
 use Rattle.service.specs.declared.doors.ServeEnd.TheVariants as ends
@@ -271,15 +271,20 @@ door_ends : {L : Type 0} (door clock : Type 0) (most : ℕ) (vs : List (Visit L)
 door_ends door clock most vs true rose had few = inr (rose, few)
 door_ends door clock most vs false rose had few = (rose, few, had refl)
 
-pub served_to_fault : {L : Type 0} (told : L → Option Stream) (fails : L → L → Type 0) (old mid new : Option (Links L)) (moments : Option (List ℕ)) (door rose clock : Type 0) (done most : ℕ) (met : Met) (end : ServeEnd)
-    (before middle after : ℕ) (s u t : State) → end ≡ end_at_door met → done < most → door → (rose → clock) → new ≡ mid → after ≡ middle → t ≡ u → HasServed told fails old mid moments rose done met before middle s u
-    → IsServing told fails old new moments door clock most end before after s t
-served_to_fault {L} told fails old mid new moments door rose clock done most met end before middle after s u t how within failing of_rose same counts is has =
+at_port : {L : Type 0} (bound : Option ℕ) (port : ℕ) (vs : List (Visit L)) → bound ≡ Some port → AreAtPort bound port vs
+at_port bound port [] is = tt
+at_port bound port (v ∷ vs) is = is
+
+pub served_to_fault : {L : Type 0} (told : L → Option Stream) (fails : L → L → Type 0) (old mid new : Option (Links L)) (bound : Option ℕ) (moments : Option (List ℕ)) (door rose clock : Type 0) (port done most : ℕ) (met : Met) (end : ServeEnd)
+    (before middle after : ℕ) (s u t : State) → end ≡ end_at_door met → done < most → bound ≡ Some port → door → (rose → clock) → new ≡ mid → after ≡ middle → t ≡ u → HasServed told fails old mid moments rose done met before middle s u
+    → IsServing told fails old new bound moments door clock port most end before after s t
+served_to_fault {L} told fails old mid new bound moments door rose clock port done most met end before middle after s u t how within opened failing of_rose same counts is has =
     let many = has.many in
     let are : AreVisits told fails 1 moments clock before middle s has.vs u = visits_from told fails 1 moments rose clock before before middle s has.vs u (omega arith) of_rose has.are in (
       has.vs,
       subst (λ n. AreVisits told fails 1 moments clock before n s has.vs t) (sym counts) (subst (λ (x : State). AreVisits told fails 1 moments clock before middle s has.vs x) (sym is) are),
       subst (λ (d : Option (Links L)). AreTaken old d has.vs) (sym same) has.taken,
+      at_port bound port has.vs opened,
       subst (EndsServing door clock most has.vs) (sym how) (door_ends door clock most has.vs met.memory failing has.had (fewer has.vs done most many within)),
     )
 
@@ -290,14 +295,15 @@ all_end door failed clock most vs false true of_clock fault had well some many =
 all_end door failed clock most vs false false of_clock fault had well some many = (many, well refl refl)
 
 -- as many connections were served as stated
-pub served_to_end : {L : Type 0} (told : L → Option Stream) (fails : L → L → Type 0) (old new : Option (Links L)) (moments : Option (List ℕ)) (door failed clock : Type 0) (done most : ℕ) (met : Met) (end : ServeEnd)
-    (before after : ℕ) (s t : State) → end ≡ end_of met → done ≤ most → most ≤ done → (failed → clock) → HasServed told fails old new moments failed done met before after s t
-    → IsServing told fails old new moments door clock most end before after s t
-served_to_end told fails old new moments door failed clock done most met end before after s t how within all of_clock has =
+pub served_to_end : {L : Type 0} (told : L → Option Stream) (fails : L → L → Type 0) (old new : Option (Links L)) (bound : Option ℕ) (moments : Option (List ℕ)) (door failed clock : Type 0) (port done most : ℕ) (met : Met) (end : ServeEnd)
+    (before after : ℕ) (s t : State) → end ≡ end_of met → done ≤ most → most ≤ done → bound ≡ Some port → (failed → clock) → HasServed told fails old new moments failed done met before after s t
+    → IsServing told fails old new bound moments door clock port most end before after s t
+served_to_end told fails old new bound moments door failed clock port done most met end before after s t how within all opened of_clock has =
     let many = has.many in (
       has.vs,
       visits_from told fails 1 moments failed clock before before after s has.vs t (omega arith) of_clock has.are,
       has.taken,
+      at_port bound port has.vs opened,
       subst (EndsServing door clock most has.vs) (sym how) (all_end door failed clock most has.vs met.memory met.clock of_clock has.fault has.had has.well has.some (omega (arith, many, within, all))),
     )
 
@@ -325,7 +331,7 @@ next_comes (Some old) None vs done most taken many few links = absurd taken
 
 -- ---- the same, counted from before
 
-pub serving_from : {L : Type 0} (told : L → Option Stream) (fails : L → L → Type 0) (old new : Option (Links L)) (moments : Option (List ℕ)) (door clock : Type 0) (most : ℕ) (end : ServeEnd) (less before after : ℕ) (s t : State)
-    → less ≤ before → IsServing told fails old new moments door clock most end before after s t → IsServing told fails old new moments door clock most end less after s t
-serving_from told fails old new moments door clock most end less before after s t under (vs, are, taken, ends) =
-    (vs, visits_from told fails 1 moments clock clock less before after s vs t under (λ rose. rose) are, taken, ends)
+pub serving_from : {L : Type 0} (told : L → Option Stream) (fails : L → L → Type 0) (old new : Option (Links L)) (bound : Option ℕ) (moments : Option (List ℕ)) (door clock : Type 0) (port most : ℕ) (end : ServeEnd) (less before after : ℕ) (s t : State)
+    → less ≤ before → IsServing told fails old new bound moments door clock port most end before after s t → IsServing told fails old new bound moments door clock port most end less after s t
+serving_from told fails old new bound moments door clock port most end less before after s t under (vs, are, taken, at, ends) =
+    (vs, visits_from told fails 1 moments clock clock less before after s vs t under (λ rose. rose) are, taken, at, ends)

@@ -108,20 +108,20 @@ MayHaveMore lane moments more left u t =
 -- How a connection ends on the bytes that are left, from the state after the requests after which it went on: `more` is the request
 -- with which it ended, if that was answered, and the piece is what was written after their responses. `link` and `clock` say that
 -- the link and the clock have failed.
-abbrev pub Ends : ℕ → Option (List ℕ) → Type 0 → Type 0 → List Exchange → Option (List ℕ) → State → Served → State → List ℕ → Type 0
-Ends lane moments link clock more left u served.Ended t piece =
+abbrev pub EndsConnection : ℕ → Option (List ℕ) → Type 0 → Type 0 → List Exchange → Option (List ℕ) → State → Served → State → List ℕ → Type 0
+EndsConnection lane moments link clock more left u served.Ended t piece =
     (NoMore more u t × OnTold left (λ b. GivesNone b fault.End) × (piece ≡ []))
     ⊎ ((x : Exchange) × OneMore lane more u t x × IsLast x × (piece ≡ bytes_of (exchange lane u x).response))
-Ends lane moments link clock more left u served.Cut t piece = NoMore more u t × OnTold left (λ b. GivesNone b fault.Cut) × (piece ≡ [])
-Ends lane moments link clock more left u served.BadHead t piece = NoMore more u t × OnTold left (λ b. GivesNone b fault.BadHead) × IsWritten link bad_head_answer piece
-Ends lane moments link clock more left u served.TooLarge t piece = NoMore more u t × OnTold left (λ b. GivesNone b fault.TooLarge) × IsWritten link too_large_answer piece
-Ends lane moments link clock more left u served.NoLength t piece = NoMore more u t × OnTold left (λ b. GivesNone b fault.NoLength) × IsWritten link no_length_answer piece
-Ends lane moments link clock more left u served.WrongMethod t piece = NoMore more u t × OnTold left (λ b. GivesNone b fault.WrongMethod) × IsWritten link wrong_method_answer piece
-Ends lane moments link clock more left u served.ReadFault t piece = NoMore more u t × link × (piece ≡ [])
-Ends lane moments link clock more left u served.WriteFault t piece =
+EndsConnection lane moments link clock more left u served.Cut t piece = NoMore more u t × OnTold left (λ b. GivesNone b fault.Cut) × (piece ≡ [])
+EndsConnection lane moments link clock more left u served.BadHead t piece = NoMore more u t × OnTold left (λ b. GivesNone b fault.BadHead) × IsWritten link bad_head_answer piece
+EndsConnection lane moments link clock more left u served.TooLarge t piece = NoMore more u t × OnTold left (λ b. GivesNone b fault.TooLarge) × IsWritten link too_large_answer piece
+EndsConnection lane moments link clock more left u served.NoLength t piece = NoMore more u t × OnTold left (λ b. GivesNone b fault.NoLength) × IsWritten link no_length_answer piece
+EndsConnection lane moments link clock more left u served.WrongMethod t piece = NoMore more u t × OnTold left (λ b. GivesNone b fault.WrongMethod) × IsWritten link wrong_method_answer piece
+EndsConnection lane moments link clock more left u served.ReadFault t piece = NoMore more u t × link × (piece ≡ [])
+EndsConnection lane moments link clock more left u served.WriteFault t piece =
     link × ((x : Exchange) × OneMore lane more u t x × IsFrontOf (bytes_of (exchange lane u x).response) piece)
-Ends lane moments link clock more left u served.ClockFault t piece = NoMore more u t × clock × OnTold left AsksCall × (IsWritten link clock_fault_answer piece ⊎ (piece ≡ []))
-Ends lane moments link clock more left u served.OutOfMemory t piece = MayHaveMore lane moments more left u t × (IsWritten link out_of_memory_answer piece ⊎ (piece ≡ []))
+EndsConnection lane moments link clock more left u served.ClockFault t piece = NoMore more u t × clock × OnTold left AsksCall × (IsWritten link clock_fault_answer piece ⊎ (piece ≡ []))
+EndsConnection lane moments link clock more left u served.OutOfMemory t piece = MayHaveMore lane moments more left u t × (IsWritten link out_of_memory_answer piece ⊎ (piece ≡ []))
 
 -- of bytes and of what is left of them, where both are told
 abbrev pub OnBoth : Option (List ℕ) → Option (List ℕ) → (List ℕ → List ℕ → Type 0) → Type 0
@@ -142,7 +142,7 @@ pub record IsConnection (lane : ℕ) (moments : Option (List ℕ)) (link clock :
   pub going : AllByRecursion IsOpen xs
   pub counted : Counted before (map (λ x. x.choice) (xs ++ more)) after
   pub says : text ≡ responses lane s xs ++ piece
-  pub ends : Ends lane moments link clock more left (state_after lane s xs) served t piece
+  pub ends : EndsConnection lane moments link clock more left (state_after lane s xs) served t piece
 
 -- requests after which the connection goes on, all answered whole
 pub record GoesOn (lane : ℕ) (moments : Option (List ℕ)) (before after : ℕ) (s : State) (bytes : Option (List ℕ)) (left : Option (List ℕ)) (t : State) (text : List ℕ) : Type 0 where

@@ -95,6 +95,7 @@ fn serve_next_link<R: Wait, K: Keeper, C: Clock, D: Door, L: Ledger>(
     ensures desk { DeskGoesOn K.told K.fault_count K.sound desk.old desk.new }
     ensures clock { ClockGoesOn C.moments C.fault_count C.sound clock.old clock.new }
     ensures door { D.fault_count door.old ≤ D.fault_count door.new }
+    ensures bound { D.bound door.new ≡ D.bound door.old }
     ensures steady_door { D.sound door.old → D.sound door.new × (HasNext (D.told door.old) → IsOk result) }
 {
     let mut link = door.accept()?;
@@ -117,7 +118,7 @@ pub fn serve_door<R: Wait, K: Keeper, C: Clock, D: Door, L: Ledger>(
     connections: u32,
     steps: &mut Steps<L>,
 ) -> ServeEnd
-    ensures serves { IsServing D.Link.told (HasFailed D.Link.fault_count D.Link.sound) (D.told door.old) (D.told door.new) (C.moments clock.old) (RoseOrFull (D.fault_count door.old) (D.fault_count door.new)) (RoseOrFull (C.fault_count clock.old) (C.fault_count clock.new)) connections result (K.fault_count desk.old.keeper) (K.fault_count desk.new.keeper) desk.old.board.state desk.new.board.state }
+    ensures serves { IsServing D.Link.told (HasFailed D.Link.fault_count D.Link.sound) (D.told door.old) (D.told door.new) (D.bound door.new) (C.moments clock.old) (RoseOrFull (D.fault_count door.old) (D.fault_count door.new)) (RoseOrFull (C.fault_count clock.old) (C.fault_count clock.new)) port connections result (K.fault_count desk.old.keeper) (K.fault_count desk.new.keeper) desk.old.board.state desk.new.board.state }
     ensures desk { DeskGoesOn K.told K.fault_count K.sound desk.old desk.new }
     ensures clock { ClockGoesOn C.moments C.fault_count C.sound clock.old clock.new }
     ensures door { D.fault_count door.old ≤ D.fault_count door.new }

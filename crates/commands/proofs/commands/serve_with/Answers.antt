@@ -10,7 +10,7 @@ returns-in-Ok-clause-says g c =
     let said = c.serve_on.result in
     let after = telling (g.K.Keeper.told said.keeper) (g.K.Keeper.fault_count said.keeper) in
     IfOk-weaker said.answer _ _
-    (λ a is. inl (door_over g.D.Link.Link.told (HasFailed g.D.Link.Link.fault_count g.D.Link.Link.sound) _ _ _ _ _ c.args.tables _ _ _ c.args.connections a.status a.text.items _ said.board after c.in-Ok.ensures.opened c.in-Ok.ensures.later is))
+    (λ a is. inl (door_over g.D.Link.Link.told (HasFailed g.D.Link.Link.fault_count g.D.Link.Link.sound) _ _ _ _ _ _ c.args.tables _ _ _ c.args.port c.args.connections a.status a.text.items _ said.board after c.in-Ok.ensures.opened c.in-Ok.ensures.later is))
     c.serve_on.ensures.serves
 
 pub returns-clause-says : goal.returns-clause-says

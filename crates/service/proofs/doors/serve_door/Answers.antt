@@ -1,4 +1,4 @@
-use Rattle.std.proofs.Common.{◌≡◌, true, false, arith}
+use Rattle.std.proofs.Common.{◌≡◌, ◌∙◌, true, false, arith}
 use Rattle.service.specs.Onward.{HasFailed}
 use Rattle.service.proofs.Onward.{desk_stays, desk_on, clock_stays, clock_on, failed_first, failed_last, rose_before}
 use Rattle.service.proofs.Visits.{door_not_clock, next_comes, served_none, served_next, served_to_end, served_to_fault}
@@ -8,6 +8,7 @@ pub loop-before-init : goal.loop-before-init
 loop-before-init g c = record {
   served = served_none _ _ _ _ _ _ _ _ c.bind.ensures.same;
   within = omega arith;
+  bound = c.bind.ensures.opened;
   desk = desk_stays g.K.Keeper.told g.K.Keeper.fault_count g.K.Keeper.sound _;
   clock = clock_stays g.C.Clock.moments g.C.Clock.fault_count g.C.Clock.sound _;
   door = c.bind.ensures.cause.later;
@@ -19,7 +20,7 @@ returns-in-Err-clause-serves g c =
     let inv = c.loop-before.invariant in
     let none = c.in-Err.ensures.none in
     let clock = c.in-Err.ensures.clock in
-    served_to_fault g.D.Link.Link.told (HasFailed g.D.Link.Link.fault_count g.D.Link.Link.sound) _ _ _ _ _ _ _ _ _ c.loop-before.met _ _ _ _ _ _ _ c.end_at_door.ensures (omega (arith, c.loop-before-test.true)) (rose_before _ _ _ inv.door none.0)
+    served_to_fault g.D.Link.Link.told (HasFailed g.D.Link.Link.fault_count g.D.Link.Link.sound) _ _ _ _ _ _ _ _ _ _ _ c.loop-before.met _ _ _ _ _ _ _ c.end_at_door.ensures (omega (arith, c.loop-before-test.true)) (c.in-Err.ensures.bound ∙ inv.bound) (rose_before _ _ _ inv.door none.0)
     (λ failed. (failed_first g.C.Clock.fault_count g.C.Clock.sound _ _ _ clock.later failed).0) none.1 none.3 none.2 inv.served
 
 pub returns-in-Err-clause-desk : goal.returns-in-Err-clause-desk
@@ -42,7 +43,7 @@ pub returns-clause-serves : goal.returns-clause-serves
 returns-clause-serves g c =
     let inv = c.loop-before.invariant in
     let all = c.loop-before-test.false in
-    served_to_end g.D.Link.Link.told (HasFailed g.D.Link.Link.fault_count g.D.Link.Link.sound) _ _ _ _ _ _ _ _ c.loop-before.met _ _ _ _ _ c.end_of.ensures inv.within (omega (arith, all)) (λ failed. failed.0) inv.served
+    served_to_end g.D.Link.Link.told (HasFailed g.D.Link.Link.fault_count g.D.Link.Link.sound) _ _ _ _ _ _ _ _ _ _ c.loop-before.met _ _ _ _ _ c.end_of.ensures inv.within (omega (arith, all)) inv.bound (λ failed. failed.0) inv.served
 
 pub loop-before-preserved : goal.loop-before-preserved
 loop-before-preserved g c =
@@ -54,6 +55,7 @@ loop-before-preserved g c =
       served = served_next g.D.Link.Link.told (HasFailed g.D.Link.Link.fault_count g.D.Link.Link.sound) _ _ _ _ _ _ _ _ c.loop-before.before c.loop-before.met _ _ _ _ _ _ _ _ visit.0 inv.clock.moments (failed_first g.C.Clock.fault_count g.C.Clock.sound _ _ _ is.clock.later)
           (failed_last g.C.Clock.fault_count g.C.Clock.sound _ _ _ inv.clock.later (λ sound. (inv.clock.sound sound).0)) inv.served visit.1 visit.2 visit.3 c.after-met.ensures;
       within = omega (arith, within);
+      bound = is.bound ∙ inv.bound;
       desk = desk_on _ _ _ _ _ _ inv.desk is.desk;
       clock = clock_on _ _ _ _ _ _ inv.clock is.clock;
       door = let before = inv.door in let after = is.door in omega (arith, before, after);
