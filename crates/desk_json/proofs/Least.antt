@@ -18,7 +18,7 @@ use Rattle.desk_json.specs.declared.keys.Object.{Object}
 use Rattle.desk_json.specs.declared.keys.Object.TheVariants as of
 use Rattle.desk_json.specs.declared.keys.AskKind.{AskKind}
 use Rattle.desk_json.specs.Keys.{is_key, is_line_key, is_call_key, extra_fault, first_extra, unless}
-use Rattle.desk_json.specs.Faults.{ask_by, ask_of_kind, call_fields, line_fields, call_in, line_in, read_as, call_or_fault, line_or_fault, Answers, IsExtraTold, TellsExtra}
+use Rattle.desk_json.specs.Faults.{ask_by, ask_of_kind, call_fields, line_fields, call_in, line_in, read_as, call_or_fault, line_or_fault, Answers, IsExtraNamed, NamesExtra}
 use Rattle.desk_json.proofs.Exact.{has, found_has}
 use Rattle.desk_json.proofs.Orders.{Ordered, data_ordered}
 
@@ -89,7 +89,7 @@ told_line (object ms) k is some extra = told_first k (first_extra of.Line ms) (l
 pub told_ask : (kind : AskKind) (ms : Members) (k : List ℕ) → Ordered (object ms) → is_some (get k (object ms)) ≡ true → is_key (of.Asked kind) k ≡ false → IsTold k (ask_by (Some kind) (object ms))
 told_ask kind ms k is some extra = told_first k (first_extra (of.Asked kind) ms) (ask_of_kind kind (object ms)) (first_least (of.Asked kind) k ms is.0 (found_has k ms some) extra)
 
-answered : {A : Type 0} (k : List ℕ) (r : Result A BadCall) (x : Result A CallFault) → IsTold k r → Answers r x → IsExtraTold k x
+answered : {A : Type 0} (k : List ℕ) (r : Result A BadCall) (x : Result A CallFault) → IsTold k r → Answers r x → IsExtraNamed k x
 answered k r (Ok v) told is = subst (IsTold k) is told
 answered k r (Err (fault.Bad b)) told is = subst (IsTold k) is told
 answered k r (Err fault.OutOfMemory) told is = tt
@@ -97,10 +97,10 @@ answered k r (Err fault.OutOfMemory) told is = tt
 in_order : (text : List ℕ) (d : Data) → data_of text ≡ Some d → Ordered d
 in_order text d same = subst (λ o. IfSome o Ordered) same (data_ordered text)
 
-pub call_tells : (text : List ℕ) (r : Result Call CallFault) → Answers (call_or_fault text) r → TellsExtra is_call_key text r
+pub call_tells : (text : List ℕ) (r : Result Call CallFault) → Answers (call_or_fault text) r → NamesExtra is_call_key text r
 unfolding call_or_fault
 call_tells text r is = λ d k same some extra. answered k (call_in d) r (told_call d k (in_order text d same) some extra) (subst (λ o. Answers (read_as call_in o) r) same is)
 
-pub line_tells : (line : List ℕ) (r : Result (ℕ × Call) CallFault) → Answers (line_or_fault line) r → TellsExtra is_line_key line r
+pub line_tells : (line : List ℕ) (r : Result (ℕ × Call) CallFault) → Answers (line_or_fault line) r → NamesExtra is_line_key line r
 unfolding line_or_fault
 line_tells line r is = λ d k same some extra. answered k (line_in d) r (told_line d k (in_order line d same) some extra) (subst (λ o. Answers (read_as line_in o) r) same is)

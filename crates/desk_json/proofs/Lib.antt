@@ -7,6 +7,6 @@ pub mod AskLaws
 pub mod LineLaws
 pub mod LineForms
 pub mod Least
-pub mod Lacking
+pub mod Unread
 pub mod ReplyForms
 pub mod ReplyAgain

@@ -21,7 +21,7 @@ use Rattle.desk_json.specs.declared.asked.Signed.{Signed}
 use Rattle.desk_json.specs.declared.asked.Flown.{Flown}
 use Rattle.desk_json.specs.declared.bad_call.CallFault.{CallFault}
 use Rattle.desk_json.specs.declared.bad_call.CallFault.TheVariants as fault
-use Rattle.desk_json.specs.Keys.{bad, keys_fault, unless, and_then, need}
+use Rattle.desk_json.specs.Keys.{bad, keys_fault, lack, unless, and_then, need}
 
 -- ---- kinds of asks
 
@@ -219,34 +219,38 @@ Finds o (Ok x) = o ≡ Some x
 Finds o (Err (fault.Bad b)) = o ≡ None
 Finds o (Err fault.OutOfMemory) = Unit {0}
 
--- What is told where a key isn't expected: a key more, and it isn't after that key in byte order.
-abbrev pub IsExtraTold : {A : Type 0} → List ℕ → Result A CallFault → Type 0
-IsExtraTold k (Ok x) = ⊥
-IsExtraTold k (Err (fault.Bad b)) = (b.why ≡ Extra) × (is_gt (slice_cmp nat_cmp b.key k) ≡ false)
-IsExtraTold k (Err fault.OutOfMemory) = Unit {0}
+-- What is answered where a key isn't expected: a key more, and it isn't after that key in byte order.
+abbrev pub IsExtraNamed : {A : Type 0} → List ℕ → Result A CallFault → Type 0
+IsExtraNamed k (Ok x) = ⊥
+IsExtraNamed k (Err (fault.Bad b)) = (b.why ≡ Extra) × (is_gt (slice_cmp nat_cmp b.key k) ≡ false)
+IsExtraNamed k (Err fault.OutOfMemory) = Unit {0}
 
--- A reader tells, of the keys of an object that aren't expected, the least, but for want of memory.
-abbrev pub TellsExtra : {A : Type 0} → (List ℕ → Bool) → List ℕ → Result A CallFault → Type 0
-TellsExtra expected text r = (d : Data) (k : List ℕ) → data_of text ≡ Some d → is_some (get k d) ≡ true → expected k ≡ false → IsExtraTold k r
+-- Of the keys of an object that aren't expected a reader names the least, but for want of memory.
+abbrev pub NamesExtra : {A : Type 0} → (List ℕ → Bool) → List ℕ → Result A CallFault → Type 0
+NamesExtra expected text r = (d : Data) (k : List ℕ) → data_of text ≡ Some d → is_some (get k d) ≡ true → expected k ≡ false → IsExtraNamed k r
 
--- that is the key, and nothing that fits it is read at it
-abbrev pub Lacks : {A : Type 0} → (List ℕ → Data → Option A) → List ℕ → Data → List ℕ → Type 0
-Lacks read key d k = (k ≡ key) × (read key d ≡ None)
+-- nothing of the right form is read at this key: it is missing, or its value doesn't fit
+abbrev pub IsUnread : {A : Type 0} → (List ℕ → Data → Option A) → List ℕ → Data → List ℕ → Type 0
+IsUnread read key d k = (k ≡ key) × (read key d ≡ None)
 
--- a key of a call that is missing, or has a value that doesn't fit
-abbrev pub CallLacks : Data → List ℕ → Type 0
-CallLacks d k = Lacks short_at (codes "actor") d k ⊎ (Lacks short_at (codes "key") d k ⊎ (Lacks request_at (codes "number") d k ⊎ Lacks object_at (codes "ask") d k))
+-- a key of a call
+abbrev pub IsUnreadOfCall : Data → List ℕ → Type 0
+IsUnreadOfCall d k = IsUnread short_at (codes "actor") d k ⊎ (IsUnread short_at (codes "key") d k ⊎ (IsUnread request_at (codes "number") d k ⊎ IsUnread object_at (codes "ask") d k))
 
 -- a key of a line
-abbrev pub LineLacks : Data → List ℕ → Type 0
-LineLacks d k = Lacks moment_at (codes "at") d k ⊎ CallLacks d k
+abbrev pub IsUnreadOfLine : Data → List ℕ → Type 0
+IsUnreadOfLine d k = IsUnread moment_at (codes "at") d k ⊎ IsUnreadOfCall d k
 
--- What is told where a key lacks: a key more, or a key that lacks, and that isn't after this one in byte order.
-abbrev pub IsLackTold : {A : Type 0} → (List ℕ → Type 0) → List ℕ → Result A CallFault → Type 0
-IsLackTold lacks k (Ok x) = ⊥
-IsLackTold lacks k (Err (fault.Bad b)) = (b.why ≡ Extra) ⊎ (lacks b.key × (is_gt (slice_cmp nat_cmp b.key k) ≡ false))
-IsLackTold lacks k (Err fault.OutOfMemory) = Unit {0}
+-- What is answered where a key is missing or its value doesn't fit: a key of this object that isn't expected, or such a key as this one,
+-- for its own reason, that isn't after it in byte order.
+abbrev pub IsUnreadNamed : {A : Type 0} → (List ℕ → Bool) → (Data → List ℕ → Type 0) → Data → List ℕ → Result A CallFault → Type 0
+IsUnreadNamed expected unread d k (Ok x) = ⊥
+IsUnreadNamed expected unread d k (Err (fault.Bad b)) =
+    ((b.why ≡ Extra) × (is_some (get b.key d) ≡ true) × (expected b.key ≡ false))
+    ⊎ ((b.why ≡ lack (get b.key d)) × unread d b.key × (is_gt (slice_cmp nat_cmp b.key k) ≡ false))
+IsUnreadNamed expected unread d k (Err fault.OutOfMemory) = Unit {0}
 
--- A reader tells, of the keys of an object that lack, the least, unless the object has a key more, but for want of memory.
-abbrev pub TellsLack : {A : Type 0} → (Data → List ℕ → Type 0) → List ℕ → Result A CallFault → Type 0
-TellsLack lacks text r = (d : Data) (k : List ℕ) → data_of text ≡ Some d → is_some (as_object d) ≡ true → lacks d k → IsLackTold (lacks d) k r
+-- Of the keys of an object that are missing or whose value doesn't fit a reader names the least, unless a key isn't expected, but for
+-- want of memory.
+abbrev pub NamesUnread : {A : Type 0} → (List ℕ → Bool) → (Data → List ℕ → Type 0) → List ℕ → Result A CallFault → Type 0
+NamesUnread expected unread text r = (d : Data) (k : List ℕ) → data_of text ≡ Some d → is_some (as_object d) ≡ true → unread d k → IsUnreadNamed expected unread d k r

@@ -9,7 +9,7 @@ ghost use Rattle.asks.specs.Forms.{IsCall};
 ghost use Rattle.plan_json.specs.Canonical.{CallHasForms};
 ghost use Rattle.desk_json.specs.Calls.{call_of, line_of};
 ghost use Rattle.desk_json.specs.Canonical.{LineHasForms, IsLineAgain, IsCallAgain};
-ghost use Rattle.desk_json.specs.Faults.{call_or_fault, line_or_fault, Answers, CallLacks, Finds, LineLacks, TellsExtra, TellsLack};
+ghost use Rattle.desk_json.specs.Faults.{call_or_fault, line_or_fault, Answers, Finds, IsUnreadOfCall, IsUnreadOfLine, NamesExtra, NamesUnread};
 
 use crate::asked::ask_or_fault;
 use crate::bad_call::{CallFault, bad, lack};
@@ -162,9 +162,9 @@ fn line_answer(alloc: Global, line: &[u8]) -> Result<(Minute, Call), CallFault>
 pub fn read_call(alloc: Global, bytes: &[u8]) -> Result<Call, CallFault>
     ensures answer { Answers (call_or_fault bytes.now) result }
     // Of the keys that aren't expected the least is told. The order of keys comes from how JSON is read.
-    ensures extra { TellsExtra is_call_key bytes.now result }
-    // Of the keys that are missing, or whose value doesn't fit, so too.
-    ensures lack { TellsLack CallLacks bytes.now result }
+    ensures extra { NamesExtra is_call_key bytes.now result }
+    // So it is of the keys at the top that are missing or whose value doesn't fit.
+    ensures unread { NamesUnread is_call_key IsUnreadOfCall bytes.now result }
     // A call is read exactly where the fields of one are there and nothing else.
     ensures found { Finds (call_of bytes.now) result }
     // Texts are UTF-8 and numbers within their limits, so that what is written of the ask is read as it.
@@ -180,9 +180,9 @@ pub fn read_call(alloc: Global, bytes: &[u8]) -> Result<Call, CallFault>
 pub fn read_line(alloc: Global, line: &[u8]) -> Result<(Minute, Call), CallFault>
     ensures answer { Answers (line_or_fault line.now) result }
     // Of the keys that aren't expected the least is told. `proofs/Least.antt` has it of the keys of an ask, too.
-    ensures extra { TellsExtra is_line_key line.now result }
-    // Of the keys that are missing, or whose value doesn't fit, so too.
-    ensures lack { TellsLack LineLacks line.now result }
+    ensures extra { NamesExtra is_line_key line.now result }
+    // So it is of the keys at the top that are missing or whose value doesn't fit.
+    ensures unread { NamesUnread is_line_key IsUnreadOfLine line.now result }
     // A line is read exactly where the fields of one are there and nothing else.
     ensures found { Finds (line_of line.now) result }
     ensures range { IfOk result (λ p. IsMoment p.0) }

@@ -51,6 +51,7 @@ impl Clock for MemoryClock {
         ensures told { IfOk result (IsAmong (Some self.old.moments.items)) }
         ensures same { Some self.new.moments.items ≡ Some self.old.moments.items }
         ensures cause { HasCause (record {}) self.old.calls.faults self.new.calls.faults result }
+        ensures still { OnOk result (self.new.calls.faults ≡ self.old.calls.faults) }
         ensures sound { self.old.calls.fail.items ≡ [] → (self.new.calls.fail.items ≡ []) × IsOk result × (self.new.calls.faults ≡ self.old.calls.faults) }
         // It gives the moment at its place exactly where the call isn't among those that fail, and goes on.
         ensures planned { is_ok result ≡ not (is_planned self.old.calls.fail.items self.old.calls.made) }

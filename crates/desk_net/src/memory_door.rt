@@ -57,7 +57,7 @@ impl Door for MemoryDoor {
 
     ghost told = { λ d. Some (links d.coming.items d.ended.items) };
 
-    ghost bound = { λ d. d.port };
+    ghost opened_at = { λ d. d.port };
 
     ghost fault_count = { λ d. d.calls.faults };
 
@@ -83,7 +83,7 @@ impl Door for MemoryDoor {
 
     fn accept(&mut self) -> Result<MemoryLink, Failed>
         ensures told { Accepts (Some (links self.old.coming.items self.old.ended.items)) (Some (links self.new.coming.items self.new.ended.items)) result }
-        ensures bound { self.new.port ≡ self.old.port }
+        ensures port { self.new.port ≡ self.old.port }
         ensures cause { HasCause (record {}) self.old.calls.faults self.new.calls.faults result }
         ensures sound { self.old.calls.fail.items ≡ [] → (self.new.calls.fail.items ≡ []) ×
             (HasNext (Some (links self.old.coming.items self.old.ended.items)) → IsOk result × (self.new.calls.faults ≡ self.old.calls.faults)) }
@@ -106,7 +106,7 @@ impl Door for MemoryDoor {
 
     fn done(&mut self, link: MemoryLink) -> Result<(), OutOfMemory>
         ensures told { TakesBack (Some (links self.old.coming.items self.old.ended.items)) (Some (links self.new.coming.items self.new.ended.items)) link result }
-        ensures bound { self.new.port ≡ self.old.port }
+        ensures port { self.new.port ≡ self.old.port }
         ensures count { self.new.calls.faults ≡ self.old.calls.faults }
         ensures sound { self.old.calls.fail.items ≡ [] → self.new.calls.fail.items ≡ [] }
         // It isn't numbered among the door's calls.

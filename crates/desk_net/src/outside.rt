@@ -26,6 +26,8 @@ pub trait Clock {
         ensures told { IfOk result (IsAmong (moments self.old)) }
         ensures same { moments self.new ≡ moments self.old }
         ensures cause { HasCause (record {}) (fault_count self.old) (fault_count self.new) result }
+        // What it answers is no fault.
+        ensures still { OnOk result (fault_count self.new ≡ fault_count self.old) }
         ensures sound { sound self.old → sound self.new × IsOk result × (fault_count self.new ≡ fault_count self.old) };
 
     /// How often it has failed. The count never falls.
@@ -76,7 +78,7 @@ pub trait Door {
     ghost told: { Self → Option (Links Self.Link) };
 
     /// The port at which it was opened last, none before the first.
-    ghost bound: { Self → Option ℕ };
+    ghost opened_at: { Self → Option ℕ };
 
     /// How often it has failed. The count stands still at its type's end.
     ghost fault_count: { Self → ℕ };
@@ -87,15 +89,15 @@ pub trait Door {
     /// Opens the door at a port of this machine.
     fn bind(&mut self, port: u16) -> Result<(), Failed>
         ensures same { told self.new ≡ told self.old }
-        ensures opened { OnOk result (bound self.new ≡ Some port) }
-        ensures unopened { OnErr result (bound self.new ≡ bound self.old) }
+        ensures opened { OnOk result (opened_at self.new ≡ Some port) }
+        ensures unopened { OnErr result (opened_at self.new ≡ opened_at self.old) }
         ensures cause { HasCause (record {}) (fault_count self.old) (fault_count self.new) result }
         ensures sound { sound self.old → sound self.new × IsOk result × (fault_count self.new ≡ fault_count self.old) };
 
     /// The next link. Where none is to come it fails.
     fn accept(&mut self) -> Result<Self::Link, Failed>
         ensures told { Accepts (told self.old) (told self.new) result }
-        ensures bound { bound self.new ≡ bound self.old }
+        ensures port { opened_at self.new ≡ opened_at self.old }
         ensures cause { HasCause (record {}) (fault_count self.old) (fault_count self.new) result }
         ensures sound { sound self.old → sound self.new × (HasNext (told self.old) → IsOk result × (fault_count self.new ≡ fault_count self.old)) };
 
@@ -103,7 +105,7 @@ pub trait Door {
     /// the link is gone.
     fn done(&mut self, link: Self::Link) -> Result<(), OutOfMemory>
         ensures told { TakesBack (told self.old) (told self.new) link result }
-        ensures bound { bound self.new ≡ bound self.old }
+        ensures port { opened_at self.new ≡ opened_at self.old }
         ensures count { fault_count self.new ≡ fault_count self.old }
         ensures sound { sound self.old → sound self.new };
 

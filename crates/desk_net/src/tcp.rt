@@ -129,7 +129,7 @@ impl<R: Net + Drop> Door for TcpDoor<R> {
 
     ghost told = { λ d. None };
 
-    ghost bound = { λ d. d.port };
+    ghost opened_at = { λ d. d.port };
 
     ghost fault_count = { λ d. d.faults };
 
@@ -147,7 +147,7 @@ impl<R: Net + Drop> Door for TcpDoor<R> {
 
     fn accept(&mut self) -> Result<TcpLink<R::Stream>, Failed>
         ensures cause { HasCause (record {}) self.old.faults self.new.faults result }
-        ensures bound { self.new.port ≡ self.old.port }
+        ensures port { self.new.port ≡ self.old.port }
         ensures shut { self.old.listener ≡ None → IsErr result }
         ensures fresh { IfOk result (λ link. link.faults ≡ 0) }
     {
@@ -160,7 +160,7 @@ impl<R: Net + Drop> Door for TcpDoor<R> {
 
     // It closes the connection, and takes no memory.
     fn done(&mut self, _link: TcpLink<R::Stream>) -> Result<(), OutOfMemory>
-        ensures bound { self.new.port ≡ self.old.port }
+        ensures port { self.new.port ≡ self.old.port }
         ensures count { self.new.faults ≡ self.old.faults }
         ensures always { IsOk result }
     {

@@ -4,15 +4,15 @@ use Rattle.plan_json.proofs.AskForms.{call_from_forms}
 use Rattle.desk_json.specs.Faults.{Finds}
 use Rattle.desk_json.proofs.LineForms.{call_again}
 use Rattle.desk_json.proofs.LineLaws.{call_finds}
-use Rattle.desk_json.proofs.Lacking.{call_lacks}
+use Rattle.desk_json.proofs.Unread.{call_unread}
 use Rattle.desk_json.proofs.Least.{call_tells}
 use Rattle.desk_json.proofs.lines.read_call.Goals as goal
 
 pub returns-clause-extra : goal.returns-clause-extra
 returns-clause-extra c = call_tells c.args.bytes.now c.call_answer.result c.call_answer.ensures.answer
 
-pub returns-clause-lack : goal.returns-clause-lack
-returns-clause-lack c = call_lacks c.args.bytes.now c.call_answer.result c.call_answer.ensures.answer
+pub returns-clause-unread : goal.returns-clause-unread
+returns-clause-unread c = call_unread c.args.bytes.now c.call_answer.result c.call_answer.ensures.answer
 
 pub returns-clause-found : goal.returns-clause-found
 returns-clause-found c = call_finds c.args.bytes.now c.call_answer.result c.call_answer.ensures.answer

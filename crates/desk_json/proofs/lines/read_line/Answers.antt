@@ -4,15 +4,15 @@ use Rattle.plan_json.proofs.AskForms.{call_from_forms}
 use Rattle.desk_json.specs.Faults.{Finds}
 use Rattle.desk_json.proofs.Again.{line_again}
 use Rattle.desk_json.proofs.LineLaws.{line_finds}
-use Rattle.desk_json.proofs.Lacking.{line_lacks}
+use Rattle.desk_json.proofs.Unread.{line_unread}
 use Rattle.desk_json.proofs.Least.{line_tells}
 use Rattle.desk_json.proofs.lines.read_line.Goals as goal
 
 pub returns-clause-extra : goal.returns-clause-extra
 returns-clause-extra c = line_tells c.args.line.now c.line_answer.result c.line_answer.ensures.answer
 
-pub returns-clause-lack : goal.returns-clause-lack
-returns-clause-lack c = line_lacks c.args.line.now c.line_answer.result c.line_answer.ensures.answer
+pub returns-clause-unread : goal.returns-clause-unread
+returns-clause-unread c = line_unread c.args.line.now c.line_answer.result c.line_answer.ensures.answer
 
 pub returns-clause-found : goal.returns-clause-found
 returns-clause-found c = line_finds c.args.line.now c.line_answer.result c.line_answer.ensures.answer
