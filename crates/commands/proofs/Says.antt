@@ -91,13 +91,13 @@ served_over tables told before faults serving port most status text start (Some 
       },
     )
 
-pub door_over : {L : Type 0} (link : L → Option Line) (fails : L → L → Type 0) (old new : Option (Links L)) (bound : Option ℕ) (moments : Option (List ℕ)) (door clock : Type 0) (tables : TableRows) (told : Option Rows)
+pub door_over : {L : Type 0} (link : L → Option Line) (fails : L → L → Type 0) (old new : Option (Links L)) (opened_at : Option ℕ) (moments : Option (List ℕ)) (door clock : Type 0) (tables : TableRows) (told : Option Rows)
     (before faults port most status : ℕ) (text : List ℕ) (start : Shown) (board : Option Shown) (after : Telling) → IsOpened told tables start → before ≤ faults
-    → IsServedFrom start faults (IsServing link fails old new bound moments door clock) port most status text board after
-    → IsServedWith tables (telling told before) (IsServing link fails old new bound moments door clock) port most status text board after
-door_over link fails old new bound moments door clock tables told before faults port most status text start board after opened under is =
-    served_over tables told before faults (IsServing link fails old new bound moments door clock) port most status text start board after
-    (λ end less high now s t lower serves. serving_from link fails old new bound moments door clock port most end less high now s t lower serves) opened under is
+    → IsServedFrom start faults (IsServing link fails old new opened_at moments door clock) port most status text board after
+    → IsServedWith tables (telling told before) (IsServing link fails old new opened_at moments door clock) port most status text board after
+door_over link fails old new opened_at moments door clock tables told before faults port most status text start board after opened under is =
+    served_over tables told before faults (IsServing link fails old new opened_at moments door clock) port most status text start board after
+    (λ end less high now s t lower serves. serving_from link fails old new opened_at moments door clock port most end less high now s t lower serves) opened under is
 
 -- what two clauses of an answer lead to
 pub both_ok : {T E : Type 0} (P Q R : T → Type 0) (r : Result T E) → ((x : T) → P x → Q x → R x) → IfOk r P → IfOk r Q → IfOk r R

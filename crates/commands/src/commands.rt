@@ -246,6 +246,7 @@ fn closing_of(alloc: Global, board: &Board) -> Result<Answer, OutOfMemory>
 fn answer_of_end(alloc: Global, end: ServeEnd, board: &Board) -> Result<Answer, OutOfMemory>
     ensures says { IfOk result (λ a. EndSays end board.now a.status a.text.items) }
     ensures never { IfOk result (λ a. (a.status ≢ 5) × (a.status ≢ 7)) }
+    ensures done { IfOk result (λ a. a.status ≡ 0 → end ≡ ends.Done) }
     ensures clock { end ≢ ends.ClockFault → IfOk result (λ a. a.status ≢ 11) }
     ensures door { end ≢ ends.DoorFault → IfOk result (λ a. a.status ≢ 9) }
 {
@@ -268,7 +269,7 @@ fn serve_on<R: Wait, K: Keeper, C: Clock, D: Door, L: Ledger>(
     steps: &mut Steps<L>,
 ) -> Said<K>
     requires { KeepsState (K.told desk.keeper) desk.board.state }
-    ensures serves { IfOk result.answer (λ a. IsServedFrom desk.board (K.fault_count desk.keeper) (IsServing D.Link.told (HasFailed D.Link.fault_count D.Link.sound) (D.told door.old) (D.told door.new) (D.bound door.new) (C.moments clock.old) (RoseOrFull (D.fault_count door.old) (D.fault_count door.new)) (RoseOrFull (C.fault_count clock.old) (C.fault_count clock.new))) port connections a.status a.text.items result.board (telling (K.told result.keeper) (K.fault_count result.keeper))) }
+    ensures serves { IfOk result.answer (λ a. IsServedFrom desk.board (K.fault_count desk.keeper) (IsServing D.Link.told (HasFailed D.Link.fault_count D.Link.sound) (D.told door.old) (D.told door.new) (D.opened_at door.new) (C.moments clock.old) (RoseOrFull (D.fault_count door.old) (D.fault_count door.new)) (RoseOrFull (C.fault_count clock.old) (C.fault_count clock.new))) port connections a.status a.text.items result.board (telling (K.told result.keeper) (K.fault_count result.keeper))) }
     ensures never { IfOk result.answer (λ a. (a.status ≢ 5) × (a.status ≢ 7)) }
     ensures leaves { LeavesDesk K.told K.fault_count K.sound desk result }
     ensures outside { OutsideGoesOn C.moments C.fault_count C.sound D.told D.fault_count D.sound connections clock.old clock.new door.old door.new result.answer }
@@ -297,7 +298,7 @@ fn serve_with<R: Wait, K: Keeper, C: Clock, D: Door, L: Ledger>(
     requires name { blank.name ≡ L.name }
     requires parts { blank.parts ≡ L.parts }
     requires some { 0 < blank.parts }
-    ensures says { IfOk result.answer (λ a. ServeSays tables (telling (K.told keeper) (K.fault_count keeper)) (IsServing D.Link.told (HasFailed D.Link.fault_count D.Link.sound) (D.told door.old) (D.told door.new) (D.bound door.new) (C.moments clock.old) (RoseOrFull (D.fault_count door.old) (D.fault_count door.new)) (RoseOrFull (C.fault_count clock.old) (C.fault_count clock.new))) (AreIdle clock.old clock.new door.old door.new) port connections a.status a.text.items (left_with result.board (K.told result.keeper) (K.fault_count result.keeper))) }
+    ensures says { IfOk result.answer (λ a. ServeSays tables (telling (K.told keeper) (K.fault_count keeper)) (IsServing D.Link.told (HasFailed D.Link.fault_count D.Link.sound) (D.told door.old) (D.told door.new) (D.opened_at door.new) (C.moments clock.old) (RoseOrFull (D.fault_count door.old) (D.fault_count door.new)) (RoseOrFull (C.fault_count clock.old) (C.fault_count clock.new))) (AreIdle clock.old clock.new door.old door.new) port connections a.status a.text.items (left_with result.board (K.told result.keeper) (K.fault_count result.keeper))) }
     ensures keeper { KeeperGoesOn K.told K.fault_count K.sound keeper result }
     ensures formed { NamesHaveForms tables → IfSome result.board (λ b. AreFormed b.state) }
     ensures outside { OutsideGoesOn C.moments C.fault_count C.sound D.told D.fault_count D.sound connections clock.old clock.new door.old door.new result.answer }
@@ -320,7 +321,7 @@ fn serve_over<R: Wait, K: Keeper, C: Clock, D: Door>(
     connections: u32,
     keeper: K,
 ) -> Said<K>
-    ensures says { IfOk result.answer (λ a. ServeSays tables (telling (K.told keeper) (K.fault_count keeper)) (IsServing D.Link.told (HasFailed D.Link.fault_count D.Link.sound) (D.told door.old) (D.told door.new) (D.bound door.new) (C.moments clock.old) (RoseOrFull (D.fault_count door.old) (D.fault_count door.new)) (RoseOrFull (C.fault_count clock.old) (C.fault_count clock.new))) (AreIdle clock.old clock.new door.old door.new) port connections a.status a.text.items (left_with result.board (K.told result.keeper) (K.fault_count result.keeper))) }
+    ensures says { IfOk result.answer (λ a. ServeSays tables (telling (K.told keeper) (K.fault_count keeper)) (IsServing D.Link.told (HasFailed D.Link.fault_count D.Link.sound) (D.told door.old) (D.told door.new) (D.opened_at door.new) (C.moments clock.old) (RoseOrFull (D.fault_count door.old) (D.fault_count door.new)) (RoseOrFull (C.fault_count clock.old) (C.fault_count clock.new))) (AreIdle clock.old clock.new door.old door.new) port connections a.status a.text.items (left_with result.board (K.told result.keeper) (K.fault_count result.keeper))) }
     ensures keeper { KeeperGoesOn K.told K.fault_count K.sound keeper result }
     ensures formed { NamesHaveForms tables → IfSome result.board (λ b. AreFormed b.state) }
     ensures outside { OutsideGoesOn C.moments C.fault_count C.sound D.told D.fault_count D.sound connections clock.old clock.new door.old door.new result.answer }
@@ -349,7 +350,7 @@ fn answer_of_serve<R: Wait, S: Shelf, K: Keeper, C: Clock, D: Door>(
     keeper: K,
 ) -> Said<K>
     ensures sound { S.sound shelf.old → All (HoldsName (S.sources shelf.old)) (sources_for (task.Serve port connections) []) → IfOk result.answer (λ a. a.status ≢ 3) }
-    ensures says { IfOk result.answer (λ a. ServingSays (S.sources shelf.old) (RoseOrFull (S.fault_count shelf.old) (S.fault_count shelf.new)) (IsServing D.Link.told (HasFailed D.Link.fault_count D.Link.sound) (D.told door.old) (D.told door.new) (D.bound door.new) (C.moments clock.old) (RoseOrFull (D.fault_count door.old) (D.fault_count door.new)) (RoseOrFull (C.fault_count clock.old) (C.fault_count clock.new))) (AreIdle clock.old clock.new door.old door.new) (telling (K.told keeper) (K.fault_count keeper)) port connections a.status a.text.items (left_with result.board (K.told result.keeper) (K.fault_count result.keeper))) }
+    ensures says { IfOk result.answer (λ a. ServingSays (S.sources shelf.old) (RoseOrFull (S.fault_count shelf.old) (S.fault_count shelf.new)) (IsServing D.Link.told (HasFailed D.Link.fault_count D.Link.sound) (D.told door.old) (D.told door.new) (D.opened_at door.new) (C.moments clock.old) (RoseOrFull (D.fault_count door.old) (D.fault_count door.new)) (RoseOrFull (C.fault_count clock.old) (C.fault_count clock.new))) (AreIdle clock.old clock.new door.old door.new) (telling (K.told keeper) (K.fault_count keeper)) port connections a.status a.text.items (left_with result.board (K.told result.keeper) (K.fault_count result.keeper))) }
     ensures keeper { KeeperGoesOn K.told K.fault_count K.sound keeper result }
     ensures formed { IfSome result.board (λ b. AreFormed b.state) }
     ensures outside { OutsideGoesOn C.moments C.fault_count C.sound D.told D.fault_count D.sound connections clock.old clock.new door.old door.new result.answer }
@@ -371,7 +372,7 @@ pub(crate) fn answer_to<R: Wait, S: Shelf, K: Keeper, C: Clock, D: Door>(
     keeper: K,
 ) -> Said<K>
     ensures sound { S.sound shelf.old → All (HoldsName (S.sources shelf.old)) (sources_of (command_of (map string_bytes words.now))) → IfOk result.answer (λ a. a.status ≢ 3) }
-    ensures says { IfOk result.answer (λ a. Says (S.sources shelf.old) (RoseOrFull (S.fault_count shelf.old) (S.fault_count shelf.new)) (IsServing D.Link.told (HasFailed D.Link.fault_count D.Link.sound) (D.told door.old) (D.told door.new) (D.bound door.new) (C.moments clock.old) (RoseOrFull (D.fault_count door.old) (D.fault_count door.new)) (RoseOrFull (C.fault_count clock.old) (C.fault_count clock.new))) (AreIdle clock.old clock.new door.old door.new) (telling (K.told keeper) (K.fault_count keeper)) (command_of (map string_bytes words.now)) a.status a.text.items (left_with result.board (K.told result.keeper) (K.fault_count result.keeper))) }
+    ensures says { IfOk result.answer (λ a. Says (S.sources shelf.old) (RoseOrFull (S.fault_count shelf.old) (S.fault_count shelf.new)) (IsServing D.Link.told (HasFailed D.Link.fault_count D.Link.sound) (D.told door.old) (D.told door.new) (D.opened_at door.new) (C.moments clock.old) (RoseOrFull (D.fault_count door.old) (D.fault_count door.new)) (RoseOrFull (C.fault_count clock.old) (C.fault_count clock.new))) (AreIdle clock.old clock.new door.old door.new) (telling (K.told keeper) (K.fault_count keeper)) (command_of (map string_bytes words.now)) a.status a.text.items (left_with result.board (K.told result.keeper) (K.fault_count result.keeper))) }
     ensures keeper { KeeperGoesOn K.told K.fault_count K.sound keeper result }
     ensures formed { IfSome result.board (λ b. AreFormed b.state) }
     ensures outside { OutsideGoesOn C.moments C.fault_count C.sound D.told D.fault_count D.sound (links_of (command_of (map string_bytes words.now))) clock.old clock.new door.old door.new result.answer }

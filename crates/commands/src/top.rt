@@ -85,12 +85,14 @@ pub fn desk_main<R: Wait, S: Shelf, O: Sink, C: Clock + Drop, K: Keeper, D: Door
     ensures blames { Blames (S.sound shelf.old × All (HoldsName (S.sources shelf.old)) (sources_of (command_of (map string_bytes words.now)))) (O.sound out.old) (K.sound keeper)
         (D.sound door.old × HasLinks (D.told door.old) (links_of (command_of (map string_bytes words.now)))) (C.sound clock) result.status }
     ensures ends { EndsProgram (Says (S.sources shelf.old) (RoseOrFull (S.fault_count shelf.old) (S.fault_count shelf.new))
-        (IsServing D.Link.told (HasFailed D.Link.fault_count D.Link.sound) (D.told door.old) (D.told door.new) (D.bound door.new) (C.moments clock) (RoseOrFull (D.fault_count door.old) (D.fault_count door.new)) (RoseOrFull (C.fault_count clock) (C.fault_count result.clock)))
+        (IsServing D.Link.told (HasFailed D.Link.fault_count D.Link.sound) (D.told door.old) (D.told door.new) (D.opened_at door.new) (C.moments clock) (RoseOrFull (D.fault_count door.old) (D.fault_count door.new)) (RoseOrFull (C.fault_count clock) (C.fault_count result.clock)))
         (AreIdle clock result.clock door.old door.new) (telling (K.told keeper) (K.fault_count keeper)) (command_of (map string_bytes words.now)))
         (RoseOrFull (O.fault_count out.old) (O.fault_count out.new)) (O.content out.old) (O.content out.new) result.status (left_with result.board (K.told result.keeper) (K.fault_count result.keeper)) }
     // Whatever the status: the clock tells the same moments, and neither its count nor the door's falls. A sound clock stays sound,
     // and its count stands still.
     ensures clock { ClockGoesOn C.moments C.fault_count C.sound clock result.clock }
+    // At status 0 no fault of the clock was passed over.
+    ensures still { result.status ≡ 0 → C.fault_count result.clock ≡ C.fault_count clock }
     ensures door { D.fault_count door.old ≤ D.fault_count door.new }
     ensures later { K.fault_count keeper ≤ K.fault_count result.keeper }
     // A sound keeper never ends a run, and since its count stands still nothing is refused for its sake.

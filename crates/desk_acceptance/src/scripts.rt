@@ -13,7 +13,7 @@ use desk_io::{MemoryShelf, MemorySink, OutOfMemory, Text, push_all};
 use desk_net::MemoryDoor;
 use desk_time::FIRST;
 use keeper::MemoryKeeper;
-use memory_desk::{clock_at, ended, words_of};
+use memory_desk::{came_of, clock_at, words_of};
 use small_airline::{push_small, shelf_of};
 use std::alloc::Global;
 use std::sync::Wait;
@@ -37,7 +37,7 @@ fn status_of<R: Wait>(
     let clock = clock_at(alloc, FIRST, &[])?;
     let keeper = MemoryKeeper::new(Vec::new(alloc), Vec::new(alloc));
     let mut door = MemoryDoor::new(alloc, Vec::new(alloc), Vec::new(alloc));
-    Ok(ended(rt, alloc, words, shelf, sink, clock, keeper, &mut door).status)
+    Ok(came_of(rt, alloc, words, shelf, sink, clock, keeper, &mut door).status)
 }
 
 // Whether this is the status and the text of a command over the tables of the small airline and one source, `script`.

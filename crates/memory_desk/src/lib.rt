@@ -5,21 +5,21 @@
 use commands::{Ending, desk_main};
 use desk_io::{OutOfMemory, Shelf, Sink};
 use desk_net::{Clock, Door, MemoryClock};
-use desk_time::{LAST, FIRST, Minute};
+use desk_time::{FIRST, LAST, Minute};
 use keeper::Keeper;
 use std::alloc::Global;
 use std::sync::Wait;
 
 /// What a command came to: its status, whether a board is left, and the keeper that was given back.
 #[derive(Drop)]
-pub struct Ended<K> {
+pub struct Came<K> {
     pub status: u8,
     pub board: bool,
     pub keeper: K,
 }
 
-/// Does what words ask for.
-pub fn ended<R: Wait, S: Shelf, O: Sink, C: Clock + Drop, K: Keeper, D: Door>(
+/// What words come to.
+pub fn came_of<R: Wait, S: Shelf, O: Sink, C: Clock + Drop, K: Keeper, D: Door>(
     rt: &R,
     alloc: Global,
     words: &[String],
@@ -28,21 +28,21 @@ pub fn ended<R: Wait, S: Shelf, O: Sink, C: Clock + Drop, K: Keeper, D: Door>(
     clock: C,
     keeper: K,
     door: &mut D,
-) -> Ended<K> {
+) -> Came<K> {
     let Ending {
         status,
         board,
         keeper,
         ..
     } = desk_main(rt, alloc, words, shelf, out, clock, keeper, door);
-    Ended {
+    Came {
         status,
         board: board.is_some(),
         keeper,
     }
 }
 
-/// The words of a command, between blanks.
+/// The words of a command, between blanks; none is empty.
 pub fn words_of(alloc: Global, command: &str) -> Result<Vec<String>, OutOfMemory> {
     let mut words = Vec::new(alloc);
     for word in command.split(" ") {

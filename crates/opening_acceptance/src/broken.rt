@@ -5,7 +5,7 @@ use desk_io::{Change, MemorySink, OutOfMemory, Row};
 use desk_net::MemoryDoor;
 use desk_time::FIRST;
 use keeper::{KeepFault, Keeper};
-use memory_desk::{clock_at, ended, words_of};
+use memory_desk::{came_of, clock_at, words_of};
 use std::alloc::Global;
 use std::sync::Wait;
 use std::test::Fail;
@@ -53,10 +53,10 @@ fn is_told<R: Wait>(rt: &R, alloc: Global) -> Result<bool, OutOfMemory> {
         commits: 0,
         faults: 0,
     };
-    let ended = ended(
+    let came = came_of(
         rt, alloc, &words, &mut shelf, &mut sink, clock, broken, &mut door,
     );
-    Ok(ended.status == 5 && sink.written() == b"error 5 KeeperFault\n".as_slice())
+    Ok(came.status == 5 && sink.written() == b"error 5 KeeperFault\n".as_slice())
 }
 
 #[test]

@@ -3,7 +3,7 @@ use desk_io::{MemoryShelf, MemorySink, OutOfMemory, Row, Text, push_all};
 use desk_net::MemoryDoor;
 use desk_time::FIRST;
 use keeper::{MemoryKeeper, is_rising};
-use memory_desk::{Ended, clock_at, ended, words_of};
+use memory_desk::{Came, came_of, clock_at, words_of};
 use small_airline::push_small;
 use std::alloc::Global;
 use std::sync::Wait;
@@ -102,10 +102,10 @@ pub fn shelf_with_script(alloc: Global, script: &[u8]) -> Result<MemoryShelf, Ou
 
 fn ran_of(
     alloc: Global,
-    ended: Ended<MemoryKeeper>,
+    came: Came<MemoryKeeper>,
     sink: &MemorySink,
 ) -> Result<Ran, OutOfMemory> {
-    let Ended { status, keeper, .. } = ended;
+    let Came { status, keeper, .. } = came;
     Ok(Ran {
         status,
         said: Vec::from_slice(alloc, sink.written())?,
@@ -123,10 +123,10 @@ fn run_with<R: Wait>(
     let mut sink = MemorySink::new(alloc, Vec::new(alloc));
     let clock = clock_at(alloc, FIRST, &[])?;
     let mut door = MemoryDoor::new(alloc, Vec::new(alloc), Vec::new(alloc));
-    let ended = ended(
+    let came = came_of(
         rt, alloc, &words, shelf, &mut sink, clock, keeper, &mut door,
     );
-    ran_of(alloc, ended, &sink)
+    ran_of(alloc, came, &sink)
 }
 
 /// What a run of a script comes to over the rows of lines, where commits of some numbers fail.

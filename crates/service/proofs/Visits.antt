@@ -271,20 +271,20 @@ door_ends : {L : Type 0} (door clock : Type 0) (most : ℕ) (vs : List (Visit L)
 door_ends door clock most vs true rose had few = inr (rose, few)
 door_ends door clock most vs false rose had few = (rose, few, had refl)
 
-at_port : {L : Type 0} (bound : Option ℕ) (port : ℕ) (vs : List (Visit L)) → bound ≡ Some port → AreAtPort bound port vs
-at_port bound port [] is = tt
-at_port bound port (v ∷ vs) is = is
+at_port : {L : Type 0} (opened_at : Option ℕ) (port : ℕ) (vs : List (Visit L)) → opened_at ≡ Some port → AreAtPort opened_at port vs
+at_port opened_at port [] is = tt
+at_port opened_at port (v ∷ vs) is = is
 
-pub served_to_fault : {L : Type 0} (told : L → Option Stream) (fails : L → L → Type 0) (old mid new : Option (Links L)) (bound : Option ℕ) (moments : Option (List ℕ)) (door rose clock : Type 0) (port done most : ℕ) (met : Met) (end : ServeEnd)
-    (before middle after : ℕ) (s u t : State) → end ≡ end_at_door met → done < most → bound ≡ Some port → door → (rose → clock) → new ≡ mid → after ≡ middle → t ≡ u → HasServed told fails old mid moments rose done met before middle s u
-    → IsServing told fails old new bound moments door clock port most end before after s t
-served_to_fault {L} told fails old mid new bound moments door rose clock port done most met end before middle after s u t how within opened failing of_rose same counts is has =
+pub served_to_fault : {L : Type 0} (told : L → Option Stream) (fails : L → L → Type 0) (old mid new : Option (Links L)) (opened_at : Option ℕ) (moments : Option (List ℕ)) (door rose clock : Type 0) (port done most : ℕ) (met : Met) (end : ServeEnd)
+    (before middle after : ℕ) (s u t : State) → end ≡ end_at_door met → done < most → opened_at ≡ Some port → door → (rose → clock) → new ≡ mid → after ≡ middle → t ≡ u → HasServed told fails old mid moments rose done met before middle s u
+    → IsServing told fails old new opened_at moments door clock port most end before after s t
+served_to_fault {L} told fails old mid new opened_at moments door rose clock port done most met end before middle after s u t how within opened failing of_rose same counts is has =
     let many = has.many in
     let are : AreVisits told fails 1 moments clock before middle s has.vs u = visits_from told fails 1 moments rose clock before before middle s has.vs u (omega arith) of_rose has.are in (
       has.vs,
       subst (λ n. AreVisits told fails 1 moments clock before n s has.vs t) (sym counts) (subst (λ (x : State). AreVisits told fails 1 moments clock before middle s has.vs x) (sym is) are),
       subst (λ (d : Option (Links L)). AreTaken old d has.vs) (sym same) has.taken,
-      at_port bound port has.vs opened,
+      at_port opened_at port has.vs opened,
       subst (EndsServing door clock most has.vs) (sym how) (door_ends door clock most has.vs met.memory failing has.had (fewer has.vs done most many within)),
     )
 
@@ -295,17 +295,50 @@ all_end door failed clock most vs false true of_clock fault had well some many =
 all_end door failed clock most vs false false of_clock fault had well some many = (many, well refl refl)
 
 -- as many connections were served as stated
-pub served_to_end : {L : Type 0} (told : L → Option Stream) (fails : L → L → Type 0) (old new : Option (Links L)) (bound : Option ℕ) (moments : Option (List ℕ)) (door failed clock : Type 0) (port done most : ℕ) (met : Met) (end : ServeEnd)
-    (before after : ℕ) (s t : State) → end ≡ end_of met → done ≤ most → most ≤ done → bound ≡ Some port → (failed → clock) → HasServed told fails old new moments failed done met before after s t
-    → IsServing told fails old new bound moments door clock port most end before after s t
-served_to_end told fails old new bound moments door failed clock port done most met end before after s t how within all opened of_clock has =
+pub served_to_end : {L : Type 0} (told : L → Option Stream) (fails : L → L → Type 0) (old new : Option (Links L)) (opened_at : Option ℕ) (moments : Option (List ℕ)) (door failed clock : Type 0) (port done most : ℕ) (met : Met) (end : ServeEnd)
+    (before after : ℕ) (s t : State) → end ≡ end_of met → done ≤ most → most ≤ done → opened_at ≡ Some port → (failed → clock) → HasServed told fails old new moments failed done met before after s t
+    → IsServing told fails old new opened_at moments door clock port most end before after s t
+served_to_end told fails old new opened_at moments door failed clock port done most met end before after s t how within all opened of_clock has =
     let many = has.many in (
       has.vs,
       visits_from told fails 1 moments failed clock before before after s has.vs t (omega arith) of_clock has.are,
       has.taken,
-      at_port bound port has.vs opened,
+      at_port opened_at port has.vs opened,
       subst (EndsServing door clock most has.vs) (sym how) (all_end door failed clock most has.vs met.memory met.clock of_clock has.fault has.had has.well has.some (omega (arith, many, within, all))),
     )
+
+-- ---- where the clock has not failed
+
+-- where all has been well after one connection more, it was well before, and with this one
+well_by : (m : Met) (how : Served) → (met_after m how).memory ≡ false → (met_after m how).clock ≡ false → (m.memory ≡ false) × (m.clock ≡ false) × (how ≢ served.ClockFault) × (how ≢ served.OutOfMemory)
+well_by m served.OutOfMemory none fine = absurd (cc none)
+well_by m served.ClockFault none fine = absurd (cc fine)
+well_by m served.Ended none fine = (none, fine, not_clock served.Ended refl, not_memory served.Ended refl)
+well_by m served.Cut none fine = (none, fine, not_clock served.Cut refl, not_memory served.Cut refl)
+well_by m served.BadHead none fine = (none, fine, not_clock served.BadHead refl, not_memory served.BadHead refl)
+well_by m served.TooLarge none fine = (none, fine, not_clock served.TooLarge refl, not_memory served.TooLarge refl)
+well_by m served.NoLength none fine = (none, fine, not_clock served.NoLength refl, not_memory served.NoLength refl)
+well_by m served.WrongMethod none fine = (none, fine, not_clock served.WrongMethod refl, not_memory served.WrongMethod refl)
+well_by m served.ReadFault none fine = (none, fine, not_clock served.ReadFault refl, not_memory served.ReadFault refl)
+well_by m served.WriteFault none fine = (none, fine, not_clock served.WriteFault refl, not_memory served.WriteFault refl)
+
+pub well_before : (m next : Met) (how : Served) → next ≡ met_after m how → next.memory ≡ false → next.clock ≡ false → (m.memory ≡ false) × (m.clock ≡ false) × (how ≢ served.ClockFault) × (how ≢ served.OutOfMemory)
+well_before m next how is none fine = well_by m how (ap (λ (x : Met). x.memory) (sym is) ∙ none) (ap (λ (x : Met). x.clock) (sym is) ∙ fine)
+
+done_by : (memory late : Bool) → (if memory then ends.OutOfMemory else (if late then ends.ClockFault else ends.Done)) ≡ ends.Done → (memory ≡ false) × (late ≡ false)
+done_by true late done = absurd (cc done)
+done_by false true done = absurd (cc done)
+done_by false false done = (refl, refl)
+
+pub done_well : (m : Met) (end : ServeEnd) → end ≡ end_of m → end ≡ ends.Done → (m.memory ≡ false) × (m.clock ≡ false)
+done_well m end how done = done_by m.memory m.clock (sym how ∙ done)
+
+undone : (memory : Bool) → (if memory then ends.OutOfMemory else ends.DoorFault) ≢ ends.Done
+undone true = λ is. absurd (cc)
+undone false = λ is. absurd (cc)
+
+pub door_not_done : (m : Met) (end : ServeEnd) → end ≡ end_at_door m → end ≢ ends.Done
+door_not_done m end how = λ is. undone m.memory (sym how ∙ is)
 
 -- ---- what never ends serving
 
@@ -331,7 +364,7 @@ next_comes (Some old) None vs done most taken many few links = absurd taken
 
 -- ---- the same, counted from before
 
-pub serving_from : {L : Type 0} (told : L → Option Stream) (fails : L → L → Type 0) (old new : Option (Links L)) (bound : Option ℕ) (moments : Option (List ℕ)) (door clock : Type 0) (port most : ℕ) (end : ServeEnd) (less before after : ℕ) (s t : State)
-    → less ≤ before → IsServing told fails old new bound moments door clock port most end before after s t → IsServing told fails old new bound moments door clock port most end less after s t
-serving_from told fails old new bound moments door clock port most end less before after s t under (vs, are, taken, at, ends) =
+pub serving_from : {L : Type 0} (told : L → Option Stream) (fails : L → L → Type 0) (old new : Option (Links L)) (opened_at : Option ℕ) (moments : Option (List ℕ)) (door clock : Type 0) (port most : ℕ) (end : ServeEnd) (less before after : ℕ) (s t : State)
+    → less ≤ before → IsServing told fails old new opened_at moments door clock port most end before after s t → IsServing told fails old new opened_at moments door clock port most end less after s t
+serving_from told fails old new opened_at moments door clock port most end less before after s t under (vs, are, taken, at, ends) =
     (vs, visits_from told fails 1 moments clock clock less before after s vs t under (λ rose. rose) are, taken, at, ends)

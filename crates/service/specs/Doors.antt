@@ -79,15 +79,15 @@ EndsServing door clock most vs ends.DoorFault = door × AreFewer most vs × AllB
 EndsServing door clock most vs ends.ClockFault = clock × (length vs ≡ most) × AllByRecursion HadMemory vs × (list_any ended_by_clock vs ≡ true)
 EndsServing door clock most vs ends.OutOfMemory = (length vs ≡ most) ⊎ (door × AreFewer most vs)
 
--- Where a link came, the door had been opened at that port.
+-- Where a link came, that is the port at which the door was opened last.
 abbrev pub AreAtPort : {L : Type 0} → Option ℕ → ℕ → List (Visit L) → Type 0
-AreAtPort bound port [] = Unit {0}
-AreAtPort bound port (v ∷ vs) = bound ≡ Some port
+AreAtPort opened_at port [] = Unit {0}
+AreAtPort opened_at port (v ∷ vs) = opened_at ≡ Some port
 
 -- Connections of a door at a port were served from a state to another, one after another, and so it ended.
 abbrev pub IsServing : {L : Type 0} → (L → Option Stream) → (L → L → Type 0) → Option (Links L) → Option (Links L) → Option ℕ → Option (List ℕ) → Type 0 → Type 0 → ℕ → ℕ → ServeEnd → ℕ → ℕ → State → State → Type 0
-IsServing {L} told fails old new bound moments door clock port most end before after s t =
-    (vs : List (Visit L)) × AreVisits told fails 1 moments clock before after s vs t × AreTaken old new vs × AreAtPort bound port vs × EndsServing door clock most vs end
+IsServing {L} told fails old new opened_at moments door clock port most end before after s t =
+    (vs : List (Visit L)) × AreVisits told fails 1 moments clock before after s vs t × AreTaken old new vs × AreAtPort opened_at port vs × EndsServing door clock most vs end
 
 -- ---- what connections have met so far
 

@@ -1,10 +1,11 @@
-ghost use Rattle.std.specs.Prelude.{◌≡◌, ◌≢◌, ◌≤◌, ◌∷◌, [], IfOk, IfErr, IsOk};
+ghost use Rattle.std.specs.Prelude.{◌≡◌, ◌≢◌, ◌≤◌, ◌∷◌, [], Ok, IfOk, IfErr, IsOk};
 ghost use Rattle.desk_io.specs.Causes.{RoseOrFull};
 ghost use Rattle.desk_net.specs.Doors.{HasNext};
 ghost use Rattle.service.specs.Doors as spec;
 ghost use Rattle.service.specs.Doors.{AreTaken, HasLinks, IsServing, IsVisit, Visit};
 ghost use Rattle.service.specs.Onward.{DeskGoesOn, ClockGoesOn, HasFailed};
 ghost use Rattle.service.specs.declared.doors.ServeEnd.TheVariants as ends;
+ghost use Rattle.service.specs.declared.serving.Served.TheVariants as seen;
 
 use crate::serving::{Served, serve_link};
 use desk::Desk;
@@ -94,8 +95,9 @@ fn serve_next_link<R: Wait, K: Keeper, C: Clock, D: Door, L: Ledger>(
         × (K.fault_count desk.new.keeper ≡ K.fault_count desk.old.keeper)) }
     ensures desk { DeskGoesOn K.told K.fault_count K.sound desk.old desk.new }
     ensures clock { ClockGoesOn C.moments C.fault_count C.sound clock.old clock.new }
+    ensures still { result ≢ Ok seen.ClockFault → result ≢ Ok seen.OutOfMemory → C.fault_count clock.new ≡ C.fault_count clock.old }
     ensures door { D.fault_count door.old ≤ D.fault_count door.new }
-    ensures bound { D.bound door.new ≡ D.bound door.old }
+    ensures port { D.opened_at door.new ≡ D.opened_at door.old }
     ensures steady_door { D.sound door.old → D.sound door.new × (HasNext (D.told door.old) → IsOk result) }
 {
     let mut link = door.accept()?;
@@ -118,9 +120,11 @@ pub fn serve_door<R: Wait, K: Keeper, C: Clock, D: Door, L: Ledger>(
     connections: u32,
     steps: &mut Steps<L>,
 ) -> ServeEnd
-    ensures serves { IsServing D.Link.told (HasFailed D.Link.fault_count D.Link.sound) (D.told door.old) (D.told door.new) (D.bound door.new) (C.moments clock.old) (RoseOrFull (D.fault_count door.old) (D.fault_count door.new)) (RoseOrFull (C.fault_count clock.old) (C.fault_count clock.new)) port connections result (K.fault_count desk.old.keeper) (K.fault_count desk.new.keeper) desk.old.board.state desk.new.board.state }
+    ensures serves { IsServing D.Link.told (HasFailed D.Link.fault_count D.Link.sound) (D.told door.old) (D.told door.new) (D.opened_at door.new) (C.moments clock.old) (RoseOrFull (D.fault_count door.old) (D.fault_count door.new)) (RoseOrFull (C.fault_count clock.old) (C.fault_count clock.new)) port connections result (K.fault_count desk.old.keeper) (K.fault_count desk.new.keeper) desk.old.board.state desk.new.board.state }
     ensures desk { DeskGoesOn K.told K.fault_count K.sound desk.old desk.new }
     ensures clock { ClockGoesOn C.moments C.fault_count C.sound clock.old clock.new }
+    // A fault of the clock isn't passed over: where all was served well, the count stands still.
+    ensures still { result ≡ ends.Done → C.fault_count clock.new ≡ C.fault_count clock.old }
     ensures door { D.fault_count door.old ≤ D.fault_count door.new }
     // Neither ends the serving where it is sound, and the door has a link to come for each connection.
     ensures steady_clock { C.sound clock.old → result ≢ ends.ClockFault }

@@ -1,4 +1,4 @@
-ghost use Rattle.std.specs.Prelude.{◌≡◌, IfOk, IsErrOf};
+ghost use Rattle.std.specs.Prelude.{◌≡◌, ◌≢◌, Err, IfOk, IsErrOf};
 ghost use Rattle.http.specs.StatusCode.{IsStatusCode};
 ghost use Rattle.plan_json.specs.Canonical.{CallHasForms};
 ghost use Rattle.service.specs.Forms.{RequestedHasForms};
@@ -50,6 +50,7 @@ fn reply_to<K: Keeper, C: Clock, L: Ledger>(
     ensures code { IfOk result (λ r. IsStatusCode r.status) }
     ensures desk { DeskGoesOn K.told K.fault_count K.sound desk.old desk.new }
     ensures clock { ClockGoesOn C.moments C.fault_count C.sound clock.old clock.new }
+    ensures still { result ≢ Err ByClock → C.fault_count clock.new ≡ C.fault_count clock.old }
 {
     let Ok(at) = clock.now() else {
         return Err(NoAnswer::ClockFault);
@@ -72,6 +73,7 @@ fn respond<K: Keeper, C: Clock, L: Ledger>(
     ensures code { IfOk result (λ r. IsStatusCode r.status) }
     ensures desk { DeskGoesOn K.told K.fault_count K.sound desk.old desk.new }
     ensures clock { ClockGoesOn C.moments C.fault_count C.sound clock.old clock.new }
+    ensures still { result ≢ Err ByClock → C.fault_count clock.new ≡ C.fault_count clock.old }
 {
     match requested {
         Requested::Call(call) => reply_to(alloc, desk, lane, clock, call, steps),
@@ -93,6 +95,7 @@ pub fn exchange<K: Keeper, C: Clock, L: Ledger>(
     ensures answers { TextAnswersTo lane (C.moments clock.old) (HasFailed C.fault_count C.sound clock.old clock.new) (K.fault_count desk.old.keeper) (K.fault_count desk.new.keeper) desk.old.board.state (request_of wire.now) desk.new.board.state result }
     ensures desk { DeskGoesOn K.told K.fault_count K.sound desk.old desk.new }
     ensures clock { ClockGoesOn C.moments C.fault_count C.sound clock.old clock.new }
+    ensures still { result ≢ Err ByClock → C.fault_count clock.new ≡ C.fault_count clock.old }
     // Over a sound clock only want of memory leaves a request without a response.
     ensures steady_clock { C.sound clock.old → IsErrOf result ByClock → ⊥ }
 {

@@ -1,4 +1,4 @@
-ghost use Rattle.std.specs.Prelude.{◌≡◌, ◌≢◌, ◌⊎◌, []};
+ghost use Rattle.std.specs.Prelude.{◌≡◌, ◌≢◌, ◌⊎◌, [], Some};
 ghost use Rattle.desk_http.specs.Requests.{unused};
 ghost use Rattle.desk_net.specs.Streams.{unread};
 ghost use Rattle.service.specs.Connections.{IsConnection, IsStep, IsWritten, clock_fault_answer as clock_response};
@@ -114,6 +114,7 @@ fn serve_request<K: Keeper, N: Link, C: Clock, L: Ledger>(
     ensures serves { Wrote (N.told link.old) (N.told link.new) (ServesRequest lane (C.moments clock.old) (HasFailed N.fault_count N.sound link.old link.new) (HasFailed C.fault_count C.sound clock.old clock.new) (K.fault_count desk.old.keeper) (K.fault_count desk.new.keeper) desk.old.board.state wire.now desk.new.board.state result) }
     ensures desk { DeskGoesOn K.told K.fault_count K.sound desk.old desk.new }
     ensures clock { ClockGoesOn C.moments C.fault_count C.sound clock.old clock.new }
+    ensures still { result ≢ Some ended.ClockFault → C.fault_count clock.new ≡ C.fault_count clock.old }
     ensures link { LinkGoesOn N.fault_count N.sound link.old link.new }
     ensures left { unread (N.told link.new) ≡ unread (N.told link.old) }
 {
@@ -144,6 +145,7 @@ fn serve_next<K: Keeper, N: Link, C: Clock, L: Ledger>(
     ensures serves { Wrote (N.told link.old) (N.told link.new) (λ piece. IsStep lane (C.moments clock.old) (HasFailed N.fault_count N.sound link.old link.new) (HasFailed C.fault_count C.sound clock.old clock.new) (K.fault_count desk.old.keeper) (K.fault_count desk.new.keeper) desk.old.board.state (unused buffer.old (unread (N.told link.old))) (unused buffer.new (unread (N.told link.new))) desk.new.board.state piece result) }
     ensures desk { DeskGoesOn K.told K.fault_count K.sound desk.old desk.new }
     ensures clock { ClockGoesOn C.moments C.fault_count C.sound clock.old clock.new }
+    ensures still { result ≢ Some ended.ClockFault → C.fault_count clock.new ≡ C.fault_count clock.old }
     ensures link { LinkGoesOn N.fault_count N.sound link.old link.new }
 {
     match next_request(alloc, link, buffer) {
@@ -170,6 +172,8 @@ pub fn serve_link<R: Wait, K: Keeper, N: Link, C: Clock, L: Ledger>(
     ensures serves { Wrote (N.told link.old) (N.told link.new) (IsConnection lane (C.moments clock.old) (HasFailed N.fault_count N.sound link.old link.new) (HasFailed C.fault_count C.sound clock.old clock.new) (K.fault_count desk.old.keeper) (K.fault_count desk.new.keeper) desk.old.board.state (unread (N.told link.old)) result desk.new.board.state) }
     ensures desk { DeskGoesOn K.told K.fault_count K.sound desk.old desk.new }
     ensures clock { ClockGoesOn C.moments C.fault_count C.sound clock.old clock.new }
+    // A fault of the clock ends the connection as such: however else it ends, the count stands still.
+    ensures still { result ≢ ended.ClockFault → C.fault_count clock.new ≡ C.fault_count clock.old }
     ensures link { LinkGoesOn N.fault_count N.sound link.old link.new }
     // Neither ends it where it is sound.
     ensures steady_clock { C.sound clock.old → result ≢ ended.ClockFault }

@@ -1,5 +1,5 @@
 use crate::links::{Connection, Wanted, comes_to};
-use crate::texts::{BOARD, BOARD_SEEN, CLOCK_FAULT, NO_ROUTE};
+use crate::texts::{BOARD, BOARD_SEEN, CLOCK_FAULT, NO_ROUTE, TWO};
 use service::Served;
 use std::alloc::Global;
 use std::sync::Wait;
@@ -46,25 +46,26 @@ fn a_link_fails_at_each_of_its_calls(rt: HostRuntime) -> Result<(), Fail> {
     Ok(())
 }
 
-// What an input comes to where calls of the link and the first of the clock fail.
+// What an input comes to where calls of the link and one of the clock fail, which gave so many moments before.
 fn ends_by_clock<R: Wait>(
     rt: &R,
     alloc: Global,
     input: &[u8],
     link_fails: &[u64],
+    asked: u64,
     written: &[u8],
 ) -> Result<bool, TableFault> {
     let connection = Connection {
         input,
         cut: 1000,
         link_fails,
-        clock_fails: &[0],
+        clock_fails: &[asked],
         commits_fail: &[],
     };
     let wanted = Wanted {
         ended: Served::ClockFault,
         written,
-        asked: 0,
+        asked,
     };
     comes_to(rt, alloc, &connection, &wanted)
 }
@@ -77,11 +78,22 @@ fn a_clock_that_fails_ends_the_connection(rt: HostRuntime) -> Result<(), Fail> {
         b"GET /nowhere HTTP/1.1\r\n\r\nGET /board HTTP/1.1\r\n\r\nGET /board HTTP/1.1\r\n\r\n";
     let both =
         b"HTTP/1.1 404 Not Found\r\nContent-Type: application/json\r\nContent-Length: 19\r\n\r\n{\"error\":\"NoRoute\"}HTTP/1.1 503 Service Unavailable\r\nContent-Type: application/json\r\nContent-Length: 22\r\n\r\n{\"error\":\"ClockFault\"}";
-    assert!(rt; ends_by_clock(&rt, alloc, BOARD, &[], CLOCK_FAULT)?);
+    assert!(rt; ends_by_clock(&rt, alloc, BOARD, &[], 0, CLOCK_FAULT)?);
     // the read is call 0, the write call 1
-    assert!(rt; ends_by_clock(&rt, alloc, BOARD, &[1], b"")?);
-    assert!(rt; ends_by_clock(&rt, alloc, later, &[], both)?);
-    assert!(rt; ends_by_clock(&rt, alloc, later, &[2], NO_ROUTE)?);
+    assert!(rt; ends_by_clock(&rt, alloc, BOARD, &[1], 0, b"")?);
+    assert!(rt; ends_by_clock(&rt, alloc, later, &[], 0, both)?);
+    assert!(rt; ends_by_clock(&rt, alloc, later, &[2], 0, NO_ROUTE)?);
+    Ok(())
+}
+
+// So it is at the second call: no moment that the clock gave before is taken for it.
+#[test]
+fn a_clock_that_fails_later_ends_the_connection_there(rt: HostRuntime) -> Result<(), Fail> {
+    let alloc = rt.alloc();
+    let both =
+        b"HTTP/1.1 200 OK\r\nContent-Type: application/json\r\nContent-Length: 36\r\n\r\n{\"seen\":\"BOARD 2025-03-12T17:00Z\\n\"}HTTP/1.1 503 Service Unavailable\r\nContent-Type: application/json\r\nContent-Length: 22\r\n\r\n{\"error\":\"ClockFault\"}";
+    assert!(rt; ends_by_clock(&rt, alloc, TWO, &[], 1, both)?);
+    assert!(rt; ends_by_clock(&rt, alloc, TWO, &[2], 1, BOARD_SEEN)?);
     Ok(())
 }
 

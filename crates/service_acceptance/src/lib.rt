@@ -1,5 +1,4 @@
-//! Tests of the desk over HTTP: what connections are answered, how they and the serving of a door end, and which status goes
-//! with what is said.
+//! Tests of the desk over HTTP: what connections are answered, how they end, and which status goes with what is said.
 #![tactic(auto)]
 
 #[cfg(test)]

@@ -2,7 +2,7 @@ use desk_io::{MemoryShelf, MemorySink, OutOfMemory};
 use desk_net::{MemoryClock, MemoryDoor, MemoryLink};
 use desk_time::Minute;
 use keeper::MemoryKeeper;
-use memory_desk::{clock_at, ended, words_of};
+use memory_desk::{came_of, clock_at, words_of};
 use small_airline::push_small;
 use std::alloc::Global;
 use std::sync::Wait;
@@ -49,30 +49,41 @@ fn shut_door(alloc: Global) -> Result<MemoryDoor, OutOfMemory> {
 
 // What a command came to: its status, whether a board is left, and what it wrote.
 #[derive(Drop)]
-struct Came {
+struct Ran {
     status: u8,
     board: bool,
     said: Vec<u8>,
 }
 
-// What a command comes to over a door and a clock.
-fn came_of<R: Wait>(
+// What words come to over a door and a clock.
+fn ran_by<R: Wait>(
+    rt: &R,
+    alloc: Global,
+    words: &[String],
+    clock: MemoryClock,
+    door: &mut MemoryDoor,
+) -> Result<Ran, OutOfMemory> {
+    let mut shelf = shelf(alloc)?;
+    let mut sink = MemorySink::new(alloc, Vec::new(alloc));
+    let keeper = MemoryKeeper::new(Vec::new(alloc), Vec::new(alloc));
+    let came = came_of(rt, alloc, words, &mut shelf, &mut sink, clock, keeper, door);
+    Ok(Ran {
+        status: came.status,
+        board: came.board,
+        said: Vec::from_slice(alloc, sink.written())?,
+    })
+}
+
+// The same of a command.
+fn ran_of<R: Wait>(
     rt: &R,
     alloc: Global,
     command: &str,
     clock: MemoryClock,
     door: &mut MemoryDoor,
-) -> Result<Came, OutOfMemory> {
+) -> Result<Ran, OutOfMemory> {
     let words = words_of(alloc, command)?;
-    let mut shelf = shelf(alloc)?;
-    let mut sink = MemorySink::new(alloc, Vec::new(alloc));
-    let keeper = MemoryKeeper::new(Vec::new(alloc), Vec::new(alloc));
-    let ended = ended(rt, alloc, &words, &mut shelf, &mut sink, clock, keeper, door);
-    Ok(Came {
-        status: ended.status,
-        board: ended.board,
-        said: Vec::from_slice(alloc, sink.written())?,
-    })
+    ran_by(rt, alloc, &words, clock, door)
 }
 
 // Which calls fail: of the first link, of the door and of the clock.
@@ -101,8 +112,8 @@ fn are_written(links: &[MemoryLink], texts: &[&[u8]]) -> bool {
             .all(|(link, text)| link.written() == *text)
 }
 
-fn is_so(came: &Came, wanted: &Wanted<'_>) -> bool {
-    came.status == wanted.status && came.board && came.said.as_slice() == wanted.said
+fn is_so(ran: &Ran, wanted: &Wanted<'_>) -> bool {
+    ran.status == wanted.status && ran.board && ran.said.as_slice() == wanted.said
 }
 
 // Whether a command leaves a board and comes to this.
@@ -115,9 +126,9 @@ fn comes_to<R: Wait>(
 ) -> Result<bool, OutOfMemory> {
     let mut door = door_of(alloc, failing.link, failing.door)?;
     let clock = clock_at(alloc, AT, failing.clock)?;
-    let came = came_of(rt, alloc, command, clock, &mut door)?;
+    let ran = ran_of(rt, alloc, command, clock, &mut door)?;
     Ok(
-        is_so(&came, wanted)
+        is_so(&ran, wanted)
             && door.port() == wanted.port
             && are_written(door.ended(), wanted.links),
     )
@@ -247,7 +258,7 @@ fn a_door_comes_before_a_clock(rt: HostRuntime) -> Result<(), Fail> {
 fn status_of<R: Wait>(rt: &R, alloc: Global, command: &str) -> Result<u8, OutOfMemory> {
     let mut door = shut_door(alloc)?;
     let clock = clock_at(alloc, AT, &[])?;
-    Ok(came_of(rt, alloc, command, clock, &mut door)?.status)
+    Ok(ran_of(rt, alloc, command, clock, &mut door)?.status)
 }
 
 // Ports are from 1 to 65535 and connections from 1 to 1000, both in plain decimal. What is a command comes to the door.
@@ -266,9 +277,25 @@ fn ports_and_connections_have_limits(rt: HostRuntime) -> Result<(), Fail> {
         ("serve 1 1 1", 2),
         ("serve +1 1", 2),
         ("serve -1 1", 2),
-        ("serve 1 ", 2),
     ] {
         assert!(rt; status_of(&rt, rt.alloc(), command)? == status, "{command}");
+    }
+    Ok(())
+}
+
+// The status of words of which the last is empty.
+fn status_with_empty<R: Wait>(rt: &R, alloc: Global, command: &str) -> Result<u8, OutOfMemory> {
+    let mut door = shut_door(alloc)?;
+    let clock = clock_at(alloc, AT, &[])?;
+    let mut words = words_of(alloc, command)?;
+    words.push(String::new(alloc))?;
+    Ok(ran_by(rt, alloc, &words, clock, &mut door)?.status)
+}
+
+#[test]
+fn no_word_is_empty(rt: HostRuntime) -> Result<(), Fail> {
+    for command in ["", "run", "weather", "serve", "serve 1", "serve 1 1"] {
+        assert!(rt; status_with_empty(&rt, rt.alloc(), command)? == 2, "{command}");
     }
     Ok(())
 }

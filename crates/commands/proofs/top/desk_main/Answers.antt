@@ -1,4 +1,4 @@
-use Rattle.std.proofs.Common.{◌≢◌, arith}
+use Rattle.std.proofs.Common.{◌≡◌, ◌≢◌, arith}
 use Rattle.commands.proofs.Statuses.{Remains, eight_remains, ended, ends_by, not_four, remains}
 use Rattle.commands.proofs.top.desk_main.Goals as goal
 
@@ -21,6 +21,12 @@ returns-clause-blames g c =
       nine = λ held. ends_by (λ n. n ≢ 9) said.result.answer _ _ _ _ status (said.ensures.outside.steady_door held.0 held.1) (λ unsound e. omega (arith, e)) (λ e. omega (arith, e)) written;
       eleven = λ clock. ends_by (λ n. n ≢ 11) said.result.answer _ _ _ _ status (said.ensures.outside.steady_clock clock) (λ unsound e. omega (arith, e)) (λ e. omega (arith, e)) written;
     }
+
+pub returns-clause-still : goal.returns-clause-still
+returns-clause-still g c =
+    let said = c.answer_to-answer in
+    ends_by (λ n. n ≡ 0 → g.C.Clock.fault_count said.new.clock ≡ g.C.Clock.fault_count c.args.clock) said.result.answer _ _ _ _ c.write-status.result said.ensures.outside.still
+    (λ unsound e. absurd (cc e)) (λ e. absurd (cc e)) c.write-status.ensures
 
 pub returns-clause-ends : goal.returns-clause-ends
 returns-clause-ends g c =

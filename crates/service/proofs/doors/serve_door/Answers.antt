@@ -1,15 +1,16 @@
-use Rattle.std.proofs.Common.{◌≡◌, ◌∙◌, true, false, arith}
+use Rattle.std.proofs.Common.{◌≡◌, ◌∙◌, true, false, refl, arith}
 use Rattle.service.specs.Onward.{HasFailed}
 use Rattle.service.proofs.Onward.{desk_stays, desk_on, clock_stays, clock_on, failed_first, failed_last, rose_before}
-use Rattle.service.proofs.Visits.{door_not_clock, next_comes, served_none, served_next, served_to_end, served_to_fault}
+use Rattle.service.proofs.Visits.{done_well, door_not_clock, door_not_done, next_comes, served_none, served_next, served_to_end, served_to_fault, well_before}
 use Rattle.service.proofs.doors.serve_door.Goals as goal
 
 pub loop-before-init : goal.loop-before-init
 loop-before-init g c = record {
   served = served_none _ _ _ _ _ _ _ _ c.bind.ensures.same;
   within = omega arith;
-  bound = c.bind.ensures.opened;
+  port = c.bind.ensures.opened;
   desk = desk_stays g.K.Keeper.told g.K.Keeper.fault_count g.K.Keeper.sound _;
+  still = λ none fine. refl;
   clock = clock_stays g.C.Clock.moments g.C.Clock.fault_count g.C.Clock.sound _;
   door = c.bind.ensures.cause.later;
   steady = λ sound. (c.bind.ensures.sound sound).0;
@@ -20,7 +21,7 @@ returns-in-Err-clause-serves g c =
     let inv = c.loop-before.invariant in
     let none = c.in-Err.ensures.none in
     let clock = c.in-Err.ensures.clock in
-    served_to_fault g.D.Link.Link.told (HasFailed g.D.Link.Link.fault_count g.D.Link.Link.sound) _ _ _ _ _ _ _ _ _ _ _ c.loop-before.met _ _ _ _ _ _ _ c.end_at_door.ensures (omega (arith, c.loop-before-test.true)) (c.in-Err.ensures.bound ∙ inv.bound) (rose_before _ _ _ inv.door none.0)
+    served_to_fault g.D.Link.Link.told (HasFailed g.D.Link.Link.fault_count g.D.Link.Link.sound) _ _ _ _ _ _ _ _ _ _ _ c.loop-before.met _ _ _ _ _ _ _ c.end_at_door.ensures (omega (arith, c.loop-before-test.true)) (c.in-Err.ensures.port ∙ inv.port) (rose_before _ _ _ inv.door none.0)
     (λ failed. (failed_first g.C.Clock.fault_count g.C.Clock.sound _ _ _ clock.later failed).0) none.1 none.3 none.2 inv.served
 
 pub returns-in-Err-clause-desk : goal.returns-in-Err-clause-desk
@@ -28,6 +29,9 @@ returns-in-Err-clause-desk g c = desk_on _ _ _ _ _ _ c.loop-before.invariant.des
 
 pub returns-in-Err-clause-clock : goal.returns-in-Err-clause-clock
 returns-in-Err-clause-clock g c = clock_on _ _ _ _ _ _ c.loop-before.invariant.clock c.in-Err.ensures.clock
+
+pub returns-in-Err-clause-still : goal.returns-in-Err-clause-still
+returns-in-Err-clause-still g c = λ done. absurd (door_not_done c.loop-before.met _ c.end_at_door.ensures done)
 
 pub returns-in-Err-clause-steady_clock : goal.returns-in-Err-clause-steady_clock
 returns-in-Err-clause-steady_clock g c = λ sound. door_not_clock c.loop-before.met _ c.end_at_door.ensures
@@ -43,7 +47,10 @@ pub returns-clause-serves : goal.returns-clause-serves
 returns-clause-serves g c =
     let inv = c.loop-before.invariant in
     let all = c.loop-before-test.false in
-    served_to_end g.D.Link.Link.told (HasFailed g.D.Link.Link.fault_count g.D.Link.Link.sound) _ _ _ _ _ _ _ _ _ _ c.loop-before.met _ _ _ _ _ c.end_of.ensures inv.within (omega (arith, all)) inv.bound (λ failed. failed.0) inv.served
+    served_to_end g.D.Link.Link.told (HasFailed g.D.Link.Link.fault_count g.D.Link.Link.sound) _ _ _ _ _ _ _ _ _ _ c.loop-before.met _ _ _ _ _ c.end_of.ensures inv.within (omega (arith, all)) inv.port (λ failed. failed.0) inv.served
+
+pub returns-clause-still : goal.returns-clause-still
+returns-clause-still g c = λ done. let well = done_well c.loop-before.met _ c.end_of.ensures done in c.loop-before.invariant.still well.0 well.1
 
 pub loop-before-preserved : goal.loop-before-preserved
 loop-before-preserved g c =
@@ -55,8 +62,9 @@ loop-before-preserved g c =
       served = served_next g.D.Link.Link.told (HasFailed g.D.Link.Link.fault_count g.D.Link.Link.sound) _ _ _ _ _ _ _ _ c.loop-before.before c.loop-before.met _ _ _ _ _ _ _ _ visit.0 inv.clock.moments (failed_first g.C.Clock.fault_count g.C.Clock.sound _ _ _ is.clock.later)
           (failed_last g.C.Clock.fault_count g.C.Clock.sound _ _ _ inv.clock.later (λ sound. (inv.clock.sound sound).0)) inv.served visit.1 visit.2 visit.3 c.after-met.ensures;
       within = omega (arith, within);
-      bound = is.bound ∙ inv.bound;
+      port = is.port ∙ inv.port;
       desk = desk_on _ _ _ _ _ _ inv.desk is.desk;
+      still = λ none fine. let well = well_before c.loop-before.met _ _ c.after-met.ensures none fine in is.still (λ e. well.2 (cc)) (λ e. well.3 (cc)) ∙ inv.still well.0 well.1;
       clock = clock_on _ _ _ _ _ _ inv.clock is.clock;
       door = let before = inv.door in let after = is.door in omega (arith, before, after);
       steady = λ sound. (is.steady_door (inv.steady sound)).0;

@@ -1,4 +1,4 @@
-use Rattle.std.proofs.Common.{[]}
+use Rattle.std.proofs.Common.{[], ◌∙◌, refl}
 use Rattle.service.proofs.Joins.{begins, written_end, written_more}
 use Rattle.service.proofs.Lines.{gains_still}
 use Rattle.service.proofs.Onward.{desk_stays, desk_on, clock_stays, clock_on, link_stays, link_on, failed_last}
@@ -9,6 +9,7 @@ pub loop-init : goal.loop-init
 loop-init g c = record {
   served = ([], gains_still _, begins _ _ _ _ _ _ c.new-buffer.ensures);
   desk = desk_stays g.K.Keeper.told g.K.Keeper.fault_count g.K.Keeper.sound _;
+  still = refl;
   clock = clock_stays g.C.Clock.moments g.C.Clock.fault_count g.C.Clock.sound _;
   link = link_stays g.N.Link.fault_count g.N.Link.sound _;
 }
@@ -25,6 +26,9 @@ returns-in-Some-serve_next-clause-desk g c = desk_on _ _ _ _ _ _ c.loop.invarian
 
 pub returns-in-Some-serve_next-clause-clock : goal.returns-in-Some-serve_next-clause-clock
 returns-in-Some-serve_next-clause-clock g c = clock_on _ _ _ _ _ _ c.loop.invariant.clock c.serve_next.ensures.clock
+
+pub returns-in-Some-serve_next-clause-still : goal.returns-in-Some-serve_next-clause-still
+returns-in-Some-serve_next-clause-still g c = λ other. c.serve_next.ensures.still (λ e. other (cc)) ∙ c.loop.invariant.still
 
 pub returns-in-Some-serve_next-clause-link : goal.returns-in-Some-serve_next-clause-link
 returns-in-Some-serve_next-clause-link g c = link_on _ _ _ _ _ c.loop.invariant.link c.serve_next.ensures.link
@@ -43,6 +47,7 @@ loop-preserved g c =
     let is = c.serve_next.ensures in record {
       served = written_more _ _ _ _ _ _ _ _ _ _ _ _ _ _ _ inv.clock.moments inv.served c.in_default.ensures.serves;
       desk = desk_on _ _ _ _ _ _ inv.desk is.desk;
+      still = is.still (λ e. absurd (cc)) ∙ inv.still;
       clock = clock_on _ _ _ _ _ _ inv.clock is.clock;
       link = link_on _ _ _ _ _ inv.link is.link;
     }

@@ -1,3 +1,4 @@
+use Rattle.std.proofs.Common.{◌≡◌}
 use Rattle.desk_http.specs.Requests.{unused}
 use Rattle.desk_net.specs.Streams.{unread}
 use Rattle.service.specs.Connections.{GoesOn}
@@ -11,6 +12,7 @@ invariant-loop g l = record {
       (GoesOn l.lane (g.C.Clock.moments l.fn.clock) (g.K.Keeper.fault_count l.fn.desk.keeper) (g.K.Keeper.fault_count l.desk.keeper) l.fn.desk.board.state (unread (g.N.Link.told l.fn.link))
       (unused l.buffer (unread (g.N.Link.told l.link))) l.desk.board.state);
   desk : DeskGoesOn g.K.Keeper.told g.K.Keeper.fault_count g.K.Keeper.sound l.fn.desk l.desk;
+  still : g.C.Clock.fault_count l.clock ≡ g.C.Clock.fault_count l.fn.clock;
   clock : ClockGoesOn g.C.Clock.moments g.C.Clock.fault_count g.C.Clock.sound l.fn.clock l.clock;
   link : LinkGoesOn g.N.Link.fault_count g.N.Link.sound l.fn.link l.link;
 }
