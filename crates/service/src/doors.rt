@@ -134,9 +134,9 @@ pub fn serve_door<R: Wait, K: Keeper, C: Clock, D: Door, L: Ledger>(
         memory: false,
         clock: false,
     };
-    if door.bind(port).is_err() {
+    let Ok(()) = door.bind(port) else {
         return ServeEnd::DoorFault;
-    }
+    };
     for before in 0..connections {
         match serve_next_link(rt, alloc, desk, before + 1, door, clock, steps) {
             Ok(served) => met = met.after(served),

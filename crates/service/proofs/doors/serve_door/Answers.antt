@@ -8,7 +8,7 @@ pub loop-before-init : goal.loop-before-init
 loop-before-init g c = record {
   served = served_none _ _ _ _ _ _ _ _ c.bind.ensures.same;
   within = omega arith;
-  port = c.bind.ensures.opened;
+  port = c.in-Ok.ensures.opened;
   desk = desk_stays g.K.Keeper.told g.K.Keeper.fault_count g.K.Keeper.sound _;
   still = λ none fine. refl;
   clock = clock_stays g.C.Clock.moments g.C.Clock.fault_count g.C.Clock.sound _;
@@ -56,7 +56,7 @@ pub loop-before-preserved : goal.loop-before-preserved
 loop-before-preserved g c =
     let inv = c.loop-before.invariant in
     let within = c.loop-before-test.true in
-    let is = c.in-Ok.ensures in
+    let is = c.in-Ok-serve_next_link.ensures in
     let visit = is.visit in
     record {
       served = served_next g.D.Link.Link.told (HasFailed g.D.Link.Link.fault_count g.D.Link.Link.sound) _ _ _ _ _ _ _ _ c.loop-before.before c.loop-before.met _ _ _ _ _ _ _ _ visit.0 inv.clock.moments (failed_first g.C.Clock.fault_count g.C.Clock.sound _ _ _ is.clock.later)
