@@ -29,9 +29,9 @@ pub record LeavesDesk {K : Type 0} (told : K → Option Rows) (count : K → ℕ
 
 -- The clock and the door go on while so many connections are served, none by other commands. A fault of the clock is told only where it
 -- isn't sound, and one of the door only where it isn't, or too few links are to come; and no fault of the clock is passed over at status 0.
-pub record OutsideGoesOn {C D L E : Type 0} (moments : C → Option (List ℕ)) (clock_count : C → ℕ) (clock_steady : C → Type 0) (links : D → Option (Links L)) (door_count : D → ℕ) (door_steady : D → Type 0) (most : ℕ) (clock clock_after : C) (door door_after : D) (answer : Result Answer E) : Type 0 where
-  pub clock : ClockGoesOn moments clock_count clock_steady clock clock_after
-  pub door : door_count door ≤ door_count door_after
-  pub still : IfOk answer (λ a. a.status ≡ 0 → clock_count clock_after ≡ clock_count clock)
-  pub steady_clock : clock_steady clock → IfOk answer (λ a. a.status ≢ 11)
-  pub steady_door : door_steady door → HasLinks (links door) most → IfOk answer (λ a. a.status ≢ 9)
+pub record OutsideGoesOn {C D L E : Type 0} (moments : C → Option (List ℕ)) (clock_count : C → ℕ) (clock_steady : C → Type 0) (links : D → Option (Links L)) (door_count : D → ℕ) (door_steady : D → Type 0) (most : ℕ) (clock_before clock_after : C) (door_before door_after : D) (answer : Result Answer E) : Type 0 where
+  pub clock : ClockGoesOn moments clock_count clock_steady clock_before clock_after
+  pub door : door_count door_before ≤ door_count door_after
+  pub still : IfOk answer (λ a. a.status ≡ 0 → clock_count clock_after ≡ clock_count clock_before)
+  pub steady_clock : clock_steady clock_before → IfOk answer (λ a. a.status ≢ 11)
+  pub steady_door : door_steady door_before → HasLinks (links door_before) most → IfOk answer (λ a. a.status ≢ 9)
