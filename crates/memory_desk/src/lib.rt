@@ -2,6 +2,8 @@
 //! they are paid for once, and not by each crate of tests.
 #![tactic(auto)]
 
+ghost use Rattle.std.specs.Prelude.{◌≤◌};
+
 use commands::{Ending, desk_main};
 use desk_io::{OutOfMemory, Shelf, Sink};
 use desk_net::{Clock, Door, MemoryClock};
