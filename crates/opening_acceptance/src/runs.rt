@@ -100,11 +100,7 @@ pub fn shelf_with_script(alloc: Global, script: &[u8]) -> Result<MemoryShelf, Ou
     shelf_with(alloc, b"script", script)
 }
 
-fn ran_of(
-    alloc: Global,
-    came: Came<MemoryKeeper>,
-    sink: &MemorySink,
-) -> Result<Ran, OutOfMemory> {
+fn ran_of(alloc: Global, came: Came<MemoryKeeper>, sink: &MemorySink) -> Result<Ran, OutOfMemory> {
     let Came { status, keeper, .. } = came;
     Ok(Ran {
         status,

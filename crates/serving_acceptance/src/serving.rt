@@ -127,11 +127,7 @@ fn comes_to<R: Wait>(
     let mut door = door_of(alloc, failing.link, failing.door)?;
     let clock = clock_at(alloc, AT, failing.clock)?;
     let ran = ran_of(rt, alloc, command, clock, &mut door)?;
-    Ok(
-        is_so(&ran, wanted)
-            && door.port() == wanted.port
-            && are_written(door.ended(), wanted.links),
-    )
+    Ok(is_so(&ran, wanted) && door.port() == wanted.port && are_written(door.ended(), wanted.links))
 }
 
 // Each of two connections sees the board, each link is given back, and then the board is written.
@@ -202,7 +198,16 @@ fn a_door_that_fails_ends_the_serving(rt: HostRuntime) -> Result<(), Fail> {
     assert!(rt; door_fails(&rt, alloc, "serve 8080 2", &[0], None, &[])?);
     assert!(rt; door_fails(&rt, alloc, "serve 8080 2", &[1], Some(8080), &[])?);
     assert!(rt; door_fails(&rt, alloc, "serve 8080 2", &[2], Some(8080), &[BOARD_SEEN])?);
-    assert!(rt; door_fails(&rt, alloc, "serve 8080 3", &[], Some(8080), &[BOARD_SEEN, BOARD_SEEN])?);
+    assert!(rt;
+        door_fails(
+            &rt,
+            alloc,
+            "serve 8080 3",
+            &[],
+            Some(8080),
+            &[BOARD_SEEN, BOARD_SEEN]
+        )?
+    );
     Ok(())
 }
 
@@ -295,7 +300,10 @@ fn status_with_empty<R: Wait>(rt: &R, alloc: Global, command: &str) -> Result<u8
 #[test]
 fn no_word_is_empty(rt: HostRuntime) -> Result<(), Fail> {
     for command in ["", "run", "weather", "serve", "serve 1", "serve 1 1"] {
-        assert!(rt; status_with_empty(&rt, rt.alloc(), command)? == 2, "{command}");
+        assert!(rt;
+            status_with_empty(&rt, rt.alloc(), command)? == 2,
+            "{command}"
+        );
     }
     Ok(())
 }
