@@ -6,25 +6,25 @@ use Rattle.desk_io.specs.Rows.{Rows, no_rows, rows_of, changed_by}
 use Rattle.desk_io.specs.declared.rows.Change.{Change}
 use Rattle.facts.specs.declared.report.Report.{Report as ReportOf}
 use Rattle.keeper.specs.Kept.{AreSame}
-use Rattle.keeping.specs.Judged.{judged_changes}
-use Rattle.keeping.specs.Rows.{meta_of, report_kept, alert_kept, records_of, state_rows, AreKept}
-use Rattle.keeping.proofs.AlertRows.{IsOwn, changes_own}
-use Rattle.keeping.proofs.JudgedLaws.{judged_lead, with_alerts}
-use Rattle.machine.specs.declared.change.AlertChange.{AlertChange}
-use Rattle.machine.specs.Effects.{nothing}
-use Rattle.machine.specs.Events.{alert_changes, put_changes}
-use Rattle.machine.specs.Sound.{EffectFits}
-use Rattle.machine.specs.State.{State, start, judged_all}
+use Rattle.kept_state.specs.Judged.{judged_changes}
+use Rattle.kept_state.specs.Rows.{meta_of, report_kept, alert_kept, records_of, state_rows, AreKept}
+use Rattle.kept_state.proofs.AlertRows.{IsOwn, changes_own}
+use Rattle.kept_state.proofs.JudgedLaws.{judged_lead, with_alerts}
+use Rattle.desk_state.specs.declared.change.AlertChange.{AlertChange}
+use Rattle.desk_state.specs.Effects.{nothing}
+use Rattle.desk_state.specs.Events.{alert_changes, put_changes}
+use Rattle.desk_state.specs.Sound.{EffectFits}
+use Rattle.desk_state.specs.State.{State, start, judged_all}
 use Rattle.ops_tables.specs.Tables.{TableRows}
 use Rattle.records.specs.Bodies.{row_of}
 use Rattle.records.specs.declared.record.Meta.{Meta as MetaOf}
 use Rattle.records.specs.declared.record.Record.{Record}
 use Rattle.records.specs.declared.record.Record.TheVariants.{Meta, Report, Deferral, Release, Kept, Alert}
-use Rattle.reopening.specs.Held.{AreOfDesk, meta_in, state_by, state_in, state_with}
-use Rattle.reopening.specs.Opening.{MayReopen, counters_with, events_with, reopened}
-use Rattle.reopening.proofs.OpeningLaws.{changes_lead}
-use Rattle.reopening.proofs.RecordLaws.{no_records, records_again}
-use Rattle.reopening.proofs.StateLaws.{may_reopen}
+use Rattle.kept_state.specs.Held.{AreOfDesk, meta_in, state_by, state_in, state_with}
+use Rattle.kept_state.specs.Opening.{MayReopen, counters_with, events_with, reopened}
+use Rattle.kept_state.proofs.OpeningLaws.{changes_lead}
+use Rattle.kept_state.proofs.RecordLaws.{no_records, records_again}
+use Rattle.kept_state.proofs.StateLaws.{may_reopen}
 
 -- an effect that changes nothing
 pub nothing_fits : (s : State) → EffectFits s nothing

@@ -6,29 +6,29 @@ use Rattle.asks.specs.declared.reply.Reply.{Reply}
 use Rattle.asks.specs.Forms.{IsCall, ReplyHasMoment}
 use Rattle.asks.specs.declared.kept.KeptReply.{KeptReply}
 use Rattle.std.specs.Prelude.{option_to_list}
-use Rattle.machine.specs.declared.entry.Entry.{Entry}
-use Rattle.machine.specs.declared.effect.Effect.{Effect}
-use Rattle.machine.specs.declared.effect.Decision.{Decision}
-use Rattle.machine.specs.declared.effect.Decision.TheVariants.{Do}
-use Rattle.machine.specs.State.{State}
-use Rattle.machine.specs.Events.{effected, alert_changes, notices_of, put_changes}
-use Rattle.machine.specs.Decide.{decide}
-use Rattle.machine.specs.declared.entry.What.TheVariants as what
-use Rattle.machine.specs.Step.{Stepped, entry, entered, kept_of, counted, after_event, answer_call, tick_to}
-use Rattle.machine.specs.Sound.{Sound, InBounds, EffectFits, DecisionFits, IsEntered, IsBoard}
-use Rattle.machine.proofs.Boards.{call_keeps, tick_keeps, reply_shown, tick_shown}
+use Rattle.desk_state.specs.declared.entry.Entry.{Entry}
+use Rattle.desk_state.specs.declared.effect.Effect.{Effect}
+use Rattle.desk_state.specs.declared.effect.Decision.{Decision}
+use Rattle.desk_state.specs.declared.effect.Decision.TheVariants.{Do}
+use Rattle.desk_state.specs.State.{State}
+use Rattle.desk_state.specs.Events.{effected, alert_changes, notices_of, put_changes}
+use Rattle.desk_state.specs.Decide.{decide}
+use Rattle.desk_state.specs.declared.entry.What.TheVariants as what
+use Rattle.desk_state.specs.Step.{Stepped, entry, entered, kept_of, counted, after_event, answer_call, tick_to}
+use Rattle.desk_state.specs.Sound.{Sound, InBounds, EffectFits, DecisionFits, IsEntered, IsBoard}
+use Rattle.desk_state.proofs.Boards.{call_keeps, tick_keeps, reply_shown, tick_shown}
 use Rattle.alerts.specs.declared.notices.Notice.{Notice}
 use Rattle.std.specs.List.{AllByRecursion}
 use Rattle.std.proofs.lemmas.List.Elements.{All-from_recursion}
-use Rattle.machine.specs.Allowed.{MayLeadTo, MayTickTo}
-use Rattle.machine.specs.Told.{takes_alert, AreDifferences, takes_none}
-use Rattle.machine.proofs.ToldLaws.{call_told, tick_told}
-use Rattle.machine.proofs.LeadingLaws.{call_leads, tick_leads}
-use Rattle.machine.proofs.Changes.{changes_lead}
-use Rattle.machine.proofs.Deciding.{decision_fits}
-use Rattle.machine.specs.Contents.{state_of}
-use Rattle.machine.specs.Effects.{tick}
-use Rattle.machine.specs.declared.content.Content.{Content}
+use Rattle.desk_state.specs.Allowed.{MayLeadTo, MayTickTo}
+use Rattle.desk_state.specs.Told.{takes_alert, AreDifferences, takes_none}
+use Rattle.desk_state.proofs.ToldLaws.{call_told, tick_told}
+use Rattle.desk_state.proofs.LeadingLaws.{call_leads, tick_leads}
+use Rattle.desk_state.proofs.Changes.{changes_lead}
+use Rattle.desk_state.proofs.Deciding.{decision_fits}
+use Rattle.desk_state.specs.Contents.{state_of}
+use Rattle.desk_state.specs.Effects.{tick}
+use Rattle.desk_state.specs.declared.content.Content.{Content}
 use Rattle.plan.specs.Texts.{IsMoment}
 use Rattle.board.specs.declared.prepared.Prepared.{Prepared}
 use Rattle.board.specs.declared.steps.Judged.{Judged}
@@ -38,9 +38,9 @@ use Rattle.board.specs.Room.{MayBeMade}
 use Rattle.std.specs.Global.{Vec}
 use Rattle.desk_io.specs.Rows.{Rows, changed_by}
 use Rattle.desk_io.specs.declared.rows.Change.{Change}
-use Rattle.keeping.specs.Changes.{event_changes}
-use Rattle.keeping.specs.Rows.{AreKept}
-use Rattle.keeping.proofs.Leading.{kept_lead}
+use Rattle.kept_state.specs.Changes.{event_changes}
+use Rattle.kept_state.specs.Rows.{AreKept}
+use Rattle.kept_state.proofs.Leading.{kept_lead}
 use Rattle.board.specs.declared.prepared.Event.{Event}
 use Rattle.board.specs.Prepare.{with_events, installed, IsStepped, KeepsRows, MayInstall, IsReady, Shown, shown}
 

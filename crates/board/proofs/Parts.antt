@@ -5,13 +5,13 @@ use Rattle.std.proofs.lemmas.List.Elements.{All-from_recursion}
 use Rattle.deferrals.specs.declared.items.Deferral.{Deferral}
 use Rattle.facts.specs.Reading.{IsRead}
 use Rattle.facts.specs.declared.report.Report.{Report}
-use Rattle.machine.specs.State.{State}
-use Rattle.machine.specs.Sound.{IsNumbered, IsOpen, IsNext, InBounds, DeferralsFit, ReleasesFit, EffectFits}
-use Rattle.machine.specs.declared.effect.Effect.{Effect}
-use Rattle.machine.specs.declared.effect.OnDeferrals.{OnDeferrals}
-use Rattle.machine.specs.declared.effect.OnDeferrals.TheVariants as on_deferrals
-use Rattle.machine.specs.declared.effect.OnReleases.{OnReleases}
-use Rattle.machine.specs.declared.effect.OnReleases.TheVariants as on_releases
+use Rattle.desk_state.specs.State.{State}
+use Rattle.desk_state.specs.Sound.{IsNumbered, IsOpen, IsNext, InBounds, DeferralsFit, ReleasesFit, EffectFits}
+use Rattle.desk_state.specs.declared.effect.Effect.{Effect}
+use Rattle.desk_state.specs.declared.effect.OnDeferrals.{OnDeferrals}
+use Rattle.desk_state.specs.declared.effect.OnDeferrals.TheVariants as on_deferrals
+use Rattle.desk_state.specs.declared.effect.OnReleases.{OnReleases}
+use Rattle.desk_state.specs.declared.effect.OnReleases.TheVariants as on_releases
 use Rattle.decisions.specs.Reads.{AdmitsRead}
 use Rattle.board.specs.Room.{IsSmall, MayAdmit, MayDefer, MayFile, MayBeMade}
 

@@ -1,13 +1,13 @@
 -- A step that is prepared: what is left is to put it in place.
 use Rattle.std.specs.Prelude.{◌≡◌, ◌∷◌, [], ◌++◌, length, option_to_list, Option, None, Some}
 use Rattle.desk_io.specs.Rows.{Rows, changed_by}
-use Rattle.keeping.specs.Rows.{AreKept}
-use Rattle.machine.specs.State.{State}
-use Rattle.machine.specs.Events.{effected, put_changes}
-use Rattle.machine.specs.Step.{Stepped, counted}
-use Rattle.machine.specs.Sound.{IsBoard}
-use Rattle.machine.specs.Contents.{state_of}
-use Rattle.machine.specs.declared.content.Content.{Content}
+use Rattle.kept_state.specs.Rows.{AreKept}
+use Rattle.desk_state.specs.State.{State}
+use Rattle.desk_state.specs.Events.{effected, put_changes}
+use Rattle.desk_state.specs.Step.{Stepped, counted}
+use Rattle.desk_state.specs.Sound.{IsBoard}
+use Rattle.desk_state.specs.Contents.{state_of}
+use Rattle.desk_state.specs.declared.content.Content.{Content}
 use Rattle.board.specs.Room.{HasRoom, MayBeMade}
 use Rattle.board.specs.declared.prepared.Prepared.{Prepared}
 use Rattle.board.specs.declared.prepared.Installed.{Installed}

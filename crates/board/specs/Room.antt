@@ -8,13 +8,13 @@ use Rattle.facts.specs.Reading.{IsRead}
 use Rattle.facts.specs.Reports.{room_for}
 use Rattle.facts.specs.declared.report.Report.{Report}
 use Rattle.plan.specs.declared.release.Release.{Release}
-use Rattle.machine.specs.State.{State}
-use Rattle.machine.specs.declared.content.Content.{Content}
-use Rattle.machine.specs.declared.effect.Effect.{Effect}
-use Rattle.machine.specs.declared.effect.OnDeferrals.{OnDeferrals}
-use Rattle.machine.specs.declared.effect.OnDeferrals.TheVariants as on_deferrals
-use Rattle.machine.specs.declared.effect.OnReleases.{OnReleases}
-use Rattle.machine.specs.declared.effect.OnReleases.TheVariants as on_releases
+use Rattle.desk_state.specs.State.{State}
+use Rattle.desk_state.specs.declared.content.Content.{Content}
+use Rattle.desk_state.specs.declared.effect.Effect.{Effect}
+use Rattle.desk_state.specs.declared.effect.OnDeferrals.{OnDeferrals}
+use Rattle.desk_state.specs.declared.effect.OnDeferrals.TheVariants as on_deferrals
+use Rattle.desk_state.specs.declared.effect.OnReleases.{OnReleases}
+use Rattle.desk_state.specs.declared.effect.OnReleases.TheVariants as on_releases
 
 -- there is room for what an effect adds
 

@@ -1,11 +1,11 @@
 ghost use Rattle.std.specs.Prelude.{◌≡◌, ◌+◌, ◌++◌, ◌<◌, ◌≤◌, take, drop, insert, Option, length, if◌then◌else◌, vec_len};
 ghost use Rattle.std.specs.List.{cons_option};
 ghost use Rattle.std.specs.Vec.{vec_capacity};
-ghost use Rattle.machine.specs.Events as spec;
+ghost use Rattle.desk_state.specs.Events as spec;
 ghost use Rattle.alerts.specs.declared.alert.Alert.{Alert as AnAlert};
 
 use alerts::Alert;
-use machine::AlertChange;
+use desk_state::AlertChange;
 
 // The place of the first alert of a release or of a later one, and whether it is of that release.
 fn place_of(alerts: &[Alert], release: u64) -> (usize, bool)

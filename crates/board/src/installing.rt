@@ -1,10 +1,10 @@
 ghost use Rattle.std.specs.Prelude.{◌≡◌, ◌≤◌, ◌<◌, ◌++◌, Some, true, IfSome, filter, length, option_to_list, vec_len, vec_capacity};
 ghost use Rattle.facts.specs.Reports.{room_for};
-ghost use Rattle.machine.specs.Contents.{state_of};
-ghost use Rattle.machine.specs.Events as events;
-ghost use Rattle.machine.specs.Events.{effected};
-ghost use Rattle.machine.specs.Sound.{InBounds};
-ghost use Rattle.machine.specs.Step.{counted};
+ghost use Rattle.desk_state.specs.Contents.{state_of};
+ghost use Rattle.desk_state.specs.Events as events;
+ghost use Rattle.desk_state.specs.Events.{effected};
+ghost use Rattle.desk_state.specs.Sound.{InBounds};
+ghost use Rattle.desk_state.specs.Step.{counted};
 ghost use Rattle.board.specs.Room.{HasRoom, HasReportRoom, HasDeferralRoom, HasReleaseRoom, HasOneMore, HasPlace, MayAdmit, MayDefer, MayFile, MayBeMade, IsSmall};
 ghost use Rattle.board.specs.Prepare.{with_event, with_events, MayInstall};
 
@@ -12,11 +12,11 @@ use crate::held_alerts::put_changes;
 use crate::prepared::Event;
 use asks::{Floors, KeptReply};
 use deferrals::Deferrals;
-use desk_time::Minute;
-use facts::{Report, Reports};
-use machine::{
+use desk_state::{
     Content, Effect, Entry, OnDeferrals, OnReleases, Sweep, What, place_of, place_of_id,
 };
+use desk_time::Minute;
+use facts::{Report, Reports};
 use plan::Release;
 
 // Puts a release in the place of the first of its id.

@@ -4,7 +4,7 @@ ghost use Rattle.std.specs.Option.{option_copied};
 use alerts::Notices;
 use asks::{KeptReply, Reply};
 use desk_io::Change;
-use machine::{AlertChange, Effect, Entry};
+use desk_state::{AlertChange, Effect, Entry};
 
 /// What an event changes, once all memory is taken.
 #[derive(Drop)]

@@ -2,24 +2,23 @@ ghost use Rattle.std.specs.Prelude.{◌≡◌, ◌+◌, ◌<◌, ◌≤◌, leng
 ghost use Rattle.std.specs.Vec.{vec_capacity};
 ghost use Rattle.desk_io.specs.Rows.{Rows, rows_of, changed_by};
 ghost use Rattle.keeper.specs.Kept.{AreSame};
-ghost use Rattle.keeping.specs.Judged as keeping;
-ghost use Rattle.keeping.specs.Rows.{AreKept};
-ghost use Rattle.machine.specs.Contents.{state_of};
-ghost use Rattle.machine.specs.Effects.{nothing};
-ghost use Rattle.machine.specs.Events.{alert_changes};
+ghost use Rattle.kept_state.specs.Judged as kept;
+ghost use Rattle.kept_state.specs.Rows.{AreKept};
+ghost use Rattle.desk_state.specs.Contents.{state_of};
+ghost use Rattle.desk_state.specs.Effects.{nothing};
+ghost use Rattle.desk_state.specs.Events.{alert_changes};
 ghost use Rattle.records.specs.Bodies.{row_of};
-ghost use Rattle.reopening.specs.Held.{AreOfDesk, state_in};
-ghost use Rattle.reopening.specs.Opening as spec;
-ghost use Rattle.reopening.specs.Opening.{MayReopen, reopened};
+ghost use Rattle.kept_state.specs.Held.{AreOfDesk, state_in};
+ghost use Rattle.kept_state.specs.Opening as spec;
+ghost use Rattle.kept_state.specs.Opening.{MayReopen, reopened};
 
 use crate::held_alerts::put_changes;
+use alert_judging::Prospect;
 use desk_io::{Change, OutOfMemory};
-use judging::Prospect;
-use keeping::judged_changes;
-use machine::{AlertChange, Content, Effect};
+use desk_state::{AlertChange, Content, Effect};
+use kept_state::{content_of, judged_changes};
 use ops_tables::Tables;
 use records::Record;
-use reopening::content_of;
 use rules::Steps;
 use std::alloc::Global;
 use std::sync::ledger::Ledger;
@@ -80,7 +79,7 @@ fn reopen<L: Ledger>(
 ) -> Result<Reopened, OutOfMemory>
     requires { MayReopen (state_of content) }
     ensures state { IfOk result (λ r. state_of r.content ≡ reopened (state_of content)) }
-    ensures changes { IfOk result (λ r. r.changes.items ≡ keeping.judged_changes (state_of content) (alert_changes nothing (state_of content))) }
+    ensures changes { IfOk result (λ r. r.changes.items ≡ kept.judged_changes (state_of content) (alert_changes nothing (state_of content))) }
 {
     let alerts = judge_anew(alloc, &content, steps)?;
     let changes = judged_changes(alloc, &content, alerts.as_slice())?;
@@ -90,7 +89,7 @@ fn reopen<L: Ledger>(
 }
 
 /// The state that records stand for under some tables, once its active releases are judged.
-#[tactic(auto, using(reopening::proofs::StateLaws::may_reopen))]
+#[tactic(auto, using(kept_state::proofs::StateLaws::may_reopen))]
 pub(crate) fn restored<L: Ledger>(
     alloc: Global,
     tables: Tables,
@@ -99,7 +98,7 @@ pub(crate) fn restored<L: Ledger>(
 ) -> Result<Reopened, OutOfMemory>
     requires { AreOfDesk records.items }
     ensures state { IfOk result (λ r. state_of r.content ≡ reopened (state_in tables records.items)) }
-    ensures changes { IfOk result (λ r. r.changes.items ≡ keeping.judged_changes (state_in tables records.items) (alert_changes nothing (state_in tables records.items))) }
+    ensures changes { IfOk result (λ r. r.changes.items ≡ kept.judged_changes (state_in tables records.items) (alert_changes nothing (state_in tables records.items))) }
     ensures kept { IfOk result (λ r. (rows : Rows) → AreSame rows (rows_of (map row_of records.items)) → AreKept (changed_by r.changes.items rows) (reopened (state_in tables records.items))) }
 {
     let content = content_of(alloc, tables, records)?;

@@ -1,11 +1,11 @@
 ghost use Rattle.std.specs.Prelude.{◌≡◌, OnOk};
 ghost use Rattle.std.specs.Option.{option_copied};
-ghost use Rattle.machine.specs.Contents.{state_of};
+ghost use Rattle.desk_state.specs.Contents.{state_of};
 ghost use Rattle.board.specs.Room.{HasRoom, HasReportRoom, HasDeferralRoom, HasReleaseRoom};
 
 use desk_io::OutOfMemory;
+use desk_state::{Content, Effect, OnDeferrals, OnReleases};
 use facts::Report;
-use machine::{Content, Effect, OnDeferrals, OnReleases};
 
 fn reserve_report(content: &mut Content, report: Option<&Report>) -> Result<(), OutOfMemory>
     ensures same { state_of content.new ≡ state_of content.old }

@@ -1,21 +1,21 @@
 ghost use Rattle.std.specs.Prelude.{◌≡◌, ◌≤◌, ◌<◌, length, map, slice_get, None, Some, IfOk, IfSome, OnOk, OnErr};
 ghost use Rattle.std.specs.Option.{option_copied};
-ghost use Rattle.machine.specs.State.{start, release_at, alert_at};
-ghost use Rattle.machine.specs.Step.{answer_call, tick_to};
-ghost use Rattle.machine.specs.Texts.{closing};
-ghost use Rattle.machine.specs.Allowed.{MayLeadTo, MayTickTo};
-ghost use Rattle.machine.specs.Told.{takes_alert, AreDifferences, takes_none};
-ghost use Rattle.machine.specs.Sound.{IsBoard, IsEntered};
+ghost use Rattle.desk_state.specs.State.{start, release_at, alert_at};
+ghost use Rattle.desk_state.specs.Step.{answer_call, tick_to};
+ghost use Rattle.desk_state.specs.Texts.{closing};
+ghost use Rattle.desk_state.specs.Allowed.{MayLeadTo, MayTickTo};
+ghost use Rattle.desk_state.specs.Told.{takes_alert, AreDifferences, takes_none};
+ghost use Rattle.desk_state.specs.Sound.{IsBoard, IsEntered};
 ghost use Rattle.asks.specs.Forms.{IsCall, ReplyHasMoment};
 ghost use Rattle.desk_io.specs.Rows.{Rows, rows_of, changed_by};
 ghost use Rattle.keeper.specs.Kept.{AreSame};
-ghost use Rattle.keeping.specs.Judged.{judged_changes};
-ghost use Rattle.keeping.specs.Rows.{AreKept};
-ghost use Rattle.machine.specs.Effects.{nothing};
-ghost use Rattle.machine.specs.Events.{alert_changes};
+ghost use Rattle.kept_state.specs.Judged.{judged_changes};
+ghost use Rattle.kept_state.specs.Rows.{AreKept};
+ghost use Rattle.desk_state.specs.Effects.{nothing};
+ghost use Rattle.desk_state.specs.Events.{alert_changes};
 ghost use Rattle.records.specs.Bodies.{row_of};
-ghost use Rattle.reopening.specs.Held.{AreOfDesk, state_in};
-ghost use Rattle.reopening.specs.Opening.{reopened};
+ghost use Rattle.kept_state.specs.Held.{AreOfDesk, state_in};
+ghost use Rattle.kept_state.specs.Opening.{reopened};
 ghost use Rattle.board.specs.Prepare.{shown, installed, IsStepped, IsAnswered, KeepsRows};
 
 use crate::installing::install;
@@ -25,8 +25,8 @@ use crate::steps::{prepare_answer, prepare_tick};
 use alerts::Alert;
 use asks::Call;
 use desk_io::{Change, OutOfMemory, Text};
+use desk_state::{Content, Entry};
 use desk_time::{LAST, Minute};
-use machine::{Content, Entry};
 use ops_tables::Tables;
 use plan::Release;
 use records::Record;
@@ -57,8 +57,8 @@ pub struct Restored {
 impl Model for Board {
     ghost use Rattle.std.specs.Prelude.{IfSome};
     ghost use Rattle.std.specs.Option.{option_map};
-    ghost use Rattle.machine.specs.Sound.{IsBoard};
-    ghost use Rattle.machine.specs.Contents.{state_of};
+    ghost use Rattle.desk_state.specs.Sound.{IsBoard};
+    ghost use Rattle.desk_state.specs.Contents.{state_of};
     ghost use Rattle.board.specs.Prepare.{Shown, shown, IsReady};
 
     ghost Value = { Shown };
@@ -70,7 +70,7 @@ impl Model for Board {
 
 impl Board {
     /// A board under the tables of an airline, on which nothing is held, at 2000-01-01 00:00.
-    #[tactic(auto, using(machine::proofs::Boards::start_board))]
+    #[tactic(auto, using(desk_state::proofs::Boards::start_board))]
     pub fn new(alloc: Global, tables: Tables) -> Board
         ensures { result ≡ shown (start tables) (start tables) None }
     {
@@ -85,7 +85,7 @@ impl Board {
 
     /// The board that valid records in order stand for, once its active releases are judged, and what that changed of
     /// the rows. Its history is empty.
-    #[tactic(auto, using(reopening::proofs::StateLaws::held_board))]
+    #[tactic(auto, using(kept_state::proofs::StateLaws::held_board))]
     pub fn restore<L: Ledger>(
         alloc: Global,
         tables: Tables,

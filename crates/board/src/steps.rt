@@ -1,30 +1,30 @@
 ghost use Rattle.std.specs.Prelude.{◌≡◌, [], length, None, Some, IfOk, OnOk};
-ghost use Rattle.machine.specs.Contents.{state_of};
-ghost use Rattle.machine.specs.Effects.{tick};
-ghost use Rattle.machine.specs.Events as events;
-ghost use Rattle.machine.specs.Events.{effected, alert_changes};
-ghost use Rattle.machine.specs.State.{is_full, is_full_for};
-ghost use Rattle.machine.specs.Step as step;
-ghost use Rattle.machine.specs.Step.{do_call, answer_call, tick_to};
-ghost use Rattle.machine.specs.Sound.{Sound, InBounds, EffectFits};
+ghost use Rattle.desk_state.specs.Contents.{state_of};
+ghost use Rattle.desk_state.specs.Effects.{tick};
+ghost use Rattle.desk_state.specs.Events as events;
+ghost use Rattle.desk_state.specs.Events.{effected, alert_changes};
+ghost use Rattle.desk_state.specs.State.{is_full, is_full_for};
+ghost use Rattle.desk_state.specs.Step as step;
+ghost use Rattle.desk_state.specs.Step.{do_call, answer_call, tick_to};
+ghost use Rattle.desk_state.specs.Sound.{Sound, InBounds, EffectFits};
 ghost use Rattle.plan.specs.Texts.{IsMoment};
 ghost use Rattle.asks.specs.Forms.{IsCall};
 ghost use Rattle.board.specs.Room.{HasRoom, MayBeMade};
-ghost use Rattle.keeping.specs.Changes as kept_rows;
-ghost use Rattle.machine.specs.State.{State};
+ghost use Rattle.kept_state.specs.Changes as kept_rows;
+ghost use Rattle.desk_state.specs.State.{State};
 ghost use Rattle.board.specs.Prepare.{IsStepped, MayInstall, KeepsRows};
 
 use crate::prepared::{Event, Prepared};
 use crate::room::reserve;
+use alert_judging::{Prospect, notices_of};
 use alerts::Notices;
 use asks::{Call, Done, KeptReply, Refusal, Reply};
+use call_json::ask_digest;
 use decisions::{Stop, decide, mistaken};
 use desk_io::{Change, Copied, OutOfMemory, Text};
+use desk_state::{AlertChange, Content, Decision, Effect, Entry, What};
 use desk_time::Minute;
-use judging::{Prospect, notices_of};
-use keeping::event_changes;
-use machine::{AlertChange, Content, Decision, Effect, Entry, What};
-use plan_json::ask_digest;
+use kept_state::event_changes;
 use rules::Steps;
 use std::alloc::Global;
 use std::sync::ledger::Ledger;
@@ -215,7 +215,7 @@ fn full_reply(content: &Content) -> Reply
 
 // Judges every active release once an effect is there, and takes all memory that the event needs. What is held stays
 // as it is.
-#[tactic(auto, using(machine::proofs::Parts::judgeable))]
+#[tactic(auto, using(desk_state::proofs::Parts::judgeable))]
 fn judge_all<L: Ledger>(
     alloc: Global,
     content: &mut Content,
@@ -314,7 +314,7 @@ fn prepare_entered<L: Ledger>(
 }
 
 // Prepares a call of a person who may make it, and takes all memory that it needs. What is held stays as it is.
-#[tactic(auto, unfolding(machine::specs::Step::do_call, crate::specs::Prepare::installed))]
+#[tactic(auto, unfolding(desk_state::specs::Step::do_call, crate::specs::Prepare::installed))]
 fn prepare_call<L: Ledger>(
     alloc: Global,
     content: &mut Content,
@@ -341,7 +341,7 @@ fn prepare_call<L: Ledger>(
 }
 
 /// Prepares a call: the person and his key come first.
-#[tactic(auto, unfolding(machine::specs::Step::answer_call, crate::specs::Prepare::installed))]
+#[tactic(auto, unfolding(desk_state::specs::Step::answer_call, crate::specs::Prepare::installed))]
 pub fn prepare_answer<L: Ledger>(
     alloc: Global,
     content: &mut Content,
@@ -389,7 +389,7 @@ fn prepare_ticked<L: Ledger>(
 }
 
 /// Prepares a tick to a later moment, and takes all memory that it needs. What is held stays as it is.
-#[tactic(auto, unfolding(machine::specs::Step::tick_to, crate::specs::Prepare::installed))]
+#[tactic(auto, unfolding(desk_state::specs::Step::tick_to, crate::specs::Prepare::installed))]
 pub fn prepare_tick<L: Ledger>(
     alloc: Global,
     content: &mut Content,

@@ -5,10 +5,10 @@ use Rattle.std.specs.List.{concat}
 use Rattle.board.specs.Prepare.{Shown}
 use Rattle.desk_io.specs.Rows.{Rows}
 use Rattle.desk_io.specs.Told.{HoldsName}
-use Rattle.machine.specs.State.{State}
+use Rattle.desk_state.specs.State.{State}
 use Rattle.ops_tables.specs.Tables.{TableRows}
-use Rattle.reopening.specs.Held.{state_in}
-use Rattle.reopening.specs.Opening.{reopened}
+use Rattle.kept_state.specs.Held.{state_in}
+use Rattle.kept_state.specs.Opening.{reopened}
 use Rattle.table_files.specs.Files.{files, name_of}
 use Rattle.table_files.specs.Whole.{StopsAtMissing, Told}
 use Rattle.table_files.specs.declared.faults.TableFault.{TableFault}

@@ -2,7 +2,7 @@
 use Rattle.std.specs.Prelude.{◌≡◌, ◌≢◌, ◌≤◌, ℕ, List, Option, Result, IfOk, IfSome}
 use Rattle.desk_net.specs.Doors.{Links}
 use Rattle.desk_io.specs.Rows.{Rows}
-use Rattle.machine.specs.State.{State}
+use Rattle.desk_state.specs.State.{State}
 use Rattle.kept_forms.specs.Formed.{AreFormed}
 use Rattle.desk.specs.Opening.{IsLeft, TellsRowsOf}
 use Rattle.desk.specs.declared.settling.Desk.{Desk}

@@ -4,7 +4,7 @@ ghost use Rattle.desk_io.specs.Told.{HoldsName};
 ghost use Rattle.commands.specs.Answers.{AreIdle, telling, left_with, Says, RunSays, SourceSays, ScriptSays, ReportsSay, TablesSay, WhySays, IsRunFrom, IsUntouched, WholeSays, sources_for, sources_of, links_of, EndSays, IsServedFrom, ServeSays, ServingSays};
 ghost use Rattle.commands.specs.Onward.{KeeperGoesOn, LeavesDesk, OutsideGoesOn};
 ghost use Rattle.commands.specs.Weather.{weather_text};
-ghost use Rattle.machine.specs.Texts.{closing};
+ghost use Rattle.desk_state.specs.Texts.{closing};
 ghost use Rattle.service.specs.Doors.{IsServing};
 ghost use Rattle.service.specs.Onward.{DeskGoesOn, HasFailed};
 ghost use Rattle.service.specs.declared.doors.ServeEnd.TheVariants as ends;

@@ -4,7 +4,7 @@ ghost use Rattle.std.specs.Io.KnownBytes.{Appends, Keeps};
 ghost use Rattle.desk_io.specs.Causes.{RoseOrFull};
 ghost use Rattle.desk_io.specs.Told.{HoldsName};
 ghost use Rattle.kept_forms.specs.Formed.{AreFormed};
-ghost use Rattle.machine.specs.State.{State};
+ghost use Rattle.desk_state.specs.State.{State};
 ghost use Rattle.desk.specs.Opening.{IsLeft, TellsRowsOf};
 ghost use Rattle.service.specs.Doors.{HasLinks, IsServing};
 ghost use Rattle.service.specs.Onward.{ClockGoesOn, HasFailed};

@@ -8,8 +8,8 @@ use Rattle.facts.specs.declared.report.Report.{Report}
 use Rattle.plan.specs.declared.release.Attached.{Attached}
 use Rattle.plan.specs.declared.release.Release.{Release}
 use Rattle.plan.specs.declared.release.Revision.{Revision}
-use Rattle.machine.specs.Decide.{is_attached_to, is_attached, attached_reports}
-use Rattle.machine.specs.State.{State}
+use Rattle.desk_state.specs.Decide.{is_attached_to, is_attached, attached_reports}
+use Rattle.desk_state.specs.State.{State}
 use Rattle.decisions.specs.Attached.{ids_of, all_ids, is_among, ids_among}
 
 among_map : (id : ℕ) (list : List Attached) → is_among (map (λ a. a.report) list) id ≡ list_any (λ a. a.report == id) list

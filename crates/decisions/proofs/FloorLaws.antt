@@ -3,7 +3,7 @@ use Rattle.std.proofs.Common.{◌≡◌, ℕ, ◌+◌, ◌<◌, ◌≤◌, max, 
 use Rattle.std.specs.Prelude.{slice_set}
 use Rattle.std.proofs.lemmas.List.{set_split, drop_more}
 use Rattle.asks.specs.declared.kept.Floor.{Floor}
-use Rattle.machine.specs.Requests.{floor, raised_to}
+use Rattle.desk_state.specs.Requests.{floor, raised_to}
 use Rattle.decisions.specs.Floors.{first_raised, raised_at}
 
 replaced : (fs : List Floor) (place : ℕ) (f : Floor) → place < length fs → slice_set fs place f ≡ take place fs ++ f ∷ drop (place + 1) fs

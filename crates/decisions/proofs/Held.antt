@@ -3,9 +3,9 @@ use Rattle.std.proofs.Common.{ℕ, ◌≤◌, Option, None, Some, IfSome, arith}
 use Rattle.plan.specs.declared.release.Phase.{Phase}
 use Rattle.plan.specs.declared.release.Release.{Release}
 use Rattle.plan.specs.declared.release.Revision.{Revision}
-use Rattle.machine.specs.Sound.{InBounds, Fits, HasLegs, AreNumbered, RevisionInBounds}
-use Rattle.machine.specs.State.{State}
-use Rattle.machine.specs.Texts.{newest}
+use Rattle.desk_state.specs.Sound.{InBounds, Fits, HasLegs, AreNumbered, RevisionInBounds}
+use Rattle.desk_state.specs.State.{State}
+use Rattle.desk_state.specs.Texts.{newest}
 use Rattle.decisions.specs.Newest.{IsNewest, HasNewest}
 
 newest_by : (most : ℕ) (phase : Phase) (pending active : Option Revision) → most ≤ 999_999_999_999_999 → AreNumbered most pending active

@@ -1,7 +1,7 @@
 -- Floors that rise at one place.
 use Rattle.std.specs.Prelude.{ℕ, ◌+◌, Bool, true, false, max, List, [], ◌∷◌, ◌++◌, take, drop}
 use Rattle.asks.specs.declared.kept.Floor.{Floor}
-use Rattle.machine.specs.Requests.{floor}
+use Rattle.desk_state.specs.Requests.{floor}
 
 -- the first of some floors is at least a number
 abbrev pub first_raised : ℕ → List Floor → List Floor

@@ -5,7 +5,7 @@ use Rattle.plan.specs.Phases.{PhaseFits}
 use Rattle.plan.specs.declared.release.Phase.{Phase}
 use Rattle.plan.specs.declared.release.Release.{Release}
 use Rattle.plan.specs.declared.release.Revision.{Revision}
-use Rattle.machine.specs.Texts.{newest}
+use Rattle.desk_state.specs.Texts.{newest}
 
 -- its plan is one that another may be compared with, and a next number remains
 pub record IsNewest (phase : Phase) (v : Revision) : Type 0 where

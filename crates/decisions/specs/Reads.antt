@@ -1,9 +1,9 @@
 -- What is known of a report that is admitted.
 use Rattle.std.specs.Prelude.{IfSome}
 use Rattle.facts.specs.Reading.{IsRead}
-use Rattle.machine.specs.declared.effect.Effect.{Effect}
-use Rattle.machine.specs.declared.effect.Decision.{Decision}
-use Rattle.machine.specs.declared.effect.Decision.TheVariants.{Show, Do}
+use Rattle.desk_state.specs.declared.effect.Effect.{Effect}
+use Rattle.desk_state.specs.declared.effect.Decision.{Decision}
+use Rattle.desk_state.specs.declared.effect.Decision.TheVariants.{Show, Do}
 
 -- a report that is admitted is canonical, and its reading that of its text
 abbrev pub AdmitsRead : Effect → Type 0

@@ -1,7 +1,7 @@
 ghost use Rattle.std.specs.Prelude.{IfOk};
-ghost use Rattle.machine.specs.Contents.{state_of};
-ghost use Rattle.machine.specs.Decide as spec;
-ghost use Rattle.machine.specs.Sound.{Sound, InBounds};
+ghost use Rattle.desk_state.specs.Contents.{state_of};
+ghost use Rattle.desk_state.specs.Decide as spec;
+ghost use Rattle.desk_state.specs.Sound.{Sound, InBounds};
 ghost use Rattle.decisions.specs.Answers.{Answers, Passes};
 ghost use Rattle.decisions.specs.Reads.{DecisionAdmitsRead};
 
@@ -10,7 +10,7 @@ use crate::releases::{held, not_yours};
 use alerts::Alert;
 use asks::{Done, Refusal, Reply};
 use desk_io::Text;
-use machine::{Content, Decision, Effect};
+use desk_state::{Content, Decision, Effect};
 use std::alloc::Global;
 
 fn alert_of(content: &Content, release: u64) -> Result<&Alert, Stop>

@@ -1,5 +1,5 @@
 ghost use Rattle.std.specs.Prelude.{◌≡◌};
-ghost use Rattle.machine.specs.Chain as spec;
+ghost use Rattle.desk_state.specs.Chain as spec;
 ghost use Rattle.decisions.specs.Answers.{Passes, IsWant};
 
 use asks::Refusal;

@@ -1,9 +1,9 @@
 ghost use Rattle.std.specs.Prelude.{◌≡◌, false, IfOk};
 ghost use Rattle.asks.specs.Forms.{IsCall};
-ghost use Rattle.machine.specs.Contents.{state_of};
-ghost use Rattle.machine.specs.Decide as spec;
-ghost use Rattle.machine.specs.Decide.{decide};
-ghost use Rattle.machine.specs.Sound.{Sound, InBounds};
+ghost use Rattle.desk_state.specs.Contents.{state_of};
+ghost use Rattle.desk_state.specs.Decide as spec;
+ghost use Rattle.desk_state.specs.Decide.{decide};
+ghost use Rattle.desk_state.specs.Sound.{Sound, InBounds};
 ghost use Rattle.decisions.specs.Answers.{Answers};
 ghost use Rattle.decisions.specs.Reads.{DecisionAdmitsRead};
 
@@ -20,8 +20,8 @@ use crate::shown::{view_alerts, view_board, view_release};
 use crate::signatures::{concur, sign};
 use crate::sweeps::sweep;
 use asks::{Ask, Call};
-use machine::{Content, Decision};
-use plan_json::ask_digest;
+use call_json::ask_digest;
+use desk_state::{Content, Decision};
 use rules::Steps;
 use std::alloc::Global;
 use std::sync::ledger::Ledger;
@@ -111,7 +111,7 @@ fn decide_command<L: Ledger>(
 /// What a call of a person comes to whose name and key are right: whether the ask is for his role, then what is kept of
 /// its number where it isn't a view, and then the tests of the ask in their order, of which the first that stops it
 /// answers.
-#[tactic(auto, unfolding(machine::specs::Decide::decide))]
+#[tactic(auto, unfolding(desk_state::specs::Decide::decide))]
 pub fn decide<L: Ledger>(
     alloc: Global,
     content: &Content,

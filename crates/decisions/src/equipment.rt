@@ -1,9 +1,9 @@
 ghost use Rattle.std.specs.Prelude.{◌≡◌, IfOk};
 ghost use Rattle.std.specs.List.{list_any};
 ghost use Rattle.deferrals.specs.Held.{has_id};
-ghost use Rattle.machine.specs.Contents.{state_of};
-ghost use Rattle.machine.specs.Decide as spec;
-ghost use Rattle.machine.specs.Sound.{InBounds};
+ghost use Rattle.desk_state.specs.Contents.{state_of};
+ghost use Rattle.desk_state.specs.Decide as spec;
+ghost use Rattle.desk_state.specs.Sound.{InBounds};
 ghost use Rattle.decisions.specs.Answers.{Answers, Passes};
 ghost use Rattle.decisions.specs.Reads.{DecisionAdmitsRead};
 
@@ -11,8 +11,8 @@ use crate::chain::{Stop, refused_if};
 use asks::{Done, Refusal, Reply};
 use deferrals::{DEFERRAL_LIMIT, Deferral, open_on};
 use desk_io::{Copied, OutOfMemory, Text};
+use desk_state::{Content, Decision, Effect};
 use desk_time::Minute;
-use machine::{Content, Decision, Effect};
 use ops_tables::TypeRow;
 use std::alloc::Global;
 use views::deferral_lines;

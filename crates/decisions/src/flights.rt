@@ -1,8 +1,8 @@
 ghost use Rattle.std.specs.Prelude.{◌≡◌, ◌<◌, IsTrue, IfOk, IfSome};
 ghost use Rattle.std.specs.Option.{option_copied};
-ghost use Rattle.machine.specs.Contents.{state_of};
-ghost use Rattle.machine.specs.Decide as spec;
-ghost use Rattle.machine.specs.Sound.{Sound, InBounds, ReleaseInBounds, RevisionInBounds};
+ghost use Rattle.desk_state.specs.Contents.{state_of};
+ghost use Rattle.desk_state.specs.Decide as spec;
+ghost use Rattle.desk_state.specs.Sound.{Sound, InBounds, ReleaseInBounds, RevisionInBounds};
 ghost use Rattle.decisions.specs.Answers.{Answers, Passes};
 ghost use Rattle.decisions.specs.Reads.{DecisionAdmitsRead};
 
@@ -12,8 +12,8 @@ use crate::releases::{held, in_phase, not_yours, out_of_phase};
 use crate::rulings::judged;
 use asks::{Done, Reply};
 use desk_io::{OutOfMemory, Text};
+use desk_state::{Content, Decision, Effect};
 use desk_time::Minute;
-use machine::{Content, Decision, Effect};
 use ops_tables::Actor;
 use plan::{Phase, Release, Revision, is_active};
 use rules::Steps;

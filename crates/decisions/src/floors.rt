@@ -1,6 +1,6 @@
 ghost use Rattle.std.specs.Prelude.{◌≡◌, ◌+◌, ◌≤◌, ℕ, length, if◌then◌else◌, OnOk};
 ghost use Rattle.decisions.specs.Floors as spec;
-ghost use Rattle.machine.specs.Requests as requests;
+ghost use Rattle.desk_state.specs.Requests as requests;
 
 use asks::Floor;
 use desk_io::{Copied, OutOfMemory, Text};

@@ -1,16 +1,16 @@
 ghost use Rattle.std.specs.Prelude.{◌≡◌, None, Some, IfOk, IfSome};
 ghost use Rattle.std.specs.Option.{option_copied};
-ghost use Rattle.machine.specs.Contents.{state_of};
-ghost use Rattle.machine.specs.Decide as spec;
-ghost use Rattle.machine.specs.Sound.{Sound, InBounds, Fits, ReleaseInBounds, RevisionInBounds};
-ghost use Rattle.machine.specs.State.{release_at};
+ghost use Rattle.desk_state.specs.Contents.{state_of};
+ghost use Rattle.desk_state.specs.Decide as spec;
+ghost use Rattle.desk_state.specs.Sound.{Sound, InBounds, Fits, ReleaseInBounds, RevisionInBounds};
+ghost use Rattle.desk_state.specs.State.{release_at};
 ghost use Rattle.decisions.specs.Answers.{Answers, Passes};
 ghost use Rattle.decisions.specs.Newest.{HasNewest};
 
 use crate::chain::{Stop, refused_if};
 use asks::Refusal;
 use desk_io::{Copied, OutOfMemory, Text, copied_option};
-use machine::Content;
+use desk_state::Content;
 use plan::{Phase, Release, Revision};
 use std::alloc::Global;
 

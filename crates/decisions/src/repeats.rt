@@ -1,12 +1,12 @@
 ghost use Rattle.std.specs.Prelude.{◌≡◌};
 ghost use Rattle.std.specs.Option.{option_copied};
-ghost use Rattle.machine.specs.Decide as spec;
-ghost use Rattle.machine.specs.Requests as requests;
+ghost use Rattle.desk_state.specs.Decide as spec;
+ghost use Rattle.desk_state.specs.Requests as requests;
 ghost use Rattle.decisions.specs.Answers.{Answers, Passes};
 
 use crate::chain::{Stop, refused_if};
 use asks::{Floor, KeptReply, Refusal, Reply};
-use machine::Decision;
+use desk_state::Decision;
 
 /// What is kept of the request of a person under a number.
 pub(crate) fn kept_at<'a>(kept: &'a [KeptReply], actor: &[u8], number: u64) -> Option<&'a KeptReply>

@@ -3,8 +3,8 @@ ghost use Rattle.codes.specs.Groups.{groups_of, canonical};
 ghost use Rattle.facts.specs.Reading.{read_of, report_of, IsRead};
 ghost use Rattle.facts.specs.Same.{same_id, minute_of_read};
 ghost use Rattle.plan.specs.Texts.{IsMoment};
-ghost use Rattle.machine.specs.Contents.{state_of};
-ghost use Rattle.machine.specs.Decide as spec;
+ghost use Rattle.desk_state.specs.Contents.{state_of};
+ghost use Rattle.desk_state.specs.Decide as spec;
 ghost use Rattle.decisions.specs.Answers.{Answers, Passes};
 ghost use Rattle.decisions.specs.Reads.{DecisionAdmitsRead};
 
@@ -12,8 +12,8 @@ use crate::chain::{Stop, refused_if};
 use asks::{Done, Refusal, Reply};
 use codes::{BadReport, ReportFault, Station, Why};
 use desk_io::Text;
+use desk_state::{Content, Decision, Effect};
 use facts::{HELD_LIMIT, Received, Report, receive};
-use machine::{Content, Decision, Effect};
 use std::alloc::Global;
 use views::weather_view;
 

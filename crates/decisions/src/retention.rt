@@ -1,16 +1,16 @@
 ghost use Rattle.std.specs.Prelude.{◌≡◌, ◌≤◌, IfOk};
 ghost use Rattle.plan.specs.Texts.{HasMoment, IsMoment};
-ghost use Rattle.machine.specs.Contents.{state_of};
-ghost use Rattle.machine.specs.Decide as spec;
-ghost use Rattle.machine.specs.Sound.{Sound, InBounds};
+ghost use Rattle.desk_state.specs.Contents.{state_of};
+ghost use Rattle.desk_state.specs.Decide as spec;
+ghost use Rattle.desk_state.specs.Sound.{Sound, InBounds};
 ghost use Rattle.decisions.specs.Answers.{Answers, Passes};
 ghost use Rattle.decisions.specs.Reads.{DecisionAdmitsRead};
 
 use crate::chain::{Stop, refused_if};
 use crate::releases::held;
 use asks::{Done, Refusal, Reply};
+use desk_state::{Content, Decision, Effect};
 use desk_time::{Minute, three_months};
-use machine::{Content, Decision, Effect};
 use plan::Phase;
 
 fn ended_at(phase: Phase) -> Option<Minute>

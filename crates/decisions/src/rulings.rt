@@ -1,13 +1,13 @@
 ghost use Rattle.plan.specs.Check.{IsPlan};
 ghost use Rattle.rules.specs.Judgement.{findings_of};
-ghost use Rattle.machine.specs.Contents.{state_of};
-ghost use Rattle.machine.specs.Decide as spec;
-ghost use Rattle.machine.specs.State.{grounds_of};
+ghost use Rattle.desk_state.specs.Contents.{state_of};
+ghost use Rattle.desk_state.specs.Decide as spec;
+ghost use Rattle.desk_state.specs.State.{grounds_of};
 ghost use Rattle.decisions.specs.Answers.{Passes};
 
 use crate::chain::Stop;
 use asks::Refusal;
-use machine::Content;
+use desk_state::Content;
 use plan::{Findings, Phase, Plan};
 use rules::{Steps, judge};
 use std::alloc::Global;

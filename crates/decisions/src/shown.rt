@@ -1,14 +1,14 @@
 ghost use Rattle.std.specs.Prelude.{◌≡◌, [], IfOk};
-ghost use Rattle.machine.specs.Contents.{state_of};
-ghost use Rattle.machine.specs.Decide as spec;
-ghost use Rattle.machine.specs.Sound.{Sound, InBounds};
+ghost use Rattle.desk_state.specs.Contents.{state_of};
+ghost use Rattle.desk_state.specs.Decide as spec;
+ghost use Rattle.desk_state.specs.Sound.{Sound, InBounds};
 ghost use Rattle.decisions.specs.Answers.{Answers};
 ghost use Rattle.decisions.specs.Reads.{DecisionAdmitsRead};
 
 use crate::chain::Stop;
 use crate::releases::held;
 use asks::{Ask, Reply};
-use machine::{Content, Decision};
+use desk_state::{Content, Decision};
 use std::alloc::Global;
 use views::{alerts_view, board_view, release_view};
 

@@ -1,8 +1,8 @@
 ghost use Rattle.std.specs.Prelude.{◌≡◌, IfOk};
 ghost use Rattle.plan.specs.Check.{IsPlan};
-ghost use Rattle.machine.specs.Contents.{state_of};
-ghost use Rattle.machine.specs.Decide as spec;
-ghost use Rattle.machine.specs.Sound.{Sound, InBounds};
+ghost use Rattle.desk_state.specs.Contents.{state_of};
+ghost use Rattle.desk_state.specs.Decide as spec;
+ghost use Rattle.desk_state.specs.Sound.{Sound, InBounds};
 ghost use Rattle.decisions.specs.Answers.{Answers, Passes, in_turn};
 ghost use Rattle.decisions.specs.Reads.{DecisionAdmitsRead};
 
@@ -11,8 +11,8 @@ use crate::releases::{held, not_yours, pending, with_pending};
 use crate::rulings::judged;
 use asks::{Done, Refusal, Reply};
 use desk_io::{Copied, OutOfMemory, Text};
+use desk_state::{Content, Decision, Effect};
 use desk_time::Minute;
-use machine::{Content, Decision, Effect};
 use plan::{Phase, Release, Revision, Signature};
 use release_text::{newer, revision_digest};
 use rules::Steps;

@@ -1,10 +1,10 @@
 ghost use Rattle.std.specs.Prelude.{◌≡◌, ◌++◌, ℕ, length, IfOk, OnOk};
 ghost use Rattle.std.specs.List.Sorted.{IsNonDecreasing};
 ghost use Rattle.plan.specs.Texts.{IsMoment};
-ghost use Rattle.machine.specs.Contents.{state_of};
-ghost use Rattle.machine.specs.Decide as spec;
-ghost use Rattle.machine.specs.Events as events;
-ghost use Rattle.machine.specs.Requests as requests;
+ghost use Rattle.desk_state.specs.Contents.{state_of};
+ghost use Rattle.desk_state.specs.Decide as spec;
+ghost use Rattle.desk_state.specs.Events as events;
+ghost use Rattle.desk_state.specs.Requests as requests;
 ghost use Rattle.decisions.specs.Answers.{Answers};
 ghost use Rattle.decisions.specs.Attached.{ids_of, all_ids, is_among, ids_among};
 ghost use Rattle.decisions.specs.Reads.{DecisionAdmitsRead};
@@ -14,9 +14,9 @@ use crate::floors::raise;
 use crate::retention::too_young;
 use asks::{Done, Floors, KeptReply, Reply};
 use desk_io::{Listed, OutOfMemory, copied_items};
+use desk_state::{Content, Decision, Effect};
 use desk_time::Minute;
 use facts::Report;
-use machine::{Content, Decision, Effect};
 use plan::{Release, Revision};
 use std::alloc::Global;
 

@@ -10,21 +10,21 @@ use Rattle.asks.specs.declared.reply.Reply.{Reply}
 use Rattle.asks.specs.declared.reply.Refusal.TheVariants.{Unkept}
 use Rattle.asks.specs.declared.reply.Reply.TheVariants.{Done, Refused}
 use Rattle.alerts.specs.declared.notices.Notice.{Notice}
-use Rattle.machine.specs.Repeats.{MayAsk, IsKeptFor}
-use Rattle.machine.proofs.RepeatLaws.{repeat_stays}
+use Rattle.desk_state.specs.Repeats.{MayAsk, IsKeptFor}
+use Rattle.desk_state.proofs.RepeatLaws.{repeat_stays}
 use Rattle.std.proofs.lemmas.Bool.{le-ltb, lt-ltb}
-use Rattle.machine.specs.Lanes as lanes
-use Rattle.machine.specs.Lanes.{outcomes, after_items}
-use Rattle.machine.specs.State.{State, is_full}
-use Rattle.machine.specs.Step.{Stepped, stay, answer_call, tick_to, tick_unless, ticked, full_reply}
-use Rattle.machine.specs.People.{mistaken, not_his_role}
-use Rattle.machine.specs.Requests.{kept_at}
+use Rattle.desk_state.specs.Lanes as lanes
+use Rattle.desk_state.specs.Lanes.{outcomes, after_items}
+use Rattle.desk_state.specs.State.{State, is_full}
+use Rattle.desk_state.specs.Step.{Stepped, stay, answer_call, tick_to, tick_unless, ticked, full_reply}
+use Rattle.desk_state.specs.People.{mistaken, not_his_role}
+use Rattle.desk_state.specs.Requests.{kept_at}
 use Rattle.ops_tables.specs.Tables.{TableRows, actor_of}
-use Rattle.machine.specs.Texts.{closing}
-use Rattle.machine.specs.declared.lanes.Item.{Item}
-use Rattle.machine.specs.declared.lanes.Item.TheVariants as item
-use Rattle.machine.specs.declared.lanes.Outcome.{Outcome}
-use Rattle.machine.specs.declared.lanes.Said.TheVariants as said
+use Rattle.desk_state.specs.Texts.{closing}
+use Rattle.desk_state.specs.declared.lanes.Item.{Item}
+use Rattle.desk_state.specs.declared.lanes.Item.TheVariants as item
+use Rattle.desk_state.specs.declared.lanes.Outcome.{Outcome}
+use Rattle.desk_state.specs.declared.lanes.Said.TheVariants as said
 use Rattle.asks.specs.declared.bad_call.BadCall.{BadCall}
 use Rattle.desk.specs.Keeping.{Choice, Given, GivenBetween, given, no_choice, adds, kept_or, unkept_if, once_ticked, made_after, made_by, answer_with, item_with, bad_given, commits_after_item, outcomes_with, after_with, Rise, numbers_of, AreNow, Counted, CountedOnce, IsGiven, AreGiven, AreGivenSoFar}
 use Rattle.desk.specs.declared.answering.Answered.{Answered}

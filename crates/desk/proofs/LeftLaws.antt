@@ -6,7 +6,7 @@ use Rattle.board.specs.Prepare.{Shown, shown}
 use Rattle.desk_io.specs.Rows.{Rows}
 use Rattle.desk_io.specs.declared.rows.Row.{Row}
 use Rattle.keeper.specs.Order as order
-use Rattle.keeping.specs.Rows.{records_of}
+use Rattle.kept_state.specs.Rows.{records_of}
 use Rattle.kept_forms.specs.Formed.{AreFormed, NamesHaveForms}
 use Rattle.kept_forms.proofs.Again.{state_again}
 use Rattle.kept_forms.proofs.DeskRecords.{records_formed}
@@ -14,7 +14,7 @@ use Rattle.kept_forms.proofs.Faultless.{no_bad_row, no_bad_pair}
 use Rattle.kept_forms.proofs.FormLaws.{reopened_formed}
 use Rattle.kept_forms.proofs.HeldForms.{state_formed}
 use Rattle.kept_forms.proofs.SameRows.{desk_records, listed_as}
-use Rattle.machine.specs.State.{State, start}
+use Rattle.desk_state.specs.State.{State, start}
 use Rattle.ops_tables.specs.Tables.{TableRows}
 use Rattle.records.specs.Bodies.{row_of}
 use Rattle.records.specs.Checks.{IsDesk, IsFaultOf}
@@ -23,9 +23,9 @@ use Rattle.records.specs.Valid.{IsRecord}
 use Rattle.records.specs.declared.faults.RowWhy.{RowWhy}
 use Rattle.records.specs.declared.faults.RowsFault.TheVariants as fault
 use Rattle.records.specs.declared.record.Record.{Record}
-use Rattle.reopening.specs.Held.{AreOfDesk, state_in}
-use Rattle.reopening.specs.Opening.{reopened}
-use Rattle.reopening.proofs.StateLaws.{may_reopen}
+use Rattle.kept_state.specs.Held.{AreOfDesk, state_in}
+use Rattle.kept_state.specs.Opening.{reopened}
+use Rattle.kept_state.proofs.StateLaws.{may_reopen}
 use Rattle.desk.proofs.Opened.{of_desk}
 use Rattle.desk.specs.Opening.{IsWhy, IsOfKeeper, IsOpened, IsLeft, TellsRowsOf, under}
 use Rattle.desk.specs.declared.opening.OpenWhy.{OpenWhy}

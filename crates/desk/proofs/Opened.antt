@@ -8,21 +8,21 @@ use Rattle.desk_io.specs.declared.rows.Change.{Change}
 use Rattle.desk_io.specs.declared.rows.Row.{Row}
 use Rattle.keeper.specs.Kept.{AreSame, Lists, Leads}
 use Rattle.keeper.specs.Order as order
-use Rattle.keeping.specs.Rows.{AreKept}
-use Rattle.machine.specs.State.{State}
+use Rattle.kept_state.specs.Rows.{AreKept}
+use Rattle.desk_state.specs.State.{State}
 use Rattle.records.specs.Bodies.{row_of}
 use Rattle.records.specs.Checks.{IsDesk, AreRowsOf}
 use Rattle.records.specs.declared.record.Record.{Record}
-use Rattle.reopening.specs.Held.{comes_before, rises_from, rising, AreOfDesk}
+use Rattle.kept_state.specs.Held.{comes_before, rises_from, rising, AreOfDesk}
 use Rattle.desk.proofs.Steps.{same_kept, still_keeps}
 use Rattle.desk.specs.Keeping.{KeepsState}
 use Rattle.desk.specs.Opening.{AreLoaded, AreAsked, OnLoaded, IsWhy, IsOfKeeper, IsOfRows, commits_for, commits_where, commits_to_open}
-use Rattle.keeping.specs.Judged.{judged_changes}
-use Rattle.machine.specs.Effects.{nothing}
-use Rattle.machine.specs.Events.{alert_changes}
-use Rattle.machine.specs.declared.change.AlertChange.{AlertChange}
+use Rattle.kept_state.specs.Judged.{judged_changes}
+use Rattle.desk_state.specs.Effects.{nothing}
+use Rattle.desk_state.specs.Events.{alert_changes}
+use Rattle.desk_state.specs.declared.change.AlertChange.{AlertChange}
 use Rattle.ops_tables.specs.Tables.{TableRows}
-use Rattle.reopening.specs.Held.{state_in}
+use Rattle.kept_state.specs.Held.{state_in}
 use Rattle.desk.specs.declared.opening.OpenWhy.{OpenWhy}
 use Rattle.desk.specs.declared.opening.OpenWhy.TheVariants.{KeeperFault, BadRow, BadPair, OutOfMemory}
 

@@ -14,10 +14,10 @@ use Rattle.board.specs.declared.prepared.Prepared.{Prepared}
 use Rattle.desk_io.specs.Rows.{Rows, rows_of, changed_by}
 use Rattle.desk_io.specs.declared.rows.Change.{Change}
 use Rattle.keeper.specs.Kept.{AreSame, Leads}
-use Rattle.keeping.specs.Rows.{AreKept}
-use Rattle.machine.specs.State.{State}
-use Rattle.machine.specs.Step.{Stepped, answer_call}
-use Rattle.machine.proofs.Boards.{call_replies}
+use Rattle.kept_state.specs.Rows.{AreKept}
+use Rattle.desk_state.specs.State.{State}
+use Rattle.desk_state.specs.Step.{Stepped, answer_call}
+use Rattle.desk_state.proofs.Boards.{call_replies}
 use Rattle.desk.specs.Keeping.{adds, asked_if, kept_or, unkept, unkept_if, KeepsState}
 use Rattle.desk.specs.Settled.{stepped_by, IsSettled}
 use Rattle.desk.specs.declared.settling.Settled.{Settled}

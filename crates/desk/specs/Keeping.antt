@@ -10,14 +10,14 @@ use Rattle.desk_io.specs.Planned.{after}
 use Rattle.desk_io.specs.Rows.{Rows}
 use Rattle.desk_io.specs.declared.rows.Change.{Change}
 use Rattle.keeper.specs.Kept.{Leads}
-use Rattle.keeping.specs.Rows.{AreKept}
-use Rattle.machine.specs.Lanes.{outcomes, after_items, said_of}
-use Rattle.machine.specs.State.{State}
-use Rattle.machine.specs.Step.{Stepped, stay, answer_call, tick_to}
-use Rattle.machine.specs.declared.lanes.Item.{Item}
-use Rattle.machine.specs.declared.lanes.Item.TheVariants as item
-use Rattle.machine.specs.declared.lanes.Outcome.{Outcome}
-use Rattle.machine.specs.declared.lanes.Said.TheVariants as said
+use Rattle.kept_state.specs.Rows.{AreKept}
+use Rattle.desk_state.specs.Lanes.{outcomes, after_items, said_of}
+use Rattle.desk_state.specs.State.{State}
+use Rattle.desk_state.specs.Step.{Stepped, stay, answer_call, tick_to}
+use Rattle.desk_state.specs.declared.lanes.Item.{Item}
+use Rattle.desk_state.specs.declared.lanes.Item.TheVariants as item
+use Rattle.desk_state.specs.declared.lanes.Outcome.{Outcome}
+use Rattle.desk_state.specs.declared.lanes.Said.TheVariants as said
 use Rattle.asks.specs.declared.bad_call.BadCall.{BadCall}
 
 -- ---- a step that may not be kept

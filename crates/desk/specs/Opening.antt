@@ -4,25 +4,25 @@ use Rattle.board.specs.Prepare.{Shown, shown}
 use Rattle.desk_io.specs.Planned.{after}
 use Rattle.desk_io.specs.Rows.{Rows}
 use Rattle.desk_io.specs.declared.rows.Change.{Change}
-use Rattle.machine.specs.Effects.{nothing}
-use Rattle.machine.specs.Events.{alert_changes}
-use Rattle.machine.specs.declared.change.AlertChange.{AlertChange}
+use Rattle.desk_state.specs.Effects.{nothing}
+use Rattle.desk_state.specs.Events.{alert_changes}
+use Rattle.desk_state.specs.declared.change.AlertChange.{AlertChange}
 use Rattle.desk_io.specs.declared.rows.Row.{Row}
 use Rattle.keeper.specs.Kept.{Lists}
 use Rattle.keeper.specs.Order.{rising}
 use Rattle.keeper.specs.declared.keeping.KeepFault.{KeepFault}
-use Rattle.keeping.specs.Rows.{AreKept}
+use Rattle.kept_state.specs.Rows.{AreKept}
 use Rattle.kept_forms.specs.Formed.{AreFormed}
-use Rattle.machine.specs.Sound.{IsBoard}
-use Rattle.machine.specs.State.{State}
+use Rattle.desk_state.specs.Sound.{IsBoard}
+use Rattle.desk_state.specs.State.{State}
 use Rattle.keeper.specs.declared.keeping.KeepFault.TheVariants as keep
 use Rattle.ops_tables.specs.Tables.{TableRows}
 use Rattle.records.specs.Checks.{IsDesk, IsFaultOf}
 use Rattle.records.specs.declared.faults.RowsFault.{RowsFault}
 use Rattle.records.specs.declared.faults.RowsFault.TheVariants as fault
 use Rattle.records.specs.declared.record.Record.{Record}
-use Rattle.reopening.specs.Held.{state_in}
-use Rattle.reopening.specs.Opening.{reopened}
+use Rattle.kept_state.specs.Held.{state_in}
+use Rattle.kept_state.specs.Opening.{reopened}
 use Rattle.desk.specs.declared.opening.OpenWhy.{OpenWhy}
 use Rattle.desk.specs.declared.opening.OpenWhy.TheVariants.{KeeperFault, BadRow, BadPair, OutOfMemory}
 

@@ -5,14 +5,14 @@ use Rattle.asks.specs.declared.bad_call.BadCall.{BadCall}
 use Rattle.asks.specs.declared.call.Call.{Call}
 use Rattle.desk_json.specs.Faults.{line_or_fault}
 use Rattle.desk_json.specs.Replies.{reply_text, bad_text}
-use Rattle.machine.specs.declared.lanes.Item.{Item}
-use Rattle.machine.specs.declared.lanes.Item.TheVariants as item
-use Rattle.machine.specs.declared.lanes.Outcome.{Outcome}
-use Rattle.machine.specs.declared.lanes.Said.{Said}
-use Rattle.machine.specs.declared.lanes.Said.TheVariants as said
-use Rattle.machine.specs.State.{State}
-use Rattle.machine.specs.Lanes.{outcomes, after_items}
-use Rattle.machine.specs.Texts.{closing}
+use Rattle.desk_state.specs.declared.lanes.Item.{Item}
+use Rattle.desk_state.specs.declared.lanes.Item.TheVariants as item
+use Rattle.desk_state.specs.declared.lanes.Outcome.{Outcome}
+use Rattle.desk_state.specs.declared.lanes.Said.{Said}
+use Rattle.desk_state.specs.declared.lanes.Said.TheVariants as said
+use Rattle.desk_state.specs.State.{State}
+use Rattle.desk_state.specs.Lanes.{outcomes, after_items}
+use Rattle.desk_state.specs.Texts.{closing}
 use Rattle.desk.specs.Keeping.{Choice, Counted, outcomes_with, after_with}
 
 -- the lines that have a byte

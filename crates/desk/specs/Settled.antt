@@ -2,8 +2,8 @@
 use Rattle.std.specs.Prelude.{◌≡◌, ◌⊎◌, ℕ, ◌<◌}
 use Rattle.board.specs.Prepare.{installed}
 use Rattle.board.specs.declared.prepared.Prepared.{Prepared}
-use Rattle.machine.specs.State.{State}
-use Rattle.machine.specs.Step.{Stepped, tick_to}
+use Rattle.desk_state.specs.State.{State}
+use Rattle.desk_state.specs.Step.{Stepped, tick_to}
 use Rattle.desk.specs.Keeping.{Choice}
 use Rattle.desk.specs.declared.answering.Judged.{Judged}
 use Rattle.desk.specs.declared.settling.Settled.{Settled}

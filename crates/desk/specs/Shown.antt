@@ -1,12 +1,12 @@
 -- What holds of items that are asked and of outcomes that are written.
 use Rattle.std.specs.Prelude.{◌≤◌}
 use Rattle.asks.specs.Forms.{ReplyHasMoment}
-use Rattle.plan_json.specs.Canonical.{CallHasForms}
-use Rattle.machine.specs.declared.lanes.Item.{Item}
-use Rattle.machine.specs.declared.lanes.Item.TheVariants as item
-use Rattle.machine.specs.declared.lanes.Outcome.{Outcome}
-use Rattle.machine.specs.declared.lanes.Said.{Said}
-use Rattle.machine.specs.declared.lanes.Said.TheVariants as said
+use Rattle.call_json.specs.Canonical.{CallHasForms}
+use Rattle.desk_state.specs.declared.lanes.Item.{Item}
+use Rattle.desk_state.specs.declared.lanes.Item.TheVariants as item
+use Rattle.desk_state.specs.declared.lanes.Outcome.{Outcome}
+use Rattle.desk_state.specs.declared.lanes.Said.{Said}
+use Rattle.desk_state.specs.declared.lanes.Said.TheVariants as said
 
 -- a call at a moment that can be shown, each of whose fields has its form
 abbrev pub IsItem : Item → Type 0

@@ -7,7 +7,7 @@ ghost use Rattle.desk.specs.Shown.{IsItem, IsShown};
 
 use desk_io::{LineFeeds, OutOfMemory, Run, runs_between};
 use desk_json::{CallFault, read_line};
-use machine::{Item, Outcome};
+use desk_state::{Item, Outcome};
 use std::alloc::Global;
 use std::marker::Model;
 

@@ -1,6 +1,6 @@
 ghost use Rattle.std.specs.Prelude.{◌≡◌, ◌≤◌, ◌++◌, ◌∷◌, [], IfOk, OnOk};
 ghost use Rattle.std.specs.List.{AllByRecursion};
-ghost use Rattle.machine.specs.Texts.{closing};
+ghost use Rattle.desk_state.specs.Texts.{closing};
 ghost use Rattle.kept_forms.specs.Formed.{AreFormed};
 ghost use Rattle.desk.specs.Keeping.{item_with, bad_given, commits_after_item, GivenBetween, AreGiven, KeepsState};
 ghost use Rattle.desk.specs.Run as spec;
@@ -15,8 +15,8 @@ use asks::BadCall;
 use board::Board;
 use desk_io::{Copied, OutOfMemory, Text};
 use desk_json::{bad_text, reply_text};
+use desk_state::{Item, Outcome, Said};
 use keeper::Keeper;
-use machine::{Item, Outcome, Said};
 use rules::Steps;
 use std::alloc::Global;
 use std::sync::ledger::Ledger;

@@ -5,10 +5,10 @@ use Rattle.plan.specs.Texts.{IsMoment}
 use Rattle.asks.specs.declared.call.Call.{Call}
 use Rattle.asks.specs.declared.call.Ask.{Ask}
 use Rattle.asks.specs.declared.call.Ask.TheVariants.{Admit, Defer, Clear, Draft, Prepare, Sign, Concur, Amend, Cancel, Depart, Arrive, Acknowledge, Purge, Sweep, ViewBoard, ViewAlerts, ViewRelease, ViewWeather, ViewDeferred}
-use Rattle.plan_json.specs.Fields.{data_of}
-use Rattle.plan_json.specs.Canonical.{ask_data, AskHasForms, CallHasForms}
-use Rattle.plan_json.proofs.DigestLaws.{digest_again}
-use Rattle.plan_json.proofs.Again.{small_again, amount_again, short_again, station_again, moment_again, id_again, plan_again}
+use Rattle.call_json.specs.Fields.{data_of}
+use Rattle.call_json.specs.Canonical.{ask_data, AskHasForms, CallHasForms}
+use Rattle.call_json.proofs.DigestLaws.{digest_again}
+use Rattle.call_json.proofs.Again.{small_again, amount_again, short_again, station_again, moment_again, id_again, plan_again}
 use Rattle.desk_json.specs.Calls.{ask_of, line_in, line_of}
 use Rattle.desk_json.specs.Canonical.{line_data}
 

@@ -11,9 +11,9 @@ use Rattle.desk_time.specs.Moments.{minute_of}
 use Rattle.codes.specs.Station.{station_of}
 use Rattle.asks.specs.declared.call.Ask.{Ask}
 use Rattle.asks.specs.declared.call.Ask.TheVariants.{Admit, Defer, Clear, Draft, Amend, Acknowledge, Sweep, ViewBoard, ViewAlerts, ViewWeather, ViewDeferred}
-use Rattle.plan_json.specs.Digests.{digest_of, digest_at}
-use Rattle.plan_json.specs.Plans.{plan_of}
-use Rattle.plan_json.specs.Fields.{text_at, up_to, number_at, id_at, amount_at, short, short_at, station_at, moment_at}
+use Rattle.call_json.specs.Digests.{digest_of, digest_at}
+use Rattle.call_json.specs.Plans.{plan_of}
+use Rattle.call_json.specs.Fields.{text_at, up_to, number_at, id_at, amount_at, short, short_at, station_at, moment_at}
 use Rattle.asks.specs.declared.bad_call.BadCall.{BadCall}
 use Rattle.desk_json.specs.declared.keys.AskKind.{AskKind}
 use Rattle.desk_json.specs.declared.keys.AskKind.TheVariants as kind

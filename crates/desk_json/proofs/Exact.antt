@@ -11,7 +11,7 @@ use Rattle.std.proofs.lemmas.Slice.Eq.{bytes_eq-Decides}
 use Rattle.serde_json.specs.Data.{Data, Members, no_members, member}
 use Rattle.serde_json.specs.Find.{get_member}
 use Rattle.serde_json.specs.Events.{members_len}
-use Rattle.plan_json.specs.Plain.{IsBefore, AreInOrder}
+use Rattle.call_json.specs.Plain.{IsBefore, AreInOrder}
 use Rattle.desk_json.specs.declared.keys.Object.{Object}
 use Rattle.desk_json.specs.Keys.{is_key, first_extra}
 

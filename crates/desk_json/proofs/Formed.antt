@@ -7,15 +7,15 @@ use Rattle.desk_time.specs.Digits.{◌>>=◌}
 use Rattle.plan.specs.Texts.{IsMoment}
 use Rattle.asks.specs.declared.call.Ask.{Ask}
 use Rattle.asks.specs.declared.call.Ask.TheVariants.{Admit, Defer, Clear, Draft, Prepare, Amend, Cancel, Acknowledge, Purge, Sweep, ViewBoard, ViewAlerts, ViewRelease, ViewWeather, ViewDeferred}
-use Rattle.plan_json.specs.Plain.{HasText}
-use Rattle.plan_json.specs.Digests.{digest_at, IsDigest}
-use Rattle.plan_json.specs.Plans.{plan_of}
-use Rattle.plan_json.specs.Fields.{text_at, number_at, id_at, amount_at, short_at, station_at, moment_at, has_members}
-use Rattle.plan_json.specs.Canonical.{IsAmount, IsId, IsShort, HasForms, AskHasForms, CallHasForms}
-use Rattle.plan_json.proofs.Chains.{bind_if, bind_any, then_if, under, either}
-use Rattle.plan_json.proofs.PlanForms.{IsAirport, number_formed, id_formed, amount_formed, station_formed, moment_formed, plan_formed}
-use Rattle.plan_json.proofs.DoneForms.{digest_is}
-use Rattle.plan_json.proofs.ValueTexts.{found_has_text, text_formed, short_formed}
+use Rattle.call_json.specs.Plain.{HasText}
+use Rattle.call_json.specs.Digests.{digest_at, IsDigest}
+use Rattle.call_json.specs.Plans.{plan_of}
+use Rattle.call_json.specs.Fields.{text_at, number_at, id_at, amount_at, short_at, station_at, moment_at, has_members}
+use Rattle.call_json.specs.Canonical.{IsAmount, IsId, IsShort, HasForms, AskHasForms, CallHasForms}
+use Rattle.call_json.proofs.Chains.{bind_if, bind_any, then_if, under, either}
+use Rattle.call_json.proofs.PlanForms.{IsAirport, number_formed, id_formed, amount_formed, station_formed, moment_formed, plan_formed}
+use Rattle.call_json.proofs.DoneForms.{digest_is}
+use Rattle.call_json.proofs.ValueTexts.{found_has_text, text_formed, short_formed}
 use Rattle.desk_json.specs.declared.asked.Signed.{Signed}
 use Rattle.desk_json.specs.declared.asked.Flown.{Flown}
 use Rattle.desk_json.specs.Calls.{admit_of, plan_at, draft_of, amend_of, defer_of, clear_of, deferred_of, release_of, prepare_of, cancel_of, signed_of, sign_of, concur_of, flown_of, depart_of, arrive_of, acknowledge_of, purge_of, sweep_of, board_of, alerts_of, view_release_of, weather_of, view_named, ask_on_flight, ask_on_release, ask_on_equipment, ask_named, ask_of, asked_by, call_in}

@@ -7,8 +7,8 @@ use Rattle.std.proofs.lemmas.Map.Text.{is_eq-slice_cmp}
 use Rattle.std.proofs.lemmas.Slice.Eq.{bytes_eq-Decides}
 use Rattle.serde_json.specs.Data.{Data, null, boolean, number, string, array, object, Members, no_members, member}
 use Rattle.serde_json.specs.Find.{get}
-use Rattle.plan_json.specs.Plain.{IsBefore, AreInOrder}
-use Rattle.plan_json.specs.Fields.{data_of}
+use Rattle.call_json.specs.Plain.{IsBefore, AreInOrder}
+use Rattle.call_json.specs.Fields.{data_of}
 use Rattle.asks.specs.declared.bad_call.BadCall.{BadCall}
 use Rattle.asks.specs.declared.bad_call.CallWhy.TheVariants.{Extra}
 use Rattle.asks.specs.declared.call.Call.{Call}

@@ -6,13 +6,13 @@ use Rattle.serde_json.specs.View.{view}
 use Rattle.serde_json.specs.declared.value.Value.{Value}
 use Rattle.plan.specs.Texts.{IsMoment}
 use Rattle.asks.specs.declared.call.Call.{Call}
-use Rattle.plan_json.specs.Plain.{HasText}
-use Rattle.plan_json.specs.Fields.{data_of, moment_at, has_members}
-use Rattle.plan_json.specs.Canonical.{CallHasForms}
-use Rattle.plan_json.proofs.Again.{small_again, short_again}
-use Rattle.plan_json.proofs.Chains.{bind_if, under}
-use Rattle.plan_json.proofs.PlanForms.{moment_formed}
-use Rattle.plan_json.proofs.ValueTexts.{view_has_text}
+use Rattle.call_json.specs.Plain.{HasText}
+use Rattle.call_json.specs.Fields.{data_of, moment_at, has_members}
+use Rattle.call_json.specs.Canonical.{CallHasForms}
+use Rattle.call_json.proofs.Again.{small_again, short_again}
+use Rattle.call_json.proofs.Chains.{bind_if, under}
+use Rattle.call_json.proofs.PlanForms.{moment_formed}
+use Rattle.call_json.proofs.ValueTexts.{view_has_text}
 use Rattle.asks.specs.declared.bad_call.BadCall.{BadCall}
 use Rattle.desk_json.specs.Canonical.{LineHasForms, posted_data}
 use Rattle.desk_json.specs.Calls.{call_in, line_in, call_of}

@@ -9,7 +9,7 @@ use Rattle.desk_time.specs.Digits.{◌>>=◌}
 use Rattle.asks.specs.declared.call.Call.{Call}
 use Rattle.asks.specs.declared.call.Ask.{Ask}
 use Rattle.asks.specs.declared.call.Ask.TheVariants.{Prepare, Sign, Concur, Cancel, Depart, Arrive, Purge, ViewRelease}
-use Rattle.plan_json.specs.Fields.{data_of, text_at, short_at, moment_at, has_members}
+use Rattle.call_json.specs.Fields.{data_of, text_at, short_at, moment_at, has_members}
 use Rattle.asks.specs.declared.bad_call.BadCall.{BadCall}
 use Rattle.desk_json.specs.declared.keys.AskKind.{AskKind}
 use Rattle.desk_json.specs.declared.keys.AskKind.TheVariants as kind

@@ -23,20 +23,20 @@ use Rattle.asks.specs.declared.reply.Reply.{Reply}
 use Rattle.asks.specs.declared.reply.Reply.TheVariants.{Done, Seen, Refused}
 use Rattle.asks.specs.declared.reply.Refusal.{Refusal}
 use Rattle.asks.specs.declared.reply.Refusal.TheVariants.{UnknownActor, WrongKey, NotYourRole, NumberReused, BadReport, DayOutOfReach, ReportsFull, UnknownTail, NoSuchDeferral, NoSuchRelease, NotYours, BadPlan, NotPending, WrongRevision, WrongText, WeatherNewer, RuleFails, WrongPhase, AlreadySigned, NoSuchAlert, AlertMoved, TooYoung, ReleasesFull, HistoryFull, NoSuchStation, Unkept, NumberSwept, UnknownItem, BadFound, DeferralsFull}
-use Rattle.plan_json.specs.Canonical.{IsAmount}
-use Rattle.plan_json.specs.Fields.{data_of, up_to}
-use Rattle.plan_json.specs.Plain.{IsPlain, HasText}
-use Rattle.plan_json.proofs.Again.{small_again, amount_again, each_again, done_again}
-use Rattle.plan_json.proofs.Chains.{bind_any, under}
-use Rattle.plan_json.proofs.Compact.{read_compact, utf8_compact}
-use Rattle.plan_json.proofs.DigestLaws.{digest_again}
-use Rattle.plan_json.proofs.Plain.{order_of, text_of, list_plain, list_has_text, list_depth, done_plain, done_has_text, done_depth}
-use Rattle.plan_json.proofs.Texts.{written_utf8, moment_utf8, digest_utf8}
-use Rattle.release_json.specs.Findings.{IsSaidFinding}
-use Rattle.release_json.specs.Phases.{phase_of, IsPhase}
-use Rattle.release_json.proofs.FindingLaws.{finding_again, finding_utf8}
-use Rattle.release_json.proofs.PhaseLaws.{phase_again}
-use Rattle.release_json.proofs.ReleaseLaws.{phase_utf8}
+use Rattle.call_json.specs.Canonical.{IsAmount}
+use Rattle.call_json.specs.Fields.{data_of, up_to}
+use Rattle.call_json.specs.Plain.{IsPlain, HasText}
+use Rattle.call_json.proofs.Again.{small_again, amount_again, each_again, done_again}
+use Rattle.call_json.proofs.Chains.{bind_any, under}
+use Rattle.call_json.proofs.Compact.{read_compact, utf8_compact}
+use Rattle.call_json.proofs.DigestLaws.{digest_again}
+use Rattle.call_json.proofs.Plain.{order_of, text_of, list_plain, list_has_text, list_depth, done_plain, done_has_text, done_depth}
+use Rattle.call_json.proofs.Texts.{written_utf8, moment_utf8, digest_utf8}
+use Rattle.kept_releases.specs.Findings.{IsSaidFinding}
+use Rattle.kept_releases.specs.Phases.{phase_of, IsPhase}
+use Rattle.kept_releases.proofs.FindingLaws.{finding_again, finding_utf8}
+use Rattle.kept_releases.proofs.PhaseLaws.{phase_again}
+use Rattle.kept_releases.proofs.ReleaseLaws.{phase_utf8}
 use Rattle.desk_json.specs.Replies.{why_name, plan_why_name, finding_data, with_fields, refusal_members, refusal_data, reply_data, reply_text}
 use Rattle.desk_json.specs.ReadReplies.{why_of, plan_why_of, finding_in, reply_of, if_text, reply_in, IsWide, RefusalHasForms, ReplyHasForms, AnswersReply, IsReplyOf, GivesReply, IsReplyAgain}
 use Rattle.desk_json.specs.declared.bad_call.CallFault.{CallFault}

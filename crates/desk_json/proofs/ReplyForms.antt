@@ -18,20 +18,20 @@ use Rattle.asks.specs.declared.reply.Reply.{Reply}
 use Rattle.asks.specs.declared.reply.Reply.TheVariants.{Done, Seen, Refused}
 use Rattle.asks.specs.declared.reply.Refusal.{Refusal}
 use Rattle.asks.specs.declared.reply.Refusal.TheVariants.{UnknownActor, WrongKey, NotYourRole, NumberReused, BadReport, DayOutOfReach, ReportsFull, UnknownTail, NoSuchDeferral, NoSuchRelease, NotYours, BadPlan, NotPending, WrongRevision, WrongText, WeatherNewer, RuleFails, WrongPhase, AlreadySigned, NoSuchAlert, AlertMoved, TooYoung, ReleasesFull, HistoryFull, NoSuchStation, Unkept, NumberSwept, UnknownItem, BadFound, DeferralsFull}
-use Rattle.plan_json.specs.Plain.{HasText}
-use Rattle.plan_json.specs.Canonical.{IsAmount, SaidDoneHasForms}
-use Rattle.plan_json.specs.Digests.{digest_at, IsDigest}
-use Rattle.plan_json.specs.Dones.{said_done_of}
-use Rattle.plan_json.specs.Fields.{text_at, number_at, amount_at, list_at, each_read}
-use Rattle.plan_json.proofs.Chains.{bind_if, bind_any, then_if, under, either, weaker}
-use Rattle.plan_json.proofs.DoneForms.{digest_is, done_formed}
-use Rattle.plan_json.proofs.MomentRange.{minute_within}
-use Rattle.plan_json.proofs.PlanForms.{number_formed, amount_formed, each_formed}
-use Rattle.plan_json.proofs.ValueTexts.{view_has_text, text_formed}
-use Rattle.release_json.specs.Findings.{said_finding_of, IsSaidFinding}
-use Rattle.release_json.specs.Phases.{phase_of, IsPhase}
-use Rattle.release_json.proofs.FindingLaws.{finding_formed}
-use Rattle.release_json.proofs.PhaseLaws.{phase_formed}
+use Rattle.call_json.specs.Plain.{HasText}
+use Rattle.call_json.specs.Canonical.{IsAmount, SaidDoneHasForms}
+use Rattle.call_json.specs.Digests.{digest_at, IsDigest}
+use Rattle.call_json.specs.Dones.{said_done_of}
+use Rattle.call_json.specs.Fields.{text_at, number_at, amount_at, list_at, each_read}
+use Rattle.call_json.proofs.Chains.{bind_if, bind_any, then_if, under, either, weaker}
+use Rattle.call_json.proofs.DoneForms.{digest_is, done_formed}
+use Rattle.call_json.proofs.MomentRange.{minute_within}
+use Rattle.call_json.proofs.PlanForms.{number_formed, amount_formed, each_formed}
+use Rattle.call_json.proofs.ValueTexts.{view_has_text, text_formed}
+use Rattle.kept_releases.specs.Findings.{said_finding_of, IsSaidFinding}
+use Rattle.kept_releases.specs.Phases.{phase_of, IsPhase}
+use Rattle.kept_releases.proofs.FindingLaws.{finding_formed}
+use Rattle.kept_releases.proofs.PhaseLaws.{phase_formed}
 use Rattle.desk_json.specs.ReadReplies.{wide_at, shown_at, why_of, plan_why_of, plain_of, counted_of, bad_report_of, bad_plan_of, wrong_phase_of, history_full_of, fixed_of, not_yours_of, finding_in, rule_fails_of, refusal_of, done_in, seen_in, refused_in, reply_of, IsWide, RefusalHasForms, ReplyHasForms}
 
 -- ---- fields

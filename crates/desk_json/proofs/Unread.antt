@@ -7,7 +7,7 @@ use Rattle.std.proofs.lemmas.Map.Text.{is_eq-slice_cmp}
 use Rattle.std.proofs.lemmas.Slice.Eq.{bytes_eq-Decides}
 use Rattle.serde_json.specs.Data.{Data, null, boolean, number, string, array, object, Members, no_members, member}
 use Rattle.serde_json.specs.Find.{as_object, get, get_member}
-use Rattle.plan_json.specs.Fields.{short_at, moment_at}
+use Rattle.call_json.specs.Fields.{short_at, moment_at}
 use Rattle.asks.specs.declared.bad_call.BadCall.{BadCall}
 use Rattle.asks.specs.declared.bad_call.CallWhy.TheVariants.{Extra}
 use Rattle.asks.specs.declared.call.Call.{Call}

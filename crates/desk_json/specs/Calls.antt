@@ -11,9 +11,9 @@ use Rattle.asks.specs.declared.call.Ask.{Ask}
 use Rattle.asks.specs.declared.call.Ask.TheVariants.{Admit, Defer, Clear, Draft, Prepare, Sign, Concur, Amend, Cancel, Depart, Arrive, Acknowledge, Purge, Sweep, ViewBoard, ViewAlerts, ViewRelease, ViewWeather, ViewDeferred}
 use Rattle.desk_json.specs.declared.asked.Signed.{Signed}
 use Rattle.desk_json.specs.declared.asked.Flown.{Flown}
-use Rattle.plan_json.specs.Digests.{digest_at}
-use Rattle.plan_json.specs.Plans.{plan_of}
-use Rattle.plan_json.specs.Fields.{data_of, text_at, number_at, id_at, amount_at, short_at, station_at, moment_at, has_members}
+use Rattle.call_json.specs.Digests.{digest_at}
+use Rattle.call_json.specs.Plans.{plan_of}
+use Rattle.call_json.specs.Fields.{data_of, text_at, number_at, id_at, amount_at, short_at, station_at, moment_at, has_members}
 
 -- to admit a text, which may be any
 abbrev pub admit_of : Data → Option Ask

@@ -4,10 +4,10 @@ use Rattle.serde_json.specs.Data.{Data, object, member, no_members}
 use Rattle.serde_json.specs.Written.{compact_text}
 use Rattle.plan.specs.Texts.{IsMoment}
 use Rattle.asks.specs.declared.call.Call.{Call}
-use Rattle.plan_json.specs.Fields.{data_of}
+use Rattle.call_json.specs.Fields.{data_of}
 use Rattle.desk_json.specs.declared.bad_call.CallFault.{CallFault}
 use Rattle.desk_json.specs.Faults.{Finds}
-use Rattle.plan_json.specs.Canonical.{count, text_data, moment_data, ask_data, CallHasForms}
+use Rattle.call_json.specs.Canonical.{count, text_data, moment_data, ask_data, CallHasForms}
 
 -- the JSON of a moment and a call, as a line of a script has it
 unfoldable pub line_data : ℕ → Call → Data

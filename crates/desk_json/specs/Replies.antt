@@ -15,8 +15,8 @@ use Rattle.asks.specs.declared.reply.Reply.{Reply}
 use Rattle.asks.specs.declared.reply.Reply.TheVariants.{Done, Seen, Refused}
 use Rattle.asks.specs.declared.reply.Refusal.{Refusal}
 use Rattle.asks.specs.declared.reply.Refusal.TheVariants.{UnknownActor, WrongKey, NotYourRole, NumberReused, BadReport, DayOutOfReach, ReportsFull, UnknownTail, NoSuchDeferral, NoSuchRelease, NotYours, BadPlan, NotPending, WrongRevision, WrongText, WeatherNewer, RuleFails, WrongPhase, AlreadySigned, NoSuchAlert, AlertMoved, TooYoung, ReleasesFull, HistoryFull, NoSuchStation, Unkept, NumberSwept, UnknownItem, BadFound, DeferralsFull}
-use Rattle.plan_json.specs.Digests.{digest_data}
-use Rattle.plan_json.specs.Canonical.{count, text_data, moment_data, list_data, done_data}
+use Rattle.call_json.specs.Digests.{digest_data}
+use Rattle.call_json.specs.Canonical.{count, text_data, moment_data, list_data, done_data}
 
 -- the name of a reason
 abbrev pub why_name : Why → List ℕ

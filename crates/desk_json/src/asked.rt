@@ -5,9 +5,9 @@ ghost use Rattle.desk_json.specs.Faults as spec;
 use crate::bad_call::{bad, lack};
 use crate::keys::{AskKind, Object, keys_fault, kind_of};
 use asks::{Ask, BadCall, CallWhy};
+use call_json::{amount_at, digest_at, id_at, moment_at, read_plan, short_at, station_at, text_at};
 use desk_io::{OutOfMemory, Text};
 use plan::Plan;
-use plan_json::{amount_at, digest_at, id_at, moment_at, read_plan, short_at, station_at, text_at};
 use serde_json::Value;
 use std::alloc::Global;
 

@@ -6,8 +6,8 @@ ghost use Rattle.desk_json.specs.Faults as faults;
 
 use crate::bad_call::bad;
 use asks::{BadCall, CallWhy};
+use call_json::Members;
 use desk_io::OutOfMemory;
-use plan_json::Members;
 use serde_json::Value;
 use std::alloc::Global;
 

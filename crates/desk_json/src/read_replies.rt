@@ -1,7 +1,7 @@
 ghost use Rattle.std.specs.Prelude.{◌≡◌, IfOk, IfSome};
 ghost use Rattle.std.specs.Str.{bytes_eq};
 ghost use Rattle.serde_json.specs.View.{view, items_view};
-ghost use Rattle.plan_json.specs.Fields.{each_read};
+ghost use Rattle.call_json.specs.Fields.{each_read};
 ghost use Rattle.desk_json.specs.Replies.{reply_text};
 ghost use Rattle.desk_json.specs.ReadReplies as spec;
 ghost use Rattle.asks.specs.Forms.{ReplyHasMoment};
@@ -10,12 +10,12 @@ ghost use Rattle.desk_json.specs.ReadReplies.{finding_in, reply_in, ReplyHasForm
 use crate::bad_call::{CallFault, bad};
 use crate::replies::reply_text;
 use asks::{CallWhy, Refusal, Reply};
+use call_json::{amount_at, data_of, digest_at, list_at, number_at, read_said_done, text_at};
 use codes::Why;
 use desk_io::{OutOfMemory, Text};
 use desk_time::{Minute, read_shown};
+use kept_releases::{read_phase, read_said_finding};
 use plan::{Finding, Findings, PlanWhy};
-use plan_json::{amount_at, data_of, digest_at, list_at, number_at, read_said_done, text_at};
-use release_json::{read_phase, read_said_finding};
 use serde_json::Value;
 use std::alloc::Global;
 

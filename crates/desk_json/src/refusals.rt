@@ -2,18 +2,18 @@ ghost use Rattle.std.specs.Prelude.{◌≡◌, map, codes, IfOk};
 ghost use Rattle.serde_json.specs.Data.{string, put};
 ghost use Rattle.serde_json.specs.View.{view, members_view};
 ghost use Rattle.plan.specs.Texts.{HasMoment, phase_text};
-ghost use Rattle.plan_json.specs.Canonical.{count, text_data, list_data};
+ghost use Rattle.call_json.specs.Canonical.{count, text_data, list_data};
 ghost use Rattle.asks.specs.Forms.{RefusalHasMoment};
 ghost use Rattle.desk_json.specs.Replies as spec;
 
 use asks::Refusal;
-use codes::Why;
-use desk_io::OutOfMemory;
-use plan::{Finding, Phase, PlanWhy, finding_text, phase_text};
-use plan_json::{
+use call_json::{
     Members, name_value, text_value, with_count, with_digest, with_moment, with_name, with_text,
     with_value,
 };
+use codes::Why;
+use desk_io::OutOfMemory;
+use plan::{Finding, Phase, PlanWhy, finding_text, phase_text};
 use serde_json::{Map, Value};
 use std::alloc::Global;
 

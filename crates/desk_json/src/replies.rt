@@ -6,8 +6,8 @@ ghost use Rattle.desk_json.specs.Replies.{bad_text, reply_text};
 
 use crate::refusals::refusal_value;
 use asks::{BadCall, CallWhy, Done, Reply};
+use call_json::{done_value, text_value, with_name, with_text};
 use desk_io::{OutOfMemory, Text};
-use plan_json::{done_value, text_value, with_name, with_text};
 use serde_json::{Map, Value};
 use std::alloc::Global;
 

@@ -4,8 +4,8 @@ ghost use Rattle.asks.specs.Forms.{IsCall};
 ghost use Rattle.desk_json.specs.Canonical as spec;
 
 use asks::Call;
+use call_json::{ask_value, with_count, with_text, with_value};
 use desk_io::{OutOfMemory, Text};
-use plan_json::{ask_value, with_count, with_text, with_value};
 use serde_json::{Map, Value};
 use std::alloc::Global;
 

@@ -2,9 +2,9 @@ ghost use Rattle.asks.specs.Forms.{IsCall};
 
 use crate::plans::plan;
 use asks::Ask;
+use call_json::ask_digest;
 use desk_io::{OutOfMemory, Text};
 use plan::Plan;
-use plan_json::ask_digest;
 use small_airline::may_be_checked;
 use std::alloc::Global;
 use std::test::Fail;

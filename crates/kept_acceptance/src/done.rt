@@ -1,6 +1,6 @@
 use asks::Done;
+use call_json::{data_of, done_value, read_done};
 use desk_io::OutOfMemory;
-use plan_json::{data_of, done_value, read_done};
 use std::alloc::Global;
 use std::test::Fail;
 

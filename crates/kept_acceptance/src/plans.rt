@@ -1,8 +1,8 @@
+use call_json::{data_of, plan_text, read_plan};
 use codes::Station;
 use desk_io::{Listed, OutOfMemory, Text};
 use desk_time::Minute;
 use plan::{Alternate, Kind, Leg, Plan};
-use plan_json::{data_of, plan_text, read_plan};
 use small_airline::may_be_checked;
 use std::alloc::Global;
 use std::test::Fail;

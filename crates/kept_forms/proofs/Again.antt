@@ -4,15 +4,15 @@ use Rattle.std.specs.List.{filter_map}
 use Rattle.alerts.specs.declared.alert.Alert.{Alert as AlertOf}
 use Rattle.facts.specs.Reading.{IsRead}
 use Rattle.facts.specs.declared.report.Report.{Report as ReportOf}
-use Rattle.keeping.specs.Rows.{alert_kept, meta_of, records_of, report_kept}
-use Rattle.machine.specs.Sound.{IsAlerted, IsBoard, IsToldTo}
-use Rattle.machine.specs.State.{State, alert_at, grounds_of}
+use Rattle.kept_state.specs.Rows.{alert_kept, meta_of, records_of, report_kept}
+use Rattle.desk_state.specs.Sound.{IsAlerted, IsBoard, IsToldTo}
+use Rattle.desk_state.specs.State.{State, alert_at, grounds_of}
 use Rattle.ops_tables.specs.Tables.{TableRows}
 use Rattle.records.specs.declared.record.Record.{Record}
 use Rattle.records.specs.declared.record.Record.TheVariants.{Meta, Report, Deferral, Release, Kept, Alert}
-use Rattle.reopening.specs.Held.{alert_of, state_in}
-use Rattle.reopening.proofs.Lists.{weaker}
-use Rattle.reopening.proofs.SavedLaws.{alerts_again, listed, reports_again, state_listed}
+use Rattle.kept_state.specs.Held.{alert_of, state_in}
+use Rattle.kept_state.proofs.Lists.{weaker}
+use Rattle.kept_state.proofs.SavedLaws.{alerts_again, listed, reports_again, state_listed}
 use Rattle.kept_forms.specs.Formed.{AreFormed, ReportHasForms}
 
 map_twice : {A B C : Type 0} (f : A → B) (g : B → C) (xs : List A) → map (λ x. g (f x)) xs ≡ map g (map f xs)

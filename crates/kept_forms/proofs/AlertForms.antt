@@ -5,17 +5,17 @@ use Rattle.alerts.specs.Alerts.{are_same, with_finding, with_findings, alert_onc
 use Rattle.alerts.specs.declared.alert.Alert.{Alert}
 use Rattle.kept_forms.specs.Formed.{AlertHasForms}
 use Rattle.kept_forms.proofs.Findings.{HaveIds, findings_formed}
-use Rattle.machine.specs.Sound.{InBounds, IsOpen, ReleaseInBounds, RevisionInBounds}
-use Rattle.machine.specs.State.{State, alert_at, alert_for, failing_if, failing_in, failing_of, grounds_of, judged}
-use Rattle.machine.proofs.Each.{each_weaker, found_each}
+use Rattle.desk_state.specs.Sound.{InBounds, IsOpen, ReleaseInBounds, RevisionInBounds}
+use Rattle.desk_state.specs.State.{State, alert_at, alert_for, failing_if, failing_in, failing_of, grounds_of, judged}
+use Rattle.desk_state.proofs.Each.{each_weaker, found_each}
 use Rattle.plan.specs.Findings.{is_before, is_same}
 use Rattle.plan.specs.Phases.{is_active}
 use Rattle.plan.specs.declared.findings.Finding.{Finding}
 use Rattle.plan.specs.declared.release.Phase.{Phase}
 use Rattle.plan.specs.declared.release.Release.{Release}
 use Rattle.plan.specs.declared.release.Revision.{Revision}
-use Rattle.plan_json.specs.Canonical.{IsId}
-use Rattle.release_json.specs.Findings.{IsFinding}
+use Rattle.call_json.specs.Canonical.{IsId}
+use Rattle.kept_releases.specs.Findings.{IsFinding}
 use Rattle.rules.specs.Grounds.{Grounds}
 
 -- ---- findings that are put in their places

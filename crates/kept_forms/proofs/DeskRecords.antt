@@ -10,10 +10,10 @@ use Rattle.asks.specs.declared.kept.KeptReply.{KeptReply}
 use Rattle.deferrals.specs.declared.items.Deferral.{Deferral as DeferralOf}
 use Rattle.facts.specs.Reading.{IsRead}
 use Rattle.facts.specs.declared.report.Report.{Report as ReportOf}
-use Rattle.keeping.specs.Rows.{alert_kept, meta_of, records_of, report_kept}
-use Rattle.machine.specs.Sound as machine
-use Rattle.machine.specs.Sound.{InBounds, IsBoard, IsNumbered, IsOpen, IsReplied, Sound}
-use Rattle.machine.specs.State.{State}
+use Rattle.kept_state.specs.Rows.{alert_kept, meta_of, records_of, report_kept}
+use Rattle.desk_state.specs.Sound as machine
+use Rattle.desk_state.specs.Sound.{InBounds, IsBoard, IsNumbered, IsOpen, IsReplied, Sound}
+use Rattle.desk_state.specs.State.{State}
 use Rattle.plan.specs.declared.release.Release.{Release as ReleaseOf}
 use Rattle.records.specs.Faults.{fit, within_limits, have_releases, agree, are_counted, lacks_meta, place_of, first_after, pair_after, is_over, is_orphan, is_bad_pair, is_ahead, meta_from, beside, ahead_of, bad, pair, ◌>>◌}
 use Rattle.records.specs.Kinds.{is_kind}
@@ -21,10 +21,10 @@ use Rattle.records.specs.Valid.{IsRecord}
 use Rattle.records.specs.declared.faults.RowWhy.TheVariants.{NoMeta, Orphan, OverLimit}
 use Rattle.records.specs.declared.record.Record.{Record}
 use Rattle.records.specs.declared.record.Record.TheVariants.{Meta, Report, Deferral, Release, Kept, Alert}
-use Rattle.release_json.specs.Kept.{IsFormed}
-use Rattle.reopening.specs.Held.{AreOfDesk, comes_before}
-use Rattle.reopening.proofs.Fitting.{Agree, AreFew}
-use Rattle.reopening.proofs.Lists.{both, weaker, weaker_pairs}
+use Rattle.kept_releases.specs.Kept.{IsFormed}
+use Rattle.kept_state.specs.Held.{AreOfDesk, comes_before}
+use Rattle.kept_state.proofs.Fitting.{Agree, AreFew}
+use Rattle.kept_state.proofs.Lists.{both, weaker, weaker_pairs}
 use Rattle.kept_forms.proofs.Segments.{all_any, all_rise, none_if, none_paired, none_placed, room_before}
 use Rattle.kept_forms.proofs.Together.{Stands, all_few, all_pairs, all_records, all_stand, has_release, ids_below}
 use Rattle.kept_forms.proofs.Validity.{Counts, IsKeptRecord, kept_alert, kept_deferral, kept_meta, kept_release, kept_reply, kept_report}

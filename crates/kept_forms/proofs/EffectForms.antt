@@ -12,22 +12,22 @@ use Rattle.kept_forms.proofs.DigestForms.{revision_digest_formed}
 use Rattle.kept_forms.proofs.FloorForms.{raised_formed, raised_rise}
 use Rattle.kept_forms.proofs.NameForms.{deferred_formed}
 use Rattle.kept_forms.proofs.ReportForms.{MayAttach, may_attach, attached_formed, received_formed}
-use Rattle.machine.specs.Allowed.{IsEffectOf, admits, defers, clears, drafts, prepares, signs, concurs, amends, cancels, departs, stops, completes, acknowledges, sweeps, purges, IsSignedBy, GainsDispatcher, GainsCaptain, GainsWeather, BothAre, IsPreparing, IsSigning, IsReleased, IsConcurring, IsCancelling, IsFresh, IsDrafted, IsNextRevision, IsAmending, IsDeparting, IsStopping, IsCompleting, IsSweeping, OfHeld}
-use Rattle.machine.specs.Decide.{attached_reports, reports_before}
-use Rattle.machine.specs.Effects as effect
-use Rattle.machine.specs.Events.{is_since}
-use Rattle.machine.specs.Requests.{kept_before}
-use Rattle.machine.specs.Sound.{Sound, InBounds, AreNumbered, IsValid, Rise}
-use Rattle.machine.specs.State.{State, release_at}
-use Rattle.machine.specs.declared.effect.Effect.{Effect}
-use Rattle.machine.specs.declared.effect.OnDeferrals.{OnDeferrals}
-use Rattle.machine.specs.declared.effect.OnDeferrals.TheVariants as on_deferrals
-use Rattle.machine.specs.declared.effect.OnReleases.{OnReleases}
-use Rattle.machine.specs.declared.effect.OnReleases.TheVariants as on_releases
-use Rattle.machine.specs.declared.effect.Sweep.{Sweep}
-use Rattle.machine.proofs.Each.{found_each}
-use Rattle.machine.proofs.Judging.{rise_bound}
-use Rattle.machine.proofs.Parts.{filter_each}
+use Rattle.desk_state.specs.Allowed.{IsEffectOf, admits, defers, clears, drafts, prepares, signs, concurs, amends, cancels, departs, stops, completes, acknowledges, sweeps, purges, IsSignedBy, GainsDispatcher, GainsCaptain, GainsWeather, BothAre, IsPreparing, IsSigning, IsReleased, IsConcurring, IsCancelling, IsFresh, IsDrafted, IsNextRevision, IsAmending, IsDeparting, IsStopping, IsCompleting, IsSweeping, OfHeld}
+use Rattle.desk_state.specs.Decide.{attached_reports, reports_before}
+use Rattle.desk_state.specs.Effects as effect
+use Rattle.desk_state.specs.Events.{is_since}
+use Rattle.desk_state.specs.Requests.{kept_before}
+use Rattle.desk_state.specs.Sound.{Sound, InBounds, AreNumbered, IsValid, Rise}
+use Rattle.desk_state.specs.State.{State, release_at}
+use Rattle.desk_state.specs.declared.effect.Effect.{Effect}
+use Rattle.desk_state.specs.declared.effect.OnDeferrals.{OnDeferrals}
+use Rattle.desk_state.specs.declared.effect.OnDeferrals.TheVariants as on_deferrals
+use Rattle.desk_state.specs.declared.effect.OnReleases.{OnReleases}
+use Rattle.desk_state.specs.declared.effect.OnReleases.TheVariants as on_releases
+use Rattle.desk_state.specs.declared.effect.Sweep.{Sweep}
+use Rattle.desk_state.proofs.Each.{found_each}
+use Rattle.desk_state.proofs.Judging.{rise_bound}
+use Rattle.desk_state.proofs.Parts.{filter_each}
 use Rattle.ops_tables.specs.Forms.{is_person}
 use Rattle.plan.specs.Texts.{IsMoment, HasMoment}
 use Rattle.plan.specs.declared.flights.Plan.{Plan}
@@ -36,10 +36,10 @@ use Rattle.plan.specs.declared.release.Phase.TheVariants.{Drafted, Ready, Flying
 use Rattle.plan.specs.declared.release.Release.{Release}
 use Rattle.plan.specs.declared.release.Revision.{Revision}
 use Rattle.plan.specs.declared.release.Signature.{Signature}
-use Rattle.plan_json.specs.Canonical.{IsId, HasForms, AskHasForms, DoneHasForms}
-use Rattle.plan_json.specs.Digests.{IsDigest}
+use Rattle.call_json.specs.Canonical.{IsId, HasForms, AskHasForms, DoneHasForms}
+use Rattle.call_json.specs.Digests.{IsDigest}
 use Rattle.records.specs.Valid.{IsFloor, AreRising}
-use Rattle.release_json.specs.Kept.{IsAttached, IsSignature, IsRevision, IsFormed}
+use Rattle.kept_releases.specs.Kept.{IsAttached, IsSignature, IsRevision, IsFormed}
 use Rattle.release_text.specs.Revisions.{revision_digest}
 
 -- ---- what an effect brings

@@ -11,7 +11,7 @@ use Rattle.records.specs.declared.faults.RowWhy.{RowWhy}
 use Rattle.records.specs.declared.faults.RowWhy.TheVariants.{NotCanonical, NoMeta, Orphan, OverLimit}
 use Rattle.records.specs.declared.faults.RowsFault.TheVariants.{BadRow, BadPair}
 use Rattle.records.specs.declared.record.Record.{Record}
-use Rattle.reopening.specs.Held.{AreOfDesk}
+use Rattle.kept_state.specs.Held.{AreOfDesk}
 use Rattle.kept_forms.proofs.SameRows.{one_list}
 
 -- each row of valid records is that of one of them

@@ -20,8 +20,8 @@ use Rattle.plan.specs.declared.flights.Plan.{Plan}
 use Rattle.plan.specs.declared.release.Phase.{Phase}
 use Rattle.plan.specs.declared.release.Standing.{Standing}
 use Rattle.plan.specs.declared.release.Standing.TheVariants.{Ahead, InFlight, Flown}
-use Rattle.plan_json.specs.Canonical.{IsAmount, IsId}
-use Rattle.release_json.specs.Findings.{IsFinding}
+use Rattle.call_json.specs.Canonical.{IsAmount, IsId}
+use Rattle.kept_releases.specs.Findings.{IsFinding}
 use Rattle.rules.specs.Circumstances.{Case, case_of}
 use Rattle.rules.specs.DestinationAlternates.{place_if, places_from}
 use Rattle.rules.specs.Equipment.{is_limiting, is_overdue, is_barred, is_barred_takeoff}
@@ -29,7 +29,7 @@ use Rattle.rules.specs.Grounds.{Grounds}
 use Rattle.rules.specs.Judgement.{rules_of_legs, is_of_departure, places_of, places_at, case_unless, case_for, places_in_case, places_for, finding, findings_from, findings_by, tables_finding, findings_of_tables, findings_of}
 use Rattle.rules.specs.Time.{is_late, late_places}
 use Rattle.rules.proofs.Rising.{each_append, each_weaker, each_of}
-use Rattle.machine.proofs.Parts.{filter_each}
+use Rattle.desk_state.proofs.Parts.{filter_each}
 
 -- ---- places
 

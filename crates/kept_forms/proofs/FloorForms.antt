@@ -10,7 +10,7 @@ use Rattle.std.proofs.lemmas.Cmp.{nat_list_cmp_total}
 use Rattle.asks.specs.declared.kept.Floor.{Floor}
 use Rattle.asks.specs.declared.kept.KeptReply.{KeptReply}
 use Rattle.kept_forms.specs.Formed.{ReplyHasForms}
-use Rattle.machine.specs.Requests.{floor, raised_here, raised_to, raised_by}
+use Rattle.desk_state.specs.Requests.{floor, raised_here, raised_to, raised_by}
 use Rattle.records.specs.Valid.{IsRequest, IsFloor, AreRising}
 
 -- ---- what holds of each floor

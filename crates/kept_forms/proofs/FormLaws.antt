@@ -15,37 +15,37 @@ use Rattle.kept_forms.proofs.AlertForms.{all_judged, ids_low}
 use Rattle.kept_forms.proofs.DigestForms.{ask_digest_formed}
 use Rattle.kept_forms.proofs.EffectForms.{OpensFormed, PutsFormed, HasFloors, BringsForms, Stands, effect_formed}
 use Rattle.kept_forms.proofs.NameForms.{person_formed}
-use Rattle.machine.specs.Allowed.{DecisionOf}
-use Rattle.machine.specs.Decide.{decide}
-use Rattle.machine.specs.Effects.{tick}
-use Rattle.machine.specs.Events.{effected, reports_after, deferrals_after, releases_after, floors_after}
-use Rattle.machine.specs.People.{mistaken}
-use Rattle.machine.specs.Sound.{InBounds, IsBoard}
-use Rattle.machine.specs.State.{State, start, is_full, is_full_for}
-use Rattle.machine.specs.Step.{entry, entered, kept_of, kept_of_call, enter, finish, do_call, do_unless, answer_call, tick_unless, tick_to, without_key}
-use Rattle.machine.specs.declared.effect.Decision.{Decision}
-use Rattle.machine.specs.declared.effect.Decision.TheVariants.{Show, Do}
-use Rattle.machine.specs.declared.effect.Effect.{Effect}
-use Rattle.machine.specs.declared.effect.OnDeferrals.{OnDeferrals}
-use Rattle.machine.specs.declared.effect.OnDeferrals.TheVariants as on_deferrals
-use Rattle.machine.specs.declared.effect.OnReleases.{OnReleases}
-use Rattle.machine.specs.declared.effect.OnReleases.TheVariants as on_releases
-use Rattle.machine.specs.declared.effect.Sweep.{Sweep}
-use Rattle.machine.specs.declared.entry.Entry.{Entry}
-use Rattle.machine.specs.declared.entry.What.TheVariants as what
-use Rattle.machine.proofs.AllowedLaws.{decision_is}
-use Rattle.machine.proofs.Boards.{call_board, tick_board}
-use Rattle.machine.proofs.Each.{each_push, put_each, without_each}
-use Rattle.machine.proofs.Judging.{alerts_have}
-use Rattle.machine.proofs.Parts.{filter_each, kept_each, swept_each}
+use Rattle.desk_state.specs.Allowed.{DecisionOf}
+use Rattle.desk_state.specs.Decide.{decide}
+use Rattle.desk_state.specs.Effects.{tick}
+use Rattle.desk_state.specs.Events.{effected, reports_after, deferrals_after, releases_after, floors_after}
+use Rattle.desk_state.specs.People.{mistaken}
+use Rattle.desk_state.specs.Sound.{InBounds, IsBoard}
+use Rattle.desk_state.specs.State.{State, start, is_full, is_full_for}
+use Rattle.desk_state.specs.Step.{entry, entered, kept_of, kept_of_call, enter, finish, do_call, do_unless, answer_call, tick_unless, tick_to, without_key}
+use Rattle.desk_state.specs.declared.effect.Decision.{Decision}
+use Rattle.desk_state.specs.declared.effect.Decision.TheVariants.{Show, Do}
+use Rattle.desk_state.specs.declared.effect.Effect.{Effect}
+use Rattle.desk_state.specs.declared.effect.OnDeferrals.{OnDeferrals}
+use Rattle.desk_state.specs.declared.effect.OnDeferrals.TheVariants as on_deferrals
+use Rattle.desk_state.specs.declared.effect.OnReleases.{OnReleases}
+use Rattle.desk_state.specs.declared.effect.OnReleases.TheVariants as on_releases
+use Rattle.desk_state.specs.declared.effect.Sweep.{Sweep}
+use Rattle.desk_state.specs.declared.entry.Entry.{Entry}
+use Rattle.desk_state.specs.declared.entry.What.TheVariants as what
+use Rattle.desk_state.proofs.AllowedLaws.{decision_is}
+use Rattle.desk_state.proofs.Boards.{call_board, tick_board}
+use Rattle.desk_state.proofs.Each.{each_push, put_each, without_each}
+use Rattle.desk_state.proofs.Judging.{alerts_have}
+use Rattle.desk_state.proofs.Parts.{filter_each, kept_each, swept_each}
 use Rattle.ops_tables.specs.Forms.{is_person}
 use Rattle.ops_tables.specs.Tables.{TableRows, actor_of}
 use Rattle.plan.specs.declared.release.Release.{Release}
-use Rattle.plan_json.specs.Canonical.{CallHasForms, DoneHasForms}
-use Rattle.plan_json.proofs.AskForms.{call_from_forms}
+use Rattle.call_json.specs.Canonical.{CallHasForms, DoneHasForms}
+use Rattle.call_json.proofs.AskForms.{call_from_forms}
 use Rattle.records.specs.Valid.{IsFloor, IsRequest, AreRising}
-use Rattle.release_json.specs.Kept.{IsFormed}
-use Rattle.reopening.specs.Opening.{MayReopen, reopened}
+use Rattle.kept_releases.specs.Kept.{IsFormed}
+use Rattle.kept_state.specs.Opening.{MayReopen, reopened}
 
 -- nothing is held at the beginning
 pub start_formed : (tables : TableRows) → NamesHaveForms tables → AreFormed (start tables)

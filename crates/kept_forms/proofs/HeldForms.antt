@@ -6,7 +6,7 @@ use Rattle.std.proofs.lemmas.List.Elements.{recursion_from_All}
 use Rattle.codes.specs.declared.fault.BadReport.{BadReport}
 use Rattle.facts.specs.Reading.{ReadHasMoments, read_of}
 use Rattle.facts.specs.declared.report.Read.{Read}
-use Rattle.machine.specs.State.{release_at, start}
+use Rattle.desk_state.specs.State.{release_at, start}
 use Rattle.ops_tables.specs.Tables.{TableRows}
 use Rattle.plan.specs.declared.release.Release.{Release as ReleaseOf}
 use Rattle.records.specs.Valid.{IsKeptAlert, IsMeta, IsRecord, IsReport}
@@ -15,10 +15,10 @@ use Rattle.records.specs.declared.record.KeptReport.{KeptReport}
 use Rattle.records.specs.declared.record.Meta.{Meta as MetaOf}
 use Rattle.records.specs.declared.record.Record.{Record}
 use Rattle.records.specs.declared.record.Record.TheVariants.{Meta, Report, Deferral, Release, Kept, Alert}
-use Rattle.release_json.specs.Kept.{IsFormed}
-use Rattle.reopening.specs.Held.{AreOfDesk, alert_in, alert_of, alert_with, deferral_in, meta_in, release_in, reply_in, report_if, report_in, report_of, state_by, state_in, state_with}
-use Rattle.reopening.proofs.Fitting.{meta_among}
-use Rattle.reopening.proofs.Lists.{each_mapped}
+use Rattle.kept_releases.specs.Kept.{IsFormed}
+use Rattle.kept_state.specs.Held.{AreOfDesk, alert_in, alert_of, alert_with, deferral_in, meta_in, release_in, reply_in, report_if, report_in, report_of, state_by, state_in, state_with}
+use Rattle.kept_state.proofs.Fitting.{meta_among}
+use Rattle.kept_state.proofs.Lists.{each_mapped}
 use Rattle.kept_forms.proofs.FormLaws.{start_formed}
 use Rattle.kept_forms.proofs.ReportForms.{read_moments}
 use Rattle.kept_forms.specs.Formed.{AlertHasForms, AreFormed, DeferralHasForms, NamesHaveForms, ReplyHasForms, ReportHasForms}

@@ -7,9 +7,9 @@ use Rattle.std.proofs.lemmas.Bool.{and_parts}
 use Rattle.codes.proofs.WordLaws.{same_bytes}
 use Rattle.deferrals.specs.declared.items.Deferral.{Deferral}
 use Rattle.kept_forms.specs.Formed.{NamesHaveForms, DeferralHasForms}
-use Rattle.machine.specs.Allowed.{IsListed, IsDeferred}
-use Rattle.machine.specs.People.{mistaken}
-use Rattle.machine.specs.State.{State}
+use Rattle.desk_state.specs.Allowed.{IsListed, IsDeferred}
+use Rattle.desk_state.specs.People.{mistaken}
+use Rattle.desk_state.specs.State.{State}
 use Rattle.ops_tables.specs.Forms.{is_tail, is_item, is_person}
 use Rattle.ops_tables.specs.Tables.{TableRows, actor_of, item_of, tail_named, type_of, type_of_tail}
 use Rattle.ops_tables.specs.declared.rows.Actor.{Actor}

@@ -16,7 +16,7 @@ use Rattle.table_files.specs.Good.{SaysSettings, SaysTable}
 use Rattle.table_files.specs.Reading.{Table}
 use Rattle.table_files.specs.Records.{actor_row, item_row, item_terms, named_item, tail_row}
 use Rattle.table_files.specs.Whole.{ReadsTables, Told}
-use Rattle.plan_json.proofs.Chains.{bind_any, under}
+use Rattle.call_json.proofs.Chains.{bind_any, under}
 use Rattle.kept_forms.specs.Formed.{NamesHaveForms}
 
 -- ---- rows

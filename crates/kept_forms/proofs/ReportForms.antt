@@ -21,16 +21,16 @@ use Rattle.facts.proofs.Utf8Laws.{received_utf8}
 use Rattle.kept_forms.specs.Formed.{ReportHasForms}
 use Rattle.kept_forms.proofs.Moments.{ok_has, HasObserved, observed_within}
 use Rattle.kept_forms.proofs.Forecasts.{forecast_within}
-use Rattle.machine.specs.Allowed.{IsReceived}
-use Rattle.machine.specs.Sound.{InBounds, IsNumbered}
-use Rattle.machine.specs.State.{State}
+use Rattle.desk_state.specs.Allowed.{IsReceived}
+use Rattle.desk_state.specs.Sound.{InBounds, IsNumbered}
+use Rattle.desk_state.specs.State.{State}
 use Rattle.metar.specs.Reading as observation
 use Rattle.metar.specs.declared.metar.Metar.{Metar}
 use Rattle.plan.specs.Texts.{IsMoment}
 use Rattle.plan.specs.declared.flights.Plan.{Plan}
 use Rattle.plan.specs.declared.release.Phase.{Phase}
-use Rattle.plan_json.specs.Canonical.{IsId}
-use Rattle.release_json.specs.Kept.{IsAttached}
+use Rattle.call_json.specs.Canonical.{IsId}
+use Rattle.kept_releases.specs.Kept.{IsAttached}
 use Rattle.release_text.specs.Concerned.{concerned}
 use Rattle.release_text.specs.Weather.{where_held, latest_at, latest_of, weather_for, attached_of, attached_to}
 use Rattle.rules.proofs.Rising.{each_append}

@@ -7,16 +7,16 @@ use Rattle.desk_io.specs.Rows.{Rows, rows_of}
 use Rattle.desk_io.specs.declared.rows.Row.{Row}
 use Rattle.keeper.specs.Kept.{AreSame, Lists}
 use Rattle.keeper.specs.Order as order
-use Rattle.keeping.specs.Rows.{AreKept, records_of, state_rows}
-use Rattle.keeping.proofs.Rising as rising_rows
-use Rattle.machine.specs.State.{State, start}
+use Rattle.kept_state.specs.Rows.{AreKept, records_of, state_rows}
+use Rattle.kept_state.proofs.Rising as rising_rows
+use Rattle.desk_state.specs.State.{State, start}
 use Rattle.records.specs.Bodies.{row_of}
 use Rattle.records.specs.Checks.{IsDesk}
 use Rattle.records.specs.Reading.{record_with}
 use Rattle.records.specs.Valid.{IsRecord}
 use Rattle.records.specs.declared.record.Record.{Record}
 use Rattle.records.proofs.RowLaws.{record_read}
-use Rattle.reopening.specs.Held.{AreOfDesk, comes_before, rises_from, rising}
+use Rattle.kept_state.specs.Held.{AreOfDesk, comes_before, rises_from, rising}
 
 -- two lists of rows in order that say the same are the same list
 pub same_list : (xs ys : List Row) → IsTrue (order.rising xs) → IsTrue (order.rising ys) → AreSame (rows_of xs) (rows_of ys) → xs ≡ ys

@@ -4,11 +4,11 @@ use Rattle.std.specs.List.{AllByRecursion, position_from, list_any}
 use Rattle.std.proofs.lemmas.Bool.{and_from, or_right}
 use Rattle.std.proofs.lemmas.List.Elements.{recursion_from_All}
 use Rattle.std.proofs.lemmas.List.Recursion.{is_count_by}
-use Rattle.machine.proofs.Each.{each_push}
+use Rattle.desk_state.proofs.Each.{each_push}
 use Rattle.records.specs.Faults.{pair_after, pair_or}
 use Rattle.records.specs.declared.record.Record.{Record}
-use Rattle.reopening.specs.Held.{comes_before, rises_from, rising}
-use Rattle.reopening.proofs.Lists.{Pairs, both, weaker}
+use Rattle.kept_state.specs.Held.{comes_before, rises_from, rising}
+use Rattle.kept_state.proofs.Lists.{Pairs, both, weaker}
 
 -- ---- each
 

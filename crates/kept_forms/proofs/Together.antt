@@ -10,11 +10,11 @@ use Rattle.asks.specs.declared.kept.KeptReply.{KeptReply}
 use Rattle.facts.specs.Reading.{IsRead}
 use Rattle.facts.specs.Same.{is_same, minute_of_report}
 use Rattle.facts.specs.declared.report.Report.{Report as ReportOf}
-use Rattle.keeping.specs.Rows.{alert_kept, meta_of, records_of, report_kept}
-use Rattle.machine.specs.Requests.{is_request}
-use Rattle.machine.specs.Sound.{InBounds, IsAlerted, Matches, Rise, Sound}
-use Rattle.machine.specs.State.{State, alert_at, failing_if, failing_in, failing_of, grounds_of, release_at}
-use Rattle.machine.proofs.Judging.{IsOf, found_of}
+use Rattle.kept_state.specs.Rows.{alert_kept, meta_of, records_of, report_kept}
+use Rattle.desk_state.specs.Requests.{is_request}
+use Rattle.desk_state.specs.Sound.{InBounds, IsAlerted, Matches, Rise, Sound}
+use Rattle.desk_state.specs.State.{State, alert_at, failing_if, failing_in, failing_of, grounds_of, release_at}
+use Rattle.desk_state.proofs.Judging.{IsOf, found_of}
 use Rattle.plan.specs.Phases.{is_active}
 use Rattle.plan.specs.declared.release.Phase.{Phase}
 use Rattle.plan.specs.declared.release.Release.{Release as ReleaseOf}
@@ -23,10 +23,10 @@ use Rattle.records.specs.Faults.{is_release_of, is_same_report, is_same_request,
 use Rattle.records.specs.Kinds.{is_kind}
 use Rattle.records.specs.declared.record.Record.{Record}
 use Rattle.records.specs.declared.record.Record.TheVariants.{Meta, Report, Deferral, Release, Kept, Alert}
-use Rattle.reopening.proofs.AlertLaws.{found_self, rise_above}
-use Rattle.reopening.proofs.Fitting.{Agree, AreFew}
-use Rattle.reopening.proofs.Lists.{Pairs, both, both_pairs, each_mapped, pairs_mapped, weaker, weaker_pairs}
-use Rattle.reopening.proofs.ReleaseLaws.{Below}
+use Rattle.kept_state.proofs.AlertLaws.{found_self, rise_above}
+use Rattle.kept_state.proofs.Fitting.{Agree, AreFew}
+use Rattle.kept_state.proofs.Lists.{Pairs, both, both_pairs, each_mapped, pairs_mapped, weaker, weaker_pairs}
+use Rattle.kept_state.proofs.ReleaseLaws.{Below}
 use Rattle.rules.specs.Grounds.{Grounds}
 use Rattle.kept_forms.proofs.Segments.{Across, across_any, across_made, all_joined, all_made, any_back, any_front, any_made, counted, counted_all, counted_is, counted_joined, counted_none, pairs_from, pairs_joined, pairs_made, with_each}
 

@@ -9,22 +9,22 @@ use Rattle.asks.specs.declared.kept.KeptReply.{KeptReply}
 use Rattle.deferrals.specs.declared.items.Deferral.{Deferral as DeferralOf}
 use Rattle.facts.specs.Reading.{read_of}
 use Rattle.facts.specs.declared.report.Report.{Report as ReportOf}
-use Rattle.keeping.specs.Rows.{alert_kept, meta_of, report_kept}
-use Rattle.machine.specs.Sound as machine
-use Rattle.machine.specs.Sound.{AreCounters, IsNumbered, IsOpen, IsReplied}
-use Rattle.machine.specs.State.{State}
+use Rattle.kept_state.specs.Rows.{alert_kept, meta_of, report_kept}
+use Rattle.desk_state.specs.Sound as machine
+use Rattle.desk_state.specs.Sound.{AreCounters, IsNumbered, IsOpen, IsReplied}
+use Rattle.desk_state.specs.State.{State}
 use Rattle.plan.specs.Texts.{IsMoment}
 use Rattle.plan.specs.declared.release.Phase.{Phase}
 use Rattle.plan.specs.declared.release.Phase.TheVariants.{Drafted, Ready, Flying, Stopped, Completed, Cancelled}
 use Rattle.plan.specs.declared.release.Release.{Release as ReleaseOf}
 use Rattle.plan.specs.declared.release.Revision.{Revision}
 use Rattle.plan.specs.declared.release.Signature.{Signature}
-use Rattle.plan_json.specs.Canonical.{IsId}
+use Rattle.call_json.specs.Canonical.{IsId}
 use Rattle.records.specs.Faults.{is_ahead, is_late, outruns}
 use Rattle.records.specs.Valid.{AreRising, IsFloor, IsMeta, IsRecord}
 use Rattle.records.specs.declared.record.Record.{Record}
 use Rattle.records.specs.declared.record.Record.TheVariants.{Meta, Report, Deferral, Release, Kept, Alert}
-use Rattle.release_json.specs.Kept.{AreNumbered, BearsBoth, HasLegs, IsFormed, IsNone, IsPhased, IsSigned, IsThere, IsValid, MaySigned, Waits}
+use Rattle.kept_releases.specs.Kept.{AreNumbered, BearsBoth, HasLegs, IsFormed, IsNone, IsPhased, IsSigned, IsThere, IsValid, MaySigned, Waits}
 use Rattle.kept_forms.specs.Formed.{AlertHasForms, DeferralHasForms, ReplyHasForms, ReportHasForms}
 
 -- ---- a release that may stand is one that may be kept

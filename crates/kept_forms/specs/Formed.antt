@@ -6,14 +6,14 @@ use Rattle.asks.specs.declared.kept.KeptReply.{KeptReply}
 use Rattle.deferrals.specs.declared.items.Deferral.{Deferral}
 use Rattle.facts.specs.Reading.{IsRead}
 use Rattle.facts.specs.declared.report.Report.{Report}
-use Rattle.machine.specs.State.{State}
+use Rattle.desk_state.specs.State.{State}
 use Rattle.ops_tables.specs.Forms.{is_tail, is_item, is_person}
 use Rattle.ops_tables.specs.Tables.{TableRows}
-use Rattle.plan_json.specs.Canonical.{DoneHasForms}
-use Rattle.plan_json.specs.Digests.{IsDigest}
+use Rattle.call_json.specs.Canonical.{DoneHasForms}
+use Rattle.call_json.specs.Digests.{IsDigest}
 use Rattle.records.specs.Valid.{IsRequest, IsFloor, AreRising}
-use Rattle.release_json.specs.Findings.{IsFinding}
-use Rattle.release_json.specs.Kept.{IsFormed}
+use Rattle.kept_releases.specs.Findings.{IsFinding}
+use Rattle.kept_releases.specs.Kept.{IsFormed}
 
 -- the names in the tables that the desk keeps
 pub record NamesHaveForms (t : TableRows) : Type 0 where

@@ -8,10 +8,10 @@ use Rattle.codes.specs.Groups.{groups_of, canonical}
 use Rattle.asks.specs.declared.kept.Floor.{Floor}
 use Rattle.plan.specs.Findings.{AreAmong}
 use Rattle.plan.specs.declared.findings.Finding.{Finding}
-use Rattle.plan_json.proofs.Again.{small_again, id_again, moment_again, done_again}
-use Rattle.plan_json.proofs.DigestLaws.{digest_again}
-use Rattle.release_json.proofs.FindingLaws.{findings_again}
-use Rattle.release_json.proofs.ReleaseLaws.{release_again}
+use Rattle.call_json.proofs.Again.{small_again, id_again, moment_again, done_again}
+use Rattle.call_json.proofs.DigestLaws.{digest_again}
+use Rattle.kept_releases.proofs.FindingLaws.{findings_again}
+use Rattle.kept_releases.proofs.ReleaseLaws.{release_again}
 use Rattle.records.specs.Kinds.{kind_of, key_of}
 use Rattle.records.specs.Bodies.{floors_data, body_data}
 use Rattle.records.specs.Reading as spec

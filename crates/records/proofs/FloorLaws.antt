@@ -7,9 +7,9 @@ use Rattle.std.proofs.lemmas.Bool.{and_parts}
 use Rattle.std.proofs.lemmas.Cmp.{nat_list_cmp_total}
 use Rattle.serde_json.specs.Data.{Data, Members, no_members, member, put, members_depth}
 use Rattle.asks.specs.declared.kept.Floor.{Floor}
-use Rattle.plan_json.specs.Canonical.{count}
-use Rattle.plan_json.specs.Plain.{IsBefore, AreInOrder, MembersArePlain, MembersHaveText}
-use Rattle.plan_json.proofs.Again.{small_again}
+use Rattle.call_json.specs.Canonical.{count}
+use Rattle.call_json.specs.Plain.{IsBefore, AreInOrder, MembersArePlain, MembersHaveText}
+use Rattle.call_json.proofs.Again.{small_again}
 use Rattle.records.specs.Bodies.{with_floors}
 use Rattle.records.specs.Reading.{floor_of, floors_in}
 use Rattle.records.specs.Valid.{IsFloor, AreRising, comes_before, are_rising}

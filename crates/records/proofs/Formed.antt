@@ -16,19 +16,19 @@ use Rattle.plan.specs.Findings.{AreAmong, is_among}
 use Rattle.plan.specs.Texts.{IsMoment}
 use Rattle.plan.specs.declared.findings.Finding.{Finding}
 use Rattle.asks.specs.declared.kept.Floor.{Floor}
-use Rattle.plan_json.specs.Canonical.{IsId, DoneHasForms}
-use Rattle.plan_json.specs.Digests.{digest_of, digest_at, IsDigest}
-use Rattle.plan_json.specs.Dones.{done_of}
-use Rattle.plan_json.specs.Fields.{text_at, up_to, number_at, id_at, moment_at, list_at, each_read, has_members}
-use Rattle.plan_json.proofs.DigestLaws.{digest_formed}
-use Rattle.plan_json.proofs.DoneForms.{done_formed}
-use Rattle.plan_json.proofs.Chains.{bind_if, bind_any, then_if, under, either}
-use Rattle.plan_json.proofs.PlanForms.{id_formed, moment_formed, each_formed}
-use Rattle.release_json.specs.Findings.{finding_of, finding_in, are_in_order, findings_of, IsFinding}
-use Rattle.release_json.proofs.FindingLaws.{finding_formed, order_tested}
-use Rattle.release_json.specs.Kept.{IsKept}
-use Rattle.release_json.specs.Releases.{bool_at, person, person_at, release_of}
-use Rattle.release_json.proofs.ReleaseForms.{release_kept, release_named}
+use Rattle.call_json.specs.Canonical.{IsId, DoneHasForms}
+use Rattle.call_json.specs.Digests.{digest_of, digest_at, IsDigest}
+use Rattle.call_json.specs.Dones.{done_of}
+use Rattle.call_json.specs.Fields.{text_at, up_to, number_at, id_at, moment_at, list_at, each_read, has_members}
+use Rattle.call_json.proofs.DigestLaws.{digest_formed}
+use Rattle.call_json.proofs.DoneForms.{done_formed}
+use Rattle.call_json.proofs.Chains.{bind_if, bind_any, then_if, under, either}
+use Rattle.call_json.proofs.PlanForms.{id_formed, moment_formed, each_formed}
+use Rattle.kept_releases.specs.Findings.{finding_of, finding_in, are_in_order, findings_of, IsFinding}
+use Rattle.kept_releases.proofs.FindingLaws.{finding_formed, order_tested}
+use Rattle.kept_releases.specs.Kept.{IsKept}
+use Rattle.kept_releases.specs.Releases.{bool_at, person, person_at, release_of}
+use Rattle.kept_releases.proofs.ReleaseForms.{release_kept, release_named}
 use Rattle.records.specs.Reading as read
 use Rattle.records.specs.Valid.{IsRequest, IsFloor, AreRising, IsMeta, IsReport, IsDeferral, IsKeptReply, AreFindings, IsKeptAlert, IsRecord, are_rising, is_report, are_among}
 use Rattle.records.specs.declared.alert_rows.Opening.{Opening}

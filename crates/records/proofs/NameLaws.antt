@@ -6,8 +6,8 @@ use Rattle.std.proofs.lemmas.Bool.{and_parts}
 use Rattle.std.proofs.lemmas.Bool.Decides.{nat_tests}
 use Rattle.std.proofs.lemmas.Str.{utf8_lossy-IsUtf8, is_utf8-from_IsUtf8}
 use Rattle.ops_tables.specs.Forms.{in_mark, in_person, is_word, is_tail, is_item, is_person}
-use Rattle.plan_json.proofs.Texts.{passing_utf8}
-use Rattle.release_json.specs.Releases.{person}
+use Rattle.call_json.proofs.Texts.{passing_utf8}
+use Rattle.kept_releases.specs.Releases.{person}
 use Rattle.records.specs.Reading.{tail, item, if_report, report_with, utf8_report}
 use Rattle.records.specs.declared.record.KeptReport.{KeptReport}
 

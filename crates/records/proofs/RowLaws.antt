@@ -8,9 +8,9 @@ use Rattle.std.proofs.lemmas.Str.{utf8_valid_len-IsUtf8}
 use Rattle.serde_json.specs.Written.{compact_text}
 use Rattle.desk_io.specs.declared.rows.Row.{Row}
 use Rattle.desk_time.specs.Digits.{◌>>=◌}
-use Rattle.plan_json.specs.Fields.{data_of}
-use Rattle.plan_json.proofs.Compact.{read_compact, utf8_compact}
-use Rattle.release_json.proofs.ReleaseForms.{moments_formed}
+use Rattle.call_json.specs.Fields.{data_of}
+use Rattle.call_json.proofs.Compact.{read_compact, utf8_compact}
+use Rattle.kept_releases.proofs.ReleaseForms.{moments_formed}
 use Rattle.records.specs.Kinds.{kind_of, key_of}
 use Rattle.records.specs.Bodies.{body_data, row_of, HasMoments}
 use Rattle.records.specs.Reading as spec

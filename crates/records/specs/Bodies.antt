@@ -8,10 +8,10 @@ use Rattle.asks.specs.declared.kept.KeptReply.{KeptReply}
 use Rattle.deferrals.specs.declared.items.Deferral.{Deferral as DeferralOf}
 use Rattle.desk_io.specs.declared.rows.Row.{Row}
 use Rattle.plan.specs.Texts.{IsMoment}
-use Rattle.plan_json.specs.Canonical.{count, text_data, moment_data, done_data}
-use Rattle.plan_json.specs.Digests.{digest_data}
-use Rattle.release_json.specs.Findings.{findings_data}
-use Rattle.release_json.specs.Rows.{release_data, ReleaseHasMoments}
+use Rattle.call_json.specs.Canonical.{count, text_data, moment_data, done_data}
+use Rattle.call_json.specs.Digests.{digest_data}
+use Rattle.kept_releases.specs.Findings.{findings_data}
+use Rattle.kept_releases.specs.Rows.{release_data, ReleaseHasMoments}
 use Rattle.records.specs.Kinds.{kind_of, key_of}
 use Rattle.records.specs.declared.record.KeptAlert.{KeptAlert}
 use Rattle.records.specs.declared.record.KeptReport.{KeptReport}

@@ -12,11 +12,11 @@ use Rattle.asks.specs.declared.kept.KeptReply.{KeptReply}
 use Rattle.asks.specs.declared.reply.Done.{Done}
 use Rattle.deferrals.specs.declared.items.Deferral.{Deferral as DeferralOf}
 use Rattle.desk_io.specs.declared.rows.Row.{Row}
-use Rattle.plan_json.specs.Digests.{digest_at}
-use Rattle.plan_json.specs.Dones.{done_of}
-use Rattle.plan_json.specs.Fields.{data_of, text_at, up_to, number_at, id_at, moment_at, list_at, has_members}
-use Rattle.release_json.specs.Findings.{findings_of}
-use Rattle.release_json.specs.Releases.{bool_at, person, person_at, release_of}
+use Rattle.call_json.specs.Digests.{digest_at}
+use Rattle.call_json.specs.Dones.{done_of}
+use Rattle.call_json.specs.Fields.{data_of, text_at, up_to, number_at, id_at, moment_at, list_at, has_members}
+use Rattle.kept_releases.specs.Findings.{findings_of}
+use Rattle.kept_releases.specs.Releases.{bool_at, person, person_at, release_of}
 use Rattle.records.specs.Bodies.{row_of}
 use Rattle.records.specs.Valid.{IsRecord, are_rising, is_report, are_among}
 use Rattle.records.specs.declared.meta_rows.Numbers.{Numbers}

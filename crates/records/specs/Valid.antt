@@ -14,10 +14,10 @@ use Rattle.asks.specs.declared.kept.Floor.{Floor}
 use Rattle.asks.specs.declared.kept.KeptReply.{KeptReply}
 use Rattle.deferrals.specs.declared.items.Deferral.{Deferral as DeferralOf}
 use Rattle.facts.specs.Reading.{read_of}
-use Rattle.plan_json.specs.Canonical.{IsId, DoneHasForms}
-use Rattle.plan_json.specs.Digests.{IsDigest}
-use Rattle.release_json.specs.Findings.{IsFinding}
-use Rattle.release_json.specs.Kept.{IsKept}
+use Rattle.call_json.specs.Canonical.{IsId, DoneHasForms}
+use Rattle.call_json.specs.Digests.{IsDigest}
+use Rattle.kept_releases.specs.Findings.{IsFinding}
+use Rattle.kept_releases.specs.Kept.{IsKept}
 use Rattle.records.specs.declared.record.KeptAlert.{KeptAlert}
 use Rattle.records.specs.declared.record.KeptReport.{KeptReport}
 use Rattle.records.specs.declared.record.Meta.{Meta as Counters}

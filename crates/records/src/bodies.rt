@@ -1,6 +1,6 @@
 ghost use Rattle.std.specs.Prelude.{◌≡◌, ◌∷◌, [], IfOk};
 ghost use Rattle.plan.specs.Texts.{IsMoment};
-ghost use Rattle.release_json.specs.Rows.{ReleaseHasMoments};
+ghost use Rattle.kept_releases.specs.Rows.{ReleaseHasMoments};
 ghost use Rattle.serde_json.specs.Data.{object, no_members};
 ghost use Rattle.serde_json.specs.View.{view, members_view};
 ghost use Rattle.serde_json.specs.Written.{compact_text};
@@ -9,10 +9,10 @@ ghost use Rattle.records.specs.Bodies as spec;
 use crate::kinds::{key_of, kind_of};
 use crate::record::{KeptAlert, KeptReport, Meta, Record};
 use asks::{Floor, Floors, KeptReply};
+use call_json::{Members, done_value, with_count, with_digest, with_moment, with_text, with_value};
 use deferrals::Deferral;
 use desk_io::{OutOfMemory, Row, Text};
-use plan_json::{Members, done_value, with_count, with_digest, with_moment, with_text, with_value};
-use release_json::{findings_value, release_value};
+use kept_releases::{findings_value, release_value};
 use serde_json::{Map, Value};
 use std::alloc::Global;
 

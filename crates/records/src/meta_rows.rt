@@ -8,9 +8,9 @@ ghost use Rattle.records.specs.Valid as valid;
 use crate::names::is_person;
 use crate::record::Meta;
 use asks::{Floor, Floors};
+use call_json::{Members, has_members, id_at, moment_at};
 use desk_io::{OutOfMemory, Text};
 use desk_time::Minute;
-use plan_json::{Members, has_members, id_at, moment_at};
 use serde_json::Value;
 use std::alloc::Global;
 

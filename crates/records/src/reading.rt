@@ -1,6 +1,6 @@
 ghost use Rattle.std.specs.Prelude.{◌≡◌, IfOk, IfSome};
 ghost use Rattle.std.specs.Option.{option_map};
-ghost use Rattle.release_json.specs.Releases.{release_of};
+ghost use Rattle.kept_releases.specs.Releases.{release_of};
 ghost use Rattle.records.specs.Bodies.{HasMoments, row_of as spec_row_of};
 ghost use Rattle.records.specs.Valid.{IsRecord};
 ghost use Rattle.records.specs.declared.record.Record.{Record as Held};
@@ -13,9 +13,9 @@ use crate::bodies::row_of;
 use crate::kept_rows::{deferral_of, kept_of, report_of};
 use crate::meta_rows::meta_in;
 use crate::record::Record;
+use call_json::data_of;
 use desk_io::{OutOfMemory, Row};
-use plan_json::data_of;
-use release_json::read_release;
+use kept_releases::read_release;
 use serde_json::Value;
 use std::alloc::Global;
 

@@ -5,7 +5,7 @@ use Rattle.asks.specs.declared.bad_call.BadCall.{BadCall}
 use Rattle.asks.specs.declared.call.Call.{Call}
 use Rattle.desk.specs.Keeping.{Choice, Counted, no_choice, answer_with}
 use Rattle.desk_json.specs.Replies.{bad_text}
-use Rattle.machine.specs.State.{State}
+use Rattle.desk_state.specs.State.{State}
 use Rattle.service.specs.Exchanges.{exchanged, bytes_of}
 use Rattle.service.specs.Steps.{IsClockMoment, IsAnswered, IsUnanswered, MayHaveStepped, OnCall, TextAnswersTo}
 use Rattle.service.specs.declared.exchange.NoAnswer.{NoAnswer}

@@ -9,7 +9,7 @@ use Rattle.desk_http.specs.declared.wire.WireFault.TheVariants as fault
 use Rattle.desk_io.specs.declared.faults.PutFault.{PutFault}
 use Rattle.desk_io.specs.declared.faults.PutFault.TheVariants.{Failed, OutOfMemory}
 use Rattle.desk_net.specs.Streams.{Stream, Writes, OnlyRead, unread}
-use Rattle.machine.specs.State.{State}
+use Rattle.desk_state.specs.State.{State}
 use Rattle.service.specs.Connections.{Exchange, responses, AreRequests, IsFrontOf, IsWritten, OnTold, AsksCall, EndsConnection, OnBoth, IsConnection, IsStep, out_of_memory_answer, clock_fault_answer}
 use Rattle.service.specs.Exchanges.{bytes_of, exchanged}
 use Rattle.service.specs.Requested.{requested_by}

@@ -5,7 +5,7 @@ use Rattle.desk.specs.Keeping.{Counted}
 use Rattle.desk.proofs.Choices.{counted_on}
 use Rattle.desk_http.specs.Requests.{unused}
 use Rattle.desk_net.specs.Streams.{Stream}
-use Rattle.machine.specs.State.{State}
+use Rattle.desk_state.specs.State.{State}
 use Rattle.service.specs.Connections.{Exchange, exchange, responses, state_after, AreRequests, IsTimed, IsOpen, EndsConnection, OnBoth, IsConnection, GoesOn}
 use Rattle.service.specs.Exchanges.{bytes_of}
 use Rattle.service.specs.Serving.{Wrote}

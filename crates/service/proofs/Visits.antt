@@ -6,7 +6,7 @@ use Rattle.std.proofs.lemmas.List.{map-append}
 use Rattle.std.proofs.lemmas.List.Elements.{filter-append}
 use Rattle.desk_net.specs.Doors.{Links, Accepts, TakesBack, HasNext}
 use Rattle.desk_net.specs.Streams.{Stream, unread}
-use Rattle.machine.specs.State.{State}
+use Rattle.desk_state.specs.State.{State}
 use Rattle.service.specs.Connections.{AreRequests, GoesOn, IsConnection, OnBoth}
 use Rattle.service.specs.Doors.{Visit, IsVisit, AreVisits, AreTaken, AreAtPort, HasLinks, came_of, back_of, HadMemory, IsWell, is_clock_fault, ended_by_clock, AreFewer, EndsServing, IsServing, counts_as, met_after, end_of, end_at_door}
 use Rattle.service.specs.declared.doors.Met.{Met}

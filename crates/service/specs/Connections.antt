@@ -7,7 +7,7 @@ use Rattle.desk_http.specs.Requests.{BeginsWithRequest, GivesNone}
 use Rattle.desk_http.specs.declared.wire.Wire.{Wire}
 use Rattle.desk_http.specs.declared.wire.WireFault.TheVariants as fault
 use Rattle.desk_net.specs.Streams.{Stream}
-use Rattle.machine.specs.State.{State}
+use Rattle.desk_state.specs.State.{State}
 use Rattle.service.specs.Exchanges.{Exchanged, exchanged, bytes_of, failing}
 use Rattle.service.specs.Requested.{requested_by}
 use Rattle.service.specs.Steps.{MakesCall, IsClockMoment, OnCall}

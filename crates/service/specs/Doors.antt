@@ -3,7 +3,7 @@ use Rattle.std.specs.Prelude.{◌≡◌, ◌≢◌, ◌⊎◌, ◌<◌, ◌≤�
 use Rattle.std.specs.List.{AllByRecursion, list_any}
 use Rattle.desk_net.specs.Doors.{Links}
 use Rattle.desk_net.specs.Streams.{Stream, unread}
-use Rattle.machine.specs.State.{State}
+use Rattle.desk_state.specs.State.{State}
 use Rattle.service.specs.Connections.{IsConnection}
 use Rattle.service.specs.Serving.{Wrote}
 use Rattle.service.specs.declared.doors.ServeEnd.{ServeEnd}

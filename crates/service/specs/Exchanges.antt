@@ -4,7 +4,7 @@ use Rattle.desk.specs.Keeping.{Choice, Given, answer_with}
 use Rattle.desk.specs.Run.{said_text}
 use Rattle.desk_http.specs.Responses.{response}
 use Rattle.desk_json.specs.Replies.{bad_text}
-use Rattle.machine.specs.State.{State}
+use Rattle.desk_state.specs.State.{State}
 use Rattle.service.specs.Statuses.{status_of}
 use Rattle.service.specs.declared.requested.Requested.{Requested}
 use Rattle.service.specs.declared.requested.Requested.TheVariants as requested

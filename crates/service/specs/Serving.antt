@@ -4,7 +4,7 @@ use Rattle.desk_http.specs.declared.wire.Wire.{Wire}
 use Rattle.desk_http.specs.declared.wire.WireFault.{WireFault}
 use Rattle.desk_http.specs.declared.wire.WireFault.TheVariants as fault
 use Rattle.desk_net.specs.Streams.{Stream}
-use Rattle.machine.specs.State.{State}
+use Rattle.desk_state.specs.State.{State}
 use Rattle.service.specs.Connections.{Gains, IsFrontOf, IsWritten, bad_head_answer, too_large_answer, no_length_answer, wrong_method_answer, clock_fault_answer, out_of_memory_answer}
 use Rattle.service.specs.Exchanges.{bytes_of}
 use Rattle.service.specs.Requested.{requested_by}

@@ -4,8 +4,8 @@ use Rattle.asks.specs.declared.reply.Refusal.{Refusal}
 use Rattle.asks.specs.declared.reply.Refusal.TheVariants.{UnknownActor, WrongKey, NotYourRole, NumberReused, BadReport, DayOutOfReach, ReportsFull, UnknownTail, NoSuchDeferral, NoSuchRelease, NotYours, BadPlan, NotPending, WrongRevision, WrongText, WeatherNewer, RuleFails, WrongPhase, AlreadySigned, NoSuchAlert, AlertMoved, TooYoung, ReleasesFull, HistoryFull, NoSuchStation, Unkept, NumberSwept, UnknownItem, BadFound, DeferralsFull}
 use Rattle.asks.specs.declared.reply.Reply.{Reply}
 use Rattle.asks.specs.declared.reply.Reply.TheVariants.{Done, Seen, Refused}
-use Rattle.machine.specs.declared.lanes.Said.{Said}
-use Rattle.machine.specs.declared.lanes.Said.TheVariants as said
+use Rattle.desk_state.specs.declared.lanes.Said.{Said}
+use Rattle.desk_state.specs.declared.lanes.Said.TheVariants as said
 
 -- who asks isn't known (401) or may not (403); what is asked for isn't there (404), is at odds with what is held (409),
 -- or can't be read as what it should be (422); it couldn't be kept (503), or there is no room (507)

@@ -3,7 +3,7 @@ use Rattle.std.specs.Prelude.{◌≡◌, ◌⊎◌, ℕ, List, [], ◌∷◌, Op
 use Rattle.desk.specs.Keeping.{Choice, Counted}
 use Rattle.desk.specs.Settled.{MayHaveTicked}
 use Rattle.desk_net.specs.Clocks.{IsMoment, IsAmong}
-use Rattle.machine.specs.State.{State}
+use Rattle.desk_state.specs.State.{State}
 use Rattle.service.specs.Exchanges.{exchanged, bytes_of}
 use Rattle.service.specs.declared.exchange.NoAnswer.{NoAnswer}
 use Rattle.service.specs.declared.exchange.NoAnswer.TheVariants.{ClockFault, OutOfMemory}

@@ -1,6 +1,6 @@
 ghost use Rattle.std.specs.Prelude.{◌≡◌, ◌≢◌, Err, IfOk, IsErrOf};
 ghost use Rattle.http.specs.StatusCode.{IsStatusCode};
-ghost use Rattle.plan_json.specs.Canonical.{CallHasForms};
+ghost use Rattle.call_json.specs.Canonical.{CallHasForms};
 ghost use Rattle.service.specs.Forms.{RequestedHasForms};
 ghost use Rattle.service.specs.Onward.{DeskGoesOn, ClockGoesOn, HasFailed};
 ghost use Rattle.service.specs.Requested.{requested_by as request_of};

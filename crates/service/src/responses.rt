@@ -13,7 +13,7 @@ use desk::said_text;
 use desk_http::response;
 use desk_io::{OutOfMemory, Text};
 use desk_json::bad_text;
-use machine::Said;
+use desk_state::Said;
 use std::alloc::Global;
 
 /// What is answered to a request: a status of three digits, and a JSON body.

@@ -3,7 +3,7 @@ ghost use Rattle.http.specs.StatusCode.{IsStatusCode};
 ghost use Rattle.service.specs.Statuses as spec;
 
 use asks::{Refusal, Reply};
-use machine::Said;
+use desk_state::Said;
 
 fn status_of_refusal(refusal: &Refusal) -> u16
     ensures status { result ≡ spec.status_of_refusal refusal.now }

@@ -1,7 +1,7 @@
 use asks::{BadCall, CallWhy, Done, Refusal, Reply};
 use codes::Why;
 use desk_io::{OutOfMemory, Text};
-use machine::Said;
+use desk_state::Said;
 use plan::{Findings, Phase, PlanWhy};
 use service::status_of;
 use std::alloc::Global;

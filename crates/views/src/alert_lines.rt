@@ -1,6 +1,6 @@
 ghost use Rattle.std.specs.Prelude.{◌≡◌, ◌++◌, IfOk, OnOk};
 ghost use Rattle.std.specs.List.{AllByRecursion};
-ghost use Rattle.machine.specs.Texts as spec;
+ghost use Rattle.desk_state.specs.Texts as spec;
 ghost use Rattle.plan.specs.Texts.{IsMoment};
 ghost use Rattle.alerts.specs.Alerts.{IsAlert};
 
@@ -50,7 +50,7 @@ fn push_failing(alloc: Global, out: &mut Vec<u8>, alert: &Alert) -> Result<(), O
     push_all(out, &[&failing, b" ever", &ever, b"\n"])
 }
 
-#[tactic(auto, unfolding(machine::specs::Texts::alert_line))]
+#[tactic(auto, unfolding(desk_state::specs::Texts::alert_line))]
 fn push_alert(alloc: Global, out: &mut Vec<u8>, alert: &Alert) -> Result<(), OutOfMemory>
     requires { IsMoment alert.now.opened }
     ensures { OnOk result (out.new.items ≡ out.old.items ++ spec.alert_line alert.now) }
@@ -76,7 +76,7 @@ fn push_alerts(
 }
 
 /// The alerts that stand.
-#[tactic(auto, unfolding(machine::specs::Texts::alerts_view))]
+#[tactic(auto, unfolding(desk_state::specs::Texts::alerts_view))]
 pub fn alerts_view(
     alloc: Global,
     moment: Minute,

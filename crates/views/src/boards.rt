@@ -1,17 +1,17 @@
 ghost use Rattle.std.specs.Prelude.{◌≡◌, ◌++◌, IfOk, OnOk};
 ghost use Rattle.std.specs.List.{AllByRecursion};
 ghost use Rattle.std.specs.Option.{option_copied};
-ghost use Rattle.machine.specs.Texts as spec;
-ghost use Rattle.machine.specs.Contents.{state_of};
-ghost use Rattle.machine.specs.Sound.{ReleaseInBounds, InBounds};
+ghost use Rattle.desk_state.specs.Texts as spec;
+ghost use Rattle.desk_state.specs.Contents.{state_of};
+ghost use Rattle.desk_state.specs.Sound.{ReleaseInBounds, InBounds};
 ghost use Rattle.plan.specs.Texts.{IsMoment, HasMoment};
 
 use crate::findings::{findings_text, mark_text};
 use alerts::Alert;
 use desk_io::{OutOfMemory, Text, push_all};
+use desk_state::{Content, find_alert};
 use desk_time::{Minute, show};
 use facts::push_weather;
-use machine::{Content, find_alert};
 use plan::{Release, Revision, phase_text};
 use std::alloc::Global;
 
@@ -107,7 +107,7 @@ fn push_desk(
     push_all(out, &[release.holder.bytes(), b" ", &alert, b"\n"])
 }
 
-#[tactic(auto, unfolding(machine::specs::Texts::release_line))]
+#[tactic(auto, unfolding(desk_state::specs::Texts::release_line))]
 fn push_release(
     alloc: Global,
     out: &mut Vec<u8>,
@@ -146,7 +146,7 @@ fn push_board_head(out: &mut Vec<u8>, moment: Minute) -> Result<(), OutOfMemory>
 
 /// The releases in order of their numbers: each with its flight, its aircraft and its phase, the numbers of its
 /// active and of its pending revision, its dispatcher and its alert.
-#[tactic(auto, unfolding(machine::specs::Texts::board_view))]
+#[tactic(auto, unfolding(desk_state::specs::Texts::board_view))]
 pub fn board_view(alloc: Global, content: &Content) -> Result<Text, OutOfMemory>
     requires { InBounds (state_of content.now) }
     ensures { IfOk result (λ t. t ≡ spec.board_view (state_of content.now)) }
@@ -159,7 +159,7 @@ pub fn board_view(alloc: Global, content: &Content) -> Result<Text, OutOfMemory>
 
 /// The closing text: the releases as [`board_view`] shows them, and the latest weather of all stations that have a
 /// report.
-#[tactic(auto, unfolding(machine::specs::Texts::closing))]
+#[tactic(auto, unfolding(desk_state::specs::Texts::closing))]
 pub fn closing(alloc: Global, content: &Content) -> Result<Text, OutOfMemory>
     requires { InBounds (state_of content.now) }
     ensures { IfOk result (λ t. t ≡ spec.closing (state_of content.now)) }

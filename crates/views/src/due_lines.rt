@@ -2,7 +2,7 @@ ghost use Rattle.std.specs.Prelude.{◌≡◌, ◌++◌, map, IfOk, IfSome, OnOk
 ghost use Rattle.std.specs.List.{AllByRecursion};
 ghost use Rattle.std.specs.Option.{option_copied};
 ghost use Rattle.ops_tables.specs.Limits.{FitsItem};
-ghost use Rattle.machine.specs.Texts as spec;
+ghost use Rattle.desk_state.specs.Texts as spec;
 ghost use Rattle.plan.specs.Texts.{IsMoment};
 
 use deferrals::{Deferral, due};
@@ -54,7 +54,7 @@ fn push_due(
     push_all(out, &[&show(deferral.found), b" due ", &due, b"\n"])
 }
 
-#[tactic(auto, unfolding(machine::specs::Texts::deferral_line))]
+#[tactic(auto, unfolding(desk_state::specs::Texts::deferral_line))]
 fn push_deferral(
     alloc: Global,
     out: &mut Vec<u8>,

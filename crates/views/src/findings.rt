@@ -1,5 +1,5 @@
 ghost use Rattle.std.specs.Prelude.{◌≡◌, ◌++◌, IfOk, OnOk};
-ghost use Rattle.machine.specs.Texts as spec;
+ghost use Rattle.desk_state.specs.Texts as spec;
 
 use desk_io::{OutOfMemory, push_all};
 use plan::{Finding, finding_text};
@@ -16,7 +16,7 @@ fn push_spaced(alloc: Global, out: &mut Vec<u8>, findings: &[Finding]) -> Result
 }
 
 /// Findings after a blank each, or the word none.
-#[tactic(auto, unfolding(machine::specs::Texts::findings_text))]
+#[tactic(auto, unfolding(desk_state::specs::Texts::findings_text))]
 pub(crate) fn findings_text(alloc: Global, findings: &[Finding]) -> Result<Vec<u8>, OutOfMemory>
     ensures { IfOk result (λ v. v.items ≡ spec.findings_text findings.now) }
 {

@@ -1,7 +1,7 @@
 ghost use Rattle.std.specs.Prelude.{◌≡◌, ◌++◌, ◌∷◌, [], true, Some, codes, decimal, IfOk, IfSome, OnOk};
 ghost use Rattle.std.specs.List.{concat};
-ghost use Rattle.machine.specs.Texts as spec;
-ghost use Rattle.machine.specs.Sound.{ReleaseInBounds, RevisionInBounds};
+ghost use Rattle.desk_state.specs.Texts as spec;
+ghost use Rattle.desk_state.specs.Sound.{ReleaseInBounds, RevisionInBounds};
 ghost use Rattle.plan.specs.Texts.{IsMoment, HasMoment, phase_text};
 ghost use Rattle.release_text.specs.Revisions.{revision_text, revision_digest};
 
@@ -47,7 +47,7 @@ fn push_prepared(alloc: Global, out: &mut Vec<u8>, revision: &Revision) -> Resul
     )
 }
 
-#[tactic(auto, unfolding(machine::specs::Texts::pending_text))]
+#[tactic(auto, unfolding(desk_state::specs::Texts::pending_text))]
 fn push_pending(
     alloc: Global,
     out: &mut Vec<u8>,
@@ -86,7 +86,7 @@ fn push_signed(alloc: Global, out: &mut Vec<u8>, revision: &Revision) -> Result<
     push_all(out, &[written.text.bytes()])
 }
 
-#[tactic(auto, unfolding(machine::specs::Texts::active_text))]
+#[tactic(auto, unfolding(desk_state::specs::Texts::active_text))]
 fn push_active(
     alloc: Global,
     out: &mut Vec<u8>,
@@ -116,7 +116,7 @@ fn push_head(alloc: Global, out: &mut Vec<u8>, release: &Release) -> Result<(), 
 /// A release with the texts of its revisions (14 CFR 121.687): its number and its phase; the digest and the text of
 /// its pending revision, once that is prepared; and the digest of its active revision, who signed it and when, and
 /// its text.
-#[tactic(auto, unfolding(machine::specs::Texts::release_view))]
+#[tactic(auto, unfolding(desk_state::specs::Texts::release_view))]
 pub fn release_view(alloc: Global, release: &Release) -> Result<Text, OutOfMemory>
     requires { ReleaseInBounds release.now }
     ensures { IfOk result (λ t. t ≡ spec.release_view release.now) }

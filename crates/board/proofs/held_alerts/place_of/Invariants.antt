@@ -1,6 +1,6 @@
 use Rattle.std.proofs.Common.{◌≡◌, ◌++◌, Option, take, drop}
 use Rattle.alerts.specs.declared.alert.Alert.{Alert}
-use Rattle.machine.specs.Events.{put_alert}
+use Rattle.desk_state.specs.Events.{put_alert}
 use Rattle.board.proofs.held_alerts.place_of.Given as goal
 
 abbrev pub invariant-loop-i : goal.invariant-loop-i

@@ -2,7 +2,7 @@ use Rattle.std.proofs.Common.{◌≡◌, ◌+◌, ◌≤◌, length}
 use Rattle.std.specs.Prelude.{vec_len}
 use Rattle.std.specs.Vec.{vec_capacity}
 use Rattle.std.specs.Vec.Iter.{into_iter_items, into_iter_len}
-use Rattle.machine.specs.Events.{put_changes}
+use Rattle.desk_state.specs.Events.{put_changes}
 use Rattle.board.proofs.held_alerts.put_changes.Given as goal
 
 abbrev pub invariant-loop-change : goal.invariant-loop-change

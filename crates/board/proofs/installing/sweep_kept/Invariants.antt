@@ -2,7 +2,7 @@ use Rattle.std.proofs.Common.{◌≡◌}
 use Rattle.std.proofs.lemmas.List.Filters.{FiltersInPlace}
 use Rattle.std.specs.Vec.{vec_capacity}
 use Rattle.std.specs.Prelude.{vec_len}
-use Rattle.machine.specs.Events.{is_since}
+use Rattle.desk_state.specs.Events.{is_since}
 use Rattle.board.proofs.installing.sweep_kept.Given as goal
 
 abbrev pub invariant-loop-from : goal.invariant-loop-from

@@ -1,5 +1,5 @@
 use Rattle.std.proofs.Common.{◌∙◌}
-use Rattle.keeping.proofs.JudgedLaws.{judged_opened}
+use Rattle.kept_state.proofs.JudgedLaws.{judged_opened}
 use Rattle.board.proofs.restoring.reopen.Goals as goal
 
 pub judged_changes-requires-clause-opened : goal.judged_changes-requires-clause-opened

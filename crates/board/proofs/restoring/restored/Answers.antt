@@ -1,8 +1,8 @@
 use Rattle.std.proofs.Common.{◌∙◌, ap}
 use Rattle.std.proofs.lemmas.Result.{IfOk-weaker}
-use Rattle.keeping.specs.Judged.{judged_changes}
-use Rattle.machine.specs.Effects.{nothing}
-use Rattle.machine.specs.Events.{alert_changes}
+use Rattle.kept_state.specs.Judged.{judged_changes}
+use Rattle.desk_state.specs.Effects.{nothing}
+use Rattle.desk_state.specs.Events.{alert_changes}
 use Rattle.board.proofs.Anew.{rows_kept}
 use Rattle.board.proofs.restoring.restored.Goals as goal
 

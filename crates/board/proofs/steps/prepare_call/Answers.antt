@@ -1,4 +1,4 @@
-use Rattle.machine.specs.Contents.{state_of}
+use Rattle.desk_state.specs.Contents.{state_of}
 use Rattle.board.proofs.Kept.{effect_of, effect_may}
 use Rattle.board.proofs.steps.prepare_call.Goals as goal
 

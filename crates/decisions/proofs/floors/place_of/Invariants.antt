@@ -1,5 +1,5 @@
 use Rattle.std.proofs.Common.{◌≡◌, ◌++◌, ℕ, take, drop}
-use Rattle.machine.specs.Requests.{raised_to}
+use Rattle.desk_state.specs.Requests.{raised_to}
 use Rattle.decisions.proofs.floors.place_of.Given as goal
 
 abbrev pub invariant-loop-i : goal.invariant-loop-i

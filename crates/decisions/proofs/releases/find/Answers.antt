@@ -1,5 +1,5 @@
-use Rattle.machine.specs.Contents.{state_of}
-use Rattle.machine.proofs.Deciding.{found_fits}
+use Rattle.desk_state.specs.Contents.{state_of}
+use Rattle.desk_state.proofs.Deciding.{found_fits}
 use Rattle.decisions.proofs.Held.{found_newest}
 use Rattle.decisions.proofs.releases.find.Goals as goal
 

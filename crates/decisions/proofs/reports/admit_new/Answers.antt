@@ -1,5 +1,5 @@
 use Rattle.std.proofs.Common.{sym, subst}
-use Rattle.machine.specs.declared.effect.Effect.{Effect}
+use Rattle.desk_state.specs.declared.effect.Effect.{Effect}
 use Rattle.decisions.specs.Reads.{AdmitsRead}
 use Rattle.decisions.proofs.reports.admit_new.Goals as goal
 

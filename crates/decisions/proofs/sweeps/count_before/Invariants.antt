@@ -1,5 +1,5 @@
 use Rattle.std.proofs.Common.{◌≡◌, ◌+◌, ◌≤◌, length, drop}
-use Rattle.machine.specs.Requests.{kept_before}
+use Rattle.desk_state.specs.Requests.{kept_before}
 use Rattle.decisions.proofs.sweeps.count_before.Given as goal
 
 abbrev pub invariant-loop-reply : goal.invariant-loop-reply

@@ -1,6 +1,6 @@
 use Rattle.std.proofs.Common.{◌≡◌, drop}
-use Rattle.machine.specs.Contents.{state_of}
-use Rattle.machine.specs.Requests.{raised_by, kept_before}
+use Rattle.desk_state.specs.Contents.{state_of}
+use Rattle.desk_state.specs.Requests.{raised_by, kept_before}
 use Rattle.decisions.proofs.sweeps.raised.Given as goal
 
 abbrev pub invariant-loop-reply : goal.invariant-loop-reply

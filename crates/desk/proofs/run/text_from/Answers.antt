@@ -1,6 +1,6 @@
 use Rattle.std.proofs.Common.{◌∙◌, ◌++◌, ap}
 use Rattle.std.proofs.lemmas.Result.{IfOk-weaker}
-use Rattle.machine.specs.Texts.{closing}
+use Rattle.desk_state.specs.Texts.{closing}
 use Rattle.desk.specs.Run.{texts_of}
 use Rattle.desk.proofs.Choices.{is_run_of}
 use Rattle.desk.proofs.run.text_from.Goals as goal

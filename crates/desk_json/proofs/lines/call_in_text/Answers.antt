@@ -1,7 +1,7 @@
 use Rattle.std.proofs.Common.{◌≡◌, Some, arith}
 use Rattle.std.proofs.lemmas.Result.{IfOk-weaker}
 use Rattle.serde_json.specs.View.{view}
-use Rattle.plan_json.specs.Fields.{data_of}
+use Rattle.call_json.specs.Fields.{data_of}
 use Rattle.desk_json.proofs.LineForms.{call_forms}
 use Rattle.desk_json.proofs.lines.call_in_text.Goals as goal
 

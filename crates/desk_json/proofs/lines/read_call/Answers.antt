@@ -1,6 +1,6 @@
 use Rattle.std.proofs.Common.{subst}
 use Rattle.std.proofs.lemmas.Result.{IfOk-weaker}
-use Rattle.plan_json.proofs.AskForms.{call_from_forms}
+use Rattle.call_json.proofs.AskForms.{call_from_forms}
 use Rattle.desk_json.specs.Faults.{Finds}
 use Rattle.desk_json.proofs.LineForms.{call_again}
 use Rattle.desk_json.proofs.LineLaws.{call_finds}

@@ -1,7 +1,7 @@
 use Rattle.std.proofs.Common.{◌≡◌, drop}
 use Rattle.serde_json.specs.View.{items_view}
-use Rattle.plan_json.specs.Fields.{each_read}
-use Rattle.plan_json.proofs.Lists.{onto}
+use Rattle.call_json.specs.Fields.{each_read}
+use Rattle.call_json.proofs.Lists.{onto}
 use Rattle.desk_json.specs.ReadReplies.{finding_in}
 use Rattle.desk_json.proofs.read_replies.findings_of.Given as goal
 

@@ -1,6 +1,6 @@
 use Rattle.std.proofs.Common.{◌≡◌, ◌++◌, drop}
 use Rattle.std.specs.List.{AllByRecursion}
-use Rattle.machine.specs.Texts.{alert_lines}
+use Rattle.desk_state.specs.Texts.{alert_lines}
 use Rattle.alerts.specs.Alerts.{IsAlert}
 use Rattle.views.proofs.alert_lines.push_alerts.Given as goal
 

@@ -1,5 +1,5 @@
 use Rattle.std.proofs.Common.{◌≡◌, ◌++◌, drop}
-use Rattle.machine.specs.Texts.{spaced_findings}
+use Rattle.desk_state.specs.Texts.{spaced_findings}
 use Rattle.views.proofs.findings.push_spaced.Given as goal
 
 abbrev pub invariant-loop-finding : goal.invariant-loop-finding

@@ -1,4 +1,4 @@
-use Rattle.machine.specs.Told.{takes_none}
+use Rattle.desk_state.specs.Told.{takes_none}
 use Rattle.board.proofs.Kept.{applied_ticks, installed_told}
 use Rattle.board.proofs.state.Board.tick.Goals as goal
 

@@ -1,0 +1,45 @@
+-- Requests by who made them and their numbers: what is kept of them, and the floors below which nothing is.
+use Rattle.std.specs.Prelude.{ℕ, ◌==◌, nat_le, max, ◌&&◌, Bool, List, [], ◌∷◌, filter, find, not, Option, None, Some}
+use Rattle.std.specs.Option.{option_map}
+use Rattle.std.specs.Ordering.{nat_cmp}
+use Rattle.std.specs.declared.cmp.Ordering.{Ordering}
+use Rattle.std.specs.declared.cmp.Ordering.TheVariants.{Less, Equal, Greater}
+use Rattle.std.specs.Cmp.Lexicographic.{slice_cmp}
+use Rattle.std.specs.Str.{bytes_eq}
+use Rattle.asks.specs.declared.kept.Floor.{Floor}
+use Rattle.asks.specs.declared.kept.KeptReply.{KeptReply}
+use Rattle.desk_state.specs.Events.{is_since}
+
+-- a kept reply to the request of a person under a number
+abbrev pub is_request : List ℕ → ℕ → KeptReply → Bool
+is_request actor number k = (k.number == number) && bytes_eq k.actor actor
+
+-- what is kept of the request of a person under a number
+abbrev pub kept_at : List ℕ → ℕ → List KeptReply → Option KeptReply
+kept_at actor number kept = find (is_request actor number) kept
+
+-- the floor of a person
+abbrev pub floor_at : List ℕ → List Floor → Option ℕ
+floor_at actor floors = option_map (λ f. f.number) (find (λ f. bytes_eq f.actor actor) floors)
+
+abbrev pub floor : List ℕ → ℕ → Floor
+floor actor number = record { actor = actor; number = number }
+
+abbrev pub raised_here : Ordering → List ℕ → ℕ → Floor → List Floor → List Floor → List Floor
+raised_here Less actor number f rest raised = floor actor number ∷ f ∷ rest
+raised_here Equal actor number f rest raised = floor f.actor (max f.number number) ∷ rest
+raised_here Greater actor number f rest raised = f ∷ raised
+
+-- floors in byte order of the names, where that of a person is at least a number
+abbrev pub raised_to : List ℕ → ℕ → List Floor → List Floor
+raised_to actor number [] = floor actor number ∷ []
+raised_to actor number (f ∷ fs) = raised_here (slice_cmp nat_cmp actor f.actor) actor number f fs (raised_to actor number fs)
+
+-- floors that are at least the numbers of requests
+abbrev pub raised_by : List KeptReply → List Floor → List Floor
+raised_by [] floors = floors
+raised_by (k ∷ ks) floors = raised_by ks (raised_to k.actor k.number floors)
+
+-- the replies that a sweep takes away
+abbrev pub kept_before : ℕ → List KeptReply → List KeptReply
+kept_before before kept = filter (λ k. not (is_since before k)) kept

@@ -1,6 +1,0 @@
-use Rattle.std.proofs.Common.{◌≡◌, ◌++◌, drop}
-use Rattle.machine.specs.Events.{notices_of}
-use Rattle.judging.proofs.changes.notices_of.Given as goal
-
-abbrev pub invariant-loop-change : goal.invariant-loop-change
-invariant-loop-change l = l.out ++ notices_of (drop l.change-index l.changes) ≡ notices_of l.changes

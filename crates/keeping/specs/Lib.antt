@@ -1,4 +1,0 @@
-pub mod Rows
-pub mod Changes
-pub mod Shown
-pub mod Judged

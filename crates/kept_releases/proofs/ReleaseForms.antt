@@ -1,0 +1,182 @@
+-- The fields of a release that is read have their forms, and it is valid.
+use Rattle.std.proofs.Common.{◌≡◌, ℕ, true, List, Option, None, Some, IfSome, codes, refl}
+use Rattle.std.specs.Prelude.{is_some}
+use Rattle.std.specs.List.{AllByRecursion}
+use Rattle.std.specs.Str.{is_utf8}
+use Rattle.std.proofs.lemmas.Str.{IsUtf8-from_is_utf8}
+use Rattle.serde_json.specs.Data.{Data}
+use Rattle.serde_json.specs.Find.{get, as_null}
+use Rattle.ops_tables.specs.Forms.{is_person}
+use Rattle.plan.specs.Texts.{IsMoment, HasMoment}
+use Rattle.plan.specs.declared.release.Phase.{Phase}
+use Rattle.plan.specs.declared.release.Phase.TheVariants.{Drafted, Ready, Flying, Stopped, Completed, Cancelled}
+use Rattle.plan.specs.declared.release.Release.{Release}
+use Rattle.plan.specs.declared.release.Revision.{Revision}
+use Rattle.plan.specs.declared.release.Signature.{Signature}
+use Rattle.call_json.specs.Canonical.{IsId, HasForms}
+use Rattle.call_json.specs.Digests.{digest_of, digest_at, IsDigest}
+use Rattle.call_json.specs.Fields.{text_at, id_at, moment_at, list_at, has_members}
+use Rattle.call_json.specs.Plans.{plan_of}
+use Rattle.kept_releases.specs.Kept.{IsAttached, IsSignature, IsRevision, IsFormed, IsKept, is_valid}
+use Rattle.kept_releases.specs.Phases.{IsPhase, phase_of}
+use Rattle.kept_releases.specs.Plans.{MayHavePlan, HasPlans}
+use Rattle.kept_releases.specs.Releases.{bool_at, person, person_at, attached_with, attached_of, attached_at, signature_of, signature_in, signature_at, signatures_of, head_of, plan_at, revision_of, revision_in, revision_at, revisions_of, phase_at, release_in, release_of}
+use Rattle.kept_releases.specs.Rows.{SignedAtMoment, RevisionHasMoments, ReleaseHasMoments}
+use Rattle.kept_releases.specs.declared.revisions.Head.{Head}
+use Rattle.kept_releases.specs.declared.revisions.Signatures.{Signatures}
+use Rattle.kept_releases.specs.declared.releases.Revisions.{Revisions}
+use Rattle.call_json.proofs.Chains.{bind_if, bind_any, then_if, under, either, weaker}
+use Rattle.kept_releases.proofs.KeptLaws.{valid_from_test}
+use Rattle.kept_releases.proofs.PhaseLaws.{phase_formed}
+use Rattle.call_json.proofs.DigestLaws.{digest_formed}
+use Rattle.call_json.proofs.PlanForms.{id_formed, moment_formed, each_formed, plan_formed, plan_from_forms}
+
+-- ---- fields
+
+digest_at_formed : (key : List ℕ) (d : Data) → IfSome (digest_at key d) IsDigest
+digest_at_formed key d = then_if digest_of (text_at key d) IsDigest digest_formed
+
+abbrev IsPerson : List ℕ → Type 0
+IsPerson t = is_person t ≡ true
+
+person_formed : (key : List ℕ) (d : Data) → IfSome (person_at key d) IsPerson
+person_formed key d = then_if person (text_at key d) IsPerson (λ t. under (is_person t) (Some t) IsPerson (λ is. is))
+
+-- ---- revisions
+
+with_formed : (report : ℕ) (text : List ℕ) → IsId report → IfSome (attached_with report text) IsAttached
+with_formed report text is = under (is_utf8 text) _ IsAttached (λ good. record { report = is; text = IsUtf8-from_is_utf8 text good })
+
+attached_formed : (d : Data) → IfSome (attached_of d) IsAttached
+attached_formed d =
+    bind_if (id_at (codes "report") d) _ IsId IsAttached (id_formed (codes "report") d) (λ report is.
+    bind_any (text_at (codes "text") d) _ IsAttached (λ text. under (has_members 2 d) (attached_with report text) IsAttached (λ exact. with_formed report text is)))
+
+all_formed : (d : Data) → IfSome (attached_at d) (AllByRecursion IsAttached)
+all_formed d = bind_any (list_at (codes "attached") d) _ (AllByRecursion IsAttached) (λ ds. each_formed IsAttached attached_of attached_formed ds)
+
+signature_formed : (d : Data) → IfSome (signature_of d) IsSignature
+signature_formed d =
+    bind_if (person_at (codes "actor") d) _ IsPerson IsSignature (person_formed (codes "actor") d) (λ actor is_actor.
+    bind_if (moment_at (codes "at") d) _ IsMoment IsSignature (moment_formed (codes "at") d) (λ at is_at.
+    bind_if (digest_at (codes "digest") d) _ IsDigest IsSignature (digest_at_formed (codes "digest") d) (λ digest is_digest.
+    under (has_members 3 d) _ IsSignature (λ exact. record { actor = is_actor; at = is_at; digest = is_digest }))))
+
+abbrev MayBeSignature : Option Signature → Type 0
+MayBeSignature s = IfSome s IsSignature
+
+signature_in_formed : (d : Data) → IfSome (signature_in d) MayBeSignature
+unfolding signature_in
+signature_in_formed d = either (is_some (as_null d)) _ _ MayBeSignature tt (bind_if (signature_of d) _ IsSignature MayBeSignature (signature_formed d) (λ s is. is))
+
+signature_at_formed : (key : List ℕ) (d : Data) → IfSome (signature_at key d) MayBeSignature
+signature_at_formed key d = then_if signature_in (get key d) MayBeSignature signature_in_formed
+
+record AreSignatures (s : Signatures) : Type 0 where
+  first : MayBeSignature s.dispatcher
+  second : MayBeSignature s.captain
+
+signatures_formed : (d : Data) → IfSome (signatures_of d) AreSignatures
+signatures_formed d =
+    bind_if (signature_at (codes "dispatcher") d) _ MayBeSignature AreSignatures (signature_at_formed (codes "dispatcher") d) (λ dispatcher one.
+    bind_if (signature_at (codes "captain") d) _ MayBeSignature AreSignatures (signature_at_formed (codes "captain") d) (λ captain two. record { first = one; second = two }))
+
+abbrev IsHead : Head → Type 0
+IsHead h = IsId h.number
+
+head_formed : (d : Data) → IfSome (head_of d) IsHead
+head_formed d =
+    bind_if (id_at (codes "number") d) _ IsId IsHead (id_formed (codes "number") d) (λ number is. bind_any (bool_at (codes "prepared") d) _ IsHead (λ prepared. under (has_members 6 d) _ IsHead (λ exact. is)))
+
+plan_at_formed : (d : Data) → IfSome (plan_at d) HasForms
+plan_at_formed d = then_if plan_of (get (codes "plan") d) HasForms plan_formed
+
+revision_formed : (d : Data) → IfSome (revision_of d) IsRevision
+revision_formed d =
+    bind_if (head_of d) _ IsHead IsRevision (head_formed d) (λ h is_head.
+    bind_if (plan_at d) _ HasForms IsRevision (plan_at_formed d) (λ plan is_plan.
+    bind_if (signatures_of d) _ AreSignatures IsRevision (signatures_formed d) (λ s are.
+    bind_if (attached_at d) _ (AllByRecursion IsAttached) IsRevision (all_formed d) (λ attached all.
+    record { number = is_head; plan = is_plan; attached = all; dispatcher = are.first; captain = are.second }))))
+
+abbrev MayBeRevision : Option Revision → Type 0
+MayBeRevision v = IfSome v IsRevision
+
+revision_in_formed : (d : Data) → IfSome (revision_in d) MayBeRevision
+unfolding revision_in
+revision_in_formed d = either (is_some (as_null d)) _ _ MayBeRevision tt (bind_if (revision_of d) _ IsRevision MayBeRevision (revision_formed d) (λ v is. is))
+
+revision_at_formed : (key : List ℕ) (d : Data) → IfSome (revision_at key d) MayBeRevision
+revision_at_formed key d = then_if revision_in (get key d) MayBeRevision revision_in_formed
+
+record AreRevisions (v : Revisions) : Type 0 where
+  later : MayBeRevision v.pending
+  earlier : MayBeRevision v.active
+
+revisions_formed : (d : Data) → IfSome (revisions_of d) AreRevisions
+revisions_formed d =
+    bind_if (revision_at (codes "pending") d) _ MayBeRevision AreRevisions (revision_at_formed (codes "pending") d) (λ pending one.
+    bind_if (revision_at (codes "active") d) _ MayBeRevision AreRevisions (revision_at_formed (codes "active") d) (λ active two. record { later = one; earlier = two }))
+
+-- ---- releases
+
+phase_at_formed : (d : Data) → IfSome (phase_at d) IsPhase
+phase_at_formed d = then_if phase_of (text_at (codes "phase") d) IsPhase phase_formed
+
+moment_of_phase : (p : Phase) → IsPhase p → HasMoment p
+moment_of_phase Drafted is = tt
+moment_of_phase Ready is = tt
+moment_of_phase (Flying leg) is = tt
+moment_of_phase (Stopped next since again) is = is.1
+moment_of_phase (Completed at) is = is
+moment_of_phase (Cancelled at) is = is
+
+pub release_formed : (id : ℕ) (d : Data) → IfSome (release_in id d) IsFormed
+unfolding release_in
+release_formed id d =
+    bind_if (person_at (codes "holder") d) _ IsPerson IsFormed (person_formed (codes "holder") d) (λ holder is_holder.
+    bind_if (phase_at d) _ IsPhase IsFormed (phase_at_formed d) (λ phase is_phase.
+    bind_if (revisions_of d) _ AreRevisions IsFormed (revisions_formed d) (λ v are.
+    under (has_members 4 d) _ IsFormed (λ exact. record { holder = is_holder; moment = moment_of_phase phase is_phase; pending = are.later; active = are.earlier }))))
+
+may_have_plan : (v : Option Revision) → IfSome v IsRevision → MayHavePlan v
+may_have_plan None is = tt
+may_have_plan (Some v) is = plan_from_forms v.plan is.plan
+
+has_plans : (r : Release) → IsFormed r → HasPlans r
+has_plans r is = record { pending = may_have_plan r.pending is.pending; active = may_have_plan r.active is.active }
+
+-- each plan of what is read is one whose text can be made
+pub release_plans : (id : ℕ) (d : Data) → IfSome (release_in id d) HasPlans
+release_plans id d = weaker (release_in id d) (release_formed id d) has_plans
+
+-- only valid releases are read
+pub release_kept : (id : ℕ) (d : Data) → IfSome (release_of id d) IsKept
+unfolding release_of
+release_kept id d =
+    bind_if (release_in id d) _ IsFormed IsKept (release_formed id d) (λ r formed. under (is_valid r) (Some r) IsKept (λ is. record { formed = formed; valid = valid_from_test r is }))
+
+abbrev IsNamed : ℕ → Release → Type 0
+IsNamed id r = r.id ≡ id
+
+in_named : (id : ℕ) (d : Data) → IfSome (release_in id d) (IsNamed id)
+unfolding release_in
+in_named id d =
+    bind_any (person_at (codes "holder") d) _ (IsNamed id) (λ holder. bind_any (phase_at d) _ (IsNamed id) (λ phase. bind_any (revisions_of d) _ (IsNamed id) (λ v. under (has_members 4 d) _ (IsNamed id) (λ exact. refl))))
+
+-- what is read has the id that was asked for
+pub release_named : (id : ℕ) (d : Data) → IfSome (release_of id d) (IsNamed id)
+unfolding release_of
+release_named id d = bind_if (release_in id d) _ (IsNamed id) (IsNamed id) (in_named id d) (λ r same. under (is_valid r) (Some r) (IsNamed id) (λ is. same))
+
+signed_at : (s : Option Signature) → IfSome s IsSignature → SignedAtMoment s
+signed_at None is = tt
+signed_at (Some s) is = is.at
+
+revision_moments : (v : Option Revision) → IfSome v IsRevision → IfSome v RevisionHasMoments
+revision_moments None is = tt
+revision_moments (Some v) is = record { is_plan = plan_from_forms v.plan is.plan; dispatcher = signed_at v.dispatcher is.dispatcher; captain = signed_at v.captain is.captain }
+
+-- the moments of a release whose fields have their forms can be shown
+pub moments_formed : (r : Release) → IsFormed r → ReleaseHasMoments r
+moments_formed r is = record { moment = is.moment; pending = revision_moments r.pending is.pending; active = revision_moments r.active is.active }

@@ -1,0 +1,117 @@
+-- The JSON of a valid release is read as it.
+use Rattle.std.proofs.Common.{◌≡◌, ℕ, ◌≤◌, Bool, true, false, List, [], ◌++◌, Option, None, Some, IfSome, IsUtf8, codes, decimal, refl, ap, ◌∙◌, arith}
+use Rattle.std.specs.Prelude.{nat_lt}
+use Rattle.std.specs.List.{list_all}
+use Rattle.std.specs.Str.Lossy.{utf8_lossy}
+use Rattle.std.proofs.lemmas.Bool.{and_parts}
+use Rattle.std.proofs.lemmas.Bool.Decides.{nat_tests}
+use Rattle.std.proofs.lemmas.Fmt.{IsAscii-decimal}
+use Rattle.std.proofs.lemmas.Str.{IsUtf8-append, IsUtf8-from_ascii, utf8_lossy-IsUtf8, is_utf8-from_IsUtf8}
+use Rattle.json.proofs.Printed.Utf8.{IsUtf8-are_ascii}
+use Rattle.serde_json.specs.Data.{Data}
+use Rattle.desk_time.specs.Moments.{shown}
+use Rattle.ops_tables.specs.Forms.{in_person, is_person}
+use Rattle.plan.specs.Texts.{HasMoment, phase_text, again_text}
+use Rattle.plan.specs.declared.release.Attached.{Attached}
+use Rattle.plan.specs.declared.release.Phase.{Phase}
+use Rattle.plan.specs.declared.release.Phase.TheVariants.{Drafted, Ready, Flying, Stopped, Completed, Cancelled}
+use Rattle.plan.specs.declared.release.Release.{Release}
+use Rattle.plan.specs.declared.release.Revision.{Revision}
+use Rattle.plan.specs.declared.release.Signature.{Signature}
+use Rattle.call_json.proofs.Again.{id_again, moment_again, plan_again, each_again}
+use Rattle.call_json.proofs.Texts.{passing_utf8, moment_utf8}
+use Rattle.call_json.proofs.DigestLaws.{digest_again}
+use Rattle.kept_releases.specs.Kept.{IsAttached, IsSignature, IsRevision, IsFormed, IsKept, IsPhased, HasLegs}
+use Rattle.kept_releases.specs.Phases.{IsPhase, phase_of}
+use Rattle.kept_releases.specs.Releases.{person, attached_with, attached_of, signature_in, revision_in, release_in, release_of}
+use Rattle.kept_releases.specs.Rows.{attached_data, signature_data, revision_data, release_data}
+use Rattle.kept_releases.proofs.KeptLaws.{test_from_valid}
+use Rattle.kept_releases.proofs.PhaseLaws.{phase_again}
+
+-- ---- texts
+
+ascii : (b : ℕ) → in_person b ≡ true → nat_lt b 128 ≡ true
+ascii b is = grind (arith, nat_tests, is)
+
+person_utf8 : (t : List ℕ) → is_person t ≡ true → IsUtf8 t
+unfolding is_person
+person_utf8 t is = passing_utf8 in_person ascii t ((and_parts _ (list_all in_person t) is).1)
+
+person_again : (t : List ℕ) → is_person t ≡ true → person (utf8_lossy t) ≡ Some t
+person_again t is = rw (utf8_lossy-IsUtf8 t (person_utf8 t is), is) refl
+
+decimal_utf8 : (n : ℕ) → n ≤ 4_294_967_295 → IsUtf8 (decimal n)
+decimal_utf8 n few = IsUtf8-from_ascii (decimal n) (IsAscii-decimal n (omega arith))
+
+again_utf8 : (again : Bool) → IsUtf8 (again_text again ++ [])
+again_utf8 true = IsUtf8-are_ascii _ refl
+again_utf8 false = IsUtf8-are_ascii _ refl
+
+pub phase_utf8 : (p : Phase) → IsPhase p → IsUtf8 (phase_text p)
+unfolding phase_text
+phase_utf8 Drafted is = IsUtf8-are_ascii _ refl
+phase_utf8 Ready is = IsUtf8-are_ascii _ refl
+phase_utf8 (Flying leg) is = IsUtf8-append (codes "FLYING ") (decimal leg) (IsUtf8-are_ascii _ refl) (decimal_utf8 leg is)
+phase_utf8 (Stopped next since again) is =
+    IsUtf8-append (codes "STOPPED ") (decimal next ++ (codes " " ++ (shown since ++ (again_text again ++ [])))) (IsUtf8-are_ascii _ refl)
+    (IsUtf8-append (decimal next) (codes " " ++ (shown since ++ (again_text again ++ []))) (decimal_utf8 next is.0)
+    (IsUtf8-append (codes " ") (shown since ++ (again_text again ++ [])) (IsUtf8-are_ascii _ refl)
+    (IsUtf8-append (shown since) (again_text again ++ []) (moment_utf8 since (omega (arith, is.1))) (again_utf8 again))))
+phase_utf8 (Completed at) is = IsUtf8-append (codes "COMPLETED ") (shown at) (IsUtf8-are_ascii _ refl) (moment_utf8 at (omega (arith, is)))
+phase_utf8 (Cancelled at) is = IsUtf8-append (codes "CANCELLED ") (shown at) (IsUtf8-are_ascii _ refl) (moment_utf8 at (omega (arith, is)))
+
+text_again : (report : ℕ) (t : List ℕ) → IsUtf8 t → attached_with report (utf8_lossy t) ≡ Some (record { report = report; text = t })
+text_again report t is = rw (utf8_lossy-IsUtf8 t is, is_utf8-from_IsUtf8 t is) refl
+
+phase_text_again : (p : Phase) → IsPhase p → phase_of (utf8_lossy (phase_text p)) ≡ Some p
+phase_text_again p is = ap phase_of (utf8_lossy-IsUtf8 (phase_text p) (phase_utf8 p is)) ∙ phase_again p is
+
+-- ---- revisions
+
+attached_again : (a : Attached) → IsAttached a → attached_of (attached_data a) ≡ Some a
+attached_again a is = rw (id_again a.report is.report, text_again a.report a.text is.text) refl
+
+signature_again : (s : Option Signature) → IfSome s IsSignature → signature_in (signature_data s) ≡ Some s
+unfolding signature_in signature_data
+signature_again None is = refl
+signature_again (Some s) is = rw (person_again s.actor is.actor, moment_again s.at is.at, digest_again s.digest is.digest) refl
+
+revision_again : (v : Option Revision) → IfSome v IsRevision → revision_in (revision_data v) ≡ Some v
+unfolding revision_in revision_data
+revision_again None is = refl
+revision_again (Some v) is =
+    rw (
+      id_again v.number is.number,
+      plan_again v.plan is.plan,
+      signature_again v.dispatcher is.dispatcher,
+      signature_again v.captain is.captain,
+      each_again IsAttached attached_of attached_data attached_again v.attached is.attached,
+    ) refl
+
+-- ---- releases
+
+phase_of_kept : (p : Phase) (pending active : Option Revision) → HasMoment p → IsPhased p pending active → IfSome active IsRevision → IfSome active (HasLegs p) → IsPhase p
+phase_of_kept Drafted pending active moment phased formed legs = tt
+phase_of_kept Ready pending active moment phased formed legs = tt
+phase_of_kept (Flying leg) pending None moment phased formed legs = absurd phased
+phase_of_kept (Flying leg) pending (Some v) moment phased formed legs = omega (arith, formed.plan.few, legs.fits.1)
+phase_of_kept (Stopped next since again) pending None moment phased formed legs = absurd phased
+phase_of_kept (Stopped next since again) pending (Some v) moment phased formed legs = (omega (arith, formed.plan.few, legs.fits.1), moment)
+phase_of_kept (Completed at) pending active moment phased formed legs = moment
+phase_of_kept (Cancelled at) pending active moment phased formed legs = moment
+
+pub phase_kept : (r : Release) → IsKept r → IsPhase r.phase
+phase_kept r is = phase_of_kept r.phase r.pending r.active is.formed.moment is.valid.phased is.formed.active is.valid.active_legs
+
+in_again : (r : Release) → IsFormed r → IsPhase r.phase → release_in r.id (release_data r) ≡ Some r
+unfolding release_in release_data
+in_again r is phase =
+    rw (person_again r.holder is.holder, phase_text_again r.phase phase, revision_again r.pending is.pending, revision_again r.active is.active) refl
+
+-- the release that is written is read
+pub release_again : (r : Release) → IsKept r → release_of r.id (release_data r) ≡ Some r
+unfolding release_of
+release_again r is = rw (in_again r is.formed (phase_kept r is), test_from_valid r is.valid) refl
+
+pub release_at_again : (id : ℕ) (d : Data) (r : Release) → IsKept r → r.id ≡ id → d ≡ release_data r → release_of id d ≡ Some r
+release_at_again id d r is same says = rw (says, ← same) (release_again r is)

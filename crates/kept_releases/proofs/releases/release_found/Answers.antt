@@ -1,0 +1,11 @@
+use Rattle.std.proofs.Common.{sym, subst, Option, IfSome}
+use Rattle.std.proofs.lemmas.Result.{IfOk-weaker}
+use Rattle.serde_json.specs.View.{view}
+use Rattle.plan.specs.declared.release.Release.{Release}
+use Rattle.kept_releases.specs.Plans.{HasPlans}
+use Rattle.kept_releases.proofs.ReleaseForms.{release_plans}
+use Rattle.kept_releases.proofs.releases.release_found.Goals as goal
+
+pub returns-clause-plans : goal.returns-clause-plans
+returns-clause-plans c =
+    IfOk-weaker c.release_in.result _ _ (λ r is. subst (λ (o : Option Release). IfSome o HasPlans) (sym is) (release_plans c.args.id (view c.args.value.now))) c.release_in.ensures

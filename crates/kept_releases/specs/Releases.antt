@@ -1,0 +1,120 @@
+-- The release of a JSON object. It has the keys that are named here, and no other.
+use Rattle.std.specs.Prelude.{◌≡◌, ℕ, Bool, if◌then◌else◌, List, Option, None, Some, codes, option_and_then, is_some}
+use Rattle.std.specs.Str.{is_utf8}
+use Rattle.serde_json.specs.Data.{Data}
+use Rattle.serde_json.specs.Find.{get, as_null, as_bool}
+use Rattle.desk_time.specs.Digits.{◌>>=◌}
+use Rattle.ops_tables.specs.Forms.{is_person}
+use Rattle.plan.specs.declared.flights.Plan.{Plan}
+use Rattle.plan.specs.declared.release.Attached.{Attached}
+use Rattle.plan.specs.declared.release.Phase.{Phase}
+use Rattle.plan.specs.declared.release.Release.{Release}
+use Rattle.plan.specs.declared.release.Revision.{Revision}
+use Rattle.plan.specs.declared.release.Signature.{Signature}
+use Rattle.call_json.specs.Digests.{digest_at}
+use Rattle.call_json.specs.Fields.{text_at, id_at, moment_at, list_at, each_read, has_members}
+use Rattle.call_json.specs.Plans.{plan_of}
+use Rattle.kept_releases.specs.Kept.{is_valid, IsKept}
+use Rattle.kept_releases.specs.Phases.{phase_of}
+use Rattle.kept_releases.specs.Rows.{release_data}
+use Rattle.kept_releases.specs.declared.revisions.Head.{Head}
+use Rattle.kept_releases.specs.declared.revisions.Signatures.{Signatures}
+use Rattle.kept_releases.specs.declared.releases.Revisions.{Revisions}
+
+abbrev pub bool_at : List ℕ → Data → Option Bool
+bool_at key d = option_and_then as_bool (get key d)
+
+-- the name of a person
+abbrev pub person : List ℕ → Option (List ℕ)
+person t = if is_person t then Some t else None
+
+abbrev pub person_at : List ℕ → Data → Option (List ℕ)
+person_at key d = option_and_then person (text_at key d)
+
+-- an attached report, whose text is UTF-8
+abbrev pub attached_with : ℕ → List ℕ → Option Attached
+attached_with report text = if is_utf8 text then Some (record { report = report; text = text }) else None
+
+abbrev pub attached_of : Data → Option Attached
+attached_of d =
+    id_at (codes "report") d >>= λ report. text_at (codes "text") d >>= λ text. if has_members 2 d then attached_with report text else None
+
+abbrev pub attached_at : Data → Option (List Attached)
+attached_at d = list_at (codes "attached") d >>= λ ds. each_read attached_of ds
+
+-- a signature
+abbrev pub signature_of : Data → Option Signature
+signature_of d =
+    person_at (codes "actor") d >>= λ actor. moment_at (codes "at") d >>= λ at. digest_at (codes "digest") d >>= λ digest.
+    if has_members 3 d then Some (record { actor = actor; at = at; digest = digest }) else None
+
+-- null, or a signature
+unfoldable pub signature_in : Data → Option (Option Signature)
+signature_in d = if is_some (as_null d) then Some None else (signature_of d >>= λ s. Some (Some s))
+
+abbrev pub signature_at : List ℕ → Data → Option (Option Signature)
+signature_at key d = option_and_then signature_in (get key d)
+
+abbrev pub signatures_of : Data → Option Signatures
+signatures_of d =
+    signature_at (codes "dispatcher") d >>= λ dispatcher. signature_at (codes "captain") d >>= λ captain.
+    Some (record { dispatcher = dispatcher; captain = captain })
+
+-- the number of a revision, and whether it is prepared
+abbrev pub head_of : Data → Option Head
+head_of d =
+    id_at (codes "number") d >>= λ number. bool_at (codes "prepared") d >>= λ prepared.
+    if has_members 6 d then Some (record { number = number; prepared = prepared }) else None
+
+abbrev pub plan_at : Data → Option Plan
+plan_at d = option_and_then plan_of (get (codes "plan") d)
+
+abbrev pub revision_with : Head → Plan → Signatures → List Attached → Revision
+revision_with h plan s attached = record {
+  number = h.number;
+  plan = plan;
+  prepared = h.prepared;
+  attached = attached;
+  dispatcher = s.dispatcher;
+  captain = s.captain;
+}
+
+-- a revision
+abbrev pub revision_of : Data → Option Revision
+revision_of d =
+    head_of d >>= λ h. plan_at d >>= λ plan. signatures_of d >>= λ s. attached_at d >>= λ attached. Some (revision_with h plan s attached)
+
+-- null, or a revision
+unfoldable pub revision_in : Data → Option (Option Revision)
+revision_in d = if is_some (as_null d) then Some None else (revision_of d >>= λ v. Some (Some v))
+
+abbrev pub revision_at : List ℕ → Data → Option (Option Revision)
+revision_at key d = option_and_then revision_in (get key d)
+
+abbrev pub revisions_of : Data → Option Revisions
+revisions_of d =
+    revision_at (codes "pending") d >>= λ pending. revision_at (codes "active") d >>= λ active.
+    Some (record { pending = pending; active = active })
+
+abbrev pub phase_at : Data → Option Phase
+phase_at d = option_and_then phase_of (text_at (codes "phase") d)
+
+abbrev pub release_with : ℕ → List ℕ → Phase → Revisions → Release
+release_with id holder phase v = record { id = id; holder = holder; phase = phase; pending = v.pending; active = v.active }
+
+-- the release that an object says, valid or not
+unfoldable pub release_in : ℕ → Data → Option Release
+release_in id d =
+    person_at (codes "holder") d >>= λ holder. phase_at d >>= λ phase. revisions_of d >>= λ v.
+    if has_members 4 d then Some (release_with id holder phase v) else None
+
+abbrev pub if_valid : Release → Option Release
+if_valid r = if is_valid r then Some r else None
+
+-- the release of that id, where an object says one that is valid
+unfoldable pub release_of : ℕ → Data → Option Release
+release_of id d = release_in id d >>= λ r. if_valid r
+
+-- What is read of some JSON. Where it is that of a valid release with that id, it is this release.
+abbrev pub IsReleaseAgain : ℕ → Data → Option Release → Type 0
+IsReleaseAgain id d read = (r : Release) → IsKept r → r.id ≡ id → d ≡ release_data r → read ≡ Some r

@@ -1,0 +1,111 @@
+-- What is made of records by their kinds is the state that they stand for.
+use Rattle.std.proofs.Common.{◌≡◌, ℕ, ◌+◌, ◌<◌, List, [], ◌∷◌, ◌++◌, append-nil, Option, None, Some, IfSome, refl, sym, ap, ◌∙◌, subst}
+use Rattle.std.specs.List.{filter_map}
+use Rattle.std.specs.Option.{option_map}
+use Rattle.std.proofs.lemmas.List.{append_assoc}
+use Rattle.std.proofs.lemmas.List.Elements.{All-from_recursion, recursion_from_All}
+use Rattle.ops_tables.specs.Tables.{TableRows}
+use Rattle.records.specs.Faults.{meta_from}
+use Rattle.records.specs.Valid.{IsRecord, IsReport}
+use Rattle.records.specs.declared.record.Meta.{Meta as MetaOf}
+use Rattle.records.specs.declared.record.Record.{Record}
+use Rattle.records.specs.declared.record.Record.TheVariants.{Meta, Report, Deferral, Release, Kept, Alert}
+use Rattle.kept_state.specs.Held.{AreOfDesk, alert_in, deferral_in, meta_in, release_in, reply_in, report_in, state_by, state_in}
+use Rattle.kept_state.specs.Parting.{Kinds, first_of, no_kinds, with_record, with_records}
+use Rattle.kept_state.specs.Restoring.{Holds, MayHold, state_by_held, state_held}
+use Rattle.kept_state.specs.declared.restoring.Held.{Held}
+use Rattle.kept_state.proofs.Lists.{all_pairs, each_mapped, weaker_pairs}
+use Rattle.kept_state.proofs.PartLaws.{AreApart, deferral_pairs, deferrals_few, kept_apart}
+use Rattle.kept_state.proofs.ReleaseLaws.{Below, release_pairs}
+
+-- ---- the kinds of records
+
+-- the first of two meta records, where each may be none
+abbrev first : Option MetaOf → Option MetaOf → Option MetaOf
+first None later = later
+first (Some m) later = Some m
+
+first_more : (o : Option MetaOf) (m : MetaOf) (later : Option MetaOf) → first (first_of o m) later ≡ first o (Some m)
+first_more None m later = refl
+first_more (Some other) m later = refl
+
+first_none : (o : Option MetaOf) → first o None ≡ o
+first_none None = refl
+first_none (Some m) = refl
+
+abbrev metas : ℕ → List Record → Option MetaOf
+metas place rs = option_map (λ found. found.1) (meta_from place rs)
+
+-- some kinds, and those of more records
+abbrev joined : Kinds → ℕ → List Record → Kinds
+joined k place rs = record {
+  meta = first k.meta (metas place rs);
+  reports = k.reports ++ filter_map report_in rs;
+  deferrals = k.deferrals ++ filter_map deferral_in rs;
+  releases = k.releases ++ filter_map release_in rs;
+  replies = k.replies ++ filter_map reply_in rs;
+  alerts = k.alerts ++ filter_map alert_in rs;
+}
+
+one_more : (r : Record) (k : Kinds) (place : ℕ) (rs : List Record) → joined (with_record r k) (place + 1) rs ≡ joined k place (r ∷ rs)
+one_more (Meta m) k place rs = ap (λ meta. record (joined k (place + 1) rs) { meta = meta }) (first_more k.meta m (metas (place + 1) rs))
+one_more (Report r) k place rs = ap (λ reports. record (joined k (place + 1) rs) { reports = reports }) (append_assoc k.reports (r ∷ []) (filter_map report_in rs))
+one_more (Deferral d) k place rs = ap (λ deferrals. record (joined k (place + 1) rs) { deferrals = deferrals }) (append_assoc k.deferrals (d ∷ []) (filter_map deferral_in rs))
+one_more (Release r) k place rs = ap (λ releases. record (joined k (place + 1) rs) { releases = releases }) (append_assoc k.releases (r ∷ []) (filter_map release_in rs))
+one_more (Kept r) k place rs = ap (λ replies. record (joined k (place + 1) rs) { replies = replies }) (append_assoc k.replies (r ∷ []) (filter_map reply_in rs))
+one_more (Alert a) k place rs = ap (λ alerts. record (joined k (place + 1) rs) { alerts = alerts }) (append_assoc k.alerts (a ∷ []) (filter_map alert_in rs))
+
+all_joined : (rs : List Record) (k : Kinds) (place : ℕ) → with_records rs k ≡ joined k place rs
+all_joined [] k place = rw (first_none k.meta, append-nil k.reports, append-nil k.deferrals, append-nil k.releases, append-nil k.replies, append-nil k.alerts) refl
+all_joined (r ∷ rs) k place = all_joined rs (with_record r k) (place + 1) ∙ one_more r k place rs
+
+-- the kinds of records
+abbrev pub kinds_in : List Record → Kinds
+kinds_in rs = record {
+  meta = meta_in rs;
+  reports = filter_map report_in rs;
+  deferrals = filter_map deferral_in rs;
+  releases = filter_map release_in rs;
+  replies = filter_map reply_in rs;
+  alerts = filter_map alert_in rs;
+}
+
+pub all_kinds : (rs : List Record) → with_records rs no_kinds ≡ kinds_in rs
+all_kinds rs = all_joined rs no_kinds 0
+
+-- ---- records that can be held
+
+report_valid : (x : Record) → IsRecord x → IfSome (report_in x) IsReport
+unfolding IsRecord
+report_valid (Report r) is = is
+report_valid (Meta m) is = tt
+report_valid (Deferral d) is = tt
+report_valid (Release r) is = tt
+report_valid (Kept k) is = tt
+report_valid (Alert a) is = tt
+
+kinds_hold : (rs : List Record) → AreOfDesk rs → MayHold (kinds_in rs)
+kinds_hold rs are = record {
+  valid = All-from_recursion IsReport (filter_map report_in rs) (each_mapped IsRecord IsReport report_in report_valid rs (recursion_from_All IsRecord rs are.valid));
+  admitted = all_pairs (λ a b. a.id < b.id) (filter_map report_in rs) (weaker_pairs AreApart (λ a b. a.id < b.id) (λ a b is. is.0) (filter_map report_in rs) (kept_apart rs are));
+  deferred = all_pairs (λ a b. a.id < b.id) (filter_map deferral_in rs) (deferral_pairs rs are);
+  few = deferrals_few rs are;
+  filed = all_pairs Below (filter_map release_in rs) (release_pairs rs are);
+}
+
+-- records that are valid, fit together and rise can be held
+pub may_hold : (rs : List Record) (k : Kinds) → AreOfDesk rs → k ≡ with_records rs no_kinds → MayHold k
+may_hold rs k are is = subst MayHold (sym (is ∙ all_kinds rs)) (kinds_hold rs are)
+
+-- ---- the state
+
+held_by : (tables : TableRows) (rs : List Record) (h : Held) (o : Option MetaOf) → Holds (kinds_in rs) h → state_by_held tables o h ≡ state_by tables o rs
+held_by tables rs h None holds = refl
+held_by tables rs h (Some m) holds = rw (holds.reports, holds.deferrals, holds.releases, holds.alerts, holds.kept) refl
+
+-- what is made of records is the state that they stand for
+pub held_state : (tables : TableRows) (rs : List Record) (h : Held) → Holds (with_records rs no_kinds) h → state_held tables h ≡ state_in tables rs
+unfolding state_in
+held_state tables rs h holds =
+    let has = subst (λ k. Holds k h) (all_kinds rs) holds in
+    ap (λ o. state_by_held tables o h) has.meta ∙ held_by tables rs h (meta_in rs) has

@@ -1,0 +1,123 @@
+-- The state that records stand for may be judged and then stand as that of a board.
+use Rattle.std.proofs.Common.{◌≡◌, ◌+◌, ◌<◌, arith, false, ◌||◌, List, Option, None, Some, refl}
+use Rattle.std.specs.Prelude.{nat_lt}
+use Rattle.std.proofs.lemmas.Bool.{ltb-false, leb-false}
+use Rattle.ops_tables.specs.Tables.{TableRows}
+use Rattle.plan.specs.Texts.{IsMoment}
+use Rattle.desk_state.specs.Sound.{AreCounters, AreJudgeable, InBounds, IsBoard}
+use Rattle.desk_state.specs.State.{start}
+use Rattle.desk_state.proofs.Boards.{start_board}
+use Rattle.desk_state.proofs.Parts.{judgeable}
+use Rattle.records.specs.Faults.{outruns}
+use Rattle.records.specs.Valid.{IsRecord}
+use Rattle.records.specs.declared.record.Meta.{Meta as MetaOf}
+use Rattle.records.specs.declared.record.Record.{Record}
+use Rattle.records.specs.declared.record.Record.TheVariants.{Meta}
+use Rattle.kept_state.specs.Held.{AreOfDesk, counters_of, meta_in, state_by, state_in, state_with}
+use Rattle.kept_state.specs.Opening.{MayReopen, reopened}
+use Rattle.kept_state.proofs.Fitting.{HasRoom, IsAmong, meta_among}
+use Rattle.kept_state.proofs.PartLaws.{deferrals_open, or_false, replies_few, replies_numbered, replies_rise, replies_single, reports_few, reports_numbered, reports_rise, reports_unlike}
+use Rattle.kept_state.proofs.ReleaseLaws.{releases_bounded, releases_few, releases_rise, releases_valid}
+use Rattle.kept_state.proofs.AlertLaws.{alerts_are, alerts_own, alerts_told}
+use Rattle.kept_state.proofs.OpeningLaws.{reopened_board}
+
+-- ---- the meta record
+
+few_events : (m : MetaOf) → HasRoom (Meta m) → m.events < 999_999_999_999_999
+few_events m room = leb-false 999_999_999_999_999 m.events room.1
+
+-- what a meta record counts
+record Counts (m : MetaOf) : Type 0 where
+  pub moment : IsMoment m.moment
+  pub room : m.events < 999_999_999_999_999
+  pub counters : AreCounters (counters_of m)
+
+counters_are : (m : MetaOf) → m.events < 999_999_999_999_999 → outruns m ≡ false → AreCounters (counters_of m)
+counters_are m room within =
+    let kept = or_false (nat_lt (m.events + 1) m.next_report || nat_lt (m.events + 1) m.next_deferral || nat_lt (m.events + 1) m.next_release) (nat_lt (m.events + 1) m.next_kept) within in
+    let release = or_false (nat_lt (m.events + 1) m.next_report || nat_lt (m.events + 1) m.next_deferral) (nat_lt (m.events + 1) m.next_release) kept.0 in
+    let deferral = or_false (nat_lt (m.events + 1) m.next_report) (nat_lt (m.events + 1) m.next_deferral) release.0 in
+    record {
+      events = omega (arith, room);
+      report = ltb-false (m.events + 1) m.next_report deferral.0;
+      deferral = ltb-false (m.events + 1) m.next_deferral deferral.1;
+      release = ltb-false (m.events + 1) m.next_release release.1;
+      accepted = ltb-false (m.events + 1) m.next_kept kept.1;
+    }
+
+counts : (rs : List Record) (m : MetaOf) → IsAmong rs m (Meta m) → Counts m
+unfolding IsRecord
+counts rs m is = let room = few_events m is.room in record { moment = is.valid.moment; room = room; counters = counters_are m room is.ahead }
+
+-- ---- the state
+
+bounds : (tables : TableRows) (rs : List Record) (m : MetaOf) → AreOfDesk rs → meta_in rs ≡ Some m → Counts m → InBounds (state_with tables m rs)
+bounds tables rs m are is counts = record {
+  moment = counts.moment;
+  counters = counts.counters;
+  reports = reports_numbered rs m are is;
+  admitted = reports_rise rs are;
+  few = reports_few rs are;
+  deferrals = deferrals_open rs m are is;
+  releases = releases_bounded rs m are is;
+  held = releases_few rs are;
+  replies = replies_numbered rs m are is;
+  accepted = replies_rise rs are;
+  many = let few = replies_few rs are in omega (arith, few);
+  entries = omega arith;
+  forms = tt;
+}
+
+judged_by : (tables : TableRows) (rs : List Record) (m : MetaOf) → AreOfDesk rs → meta_in rs ≡ Some m → AreJudgeable (state_with tables m rs)
+judged_by tables rs m are is = record { own = alerts_own rs m are is; alerts = alerts_are rs m are is; ids = releases_rise rs m are is }
+
+counted_reopens : (tables : TableRows) (rs : List Record) (m : MetaOf) → AreOfDesk rs → meta_in rs ≡ Some m → MayReopen (state_with tables m rs)
+counted_reopens tables rs m are is =
+    let counts = counts rs m (meta_among rs m are is) in
+    record {
+      bounds = bounds tables rs m are is counts;
+      judgeable = judged_by tables rs m are is;
+      told = alerts_told rs m are is;
+      valid = releases_valid rs m are is;
+      unlike = reports_unlike rs are;
+      single = replies_single rs are;
+      room = counts.room;
+      fresh = refl;
+    }
+
+-- the beginning may be judged
+pub start_reopens : (tables : TableRows) → MayReopen (start tables)
+start_reopens tables =
+    let board = start_board tables in
+    record {
+      bounds = board.kept;
+      judgeable = judgeable (start tables) board.sound;
+      told = tt;
+      valid = tt;
+      unlike = board.sound.unlike;
+      single = board.sound.single;
+      room = omega arith;
+      fresh = refl;
+    }
+
+reopens_by : (tables : TableRows) (rs : List Record) (o : Option MetaOf) → AreOfDesk rs → meta_in rs ≡ o → MayReopen (state_by tables o rs)
+reopens_by tables rs None are is = start_reopens tables
+reopens_by tables rs (Some m) are is = counted_reopens tables rs m are is
+
+-- the state that records stand for, where these are valid, fit together and rise
+pub may_reopen : (tables : TableRows) (rs : List Record) → AreOfDesk rs → MayReopen (state_in tables rs)
+unfolding state_in
+may_reopen tables rs are = reopens_by tables rs (meta_in rs) are refl
+
+-- once it is judged it is that of a board
+pub held_board : (tables : TableRows) (rs : List Record) → AreOfDesk rs → IsBoard (reopened (state_in tables rs)) (reopened (state_in tables rs))
+held_board tables rs are = reopened_board (state_in tables rs) (may_reopen tables rs are)
+
+tables_by : (tables : TableRows) (rs : List Record) (o : Option MetaOf) → (state_by tables o rs).tables ≡ tables
+tables_by tables rs None = refl
+tables_by tables rs (Some m) = refl
+
+-- the tables are those under which the desk is opened
+pub same_tables : (tables : TableRows) (rs : List Record) → (state_in tables rs).tables ≡ tables
+unfolding state_in
+same_tables tables rs = tables_by tables rs (meta_in rs)

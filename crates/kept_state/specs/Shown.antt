@@ -1,0 +1,73 @@
+-- Events whose changes can be put into rows: their moments can be shown, and their numbers are small.
+use Rattle.std.specs.Prelude.{ℕ, ◌<◌, List, Option, None, Some, IfSome, All}
+use Rattle.alerts.specs.declared.alert.Alert.{Alert}
+use Rattle.asks.specs.declared.kept.KeptReply.{KeptReply}
+use Rattle.facts.specs.declared.report.Report.{Report}
+use Rattle.plan.specs.Texts.{IsMoment}
+use Rattle.kept_releases.specs.Rows.{ReleaseHasMoments}
+use Rattle.desk_state.specs.declared.change.AlertChange.{AlertChange}
+use Rattle.desk_state.specs.declared.effect.Effect.{Effect}
+use Rattle.desk_state.specs.declared.effect.OnDeferrals.{OnDeferrals}
+use Rattle.desk_state.specs.declared.effect.OnDeferrals.TheVariants as on_deferrals
+use Rattle.desk_state.specs.declared.effect.OnReleases.{OnReleases}
+use Rattle.desk_state.specs.declared.effect.OnReleases.TheVariants as on_releases
+use Rattle.desk_state.specs.Events.{moment_after}
+use Rattle.desk_state.specs.Sound.{AreApart}
+use Rattle.desk_state.specs.State.{State}
+
+-- a number after which there is another one
+abbrev pub IsSmall : ℕ → Type 0
+IsSmall n = n < 10_000_000_000_000_000
+
+abbrev pub WasReceived : Option Report → Type 0
+WasReceived report = IfSome report (λ r. IsMoment r.received)
+
+abbrev pub IsSmallReport : Option Report → Type 0
+IsSmallReport report = IfSome report (λ r. IsSmall r.id)
+
+abbrev pub WasFound : OnDeferrals → Type 0
+WasFound on_deferrals.Nothing = Unit {0}
+WasFound (on_deferrals.Open d) = IsMoment d.found
+WasFound (on_deferrals.Clear id) = Unit {0}
+
+abbrev pub IsSmallDeferral : OnDeferrals → Type 0
+IsSmallDeferral on_deferrals.Nothing = Unit {0}
+IsSmallDeferral (on_deferrals.Open d) = IsSmall d.id
+IsSmallDeferral (on_deferrals.Clear id) = Unit {0}
+
+abbrev pub IsShownRelease : OnReleases → Type 0
+IsShownRelease on_releases.Nothing = Unit {0}
+IsShownRelease (on_releases.File r) = ReleaseHasMoments r
+IsShownRelease (on_releases.Put r) = ReleaseHasMoments r
+IsShownRelease (on_releases.Remove id) = Unit {0}
+
+abbrev pub IsSmallRelease : OnReleases → Type 0
+IsSmallRelease on_releases.Nothing = Unit {0}
+IsSmallRelease (on_releases.File r) = IsSmall r.id
+IsSmallRelease (on_releases.Put r) = Unit {0}
+IsSmallRelease (on_releases.Remove id) = Unit {0}
+
+abbrev pub WasAccepted : Option KeptReply → Type 0
+WasAccepted kept = IfSome kept (λ k. IsMoment k.at)
+
+abbrev pub WasOpened : Option Alert → Type 0
+WasOpened alert = IfSome alert (λ a. IsMoment a.opened)
+
+-- numbers after which there are others
+pub record AreSmall (s : State) (effect : Effect) : Type 0 where
+  pub events : IsSmall s.counters.events
+  pub accepted : IsSmall s.counters.next_kept
+  pub report : IsSmallReport effect.report
+  pub deferral : IsSmallDeferral effect.on_deferrals
+  pub release : IsSmallRelease effect.on_releases
+
+-- what an event changes can be put into rows
+pub record AreShown (s : State) (effect : Effect) (kept : Option KeptReply) (alerts : List AlertChange) : Type 0 where
+  pub moment : IsMoment (moment_after effect.moment s.moment)
+  pub small : AreSmall s effect
+  pub received : WasReceived effect.report
+  pub apart : AreApart effect.report effect.sweep
+  pub found : WasFound effect.on_deferrals
+  pub release : IsShownRelease effect.on_releases
+  pub accepted : WasAccepted kept
+  pub opened : All (λ c. WasOpened c.after) alerts

@@ -1,0 +1,49 @@
+ghost use Rattle.std.specs.Prelude.{◌≡◌, ◌<◌, All, IfOk};
+ghost use Rattle.desk_state.specs.Contents.{state_of};
+ghost use Rattle.plan.specs.Texts.{IsMoment};
+ghost use Rattle.kept_state.specs.Judged as spec;
+ghost use Rattle.kept_state.specs.Shown.{WasOpened};
+
+use crate::changes::push_alerts;
+use crate::held::put;
+use desk_io::{Change, Copied, OutOfMemory};
+use desk_state::{AlertChange, Content};
+use records::{Meta, Record};
+use std::alloc::Global;
+
+fn meta_after_event(alloc: Global, content: &Content) -> Result<Meta, OutOfMemory>
+    requires { content.now.counters.events < 999_999_999_999_999 }
+    ensures { IfOk result (λ m. m ≡ spec.after_event (state_of content.now)) }
+{
+    let counters = &content.counters;
+    Ok(Meta {
+        moment: content.moment,
+        events: counters.events + 1,
+        next_report: counters.next_report,
+        next_deferral: counters.next_deferral,
+        next_release: counters.next_release,
+        next_kept: counters.next_kept,
+        floors: content.floors.copy(alloc)?,
+    })
+}
+
+/// What a judgement alone changes of the rows: the alerts, and the counters, since it is then an event. Nothing, where it
+/// changes no alert.
+#[tactic(auto, unfolding(crate::specs::Judged::judged_changes))]
+pub fn judged_changes(
+    alloc: Global,
+    content: &Content,
+    alerts: &[AlertChange],
+) -> Result<Vec<Change>, OutOfMemory>
+    requires moment { IsMoment content.now.moment }
+    requires room { content.now.counters.events < 999_999_999_999_999 }
+    requires opened { All (λ c. WasOpened c.after) alerts.now }
+    ensures { IfOk result (λ changes. changes.items ≡ spec.judged_changes (state_of content.now) alerts.now) }
+{
+    let mut changes = Vec::new(alloc);
+    if !alerts.is_empty() {
+        changes.push(put(alloc, Record::Meta(meta_after_event(alloc, content)?))?)?;
+        push_alerts(alloc, &mut changes, alerts)?;
+    }
+    Ok(changes)
+}

@@ -1,0 +1,16 @@
+//! What is kept of the desk's state: the rows of a state, what an event changes of them, and the state that rows stand for.
+#![tactic(auto)]
+
+mod again;
+mod changes;
+mod deferred;
+mod held;
+mod judged;
+mod meta;
+mod parting;
+mod restoring;
+mod telling;
+
+pub use changes::event_changes;
+pub use judged::judged_changes;
+pub use restoring::content_of;

@@ -1,0 +1,94 @@
+ghost use Rattle.std.specs.Prelude.{◌≡◌, IfOk};
+ghost use Rattle.desk_state.specs.Contents.{state_of};
+ghost use Rattle.desk_state.specs.Events as events;
+ghost use Rattle.desk_state.specs.Step as step;
+ghost use Rattle.kept_state.specs.Rows as spec;
+ghost use Rattle.kept_state.specs.Shown.{IsSmall, IsSmallReport, IsSmallDeferral, IsSmallRelease, AreSmall};
+
+use asks::Floors;
+use desk_io::{Copied, OutOfMemory};
+use desk_state::{Content, Effect, Entry, OnDeferrals, OnReleases, Sweep, What};
+use desk_time::Minute;
+use facts::Report;
+use records::Meta;
+use std::alloc::Global;
+
+fn moment_after(to: Option<Minute>, moment: Minute) -> Minute
+    ensures { result ≡ events.moment_after to moment }
+{
+    match to {
+        Some(to) => to,
+        None => moment,
+    }
+}
+
+fn next_report(report: &Option<Report>, next: u64) -> u64
+    requires { IsSmallReport report.now }
+    ensures { result ≡ events.next_report report.now next }
+{
+    match report {
+        Some(report) => report.id + 1,
+        None => next,
+    }
+}
+
+fn next_deferral(on: &OnDeferrals, next: u64) -> u64
+    requires { IsSmallDeferral on.now }
+    ensures { result ≡ events.next_deferral on.now next }
+{
+    match on {
+        OnDeferrals::Open(deferral) => deferral.id + 1,
+        OnDeferrals::Nothing | OnDeferrals::Clear { .. } => next,
+    }
+}
+
+fn next_release(on: &OnReleases, next: u64) -> u64
+    requires { IsSmallRelease on.now }
+    ensures { result ≡ events.next_release on.now next }
+{
+    match on {
+        OnReleases::File(release) => release.id + 1,
+        OnReleases::Nothing | OnReleases::Put(_) | OnReleases::Remove { .. } => next,
+    }
+}
+
+fn next_kept(what: &What, next: u64) -> u64
+    requires { IsSmall next }
+    ensures { result ≡ step.next_kept what.now next }
+{
+    match what {
+        What::Tick { .. } => next,
+        What::Asked { .. } => next + 1,
+    }
+}
+
+fn floors_after<'a>(sweep: &'a Option<Sweep>, floors: &'a Floors) -> &'a Floors
+    ensures { result.now ≡ events.floors_after sweep.now floors.now }
+{
+    match sweep {
+        Some(sweep) => &sweep.floors,
+        None => floors,
+    }
+}
+
+/// The moment, the counters and the floors after an event.
+pub(crate) fn meta_after(
+    alloc: Global,
+    content: &Content,
+    effect: &Effect,
+    entered: &Entry,
+) -> Result<Meta, OutOfMemory>
+    requires { AreSmall (state_of content.now) effect.now }
+    ensures { IfOk result (λ m. m ≡ spec.meta_of (step.entered entered.now (events.effected effect.now (state_of content.now)))) }
+{
+    let counters = &content.counters;
+    Ok(Meta {
+        moment: moment_after(effect.moment, content.moment),
+        events: counters.events + 1,
+        next_report: next_report(&effect.report, counters.next_report),
+        next_deferral: next_deferral(&effect.on_deferrals, counters.next_deferral),
+        next_release: next_release(&effect.on_releases, counters.next_release),
+        next_kept: next_kept(&entered.what, counters.next_kept),
+        floors: floors_after(&effect.sweep, &content.floors).copy(alloc)?,
+    })
+}

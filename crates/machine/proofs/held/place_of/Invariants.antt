@@ -1,6 +1,0 @@
-use Rattle.std.proofs.Common.{◌≡◌, ◌++◌, take, drop}
-use Rattle.machine.specs.Events.{put}
-use Rattle.machine.proofs.held.place_of.Given as goal
-
-abbrev pub invariant-loop-i : goal.invariant-loop-i
-invariant-loop-i l = take l.i l.releases ++ put l.other (drop l.i l.releases) ≡ put l.other l.releases

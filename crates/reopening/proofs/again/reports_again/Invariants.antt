@@ -1,6 +1,0 @@
-use Rattle.std.specs.Vec.Iter.{into_iter_items}
-use Rattle.reopening.proofs.Loops.{ReportsGoOn}
-use Rattle.reopening.proofs.again.reports_again.Given as goal
-
-abbrev pub invariant-loop-report : goal.invariant-loop-report
-invariant-loop-report l = ReportsGoOn l.reports.reports (into_iter_items l.report-iterator) l.fn.kept.items

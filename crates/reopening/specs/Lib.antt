@@ -1,4 +1,0 @@
-pub mod Held
-pub mod Parting
-pub mod Restoring
-pub mod Opening
