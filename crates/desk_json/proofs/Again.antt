@@ -1,19 +1,22 @@
--- What is written of an ask or a call is read again.
-use Rattle.std.proofs.Common.{◌≡◌, ℕ, List, Some, refl}
+-- What is written of a call or a line is read again.
+use Rattle.std.proofs.Common.{◌≡◌, ℕ, List, true, Result, Ok, refl, ap, ◌∙◌}
+use Rattle.std.specs.Prelude.{is_some}
 use Rattle.std.proofs.lemmas.Str.{utf8_lossy-IsUtf8}
+use Rattle.serde_json.specs.Find.{as_object}
 use Rattle.plan.specs.Texts.{IsMoment}
 use Rattle.asks.specs.declared.call.Call.{Call}
 use Rattle.asks.specs.declared.call.Ask.{Ask}
 use Rattle.asks.specs.declared.call.Ask.TheVariants.{Admit, Defer, Clear, Draft, Prepare, Sign, Concur, Amend, Cancel, Depart, Arrive, Acknowledge, Purge, Sweep, ViewBoard, ViewAlerts, ViewRelease, ViewWeather, ViewDeferred}
-use Rattle.call_json.specs.Fields.{data_of}
 use Rattle.call_json.specs.Canonical.{ask_data, AskHasForms, CallHasForms}
 use Rattle.call_json.proofs.DigestLaws.{digest_again}
 use Rattle.call_json.proofs.Again.{small_again, amount_again, short_again, station_again, moment_again, id_again, plan_again}
-use Rattle.desk_json.specs.Calls.{ask_of, line_in, line_of}
-use Rattle.desk_json.specs.Canonical.{line_data}
+use Rattle.desk_json.specs.declared.bad_call.CallFault.{CallFault}
+use Rattle.desk_json.specs.Canonical.{line_data, posted_data, IsLineAgain, IsCallAgain}
+use Rattle.desk_json.specs.Faults.{ask_or_fault, call_in, line_in, read_as, call_or_fault, line_or_fault, Answers}
+use Rattle.desk_json.proofs.Results.{gives}
 
 -- the ask that is written is read
-pub ask_again : (a : Ask) → AskHasForms a → ask_of (ask_data a) ≡ Some a
+ask_again : (a : Ask) → AskHasForms a → ask_or_fault (ask_data a) ≡ Ok a
 unfolding ask_data
 ask_again (Admit text) is = rw (utf8_lossy-IsUtf8 text is) refl
 ask_again (Defer tail item found) is = rw (short_again tail is.0, short_again item is.1, moment_again found is.2) refl
@@ -35,11 +38,26 @@ ask_again (ViewRelease release) is = rw (id_again release is) refl
 ask_again (ViewWeather station) is = rw (station_again station is) refl
 ask_again (ViewDeferred tail) is = rw (short_again tail is) refl
 
-call_again : (at : ℕ) (c : Call) → IsMoment at → CallHasForms c → line_in (line_data at c) ≡ Some (at, c)
+ask_is_object : (a : Ask) → is_some (as_object (ask_data a)) ≡ true
+unfolding ask_data
+ask_is_object a = refl
+
+line_data_again : (at : ℕ) (c : Call) → IsMoment at → CallHasForms c → line_in (line_data at c) ≡ Ok (at, c)
 unfolding line_data
-call_again at c moment is = rw (moment_again at moment, ask_again c.ask is.ask, short_again c.actor is.actor, short_again c.key is.key, small_again c.number 1_000_000_000_000 is.number) refl
+line_data_again at c moment is =
+    rw (ask_is_object c.ask, ask_again c.ask is.ask, moment_again at moment, short_again c.actor is.actor, short_again c.key is.key, small_again c.number 1_000_000_000_000 is.number) refl
+
+posted_again : (c : Call) → CallHasForms c → call_in (posted_data c) ≡ Ok c
+unfolding posted_data
+posted_again c is =
+    rw (ask_is_object c.ask, ask_again c.ask is.ask, short_again c.actor is.actor, short_again c.key is.key, small_again c.number 1_000_000_000_000 is.number) refl
 
 -- a line whose JSON is that of a moment and a call is read as these
-pub line_again : (line : List ℕ) (at : ℕ) (c : Call) → IsMoment at → CallHasForms c → data_of line ≡ Some (line_data at c) → line_of line ≡ Some (at, c)
-unfolding line_of
-line_again line at c moment is same = rw same (call_again at c moment is)
+pub line_again : (line : List ℕ) (r : Result (ℕ × Call) CallFault) → Answers (line_or_fault line) r → IsLineAgain line r
+unfolding line_or_fault
+line_again line r is = λ at c moment forms same. gives (at, c) (line_or_fault line) r (ap (read_as line_in) same ∙ line_data_again at c moment forms) is
+
+-- a text whose JSON is that of a call is read as it
+pub call_again : (text : List ℕ) (r : Result Call CallFault) → Answers (call_or_fault text) r → IsCallAgain text r
+unfolding call_or_fault
+call_again text r is = λ c forms same. gives c (call_or_fault text) r (ap (read_as call_in) same ∙ posted_again c forms) is

@@ -1,162 +1,148 @@
 -- What is read of a call has its forms.
-use Rattle.std.proofs.Common.{ℕ, ◌≤◌, List, None, Some, IfSome, codes}
-use Rattle.std.specs.Str.{bytes_eq}
+use Rattle.std.proofs.Common.{ℕ, ◌≤◌, List, IfSome, IfOk, Result, Ok, Err, Option, None, Some, codes}
+use Rattle.std.specs.Prelude.{is_some, option_and_then}
 use Rattle.serde_json.specs.Data.{Data}
-use Rattle.serde_json.specs.Find.{get}
-use Rattle.desk_time.specs.Digits.{◌>>=◌}
+use Rattle.serde_json.specs.Find.{get, as_object}
+use Rattle.serde_json.specs.View.{view}
+use Rattle.serde_json.specs.declared.value.Value.{Value}
 use Rattle.plan.specs.Texts.{IsMoment}
 use Rattle.asks.specs.declared.call.Ask.{Ask}
-use Rattle.asks.specs.declared.call.Ask.TheVariants.{Admit, Defer, Clear, Draft, Prepare, Amend, Cancel, Acknowledge, Purge, Sweep, ViewBoard, ViewAlerts, ViewRelease, ViewWeather, ViewDeferred}
+use Rattle.asks.specs.declared.call.Ask.TheVariants.{Prepare, Cancel, Purge, ViewRelease}
+use Rattle.asks.specs.declared.bad_call.BadCall.{BadCall}
+use Rattle.asks.specs.declared.call.Call.{Call}
 use Rattle.call_json.specs.Plain.{HasText}
 use Rattle.call_json.specs.Digests.{digest_at, IsDigest}
 use Rattle.call_json.specs.Plans.{plan_of}
-use Rattle.call_json.specs.Fields.{text_at, number_at, id_at, amount_at, short_at, station_at, moment_at, has_members}
+use Rattle.call_json.specs.Fields.{text_at, id_at, amount_at, short_at, station_at, moment_at}
 use Rattle.call_json.specs.Canonical.{IsAmount, IsId, IsShort, HasForms, AskHasForms, CallHasForms}
-use Rattle.call_json.proofs.Chains.{bind_if, bind_any, then_if, under, either}
+use Rattle.call_json.proofs.Chains.{then_if, under}
 use Rattle.call_json.proofs.PlanForms.{IsAirport, number_formed, id_formed, amount_formed, station_formed, moment_formed, plan_formed}
 use Rattle.call_json.proofs.DoneForms.{digest_is}
-use Rattle.call_json.proofs.ValueTexts.{found_has_text, text_formed, short_formed}
+use Rattle.call_json.proofs.ValueTexts.{view_has_text, found_has_text, text_formed, short_formed}
 use Rattle.desk_json.specs.declared.asked.Signed.{Signed}
 use Rattle.desk_json.specs.declared.asked.Flown.{Flown}
-use Rattle.desk_json.specs.Calls.{admit_of, plan_at, draft_of, amend_of, defer_of, clear_of, deferred_of, release_of, prepare_of, cancel_of, signed_of, sign_of, concur_of, flown_of, depart_of, arrive_of, acknowledge_of, purge_of, sweep_of, board_of, alerts_of, view_release_of, weather_of, view_named, ask_on_flight, ask_on_release, ask_on_equipment, ask_named, ask_of, asked_by, call_in}
+use Rattle.desk_json.specs.declared.keys.AskKind.{AskKind}
+use Rattle.desk_json.specs.declared.keys.AskKind.TheVariants as kind
+use Rattle.desk_json.specs.declared.keys.Object.TheVariants as object
+use Rattle.desk_json.specs.declared.bad_call.CallFault.{CallFault}
+use Rattle.desk_json.specs.Canonical.{LineHasForms}
+use Rattle.desk_json.specs.Keys.{and_then, found, only_keys}
+use Rattle.desk_json.specs.Faults.{plan_at, release_of, signed_of, flown_of, ask_of_kind, ask_by, kind_of, ask_or_fault, if_object, object_at, request_at, call_by, call_in, line_in, Answers}
+use Rattle.desk_json.proofs.Results.{told, answered, formed, formed_after}
 
 -- ---- asks
 
-admit_formed : (d : Data) → HasText d → IfSome (admit_of d) AskHasForms
-admit_formed d has = bind_if (text_at (codes "text") d) _ _ AskHasForms (text_formed (codes "text") d has) (λ text is. under (has_members 2 d) (Some (Admit text)) AskHasForms (λ exact. is))
-
-plan_at_formed : (d : Data) → IfSome (plan_at d) HasForms
+plan_at_formed : (d : Data) → IfSome (plan_at (codes "plan") d) HasForms
 plan_at_formed d = then_if plan_of (get (codes "plan") d) HasForms plan_formed
 
-draft_formed : (d : Data) → IfSome (draft_of d) AskHasForms
-draft_formed d = bind_if (plan_at d) _ HasForms AskHasForms (plan_at_formed d) (λ plan is. under (has_members 2 d) (Some (Draft plan)) AskHasForms (λ exact. is))
+id_then : {B : Type 0} (key : List ℕ) (d : Data) (f : ℕ → Result B BadCall) (Q : B → Type 0) → ((n : ℕ) → IsId n → IfOk (told (f n)) Q) → IfOk (told (and_then (found key d (id_at key d)) f)) Q
+id_then key d f Q next = formed key d (id_at key d) f IsId Q (id_formed key d) next
 
-amend_formed : (d : Data) → IfSome (amend_of d) AskHasForms
-amend_formed d =
-    bind_if (id_at (codes "release") d) _ IsId AskHasForms (id_formed (codes "release") d) (λ release is_id.
-    bind_if (plan_at d) _ HasForms AskHasForms (plan_at_formed d) (λ plan is_plan. under (has_members 3 d) (Some (Amend release plan)) AskHasForms (λ exact. (is_id, is_plan))))
+short_then : {B : Type 0} (key : List ℕ) (d : Data) (f : List ℕ → Result B BadCall) (Q : B → Type 0) → HasText d → ((t : List ℕ) → IsShort t → IfOk (told (f t)) Q) → IfOk (told (and_then (found key d (short_at key d)) f)) Q
+short_then key d f Q has next = formed key d (short_at key d) f IsShort Q (short_formed key d has) next
 
-defer_formed : (d : Data) → HasText d → IfSome (defer_of d) AskHasForms
-defer_formed d has =
-    bind_if (short_at (codes "tail") d) _ IsShort AskHasForms (short_formed (codes "tail") d has) (λ tail is_tail.
-    bind_if (short_at (codes "item") d) _ IsShort AskHasForms (short_formed (codes "item") d has) (λ item is_item.
-    bind_if (moment_at (codes "found") d) _ IsMoment AskHasForms (moment_formed (codes "found") d) (λ found is_moment.
-    under (has_members 4 d) (Some (Defer tail item found)) AskHasForms (λ exact. (is_tail, is_item, is_moment)))))
+moment_then : {B : Type 0} (key : List ℕ) (d : Data) (f : ℕ → Result B BadCall) (Q : B → Type 0) → ((m : ℕ) → IsMoment m → IfOk (told (f m)) Q) → IfOk (told (and_then (found key d (moment_at key d)) f)) Q
+moment_then key d f Q next = formed key d (moment_at key d) f IsMoment Q (moment_formed key d) next
 
-clear_formed : (d : Data) → IfSome (clear_of d) AskHasForms
-clear_formed d = bind_if (id_at (codes "deferral") d) _ IsId AskHasForms (id_formed (codes "deferral") d) (λ deferral is. under (has_members 2 d) (Some (Clear deferral)) AskHasForms (λ exact. is))
-
-deferred_formed : (d : Data) → HasText d → IfSome (deferred_of d) AskHasForms
-deferred_formed d has = bind_if (short_at (codes "tail") d) _ IsShort AskHasForms (short_formed (codes "tail") d has) (λ tail is. under (has_members 2 d) (Some (ViewDeferred tail)) AskHasForms (λ exact. is))
-
-release_formed : (d : Data) → IfSome (release_of d) IsId
-release_formed d = bind_if (id_at (codes "release") d) _ IsId IsId (id_formed (codes "release") d) (λ release is. under (has_members 2 d) (Some release) IsId (λ exact. is))
-
--- an ask that names a release and nothing else
-of_release : (d : Data) (made : ℕ → Ask) → ((release : ℕ) → IsId release → AskHasForms (made release)) → IfSome (release_of d >>= λ release. Some (made release)) AskHasForms
-of_release d made forms = bind_if (release_of d) _ IsId AskHasForms (release_formed d) forms
+-- an ask that names a release alone
+release_formed : (d : Data) (make : ℕ → Ask) → ((release : ℕ) → IsId release → AskHasForms (make release)) → IfOk (told (and_then (release_of d) (λ release. Ok (make release)))) AskHasForms
+release_formed d make forms = id_then (codes "release") d _ AskHasForms forms
 
 record IsSigned (s : Signed) : Type 0 where
   release : IsId s.release
   revision : IsId s.revision
   digest : IsDigest s.digest
 
-signed_formed : (d : Data) → IfSome (signed_of d) IsSigned
+signed_formed : (d : Data) → IfOk (told (signed_of d)) IsSigned
 signed_formed d =
-    bind_if (id_at (codes "release") d) _ IsId IsSigned (id_formed (codes "release") d) (λ release is_release.
-    bind_if (id_at (codes "revision") d) _ IsId IsSigned (id_formed (codes "revision") d) (λ revision is_revision.
-    bind_if (digest_at (codes "digest") d) _ IsDigest IsSigned (digest_is (codes "digest") d) (λ digest is_digest.
-    under (has_members 4 d) _ IsSigned (λ exact. record { release = is_release; revision = is_revision; digest = is_digest }))))
-
-sign_formed : (d : Data) → IfSome (sign_of d) AskHasForms
-sign_formed d = bind_if (signed_of d) _ IsSigned AskHasForms (signed_formed d) (λ s is. (is.release, is.revision, is.digest))
-
-concur_formed : (d : Data) → IfSome (concur_of d) AskHasForms
-concur_formed d = bind_if (signed_of d) _ IsSigned AskHasForms (signed_formed d) (λ s is. (is.release, is.revision, is.digest))
+    formed (codes "digest") d (digest_at (codes "digest") d) _ IsDigest IsSigned (digest_is (codes "digest") d) (λ digest is_digest.
+    id_then (codes "release") d _ IsSigned (λ release is_release.
+    id_then (codes "revision") d _ IsSigned (λ revision is_revision. record { release = is_release; revision = is_revision; digest = is_digest })))
 
 record IsFlown (f : Flown) : Type 0 where
   release : IsId f.release
   leg : IsAmount f.leg
 
-flown_formed : (d : Data) → IfSome (flown_of d) IsFlown
+flown_formed : (d : Data) → IfOk (told (flown_of d)) IsFlown
 flown_formed d =
-    bind_if (id_at (codes "release") d) _ IsId IsFlown (id_formed (codes "release") d) (λ release is_release.
-    bind_if (amount_at (codes "leg") d) _ IsAmount IsFlown (amount_formed (codes "leg") d) (λ leg is_leg.
-    under (has_members 3 d) _ IsFlown (λ exact. record { release = is_release; leg = is_leg })))
+    formed (codes "leg") d (amount_at (codes "leg") d) _ IsAmount IsFlown (amount_formed (codes "leg") d) (λ leg is_leg.
+    id_then (codes "release") d _ IsFlown (λ release is_release. record { release = is_release; leg = is_leg }))
 
-depart_formed : (d : Data) → IfSome (depart_of d) AskHasForms
-depart_formed d = bind_if (flown_of d) _ IsFlown AskHasForms (flown_formed d) (λ f is. (is.release, is.leg))
-
-arrive_formed : (d : Data) → IfSome (arrive_of d) AskHasForms
-arrive_formed d = bind_if (flown_of d) _ IsFlown AskHasForms (flown_formed d) (λ f is. (is.release, is.leg))
-
-acknowledge_formed : (d : Data) → IfSome (acknowledge_of d) AskHasForms
-acknowledge_formed d =
-    bind_if (id_at (codes "release") d) _ IsId AskHasForms (id_formed (codes "release") d) (λ release is_release.
-    bind_if (id_at (codes "version") d) _ IsId AskHasForms (id_formed (codes "version") d) (λ version is_version.
-    under (has_members 3 d) (Some (Acknowledge release version)) AskHasForms (λ exact. (is_release, is_version))))
-
-sweep_formed : (d : Data) → IfSome (sweep_of d) AskHasForms
-sweep_formed d = bind_if (moment_at (codes "before") d) _ IsMoment AskHasForms (moment_formed (codes "before") d) (λ before is. under (has_members 2 d) (Some (Sweep before)) AskHasForms (λ exact. is))
-
-board_formed : (d : Data) → IfSome (board_of d) AskHasForms
-board_formed d = under (has_members 1 d) (Some ViewBoard) AskHasForms (λ exact. tt)
-
-alerts_formed : (d : Data) → IfSome (alerts_of d) AskHasForms
-alerts_formed d = under (has_members 1 d) (Some ViewAlerts) AskHasForms (λ exact. tt)
-
-weather_formed : (d : Data) → IfSome (weather_of d) AskHasForms
-weather_formed d = bind_if (station_at (codes "station") d) _ IsAirport AskHasForms (station_formed (codes "station") d) (λ station is. under (has_members 2 d) (Some (ViewWeather station)) AskHasForms (λ exact. is))
-
--- ---- asks by their names
-
-view_named_formed : (name : List ℕ) (d : Data) → IfSome (view_named name d) AskHasForms
-view_named_formed name d =
-    either (bytes_eq name (codes "board")) (board_of d) _ AskHasForms (board_formed d)
-    (either (bytes_eq name (codes "alerts")) (alerts_of d) _ AskHasForms (alerts_formed d)
-    (either (bytes_eq name (codes "release")) (view_release_of d) _ AskHasForms (of_release d ViewRelease (λ release is. is))
-    (either (bytes_eq name (codes "weather")) (weather_of d) None AskHasForms (weather_formed d) tt)))
-
-on_flight_formed : (name : List ℕ) (d : Data) → IfSome (ask_on_flight name d) AskHasForms
-on_flight_formed name d =
-    either (bytes_eq name (codes "depart")) (depart_of d) _ AskHasForms (depart_formed d)
-    (either (bytes_eq name (codes "arrive")) (arrive_of d) _ AskHasForms (arrive_formed d)
-    (either (bytes_eq name (codes "acknowledge")) (acknowledge_of d) _ AskHasForms (acknowledge_formed d)
-    (either (bytes_eq name (codes "purge")) (purge_of d) _ AskHasForms (of_release d Purge (λ release is. is))
-    (either (bytes_eq name (codes "sweep")) (sweep_of d) _ AskHasForms (sweep_formed d) (view_named_formed name d)))))
-
-on_release_formed : (name : List ℕ) (d : Data) → IfSome (ask_on_release name d) AskHasForms
-on_release_formed name d =
-    either (bytes_eq name (codes "prepare")) (prepare_of d) _ AskHasForms (of_release d Prepare (λ release is. is))
-    (either (bytes_eq name (codes "sign")) (sign_of d) _ AskHasForms (sign_formed d)
-    (either (bytes_eq name (codes "concur")) (concur_of d) _ AskHasForms (concur_formed d)
-    (either (bytes_eq name (codes "cancel")) (cancel_of d) _ AskHasForms (of_release d Cancel (λ release is. is)) (on_flight_formed name d))))
-
-on_equipment_formed : (name : List ℕ) (d : Data) → HasText d → IfSome (ask_on_equipment name d) AskHasForms
-on_equipment_formed name d has =
-    either (bytes_eq name (codes "defer")) (defer_of d) _ AskHasForms (defer_formed d has)
-    (either (bytes_eq name (codes "clear")) (clear_of d) _ AskHasForms (clear_formed d)
-    (either (bytes_eq name (codes "deferred")) (deferred_of d) _ AskHasForms (deferred_formed d has) (on_release_formed name d)))
-
-named_formed : (name : List ℕ) (d : Data) → HasText d → IfSome (ask_named name d) AskHasForms
-named_formed name d has =
-    either (bytes_eq name (codes "admit")) (admit_of d) _ AskHasForms (admit_formed d has)
-    (either (bytes_eq name (codes "draft")) (draft_of d) _ AskHasForms (draft_formed d)
-    (either (bytes_eq name (codes "amend")) (amend_of d) _ AskHasForms (amend_formed d) (on_equipment_formed name d has)))
-
-ask_formed : (d : Data) → HasText d → IfSome (ask_of d) AskHasForms
-ask_formed d has = bind_any (text_at (codes "do") d) _ AskHasForms (λ name. named_formed name d has)
+kind_formed : (k : AskKind) (d : Data) → HasText d → IfOk (told (ask_of_kind k d)) AskHasForms
+kind_formed kind.Admit d has = formed (codes "text") d (text_at (codes "text") d) _ _ AskHasForms (text_formed (codes "text") d has) (λ text is. is)
+kind_formed kind.Defer d has =
+    moment_then (codes "found") d _ AskHasForms (λ found is_found.
+    short_then (codes "item") d _ AskHasForms has (λ item is_item.
+    short_then (codes "tail") d _ AskHasForms has (λ tail is_tail. (is_tail, is_item, is_found))))
+kind_formed kind.Clear d has = id_then (codes "deferral") d _ AskHasForms (λ deferral is. is)
+kind_formed kind.Draft d has = formed (codes "plan") d (plan_at (codes "plan") d) _ HasForms AskHasForms (plan_at_formed d) (λ plan is. is)
+kind_formed kind.Prepare d has = release_formed d (λ release. Prepare release) (λ release is. is)
+kind_formed kind.Sign d has = formed_after (signed_of d) _ IsSigned AskHasForms (signed_formed d) (λ s is. (is.release, is.revision, is.digest))
+kind_formed kind.Concur d has = formed_after (signed_of d) _ IsSigned AskHasForms (signed_formed d) (λ s is. (is.release, is.revision, is.digest))
+kind_formed kind.Amend d has =
+    formed (codes "plan") d (plan_at (codes "plan") d) _ HasForms AskHasForms (plan_at_formed d) (λ plan is_plan.
+    id_then (codes "release") d _ AskHasForms (λ release is_id. (is_id, is_plan)))
+kind_formed kind.Cancel d has = release_formed d (λ release. Cancel release) (λ release is. is)
+kind_formed kind.Depart d has = formed_after (flown_of d) _ IsFlown AskHasForms (flown_formed d) (λ f is. (is.release, is.leg))
+kind_formed kind.Arrive d has = formed_after (flown_of d) _ IsFlown AskHasForms (flown_formed d) (λ f is. (is.release, is.leg))
+kind_formed kind.Acknowledge d has =
+    id_then (codes "release") d _ AskHasForms (λ release is_release. id_then (codes "version") d _ AskHasForms (λ version is_version. (is_release, is_version)))
+kind_formed kind.Purge d has = release_formed d (λ release. Purge release) (λ release is. is)
+kind_formed kind.Sweep d has = moment_then (codes "before") d _ AskHasForms (λ before is. is)
+kind_formed kind.Board d has = tt
+kind_formed kind.Alerts d has = tt
+kind_formed kind.Release d has = release_formed d (λ release. ViewRelease release) (λ release is. is)
+kind_formed kind.Weather d has = formed (codes "station") d (station_at (codes "station") d) _ IsAirport AskHasForms (station_formed (codes "station") d) (λ station is. is)
+kind_formed kind.Deferred d has = short_then (codes "tail") d _ AskHasForms has (λ tail is. is)
 
 -- ---- calls
 
-asked_formed : (d : Data) (ask : Ask) → HasText d → AskHasForms ask → IfSome (asked_by d ask) CallHasForms
-asked_formed d ask has is_ask =
-    bind_if (short_at (codes "actor") d) _ IsShort CallHasForms (short_formed (codes "actor") d has) (λ actor is_actor.
-    bind_if (short_at (codes "key") d) _ IsShort CallHasForms (short_formed (codes "key") d has) (λ key is_key.
-    bind_if (number_at (codes "number") 1_000_000_000_000 d) _ (λ n. n ≤ 1_000_000_000_000) CallHasForms (number_formed (codes "number") 1_000_000_000_000 d) (λ number is_number.
+-- after a step of which nothing is known
+then_any : {A B : Type 0} (r : Result A BadCall) (f : A → Result B BadCall) (Q : B → Type 0) → ((x : A) → IfOk (told (f x)) Q) → IfOk (told (and_then r f)) Q
+then_any (Err b) f Q next = tt
+then_any (Ok x) f Q next = next x
+
+by_formed : (k : Option AskKind) (d : Data) → HasText d → IfOk (told (ask_by k d)) AskHasForms
+by_formed None d has = tt
+by_formed (Some k) d has = then_any (only_keys (object.Asked k) d) _ AskHasForms (λ only. kind_formed k d has)
+
+ask_formed : (d : Data) → HasText d → IfOk (told (ask_or_fault d)) AskHasForms
+ask_formed d has = then_any (found (codes "do") d (text_at (codes "do") d)) _ AskHasForms (λ name. by_formed (kind_of name) d has)
+
+object_formed : (o : Option Data) → IfSome o HasText → IfSome (option_and_then if_object o) HasText
+object_formed None has = tt
+object_formed (Some d) has = under (is_some (as_object d)) (Some d) HasText (λ is. has)
+
+by_call_formed : (actor : List ℕ) (ask d : Data) → HasText ask → HasText d → IsShort actor → IfOk (told (call_by actor ask d)) CallHasForms
+by_call_formed actor ask d has_ask has is_actor =
+    short_then (codes "key") d _ CallHasForms has (λ key is_key.
+    formed (codes "number") d (request_at (codes "number") d) _ (λ n. n ≤ 1_000_000_000_000) CallHasForms (number_formed (codes "number") 1_000_000_000_000 d) (λ number is_number.
+    formed_after (ask_or_fault ask) _ AskHasForms CallHasForms (ask_formed ask has_ask) (λ asked is_ask.
     record { actor = is_actor; key = is_key; number = is_number; ask = is_ask })))
 
-pub call_formed : (d : Data) → HasText d → IfSome (call_in d) CallHasForms
+-- what stands before the key and the number
+front_formed : {A : Type 0} (d : Data) (f : List ℕ → Data → Result A BadCall) (Q : A → Type 0) → HasText d → ((actor : List ℕ) (ask : Data) → IsShort actor → HasText ask → IfOk (told (f actor ask)) Q)
+    → IfOk (told (and_then (found (codes "actor") d (short_at (codes "actor") d)) (λ actor. and_then (found (codes "ask") d (object_at (codes "ask") d)) (λ ask. f actor ask)))) Q
+front_formed d f Q has next =
+    short_then (codes "actor") d _ Q has (λ actor is_actor.
+    formed (codes "ask") d (object_at (codes "ask") d) _ HasText Q (object_formed (get (codes "ask") d) (found_has_text (codes "ask") d has)) (λ ask has_ask. next actor ask is_actor has_ask))
+
+call_formed : (d : Data) → HasText d → IfOk (told (call_in d)) CallHasForms
 call_formed d has =
-    bind_if (get (codes "ask") d) _ HasText CallHasForms (found_has_text (codes "ask") d has) (λ inner has_inner.
-    bind_if (ask_of inner) _ AskHasForms CallHasForms (ask_formed inner has_inner) (λ ask is_ask. asked_formed d ask has is_ask))
+    then_any (only_keys object.Call d) _ CallHasForms (λ only.
+    front_formed d (λ actor ask. call_by actor ask d) CallHasForms has (λ actor ask is_actor has_ask. by_call_formed actor ask d has_ask has is_actor))
+
+line_formed : (d : Data) → HasText d → IfOk (told (line_in d)) LineHasForms
+line_formed d has =
+    then_any (only_keys object.Line d) _ LineHasForms (λ only.
+    front_formed d _ LineHasForms has (λ actor ask is_actor has_ask.
+    moment_then (codes "at") d _ LineHasForms (λ at is_at.
+    formed_after (call_by actor ask d) _ CallHasForms LineHasForms (by_call_formed actor ask d has_ask has is_actor) (λ call is. (is_at, is)))))
+
+-- ---- what is answered of a value
+
+pub call_forms : (v : Value) (r : Result Call CallFault) → Answers (call_in (view v)) r → IfOk r CallHasForms
+call_forms v r is = answered (λ (x : Result Call CallFault). IfOk x CallHasForms) (call_in (view v)) r tt (call_formed (view v) (view_has_text v)) is
+
+pub line_forms : (v : Value) (r : Result (ℕ × Call) CallFault) → Answers (line_in (view v)) r → IfOk r LineHasForms
+line_forms v r is = answered (λ (x : Result (ℕ × Call) CallFault). IfOk x LineHasForms) (line_in (view v)) r tt (line_formed (view v) (view_has_text v)) is

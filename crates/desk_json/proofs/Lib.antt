@@ -1,12 +1,11 @@
+pub mod Results
+pub mod Members
+pub mod Orders
 pub mod Again
 pub mod Formed
-pub mod Written
-pub mod Orders
-pub mod Exact
-pub mod AskLaws
-pub mod LineLaws
-pub mod LineForms
+pub mod Found
 pub mod Least
 pub mod Unread
+pub mod Written
 pub mod ReplyForms
 pub mod ReplyAgain

@@ -38,9 +38,10 @@ use Rattle.kept_releases.proofs.FindingLaws.{finding_again, finding_utf8}
 use Rattle.kept_releases.proofs.PhaseLaws.{phase_again}
 use Rattle.kept_releases.proofs.ReleaseLaws.{phase_utf8}
 use Rattle.desk_json.specs.Replies.{why_name, plan_why_name, finding_data, with_fields, refusal_members, refusal_data, reply_data, reply_text}
-use Rattle.desk_json.specs.ReadReplies.{why_of, plan_why_of, finding_in, reply_of, if_text, reply_in, IsWide, RefusalHasForms, ReplyHasForms, AnswersReply, IsReplyOf, GivesReply, IsReplyAgain}
+use Rattle.desk_json.specs.ReadReplies.{why_of, plan_why_of, finding_in, reply_of, if_text, reply_in, IsWide, RefusalHasForms, ReplyHasForms, or_fault, AnswersReply, IsReplyOf, IsReplyAgain}
 use Rattle.desk_json.specs.declared.bad_call.CallFault.{CallFault}
 use Rattle.desk_json.specs.declared.bad_call.CallFault.TheVariants as fault
+use Rattle.desk_json.proofs.Results.{gives}
 
 -- ---- fields
 
@@ -291,18 +292,17 @@ text_back text =
 
 -- ---- answers
 
-gives : (o : Option Reply) (read : Result Reply CallFault) (r : Reply) → AnswersReply o read → o ≡ Some r → GivesReply r read
-gives o (Ok x) r is same = cc (is, same)
-gives o (Err (fault.Bad b)) r is same = absurd (cc (is.0, same))
-gives o (Err fault.OutOfMemory) r is same = tt
-
 pub replies_again : (text : List ℕ) (read : Result Reply CallFault) → AnswersReply (reply_in text) read → IsReplyAgain text read
-replies_again text read is = λ r of. gives (reply_in text) read r is (text_again text r of)
+replies_again text read is = λ r of. gives r (or_fault (reply_in text)) read (ap or_fault (text_again text r of)) is
+
+found_reply : (o : Option Reply) (r : Reply) → or_fault o ≡ Ok r → o ≡ Some r
+found_reply None r is = absurd (cc is)
+found_reply (Some q) r is = cc is
 
 reply_exact : (text : List ℕ) (r : Reply) → reply_in text ≡ Some r → ReplyHasForms r → IsReplyOf text r
 reply_exact text r is forms = record { forms = forms; same = subst (λ (o : Option Reply). IfSome o (λ q. reply_text q ≡ text)) is (text_back text) }
 
 pub replies_exact : (text : List ℕ) (read : Result Reply CallFault) → AnswersReply (reply_in text) read → IfOk read ReplyHasForms → IfOk read (IsReplyOf text)
-replies_exact text (Ok r) is forms = reply_exact text r is forms
+replies_exact text (Ok r) is forms = reply_exact text r (found_reply (reply_in text) r is) forms
 replies_exact text (Err (fault.Bad b)) is forms = tt
 replies_exact text (Err fault.OutOfMemory) is forms = tt

@@ -6,7 +6,7 @@ use Rattle.plan.specs.Texts.{IsMoment}
 use Rattle.asks.specs.declared.call.Call.{Call}
 use Rattle.call_json.specs.Fields.{data_of}
 use Rattle.desk_json.specs.declared.bad_call.CallFault.{CallFault}
-use Rattle.desk_json.specs.Faults.{Finds}
+use Rattle.desk_json.specs.Faults.{Gives}
 use Rattle.call_json.specs.Canonical.{count, text_data, moment_data, ask_data, CallHasForms}
 
 -- the JSON of a moment and a call, as a line of a script has it
@@ -32,11 +32,11 @@ LineHasForms line = IsMoment line.0 × CallHasForms line.1
 
 -- A reader answers the moment and the call of good form whose JSON a line is, but for want of memory.
 abbrev pub IsLineAgain : List ℕ → Result (ℕ × Call) CallFault → Type 0
-IsLineAgain line read = (at : ℕ) (c : Call) → IsMoment at → CallHasForms c → data_of line ≡ Some (line_data at c) → Finds (Some (at, c)) read
+IsLineAgain line read = (at : ℕ) (c : Call) → IsMoment at → CallHasForms c → data_of line ≡ Some (line_data at c) → Gives (at, c) read
 
 -- So it does with the call whose JSON a text is.
 abbrev pub IsCallAgain : List ℕ → Result Call CallFault → Type 0
-IsCallAgain text read = (c : Call) → CallHasForms c → data_of text ≡ Some (posted_data c) → Finds (Some c) read
+IsCallAgain text read = (c : Call) → CallHasForms c → data_of text ≡ Some (posted_data c) → Gives c read
 
 -- the JSON of a call as a history shows it, without the key
 abbrev pub call_data : Call → Data

@@ -21,71 +21,44 @@ use Rattle.desk_json.specs.declared.asked.Signed.{Signed}
 use Rattle.desk_json.specs.declared.asked.Flown.{Flown}
 use Rattle.desk_json.specs.declared.bad_call.CallFault.{CallFault}
 use Rattle.desk_json.specs.declared.bad_call.CallFault.TheVariants as fault
-use Rattle.desk_json.specs.Keys.{bad, keys_fault, lack, unless, and_then, need}
-
--- ---- kinds of asks
-
--- the names board, alerts, release and weather
-abbrev pub kind_of_view : List ℕ → Option AskKind
-kind_of_view name =
-    if bytes_eq name (codes "board") then Some kind.Board
-    else (if bytes_eq name (codes "alerts") then Some kind.Alerts
-    else (if bytes_eq name (codes "release") then Some kind.Release
-    else (if bytes_eq name (codes "weather") then Some kind.Weather else None)))
-
--- the names depart, arrive, acknowledge, purge and sweep, and else those of views
-abbrev pub kind_on_flight : List ℕ → Option AskKind
-kind_on_flight name =
-    if bytes_eq name (codes "depart") then Some kind.Depart
-    else (if bytes_eq name (codes "arrive") then Some kind.Arrive
-    else (if bytes_eq name (codes "acknowledge") then Some kind.Acknowledge
-    else (if bytes_eq name (codes "purge") then Some kind.Purge
-    else (if bytes_eq name (codes "sweep") then Some kind.Sweep else kind_of_view name))))
-
--- the names prepare, sign, concur and cancel, and else the next
-abbrev pub kind_on_release : List ℕ → Option AskKind
-kind_on_release name =
-    if bytes_eq name (codes "prepare") then Some kind.Prepare
-    else (if bytes_eq name (codes "sign") then Some kind.Sign
-    else (if bytes_eq name (codes "concur") then Some kind.Concur
-    else (if bytes_eq name (codes "cancel") then Some kind.Cancel else kind_on_flight name)))
-
--- the names defer, clear and deferred, and else the next
-abbrev pub kind_on_equipment : List ℕ → Option AskKind
-kind_on_equipment name =
-    if bytes_eq name (codes "defer") then Some kind.Defer
-    else (if bytes_eq name (codes "clear") then Some kind.Clear
-    else (if bytes_eq name (codes "deferred") then Some kind.Deferred else kind_on_release name))
+use Rattle.desk_json.specs.Keys.{bad, lack, only_keys, and_then, need}
 
 -- the kind of ask that has a name
 abbrev pub kind_of : List ℕ → Option AskKind
 kind_of name =
     if bytes_eq name (codes "admit") then Some kind.Admit
     else (if bytes_eq name (codes "draft") then Some kind.Draft
-    else (if bytes_eq name (codes "amend") then Some kind.Amend else kind_on_equipment name))
+    else (if bytes_eq name (codes "amend") then Some kind.Amend
+    else (if bytes_eq name (codes "defer") then Some kind.Defer
+    else (if bytes_eq name (codes "clear") then Some kind.Clear
+    else (if bytes_eq name (codes "deferred") then Some kind.Deferred
+    else (if bytes_eq name (codes "prepare") then Some kind.Prepare
+    else (if bytes_eq name (codes "sign") then Some kind.Sign
+    else (if bytes_eq name (codes "concur") then Some kind.Concur
+    else (if bytes_eq name (codes "cancel") then Some kind.Cancel
+    else (if bytes_eq name (codes "depart") then Some kind.Depart
+    else (if bytes_eq name (codes "arrive") then Some kind.Arrive
+    else (if bytes_eq name (codes "acknowledge") then Some kind.Acknowledge
+    else (if bytes_eq name (codes "purge") then Some kind.Purge
+    else (if bytes_eq name (codes "sweep") then Some kind.Sweep
+    else (if bytes_eq name (codes "board") then Some kind.Board
+    else (if bytes_eq name (codes "alerts") then Some kind.Alerts
+    else (if bytes_eq name (codes "release") then Some kind.Release
+    else (if bytes_eq name (codes "weather") then Some kind.Weather else None))))))))))))))))))
 
 -- ---- asks, each key in its turn
 
 abbrev pub plan_at : List ℕ → Data → Option Plan
 plan_at key d = option_and_then plan_of (get key d)
 
-abbrev pub admit_of : Data → Result Ask BadCall
-admit_of d = and_then (need text_at (codes "text") d) (λ text. Ok (Admit text))
+abbrev pub release_of : Data → Result ℕ BadCall
+release_of d = need id_at (codes "release") d
 
 abbrev pub defer_of : Data → Result Ask BadCall
 defer_of d =
     and_then (need moment_at (codes "found") d) (λ found.
     and_then (need short_at (codes "item") d) (λ item.
     and_then (need short_at (codes "tail") d) (λ tail. Ok (Defer tail item found))))
-
-abbrev pub clear_of : Data → Result Ask BadCall
-clear_of d = and_then (need id_at (codes "deferral") d) (λ deferral. Ok (Clear deferral))
-
-abbrev pub draft_of : Data → Result Ask BadCall
-draft_of d = and_then (need plan_at (codes "plan") d) (λ plan. Ok (Draft plan))
-
-abbrev pub release_of : Data → Result ℕ BadCall
-release_of d = need id_at (codes "release") d
 
 abbrev pub signed_of : Data → Result Signed BadCall
 signed_of d =
@@ -94,35 +67,20 @@ signed_of d =
     and_then (need id_at (codes "revision") d) (λ revision. Ok (record { release = release; revision = revision; digest = digest }))))
 
 abbrev pub amend_of : Data → Result Ask BadCall
-amend_of d =
-    and_then (need plan_at (codes "plan") d) (λ plan.
-    and_then (release_of d) (λ release. Ok (Amend release plan)))
+amend_of d = and_then (need plan_at (codes "plan") d) (λ plan. and_then (release_of d) (λ release. Ok (Amend release plan)))
 
 abbrev pub flown_of : Data → Result Flown BadCall
-flown_of d =
-    and_then (need amount_at (codes "leg") d) (λ leg.
-    and_then (release_of d) (λ release. Ok (record { release = release; leg = leg })))
+flown_of d = and_then (need amount_at (codes "leg") d) (λ leg. and_then (release_of d) (λ release. Ok (record { release = release; leg = leg })))
 
 abbrev pub acknowledge_of : Data → Result Ask BadCall
-acknowledge_of d =
-    and_then (release_of d) (λ release.
-    and_then (need id_at (codes "version") d) (λ version. Ok (Acknowledge release version)))
-
-abbrev pub sweep_of : Data → Result Ask BadCall
-sweep_of d = and_then (need moment_at (codes "before") d) (λ before. Ok (Sweep before))
-
-abbrev pub weather_of : Data → Result Ask BadCall
-weather_of d = and_then (need station_at (codes "station") d) (λ station. Ok (ViewWeather station))
-
-abbrev pub deferred_of : Data → Result Ask BadCall
-deferred_of d = and_then (need short_at (codes "tail") d) (λ tail. Ok (ViewDeferred tail))
+acknowledge_of d = and_then (release_of d) (λ release. and_then (need id_at (codes "version") d) (λ version. Ok (Acknowledge release version)))
 
 -- what is read of the keys of an ask of a kind
 abbrev pub ask_of_kind : AskKind → Data → Result Ask BadCall
-ask_of_kind kind.Admit d = admit_of d
+ask_of_kind kind.Admit d = and_then (need text_at (codes "text") d) (λ text. Ok (Admit text))
 ask_of_kind kind.Defer d = defer_of d
-ask_of_kind kind.Clear d = clear_of d
-ask_of_kind kind.Draft d = draft_of d
+ask_of_kind kind.Clear d = and_then (need id_at (codes "deferral") d) (λ deferral. Ok (Clear deferral))
+ask_of_kind kind.Draft d = and_then (need plan_at (codes "plan") d) (λ plan. Ok (Draft plan))
 ask_of_kind kind.Prepare d = and_then (release_of d) (λ release. Ok (Prepare release))
 ask_of_kind kind.Sign d = and_then (signed_of d) (λ s. Ok (Sign s.release s.revision s.digest))
 ask_of_kind kind.Concur d = and_then (signed_of d) (λ s. Ok (Concur s.release s.revision s.digest))
@@ -132,17 +90,17 @@ ask_of_kind kind.Depart d = and_then (flown_of d) (λ f. Ok (Depart f.release f.
 ask_of_kind kind.Arrive d = and_then (flown_of d) (λ f. Ok (Arrive f.release f.leg))
 ask_of_kind kind.Acknowledge d = acknowledge_of d
 ask_of_kind kind.Purge d = and_then (release_of d) (λ release. Ok (Purge release))
-ask_of_kind kind.Sweep d = sweep_of d
+ask_of_kind kind.Sweep d = and_then (need moment_at (codes "before") d) (λ before. Ok (Sweep before))
 ask_of_kind kind.Board d = Ok ViewBoard
 ask_of_kind kind.Alerts d = Ok ViewAlerts
 ask_of_kind kind.Release d = and_then (release_of d) (λ release. Ok (ViewRelease release))
-ask_of_kind kind.Weather d = weather_of d
-ask_of_kind kind.Deferred d = deferred_of d
+ask_of_kind kind.Weather d = and_then (need station_at (codes "station") d) (λ station. Ok (ViewWeather station))
+ask_of_kind kind.Deferred d = and_then (need short_at (codes "tail") d) (λ tail. Ok (ViewDeferred tail))
 
 -- an ask of a kind: no key more, and then each key of it
 abbrev pub ask_by : Option AskKind → Data → Result Ask BadCall
 ask_by None d = Err (bad UnknownAsk (codes "do"))
-ask_by (Some k) d = unless (keys_fault (object.Asked k) d) (ask_of_kind k d)
+ask_by (Some k) d = and_then (only_keys (object.Asked k) d) (λ only. ask_of_kind k d)
 
 -- an ask: its name, whether an ask has that name, and then the ask of that kind
 abbrev pub ask_or_fault : Data → Result Ask BadCall
@@ -164,17 +122,18 @@ request_at key d = number_at key 1_000_000_000_000 d
 abbrev pub call_with : List ℕ → List ℕ → ℕ → Ask → Call
 call_with actor key number ask = record { actor = actor; key = key; number = number; ask = ask }
 
--- the ask of a call whose other keys were read
-abbrev pub asked_with : List ℕ → List ℕ → ℕ → Data → Result Call BadCall
-asked_with actor key number ask = and_then (ask_or_fault ask) (λ asked. Ok (call_with actor key number asked))
+-- a call whose keys up to `ask` were read: its key and its number, and then its ask
+abbrev pub call_by : List ℕ → Data → Data → Result Call BadCall
+call_by actor ask d =
+    and_then (need short_at (codes "key") d) (λ key.
+    and_then (need request_at (codes "number") d) (λ number.
+    and_then (ask_or_fault ask) (λ asked. Ok (call_with actor key number asked))))
 
 -- what is read of the keys of a call, and then of its ask
 abbrev pub call_fields : Data → Result Call BadCall
 call_fields d =
     and_then (need short_at (codes "actor") d) (λ actor.
-    and_then (need object_at (codes "ask") d) (λ ask.
-    and_then (need short_at (codes "key") d) (λ key.
-    and_then (need request_at (codes "number") d) (λ number. asked_with actor key number ask))))
+    and_then (need object_at (codes "ask") d) (λ ask. call_by actor ask d))
 
 -- what is read of the keys of a line, and then of its ask
 abbrev pub line_fields : Data → Result (ℕ × Call) BadCall
@@ -182,15 +141,13 @@ line_fields d =
     and_then (need short_at (codes "actor") d) (λ actor.
     and_then (need object_at (codes "ask") d) (λ ask.
     and_then (need moment_at (codes "at") d) (λ at.
-    and_then (need short_at (codes "key") d) (λ key.
-    and_then (need request_at (codes "number") d) (λ number.
-    and_then (asked_with actor key number ask) (λ call. Ok (at, call)))))))
+    and_then (call_by actor ask d) (λ call. Ok (at, call)))))
 
 abbrev pub call_in : Data → Result Call BadCall
-call_in d = unless (keys_fault object.Call d) (call_fields d)
+call_in d = and_then (only_keys object.Call d) (λ only. call_fields d)
 
 abbrev pub line_in : Data → Result (ℕ × Call) BadCall
-line_in d = unless (keys_fault object.Line d) (line_fields d)
+line_in d = and_then (only_keys object.Line d) (λ only. line_fields d)
 
 -- what is read of JSON, where a text is JSON
 abbrev pub read_as : {A : Type 0} → (Data → Result A BadCall) → Option Data → Result A BadCall
@@ -213,11 +170,16 @@ Answers r (Ok x) = r ≡ Ok x
 Answers r (Err (fault.Bad b)) = r ≡ Err b
 Answers r (Err fault.OutOfMemory) = Unit {0}
 
--- A reader answers a call exactly where there is one, and then that, but for want of memory.
-abbrev pub Finds : {A : Type 0} → Option A → Result A CallFault → Type 0
-Finds o (Ok x) = o ≡ Some x
-Finds o (Err (fault.Bad b)) = o ≡ None
-Finds o (Err fault.OutOfMemory) = Unit {0}
+-- A reader answers this, but for want of memory.
+abbrev pub Gives : {A : Type 0} → A → Result A CallFault → Type 0
+Gives x (Ok read) = read ≡ x
+Gives x (Err (fault.Bad b)) = ⊥
+Gives x (Err fault.OutOfMemory) = Unit {0}
+
+-- A fault is this one, or memory ran out.
+abbrev pub IsFault : BadCall → CallFault → Type 0
+IsFault b (fault.Bad told) = told ≡ b
+IsFault b fault.OutOfMemory = Unit {0}
 
 -- What is answered where a key isn't expected: a key more, and it isn't after that key in byte order.
 abbrev pub IsExtraNamed : {A : Type 0} → List ℕ → Result A CallFault → Type 0

@@ -59,17 +59,17 @@ first_extra o (member k d ms) = if is_key o k then first_extra o ms else Some k
 
 -- ---- what is wrong with keys
 
-abbrev pub extra_fault : Option (List ℕ) → Option BadCall
-extra_fault None = None
-extra_fault (Some key) = Some (bad Extra key)
+abbrev pub no_extra : Option (List ℕ) → Result (Unit {0}) BadCall
+no_extra None = Ok tt
+no_extra (Some key) = Err (bad Extra key)
 
-abbrev pub members_fault : Object → Option Members → Option BadCall
-members_fault o None = Some (bad NotObject [])
-members_fault o (Some ms) = extra_fault (first_extra o ms)
+abbrev pub only_members : Object → Option Members → Result (Unit {0}) BadCall
+only_members o None = Err (bad NotObject [])
+only_members o (Some ms) = no_extra (first_extra o ms)
 
--- what is no object, or has a key more
-abbrev pub keys_fault : Object → Data → Option BadCall
-keys_fault o d = members_fault o (as_object d)
+-- what is no object, or has a key more, has that fault
+abbrev pub only_keys : Object → Data → Result (Unit {0}) BadCall
+only_keys o d = only_members o (as_object d)
 
 -- why nothing is read at a key
 abbrev pub lack : Option Data → CallWhy
@@ -77,10 +77,6 @@ lack None = Missing
 lack (Some d) = BadValue
 
 -- ---- the first fault along a chain
-
-abbrev pub unless : {A : Type 0} → Option BadCall → Result A BadCall → Result A BadCall
-unless None r = r
-unless (Some fault) r = Err fault
 
 abbrev pub and_then : {A B : Type 0} → Result A BadCall → (A → Result B BadCall) → Result B BadCall
 and_then (Err fault) f = Err fault

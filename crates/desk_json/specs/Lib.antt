@@ -1,6 +1,6 @@
-pub mod Calls
 pub mod Replies
-pub mod Canonical
 pub mod Keys
 pub mod Faults
+pub mod Calls
+pub mod Canonical
 pub mod ReadReplies

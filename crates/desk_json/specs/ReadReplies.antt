@@ -12,6 +12,7 @@ use Rattle.plan.specs.declared.check.PlanWhy.{PlanWhy}
 use Rattle.plan.specs.declared.check.PlanWhy.TheVariants as plan_why
 use Rattle.plan.specs.declared.findings.Finding.{Finding}
 use Rattle.asks.specs.Forms.{CanBeShown}
+use Rattle.asks.specs.declared.bad_call.BadCall.{BadCall}
 use Rattle.asks.specs.declared.bad_call.CallWhy.TheVariants.{NotJson}
 use Rattle.asks.specs.declared.reply.Reply.{Reply}
 use Rattle.asks.specs.declared.reply.Reply.TheVariants.{Done, Seen, Refused}
@@ -26,7 +27,7 @@ use Rattle.kept_releases.specs.Phases.{phase_of, IsPhase}
 use Rattle.desk_json.specs.Keys.{bad}
 use Rattle.desk_json.specs.Replies.{reply_text}
 use Rattle.desk_json.specs.declared.bad_call.CallFault.{CallFault}
-use Rattle.desk_json.specs.declared.bad_call.CallFault.TheVariants as fault
+use Rattle.desk_json.specs.Faults.{Answers, Gives}
 
 -- ---- fields
 
@@ -204,23 +205,20 @@ ReplyHasForms (Refused refusal) = RefusalHasForms refusal
 
 -- ---- answers
 
+-- the reply, or that the text is no JSON of one
+abbrev pub or_fault : Option Reply → Result Reply BadCall
+or_fault None = Err (bad NotJson [])
+or_fault (Some reply) = Ok reply
+
 -- A reader answers the reply that a text is, or that it is no JSON of one, but for want of memory.
 abbrev pub AnswersReply : Option Reply → Result Reply CallFault → Type 0
-AnswersReply o (Ok reply) = o ≡ Some reply
-AnswersReply o (Err (fault.Bad b)) = (o ≡ None) × (b ≡ bad NotJson [])
-AnswersReply o (Err fault.OutOfMemory) = Unit {0}
+AnswersReply o r = Answers (or_fault o) r
 
 -- a reply of good form, and this is its text
 pub record IsReplyOf (text : List ℕ) (reply : Reply) : Type 0 where
   pub forms : ReplyHasForms reply
   pub same : reply_text reply ≡ text
 
--- A reader answers that reply, but for want of memory.
-abbrev pub GivesReply : Reply → Result Reply CallFault → Type 0
-GivesReply reply (Ok read) = read ≡ reply
-GivesReply reply (Err (fault.Bad b)) = ⊥
-GivesReply reply (Err fault.OutOfMemory) = Unit {0}
-
 -- Each reply of good form is read of its text.
 abbrev pub IsReplyAgain : List ℕ → Result Reply CallFault → Type 0
-IsReplyAgain text read = (reply : Reply) → IsReplyOf text reply → GivesReply reply read
+IsReplyAgain text read = (reply : Reply) → IsReplyOf text reply → Gives reply read

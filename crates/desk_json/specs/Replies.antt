@@ -111,6 +111,14 @@ refusal_name (DeferralsFull held) = codes "DeferralsFull"
 abbrev pub finding_data : Finding → Data
 finding_data f = text_data (finding_text f)
 
+-- a place in a text or a plan, and what is wrong there
+abbrev pub with_reason : List ℕ → ℕ → List ℕ → Members → Members
+with_reason key place what ms = put (codes "what") (string what) (put key (count place) ms)
+
+-- how many entries the history has, how many replies are kept, and how many events there were
+abbrev pub with_counts : ℕ → ℕ → ℕ → Members → Members
+with_counts entries kept events ms = put (codes "kept") (count kept) (put (codes "events") (count events) (put (codes "entries") (count entries) ms))
+
 -- Some members and those of a refusal that say more than its number and its name, each put where its key
 -- belongs in byte order.
 abbrev pub with_fields : Refusal → Members → Members
@@ -118,14 +126,14 @@ with_fields UnknownActor ms = ms
 with_fields WrongKey ms = ms
 with_fields NotYourRole ms = ms
 with_fields (NumberReused kept) ms = put (codes "kept") (count kept) ms
-with_fields (BadReport group what) ms = put (codes "what") (string (why_name what)) (put (codes "group") (count group) ms)
+with_fields (BadReport group what) ms = with_reason (codes "group") group (why_name what) ms
 with_fields (DayOutOfReach group) ms = put (codes "group") (count group) ms
 with_fields (ReportsFull held) ms = put (codes "held") (count held) ms
 with_fields UnknownTail ms = ms
 with_fields NoSuchDeferral ms = ms
 with_fields NoSuchRelease ms = ms
 with_fields (NotYours holder) ms = put (codes "holder") (text_data holder) ms
-with_fields (BadPlan leg what) ms = put (codes "what") (string (plan_why_name what)) (put (codes "leg") (count leg) ms)
+with_fields (BadPlan leg what) ms = with_reason (codes "leg") leg (plan_why_name what) ms
 with_fields (NotPending stage) ms = put (codes "stage") (count stage) ms
 with_fields (WrongRevision current) ms = put (codes "current") (count current) ms
 with_fields (WrongText digest) ms = put (codes "digest") (digest_data digest) ms
@@ -137,7 +145,7 @@ with_fields NoSuchAlert ms = ms
 with_fields (AlertMoved version) ms = put (codes "version") (count version) ms
 with_fields (TooYoung until) ms = put (codes "until") (moment_data until) ms
 with_fields (ReleasesFull held) ms = put (codes "held") (count held) ms
-with_fields (HistoryFull entries kept events) ms = put (codes "kept") (count kept) (put (codes "events") (count events) (put (codes "entries") (count entries) ms))
+with_fields (HistoryFull entries kept events) ms = with_counts entries kept events ms
 with_fields NoSuchStation ms = ms
 with_fields (Unkept faults) ms = put (codes "faults") (count faults) ms
 with_fields (NumberSwept floor) ms = put (codes "floor") (count floor) ms

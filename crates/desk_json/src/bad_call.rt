@@ -1,7 +1,9 @@
-ghost use Rattle.std.specs.Prelude.{◌≡◌, IfOk};
+ghost use Rattle.std.specs.Prelude.{◌≡◌};
 ghost use Rattle.serde_json.specs.View.{view};
 ghost use Rattle.serde_json.specs.Find.{get};
 ghost use Rattle.desk_json.specs.Keys as spec;
+ghost use Rattle.desk_json.specs.Faults.{Answers, IsFault};
+ghost use Rattle.desk_json.specs.declared.bad_call.CallFault.TheVariants.{OutOfMemory as FaultMemory};
 
 use asks::{BadCall, CallWhy};
 use desk_io::{OutOfMemory, Text};
@@ -17,22 +19,45 @@ pub enum CallFault {
     OutOfMemory,
 }
 
+impl From<OutOfMemory> for CallFault {
+    ghost from_gives = { λ _ e. e ≡ FaultMemory };
+
+    fn from(_: OutOfMemory) -> Self {
+        CallFault::OutOfMemory
+    }
+}
+
 /// A fault at a key.
-pub(crate) fn bad(alloc: Global, why: CallWhy, key: &str) -> Result<BadCall, OutOfMemory>
-    ensures { IfOk result (λ b. b ≡ spec.bad why key.now) }
+pub(crate) fn bad(alloc: Global, why: CallWhy, key: &str) -> CallFault
+    ensures { IsFault (spec.bad why key.now) result }
 {
-    Ok(BadCall {
-        why,
-        key: Text::of(alloc, key.as_bytes())?,
-    })
+    match Text::of(alloc, key.as_bytes()) {
+        Ok(key) => CallFault::Bad(BadCall { why, key }),
+        Err(_) => CallFault::OutOfMemory,
+    }
 }
 
 /// The fault of a value in which nothing is read at a key: the key isn't there, or its value hasn't its form.
-pub(crate) fn lack(alloc: Global, key: &str, value: &Value) -> Result<BadCall, OutOfMemory>
-    ensures { IfOk result (λ b. b ≡ spec.bad (spec.lack (get key.now (view value.now))) key.now) }
+pub(crate) fn lack(alloc: Global, key: &str, value: &Value) -> CallFault
+    ensures { IsFault (spec.bad (spec.lack (get key.now (view value.now))) key.now) result }
 {
     match value.get(key) {
         Some(_) => bad(alloc, CallWhy::BadValue, key),
         None => bad(alloc, CallWhy::Missing, key),
+    }
+}
+
+/// What was read at a key, or why nothing was.
+pub(crate) fn found<T: Drop>(
+    alloc: Global,
+    key: &str,
+    value: &Value,
+    read: Option<T>,
+) -> Result<T, CallFault>
+    ensures { Answers (spec.found key.now (view value.now) read) result }
+{
+    match read {
+        Some(read) => Ok(read),
+        None => Err(lack(alloc, key, value)),
     }
 }

@@ -1,13 +1,12 @@
-ghost use Rattle.std.specs.Prelude.{◌≡◌, IfOk};
+ghost use Rattle.std.specs.Prelude.{◌≡◌};
 ghost use Rattle.std.specs.Option.{option_map};
 ghost use Rattle.serde_json.specs.View.{view, members_view};
 ghost use Rattle.desk_json.specs.Keys as spec;
-ghost use Rattle.desk_json.specs.Faults as faults;
+ghost use Rattle.desk_json.specs.Faults.{kind_of, Answers};
 
-use crate::bad_call::bad;
-use asks::{BadCall, CallWhy};
+use crate::bad_call::{CallFault, bad};
+use asks::CallWhy;
 use call_json::Members;
-use desk_io::OutOfMemory;
 use serde_json::Value;
 use std::alloc::Global;
 
@@ -93,102 +92,43 @@ fn first_extra(object: Object, members: &Members) -> Option<&str>
     None
 }
 
-/// The fault of a value that is no object, or has a key more.
-pub(crate) fn keys_fault(
-    alloc: Global,
-    object: Object,
-    value: &Value,
-) -> Result<Option<BadCall>, OutOfMemory>
-    ensures { IfOk result (λ b. b ≡ spec.keys_fault object (view value.now)) }
+/// Finds no fault in an object that has no key more.
+pub(crate) fn only_keys(alloc: Global, object: Object, value: &Value) -> Result<(), CallFault>
+    ensures { Answers (spec.only_keys object (view value.now)) result }
 {
     let Some(members) = value.as_object() else {
-        return Ok(Some(bad(alloc, CallWhy::NotObject, "")?));
+        return Err(bad(alloc, CallWhy::NotObject, ""));
     };
     match first_extra(object, members) {
-        Some(key) => Ok(Some(bad(alloc, CallWhy::Extra, key)?)),
-        None => Ok(None),
-    }
-}
-
-// The names of what is shown, but for what takes a text.
-fn kind_of_view(name: &str) -> Option<AskKind>
-    ensures { result ≡ faults.kind_of_view name.now }
-{
-    if name == "board" {
-        Some(AskKind::Board)
-    } else if name == "alerts" {
-        Some(AskKind::Alerts)
-    } else if name == "release" {
-        Some(AskKind::Release)
-    } else if name == "weather" {
-        Some(AskKind::Weather)
-    } else {
-        None
-    }
-}
-
-// The names `depart`, `arrive`, `acknowledge`, `purge` and `sweep`, and else those of views.
-fn kind_on_flight(name: &str) -> Option<AskKind>
-    ensures { result ≡ faults.kind_on_flight name.now }
-{
-    if name == "depart" {
-        Some(AskKind::Depart)
-    } else if name == "arrive" {
-        Some(AskKind::Arrive)
-    } else if name == "acknowledge" {
-        Some(AskKind::Acknowledge)
-    } else if name == "purge" {
-        Some(AskKind::Purge)
-    } else if name == "sweep" {
-        Some(AskKind::Sweep)
-    } else {
-        kind_of_view(name)
-    }
-}
-
-// The names `prepare`, `sign`, `concur` and `cancel`, and else the next.
-fn kind_on_release(name: &str) -> Option<AskKind>
-    ensures { result ≡ faults.kind_on_release name.now }
-{
-    if name == "prepare" {
-        Some(AskKind::Prepare)
-    } else if name == "sign" {
-        Some(AskKind::Sign)
-    } else if name == "concur" {
-        Some(AskKind::Concur)
-    } else if name == "cancel" {
-        Some(AskKind::Cancel)
-    } else {
-        kind_on_flight(name)
-    }
-}
-
-// The names `defer`, `clear` and `deferred`, and else the next.
-fn kind_on_equipment(name: &str) -> Option<AskKind>
-    ensures { result ≡ faults.kind_on_equipment name.now }
-{
-    if name == "defer" {
-        Some(AskKind::Defer)
-    } else if name == "clear" {
-        Some(AskKind::Clear)
-    } else if name == "deferred" {
-        Some(AskKind::Deferred)
-    } else {
-        kind_on_release(name)
+        Some(key) => Err(bad(alloc, CallWhy::Extra, key)),
+        None => Ok(()),
     }
 }
 
 /// The kind of ask that has a name.
 pub(crate) fn kind_of(name: &str) -> Option<AskKind>
-    ensures { result ≡ faults.kind_of name.now }
+    ensures { result ≡ kind_of name.now }
 {
-    if name == "admit" {
-        Some(AskKind::Admit)
-    } else if name == "draft" {
-        Some(AskKind::Draft)
-    } else if name == "amend" {
-        Some(AskKind::Amend)
-    } else {
-        kind_on_equipment(name)
+    match name {
+        "admit" => Some(AskKind::Admit),
+        "draft" => Some(AskKind::Draft),
+        "amend" => Some(AskKind::Amend),
+        "defer" => Some(AskKind::Defer),
+        "clear" => Some(AskKind::Clear),
+        "deferred" => Some(AskKind::Deferred),
+        "prepare" => Some(AskKind::Prepare),
+        "sign" => Some(AskKind::Sign),
+        "concur" => Some(AskKind::Concur),
+        "cancel" => Some(AskKind::Cancel),
+        "depart" => Some(AskKind::Depart),
+        "arrive" => Some(AskKind::Arrive),
+        "acknowledge" => Some(AskKind::Acknowledge),
+        "purge" => Some(AskKind::Purge),
+        "sweep" => Some(AskKind::Sweep),
+        "board" => Some(AskKind::Board),
+        "alerts" => Some(AskKind::Alerts),
+        "release" => Some(AskKind::Release),
+        "weather" => Some(AskKind::Weather),
+        _ => None,
     }
 }

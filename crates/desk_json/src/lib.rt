@@ -3,6 +3,7 @@
 
 mod asked;
 mod bad_call;
+mod fields;
 mod keys;
 mod lines;
 mod read_replies;

@@ -5,7 +5,8 @@ ghost use Rattle.call_json.specs.Fields.{each_read};
 ghost use Rattle.desk_json.specs.Replies.{reply_text};
 ghost use Rattle.desk_json.specs.ReadReplies as spec;
 ghost use Rattle.asks.specs.Forms.{ReplyHasMoment};
-ghost use Rattle.desk_json.specs.ReadReplies.{finding_in, reply_in, ReplyHasForms, AnswersReply, IsReplyOf, IsReplyAgain};
+ghost use Rattle.desk_json.specs.ReadReplies.{finding_in, reply_in, ReplyHasForms};
+ghost use Rattle.desk_json.specs.ReadReplies.{AnswersReply, IsReplyOf, IsReplyAgain};
 
 use crate::bad_call::{CallFault, bad};
 use crate::replies::reply_text;
@@ -334,13 +335,9 @@ fn reply_answer(alloc: Global, bytes: &[u8]) -> Result<Reply, CallFault>
     ensures answer { AnswersReply (reply_in bytes.now) result }
     ensures forms { IfOk result ReplyHasForms }
 {
-    match reply_in(alloc, bytes) {
-        Ok(Some(reply)) => Ok(reply),
-        Ok(None) => match bad(alloc, CallWhy::NotJson, "") {
-            Ok(fault) => Err(CallFault::Bad(fault)),
-            Err(_) => Err(CallFault::OutOfMemory),
-        },
-        Err(_) => Err(CallFault::OutOfMemory),
+    match reply_in(alloc, bytes)? {
+        Some(reply) => Ok(reply),
+        None => Err(bad(alloc, CallWhy::NotJson, "")),
     }
 }
 

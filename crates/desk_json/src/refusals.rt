@@ -1,8 +1,8 @@
 ghost use Rattle.std.specs.Prelude.{◌≡◌, map, codes, IfOk};
-ghost use Rattle.serde_json.specs.Data.{string, put};
+ghost use Rattle.serde_json.specs.Data.{put};
 ghost use Rattle.serde_json.specs.View.{view, members_view};
 ghost use Rattle.plan.specs.Texts.{HasMoment, phase_text};
-ghost use Rattle.call_json.specs.Canonical.{count, text_data, list_data};
+ghost use Rattle.call_json.specs.Canonical.{text_data, list_data};
 ghost use Rattle.asks.specs.Forms.{RefusalHasMoment};
 ghost use Rattle.desk_json.specs.Replies as spec;
 
@@ -132,7 +132,8 @@ fn with_reason(
     place: u32,
     what: &str,
 ) -> Result<Members, OutOfMemory>
-    ensures { IfOk result (λ all. members_view all.entries ≡ put (codes "what") (string what.now) (put key.now (count place) (members_view members.entries))) }
+    ensures { IfOk result (λ all. members_view all.entries
+        ≡ spec.with_reason key.now place what.now (members_view members.entries)) }
 {
     let members = with_count(alloc, members, key, place as u64)?;
     with_name(alloc, members, "what", what)
@@ -166,7 +167,8 @@ fn with_findings(
     members: Members,
     findings: &[Finding],
 ) -> Result<Members, OutOfMemory>
-    ensures { IfOk result (λ all. members_view all.entries ≡ put (codes "findings") (list_data spec.finding_data findings.now) (members_view members.entries)) }
+    ensures { IfOk result (λ all. members_view all.entries
+        ≡ put (codes "findings") (list_data spec.finding_data findings.now) (members_view members.entries)) }
 {
     let value = findings_value(alloc, findings)?;
     with_value(alloc, members, "findings", value)
@@ -174,7 +176,8 @@ fn with_findings(
 
 fn with_phase(alloc: Global, members: Members, phase: Phase) -> Result<Members, OutOfMemory>
     requires { HasMoment phase }
-    ensures { IfOk result (λ all. members_view all.entries ≡ put (codes "phase") (text_data (phase_text phase)) (members_view members.entries)) }
+    ensures { IfOk result (λ all. members_view all.entries
+        ≡ put (codes "phase") (text_data (phase_text phase)) (members_view members.entries)) }
 {
     let text = phase_text(alloc, phase)?;
     with_text(alloc, members, "phase", text.bytes())
@@ -188,7 +191,8 @@ fn with_counts(
     kept: u64,
     events: u64,
 ) -> Result<Members, OutOfMemory>
-    ensures { IfOk result (λ all. members_view all.entries ≡ put (codes "kept") (count kept) (put (codes "events") (count events) (put (codes "entries") (count entries) (members_view members.entries)))) }
+    ensures { IfOk result (λ all. members_view all.entries
+        ≡ spec.with_counts entries kept events (members_view members.entries)) }
 {
     let members = with_count(alloc, members, "entries", entries)?;
     let members = with_count(alloc, members, "events", events)?;
@@ -198,7 +202,8 @@ fn with_counts(
 // Some members and those of a refusal that say more than its number and its name.
 fn with_fields(alloc: Global, refusal: &Refusal, members: Members) -> Result<Members, OutOfMemory>
     requires { RefusalHasMoment refusal.now }
-    ensures { IfOk result (λ all. members_view all.entries ≡ spec.with_fields refusal.now (members_view members.entries)) }
+    ensures { IfOk result (λ all. members_view all.entries
+        ≡ spec.with_fields refusal.now (members_view members.entries)) }
 {
     match refusal {
         Refusal::NumberReused { kept } => with_count(alloc, members, "kept", *kept),
