@@ -11,7 +11,6 @@ use crate::shelf::shelf_of;
 use crate::texts::text_of;
 use desk_io::{OutOfMemory, Row, Shelf, copied_items};
 use serde_json::Value;
-use std::alloc::Global;
 use std::sync::Wait;
 
 // What may stand in a case, in each of its steps, and in what the cases of a file have in common.
@@ -32,17 +31,16 @@ const PARTS: [&str; 13] = [
 ];
 
 fn outside_of<'a, F: Shelf>(
-    alloc: Global,
     play: &Play<'a>,
     files: &mut F,
     rows: Vec<Row>,
 ) -> Result<Outside, CaseFault<'a>> {
-    let keeper = keeper_of(alloc, play, rows)?;
-    let words = words_of(alloc, play)?;
-    let shelf = shelf_of(alloc, play, files)?;
-    let sink = sink_of(alloc, play)?;
-    let clock = clock_of(alloc, play)?;
-    let door = door_of(alloc, play, files)?;
+    let keeper = keeper_of(play, rows)?;
+    let words = words_of(play)?;
+    let shelf = shelf_of(play, files)?;
+    let sink = sink_of(play)?;
+    let clock = clock_of(play)?;
+    let door = door_of(play, files)?;
     Ok(Outside {
         words,
         shelf,
@@ -56,54 +54,47 @@ fn outside_of<'a, F: Shelf>(
 // Plays a case or a step over rows, and answers those that it leaves.
 fn play_over<'a, R: Wait, F: Shelf>(
     rt: &R,
-    alloc: Global,
     place: &Play<'a>,
     files: &mut F,
     rows: Vec<Row>,
     report: &mut Report<'_>,
 ) -> Result<Vec<Row>, CaseFault<'a>> {
-    let before = lines_of(alloc, &rows)?;
-    let outside = outside_of(alloc, place, files, rows)?;
-    let played = play(rt, alloc, outside);
-    compare(alloc, place, files, &before, &played, report)?;
-    Ok(copied_items(played.keeper.rows(), alloc)?)
+    let before = lines_of(place.alloc, &rows)?;
+    let outside = outside_of(place, files, rows)?;
+    let played = play(rt, place.alloc, outside);
+    compare(place, files, &before, &played, report)?;
+    Ok(copied_items(played.keeper.rows(), place.alloc)?)
 }
 
 // The rows that the keeper holds at first.
-fn rows_at<'a, F: Shelf>(
-    alloc: Global,
-    place: &Play<'a>,
-    files: &mut F,
-) -> Result<Vec<Row>, CaseFault<'a>> {
+fn rows_at<'a, F: Shelf>(place: &Play<'a>, files: &mut F) -> Result<Vec<Row>, CaseFault<'a>> {
     match place.of_case("rows") {
-        None => Ok(Vec::new(alloc)),
+        None => Ok(Vec::new(place.alloc)),
         Some(rows) => {
-            let lines = text_of(alloc, place, files, rows)?;
-            rows_of(alloc, &lines)
+            let lines = text_of(place, files, rows)?;
+            rows_of(place.alloc, &lines)
         }
     }
 }
 
 fn play_steps<'a, R: Wait, F: Shelf>(
     rt: &R,
-    alloc: Global,
     place: &Play<'a>,
     files: &mut F,
     steps: &'a [Value],
     report: &mut Report<'_>,
 ) -> Result<(), CaseFault<'a>> {
-    let mut rows = rows_at(alloc, place, files)?;
+    let mut rows = rows_at(place, files)?;
     for (i, step) in steps.iter().enumerate() {
         check_keys(step, &PARTS, &["name"], "steps")?;
         let place = place.at_step(step, i);
-        rows = play_over(rt, alloc, &place, files, rows, report)?;
+        rows = play_over(rt, &place, files, rows, report)?;
     }
     Ok(())
 }
 
 fn play_once<'a, R: Wait, F: Shelf>(
     rt: &R,
-    alloc: Global,
     place: &Play<'a>,
     files: &mut F,
     report: &mut Report<'_>,
@@ -111,11 +102,11 @@ fn play_once<'a, R: Wait, F: Shelf>(
     match place.case.get("steps") {
         Some(steps) => {
             let steps = items_of(steps, "steps")?;
-            play_steps(rt, alloc, place, files, steps, report)
+            play_steps(rt, place, files, steps, report)
         }
         None => {
-            let rows = rows_at(alloc, place, files)?;
-            let _ = play_over(rt, alloc, place, files, rows, report)?;
+            let rows = rows_at(place, files)?;
+            let _ = play_over(rt, place, files, rows, report)?;
             Ok(())
         }
     }
@@ -123,7 +114,6 @@ fn play_once<'a, R: Wait, F: Shelf>(
 
 fn play_range<'a, R: Wait, F: Shelf>(
     rt: &R,
-    alloc: Global,
     place: &Play<'a>,
     files: &mut F,
     range: (u64, u64),
@@ -131,7 +121,7 @@ fn play_range<'a, R: Wait, F: Shelf>(
 ) -> Result<(), CaseFault<'a>> {
     for number in range.0..=range.1 {
         let place = place.for_each(number);
-        play_once(rt, alloc, &place, files, report)?;
+        play_once(rt, &place, files, report)?;
     }
     Ok(())
 }
@@ -156,7 +146,6 @@ fn check_common<'a>(place: &Play<'a>) -> Result<(), CaseFault<'a>> {
 
 fn play_all<'a, R: Wait, F: Shelf>(
     rt: &R,
-    alloc: Global,
     place: &Play<'a>,
     files: &mut F,
     report: &mut Report<'_>,
@@ -172,22 +161,21 @@ fn play_all<'a, R: Wait, F: Shelf>(
         return Err(CaseFault::Unread("name"));
     }
     match place.case.get("each") {
-        None => play_once(rt, alloc, place, files, report),
-        Some(each) => play_range(rt, alloc, place, files, range_of(each)?, report),
+        None => play_once(rt, place, files, report),
+        Some(each) => play_range(rt, place, files, range_of(each)?, report),
     }
 }
 
 /// Plays a case, and answers whether nothing differs.
 pub fn passes<R: Wait, F: Shelf>(
     rt: &R,
-    alloc: Global,
     place: &Play<'_>,
     files: &mut F,
     report: &mut Report<'_>,
 ) -> Result<bool, OutOfMemory> {
     let before = report.count();
-    if let Err(fault) = play_all(rt, alloc, place, files, report) {
-        report.unplayed(alloc, place, fault)?;
+    if let Err(fault) = play_all(rt, place, files, report) {
+        report.unplayed(place, fault)?;
     }
     Ok(report.count() == before)
 }

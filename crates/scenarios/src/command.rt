@@ -25,14 +25,14 @@ fn listed_words(alloc: Global, listed: &[Value]) -> Result<Vec<String>, CaseFaul
 }
 
 /// The words of a command.
-pub fn words_of<'a>(alloc: Global, play: &Play<'a>) -> Result<Vec<String>, CaseFault<'a>> {
+pub fn words_of<'a>(play: &Play<'a>) -> Result<Vec<String>, CaseFault<'a>> {
     match play.part("words") {
         Some(Value::String(text)) => {
-            let mut words = Vec::new(alloc);
-            push_words(alloc, &mut words, text.as_str())?;
+            let mut words = Vec::new(play.alloc);
+            push_words(play.alloc, &mut words, text.as_str())?;
             Ok(words)
         }
-        Some(Value::Array(listed)) => listed_words(alloc, listed.as_slice()),
+        Some(Value::Array(listed)) => listed_words(play.alloc, listed.as_slice()),
         _ => Err(CaseFault::Unread("words")),
     }
 }

@@ -65,7 +65,6 @@ fn line_at(text: &[u8], place: usize) -> Option<&[u8]> {
 
 // Compares a whole text, and says the first line that differs.
 fn compare_text(
-    alloc: Global,
     play: &Play<'_>,
     what: &str,
     wanted: &[u8],
@@ -77,23 +76,22 @@ fn compare_text(
     }
     let place = same_lines(wanted, came);
     let line = place.saturating_add(1);
-    let what = format!(in alloc; "{what}, line {line}")?;
-    let wanted = shown(alloc, line_at(wanted, place))?;
-    let came = shown(alloc, line_at(came, place))?;
-    report.differs(alloc, play, what.as_str(), wanted.as_str(), came.as_str())
+    let what = format!(in play.alloc; "{what}, line {line}")?;
+    let wanted = shown(play.alloc, line_at(wanted, place))?;
+    let came = shown(play.alloc, line_at(came, place))?;
+    report.differs(play, what.as_str(), wanted.as_str(), came.as_str())
 }
 
 fn compare_first(
-    alloc: Global,
     play: &Play<'_>,
     what: &str,
     wanted: &Value,
     came: &[u8],
     report: &mut Report<'_>,
 ) -> Result<(), OutOfMemory> {
-    let wanted = line_of(alloc, wanted)?;
+    let wanted = line_of(play.alloc, wanted)?;
     let came = line_at(came, 0).unwrap_or(&[]);
-    compare_text(alloc, play, what, &wanted, came, report)
+    compare_text(play, what, &wanted, came, report)
 }
 
 // A line and a count.
@@ -105,7 +103,6 @@ fn pair_of<'a>(play: &Play<'_>, pair: &'a Value) -> Option<(&'a Value, u64)> {
 }
 
 fn compare_count(
-    alloc: Global,
     play: &Play<'_>,
     what: &str,
     counted: Counted,
@@ -113,20 +110,19 @@ fn compare_count(
     came: &[u8],
     report: &mut Report<'_>,
 ) -> Result<(), OutOfMemory> {
-    let line = line_of(alloc, wanted.0)?;
+    let line = line_of(play.alloc, wanted.0)?;
     let count = count(counted, came, &line) as u64;
     if count == wanted.1 {
         return Ok(());
     }
-    let line = shown(alloc, Some(&line))?;
-    let what = format!(in alloc; "{what}, count of {line}")?;
-    let wanted = wanted.1.to_string(alloc)?;
-    let came = count.to_string(alloc)?;
-    report.differs(alloc, play, what.as_str(), wanted.as_str(), came.as_str())
+    let line = shown(play.alloc, Some(&line))?;
+    let what = format!(in play.alloc; "{what}, count of {line}")?;
+    let wanted = wanted.1.to_string(play.alloc)?;
+    let came = count.to_string(play.alloc)?;
+    report.differs(play, what.as_str(), wanted.as_str(), came.as_str())
 }
 
 fn compare_counts<'a>(
-    alloc: Global,
     play: &Play<'a>,
     what: &str,
     counted: Counted,
@@ -136,7 +132,7 @@ fn compare_counts<'a>(
 ) -> Result<(), CaseFault<'a>> {
     for pair in pairs {
         match pair_of(play, pair) {
-            Some(wanted) => compare_count(alloc, play, what, counted, wanted, came, report)?,
+            Some(wanted) => compare_count(play, what, counted, wanted, came, report)?,
             None => return Err(CaseFault::Unread("lines")),
         }
     }
@@ -144,7 +140,6 @@ fn compare_counts<'a>(
 }
 
 fn compare_counted<'a>(
-    alloc: Global,
     play: &Play<'a>,
     what: &str,
     checks: &'a Value,
@@ -161,7 +156,7 @@ fn compare_counted<'a>(
         None => Ok(()),
         Some(pairs) => {
             let pairs = items_of(pairs, key)?;
-            compare_counts(alloc, play, what, counted, pairs, came, report)
+            compare_counts(play, what, counted, pairs, came, report)
         }
     }
 }
@@ -173,7 +168,6 @@ fn has_check(wanted: &Value) -> bool {
 }
 
 fn compare_checks<'a>(
-    alloc: Global,
     play: &Play<'a>,
     what: &str,
     checks: &'a Value,
@@ -182,16 +176,15 @@ fn compare_checks<'a>(
 ) -> Result<(), CaseFault<'a>> {
     check_keys(checks, &CHECKS, &[], "written")?;
     if let Some(first) = checks.get("first") {
-        compare_first(alloc, play, what, first, came, report)?;
+        compare_first(play, what, first, came, report)?;
     }
-    compare_counted(alloc, play, what, checks, Counted::Lines, came, report)?;
-    compare_counted(alloc, play, what, checks, Counted::Prefix, came, report)?;
-    compare_counted(alloc, play, what, checks, Counted::Part, came, report)
+    compare_counted(play, what, checks, Counted::Lines, came, report)?;
+    compare_counted(play, what, checks, Counted::Prefix, came, report)?;
+    compare_counted(play, what, checks, Counted::Part, came, report)
 }
 
 // Compares what came with a text, or with what is said of its lines.
 fn compare_with<'a, F: Shelf>(
-    alloc: Global,
     play: &Play<'a>,
     files: &mut F,
     what: &str,
@@ -200,15 +193,14 @@ fn compare_with<'a, F: Shelf>(
     report: &mut Report<'_>,
 ) -> Result<(), CaseFault<'a>> {
     if has_check(wanted) {
-        return compare_checks(alloc, play, what, wanted, came, report);
+        return compare_checks(play, what, wanted, came, report);
     }
-    let wanted = text_of(alloc, play, files, wanted)?;
-    Ok(compare_text(alloc, play, what, &wanted, came, report)?)
+    let wanted = text_of(play, files, wanted)?;
+    Ok(compare_text(play, what, &wanted, came, report)?)
 }
 
 // Compares a text where the play says what it must be.
 fn compare_at<'a, F: Shelf>(
-    alloc: Global,
     play: &Play<'a>,
     files: &mut F,
     key: &str,
@@ -217,13 +209,12 @@ fn compare_at<'a, F: Shelf>(
 ) -> Result<(), CaseFault<'a>> {
     match play.part(key) {
         None => Ok(()),
-        Some(wanted) => compare_with(alloc, play, files, key, wanted, came, report),
+        Some(wanted) => compare_with(play, files, key, wanted, came, report),
     }
 }
 
 // Compares a value that is shown as JSON.
 fn compare_value<'a>(
-    alloc: Global,
     play: &Play<'a>,
     key: &str,
     came: &str,
@@ -233,47 +224,44 @@ fn compare_value<'a>(
         return Ok(());
     };
     let wanted = match play.number(value) {
-        Some(number) => number.to_string(alloc)?,
-        None => value.to_string(alloc)?,
+        Some(number) => number.to_string(play.alloc)?,
+        None => value.to_string(play.alloc)?,
     };
     if wanted.as_str() == came {
         return Ok(());
     }
-    report.differs(alloc, play, key, wanted.as_str(), came)
+    report.differs(play, key, wanted.as_str(), came)
 }
 
 fn compare_port(
-    alloc: Global,
     play: &Play<'_>,
     port: Option<u16>,
     report: &mut Report<'_>,
 ) -> Result<(), OutOfMemory> {
     match port {
-        None => compare_value(alloc, play, "port", "null", report),
+        None => compare_value(play, "port", "null", report),
         Some(port) => {
-            let port = port.to_string(alloc)?;
-            compare_value(alloc, play, "port", port.as_str(), report)
+            let port = port.to_string(play.alloc)?;
+            compare_value(play, "port", port.as_str(), report)
         }
     }
 }
 
 fn compare_values(
-    alloc: Global,
     play: &Play<'_>,
     played: &Played,
     report: &mut Report<'_>,
 ) -> Result<(), OutOfMemory> {
-    let status = played.status.to_string(alloc)?;
-    compare_value(alloc, play, "status", status.as_str(), report)?;
+    let status = played.status.to_string(play.alloc)?;
+    compare_value(play, "status", status.as_str(), report)?;
     let board = if played.board { "true" } else { "false" };
-    compare_value(alloc, play, "board", board, report)?;
-    compare_port(alloc, play, played.door.port(), report)?;
-    let asked = played.clock.given().to_string(alloc)?;
-    compare_value(alloc, play, "asked", asked.as_str(), report)
+    compare_value(play, "board", board, report)?;
+    compare_port(play, played.door.port(), report)?;
+    let asked = played.clock.given().to_string(play.alloc)?;
+    compare_value(play, "asked", asked.as_str(), report)
 }
 
 fn compare_link<'a, F: Shelf>(
-    alloc: Global,
     play: &Play<'a>,
     files: &mut F,
     i: usize,
@@ -282,20 +270,11 @@ fn compare_link<'a, F: Shelf>(
     report: &mut Report<'_>,
 ) -> Result<(), CaseFault<'a>> {
     let number = i.saturating_add(1);
-    let what = format!(in alloc; "links_written {number}")?;
-    compare_with(
-        alloc,
-        play,
-        files,
-        what.as_str(),
-        wanted,
-        link.written(),
-        report,
-    )
+    let what = format!(in play.alloc; "links_written {number}")?;
+    compare_with(play, files, what.as_str(), wanted, link.written(), report)
 }
 
 fn compare_each_link<'a, F: Shelf>(
-    alloc: Global,
     play: &Play<'a>,
     files: &mut F,
     wanted: &'a [Value],
@@ -303,13 +282,12 @@ fn compare_each_link<'a, F: Shelf>(
     report: &mut Report<'_>,
 ) -> Result<(), CaseFault<'a>> {
     for (i, (wanted, link)) in wanted.iter().zip(links).enumerate() {
-        compare_link(alloc, play, files, i, wanted, link, report)?;
+        compare_link(play, files, i, wanted, link, report)?;
     }
     Ok(())
 }
 
 fn compare_number_of_links(
-    alloc: Global,
     play: &Play<'_>,
     wanted: usize,
     came: usize,
@@ -318,10 +296,9 @@ fn compare_number_of_links(
     if wanted == came {
         return Ok(());
     }
-    let wanted = wanted.to_string(alloc)?;
-    let came = came.to_string(alloc)?;
+    let wanted = wanted.to_string(play.alloc)?;
+    let came = came.to_string(play.alloc)?;
     report.differs(
-        alloc,
         play,
         "number of links_written",
         wanted.as_str(),
@@ -330,7 +307,6 @@ fn compare_number_of_links(
 }
 
 fn compare_links<'a, F: Shelf>(
-    alloc: Global,
     play: &Play<'a>,
     files: &mut F,
     links: &[MemoryLink],
@@ -340,8 +316,8 @@ fn compare_links<'a, F: Shelf>(
         return Ok(());
     };
     let wanted = items_of(wanted, "links_written")?;
-    compare_number_of_links(alloc, play, wanted.len(), links.len(), report)?;
-    compare_each_link(alloc, play, files, wanted, links, report)
+    compare_number_of_links(play, wanted.len(), links.len(), report)?;
+    compare_each_link(play, files, wanted, links, report)
 }
 
 fn are_same(wanted: &Value) -> bool {
@@ -350,7 +326,6 @@ fn are_same(wanted: &Value) -> bool {
 
 // Compares the rows that are left, where the play says which must be.
 fn compare_left<'a, F: Shelf>(
-    alloc: Global,
     play: &Play<'a>,
     files: &mut F,
     before: &[u8],
@@ -359,24 +334,23 @@ fn compare_left<'a, F: Shelf>(
 ) -> Result<(), CaseFault<'a>> {
     match play.part("left") {
         Some(wanted) if are_same(wanted) => {
-            Ok(compare_text(alloc, play, "left", before, left, report)?)
+            Ok(compare_text(play, "left", before, left, report)?)
         }
-        _ => compare_at(alloc, play, files, "left", left, report),
+        _ => compare_at(play, files, "left", left, report),
     }
 }
 
 /// Compares what the program came to, over the rows of lines before it, with what a play says must come.
 pub fn compare<'a, F: Shelf>(
-    alloc: Global,
     play: &Play<'a>,
     files: &mut F,
     before: &[u8],
     played: &Played,
     report: &mut Report<'_>,
 ) -> Result<(), CaseFault<'a>> {
-    compare_values(alloc, play, played, report)?;
-    compare_at(alloc, play, files, "written", played.sink.written(), report)?;
-    let left = lines_of(alloc, played.keeper.rows())?;
-    compare_left(alloc, play, files, before, &left, report)?;
-    compare_links(alloc, play, files, played.door.ended(), report)
+    compare_values(play, played, report)?;
+    compare_at(play, files, "written", played.sink.written(), report)?;
+    let left = lines_of(play.alloc, played.keeper.rows())?;
+    compare_left(play, files, before, &left, report)?;
+    compare_links(play, files, played.door.ended(), report)
 }

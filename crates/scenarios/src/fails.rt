@@ -2,7 +2,6 @@ use crate::fault::CaseFault;
 use crate::members::{check_keys, items_of};
 use crate::play::Play;
 use serde_json::Value;
-use std::alloc::Global;
 
 const OBJECTS: [&str; 6] = ["shelf", "sink", "keeper", "clock", "door", "links"];
 
@@ -13,12 +12,11 @@ pub fn is_load(value: &Value) -> bool {
 
 /// The numbers of a list, in which `load` may stand beside them.
 pub fn numbers_in(
-    alloc: Global,
     play: &Play<'_>,
     listed: &[Value],
     with_load: bool,
 ) -> Result<Vec<u64>, CaseFault<'static>> {
-    let mut numbers = Vec::new(alloc);
+    let mut numbers = Vec::new(play.alloc);
     for value in listed {
         match play.number(value) {
             Some(number) => numbers.push(number)?,
@@ -46,6 +44,6 @@ pub fn fail_at<'a>(play: &Play<'a>, key: &str) -> Result<&'a [Value], CaseFault<
 }
 
 /// The numbers of the calls of an object that fail.
-pub fn failing<'a>(alloc: Global, play: &Play<'a>, key: &str) -> Result<Vec<u64>, CaseFault<'a>> {
-    numbers_in(alloc, play, fail_at(play, key)?, key == "keeper")
+pub fn failing<'a>(play: &Play<'a>, key: &str) -> Result<Vec<u64>, CaseFault<'a>> {
+    numbers_in(play, fail_at(play, key)?, key == "keeper")
 }

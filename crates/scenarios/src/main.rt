@@ -1,6 +1,33 @@
-//! Plays cases through the program's call over objects in memory, and compares what comes with what the cases say must come. The
-//! words name files of cases. A line is printed for each difference, and a last one with the counts of cases; the status is 0 where
-//! nothing differs.
+//! Plays cases through the program's call over objects in memory, and compares what comes with what the cases say must
+//! come. The words name files of cases. A line is printed for each difference, and a last one with the counts of cases;
+//! the status is 0 where nothing differs.
+//!
+//! A file is one JSON object of `cases` and, where it has them, of `texts` by their names and of `common`: what a case
+//! lacks it takes from there. A case has
+//!
+//! - `name`: what must hold, as a sentence.
+//! - `tables`: a folder with the twelve tables, or an object of texts by the names of their files.
+//! - `sources`: an object of further texts by their names. One with the name of a table counts before that table.
+//! - `words`: the command, cut at blanks, or a list of words.
+//! - `rows`: the rows that the keeper holds at first, lines `KIND KEY BODY` in order.
+//! - `clock`: a list of the moments that the clock gives, the last one again and again. Without it that is
+//!   2000-01-01T00:00Z.
+//! - `links`: a list of `{"input": TEXT, "cut": N}`: what comes to the door, at most N bytes at once, or 4,096 where that
+//!   isn't said.
+//! - `fail`: which calls fail, lists of numbers from 0, of `shelf`, `sink`, `keeper` (its commits, and with `"load"` its
+//!   rows can't be loaded), `clock` and `door`, and such a list for each link in the list `links`.
+//! - what must come, of which nothing that is missing is compared: `status`; `board`, whether one is left; `port`, where
+//!   the door was opened, or null; `asked`, how many moments the clock gave; `written`, a text; `left`, the rows that the
+//!   keeper holds at last; and `links_written`, a list of texts, of the links that were given back.
+//! - `steps`: a list of objects of these keys, played one after another over the rows that the one before left. What a
+//!   step lacks it takes from its case.
+//! - `each`: `{"from": A, "to": B}`: the case is played for each number from A to B, and `"each"` stands for the number.
+//!
+//! A text is a string; or a list of lines, each a string, or JSON that stands for its compact form; or, also in such a
+//! list, `{"text": NAME}`, `{"times": N, "text": NAME}`, `{"hex": DIGITS}`, `{"file": PATH}` or `{"join": [TEXT, ..]}`.
+//! For a text that must come there may stand an object of `first`, its first line, and of `lines`, `prefix` and `part`,
+//! lists of `[LINE, COUNT]`: so many lines are this one, begin with it, or have it in them. `left` may be
+//! `{"same": true}`: the rows as they were before.
 #![tactic(auto)]
 
 mod cases;
@@ -58,7 +85,7 @@ fn play_cases<R: Wait, F: Shelf>(
     counts: &mut Counts,
 ) -> Result<(), OutOfMemory> {
     for case in cases {
-        if cases::passes(rt, alloc, &Play::of(file, case), files, report)? {
+        if cases::passes(rt, &Play::of(alloc, file, case), files, report)? {
             counts.passed = counts.passed.saturating_add(1);
         } else {
             counts.failed = counts.failed.saturating_add(1);

@@ -23,6 +23,10 @@ fn memory_or_none(error: &Error) -> Result<Option<Value>, OutOfMemory> {
     }
 }
 
+fn is_among(key: &str, keys: &[&str]) -> bool {
+    keys.iter().any(|one| *one == key)
+}
+
 // The first key of an object that is in neither list.
 fn first_unknown<'a>(
     members: &'a Map<String, Value>,
@@ -30,7 +34,7 @@ fn first_unknown<'a>(
     more: &[&str],
 ) -> Option<&'a str> {
     for (key, _) in members.iter() {
-        if !known.contains(&key.as_str()) && !more.contains(&key.as_str()) {
+        if !is_among(key.as_str(), known) && !is_among(key.as_str(), more) {
             return Some(key.as_str());
         }
     }

@@ -19,19 +19,15 @@ use std::alloc::Global;
 const CUT: u64 = 4_096;
 
 /// The sink of a play.
-pub fn sink_of<'a>(alloc: Global, play: &Play<'a>) -> Result<MemorySink, CaseFault<'a>> {
-    Ok(MemorySink::new(alloc, failing(alloc, play, "sink")?))
+pub fn sink_of<'a>(play: &Play<'a>) -> Result<MemorySink, CaseFault<'a>> {
+    Ok(MemorySink::new(play.alloc, failing(play, "sink")?))
 }
 
 /// The keeper of a play over rows.
-pub fn keeper_of<'a>(
-    alloc: Global,
-    play: &Play<'a>,
-    rows: Vec<Row>,
-) -> Result<CaseKeeper, CaseFault<'a>> {
+pub fn keeper_of<'a>(play: &Play<'a>, rows: Vec<Row>) -> Result<CaseKeeper, CaseFault<'a>> {
     let fails = fail_at(play, "keeper")?;
     let loads = !fails.iter().any(is_load);
-    let fail = failing(alloc, play, "keeper")?;
+    let fail = failing(play, "keeper")?;
     if is_rising(&rows) {
         Ok(CaseKeeper::new(MemoryKeeper::new(rows, fail), loads))
     } else {
@@ -58,19 +54,19 @@ fn moments_in(alloc: Global, listed: &[Value]) -> Result<Vec<Minute>, CaseFault<
     Ok(moments)
 }
 
-fn moments_of<'a>(alloc: Global, play: &Play<'a>) -> Result<Vec<Minute>, CaseFault<'a>>
+fn moments_of<'a>(play: &Play<'a>) -> Result<Vec<Minute>, CaseFault<'a>>
     ensures { IfOk result (λ moments. All IsMoment moments.items) }
 {
     match play.part("clock") {
-        None => Ok(vec![in alloc; FIRST]?),
-        Some(listed) => moments_in(alloc, items_of(listed, "clock")?),
+        None => Ok(vec![in play.alloc; FIRST]?),
+        Some(listed) => moments_in(play.alloc, items_of(listed, "clock")?),
     }
 }
 
 /// The clock of a play.
-pub fn clock_of<'a>(alloc: Global, play: &Play<'a>) -> Result<CaseClock, CaseFault<'a>> {
-    let fail = failing(alloc, play, "clock")?;
-    let moments = moments_of(alloc, play)?;
+pub fn clock_of<'a>(play: &Play<'a>) -> Result<CaseClock, CaseFault<'a>> {
+    let fail = failing(play, "clock")?;
+    let moments = moments_of(play)?;
     if moments.is_empty() {
         Err(CaseFault::Unread("clock"))
     } else {
@@ -92,7 +88,6 @@ fn cut_of<'a>(play: &Play<'a>, link: &'a Value) -> Result<usize, CaseFault<'a>>
 }
 
 fn link_of<'a, F: Shelf>(
-    alloc: Global,
     play: &Play<'a>,
     files: &mut F,
     link: &'a Value,
@@ -103,49 +98,43 @@ fn link_of<'a, F: Shelf>(
         return Err(CaseFault::Unread("input"));
     };
     let cut = cut_of(play, link)?;
-    let input = text_of(alloc, play, files, input)?;
-    Ok(MemoryLink::new(alloc, input, cut, fail))
+    let input = text_of(play, files, input)?;
+    Ok(MemoryLink::new(play.alloc, input, cut, fail))
 }
 
 // Which calls of the link of a number fail.
 fn link_fails<'a>(
-    alloc: Global,
     play: &Play<'a>,
     fails: &'a [Value],
     i: usize,
 ) -> Result<Vec<u64>, CaseFault<'a>> {
     match fails.get(i) {
-        None => Ok(Vec::new(alloc)),
-        Some(listed) => numbers_in(alloc, play, items_of(listed, "fail")?, false),
+        None => Ok(Vec::new(play.alloc)),
+        Some(listed) => numbers_in(play, items_of(listed, "fail")?, false),
     }
 }
 
 fn links_in<'a, F: Shelf>(
-    alloc: Global,
     play: &Play<'a>,
     files: &mut F,
     listed: &'a [Value],
     fails: &'a [Value],
 ) -> Result<Vec<MemoryLink>, CaseFault<'a>> {
-    let mut links = Vec::new(alloc);
+    let mut links = Vec::new(play.alloc);
     for (i, link) in listed.iter().enumerate() {
-        let fail = link_fails(alloc, play, fails, i)?;
-        links.push(link_of(alloc, play, files, link, fail)?)?;
+        let fail = link_fails(play, fails, i)?;
+        links.push(link_of(play, files, link, fail)?)?;
     }
     Ok(links)
 }
 
 /// The door of a play.
-pub fn door_of<'a, F: Shelf>(
-    alloc: Global,
-    play: &Play<'a>,
-    files: &mut F,
-) -> Result<MemoryDoor, CaseFault<'a>> {
+pub fn door_of<'a, F: Shelf>(play: &Play<'a>, files: &mut F) -> Result<MemoryDoor, CaseFault<'a>> {
     let listed = match play.part("links") {
         None => &[],
         Some(listed) => items_of(listed, "links")?,
     };
-    let fail = failing(alloc, play, "door")?;
-    let links = links_in(alloc, play, files, listed, fail_at(play, "links")?)?;
-    Ok(MemoryDoor::new(alloc, links, fail))
+    let fail = failing(play, "door")?;
+    let links = links_in(play, files, listed, fail_at(play, "links")?)?;
+    Ok(MemoryDoor::new(play.alloc, links, fail))
 }

@@ -1,9 +1,11 @@
 use crate::fault::CaseFault;
 use serde_json::Value;
+use std::alloc::Global;
 
 /// One play of a case, or of one of its steps: where it stands, and for which number it is played.
 #[derive(Clone, Copy)]
 pub struct Play<'a> {
+    pub alloc: Global,
     /// The named texts of the file.
     pub texts: Option<&'a Value>,
     /// What the cases of the file have in common.
@@ -19,8 +21,9 @@ pub struct Play<'a> {
 
 impl<'a> Play<'a> {
     /// A case that is played whole and once.
-    pub fn of(file: &'a Value, case: &'a Value) -> Self {
+    pub fn of(alloc: Global, file: &'a Value, case: &'a Value) -> Self {
         Play {
+            alloc,
             texts: file.get("texts"),
             common: file.get("common"),
             case,
@@ -33,6 +36,7 @@ impl<'a> Play<'a> {
     /// The step at a place, from 0.
     pub fn at_step(&self, step: &'a Value, place: usize) -> Self {
         Play {
+            alloc: self.alloc,
             texts: self.texts,
             common: self.common,
             case: self.case,
@@ -45,6 +49,7 @@ impl<'a> Play<'a> {
     /// The same for a number.
     pub fn for_each(&self, number: u64) -> Self {
         Play {
+            alloc: self.alloc,
             texts: self.texts,
             common: self.common,
             case: self.case,

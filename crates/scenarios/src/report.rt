@@ -12,14 +12,14 @@ pub struct Report<'a> {
 }
 
 // Where a play stands: its file, its case, its number and its step.
-fn place_of(alloc: Global, file: &str, play: &Play<'_>) -> Result<String, OutOfMemory> {
+fn place_of(file: &str, play: &Play<'_>) -> Result<String, OutOfMemory> {
     let name = play.name();
-    let mut place = format!(in alloc; "{file}: {name}")?;
+    let mut place = format!(in play.alloc; "{file}: {name}")?;
     if let Some(each) = play.each {
-        place.push_str(format!(in alloc; ", each {each}")?.as_str())?;
+        place.push_str(format!(in play.alloc; ", each {each}")?.as_str())?;
     }
     if let Some(step) = play.place {
-        place.push_str(format!(in alloc; ", step {step}")?.as_str())?;
+        place.push_str(format!(in play.alloc; ", step {step}")?.as_str())?;
     }
     Ok(place)
 }
@@ -53,9 +53,9 @@ impl<'a> Report<'a> {
         Ok(())
     }
 
-    fn push(&mut self, alloc: Global, play: &Play<'_>, what: &str) -> Result<(), OutOfMemory> {
-        let place = place_of(alloc, self.file, play)?;
-        let line = format!(in alloc; "{place}: {what}\n")?;
+    fn push(&mut self, play: &Play<'_>, what: &str) -> Result<(), OutOfMemory> {
+        let place = place_of(self.file, play)?;
+        let line = format!(in play.alloc; "{place}: {what}\n")?;
         self.lines.push_str(line.as_str())?;
         self.count = self.count.saturating_add(1);
         Ok(())
@@ -64,29 +64,23 @@ impl<'a> Report<'a> {
     /// Says that what was wanted isn't what came.
     pub fn differs(
         &mut self,
-        alloc: Global,
         play: &Play<'_>,
         what: &str,
         wanted: &str,
         came: &str,
     ) -> Result<(), OutOfMemory> {
-        let line = format!(in alloc; "{what}: wanted {wanted}, came {came}")?;
-        self.push(alloc, play, line.as_str())
+        let line = format!(in play.alloc; "{what}: wanted {wanted}, came {came}")?;
+        self.push(play, line.as_str())
     }
 
     /// Says why a play can't be made.
-    pub fn unplayed(
-        &mut self,
-        alloc: Global,
-        play: &Play<'_>,
-        fault: CaseFault<'_>,
-    ) -> Result<(), OutOfMemory> {
+    pub fn unplayed(&mut self, play: &Play<'_>, fault: CaseFault<'_>) -> Result<(), OutOfMemory> {
         let line = match fault {
-            CaseFault::Unread(key) => format!(in alloc; "{key:?} can't be read")?,
-            CaseFault::NoText(name) => format!(in alloc; "there is no text {name:?}")?,
-            CaseFault::NoFile(path) => format!(in alloc; "there is no file {path:?}")?,
+            CaseFault::Unread(key) => format!(in play.alloc; "{key:?} can't be read")?,
+            CaseFault::NoText(name) => format!(in play.alloc; "there is no text {name:?}")?,
+            CaseFault::NoFile(path) => format!(in play.alloc; "there is no file {path:?}")?,
             CaseFault::OutOfMemory => return Err(OutOfMemory),
         };
-        self.push(alloc, play, line.as_str())
+        self.push(play, line.as_str())
     }
 }

@@ -25,28 +25,26 @@ const TABLES: [&str; 12] = [
 type Sources = Vec<(Text, Text)>;
 
 fn push_source<'a, F: Shelf>(
-    alloc: Global,
     play: &Play<'a>,
     files: &mut F,
     sources: &mut Sources,
     name: &str,
     value: &'a Value,
 ) -> Result<(), CaseFault<'a>> {
-    let text = text_of(alloc, play, files, value)?;
-    let name = Text::of(alloc, name.as_bytes())?;
+    let text = text_of(play, files, value)?;
+    let name = Text::of(play.alloc, name.as_bytes())?;
     sources.push((name, Text::from_vec(text)))?;
     Ok(())
 }
 
 fn push_sources<'a, F: Shelf>(
-    alloc: Global,
     play: &Play<'a>,
     files: &mut F,
     sources: &mut Sources,
     members: &'a Map<String, Value>,
 ) -> Result<(), CaseFault<'a>> {
     for (name, value) in members.iter() {
-        push_source(alloc, play, files, sources, name.as_str(), value)?;
+        push_source(play, files, sources, name.as_str(), value)?;
     }
     Ok(())
 }
@@ -81,7 +79,6 @@ fn push_folder<'a, F: Shelf>(
 }
 
 fn push_all_of<'a, F: Shelf>(
-    alloc: Global,
     play: &Play<'a>,
     files: &mut F,
     sources: &mut Sources,
@@ -89,20 +86,19 @@ fn push_all_of<'a, F: Shelf>(
 ) -> Result<(), CaseFault<'a>> {
     match play.part(key) {
         None => Ok(()),
-        Some(Value::String(folder)) => push_folder(alloc, files, sources, folder.as_str()),
-        Some(Value::Object(members)) => push_sources(alloc, play, files, sources, members),
+        Some(Value::String(folder)) => push_folder(play.alloc, files, sources, folder.as_str()),
+        Some(Value::Object(members)) => push_sources(play, files, sources, members),
         Some(_) => Err(CaseFault::Unread(key)),
     }
 }
 
 /// The shelf of a play. Of two sources with one name the first counts.
 pub fn shelf_of<'a, F: Shelf>(
-    alloc: Global,
     play: &Play<'a>,
     files: &mut F,
 ) -> Result<MemoryShelf, CaseFault<'a>> {
-    let mut sources = Vec::new(alloc);
-    push_all_of(alloc, play, files, &mut sources, "sources")?;
-    push_all_of(alloc, play, files, &mut sources, "tables")?;
-    Ok(MemoryShelf::new(sources, failing(alloc, play, "shelf")?))
+    let mut sources = Vec::new(play.alloc);
+    push_all_of(play, files, &mut sources, "sources")?;
+    push_all_of(play, files, &mut sources, "tables")?;
+    Ok(MemoryShelf::new(sources, failing(play, "shelf")?))
 }

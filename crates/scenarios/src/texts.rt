@@ -94,7 +94,6 @@ fn push_file<'a, F: Shelf>(
 }
 
 fn put_reference<'a, F: Shelf>(
-    alloc: Global,
     play: &Play<'a>,
     files: &mut F,
     reference: Reference<'a>,
@@ -111,8 +110,8 @@ fn put_reference<'a, F: Shelf>(
             })?;
             Ok(())
         }
-        Reference::Hex(digits) => push_hex(alloc, digits, text),
-        Reference::File(path) => push_file(alloc, files, path, text),
+        Reference::Hex(digits) => push_hex(play.alloc, digits, text),
+        Reference::File(path) => push_file(play.alloc, files, path, text),
         Reference::Joined(values) => Ok(push_pieces(left, values, false)?),
     }
 }
@@ -128,7 +127,6 @@ fn put_data(alloc: Global, value: &Value, text: &mut Vec<u8>) -> Result<(), OutO
 }
 
 fn put_whole<'a, F: Shelf>(
-    alloc: Global,
     play: &Play<'a>,
     files: &mut F,
     value: &'a Value,
@@ -139,14 +137,13 @@ fn put_whole<'a, F: Shelf>(
         Value::String(whole) => Ok(text.extend_from_slice(whole.as_bytes())?),
         Value::Array(lines) => Ok(push_pieces(left, lines.as_slice(), true)?),
         _ => match reference_of(play, value) {
-            Some(reference) => put_reference(alloc, play, files, reference, left, text),
+            Some(reference) => put_reference(play, files, reference, left, text),
             None => Err(CaseFault::Unread("text")),
         },
     }
 }
 
 fn put_in_list<'a, F: Shelf>(
-    alloc: Global,
     play: &Play<'a>,
     files: &mut F,
     value: &'a Value,
@@ -156,8 +153,8 @@ fn put_in_list<'a, F: Shelf>(
     match value {
         Value::String(line) => Ok(put_line(line.as_bytes(), text)?),
         Value::Object(_) => match reference_of(play, value) {
-            Some(reference) => put_reference(alloc, play, files, reference, left, text),
-            None => Ok(put_data(alloc, value, text)?),
+            Some(reference) => put_reference(play, files, reference, left, text),
+            None => Ok(put_data(play.alloc, value, text)?),
         },
         _ => Err(CaseFault::Unread("text")),
     }
@@ -165,7 +162,6 @@ fn put_in_list<'a, F: Shelf>(
 
 // Puts a piece once, where it stands so many times still.
 fn put<'a, F: Shelf>(
-    alloc: Global,
     play: &Play<'a>,
     files: &mut F,
     piece: Piece<'a>,
@@ -181,21 +177,20 @@ fn put<'a, F: Shelf>(
     if piece.times == 0 {
         Ok(())
     } else if piece.is_line {
-        put_in_list(alloc, play, files, piece.value, left, text)
+        put_in_list(play, files, piece.value, left, text)
     } else {
-        put_whole(alloc, play, files, piece.value, left, text)
+        put_whole(play, files, piece.value, left, text)
     }
 }
 
 /// The text that a value of a case stands for.
 pub fn text_of<'a, F: Shelf>(
-    alloc: Global,
     play: &Play<'a>,
     files: &mut F,
     value: &'a Value,
 ) -> Result<Vec<u8>, CaseFault<'a>> {
-    let mut text = Vec::new(alloc);
-    let mut left = vec![in alloc;
+    let mut text = Vec::new(play.alloc);
+    let mut left = vec![in play.alloc;
         Piece {
             value,
             is_line: false,
@@ -204,7 +199,7 @@ pub fn text_of<'a, F: Shelf>(
     ]?;
     for _ in 0..PIECES {
         match left.pop() {
-            Some(piece) => put(alloc, play, files, piece, &mut left, &mut text)?,
+            Some(piece) => put(play, files, piece, &mut left, &mut text)?,
             None => return Ok(text),
         }
     }
