@@ -100,10 +100,10 @@ fn play_once<'a, R: Wait, F: Shelf>(
     report: &mut Report<'_>,
 ) -> Result<(), CaseFault<'a>> {
     match place.case.get("steps") {
-        Some(steps) => {
-            let steps = items_of(steps, "steps")?;
-            play_steps(rt, place, files, steps, report)
-        }
+        Some(steps) => match items_of(steps, "steps")? {
+            [] => Err(CaseFault::Unread("steps")),
+            steps => play_steps(rt, place, files, steps, report),
+        },
         None => {
             let rows = rows_at(place, files)?;
             let _ = play_over(rt, place, files, rows, report)?;
