@@ -1,11 +1,13 @@
 //! Tests of what is kept: keepers of rows, in memory and over a file, plans, asks and what was done as JSON, the
-//! rows of a desk, and what is asked and refused of them.
+//! rows of a desk, what is asked and refused of them, and copies.
 #![tactic(auto)]
 
 #[cfg(test)]
 mod asked;
 #[cfg(test)]
 mod calls;
+#[cfg(test)]
+mod copies;
 #[cfg(test)]
 mod desks;
 #[cfg(test)]

@@ -1,0 +1,356 @@
+use crate::fault::CaseFault;
+use crate::members::{check_keys, items_of};
+use crate::play::Play;
+use crate::playing::Played;
+use crate::report::Report;
+use crate::rows::lines_of;
+use crate::texts::{line_of, text_of};
+use desk_io::{OutOfMemory, Shelf};
+use desk_net::MemoryLink;
+use serde_json::Value;
+use std::alloc::Global;
+
+// Which lines are counted: those that are a text, that begin with it, or that have it in them.
+#[derive(Clone, Copy)]
+enum Counted {
+    Lines,
+    Prefix,
+    Part,
+}
+
+fn is_line_feed(byte: &u8) -> bool {
+    *byte == b'\n'
+}
+
+fn has_part(line: &[u8], part: &[u8]) -> bool {
+    part.is_empty() || line.windows(part.len()).any(|window| window == part)
+}
+
+fn is_counted(counted: Counted, line: &[u8], text: &[u8]) -> bool {
+    match counted {
+        Counted::Lines => line == text,
+        Counted::Prefix => line.starts_with(text),
+        Counted::Part => has_part(line, text),
+    }
+}
+
+fn count(counted: Counted, came: &[u8], text: &[u8]) -> usize {
+    came.split(is_line_feed)
+        .filter(|line| is_counted(counted, line, text))
+        .count()
+}
+
+// A line as it is shown; none where a text has ended.
+fn shown(alloc: Global, line: Option<&[u8]>) -> Result<String, OutOfMemory> {
+    match line {
+        None => Ok(String::from_str(alloc, "nothing")?),
+        Some(line) => {
+            let text = String::from_utf8_lossy(alloc, line)?;
+            Ok(format!(in alloc; "{text:?}")?)
+        }
+    }
+}
+
+// How many lines two texts begin with that are the same.
+fn same_lines(one: &[u8], other: &[u8]) -> usize {
+    one.split(is_line_feed)
+        .zip(other.split(is_line_feed))
+        .take_while(|(a, b)| a == b)
+        .count()
+}
+
+fn line_at(text: &[u8], place: usize) -> Option<&[u8]> {
+    text.split(is_line_feed).nth(place)
+}
+
+// Compares a whole text, and says the first line that differs.
+fn compare_text(
+    play: &Play<'_>,
+    what: &str,
+    wanted: &[u8],
+    came: &[u8],
+    report: &mut Report<'_>,
+) -> Result<(), OutOfMemory> {
+    if wanted == came {
+        return Ok(());
+    }
+    let place = same_lines(wanted, came);
+    let line = place.saturating_add(1);
+    let what = format!(in play.alloc; "{what}, line {line}")?;
+    let wanted = shown(play.alloc, line_at(wanted, place))?;
+    let came = shown(play.alloc, line_at(came, place))?;
+    report.differs(play, what.as_str(), wanted.as_str(), came.as_str())
+}
+
+fn compare_first(
+    play: &Play<'_>,
+    what: &str,
+    wanted: &Value,
+    came: &[u8],
+    report: &mut Report<'_>,
+) -> Result<(), OutOfMemory> {
+    let wanted = line_of(play.alloc, wanted)?;
+    let came = line_at(came, 0).unwrap_or(&[]);
+    compare_text(play, what, &wanted, came, report)
+}
+
+// A line and a count.
+fn pair_of<'a>(play: &Play<'_>, pair: &'a Value) -> Option<(&'a Value, u64)> {
+    match pair.as_array()?.as_slice() {
+        [line, count] => Some((line, play.number(count)?)),
+        _ => None,
+    }
+}
+
+fn compare_count(
+    play: &Play<'_>,
+    what: &str,
+    counted: Counted,
+    wanted: (&Value, u64),
+    came: &[u8],
+    report: &mut Report<'_>,
+) -> Result<(), OutOfMemory> {
+    let line = line_of(play.alloc, wanted.0)?;
+    let count = count(counted, came, &line) as u64;
+    if count == wanted.1 {
+        return Ok(());
+    }
+    let line = shown(play.alloc, Some(&line))?;
+    let what = format!(in play.alloc; "{what}, count of {line}")?;
+    let wanted = wanted.1.to_string(play.alloc)?;
+    let came = count.to_string(play.alloc)?;
+    report.differs(play, what.as_str(), wanted.as_str(), came.as_str())
+}
+
+fn compare_counts<'a>(
+    play: &Play<'a>,
+    what: &str,
+    counted: Counted,
+    pairs: &'a [Value],
+    came: &[u8],
+    report: &mut Report<'_>,
+) -> Result<(), CaseFault<'a>> {
+    for pair in pairs {
+        match pair_of(play, pair) {
+            Some(wanted) => compare_count(play, what, counted, wanted, came, report)?,
+            None => return Err(CaseFault::Unread("lines")),
+        }
+    }
+    Ok(())
+}
+
+fn compare_counted<'a>(
+    play: &Play<'a>,
+    what: &str,
+    checks: &'a Value,
+    counted: Counted,
+    came: &[u8],
+    report: &mut Report<'_>,
+) -> Result<(), CaseFault<'a>> {
+    let key = match counted {
+        Counted::Lines => "lines",
+        Counted::Prefix => "prefix",
+        Counted::Part => "part",
+    };
+    match checks.get(key) {
+        None => Ok(()),
+        Some(pairs) => {
+            let pairs = items_of(pairs, key)?;
+            compare_counts(play, what, counted, pairs, came, report)
+        }
+    }
+}
+
+const CHECKS: [&str; 4] = ["first", "lines", "prefix", "part"];
+
+fn has_check(wanted: &Value) -> bool {
+    CHECKS.iter().any(|key| wanted.get(*key).is_some())
+}
+
+fn compare_checks<'a>(
+    play: &Play<'a>,
+    what: &str,
+    checks: &'a Value,
+    came: &[u8],
+    report: &mut Report<'_>,
+) -> Result<(), CaseFault<'a>> {
+    check_keys(checks, &CHECKS, &[], "written")?;
+    if let Some(first) = checks.get("first") {
+        compare_first(play, what, first, came, report)?;
+    }
+    compare_counted(play, what, checks, Counted::Lines, came, report)?;
+    compare_counted(play, what, checks, Counted::Prefix, came, report)?;
+    compare_counted(play, what, checks, Counted::Part, came, report)
+}
+
+// Compares what came with a text, or with what is said of its lines.
+fn compare_with<'a, F: Shelf>(
+    play: &Play<'a>,
+    files: &mut F,
+    what: &str,
+    wanted: &'a Value,
+    came: &[u8],
+    report: &mut Report<'_>,
+) -> Result<(), CaseFault<'a>> {
+    if has_check(wanted) {
+        return compare_checks(play, what, wanted, came, report);
+    }
+    let wanted = text_of(play, files, wanted)?;
+    Ok(compare_text(play, what, &wanted, came, report)?)
+}
+
+// Compares a text where the play says what it must be.
+fn compare_at<'a, F: Shelf>(
+    play: &Play<'a>,
+    files: &mut F,
+    key: &str,
+    came: &[u8],
+    report: &mut Report<'_>,
+) -> Result<(), CaseFault<'a>> {
+    match play.part(key) {
+        None => Ok(()),
+        Some(wanted) => compare_with(play, files, key, wanted, came, report),
+    }
+}
+
+// Compares a value that is shown as JSON.
+fn compare_value<'a>(
+    play: &Play<'a>,
+    key: &str,
+    came: &str,
+    report: &mut Report<'_>,
+) -> Result<(), OutOfMemory> {
+    let Some(value) = play.part(key) else {
+        return Ok(());
+    };
+    let wanted = match play.number(value) {
+        Some(number) => number.to_string(play.alloc)?,
+        None => value.to_string(play.alloc)?,
+    };
+    if wanted.as_str() == came {
+        return Ok(());
+    }
+    report.differs(play, key, wanted.as_str(), came)
+}
+
+fn compare_port(
+    play: &Play<'_>,
+    port: Option<u16>,
+    report: &mut Report<'_>,
+) -> Result<(), OutOfMemory> {
+    match port {
+        None => compare_value(play, "port", "null", report),
+        Some(port) => {
+            let port = port.to_string(play.alloc)?;
+            compare_value(play, "port", port.as_str(), report)
+        }
+    }
+}
+
+fn compare_values(
+    play: &Play<'_>,
+    played: &Played,
+    report: &mut Report<'_>,
+) -> Result<(), OutOfMemory> {
+    let status = played.status.to_string(play.alloc)?;
+    compare_value(play, "status", status.as_str(), report)?;
+    let board = if played.board { "true" } else { "false" };
+    compare_value(play, "board", board, report)?;
+    compare_port(play, played.door.port(), report)?;
+    let asked = played.clock.given().to_string(play.alloc)?;
+    compare_value(play, "asked", asked.as_str(), report)
+}
+
+fn compare_link<'a, F: Shelf>(
+    play: &Play<'a>,
+    files: &mut F,
+    i: usize,
+    wanted: &'a Value,
+    link: &MemoryLink,
+    report: &mut Report<'_>,
+) -> Result<(), CaseFault<'a>> {
+    let number = i.saturating_add(1);
+    let what = format!(in play.alloc; "links_written {number}")?;
+    compare_with(play, files, what.as_str(), wanted, link.written(), report)
+}
+
+fn compare_each_link<'a, F: Shelf>(
+    play: &Play<'a>,
+    files: &mut F,
+    wanted: &'a [Value],
+    links: &[MemoryLink],
+    report: &mut Report<'_>,
+) -> Result<(), CaseFault<'a>> {
+    for (i, (wanted, link)) in wanted.iter().zip(links).enumerate() {
+        compare_link(play, files, i, wanted, link, report)?;
+    }
+    Ok(())
+}
+
+fn compare_number_of_links(
+    play: &Play<'_>,
+    wanted: usize,
+    came: usize,
+    report: &mut Report<'_>,
+) -> Result<(), OutOfMemory> {
+    if wanted == came {
+        return Ok(());
+    }
+    let wanted = wanted.to_string(play.alloc)?;
+    let came = came.to_string(play.alloc)?;
+    report.differs(
+        play,
+        "number of links_written",
+        wanted.as_str(),
+        came.as_str(),
+    )
+}
+
+fn compare_links<'a, F: Shelf>(
+    play: &Play<'a>,
+    files: &mut F,
+    links: &[MemoryLink],
+    report: &mut Report<'_>,
+) -> Result<(), CaseFault<'a>> {
+    let Some(wanted) = play.part("links_written") else {
+        return Ok(());
+    };
+    let wanted = items_of(wanted, "links_written")?;
+    compare_number_of_links(play, wanted.len(), links.len(), report)?;
+    compare_each_link(play, files, wanted, links, report)
+}
+
+fn are_same(wanted: &Value) -> bool {
+    wanted.get("same").and_then(Value::as_bool) == Some(true)
+}
+
+// Compares the rows that are left, where the play says which must be.
+fn compare_left<'a, F: Shelf>(
+    play: &Play<'a>,
+    files: &mut F,
+    before: &[u8],
+    left: &[u8],
+    report: &mut Report<'_>,
+) -> Result<(), CaseFault<'a>> {
+    match play.part("left") {
+        Some(wanted) if are_same(wanted) => {
+            Ok(compare_text(play, "left", before, left, report)?)
+        }
+        _ => compare_at(play, files, "left", left, report),
+    }
+}
+
+/// Compares what the program came to, over the rows of lines before it, with what a play says must come.
+pub fn compare<'a, F: Shelf>(
+    play: &Play<'a>,
+    files: &mut F,
+    before: &[u8],
+    played: &Played,
+    report: &mut Report<'_>,
+) -> Result<(), CaseFault<'a>> {
+    compare_values(play, played, report)?;
+    compare_at(play, files, "written", played.sink.written(), report)?;
+    let left = lines_of(play.alloc, played.keeper.rows())?;
+    compare_left(play, files, before, &left, report)?;
+    compare_links(play, files, played.door.ended(), report)
+}

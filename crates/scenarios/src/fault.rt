@@ -1,0 +1,43 @@
+use desk_io::{OutOfMemory, WholeFault};
+use std::alloc::{AllocError, AllocFailed};
+
+/// Why a case can't be played.
+#[derive(Clone, Copy)]
+pub enum CaseFault<'a> {
+    /// What stands at that key is missing or isn't of the form, or a key of that name has no meaning there.
+    Unread(&'a str),
+    /// The file has no text of that name.
+    NoText(&'a str),
+    /// No file can be read at that path.
+    NoFile(&'a str),
+    /// Memory ran out.
+    OutOfMemory,
+}
+
+impl<'a> CaseFault<'a> {
+    /// What a file at a path can't be read for.
+    pub fn of_file(fault: WholeFault, path: &'a str) -> Self {
+        match fault {
+            WholeFault::OutOfMemory => CaseFault::OutOfMemory,
+            WholeFault::ReadFault | WholeFault::TooLong => CaseFault::NoFile(path),
+        }
+    }
+}
+
+impl<'a> From<OutOfMemory> for CaseFault<'a> {
+    fn from(_: OutOfMemory) -> Self {
+        CaseFault::OutOfMemory
+    }
+}
+
+impl<'a> From<AllocError> for CaseFault<'a> {
+    fn from(_: AllocError) -> Self {
+        CaseFault::OutOfMemory
+    }
+}
+
+impl<'a, T: Drop> From<AllocFailed<T>> for CaseFault<'a> {
+    fn from(_: AllocFailed<T>) -> Self {
+        CaseFault::OutOfMemory
+    }
+}

@@ -1,0 +1,187 @@
+//! Plays cases through the program's call over objects in memory, and compares what comes with what the cases say must
+//! come. The words name files of cases. A line is printed for each difference, and a last one with the counts of cases;
+//! the status is 0 where nothing differs.
+//!
+//! A file is one JSON object of `cases` and, where it has them, of `texts` by their names and of `common`: what a case
+//! lacks it takes from there. A case has
+//!
+//! - `name`: what must hold, as a sentence.
+//! - `tables`: a folder with the twelve tables, or an object of texts by the names of their files.
+//! - `sources`: an object of further texts by their names. One with the name of a table counts before that table.
+//! - `words`: the command, cut at blanks, or a list of words.
+//! - `rows`: the rows that the keeper holds at first, lines `KIND KEY BODY` in order.
+//! - `clock`: a list of the moments that the clock gives, the last one again and again. Without it that is
+//!   2000-01-01T00:00Z.
+//! - `links`: a list of `{"input": TEXT, "cut": N}`: what comes to the door, at most N bytes at once, or 4,096 where that
+//!   isn't said.
+//! - `fail`: which calls fail, lists of numbers from 0, of `shelf`, `sink`, `keeper` (its commits, and with `"load"` its
+//!   rows can't be loaded), `clock` and `door`, and such a list for each link in the list `links`.
+//! - what must come, of which nothing that is missing is compared: `status`; `board`, whether one is left; `port`, where
+//!   the door was opened, or null; `asked`, how many moments the clock gave; `written`, a text; `left`, the rows that the
+//!   keeper holds at last; and `links_written`, a list of texts, of the links that were given back.
+//! - `steps`: a list of objects of these keys, played one after another over the rows that the one before left. What a
+//!   step lacks it takes from its case.
+//! - `each`: `{"from": A, "to": B}`: the case is played for each number from A to B, and `"each"` stands for the number.
+//!
+//! A text is a string; or a list of lines, each a string, or JSON that stands for its compact form; or, also in such a
+//! list, `{"text": NAME}`, `{"times": N, "text": NAME}`, `{"hex": DIGITS}`, `{"file": PATH}` or `{"join": [TEXT, ..]}`.
+//! For a text that must come there may stand an object of `first`, its first line, and of `lines`, `prefix` and `part`,
+//! lists of `[LINE, COUNT]`: so many lines are this one, begin with it, or have it in them. `left` may be
+//! `{"same": true}`: the rows as they were before.
+#![tactic(auto)]
+
+mod cases;
+mod command;
+mod comparing;
+mod fails;
+mod fault;
+mod members;
+mod objects;
+mod outside;
+mod play;
+mod playing;
+mod report;
+mod rows;
+mod shelf;
+mod texts;
+
+use crate::members::{check_keys, data_of};
+use crate::play::Play;
+use crate::report::Report;
+use desk_io::{FileShelf, OutOfMemory, Shelf, Sink, StdoutSink, WholeFault, read_whole};
+use serde_json::Value;
+use std::alloc::Global;
+use std::env;
+use std::process::ExitCode;
+use std::sync::Wait;
+
+// How many cases passed, and how many didn't.
+#[derive(Clone, Copy)]
+struct Counts {
+    passed: u64,
+    failed: u64,
+}
+
+// The words after the program's name.
+fn words_of(rt: &HostRuntime) -> Result<Vec<String>, OutOfMemory> {
+    let mut words = Vec::new(rt.alloc());
+    let Ok(arguments) = env::args(rt) else {
+        return Ok(words);
+    };
+    for word in arguments.skip(1) {
+        words.push(word)?;
+    }
+    Ok(words)
+}
+
+// Plays the cases of a file, and counts them.
+fn play_cases<R: Wait, F: Shelf>(
+    rt: &R,
+    alloc: Global,
+    files: &mut F,
+    file: &Value,
+    cases: &[Value],
+    report: &mut Report<'_>,
+    counts: &mut Counts,
+) -> Result<(), OutOfMemory> {
+    for case in cases {
+        if cases::passes(rt, &Play::of(alloc, file, case), files, report)? {
+            counts.passed = counts.passed.saturating_add(1);
+        } else {
+            counts.failed = counts.failed.saturating_add(1);
+        }
+    }
+    Ok(())
+}
+
+fn play_data<R: Wait, F: Shelf>(
+    rt: &R,
+    alloc: Global,
+    files: &mut F,
+    file: &Value,
+    report: &mut Report<'_>,
+    counts: &mut Counts,
+) -> Result<bool, OutOfMemory> {
+    match file.get("cases").and_then(Value::as_array) {
+        None => Ok(false),
+        Some(_) if check_keys(file, &["texts", "common", "cases"], &[], "file").is_err() => Ok(
+            false,
+        ),
+        Some(cases) => {
+            play_cases(rt, alloc, files, file, cases.as_slice(), report, counts)?;
+            Ok(true)
+        }
+    }
+}
+
+// Plays the cases of the file of a name, and answers whether it is a file of cases.
+fn play_file<R: Wait, F: Shelf>(
+    rt: &R,
+    alloc: Global,
+    files: &mut F,
+    name: &str,
+    report: &mut Report<'_>,
+    counts: &mut Counts,
+) -> Result<bool, OutOfMemory> {
+    let text = match read_whole(alloc, files, name) {
+        Ok(text) => text,
+        Err(WholeFault::OutOfMemory) => return Err(OutOfMemory),
+        Err(_) => return Ok(false),
+    };
+    match data_of(alloc, text.bytes())? {
+        Some(file) => play_data(rt, alloc, files, &file, report, counts),
+        None => Ok(false),
+    }
+}
+
+// Plays the cases of the file of a name, and writes what differs.
+fn play_named<R: Wait, F: Shelf, O: Sink>(
+    rt: &R,
+    alloc: Global,
+    files: &mut F,
+    out: &mut O,
+    name: &str,
+    counts: &mut Counts,
+) -> Result<(), OutOfMemory> {
+    let mut report = Report::new(alloc, name);
+    if !play_file(rt, alloc, files, name, &mut report, counts)? {
+        report.no_cases()?;
+        counts.failed = counts.failed.saturating_add(1);
+    }
+    if out.write(report.lines().as_bytes()).is_err() {
+        counts.failed = counts.failed.saturating_add(1);
+    }
+    Ok(())
+}
+
+fn play_files<R: Wait, F: Shelf, O: Sink>(
+    rt: &R,
+    alloc: Global,
+    files: &mut F,
+    out: &mut O,
+    names: &[String],
+) -> Result<Counts, OutOfMemory> {
+    let mut counts = Counts {
+        passed: 0,
+        failed: 0,
+    };
+    for name in names {
+        play_named(rt, alloc, files, out, name.as_str(), &mut counts)?;
+    }
+    Ok(counts)
+}
+
+fn main(rt: HostRuntime) -> ExitCode {
+    let Ok(names) = words_of(&rt) else {
+        return ExitCode::from(8);
+    };
+    let mut files = FileShelf::new(rt);
+    let mut out = StdoutSink::new(rt);
+    match play_files(&rt, rt.alloc(), &mut files, &mut out, &names) {
+        Ok(Counts { passed, failed }) => {
+            let shown = println!(rt; "scenarios: {passed} passed, {failed} failed");
+            ExitCode::from(u8::from(failed > 0 || shown.is_err()))
+        }
+        Err(OutOfMemory) => ExitCode::from(8),
+    }
+}

@@ -1,0 +1,140 @@
+ghost use Rattle.std.specs.Prelude.{◌<◌, IfOk, IfSome};
+ghost use Rattle.std.specs.List.{All};
+ghost use Rattle.desk_net.specs.Clocks.{IsMoment};
+
+use crate::fails::{fail_at, failing, is_load, numbers_in};
+use crate::fault::CaseFault;
+use crate::members::{check_keys, items_of};
+use crate::outside::{CaseClock, CaseKeeper};
+use crate::play::Play;
+use crate::texts::text_of;
+use desk_io::{MemorySink, Row, Shelf};
+use desk_net::{MemoryClock, MemoryDoor, MemoryLink};
+use desk_time::{FIRST, Minute, read_minute};
+use keeper::{MemoryKeeper, is_rising};
+use serde_json::Value;
+use std::alloc::Global;
+
+// How many bytes a link gives at once, where a case doesn't say it.
+const CUT: u64 = 4_096;
+
+/// The sink of a play.
+pub fn sink_of<'a>(play: &Play<'a>) -> Result<MemorySink, CaseFault<'a>> {
+    Ok(MemorySink::new(play.alloc, failing(play, "sink")?))
+}
+
+/// The keeper of a play over rows.
+pub fn keeper_of<'a>(play: &Play<'a>, rows: Vec<Row>) -> Result<CaseKeeper, CaseFault<'a>> {
+    let fails = fail_at(play, "keeper")?;
+    let loads = !fails.iter().any(is_load);
+    let fail = failing(play, "keeper")?;
+    if is_rising(&rows) {
+        Ok(CaseKeeper::new(MemoryKeeper::new(rows, fail), loads))
+    } else {
+        Err(CaseFault::Unread("rows"))
+    }
+}
+
+fn moment_of(value: &Value) -> Option<Minute>
+    ensures { IfSome result IsMoment }
+{
+    read_minute(value.as_str()?.as_bytes())
+}
+
+fn moments_in(alloc: Global, listed: &[Value]) -> Result<Vec<Minute>, CaseFault<'static>>
+    ensures { IfOk result (λ moments. All IsMoment moments.items) }
+{
+    let mut moments = Vec::new(alloc);
+    for value in listed {
+        match moment_of(value) {
+            Some(moment) => moments.push(moment)?,
+            None => return Err(CaseFault::Unread("clock")),
+        }
+    }
+    Ok(moments)
+}
+
+fn moments_of<'a>(play: &Play<'a>) -> Result<Vec<Minute>, CaseFault<'a>>
+    ensures { IfOk result (λ moments. All IsMoment moments.items) }
+{
+    match play.part("clock") {
+        None => Ok(vec![in play.alloc; FIRST]?),
+        Some(listed) => moments_in(play.alloc, items_of(listed, "clock")?),
+    }
+}
+
+/// The clock of a play.
+pub fn clock_of<'a>(play: &Play<'a>) -> Result<CaseClock, CaseFault<'a>> {
+    let fail = failing(play, "clock")?;
+    let moments = moments_of(play)?;
+    if moments.is_empty() {
+        Err(CaseFault::Unread("clock"))
+    } else {
+        Ok(CaseClock::new(MemoryClock::new(moments, fail)))
+    }
+}
+
+fn cut_of<'a>(play: &Play<'a>, link: &'a Value) -> Result<usize, CaseFault<'a>>
+    ensures { IfOk result (λ cut. 0 < cut) }
+{
+    let cut = match link.get("cut") {
+        None => Some(CUT),
+        Some(value) => play.number(value),
+    };
+    match cut {
+        Some(cut) if cut > 0 => Ok(cut as usize),
+        _ => Err(CaseFault::Unread("cut")),
+    }
+}
+
+fn link_of<'a, F: Shelf>(
+    play: &Play<'a>,
+    files: &mut F,
+    link: &'a Value,
+    fail: Vec<u64>,
+) -> Result<MemoryLink, CaseFault<'a>> {
+    check_keys(link, &["input", "cut"], &[], "links")?;
+    let Some(input) = link.get("input") else {
+        return Err(CaseFault::Unread("input"));
+    };
+    let cut = cut_of(play, link)?;
+    let input = text_of(play, files, input)?;
+    Ok(MemoryLink::new(play.alloc, input, cut, fail))
+}
+
+// Which calls of the link of a number fail.
+fn link_fails<'a>(
+    play: &Play<'a>,
+    fails: &'a [Value],
+    i: usize,
+) -> Result<Vec<u64>, CaseFault<'a>> {
+    match fails.get(i) {
+        None => Ok(Vec::new(play.alloc)),
+        Some(listed) => numbers_in(play, items_of(listed, "fail")?, false),
+    }
+}
+
+fn links_in<'a, F: Shelf>(
+    play: &Play<'a>,
+    files: &mut F,
+    listed: &'a [Value],
+    fails: &'a [Value],
+) -> Result<Vec<MemoryLink>, CaseFault<'a>> {
+    let mut links = Vec::new(play.alloc);
+    for (i, link) in listed.iter().enumerate() {
+        let fail = link_fails(play, fails, i)?;
+        links.push(link_of(play, files, link, fail)?)?;
+    }
+    Ok(links)
+}
+
+/// The door of a play.
+pub fn door_of<'a, F: Shelf>(play: &Play<'a>, files: &mut F) -> Result<MemoryDoor, CaseFault<'a>> {
+    let listed = match play.part("links") {
+        None => &[],
+        Some(listed) => items_of(listed, "links")?,
+    };
+    let fail = failing(play, "door")?;
+    let links = links_in(play, files, listed, fail_at(play, "links")?)?;
+    Ok(MemoryDoor::new(play.alloc, links, fail))
+}

@@ -1,0 +1,91 @@
+use crate::outside::{CaseClock, CaseKeeper};
+use commands::{Ending, desk_main};
+use desk_io::{MemoryShelf, MemorySink, Shelf, Sink};
+use desk_net::{Clock, Door, MemoryDoor};
+use keeper::Keeper;
+use std::alloc::Global;
+use std::sync::Wait;
+
+/// What the program is called with.
+#[derive(Drop)]
+pub struct Outside {
+    pub words: Vec<String>,
+    pub shelf: MemoryShelf,
+    pub sink: MemorySink,
+    pub clock: CaseClock,
+    pub keeper: CaseKeeper,
+    pub door: MemoryDoor,
+}
+
+/// What the program came to: its status, whether a board is left, and what is left of the outside.
+#[derive(Drop)]
+pub struct Played {
+    pub status: u8,
+    pub board: bool,
+    pub sink: MemorySink,
+    pub clock: CaseClock,
+    pub keeper: CaseKeeper,
+    pub door: MemoryDoor,
+}
+
+// What a command came to: its status, whether a board is left, and the keeper and the clock that were given back.
+#[derive(Drop)]
+struct Came<K, C> {
+    status: u8,
+    board: bool,
+    keeper: K,
+    clock: C,
+}
+
+// What words come to. The promises of the program's call end here, over type parameters, so that they are paid for once.
+fn came_of<R: Wait, S: Shelf, O: Sink, C: Clock + Drop, K: Keeper, D: Door>(
+    rt: &R,
+    alloc: Global,
+    words: &[String],
+    shelf: &mut S,
+    out: &mut O,
+    clock: C,
+    keeper: K,
+    door: &mut D,
+) -> Came<K, C> {
+    let Ending {
+        status,
+        board,
+        keeper,
+        clock,
+    } = desk_main(rt, alloc, words, shelf, out, clock, keeper, door);
+    Came {
+        status,
+        board: board.is_some(),
+        keeper,
+        clock,
+    }
+}
+
+/// Calls the program.
+pub fn play<R: Wait>(rt: &R, alloc: Global, outside: Outside) -> Played {
+    let Outside {
+        words,
+        mut shelf,
+        mut sink,
+        clock,
+        keeper,
+        mut door,
+    } = outside;
+    let Came {
+        status,
+        board,
+        keeper,
+        clock,
+    } = came_of(
+        rt, alloc, &words, &mut shelf, &mut sink, clock, keeper, &mut door,
+    );
+    Played {
+        status,
+        board,
+        sink,
+        clock,
+        keeper,
+        door,
+    }
+}
