@@ -1,15 +1,5 @@
-//! Tests of the desk over HTTP: what connections are answered, how they end, and which status goes with what is said.
+//! Tests of the statuses that no short run of the program comes to: those of a desk that holds as much as it may.
 #![tactic(auto)]
 
 #[cfg(test)]
-mod endings;
-#[cfg(test)]
-mod faults;
-#[cfg(test)]
-mod links;
-#[cfg(test)]
-mod replies;
-#[cfg(test)]
 mod statuses;
-#[cfg(test)]
-mod texts;
