@@ -1,13 +1,12 @@
 -- A state that records stand for, once it is judged, and its rows.
-use Rattle.std.proofs.Common.{◌≡◌, ℕ, ◌+◌, inl, inr, List, [], ◌∷◌, ◌++◌, map, Option, None, Some, refl, sym, ap, ◌∙◌, subst}
-use Rattle.std.specs.List.{AllByRecursion, filter_map}
+use Rattle.std.proofs.Common.{◌≡◌, ℕ, inl, inr, List, [], ◌∷◌, ◌++◌, map, Option, None, Some, refl, sym, ap, ◌∙◌, subst}
+use Rattle.std.specs.List.{AllByRecursion}
 use Rattle.alerts.specs.declared.alert.Alert.{Alert as AlertOf}
-use Rattle.desk_io.specs.Rows.{Rows, no_rows, rows_of, changed_by}
+use Rattle.desk_io.specs.Rows.{Rows, rows_of, changed_by}
 use Rattle.desk_io.specs.declared.rows.Change.{Change}
-use Rattle.facts.specs.declared.report.Report.{Report as ReportOf}
 use Rattle.keeper.specs.Kept.{AreSame}
 use Rattle.kept_state.specs.Judged.{judged_changes}
-use Rattle.kept_state.specs.Rows.{meta_of, report_kept, alert_kept, records_of, state_rows, AreKept}
+use Rattle.kept_state.specs.Rows.{report_kept, alert_kept, records_of, state_rows, AreKept}
 use Rattle.kept_state.proofs.AlertRows.{IsOwn, changes_own}
 use Rattle.kept_state.proofs.JudgedLaws.{judged_lead, with_alerts}
 use Rattle.desk_state.specs.declared.change.AlertChange.{AlertChange}

@@ -36,7 +36,7 @@ use Rattle.decisions.specs.Reads.{DecisionAdmitsRead}
 use Rattle.board.proofs.Parts.{may_come}
 use Rattle.board.specs.Room.{MayBeMade}
 use Rattle.std.specs.Global.{Vec}
-use Rattle.desk_io.specs.Rows.{Rows, changed_by}
+use Rattle.desk_io.specs.Rows.{changed_by}
 use Rattle.desk_io.specs.declared.rows.Change.{Change}
 use Rattle.kept_state.specs.Changes.{event_changes}
 use Rattle.kept_state.specs.Rows.{AreKept}
@@ -164,15 +164,6 @@ tick_fits : (s : State) (to : ℕ) → IsMoment to → EffectFits s (tick to)
 tick_fits s to shown = record { moment = shown; report = tt; apart = tt; deferrals = tt; releases = tt }
 
 -- a tick fits, and may be made
-pub ticked_is : (s : State) (p : Prepared) (lane to : ℕ) (effect : Effect) (j : Judged) (made : Entry)
-    → effect ≡ tick to → p.reply ≡ None → p.notices ≡ j.notices → p.event ≡ Some (record { effect = effect; changes = j.changes; entered = made; kept = None })
-    → made ≡ entry lane (what.Tick to)
-    → j.changes.items ≡ alert_changes effect s → j.notices ≡ notices_of (alert_changes effect s) → IsMoment to → Sound s
-    → IsStepped s p (after_event s None (tick to) (entry lane (what.Tick to)))
-ticked_is s p lane to effect j made is replied told event entered changes notices shown sound =
-    subst (λ (x : Effect). IsStepped s p (after_event s None x (entry lane (what.Tick to)))) is
-    (planned_is s p None effect j made (entry lane (what.Tick to)) None replied told event entered refl changes notices (subst (EffectFits s) (sym is) (tick_fits s to shown)) sound)
-
 pub tick_fits_as : (s : State) (to : ℕ) (effect : Effect) → effect ≡ tick to → IsMoment to → EffectFits s effect
 tick_fits_as s to effect is shown = subst (EffectFits s) (sym is) (tick_fits s to shown)
 
@@ -204,10 +195,3 @@ unfolding KeepsRows installed
 stay_keeps p s none empty rows kept =
     subst (λ (u : State). AreKept (changed_by p.changes.items rows) u) (sym (ap (λ (o : Option Event). with_events o s) none))
     (subst (λ (list : List Change). AreKept (changed_by list rows) s) (sym empty) kept)
-
--- the same of a tick
-pub ticked_keeps : (s t : State) (p : Prepared) (lane to : ℕ) (effect : Effect) (made : Entry) (cs : Vec Change) → effect ≡ tick to → t ≡ s → p.changes ≡ cs → cs.items ≡ event_changes t effect made
-    → made ≡ entry lane (what.Tick to) → IsStepped s p (after_event s None (tick to) (entry lane (what.Tick to))) → IsMoment to → Sound s → InBounds s → KeepsRows s p
-ticked_keeps s t p lane to effect made cs is as_before changes are same steps shown sound bounds =
-    planned_keeps s t p effect (entry lane (what.Tick to)) made (after_event s None (tick to) (entry lane (what.Tick to))) cs as_before changes are same steps
-    (ap (λ (x : Effect). entered (entry lane (what.Tick to)) (effected x s)) (sym is)) (tick_fits_as s to effect is shown) sound bounds

@@ -4,14 +4,16 @@ use Rattle.desk_io.specs.Rows.{Rows, changed_by}
 use Rattle.kept_state.specs.Rows.{AreKept}
 use Rattle.desk_state.specs.State.{State}
 use Rattle.desk_state.specs.Events.{effected, put_changes}
-use Rattle.desk_state.specs.Step.{Stepped, counted}
+use Rattle.desk_state.specs.Step.{Stepped, counted, kept_of}
 use Rattle.desk_state.specs.Sound.{IsBoard}
 use Rattle.desk_state.specs.Contents.{state_of}
 use Rattle.desk_state.specs.declared.content.Content.{Content}
+use Rattle.desk_state.specs.declared.effect.Effect.{Effect}
 use Rattle.board.specs.Room.{HasRoom, MayBeMade}
 use Rattle.board.specs.declared.prepared.Prepared.{Prepared}
 use Rattle.board.specs.declared.prepared.Installed.{Installed}
 use Rattle.board.specs.declared.prepared.Event.{Event}
+use Rattle.board.specs.declared.steps.Recorded.{Recorded}
 
 -- the state once an event is put in place
 abbrev pub with_event : Event → State → State
@@ -49,6 +51,10 @@ KeepsRows s p = (rows : Rows) → AreKept rows s → AreKept (changed_by p.chang
 abbrev pub MayInstall : Content → Option Event → Type 0
 MayInstall c None = Unit {0}
 MayInstall c (Some e) = HasRoom c (length e.changes.items) e.effect × MayBeMade (state_of c) e.effect
+
+-- what is kept is what belongs to the entry, once the effect is there
+abbrev pub IsRecordedOf : State → Effect → Recorded → Type 0
+IsRecordedOf s effect r = r.kept ≡ kept_of (effected effect s) r.entered.what
 
 -- what is prepared may be put in place, and keeps what holds of a board
 pub record IsReady (opening : State) (c : Content) (p : Prepared) : Type 0 where

@@ -1,4 +1,4 @@
-ghost use Rattle.std.specs.Prelude.{◌≡◌, ◌+◌, ◌<◌, ◌≤◌, length, map, vec_len, IfOk};
+ghost use Rattle.std.specs.Prelude.{OnOk, ◌≡◌, ◌+◌, ◌<◌, ◌≤◌, length, map, vec_len, IfOk};
 ghost use Rattle.std.specs.Vec.{vec_capacity};
 ghost use Rattle.desk_io.specs.Rows.{Rows, rows_of, changed_by};
 ghost use Rattle.keeper.specs.Kept.{AreSame};
@@ -71,22 +71,25 @@ fn put_judged(content: &mut Content, alerts: Vec<AlertChange>)
     put_changes(&mut content.alerts, alerts);
 }
 
-// Judges a state anew.
+// Judges a state anew, and says what that changes of the rows.
 fn reopen<L: Ledger>(
     alloc: Global,
-    mut content: Content,
+    content: &mut Content,
     steps: &mut Steps<L>,
-) -> Result<Reopened, OutOfMemory>
-    requires { MayReopen (state_of content) }
-    ensures state { IfOk result (λ r. state_of r.content ≡ reopened (state_of content)) }
-    ensures changes { IfOk result (λ r. r.changes.items ≡ kept.judged_changes (state_of content) (alert_changes nothing (state_of content))) }
+) -> Result<Vec<Change>, OutOfMemory>
+    requires { MayReopen (state_of content.old) }
+    ensures state { OnOk result (state_of content.new ≡ reopened (state_of content.old)) }
+    ensures changes { IfOk result (λ v. v.items ≡ kept.judged_changes (state_of content.old) (alert_changes nothing (state_of content.old))) }
 {
-    let alerts = judge_anew(alloc, &content, steps)?;
-    let changes = judged_changes(alloc, &content, alerts.as_slice())?;
+    let alerts = judge_anew(alloc, content, steps)?;
+    let changes = judged_changes(alloc, content, alerts.as_slice())?;
     content.alerts.reserve(alerts.len())?;
-    put_judged(&mut content, alerts);
-    Ok(Reopened { content, changes })
+    put_judged(content, alerts);
+    Ok(changes)
 }
+
+// Lets go of what was held.
+fn leave(_: Content) {}
 
 /// The state that records stand for under some tables, once its active releases are judged.
 #[tactic(auto, using(kept_state::proofs::StateLaws::may_reopen))]
@@ -101,6 +104,12 @@ pub(crate) fn restored<L: Ledger>(
     ensures changes { IfOk result (λ r. r.changes.items ≡ kept.judged_changes (state_in tables records.items) (alert_changes nothing (state_in tables records.items))) }
     ensures kept { IfOk result (λ r. (rows : Rows) → AreSame rows (rows_of (map row_of records.items)) → AreKept (changed_by r.changes.items rows) (reopened (state_in tables records.items))) }
 {
-    let content = content_of(alloc, tables, records)?;
-    reopen(alloc, content, steps)
+    let mut content = content_of(alloc, tables, records)?;
+    match reopen(alloc, &mut content, steps) {
+        Ok(changes) => Ok(Reopened { content, changes }),
+        Err(OutOfMemory) => {
+            leave(content);
+            Err(OutOfMemory)
+        }
+    }
 }

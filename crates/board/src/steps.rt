@@ -12,7 +12,7 @@ ghost use Rattle.asks.specs.Forms.{IsCall};
 ghost use Rattle.board.specs.Room.{HasRoom, MayBeMade};
 ghost use Rattle.kept_state.specs.Changes as kept_rows;
 ghost use Rattle.desk_state.specs.State.{State};
-ghost use Rattle.board.specs.Prepare.{IsStepped, MayInstall, KeepsRows};
+ghost use Rattle.board.specs.Prepare.{IsStepped, MayInstall, KeepsRows, IsRecordedOf};
 
 use crate::prepared::{Event, Prepared};
 use crate::room::reserve;
@@ -190,7 +190,7 @@ fn rows_of(
     requires bounds { InBounds (state_of content.now) }
     requires fits { EffectFits (state_of content.now) effect.now }
     requires changes { judged.now.changes.items ≡ alert_changes effect.now (state_of content.now) }
-    requires kept { recorded.now.kept ≡ step.kept_of (effected effect.now (state_of content.now)) recorded.now.entered.what }
+    requires recorded { IsRecordedOf (state_of content.now) effect.now recorded.now }
     ensures { IfOk result (λ rows. rows.items ≡ kept_rows.event_changes (state_of content.now) effect.now recorded.now.entered) }
 {
     event_changes(
@@ -236,30 +236,58 @@ fn judge_all<L: Ledger>(
     Ok(Judged { changes, notices })
 }
 
-// Judges every active release once an accepted call has its effect, and makes its entry.
-fn judge_call<L: Ledger>(
+// Judges every active release once an effect is there, and says what the event changes of the rows.
+fn work_out<L: Ledger>(
     alloc: Global,
     content: &mut Content,
-    lane: u32,
-    call: &Call,
-    reply: &Reply,
     effect: &Effect,
+    recorded: &Recorded,
     steps: &mut Steps<L>,
-) -> Result<(Judged, Recorded), OutOfMemory>
+) -> Result<(Judged, Vec<Change>), OutOfMemory>
+    requires sound { Sound (state_of content.old) }
+    requires bounds { InBounds (state_of content.old) }
+    requires fits { EffectFits (state_of content.old) effect.now }
+    requires recorded { IsRecordedOf (state_of content.old) effect.now recorded.now }
+    ensures same { state_of content.new ≡ state_of content.old }
+    ensures changes { IfOk result (λ w. w.0.changes.items ≡ alert_changes effect.now (state_of content.old)) }
+    ensures notices { IfOk result (λ w. w.0.notices ≡ events.notices_of (alert_changes effect.now (state_of content.old))) }
+    ensures room { IfOk result (λ w. HasRoom content.new (length w.0.changes.items) effect.now) }
+    ensures rows { IfOk result (λ w. w.1.items ≡ kept_rows.event_changes (state_of content.new) effect.now recorded.now.entered) }
+{
+    let judged = judge_all(alloc, content, effect, steps)?;
+    let changes = rows_of(alloc, content, effect, &judged, recorded)?;
+    Ok((judged, changes))
+}
+
+// Lets go of what an event would have been.
+fn let_go(_: Option<Reply>, _: Effect, _: Recorded) {}
+
+// Prepares an event, of which it is made what it records.
+fn prepare_event<L: Ledger>(
+    alloc: Global,
+    content: &mut Content,
+    reply: Option<Reply>,
+    effect: Effect,
+    recorded: Recorded,
+    steps: &mut Steps<L>,
+) -> Result<Prepared, OutOfMemory>
     requires sound { Sound (state_of content.old) }
     requires kept { InBounds (state_of content.old) }
-    requires fits { EffectFits (state_of content.old) effect.now }
-    requires call { IsCall call.now.ask }
+    requires fits { EffectFits (state_of content.old) effect }
+    requires may { MayBeMade (state_of content.old) effect }
+    requires recorded { IsRecordedOf (state_of content.old) effect recorded }
     ensures same { state_of content.new ≡ state_of content.old }
-    ensures changes { IfOk result (λ j. j.0.changes.items ≡ alert_changes effect.now (state_of content.old)) }
-    ensures notices { IfOk result (λ j. j.0.notices ≡ events.notices_of (alert_changes effect.now (state_of content.old))) }
-    ensures room { IfOk result (λ j. HasRoom content.new (length j.0.changes.items) effect.now) }
-    ensures entered { IfOk result (λ j. j.1.entered ≡ step.entry lane (What.Asked (step.without_key call.now) reply.now)) }
-    ensures reply { IfOk result (λ j. j.1.kept ≡ step.kept_of (effected effect.now (state_of content.old)) (What.Asked (step.without_key call.now) reply.now)) }
+    ensures stepped { IfOk result (λ p. IsStepped (state_of content.old) p (step.after_event (state_of content.old) reply effect recorded.entered)) }
+    ensures may { IfOk result (λ p. MayInstall content.new p.event) }
+    ensures rows { IfOk result (λ p. KeepsRows (state_of content.old) p) }
 {
-    let recorded = record_call(alloc, content, lane, call, reply, effect)?;
-    let judged = judge_all(alloc, content, effect, steps)?;
-    Ok((judged, recorded))
+    match work_out(alloc, content, &effect, &recorded, steps) {
+        Ok((judged, changes)) => Ok(planned(reply, effect, judged, recorded, changes)),
+        Err(OutOfMemory) => {
+            let_go(reply, effect, recorded);
+            Err(OutOfMemory)
+        }
+    }
 }
 
 // Prepares an accepted call.
@@ -282,10 +310,17 @@ fn prepare_accepted<L: Ledger>(
     ensures may { IfOk result (λ p. MayInstall content.new p.event) }
     ensures rows { IfOk result (λ p. KeepsRows (state_of content.old) p) }
 {
-    let (judged, recorded) = judge_call(alloc, content, lane, call, &reply, &effect, steps)?;
-    let changes = rows_of(alloc, content, &effect, &judged, &recorded)?;
-    Ok(planned(Some(reply), effect, judged, recorded, changes))
+    match record_call(alloc, content, lane, call, &reply, &effect) {
+        Ok(recorded) => prepare_event(alloc, content, Some(reply), effect, recorded, steps),
+        Err(OutOfMemory) => {
+            leave(reply, effect);
+            Err(OutOfMemory)
+        }
+    }
 }
+
+// Lets go of a reply and an effect.
+fn leave(_: Reply, _: Effect) {}
 
 #[tactic(auto, unfolding(crate::specs::Prepare::installed))]
 fn prepare_entered<L: Ledger>(
@@ -308,6 +343,7 @@ fn prepare_entered<L: Ledger>(
     ensures rows { IfOk result (λ p. KeepsRows (state_of content.old) p) }
 {
     if content.is_full_for(&call.ask) {
+        leave(reply, effect);
         return Ok(stay(alloc, full_reply(content)));
     }
     prepare_accepted(alloc, content, lane, call, reply, effect, steps)
@@ -378,14 +414,11 @@ fn prepare_ticked<L: Ledger>(
     ensures may { IfOk result (λ p. MayInstall content.new p.event) }
     ensures rows { IfOk result (λ p. KeepsRows (state_of content.old) p) }
 {
-    let effect = Effect::tick(to);
-    let judged = judge_all(alloc, content, &effect, steps)?;
     let recorded = Recorded {
         entered: tick_entry(lane, to),
         kept: None,
     };
-    let changes = rows_of(alloc, content, &effect, &judged, &recorded)?;
-    Ok(planned(None, effect, judged, recorded, changes))
+    prepare_event(alloc, content, None, Effect::tick(to), recorded, steps)
 }
 
 /// Prepares a tick to a later moment, and takes all memory that it needs. What is held stays as it is.

@@ -1,20 +1,17 @@
 ghost use Rattle.std.specs.Prelude.{◌≡◌, ◌<◌, ◌≤◌, IfOk, IfSome};
 ghost use Rattle.asks.specs.Forms.{IsCall};
 
-use crate::flown::{SIGNED, STOPPED, WATCHED};
-use crate::texts::{AFTERNOON, CANCELLATION};
+use crate::texts::{AFTERNOON, CANCELLATION, STOPPED, WATCHED};
 use alerts::{Notice, NoticeKind, Notices};
-use asks::{Call, Reply};
+use asks::Call;
 use board::Board;
 use desk_io::{LineFeeds, OutOfMemory, push_all, runs_between};
 use desk_json::{CallFault, read_line};
-use desk_state::{Entry, What};
 use desk_time::{LAST, Minute};
+use desk_state::{Entry, What};
 use ops_tables::Tables;
-use plan::{Release, Revision, Signature};
-use release_text::{Written, digits_of, written_text};
 use rules::Steps;
-use small_airline::{may_be_checked, small_tables};
+use small_airline::small_tables;
 use std::alloc::Global;
 use std::marker::Brand;
 use std::sync::ledger::{Blank, Ledger};
@@ -129,52 +126,6 @@ fn history(alloc: Global, board: &Board) -> Result<Vec<u8>, OutOfMemory> {
     Ok(kinds)
 }
 
-// Whether a signature is of that person and moment, on a text of that digest.
-fn is_signed(signature: &Option<Signature>, actor: &[u8], at: Minute, digest: &[u8; 32]) -> bool {
-    match signature {
-        Some(signature) => {
-            signature.actor.bytes() == actor && signature.at == at && signature.digest == *digest
-        }
-        None => false,
-    }
-}
-
-// Whether the dispatcher and then the captain have signed the text of a revision, whose digest has those digits.
-fn is_on_its_text(
-    alloc: Global,
-    revision: &Revision,
-    at: (Minute, Minute),
-    digits: &[u8],
-) -> Result<bool, OutOfMemory> {
-    if !may_be_checked(&revision.plan) {
-        return Ok(false);
-    }
-    let Written { text: _, digest } = written_text(alloc, revision)?;
-    Ok(
-        digits_of(&digest).as_slice() == digits
-            && is_signed(&revision.dispatcher, b"D1", at.0, &digest)
-            && is_signed(&revision.captain, b"C7", at.1, &digest),
-    )
-}
-
-// The same of the revision by which the first release may be flown.
-fn is_signed_by_both(
-    alloc: Global,
-    board: &Board,
-    at: (Minute, Minute),
-    digits: &[u8],
-) -> Result<bool, OutOfMemory> {
-    match board.release(1) {
-        Some(
-            Release {
-                active: Some(revision),
-                ..
-            },
-        ) => is_on_its_text(alloc, revision, at, digits),
-        Some(_) | None => Ok(false),
-    }
-}
-
 // The captain's call, without his key.
 fn is_concurrence(entry: &Entry) -> bool {
     match &entry.what {
@@ -232,135 +183,5 @@ fn notices_follow_the_alert(rt: HostRuntime) -> Result<(), Fail> {
         let tables = small_tables(alloc)?;
         assert!(rt; is_told(alloc, tables, script, more, wanted, is_open)?);
     }
-    Ok(())
-}
-
-// The same after a script.
-fn are_signed_by_both(
-    alloc: Global,
-    tables: Tables,
-    script: &[u8],
-    at: (Minute, Minute),
-    digits: &[u8],
-) -> Result<bool, OutOfMemory> {
-    let mut told = Vec::new(alloc);
-    let board = played(alloc, tables, script, &mut told)?;
-    is_signed_by_both(alloc, &board, at, digits)
-}
-
-// 17:31 and 17:32, and 17:43 and 17:44, on 2025-03-12.
-#[test]
-fn both_sign_the_text(rt: HostRuntime) -> Result<(), Fail> {
-    let alloc = rt.alloc();
-    for (script, at, digits) in [
-        (
-            AFTERNOON,
-            (29_030_011, 29_030_012),
-            b"93552bd08bcf733af54f012ef3711733ecf23ec2726678302a0dba7d4b038410",
-        ),
-        (
-            SIGNED,
-            (29_030_023, 29_030_024),
-            b"95c87b5fa26f1568c4095ff2b69848aaf24ca1e1a3a2cf5f5b217a52f967fbcb",
-        ),
-    ] {
-        let tables = small_tables(alloc)?;
-        assert!(rt; are_signed_by_both(alloc, tables, script, at, digits)?);
-    }
-    Ok(())
-}
-
-fn reply_letter(reply: Option<&Reply>) -> u8 {
-    match reply {
-        None => b'-',
-        Some(Reply::Done(_)) => b'D',
-        Some(Reply::Seen(_)) => b'S',
-        Some(Reply::Refused(_)) => b'R',
-    }
-}
-
-// Whether a call that is prepared has that reply, and adds an entry only once it is installed, and only if it should.
-fn is_prepared<L: Ledger>(
-    alloc: Global,
-    board: &mut Board,
-    call: &Call,
-    steps: &mut Steps<L>,
-    reply: u8,
-    changes: bool,
-) -> Result<bool, OutOfMemory>
-    requires { IsCall call.now.ask }
-{
-    let before = board.entries();
-    let prepared = board.prepare_change(alloc, 3, call, steps)?;
-    let is_as_wanted = prepared.changed() == changes
-        && reply_letter(prepared.reply()) == reply
-        && board.entries() == before;
-    let installed = board.install(prepared);
-    Ok(
-        is_as_wanted
-            && reply_letter(installed.reply.as_ref()) == reply
-            && (board.entries() > before) == changes,
-    )
-}
-
-// The same for a tick, which has no reply.
-fn is_tick_prepared<L: Ledger>(
-    alloc: Global,
-    board: &mut Board,
-    to: Minute,
-    steps: &mut Steps<L>,
-) -> Result<bool, OutOfMemory>
-    requires { to ≤ LAST }
-{
-    let before = board.now();
-    if before >= to {
-        return Ok(false);
-    }
-    let prepared = board.prepare_tick(alloc, 3, to, steps)?;
-    let is_as_wanted = prepared.changed() && prepared.reply().is_none() && board.now() == before;
-    let installed = board.install(prepared);
-    Ok(is_as_wanted && installed.reply.is_none() && board.now() == to)
-}
-
-// An admitted report, the same once more, a view and a refusal.
-const PREPARED: &[u8] =
-    br#"{"actor":"F1","ask":{"do":"admit","text":"METAR KJFK 121651Z 10SM CLR"},"at":"2025-03-12T17:00Z","key":"kF1","number":1}
-{"actor":"F1","ask":{"do":"admit","text":"METAR KJFK 121651Z 10SM CLR"},"at":"2025-03-12T17:00Z","key":"kF1","number":2}
-{"actor":"F1","ask":{"do":"weather","station":"KJFK"},"at":"2025-03-12T17:00Z","key":"kF1","number":3}
-{"actor":"D1","ask":{"do":"prepare","release":1},"at":"2025-03-12T17:00Z","key":"kD1","number":1}
-"#;
-
-// Whether a tick and each of these calls is.
-fn all_are_prepared<L: Ledger>(
-    alloc: Global,
-    board: &mut Board,
-    steps: &mut Steps<L>,
-) -> Result<bool, OutOfMemory> {
-    let mut are = is_tick_prepared(alloc, board, 29_029_980, steps)?;
-    let replies = [(b'D', true), (b'D', false), (b'S', false), (b'R', false)];
-    let lines = runs_between::<LineFeeds>(alloc, PREPARED)?;
-    for (line, (reply, changes)) in lines.iter().zip(replies) {
-        if let Some((_, call)) = call_in(alloc, line.bytes())? {
-            are = is_prepared(alloc, board, &call, steps, reply, changes)? && are;
-        }
-    }
-    Ok(are && board.entries() == 2)
-}
-
-fn are_prepared<L: Ledger>(alloc: Global, tables: Tables, blank: Blank) -> Result<bool, OutOfMemory>
-    requires name { blank.name ≡ L.name }
-    requires parts { blank.parts ≡ L.parts }
-    requires some { 0 < blank.parts }
-{
-    let mut steps = Steps::<L>::new(blank);
-    let mut board = Board::new(alloc, tables);
-    all_are_prepared(alloc, &mut board, &mut steps)
-}
-
-#[test]
-fn a_step_is_prepared_and_installed(rt: HostRuntime) -> Result<(), Fail> {
-    let alloc = rt.alloc();
-    let tables = small_tables(alloc)?;
-    assert!(rt; are_prepared::<Brand>(alloc, tables, Blank::new(1))?);
     Ok(())
 }

@@ -1,17 +1,11 @@
-//! Tests of what is kept: keepers of rows, in memory and over a file, plans, asks and what was done as JSON, the
-//! rows of a desk, what is asked and refused of them, and copies.
+//! Tests of what no command shows of what is kept: keepers of rows, in memory and over a file, rows both ways, rows that no
+//! keeper gives, how replies are read, and copies.
 #![tactic(auto)]
 
-#[cfg(test)]
-mod asked;
-#[cfg(test)]
-mod calls;
 #[cfg(test)]
 mod copies;
 #[cfg(test)]
 mod desks;
-#[cfg(test)]
-mod done;
 #[cfg(test)]
 mod files;
 #[cfg(test)]
@@ -19,6 +13,6 @@ mod lines;
 #[cfg(test)]
 mod memory;
 #[cfg(test)]
-mod plans;
+mod replies;
 #[cfg(test)]
 mod rows;

@@ -10,7 +10,7 @@ use records::{KeptAlert, KeptReport, Meta, Record, RowFault, read_row, row_of};
 use std::alloc::Global;
 use std::test::Fail;
 
-/// The counters of a desk that keeps some replies of six persons no more.
+// The counters of a desk that keeps some replies of six persons no more.
 pub const META: &str =
     r#"0 0 {"events":319,"floors":{"C7":6,"C8":3,"D1":35,"D2":26,"F1":28,"M1":7},"next_deferral":6,"next_kept":181,"next_release":28,"next_report":61,"now":"2025-03-23T06:15Z","version":1}"#;
 
@@ -24,7 +24,7 @@ pub const DEFERRAL: &str = r#"2 4 {"found":"2025-03-10T14:20Z","item":"34-1","ta
 pub const DRAFTED: &str =
     r#"3 1 {"active":null,"holder":"D1","pending":{"attached":[{"report":2,"text":"TAF AMD EH3Y 121702Z 1216/1322 24010KT P6SM SKC"},{"report":1,"text":"TAF AMD EGLL 121701Z 1216/1322 24010KT 9999 NSC"},{"report":3,"text":"TAF AMD KJFK 121703Z 1216/1322 24010KT 9999 NSC"}],"captain":null,"dispatcher":{"actor":"D1","at":"2025-03-12T17:03Z","digest":"1dc7a9717bb8a66958d877eda5fe025b96205eb73a930072cef96314b4003d19"},"number":1,"plan":{"captain":"C7","flight":"DK723","kind":"flag","legs":[{"alternates":[{"fuel":500,"minutes":63,"station":"KJFK"}],"burn":5000,"eta":"2025-03-13T01:41Z","etd":"2025-03-12T19:01Z","extra":0,"from":"EH3Y","minimum":13053,"minutes":394,"onboard":14053,"takeoff_alternate":{"minutes":75,"station":"EGLL"},"to":"EGLL"}],"tail":"N2-X"},"prepared":true},"phase":"DRAFTED"}"#;
 
-/// A release that is ready, with an amendment that waits.
+// A release that is ready, with an amendment that waits.
 pub const READY: &str =
     r#"3 23 {"active":{"attached":[{"report":26,"text":"TAF AMD CLNX 010248Z 0102/0208 24010KT P6SM SKC"},{"report":41,"text":"TAF AMD EGLL 011258Z 0111/0217 24010KT P6SM BKN030"}],"captain":{"actor":"C7","at":"2025-04-01T12:45Z","digest":"85021cf1a6b3c40cb4d3eb90d54a31fd1d6a32a31465abbbd2fe3444a5ac6576"},"dispatcher":{"actor":"D1","at":"2025-04-01T12:42Z","digest":"85021cf1a6b3c40cb4d3eb90d54a31fd1d6a32a31465abbbd2fe3444a5ac6576"},"number":1,"plan":{"captain":"C7","flight":"DK105","kind":"domestic","legs":[{"alternates":[],"burn":12000,"eta":"2025-04-01T19:49Z","etd":"2025-04-01T13:09Z","extra":0,"from":"CLNX","minimum":17000,"minutes":399,"onboard":17000,"takeoff_alternate":null,"to":"EGLL"}],"tail":"N4"},"prepared":true},"holder":"D1","pending":{"attached":[],"captain":null,"dispatcher":null,"number":2,"plan":{"captain":"C7","flight":"DK105","kind":"domestic","legs":[{"alternates":[],"burn":12000,"eta":"2025-04-01T19:49Z","etd":"2025-04-01T13:09Z","extra":0,"from":"CLNX","minimum":17000,"minutes":399,"onboard":17000,"takeoff_alternate":null,"to":"EGLL"}],"tail":"N4"},"prepared":false},"phase":"READY 1"}"#;
 
@@ -32,7 +32,7 @@ pub const READY: &str =
 pub const KEPT: &str =
     r#"4 145 {"actor":"D1","at":"2025-03-19T15:41Z","digest":"c783651c88604e092cdcba85703f1f96cea890bba87f39102b378d6ac7752b58","number":84,"reply":{"done":{"digest":"3fb5c4881f1f439f93cc5cdecc4101a0dd5965358d078afdd19885ec4d899f4e","release":23,"revision":2}}}"#;
 
-/// Its alert.
+// Its alert.
 pub const ALERT: &str =
     r#"5 23 {"acknowledged":true,"ever":["121.625/1/1","121.625/1/2","DESK-LATE-OFF/1/0"],"failing":["121.625/1/2"],"opened":"2025-04-01T12:50Z","version":6}"#;
 
@@ -216,74 +216,6 @@ fn are_both_ways(alloc: Global, lines: &str) -> Result<bool, OutOfMemory> {
 fn a_row_of_each_kind_is_read_and_written_again(rt: HostRuntime) -> Result<(), Fail> {
     for line in [META, REPORT, DEFERRAL, DRAFTED, READY, KEPT, ALERT] {
         assert!(rt; are_both_ways(rt.alloc(), line)?, "{line}");
-    }
-    Ok(())
-}
-
-fn is_unread(alloc: Global, row: &Row) -> Result<bool, OutOfMemory> {
-    match read_row(alloc, row) {
-        Ok(_) => Ok(false),
-        Err(RowFault::NotCanonical) => Ok(true),
-        Err(RowFault::OutOfMemory) => Err(OutOfMemory),
-    }
-}
-
-fn are_unread(alloc: Global, lines: &str) -> Result<bool, OutOfMemory> {
-    match rows_in(alloc, lines)?.as_slice() {
-        [row] => is_unread(alloc, row),
-        _ => Ok(false),
-    }
-}
-
-#[test]
-fn a_row_that_is_written_otherwise_is_not_canonical(rt: HostRuntime) -> Result<(), Fail> {
-    for line in [
-        r#"2 4 { "found":"2025-03-10T14:20Z","item":"34-1","tail":"N801DK"}"#,
-        r#"2 4 {"item":"34-1","found":"2025-03-10T14:20Z","tail":"N801DK"}"#,
-        r#"2 4 {"found":"2025-03-10T14:20Z","item":"34-1"}"#,
-        r#"2 4 {"found":"2025-03-10T14:20Z","item":"34-1","tail":"N801DK","tail":"N801DK"}"#,
-        r#"2 4 {"found":"2025-03-10T14:20Z","item":"34-1","kind":"A320","tail":"N801DK"}"#,
-        r#"2 4 {"found":"2025-03-10T14:20Z","item":"34\u002d1","tail":"N801DK"}"#,
-        r#"2 4 {"found":"2025-03-10T14:20Z","item":"34-1","tail":"n801dk"}"#,
-        r#"2 1000000000000001 {"found":"2025-03-10T14:20Z","item":"34-1","tail":"N801DK"}"#,
-        r#"1 4 {"found":"2025-03-10T14:20Z","item":"34-1","tail":"N801DK"}"#,
-        r#"6 4 {"found":"2025-03-10T14:20Z","item":"34-1","tail":"N801DK"}"#,
-        r#"0 0 {"events":08,"floors":{},"next_deferral":1,"next_kept":1,"next_release":1,"next_report":1,"now":"2025-03-23T06:15Z","version":1}"#,
-        r#"0 0 {"events":8,"floors":{},"next_deferral":1,"next_kept":1,"next_release":1,"next_report":1,"now":"2025-03-23T06:15Z","version":2}"#,
-        r#"0 1 {"events":8,"floors":{},"next_deferral":1,"next_kept":1,"next_release":1,"next_report":1,"now":"2025-03-23T06:15Z","version":1}"#,
-        r#"1 45 {"received":"2025-03-19T14:38Z","text":"SPECI  EINN 191339Z NIL"}"#,
-        r#"1 45 {"received":"2025-03-25T14:38Z","text":"SPECI EINN 191339Z NIL"}"#,
-        r#"4 1 {"actor":"D1","at":"2025-03-19T15:41Z","digest":"c783651c88604e092cdcba85703f1f96cea890bba87f39102b378d6ac7752b58","number":1000000000001,"reply":{"done":{"release":9}}}"#,
-        r#"4 1 {"actor":"D1","at":"2025-03-19T15:41Z","digest":"c783651c88604e092cdcba85703f1f96cea890bba87f39102b378d6ac7752b58","number":84,"reply":{"seen":""}}"#,
-        r#"5 1 {"acknowledged":true,"ever":["121.625/1/1"],"failing":["121.625/1/2"],"opened":"2025-04-01T12:50Z","version":6}"#,
-        r#"5 1 {"acknowledged":true,"ever":["121.625/1/2","121.625/1/1"],"failing":[],"opened":"2025-04-01T12:50Z","version":6}"#,
-        r#"5 1 {"acknowledged":true,"ever":["121.625/1/1"],"failing":[],"opened":"2025-04-01T12:50Z","version":0}"#,
-    ] {
-        assert!(rt; are_unread(rt.alloc(), line)?, "{line}");
-    }
-    Ok(())
-}
-
-fn is_replaced(alloc: Global, line: &str, from: &str, to: &str) -> Result<bool, OutOfMemory> {
-    let changed = line.replace(alloc, from, to)?;
-    are_unread(alloc, changed.as_str())
-}
-
-#[test]
-fn a_release_that_is_not_valid_has_no_row(rt: HostRuntime) -> Result<(), Fail> {
-    for (line, from, to) in [
-        (READY, r#""READY 1""#, r#""DRAFTED""#),
-        (READY, r#""READY 1""#, r#""CANCELLED 2025-04-01T13:00Z""#),
-        (READY, r#""READY 1""#, r#""FLYING 2""#),
-        (READY, "\"number\":2", "\"number\":1"),
-        (READY, "\"minimum\":17000", "\"minimum\":16999"),
-        (READY, "85021cf1", "85021cf2"),
-        (DRAFTED, r#""DRAFTED""#, r#""READY 1""#),
-        (DRAFTED, "\"prepared\":true", "\"prepared\":false"),
-        (DRAFTED, "\"report\":3", "\"report\":4"),
-        (DRAFTED, "SKC", "CLR"),
-    ] {
-        assert!(rt; is_replaced(rt.alloc(), line, from, to)?, "{to}");
     }
     Ok(())
 }

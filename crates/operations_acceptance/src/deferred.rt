@@ -1,6 +1,6 @@
 ghost use Rattle.std.specs.Prelude.{◌≡◌, ◌<◌, All, IfOk, IsTrue};
 
-use deferrals::{DEFERRAL_LIMIT, Deferral, Deferrals, due, limits_of};
+use deferrals::{DEFERRAL_LIMIT, Deferral, Deferrals, limits_of};
 use desk_io::{Copied, LineFeeds, OutOfMemory, Text, push_all, runs_between};
 use desk_time::Minute;
 use ops_tables::Tables;
@@ -8,38 +8,12 @@ use small_airline::holds_with;
 use std::alloc::Global;
 use std::test::Fail;
 
-// 2025-03-10 00:00.
-const DAY: Minute = 29_026_080;
-
-const FOUND: Minute = DAY + 860;
+// 2025-03-10 14:20.
+const FOUND: Minute = 29_026_940;
 
 // A list of an item of each category, three of which limit the aircraft.
 const ITEMS: &[u8] =
     b"A320,34-1,B,0,,300,1,0\nA320,22-1,C,0,ILS,40,1,0\nA320,34-2,D,0,GPS,0,1,0\nA320,34-3,A,7,,0,1,0\n";
-
-fn is_due(tables: &Tables, item: &[u8], end: Minute) -> bool {
-    match tables.item(b"A320", item) {
-        Some(row) => {
-            due(row, FOUND) == end && due(row, DAY) == end && due(row, DAY + 1439) == end
-        }
-        None => false,
-    }
-}
-
-fn are_due(_: Global, tables: &Tables) -> Result<bool, OutOfMemory> {
-    Ok(
-        is_due(tables, b"34-3", DAY + 11_520)
-            && is_due(tables, b"34-1", DAY + 5_760)
-            && is_due(tables, b"22-1", DAY + 15_840)
-            && is_due(tables, b"34-2", DAY + 174_240),
-    )
-}
-
-#[test]
-fn days_count_from_the_day_after(rt: HostRuntime) -> Result<(), Fail> {
-    assert!(rt; holds_with(rt.alloc(), "mel.csv", ITEMS, are_due)?);
-    Ok(())
-}
 
 fn is_above(list: &[Deferral], id: u64) -> bool
     ensures { IsTrue result → All (λ held. held.id < id) list.now }
@@ -109,18 +83,6 @@ fn limits_are(
     Ok(limits_text(alloc, tables, lines, tail)?.bytes() == text)
 }
 
-// Whether the first of two items is cleared once, and the second left.
-fn is_cleared(alloc: Global) -> Result<bool, OutOfMemory> {
-    let mut list = deferred(alloc, b"N801DK 34-1\nN801DK 22-1\n")?;
-    let first = list.clear(1);
-    let again = list.clear(1);
-    Ok(
-        first
-            && !again
-            && matches!(list.as_slice(), [left] if left.item.bytes() == b"22-1".as_slice()),
-    )
-}
-
 fn are_limits(alloc: Global, tables: &Tables) -> Result<bool, OutOfMemory> {
     Ok(
         limits_are(alloc, tables, b"N801DK", b"380 GPS ILS")?
@@ -132,11 +94,5 @@ fn are_limits(alloc: Global, tables: &Tables) -> Result<bool, OutOfMemory> {
 #[test]
 fn open_deferrals_limit_their_aircraft(rt: HostRuntime) -> Result<(), Fail> {
     assert!(rt; holds_with(rt.alloc(), "mel.csv", ITEMS, are_limits)?);
-    Ok(())
-}
-
-#[test]
-fn a_cleared_deferral_goes(rt: HostRuntime) -> Result<(), Fail> {
-    assert!(rt; is_cleared(rt.alloc())?);
     Ok(())
 }

@@ -1,5 +1,5 @@
 use codes::Station;
-use desk_io::{MemoryShelf, OutOfMemory, Shelf, Text, push_all};
+use desk_io::{MemoryShelf, OutOfMemory, Text, push_all};
 use ops_tables::Tables;
 use small_airline::{lines_of, push_small, shelf_of};
 use std::alloc::Global;
@@ -127,63 +127,4 @@ fn large_tables_are_read(alloc: Global) -> Result<bool, TableFault> {
 #[test]
 fn a_table_at_its_limit_is_read(rt: HostRuntime) {
     assert!(rt; matches!(large_tables_are_read(rt.alloc()), Ok(true)));
-}
-
-fn is_fault(fault: &TableFault, letter: char, source: &[u8]) -> bool {
-    match fault {
-        TableFault::Bad(bad) => letter == 'B' && bad.name.bytes() == source,
-        TableFault::ReadFault(name) => letter == 'R' && name.bytes() == source,
-        TableFault::TooLong(name) => letter == 'L' && name.bytes() == source,
-        TableFault::OutOfMemory => false,
-    }
-}
-
-// Whether no tables are read, for a fault with that letter and source, and the shelf counts so many.
-fn has_fault(
-    alloc: Global,
-    shelf: &mut MemoryShelf,
-    letter: char,
-    source: &[u8],
-    count: u64,
-) -> bool {
-    match read_tables(alloc, shelf) {
-        Ok(_) => false,
-        Err(fault) => is_fault(&fault, letter, source) && shelf.faults() == count,
-    }
-}
-
-// A shelf that holds nothing but settings.
-fn settings_alone(alloc: Global, text: &[u8]) -> Result<MemoryShelf, OutOfMemory> {
-    let mut sources = Vec::new(alloc);
-    sources.push((Text::of(alloc, b"settings.csv")?, Text::of(alloc, text)?))?;
-    Ok(MemoryShelf::new(sources, Vec::new(alloc)))
-}
-
-// Whether settings alone have that fault.
-fn settings_fault(
-    alloc: Global,
-    text: &[u8],
-    letter: char,
-    source: &[u8],
-    count: u64,
-) -> Result<bool, OutOfMemory> {
-    let mut shelf = settings_alone(alloc, text)?;
-    Ok(has_fault(alloc, &mut shelf, letter, source, count))
-}
-
-fn long_settings_fault(alloc: Global) -> Result<bool, OutOfMemory> {
-    let long = vec![in alloc; b'x'; 67_108_865]?;
-    settings_fault(alloc, &long, 'L', b"settings.csv", 0)
-}
-
-// The second table is missing, and hides no bad record of the first.
-#[test]
-fn sources_that_cannot_be_read(rt: HostRuntime) -> Result<(), Fail> {
-    let alloc = rt.alloc();
-    assert!(rt; long_settings_fault(alloc)?);
-    let settings = lines_of("settings.csv").as_bytes();
-    assert!(rt; settings_fault(alloc, settings, 'R', b"airports.csv", 1)?);
-    let bad = b"name,value\nhold_minutes,x\n";
-    assert!(rt; settings_fault(alloc, bad, 'B', b"settings.csv", 0)?);
-    Ok(())
 }

@@ -1,9 +1,7 @@
 use codes::Station;
-use desk_io::{Listed, OutOfMemory, Text};
+use desk_io::{Blanks, Listed, OutOfMemory, Run, Text, runs_between};
 use desk_time::Minute;
-use ops_tables::Tables;
-use plan::{Kind, Leg, Legs, Plan, PlanWhy, check_plan};
-use small_airline::may_be_checked;
+use plan::{Alternate, Kind, Leg, Legs, Plan, TakeoffAlternate};
 use std::alloc::Global;
 
 /// 2025-03-12 18:00.
@@ -49,14 +47,39 @@ pub fn plan_of(
     })
 }
 
-/// The first test that a plan fails, and its leg. No plan fails a test of times at leg 0, which stands for a plan
-/// that may not be checked.
-pub fn fault_of(tables: &Tables, plan: &Plan) -> Option<(u32, PlanWhy)> {
-    if !may_be_checked(plan) {
-        return Some((0, PlanWhy::Times));
+fn push_alternates(leg: &mut Leg, names: &[Run]) -> Result<(), OutOfMemory> {
+    for name in names {
+        if let Some(station) = Station::read(name.bytes()) {
+            leg.alternates.push(Alternate {
+                station,
+                minutes: 35,
+                fuel: 3_000,
+            })?;
+        }
     }
-    match check_plan(plan, tables) {
-        Ok(()) => None,
-        Err(bad) => Some((bad.leg, bad.why)),
-    }
+    Ok(())
+}
+
+fn takeoff_alternate(name: &[u8]) -> Option<TakeoffAlternate> {
+    let station = Station::read(name)?;
+    Some(TakeoffAlternate {
+        station,
+        minutes: 35,
+    })
+}
+
+/// The leg of an hour that a line says: where it begins, where it ends, its takeoff alternate or dashes for none,
+/// and its alternates.
+pub fn leg_of(alloc: Global, line: &[u8], etd: Minute) -> Result<Option<Leg>, OutOfMemory> {
+    let words = runs_between::<Blanks>(alloc, line)?;
+    let [from, to, takeoff, alternates @ ..] = words.as_slice() else {
+        return Ok(None);
+    };
+    let (Some(from), Some(to)) = (Station::read(from.bytes()), Station::read(to.bytes())) else {
+        return Ok(None);
+    };
+    let mut leg = leg_between(alloc, from, to, etd, etd.saturating_add(60), 55);
+    leg.takeoff_alternate = takeoff_alternate(takeoff.bytes());
+    push_alternates(&mut leg, alternates)?;
+    Ok(Some(leg))
 }

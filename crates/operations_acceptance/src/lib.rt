@@ -1,5 +1,6 @@
-//! Tests of the airline's tables, deferred equipment, alternates, plans and their changes, the text of releases and
-//! the rules of time. The faults of each table, minima and fuel are tested by the cases of `call_vectors`.
+//! Tests of look-ups and limits of the airline's tables, what deferred equipment costs, alternates, changes of plans, the
+//! weather of releases and the rules of time. The faults of each table, minima and fuel are tested by the cases of
+//! `call_vectors`, and plans and due items by those of `scenarios`.
 #![tactic(auto)]
 
 #[cfg(test)]
@@ -14,10 +15,6 @@ mod flights;
 mod look_ups;
 #[cfg(test)]
 mod needs;
-#[cfg(test)]
-mod plan_order;
-#[cfg(test)]
-mod plans;
 #[cfg(test)]
 mod releases;
 #[cfg(test)]

@@ -8,25 +8,10 @@ use desk_io::{Listed, OutOfMemory};
 use desk_time::{FIRST, LAST, Minute};
 use facts::{Received, Report, Reports, receive};
 use plan::{Alternate, AttachedList, Phase, Plan};
-use release_text::{attach, digest_of, digits_of, newer, text_of};
+use release_text::{attach, newer};
 use small_airline::may_be_checked;
 use std::alloc::Global;
 use std::test::Fail;
-
-const TEXT: &[u8] = b"DISPATCH RELEASE
-FLIGHT DK101 REVISION 1 DOMESTIC
-AIRCRAFT N801DK CAPTAIN C7
-LEG 1 KBOS KJFK ETD 2025-03-12T18:00Z ETA 2025-03-12T19:00Z MINUTES 55
-TAKEOFF ALTERNATE NONE
-ALTERNATE KPHL MINUTES 35 FUEL 3000
-BURN 12000 EXTRA 0 MINIMUM 19500 ONBOARD 20000
-REPORT 1 TAF KBOS 121720Z 1218/1324 24010KT P6SM SCT040
-REPORT 2 TAF KJFK 121720Z 1218/1324 24010KT P6SM BKN030
-REPORT 3 TAF KPHL 121720Z 1218/1324 24010KT P6SM BKN030
-END
-";
-
-const DIGITS: &[u8] = b"93552bd08bcf733af54f012ef3711733ecf23ec2726678302a0dba7d4b038410";
 
 // A flight from Boston to Kennedy, with Philadelphia as its alternate.
 fn plan(alloc: Global) -> Result<Option<Plan>, OutOfMemory> {
@@ -103,22 +88,6 @@ fn are(attached: &AttachedList, numbers: &[u64]) -> bool {
             .all(|(a, number)| a.report == *number)
 }
 
-fn is_text(alloc: Global, reports: &Reports, plan: &Plan) -> Result<bool, OutOfMemory>
-    requires { IsPlan plan.now }
-{
-    let attached = attach(alloc, reports, plan, Phase::Drafted)?;
-    let text = text_of(alloc, plan, 1, &attached)?;
-    let digits = digits_of(&digest_of(text.bytes()));
-    Ok(text.bytes() == TEXT && digits.as_slice() == DIGITS)
-}
-
-fn has_text(alloc: Global, reports: &Reports) -> Result<bool, OutOfMemory> {
-    match plan(alloc)? {
-        None => Ok(false),
-        Some(plan) => Ok(may_be_checked(&plan) && is_text(alloc, reports, &plan)?),
-    }
-}
-
 // Whether these reports are attached, and none is newer then.
 fn has_weather(
     alloc: Global,
@@ -168,14 +137,6 @@ fn has_newer(alloc: Global, reports: &Reports, others: &Reports) -> Result<bool,
         None => Ok(false),
         Some(plan) => Ok(may_be_checked(&plan) && are_newer(alloc, reports, others, &plan)?),
     }
-}
-
-#[test]
-fn a_release_has_its_text(rt: HostRuntime) -> Result<(), Fail> {
-    let alloc = rt.alloc();
-    let reports = held(alloc)?;
-    assert!(rt; has_text(alloc, &reports)?);
-    Ok(())
 }
 
 // The same, and then a special report of Kennedy.

@@ -2,10 +2,9 @@ ghost use Rattle.std.specs.Prelude.{◌≡◌, ◌<◌, IsTrue};
 ghost use Rattle.plan.specs.Check.{IsPlan};
 ghost use Rattle.plan.specs.Texts.{HasMoment};
 
-use crate::flights::{ETD, plan_of};
-use crate::plan_order::legs_of;
+use crate::flights::{ETD, leg_of, plan_of};
 use deferrals::Deferrals;
-use desk_io::{OutOfMemory, push_all};
+use desk_io::{Listed, OutOfMemory, push_all};
 use desk_time::{FIRST, LAST, Minute};
 use facts::Reports;
 use ops_tables::Tables;
@@ -19,7 +18,12 @@ use std::test::Fail;
 
 // A plan of two legs of an hour each.
 fn plan(alloc: Global, tail: &[u8], kind: Kind) -> Result<Plan, OutOfMemory> {
-    let legs = legs_of(alloc, b"KBOS KJFK ----\nKJFK KBOS ----", 55, 12_000)?;
+    let mut legs = Listed::new(alloc);
+    for (line, etd) in [(b"KBOS KJFK ----", ETD), (b"KJFK KBOS ----", ETD + 60)] {
+        if let Some(leg) = leg_of(alloc, line, etd)? {
+            legs.push(leg)?;
+        }
+    }
     let mut plan = plan_of(alloc, tail, b"C7", legs)?;
     plan.kind = kind;
     Ok(plan)

@@ -2,9 +2,9 @@ ghost use Rattle.std.specs.Prelude.{◌≡◌, ◌<◌, ◌≤◌, All, IfOk, Is
 ghost use Rattle.facts.specs.Reading.{IsRead};
 
 use codes::{ReportFault, Station};
-use desk_io::{Copied, OutOfMemory};
+use desk_io::OutOfMemory;
 use desk_time::{FIRST, LAST, Minute};
-use facts::{Received, Report, Reports, push_line, push_weather, push_weather_at, receive};
+use facts::{Received, Report, Reports, push_weather, push_weather_at, receive};
 use std::alloc::Global;
 use std::test::Fail;
 
@@ -117,34 +117,6 @@ fn the_latest_moment_counts(rt: HostRuntime) -> Result<(), Fail> {
     assert!(rt; kennedy.is_some());
     if let Some(station) = kennedy {
         assert!(rt; has_weather_at(alloc, &reports, station, KENNEDY)?);
-    }
-    Ok(())
-}
-
-fn line(alloc: Global, text: &[u8]) -> Result<Vec<u8>, ReportFault> {
-    let copy = report(alloc, 0, DAY + 1020, text)?.copy(alloc)?;
-    let mut out = Vec::new(alloc);
-    push_line(&mut out, &copy)?;
-    Ok(out)
-}
-
-#[test]
-fn lines_are_those_of_the_reports(rt: HostRuntime) -> Result<(), Fail> {
-    for (text, wanted) in [
-        (
-            b"METAR KJFK 121651Z 10SM CLR".as_slice(),
-            b"KJFK METAR 0 2025-03-12T16:51Z ceiling 12000 vis 16093440 unread 0\n".as_slice(),
-        ),
-        (
-            b"METAR KPHL 121157Z NIL",
-            b"KPHL METAR 0 2025-03-12T11:57Z NIL\n",
-        ),
-        (
-            b"TAF EGLL 121605Z 1217/1305 CNL",
-            b"EGLL TAF 0 2025-03-12T16:05Z 2025-03-12T17:00Z 2025-03-13T05:00Z CNL\n",
-        ),
-    ] {
-        assert!(rt; line(rt.alloc(), text)?.as_slice() == wanted);
     }
     Ok(())
 }

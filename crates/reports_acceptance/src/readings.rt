@@ -1,4 +1,4 @@
-use codes::{Class, Groups, ReportFault, TOO_LONG, class_at};
+use codes::{Class, Groups, ReportFault, class_at};
 use desk_io::{Copied, OutOfMemory};
 use desk_time::Minute;
 use facts::{Read, read_report};
@@ -57,53 +57,6 @@ fn texts_are_cut_into_groups(rt: HostRuntime) -> Result<(), Fail> {
     let text =
         b"KJFK AUTO 24008G15KT 200V280 1 1/2SM R04L/2000FT -RAPL VV002 12/M02 A3012 CAVOK -RAPX";
     assert!(rt; has_classes(rt.alloc(), text, b"-MWWVVRPSTAS-")?);
-    Ok(())
-}
-
-// A front, the same group so many times, and blanks up to 2,048 bytes.
-fn long_text(
-    alloc: Global,
-    front: &[u8],
-    group: &[u8],
-    count: u32,
-) -> Result<Vec<u8>, OutOfMemory> {
-    let mut text = Vec::from_slice(alloc, front)?;
-    for _ in 0..count {
-        text.extend_from_slice(group)?;
-    }
-    for _ in text.len()..2048 {
-        text.push(b' ')?;
-    }
-    Ok(text)
-}
-
-// Whether such a text, which has 2,048 bytes, is read, and with a byte more is too long.
-fn is_longest(alloc: Global, front: &[u8], group: &[u8], count: u32) -> Result<bool, OutOfMemory> {
-    let mut text = long_text(alloc, front, group, count)?;
-    let is_read = text.len() == 2048 && read_report(alloc, &text, RECEIPT).is_ok();
-    text.push(b' ')?;
-    let read = read_report(alloc, &text, RECEIPT);
-    Ok(is_read && matches!(&read, Err(fault) if *fault == ReportFault::Bad(TOO_LONG)))
-}
-
-#[test]
-fn the_longest_reports_are_read(rt: HostRuntime) -> Result<(), Fail> {
-    for (front, group, count) in [
-        (
-            b"METAR KJFK 121651Z 10SM".as_slice(),
-            b" OVC004".as_slice(),
-            289,
-        ),
-        (b"METAR KJFK 121651Z 10SM", b" 1", 1012),
-        (b"TAF KJFK 121120Z 1212/1318", b" FM121500", 224),
-        (
-            b"TAF KJFK 121120Z 1212/1318 \xff\x0b\x00 9999\xa0",
-            b" A",
-            1000,
-        ),
-    ] {
-        assert!(rt; is_longest(rt.alloc(), front, group, count)?);
-    }
     Ok(())
 }
 
