@@ -1,3 +1,3 @@
 pub mod Reading
+pub mod Opened
 pub mod Says
-pub mod Statuses

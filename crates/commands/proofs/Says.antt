@@ -1,112 +1,267 @@
--- What is said of a desk that was opened, or that can't be.
-use Rattle.std.proofs.Common.{◌≢◌, ℕ, ◌≤◌, List, map, Option, None, Some, ap, ◌∙◌, subst, arith, ◌≡◌, inl, inr, sym}
-use Rattle.std.specs.Prelude.{All, ◌++◌, Result, Ok, Err, IfOk}
-use Rattle.std.specs.List.{concat}
+-- What follows of all that is said, whatever it is.
+use Rattle.std.proofs.Common.{◌≡◌, ◌≢◌, ℕ, ◌≤◌, List, [], ◌∷◌, ◌++◌, map, Option, None, Some, ap, arith, refl, sym, subst, inl, inr}
+use Rattle.std.specs.Prelude.{◌==◌, All, IfErr, IfOk, IfSome, MatchBool, MatchResult, Result, Ok, Err}
+use Rattle.std.specs.List.{Contains}
+use Rattle.std.proofs.lemmas.List.Elements.{All-head}
 use Rattle.board.specs.Prepare.{Shown}
+use Rattle.desk.specs.Opening.{IsLeft, IsNoKeeperFault, IsOfKeeper, TellsRowsOf}
+use Rattle.desk.specs.declared.opening.OpenWhy.{OpenWhy}
+use Rattle.desk.specs.declared.opening.OpenWhy.TheVariants as why
 use Rattle.desk_io.specs.Rows.{Rows}
 use Rattle.desk_io.specs.Told.{HoldsName}
+use Rattle.desk_net.specs.declared.outside.Clock as clock
+use Rattle.desk_net.specs.declared.outside.Door as door
+use Rattle.desk_net.specs.declared.outside.Link as link
+use Rattle.keeper.specs.declared.keeping.Keeper as keeper
+use Rattle.kept_forms.specs.Formed.{AreFormed}
+use Rattle.desk_state.specs.Sound.{IsBoard}
 use Rattle.desk_state.specs.State.{State}
-use Rattle.ops_tables.specs.Tables.{TableRows}
-use Rattle.kept_state.specs.Held.{state_in}
-use Rattle.kept_state.specs.Opening.{reopened}
-use Rattle.table_files.specs.Files.{files, name_of}
-use Rattle.table_files.specs.Whole.{StopsAtMissing, Told}
-use Rattle.table_files.specs.declared.faults.TableFault.{TableFault}
-use Rattle.table_files.specs.declared.faults.TableFault.TheVariants as fault_of
-use Rattle.commands.specs.Answers.{Telling, telling, Left, left_with, HasNoBoard, OpeningSays, WhySays, TablesSay, IsRunWith, IsRunFrom, Serving, IsServedFrom, IsServedWith}
-use Rattle.commands.proofs.Reading.{none_missing}
-use Rattle.desk.specs.Keeping.{numbers_of}
-use Rattle.desk.specs.Opening.{IsOpened, IsWhy}
-use Rattle.desk.specs.declared.opening.OpenWhy.{OpenWhy}
-use Rattle.desk.specs.declared.opening.OpenWhy.TheVariants.{KeeperFault, BadRow, BadPair, OutOfMemory}
-use Rattle.desk_io.specs.Causes.{RoseOrFull}
-use Rattle.records.specs.declared.faults.RowsFault.TheVariants as rows
-use Rattle.desk.specs.Run.{IsRun}
-use Rattle.desk_net.specs.Doors.{Links}
-use Rattle.desk_net.specs.Streams.{Stream as Line}
-use Rattle.service.specs.Doors.{IsServing}
+use Rattle.service.specs.Doors.{HasLinks}
 use Rattle.service.specs.declared.doors.ServeEnd.{ServeEnd}
-use Rattle.service.proofs.Visits.{serving_from}
-use Rattle.desk.proofs.Choices.{rise_within, rise_lower}
+use Rattle.service.specs.declared.doors.ServeEnd.TheVariants as ends
+use Rattle.ops_tables.specs.Tables.{TableRows}
+use Rattle.table_files.specs.Files.{files, name_of}
+use Rattle.table_files.specs.Whole.{StopsAtMissing}
+use Rattle.table_files.specs.declared.faults.TableFault.{TableFault}
+use Rattle.table_files.specs.declared.faults.TableFault.TheVariants as table
+use Rattle.words.specs.declared.task.DeskTask.{DeskTask}
+use Rattle.words.specs.declared.task.DeskTask.TheVariants.{Run, Serve}
+use Rattle.words.specs.declared.task.Task.{Task}
+use Rattle.words.specs.declared.task.Task.TheVariants.{Weather, Desk}
+use Rattle.commands.proofs.Reading.{held_last, none_missing}
+use Rattle.commands.specs.Answers.{AreKeptOver, HasDoor, HasSources, Says, Writes}
+use Rattle.commands.specs.Faults.{Gives, Outcome, of_opening, of_tables, status_of_fault}
+use Rattle.commands.specs.Preparing.{Prepares, ReadsWork, SourceFails, links_of, sources_on_desk}
+use Rattle.commands.specs.Seen.{AreIdle, ClockGoesOn, KeeperGoesOn, KeeperSeen, Over, Service, ShelfSeen, SinkSeen, clock_seen, door_seen, keeper_seen, over, service}
+use Rattle.commands.specs.Working.{Does, EndSays, IsUntouched, Opens, Works}
+use Rattle.commands.specs.declared.fault.Fault.{Fault}
+use Rattle.commands.specs.declared.fault.Fault.TheVariants.{Usage, ReadFault, WriteFault, KeeperFault, BadTable, BadRow, BadPair, OutOfMemory, DoorFault, InputTooLong, ClockFault}
+use Rattle.commands.specs.declared.preparing.Ground.{Ground}
+use Rattle.commands.specs.declared.preparing.Ground.TheVariants.{Reports, OnDesk}
+use Rattle.commands.specs.declared.preparing.Work.{Work}
+use Rattle.commands.specs.declared.preparing.Work.TheVariants.{Script, Door}
 
--- what is said where no desk is opened
-why_said : (before : Telling) (why : OpenWhy) (status : ℕ) (text : List ℕ) (left : Left) → IsWhy before.rows (RoseOrFull before.faults left.keeper.faults) why → WhySays why status text
-    → HasNoBoard before left → OpeningSays before status text left
-why_said before KeeperFault status text left is says none = inl (says.0, is, says.1, none)
-why_said before (BadRow row why) status text left is says none =
-    inr (says.0, record { rows = is.rows; listed = is.listed; order = is.order; has = (rows.BadRow row why, is.has, says.1) }, none)
-why_said before (BadPair one two) status text left is says none =
-    inr (says.0, record { rows = is.rows; listed = is.listed; order = is.order; has = (rows.BadPair one two, is.has, says.1) }, none)
-why_said before OutOfMemory status text left is says none = absurd says
+-- ---- what a fault tells of the outside
 
--- the keeper is given back that failed
-pub opening_says : {K : Type 0} (told : K → Option Rows) (count : K → ℕ) (lent failed kept : K) (why : OpenWhy) (board : Option Shown) (status : ℕ) (text : List ℕ) → kept ≡ failed → board ≡ None
-    → told failed ≡ told lent → IsWhy (told lent) (RoseOrFull (count lent) (count failed)) why → WhySays why status text
-    → OpeningSays (telling (told lent) (count lent)) status text (left_with board (told kept) (count kept))
-opening_says {K} told count lent failed kept why board status text is none same because says =
-    subst (λ (k : K). OpeningSays (telling (told lent) (count lent)) status text (left_with board (told k) (count k))) (sym is)
-    (why_said (telling (told lent) (count lent)) why status text (left_with board (told failed) (count failed)) because says (record { board = none; rows = same }))
+-- who isn't as it should be: a sound shelf with the sources, a sound keeper, the rows of a desk that was left, a sound door with links enough,
+-- a sound clock
+abbrev pub Accuses : (shelf keeper rows door clock : Type 0) → Fault → Type 0
+Accuses shelf keeper rows door clock (ReadFault name) = shelf → ⊥
+Accuses shelf keeper rows door clock WriteFault = ⊥
+Accuses shelf keeper rows door clock KeeperFault = keeper → ⊥
+Accuses shelf keeper rows door clock (BadRow row why) = rows → ⊥
+Accuses shelf keeper rows door clock (BadPair one two) = rows → ⊥
+Accuses shelf keeper rows door clock DoorFault = door → ⊥
+Accuses shelf keeper rows door clock ClockFault = clock → ⊥
+Accuses shelf keeper rows door clock other = Unit {0}
 
--- a run that counts from before
-run_lower : (less before after : ℕ) (s : State) (script : List ℕ) (t : State) (text : List ℕ) → less ≤ before → IsRun before after s script t text → IsRun less after s script t text
-run_lower less before after s script t text under run =
-    let within = rise_within before (concat (map numbers_of run.choices)) after run.counted in
-    record {
-      choices = run.choices;
-      counted = rise_lower less before (concat (map numbers_of run.choices)) after under run.counted;
-      says = run.says;
-      state = run.state;
-      steady = λ same. run.steady (omega (arith, same, under, within));
-    }
+-- the rows are told, and they are those of a desk that was left
+abbrev pub AreLeft : Option Rows → Type 0
+AreLeft rows = (s : State) × IsLeft s × TellsRowsOf rows s
 
--- a run on the desk that was opened
-pub run_over : (tables : TableRows) (told : Option Rows) (before faults : ℕ) (script text : List ℕ) (start : Shown) (board : Option Shown) (after : Telling) → IsOpened told tables start → before ≤ faults
-    → IsRunFrom start faults script text board after → IsRunWith tables (telling told before) script text board after
-run_over tables told before faults script text start None after opened under run = absurd run
-run_over tables told before faults script text start (Some b) after opened under run =
-    let s : State = reopened (state_in tables opened.records) in
-    record {
-      records = opened.records;
-      loaded = opened.loaded;
-      opening = run.1 ∙ ap (λ (x : Shown). x.opening) opened.shows;
-      run = run_lower before faults after.faults s script b.state text under (subst (λ (x : State). IsRun faults after.faults x script b.state text) (ap (λ (x : Shown). x.state) opened.shows) run.0);
-      kept = run.2;
-    }
+module _ (shelf : Over ShelfSeen) (keeper rows door clock : Type 0) where
+  source_accuses : (has : Type 0) (name : List ℕ) → (has → shelf.before.sound × HoldsName shelf.before.sources name) → (fault : Fault) → SourceFails shelf name fault → Accuses has keeper rows door clock fault
+  source_accuses has name gives (ReadFault file) says = λ h. says.2 (gives h).0 (gives h).1
+  source_accuses has name gives (InputTooLong file) says = tt
+  source_accuses has name gives OutOfMemory says = tt
+  source_accuses has name gives other says = absurd says
 
--- connections on the desk that was opened
-served_over : (tables : TableRows) (told : Option Rows) (before faults : ℕ) (serving : Serving) (port most status : ℕ) (text : List ℕ) (start : Shown) (board : Option Shown) (after : Telling)
-    → ((end : ServeEnd) (less high now : ℕ) (s t : State) → less ≤ high → serving port most end high now s t → serving port most end less now s t) → IsOpened told tables start → before ≤ faults
-    → IsServedFrom start faults serving port most status text board after → IsServedWith tables (telling told before) serving port most status text board after
-served_over tables told before faults serving port most status text start None after lower opened under is = absurd is
-served_over tables told before faults serving port most status text start (Some b) after lower opened under (end, says, serves, opening, kept) =
-    let s : State = reopened (state_in tables opened.records) in (
-      end,
-      says,
+  tables_accuse : (rest : List (List ℕ)) (stop : TableFault) → (shelf.before.sound → StopsAtMissing shelf.before.sources stop)
+      → Accuses (shelf.before.sound × All (HoldsName shelf.before.sources) (map name_of files ++ rest)) keeper rows door clock (of_tables stop)
+  tables_accuse rest (table.Bad bad) stops = tt
+  tables_accuse rest (table.ReadFault name) stops = λ has. none_missing shelf.before.sources name rest has.1 (stops has.0)
+  tables_accuse rest (table.TooLong name) stops = tt
+  tables_accuse rest table.OutOfMemory stops = tt
+
+  prepare_accuses : (task : Task) (name : List ℕ) (fault : Fault) → Prepares shelf task name (Err fault) → Accuses (HasSources shelf.before (Some (task, name))) keeper rows door clock fault
+  prepare_accuses Weather name fault says = source_accuses _ name (λ has. (has.0, All-head (HoldsName shelf.before.sources) name [] has.1)) fault says
+  prepare_accuses (Desk task) name fault (inl bad) =
+      subst (λ f. Accuses (HasSources shelf.before (Some (Desk task, name))) keeper rows door clock f) (sym bad.is) (tables_accuse (sources_on_desk task name) bad.stop bad.sound)
+  prepare_accuses (Desk Run) name fault (inr (tables, reads, work)) =
+      source_accuses _ name (λ has. (has.0, held_last (HoldsName shelf.before.sources) (map name_of files) name has.1)) fault work
+  prepare_accuses (Desk (Serve port most)) name fault (inr (tables, reads, work)) = absurd (cc work)
+
+module _ (shelf keeper rows door clock : Type 0) where
+  abbrev Acquits : Outcome → Type 0
+  Acquits answer = IfErr answer (Accuses shelf keeper rows door clock)
+
+  gives_accuses : (P : List ℕ → Type 0) (answer : Outcome) → Gives P answer → Acquits answer
+  gives_accuses P (Ok text) gives = tt
+  gives_accuses P (Err OutOfMemory) gives = tt
+  gives_accuses P (Err other) gives = absurd gives
+
+  why_accuses : (rose : Type 0) (why : OpenWhy) → (keeper → IsNoKeeperFault why) → (rows → IsOfKeeper rose why) → Acquits (Err (of_opening why))
+  why_accuses rose why.KeeperFault sound left = sound
+  why_accuses rose (why.BadRow row reason) sound left = left
+  why_accuses rose (why.BadPair one two) sound left = left
+  why_accuses rose why.OutOfMemory sound left = tt
+
+  end_accuses : (end : ServeEnd) (s : State) (answer : Outcome) → EndSays end s answer → (clock → end ≢ ends.ClockFault) → (door → end ≢ ends.DoorFault) → Acquits answer
+  end_accuses ends.Done s answer says steady_clock steady_door = gives_accuses _ answer says
+  end_accuses ends.DoorFault s answer says steady_clock steady_door = subst Acquits (sym says) (λ d. steady_door d refl)
+  end_accuses ends.ClockFault s answer says steady_clock steady_door = subst Acquits (sym says) (λ c. steady_clock c refl)
+  end_accuses ends.OutOfMemory s answer says steady_clock steady_door = subst Acquits (sym says) tt
+
+ok_any : {P : Type 0} (answer : Outcome) → P → IfOk answer (λ text. P)
+ok_any (Ok text) holds = holds
+ok_any (Err fault) holds = tt
+
+-- ---- the connections that a command serves
+
+-- work at a door serves as many connections as its command names
+abbrev WorkServes : Option (Task × List ℕ) → Work → Type 0
+WorkServes command (Script script) = Unit {0}
+WorkServes command (Door port most) = most ≡ links_of command
+
+abbrev door_links : Result Work Fault → ℕ
+door_links (Ok (Door port most)) = most
+door_links other = 0
+
+read_serves : (shelf : Over ShelfSeen) (task : DeskTask) (name : List ℕ) (work : Work) → ReadsWork shelf task name (Ok work) → WorkServes (Some (Desk task, name)) work
+read_serves shelf Run name (Script script) reads = tt
+read_serves shelf Run name (Door port most) reads = absurd reads
+read_serves shelf (Serve port most) name (Script script) reads = tt
+read_serves shelf (Serve port most) name (Door at links) reads = ap door_links reads
+
+prepared_serves : (shelf : Over ShelfSeen) (task : Task) (name : List ℕ) (tables : TableRows) (work : Work) → Prepares shelf task name (Ok (OnDesk tables work)) → WorkServes (Some (task, name)) work
+prepared_serves shelf Weather name tables work prepares = absurd prepares
+prepared_serves shelf (Desk task) name tables work (inl bad) = absurd bad
+prepared_serves shelf (Desk task) name tables work (inr (read, reads, stands)) = read_serves shelf task name work stands.1
+
+-- ---- what goes on, whatever is said
+
+module _ {K C D L : Type 0} (k : keeper.Ghosts K) (c : clock.Ghosts C) (d : door.Ghosts D L) (l : link.Ghosts L) (lent kept : K) (clock_old clock_new : C) (door_old door_new : D) (shelf : Over ShelfSeen) where
+  abbrev rows_over : Over KeeperSeen
+  rows_over = over (keeper_seen k) lent kept
+
+  abbrev serving : Service L
+  serving = service c d l clock_old clock_new door_old door_new
+
+  abbrev HasNoFault : Option (Task × List ℕ) → Outcome → Type 0
+  HasNoFault command = Acquits (HasSources shelf.before command) (k.sound lent) (AreLeft (k.told lent)) (HasDoor (door_seen d door_old) command) (c.sound clock_old)
+
+  abbrev IsStill : Type 0
+  IsStill = c.fault_count clock_new ≡ c.fault_count clock_old
+
+  -- what goes on of the clock and the door, and who isn't told of
+  pub record Served (command : Option (Task × List ℕ)) (answer : Outcome) : Type 0 where
+    pub clock : ClockGoesOn serving.clock
+    pub door : d.fault_count door_old ≤ d.fault_count door_new
+    pub still : IfOk answer (λ text. IsStill)
+    pub accuses : HasNoFault command answer
+
+  -- and of the keeper and the board
+  pub record Follows (command : Option (Task × List ℕ)) (board : Option Shown) (answer : Outcome) : Type 0 where
+    pub keeper : KeeperGoesOn rows_over
+    pub are_kept : AreKeptOver rows_over board
+    pub holds : IfSome board (λ b. IsBoard b.opening b.state)
+    pub formed : IfSome board (λ b. AreFormed b.state)
+    pub served : Served command answer
+
+  idle_served : (command : Option (Task × List ℕ)) (answer : Outcome) → AreIdle serving → HasNoFault command answer → Served command answer
+  idle_served command answer idle accuses =
       record {
-        records = opened.records;
-        loaded = opened.loaded;
-        opening = opening ∙ ap (λ (x : Shown). x.opening) opened.shows;
-        served = lower end before faults after.faults s b.state under (subst (λ (x : State). serving port most end faults after.faults x b.state) (ap (λ (x : Shown). x.state) opened.shows) serves);
-        kept = kept;
-      },
-    )
+        clock = subst (λ x. ClockGoesOn (over (clock_seen c) clock_old x)) (sym idle.0) (record { moments = refl; later = omega arith; sound = λ s. (s, refl) });
+        door = subst (λ x. d.fault_count door_old ≤ d.fault_count x) (sym idle.1) (omega arith);
+        still = ok_any answer (ap c.fault_count idle.0);
+        accuses = accuses;
+      }
 
-pub door_over : {L : Type 0} (link : L → Option Line) (fails : L → L → Type 0) (old new : Option (Links L)) (opened_at : Option ℕ) (moments : Option (List ℕ)) (door clock : Type 0) (tables : TableRows) (told : Option Rows)
-    (before faults port most status : ℕ) (text : List ℕ) (start : Shown) (board : Option Shown) (after : Telling) → IsOpened told tables start → before ≤ faults
-    → IsServedFrom start faults (IsServing link fails old new opened_at moments door clock) port most status text board after
-    → IsServedWith tables (telling told before) (IsServing link fails old new opened_at moments door clock) port most status text board after
-door_over link fails old new opened_at moments door clock tables told before faults port most status text start board after opened under is =
-    served_over tables told before faults (IsServing link fails old new opened_at moments door clock) port most status text start board after
-    (λ end less high now s t lower serves. serving_from link fails old new opened_at moments door clock port most end less high now s t lower serves) opened under is
+  untouched_follows : (command : Option (Task × List ℕ)) (board : Option Shown) (answer : Outcome) → IsUntouched serving rows_over board → HasNoFault command answer → Follows command board answer
+  untouched_follows command board answer is accuses =
+      record {
+        keeper = subst (λ x. KeeperGoesOn (over (keeper_seen k) lent x)) (sym is.same) (record { later = omega arith; sound = λ s. (s, refl) });
+        are_kept = subst (λ b. AreKeptOver rows_over b) (sym is.none) (ap k.told is.same);
+        holds = subst (λ b. IfSome b (λ b. IsBoard b.opening b.state)) (sym is.none) tt;
+        formed = subst (λ b. IfSome b (λ b. AreFormed b.state)) (sym is.none) tt;
+        served = idle_served command answer is.idle accuses;
+      }
 
--- what two clauses of an answer lead to
-pub both_ok : {T E : Type 0} (P Q R : T → Type 0) (r : Result T E) → ((x : T) → P x → Q x → R x) → IfOk r P → IfOk r Q → IfOk r R
-both_ok P Q R (Ok x) follows one two = follows x one two
-both_ok P Q R (Err e) follows one two = tt
+  end_still : (end : ServeEnd) (s : State) (answer : Outcome) → EndSays end s answer → (end ≡ ends.Done → IsStill) → IfOk answer (λ text. IsStill)
+  end_still ends.Done s answer says still = ok_any answer (still refl)
+  end_still ends.DoorFault s answer says still = subst (λ a. IfOk a (λ text. IsStill)) (sym says) tt
+  end_still ends.ClockFault s answer says still = subst (λ a. IfOk a (λ text. IsStill)) (sym says) tt
+  end_still ends.OutOfMemory s answer says still = subst (λ a. IfOk a (λ text. IsStill)) (sym says) tt
 
--- none is missing, so it isn't told that one can't be read
-pub fault_known : (told : Told) (stop : TableFault) (rest : List (List ℕ)) (status : ℕ) (text : List ℕ) → All (HoldsName told) (map name_of files ++ rest) → StopsAtMissing told stop → TablesSay stop status text → status ≢ 3
-fault_known told (fault_of.Bad bad) rest status text all stops says = let six = says.0 in λ e. omega (arith, six, e)
-fault_known told (fault_of.ReadFault name) rest status text all stops says = absurd (none_missing told name rest all stops)
-fault_known told (fault_of.TooLong name) rest status text all stops says = let ten = says.0 in λ e. omega (arith, ten, e)
-fault_known told fault_of.OutOfMemory rest status text all stops says = absurd says
+  work_follows : (command : Option (Task × List ℕ)) (work : Work) (before after : ℕ) (s t : State) (answer : Outcome) → WorkServes command work → Works work serving before after s t answer → Served command answer
+  work_follows command (Script script) before after s t answer serves works = idle_served command answer works.1 (gives_accuses _ _ _ _ _ _ answer works.0)
+  work_follows command (Door port most) before after s t answer serves works =
+      record {
+        clock = works.clock;
+        door = works.door;
+        still = end_still works.end t answer works.says works.still;
+        accuses = end_accuses _ _ _ _ _ works.end t answer works.says works.steady_clock
+            (λ has. works.steady_door has.0 (subst (λ n. HasLinks (d.told door_old) n) (sym serves) has.1));
+      }
+
+  opens_follow : (command : Option (Task × List ℕ)) (tables : TableRows) (work : Work) (board : Option Shown) (answer : Outcome) → WorkServes command work → KeeperGoesOn rows_over
+      → Opens tables work serving rows_over board answer → Follows command board answer
+  opens_follow command tables work None answer serves goes opens =
+      let un = opens.0 in
+      let accuses = why_accuses _ _ _ _ _ _ un.why un.sound (λ rows. un.left rows.0 rows.1 rows.2) in
+      record { keeper = goes; are_kept = un.rows; holds = tt; formed = tt; served = idle_served command answer opens.1 (subst (HasNoFault command) (sym un.says) accuses) }
+  opens_follow command tables work (Some b) answer serves goes opens =
+      record {
+        keeper = goes;
+        are_kept = (tables, opens.0);
+        holds = opens.0.holds;
+        formed = opens.0.formed;
+        served = work_follows command work (k.fault_count lent) (k.fault_count kept) b.opening b.state answer serves opens.1;
+      }
+
+  done_follows : (task : Task) (name : List ℕ) (board : Option Shown) (answer : Outcome) (ground : Result Ground Fault) → Prepares shelf task name ground
+      → MatchResult ground (λ g. Does g serving rows_over board answer) (λ fault. (answer ≡ Err fault) × IsUntouched serving rows_over board) → Follows (Some (task, name)) board answer
+  done_follows task name board answer (Err fault) prepares does =
+      untouched_follows (Some (task, name)) board answer does.1 (subst (HasNoFault (Some (task, name))) (sym does.0) (prepare_accuses shelf _ _ _ _ task name fault prepares))
+  done_follows task name board answer (Ok (Reports file)) prepares does = untouched_follows (Some (task, name)) board answer does.1 (gives_accuses _ _ _ _ _ _ answer does.0)
+  done_follows task name board answer (Ok (OnDesk tables work)) prepares does =
+      opens_follow (Some (task, name)) tables work board answer (prepared_serves shelf task name tables work prepares) does.0 does.1
+
+  pub follows : (command : Option (Task × List ℕ)) (board : Option Shown) (answer : Outcome) → Says shelf serving rows_over command board answer → Follows command board answer
+  follows command board answer (inr says) = untouched_follows command board answer says.1 (subst (HasNoFault command) (sym says.0) tt)
+  follows None board answer (inl says) = untouched_follows None board answer says.1 (subst (HasNoFault None) (sym says.0) tt)
+  follows (Some command) board answer (inl (ground, prepares, does)) = done_follows command.0 command.1 board answer ground prepares does
+
+-- ---- the status
+
+-- what a status tells: at 0 no fault of the clock was passed over, and else who isn't as it should be
+abbrev pub Cause : (still shelf sink keeper rows door clock : Type 0) → ℕ → Type 0
+Cause still shelf sink keeper rows door clock n =
+    MatchBool (n == 0) still (MatchBool (n == 3) (shelf → ⊥) (MatchBool (n == 4) (sink → ⊥) (MatchBool (n == 5) (keeper → ⊥)
+    (MatchBool (n == 7) (rows → ⊥) (MatchBool (n == 9) (door → ⊥) (MatchBool (n == 11) (clock → ⊥) (Unit {0})))))))
+
+-- the statuses over an outside that is sound
+abbrev pub Remains : ℕ → Type 0
+Remains n = Contains (0 ∷ 2 ∷ 6 ∷ 7 ∷ 8 ∷ 10 ∷ []) n
+
+module _ (still shelf keeper rows door clock : Type 0) (sink : Over SinkSeen) where
+  module _ (P : ℕ → Type 0) (two : P 2) (three : (shelf → ⊥) → P 3) (four : (sink.before.sound → ⊥) → P 4) (five : (keeper → ⊥) → P 5) (six : P 6) (seven : (rows → ⊥) → P 7) (eight : P 8)
+      (nine : (door → ⊥) → P 9) (ten : P 10) (eleven : (clock → ⊥) → P 11) where
+    by_fault : (fault : Fault) → Accuses shelf keeper rows door clock fault → P (status_of_fault fault)
+    by_fault Usage says = two
+    by_fault (ReadFault name) says = three says
+    by_fault WriteFault says = absurd says
+    by_fault KeeperFault says = five says
+    by_fault (BadTable bad) says = six
+    by_fault (BadRow row why) says = seven says
+    by_fault (BadPair one two) says = seven says
+    by_fault OutOfMemory says = eight
+    by_fault DoorFault says = nine says
+    by_fault (InputTooLong name) says = ten
+    by_fault ClockFault says = eleven says
+
+    by_status : (answer : Outcome) (status : ℕ) → IfOk answer (λ text. P 0) → IfErr answer (Accuses shelf keeper rows door clock) → Writes sink answer status → P status
+    by_status (Ok text) status is says (inl (said, has, same, wrote)) = subst P (sym same) is
+    by_status (Err fault) status is says (inl (said, has, same, wrote)) = subst P (sym same) (by_fault fault says)
+    by_status answer status is says (inr (inl wrote)) = subst P (sym wrote.0) (four wrote.2)
+    by_status answer status is says (inr (inr wrote)) = subst P (sym wrote.0) eight
+
+  pub status_cause : (answer : Outcome) (status : ℕ) → IfOk answer (λ text. still) → IfErr answer (Accuses shelf keeper rows door clock) → Writes sink answer status
+      → Cause still shelf sink.before.sound keeper rows door clock status
+  status_cause = by_status (Cause still shelf sink.before.sound keeper rows door clock) tt (λ no. no) (λ no. no) (λ no. no) tt (λ no. no) tt (λ no. no) tt (λ no. no)
+
+  pub status_remains : shelf → sink.before.sound → keeper → door → clock → (answer : Outcome) (status : ℕ) → IfErr answer (Accuses shelf keeper rows door clock) → Writes sink answer status
+      → Remains status
+  status_remains s o k d c answer status says wrote =
+      by_status Remains (1, omega arith, refl) (λ no. absurd (no s)) (λ no. absurd (no o)) (λ no. absurd (no k)) (2, omega arith, refl) (λ no. (3, omega arith, refl)) (4, omega arith, refl)
+      (λ no. absurd (no d)) (5, omega arith, refl) (λ no. absurd (no c)) answer status (ok_any answer (0, omega arith, refl)) says wrote

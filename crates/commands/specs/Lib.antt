@@ -1,4 +1,6 @@
-pub mod ErrorLines
+pub mod Seen
+pub mod Faults
 pub mod Weather
+pub mod Preparing
+pub mod Working
 pub mod Answers
-pub mod Onward

@@ -2,8 +2,10 @@
 #![tactic(auto)]
 
 mod commands;
-mod saying;
+mod fault;
+mod preparing;
 mod top;
 mod weather;
+mod working;
 
 pub use top::{Ending, desk_main};

@@ -1,26 +1,26 @@
-ghost use Rattle.std.specs.Prelude.{◌≡◌, ◌≢◌, ◌≤◌, [], ◌∷◌, map, string_bytes, All, IfSome, MatchResult};
+ghost use Rattle.std.specs.Prelude.{◌≡◌, ◌≢◌, ◌≤◌, [], ◌∷◌, map, string_bytes, IfSome};
 ghost use Rattle.std.specs.List.{Contains};
-ghost use Rattle.std.specs.Io.KnownBytes.{Appends, Keeps};
-ghost use Rattle.desk_io.specs.Causes.{RoseOrFull};
-ghost use Rattle.desk_io.specs.Told.{HoldsName};
-ghost use Rattle.kept_forms.specs.Formed.{AreFormed};
-ghost use Rattle.desk_state.specs.State.{State};
+ghost use Rattle.commands.specs.Answers.{AreKeptOver, Blames, EndsProgram, HasDoor, HasSources, Says, Writes};
+ghost use Rattle.commands.specs.Seen.{door_seen, keeper_seen, over, service, shelf_seen, sink_seen};
 ghost use Rattle.desk.specs.Opening.{IsLeft, TellsRowsOf};
-ghost use Rattle.service.specs.Doors.{HasLinks, IsServing};
-ghost use Rattle.service.specs.Onward.{ClockGoesOn, HasFailed};
+ghost use Rattle.kept_forms.specs.Formed.{AreFormed};
+ghost use Rattle.desk_state.specs.Sound.{IsBoard};
+ghost use Rattle.desk_state.specs.State.{State};
+ghost use Rattle.service.specs.Onward.{ClockGoesOn};
 ghost use Rattle.words.specs.Words.{command_of};
-ghost use Rattle.commands.specs.Answers.{AreIdle, AreKeptOver, Blames, telling, left_with, Says, EndsProgram, EndsWith, links_of, sources_of};
 
-use crate::commands::{Said, answer_to};
-use crate::saying::Answer;
+use crate::commands::answer_to;
+use crate::fault::{Fault, tell};
+use crate::working::Said;
 use board::Board;
-use desk_io::{OutOfMemory, PutFault, Shelf, Sink};
+use desk_io::{PutFault, Shelf, Sink, Text};
 use desk_net::{Clock, Door};
 use keeper::Keeper;
 use std::alloc::Global;
 use std::sync::Wait;
 
-/// How the program ends, and what is left: the board of `run` and `serve`, where a desk was opened, the keeper and the clock.
+/// How the program ends, and what is left: the board of `run` and `serve`, where a desk was opened, the keeper and the
+/// clock.
 #[derive(Drop)]
 pub struct Ending<K, C> {
     pub status: u8,
@@ -29,18 +29,17 @@ pub struct Ending<K, C> {
     pub clock: C,
 }
 
-// Writes an answer, and gives the status.
-fn write<O: Sink>(answer: Result<Answer, OutOfMemory>, out: &mut O) -> u8
-    ensures { MatchResult answer (λ a. EndsWith a.status a.text.items (O.sound out.old → ⊥) (RoseOrFull (O.fault_count out.old) (O.fault_count out.new)) (O.content out.old) (O.content out.new) result)
-        (λ e. (result ≡ 8) × Keeps (O.content out.old) (O.content out.new)) }
+// Writes what is told of an answer, and gives the status.
+fn write<O: Sink>(alloc: Global, answer: Result<Text, Fault>, out: &mut O) -> u8
+    ensures { Writes (over (sink_seen O.Sink.own) out.old out.new) answer result }
 {
-    match answer {
-        Err(_) => 8,
-        Ok(answer) => match out.write(&answer.text) {
-            Ok(()) => answer.status,
-            Err(PutFault::Failed) => 4,
-            Err(PutFault::OutOfMemory) => 8,
-        },
+    let Ok(told) = tell(alloc, answer) else {
+        return Fault::OutOfMemory.status();
+    };
+    match out.write(told.text.bytes()) {
+        Ok(()) => told.status,
+        Err(PutFault::Failed) => Fault::WriteFault.status(),
+        Err(PutFault::OutOfMemory) => Fault::OutOfMemory.status(),
     }
 }
 
@@ -77,30 +76,36 @@ pub fn desk_main<R: Wait, S: Shelf, O: Sink, C: Clock + Drop, K: Keeper, D: Door
     keeper: K,
     door: &mut D,
 ) -> Ending<K, C>
-    // Over an outside that is sound, with the sources that the words name and a link to come for each connection, nothing fails
-    // but memory: all was read and said, or the words, a source, a table or a row are at fault.
-    ensures complete { S.sound shelf.old → O.sound out.old → K.sound keeper → C.sound clock → D.sound door.old
-        → All (HoldsName (S.sources shelf.old)) (sources_of (command_of (map string_bytes words.now))) → HasLinks (D.told door.old) (links_of (command_of (map string_bytes words.now)))
-        → Contains (0 ∷ 2 ∷ 6 ∷ 7 ∷ 8 ∷ 10 ∷ []) result.status }
-    ensures blames { Blames (S.sound shelf.old × All (HoldsName (S.sources shelf.old)) (sources_of (command_of (map string_bytes words.now)))) (O.sound out.old) (K.sound keeper)
-        (D.sound door.old × HasLinks (D.told door.old) (links_of (command_of (map string_bytes words.now)))) (C.sound clock) result.status }
-    ensures ends { EndsProgram (Says (S.sources shelf.old) (RoseOrFull (S.fault_count shelf.old) (S.fault_count shelf.new))
-        (IsServing D.Link.told (HasFailed D.Link.fault_count D.Link.sound) (D.told door.old) (D.told door.new) (D.opened_at door.new) (C.moments clock) (RoseOrFull (D.fault_count door.old) (D.fault_count door.new)) (RoseOrFull (C.fault_count clock) (C.fault_count result.clock)))
-        (AreIdle clock result.clock door.old door.new) (telling (K.told keeper) (K.fault_count keeper)) (command_of (map string_bytes words.now)))
-        (RoseOrFull (O.fault_count out.old) (O.fault_count out.new)) (O.content out.old) (O.content out.new) result.status (left_with result.board (K.told result.keeper) (K.fault_count result.keeper)) }
-    // Whatever the status: the clock tells the same moments, and neither its count nor the door's falls. A sound clock stays sound,
-    // and its count stands still.
+    // Over an outside that is sound, with the sources that the words name and a link to come for each connection,
+    // nothing fails but memory: all was read and said, or the words, a source, a table or a row are at fault.
+    ensures complete { HasSources (shelf_seen S.Shelf.own shelf.old) (command_of (map string_bytes words.now))
+        → HasDoor (door_seen D.Door.own door.old) (command_of (map string_bytes words.now))
+        → O.sound out.old → K.sound keeper → C.sound clock → Contains (0 ∷ 2 ∷ 6 ∷ 7 ∷ 8 ∷ 10 ∷ []) result.status }
+    ensures blames { Blames (HasSources (shelf_seen S.Shelf.own shelf.old) (command_of (map string_bytes words.now)))
+        (O.sound out.old) (K.sound keeper)
+        (HasDoor (door_seen D.Door.own door.old) (command_of (map string_bytes words.now)))
+        (C.sound clock) result.status }
+    ensures ends { EndsProgram (Says (over (shelf_seen S.Shelf.own) shelf.old shelf.new)
+        (service C.Clock.own D.Door.own D.Link.Link.own clock result.clock door.old door.new)
+        (over (keeper_seen K.Keeper.own) keeper result.keeper) (command_of (map string_bytes words.now)) result.board)
+        (over (sink_seen O.Sink.own) out.old out.new) result.status }
+    // Whatever the status: the clock tells the same moments, and neither its count nor the door's falls. A sound clock
+    // stays sound, and its count stands still.
     ensures clock { ClockGoesOn C.moments C.fault_count C.sound clock result.clock }
     // At status 0 no fault of the clock was passed over.
     ensures still { result.status ≡ 0 → C.fault_count result.clock ≡ C.fault_count clock }
     ensures door { D.fault_count door.old ≤ D.fault_count door.new }
     ensures later { K.fault_count keeper ≤ K.fault_count result.keeper }
     // A sound keeper never ends a run, and since its count stands still nothing is refused for its sake.
-    ensures steady { K.sound keeper → K.sound result.keeper × (K.fault_count result.keeper ≡ K.fault_count keeper) × (result.status ≢ 5) }
+    ensures steady { K.sound keeper
+        → K.sound result.keeper × (K.fault_count result.keeper ≡ K.fault_count keeper) × (result.status ≢ 5) }
     // Whatever the status: without a board the rows are as before, and else they are kept for its state.
-    ensures kept { AreKeptOver (telling (K.told keeper) (K.fault_count keeper)) result.board (telling (K.told result.keeper) (K.fault_count result.keeper)) }
-    // Over the rows of a desk that was left there is no fault of rows; and a desk that is left again has the forms by which
-    // its rows are those of a desk.
+    ensures kept { AreKeptOver (over (keeper_seen K.Keeper.own) keeper result.keeper) result.board }
+    // The board is one: its history is legal from its opening state, and each active release bears both signatures on
+    // its very text, and fails no rule or has one alert that names exactly the rules that it fails.
+    ensures board { IfSome result.board (λ b. IsBoard b.opening b.state) }
+    // Over the rows of a desk that was left there is no fault of rows; and a desk that is left again has the forms by
+    // which its rows are those of a desk.
     ensures left { (s : State) → IsLeft s → TellsRowsOf (K.told keeper) s → result.status ≢ 7 }
     ensures formed { IfSome result.board (λ b. AreFormed b.state) }
 {
@@ -109,7 +114,7 @@ pub fn desk_main<R: Wait, S: Shelf, O: Sink, C: Clock + Drop, K: Keeper, D: Door
         board,
         keeper,
     } = answer_to(rt, alloc, words, shelf, &mut clock, door, keeper);
-    let status = write(answer, out);
+    let status = write(alloc, answer, out);
     Ending {
         status,
         board,

@@ -5,7 +5,8 @@ use Rattle.std.specs.Str.{bytes_eq}
 use Rattle.desk_time.specs.Digits.{◌>>=◌}
 use Rattle.kept_releases.specs.Numbers.{number_in}
 use Rattle.words.specs.declared.task.Task.{Task}
-use Rattle.words.specs.declared.task.Task.TheVariants.{Run, Weather, Serve}
+use Rattle.words.specs.declared.task.Task.TheVariants.{Weather, Desk}
+use Rattle.words.specs.declared.task.DeskTask.TheVariants.{Run, Serve}
 
 -- a word is not empty and doesn't begin with a dash
 abbrev pub is_word : List ℕ → Bool
@@ -23,7 +24,7 @@ are_named (name ∷ rest) = is_name name && list_all is_word rest
 
 abbrev pub with_source : List ℕ → List ℕ → Option (Task × List ℕ)
 with_source name source =
-    if bytes_eq name (codes "run") then Some (Run, source) else (if bytes_eq name (codes "weather") then Some (Weather, source) else None)
+    if bytes_eq name (codes "run") then Some (Desk Run, source) else (if bytes_eq name (codes "weather") then Some (Weather, source) else None)
 
 abbrev pub from_one : ℕ → Option ℕ
 from_one n = if nat_le 1 n then Some n else None
@@ -33,7 +34,7 @@ abbrev pub count_of : ℕ → List ℕ → Option ℕ
 count_of most word = number_in most word >>= λ n. from_one n
 
 abbrev pub serve_of : List ℕ → List ℕ → Option (Task × List ℕ)
-serve_of port connections = count_of 65_535 port >>= λ p. count_of 1_000 connections >>= λ c. Some (Serve p c, [])
+serve_of port connections = count_of 65_535 port >>= λ p. count_of 1_000 connections >>= λ c. Some (Desk (Serve p c), [])
 
 -- what a name asks for with the words after it: one source, or a port and a number of connections
 abbrev pub asked_by : List ℕ → List (List ℕ) → Option (Task × List ℕ)

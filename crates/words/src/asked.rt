@@ -2,14 +2,14 @@ ghost use Rattle.std.specs.Prelude.{◌≡◌, ◌≤◌, [], map, IfSome};
 ghost use Rattle.std.specs.Option.{option_map};
 ghost use Rattle.words.specs.Words as spec;
 
-use crate::Task;
+use crate::{DeskTask, Task};
 use kept_releases::read_number;
 
 fn with_source<'a>(name: &str, source: &'a str) -> Option<(Task, &'a str)>
     ensures { option_map (λ c. (c.0, c.1.now)) result ≡ spec.with_source name.now source.entry.now }
 {
     if name == "run" {
-        Some((Task::Run, source))
+        Some((Task::Desk(DeskTask::Run), source))
     } else if name == "weather" {
         Some((Task::Weather, source))
     } else {
@@ -34,7 +34,7 @@ fn serve_of(port: &str, connections: &str) -> Option<Task>
 {
     let port = count_of(65_535, port)? as u16;
     let connections = count_of(1_000, connections)? as u32;
-    Some(Task::Serve { port, connections })
+    Some(Task::Desk(DeskTask::Serve { port, connections }))
 }
 
 /// What a name asks for with the words after it.

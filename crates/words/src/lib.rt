@@ -6,4 +6,4 @@ mod reading;
 mod task;
 
 pub use reading::command;
-pub use task::Task;
+pub use task::{DeskTask, Task};

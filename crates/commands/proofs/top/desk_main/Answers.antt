@@ -1,34 +1,34 @@
-use Rattle.std.proofs.Common.{◌≡◌, ◌≢◌, arith}
-use Rattle.commands.proofs.Statuses.{Remains, eight_remains, ended, ends_by, not_four, remains}
+use Rattle.std.proofs.Common.{subst}
+use Rattle.commands.proofs.Says.{Cause, follows, status_cause, status_remains}
+use Rattle.commands.specs.Seen.{over, sink_seen}
 use Rattle.commands.proofs.top.desk_main.Goals as goal
 
-pub returns-clause-complete : goal.returns-clause-complete
-returns-clause-complete g c = λ shelf sink keeper clock door held links.
+pub returns : goal.returns
+returns g c =
     let said = c.answer_to-answer in
-    ends_by Remains said.result.answer _ _ _ _ c.write-status.result
-    (remains said.result.answer _ _ _ _ _ _ _ said.ensures.says (said.ensures.sound shelf held) (said.ensures.keeper.sound keeper).2 (said.ensures.outside.steady_door door links) (said.ensures.outside.steady_clock clock))
-    (λ unsound. absurd (unsound sink)) eight_remains c.write-status.ensures
-
-pub returns-clause-blames : goal.returns-clause-blames
-returns-clause-blames g c =
-    let said = c.answer_to-answer in
+    let answer = said.result.answer in
     let status = c.write-status.result in
-    let written = c.write-status.ensures in
+    let sink = over (sink_seen g.O.Sink) c.args.out.now c.write-status.new.out in
+    let all = follows g.K.Keeper g.C.Clock g.D.Door g.D.Link.Link c.args.keeper said.result.keeper c.args.clock said.new.clock c.args.door.now said.new.door _ _ said.result.board answer said.ensures in
+    let on = all.served in
+    let cause = status_cause _ _ _ _ _ _ sink answer status on.still on.accuses c.write-status.ensures in
     record {
-      three = λ held. ends_by (λ n. n ≢ 3) said.result.answer _ _ _ _ status (said.ensures.sound held.0 held.1) (λ unsound e. omega (arith, e)) (λ e. omega (arith, e)) written;
-      four = λ sink. ends_by (λ n. n ≢ 4) said.result.answer _ _ _ _ status (not_four said.result.answer _ _ _ _ _ _ _ said.ensures.says) (λ unsound. absurd (unsound sink)) (λ e. omega (arith, e)) written;
-      five = λ keeper. ends_by (λ n. n ≢ 5) said.result.answer _ _ _ _ status (said.ensures.keeper.sound keeper).2 (λ unsound e. omega (arith, e)) (λ e. omega (arith, e)) written;
-      nine = λ held. ends_by (λ n. n ≢ 9) said.result.answer _ _ _ _ status (said.ensures.outside.steady_door held.0 held.1) (λ unsound e. omega (arith, e)) (λ e. omega (arith, e)) written;
-      eleven = λ clock. ends_by (λ n. n ≢ 11) said.result.answer _ _ _ _ status (said.ensures.outside.steady_clock clock) (λ unsound e. omega (arith, e)) (λ e. omega (arith, e)) written;
+      complete = λ shelf door out keeper clock. status_remains (Unit {0}) _ _ _ _ _ sink shelf out keeper door clock answer status on.accuses c.write-status.ensures;
+      blames = record {
+        three = λ shelf is. subst (Cause _ _ _ _ _ _ _) is cause shelf;
+        four = λ out is. subst (Cause _ _ _ _ _ _ _) is cause out;
+        five = λ keeper is. subst (Cause _ _ _ _ _ _ _) is cause keeper;
+        nine = λ door is. subst (Cause _ _ _ _ _ _ _) is cause door;
+        eleven = λ clock is. subst (Cause _ _ _ _ _ _ _) is cause clock;
+      };
+      ends = record { answer = answer; says = said.ensures; writes = c.write-status.ensures };
+      clock = record { moments = on.clock.moments; later = on.clock.later; sound = on.clock.sound };
+      still = λ zero. subst (Cause _ _ _ _ _ _ _) zero cause;
+      door = on.door;
+      later = all.keeper.later;
+      steady = λ keeper. ((all.keeper.sound keeper).0, (all.keeper.sound keeper).1, λ is. subst (Cause _ _ _ _ _ _ _) is cause keeper);
+      kept = all.are_kept;
+      board = all.holds;
+      left = λ s is tells seven. subst (Cause _ _ _ _ _ _ _) seven cause (s, is, tells);
+      formed = all.formed;
     }
-
-pub returns-clause-still : goal.returns-clause-still
-returns-clause-still g c =
-    let said = c.answer_to-answer in
-    ends_by (λ n. n ≡ 0 → g.C.Clock.fault_count said.new.clock ≡ g.C.Clock.fault_count c.args.clock) said.result.answer _ _ _ _ c.write-status.result said.ensures.outside.still
-    (λ unsound e. absurd (cc e)) (λ e. absurd (cc e)) c.write-status.ensures
-
-pub returns-clause-ends : goal.returns-clause-ends
-returns-clause-ends g c =
-    let said = c.answer_to-answer in
-    ended said.result.answer _ _ _ _ _ _ _ _ _ _ c.write-status.result _ said.ensures.says c.write-status.ensures

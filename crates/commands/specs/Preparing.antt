@@ -1,0 +1,96 @@
+-- What a command stands on: the tables, and then the sources that its task names.
+use Rattle.std.specs.Prelude.{◌≡◌, ◌⊎◌, ℕ, ◌<◌, ◌≤◌, List, [], ◌∷◌, ◌++◌, length, map, Option, None, Some, Result, Ok, Err, IsErrAnd}
+use Rattle.desk_io.specs.Causes.{RoseOrFull}
+use Rattle.desk_io.specs.Told.{HoldsName, OnSource}
+use Rattle.kept_forms.specs.Formed.{NamesHaveForms}
+use Rattle.ops_tables.specs.Tables.{TableRows}
+use Rattle.table_files.specs.Files.{files, name_of}
+use Rattle.table_files.specs.Whole.{ReadsTables, RoseAt, StopsAtMissing}
+use Rattle.table_files.specs.declared.faults.TableFault.{TableFault}
+use Rattle.words.specs.declared.task.DeskTask.{DeskTask}
+use Rattle.words.specs.declared.task.DeskTask.TheVariants.{Run, Serve}
+use Rattle.words.specs.declared.task.Task.{Task}
+use Rattle.words.specs.declared.task.Task.TheVariants.{Weather, Desk}
+use Rattle.commands.specs.Faults.{of_tables}
+use Rattle.commands.specs.Seen.{Over, ShelfSeen}
+use Rattle.commands.specs.declared.fault.Fault.{Fault}
+use Rattle.commands.specs.declared.fault.Fault.TheVariants.{ReadFault, OutOfMemory, InputTooLong}
+use Rattle.commands.specs.declared.preparing.Ground.{Ground}
+use Rattle.commands.specs.declared.preparing.Ground.TheVariants.{Reports, OnDesk}
+use Rattle.commands.specs.declared.preparing.Work.{Work}
+use Rattle.commands.specs.declared.preparing.Work.TheVariants.{Script, Door}
+
+-- ---- the sources
+
+-- the sources that a task on a desk reads after the tables
+abbrev pub sources_on_desk : DeskTask → List ℕ → List (List ℕ)
+sources_on_desk Run name = name ∷ []
+sources_on_desk (Serve port connections) name = []
+
+-- the sources that a task reads, in the order of reading
+abbrev pub sources_for : Task → List ℕ → List (List ℕ)
+sources_for Weather name = name ∷ []
+sources_for (Desk task) name = map name_of files ++ sources_on_desk task name
+
+-- the sources that a command reads
+abbrev pub sources_of : Option (Task × List ℕ) → List (List ℕ)
+sources_of None = []
+sources_of (Some command) = sources_for command.0 command.1
+
+-- how many connections a task serves
+abbrev pub links_for : Task → ℕ
+links_for (Desk (Serve port connections)) = connections
+links_for _ = 0
+
+abbrev pub links_of : Option (Task × List ℕ) → ℕ
+links_of None = 0
+links_of (Some command) = links_for command.0
+
+-- ---- what was read
+
+-- Why a source wasn't read: the shelf's count of faults rose, and it isn't sound or lacks the source; or it has more than 64 MiB.
+abbrev pub SourceFails : Over ShelfSeen → List ℕ → Fault → Type 0
+SourceFails shelf name (ReadFault file) =
+    (file ≡ name) × RoseOrFull shelf.before.faults shelf.after.faults × (shelf.before.sound → HoldsName shelf.before.sources name → ⊥)
+SourceFails shelf name (InputTooLong file) = (file ≡ name) × OnSource shelf.before.sources name (λ bytes. 67_108_864 < length bytes)
+SourceFails shelf name OutOfMemory = Unit {0}
+SourceFails shelf name _ = ⊥
+
+-- the whole source of that name, or why it wasn't read
+abbrev pub ReadsSource : Over ShelfSeen → List ℕ → Result (List ℕ) Fault → Type 0
+ReadsSource shelf name (Ok text) = (length text ≤ 67_108_864) × OnSource shelf.before.sources name (λ bytes. bytes ≡ text)
+ReadsSource shelf name (Err fault) = SourceFails shelf name fault
+
+-- why there are no tables: their first fault
+pub record TablesFail (shelf : Over ShelfSeen) (fault : Fault) : Type 0 where
+  pub stop : TableFault
+  pub is : fault ≡ of_tables stop
+  pub reads : ReadsTables shelf.before.sources (Err stop)
+  pub rose : RoseAt shelf.before.faults shelf.after.faults stop
+  pub sound : shelf.before.sound → StopsAtMissing shelf.before.sources stop
+
+-- what a task on a desk does with its sources, or why one wasn't read
+abbrev pub ReadsWork : Over ShelfSeen → DeskTask → List ℕ → Result Work Fault → Type 0
+ReadsWork shelf Run name (Ok (Script text)) = ReadsSource shelf name (Ok text)
+ReadsWork shelf Run name (Ok (Door port connections)) = ⊥
+ReadsWork shelf Run name (Err fault) = SourceFails shelf name fault
+ReadsWork shelf (Serve port connections) name work = work ≡ Ok (Door port connections)
+
+-- the same over tables that were read
+abbrev pub StandsOn : Over ShelfSeen → TableRows → DeskTask → List ℕ → Result Ground Fault → Type 0
+StandsOn shelf tables task name (Ok (Reports text)) = ⊥
+StandsOn shelf tables task name (Ok (OnDesk own work)) = (own ≡ tables) × ReadsWork shelf task name (Ok work)
+StandsOn shelf tables task name (Err fault) = ReadsWork shelf task name (Err fault)
+
+-- What a task stands on: the source of reports; or the tables, and then its sources. Or the first fault in this order.
+abbrev pub Prepares : Over ShelfSeen → Task → List ℕ → Result Ground Fault → Type 0
+Prepares shelf Weather name (Ok (Reports text)) = ReadsSource shelf name (Ok text)
+Prepares shelf Weather name (Ok (OnDesk tables work)) = ⊥
+Prepares shelf Weather name (Err fault) = SourceFails shelf name fault
+Prepares shelf (Desk task) name read =
+    IsErrAnd read (TablesFail shelf) ⊎ ((tables : TableRows) × ReadsTables shelf.before.sources (Ok tables) × StandsOn shelf tables task name read)
+
+-- the names in the tables have their forms
+abbrev pub HasFormedNames : Ground → Type 0
+HasFormedNames (Reports text) = Unit {0}
+HasFormedNames (OnDesk tables work) = NamesHaveForms tables

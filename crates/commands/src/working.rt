@@ -1,0 +1,196 @@
+ghost use Rattle.std.specs.Prelude.{◌≡◌, ◌<◌};
+ghost use Rattle.commands.specs.Faults.{Gives};
+ghost use Rattle.commands.specs.Seen.{KeeperGoesOn, keeper_seen, over, service};
+ghost use Rattle.commands.specs.Weather.{weather_text};
+ghost use Rattle.commands.specs.Preparing.{HasFormedNames};
+ghost use Rattle.commands.specs.Working.{Does, EndSays, Opens, Runs, WorksOn};
+ghost use Rattle.kept_forms.specs.Formed.{NamesHaveForms};
+ghost use Rattle.desk_state.specs.Sound.{IsBoard};
+ghost use Rattle.service.specs.Onward.{DeskGoesOn};
+
+use crate::fault::Fault;
+use crate::preparing::{Ground, Work};
+use crate::weather::text_of_weather;
+use board::Board;
+use desk::{Desk, OpenFault, open, text_from};
+use desk_io::Text;
+use desk_net::{Clock, Door};
+use keeper::Keeper;
+use ops_tables::Tables;
+use rules::Steps;
+use service::{ServeEnd, serve_door};
+use std::alloc::Global;
+use std::marker::Brand;
+use std::sync::Wait;
+use std::sync::ledger::{Blank, Ledger};
+
+/// What was said, and what is left: the board, where a desk was opened, and the keeper.
+#[derive(Drop)]
+pub(crate) struct Said<K> {
+    pub answer: Result<Text, Fault>,
+    pub board: Option<Board>,
+    pub keeper: K,
+}
+
+/// No desk was opened.
+pub(crate) fn boardless<K: Keeper>(answer: Result<Text, Fault>, keeper: K) -> Said<K>
+    ensures answer { result.answer ≡ answer }
+    ensures none { result.board ≡ None }
+    ensures keeper { result.keeper ≡ keeper }
+{
+    Said {
+        answer,
+        board: None,
+        keeper,
+    }
+}
+
+// What is left of a desk: its board, of which holds what holds of every board, and its keeper.
+fn left<K: Keeper>(answer: Result<Text, Fault>, desk: Desk<K>) -> Said<K>
+    ensures answer { result.answer ≡ answer }
+    ensures board { result.board ≡ Some desk.board }
+    ensures holds { IsBoard desk.board.opening desk.board.state }
+    ensures keeper { result.keeper ≡ desk.keeper }
+{
+    let Desk { board, keeper } = desk;
+    let _ = board.now();
+    Said {
+        answer,
+        board: Some(board),
+        keeper,
+    }
+}
+
+// What a file of reports says.
+fn read_reports(alloc: Global, file: &[u8]) -> Result<Text, Fault>
+    ensures { Gives (λ text. text ≡ weather_text file.now) result }
+{
+    Ok(Text::from_vec(text_of_weather(alloc, file)?))
+}
+
+// What a script comes to that is run on a desk.
+fn run<K: Keeper, L: Ledger>(
+    alloc: Global,
+    desk: &mut Desk<K>,
+    script: &[u8],
+    steps: &mut Steps<L>,
+) -> Result<Text, Fault>
+    ensures run { Runs K.Keeper.own script.now desk.old desk.new result }
+    ensures desk { DeskGoesOn K.told K.fault_count K.sound desk.old desk.new }
+{
+    Ok(Text::from_vec(text_from(alloc, desk, script, steps)?))
+}
+
+// What serving came to: the closing text of the board, or the fault that ended it.
+fn answer_of_end(alloc: Global, end: ServeEnd, board: &Board) -> Result<Text, Fault>
+    ensures { EndSays end board.now.state result }
+{
+    match end {
+        ServeEnd::Done => Ok(board.closing(alloc)?),
+        ServeEnd::DoorFault => Err(Fault::DoorFault),
+        ServeEnd::ClockFault => Err(Fault::ClockFault),
+        ServeEnd::OutOfMemory => Err(Fault::OutOfMemory),
+    }
+}
+
+// What so many connections come to that are served at a port.
+fn serve<R: Wait, K: Keeper, C: Clock, D: Door, L: Ledger>(
+    rt: &R,
+    alloc: Global,
+    desk: &mut Desk<K>,
+    clock: &mut C,
+    door: &mut D,
+    port: u16,
+    connections: u32,
+    steps: &mut Steps<L>,
+) -> Result<Text, Fault>
+    ensures serves { WorksOn K.Keeper.own (Work.Door port connections)
+        (service C.Clock.own D.Door.own D.Link.Link.own clock.old clock.new door.old door.new)
+        desk.old desk.new result }
+    ensures desk { DeskGoesOn K.told K.fault_count K.sound desk.old desk.new }
+{
+    let end = serve_door(rt, alloc, desk, door, clock, port, connections, steps);
+    answer_of_end(alloc, end, &desk.board)
+}
+
+// The work on an open desk.
+fn work_on<R: Wait, K: Keeper, C: Clock, D: Door, L: Ledger>(
+    rt: &R,
+    alloc: Global,
+    work: Work,
+    desk: &mut Desk<K>,
+    clock: &mut C,
+    door: &mut D,
+    steps: &mut Steps<L>,
+) -> Result<Text, Fault>
+    ensures works { WorksOn K.Keeper.own work
+        (service C.Clock.own D.Door.own D.Link.Link.own clock.old clock.new door.old door.new)
+        desk.old desk.new result }
+    ensures desk { DeskGoesOn K.told K.fault_count K.sound desk.old desk.new }
+{
+    match work {
+        Work::Script(script) => run(alloc, desk, script.bytes(), steps),
+        Work::Door { port, connections } => {
+            serve(rt, alloc, desk, clock, door, port, connections, steps)
+        }
+    }
+}
+
+// A desk is opened over the tables and the rows of a keeper, and the work is done on it.
+fn open_for<R: Wait, K: Keeper, C: Clock, D: Door, L: Ledger>(
+    rt: &R,
+    alloc: Global,
+    tables: Tables,
+    work: Work,
+    clock: &mut C,
+    door: &mut D,
+    keeper: K,
+    blank: Blank,
+) -> Said<K>
+    requires formed { NamesHaveForms tables }
+    requires name { blank.name ≡ L.name }
+    requires parts { blank.parts ≡ L.parts }
+    requires some { 0 < blank.parts }
+    ensures opens { Opens tables work
+        (service C.Clock.own D.Door.own D.Link.Link.own clock.old clock.new door.old door.new)
+        (over (keeper_seen K.Keeper.own) keeper result.keeper) result.board result.answer }
+    ensures keeper { KeeperGoesOn (over (keeper_seen K.Keeper.own) keeper result.keeper) }
+{
+    let mut steps = Steps::<L>::new(blank);
+    match open(alloc, tables, keeper, &mut steps) {
+        Ok(mut desk) => {
+            let answer = work_on(rt, alloc, work, &mut desk, clock, door, &mut steps);
+            left(answer, desk)
+        }
+        Err(OpenFault { keeper, why }) => boardless(Err(Fault::from(why)), keeper),
+    }
+}
+
+/// The work of a command, once all that it stands on was read.
+pub(crate) fn work<R: Wait, K: Keeper, C: Clock, D: Door>(
+    rt: &R,
+    alloc: Global,
+    ground: Ground,
+    clock: &mut C,
+    door: &mut D,
+    keeper: K,
+) -> Said<K>
+    requires { HasFormedNames ground }
+    ensures { Does ground
+        (service C.Clock.own D.Door.own D.Link.Link.own clock.old clock.new door.old door.new)
+        (over (keeper_seen K.Keeper.own) keeper result.keeper) result.board result.answer }
+{
+    match ground {
+        Ground::Reports(file) => boardless(read_reports(alloc, file.bytes()), keeper),
+        Ground::OnDesk { tables, work } => open_for::<R, K, C, D, Brand>(
+            rt,
+            alloc,
+            tables,
+            work,
+            clock,
+            door,
+            keeper,
+            Blank::new(1),
+        ),
+    }
+}
