@@ -48,7 +48,8 @@ links_of (Some command) = links_for command.0
 
 -- ---- what was read
 
--- Why a source wasn't read: the shelf's count of faults rose, and it isn't sound or lacks the source; or it has more than 64 MiB.
+-- Why a source wasn't read: the shelf's count of faults rose or is full, and the shelf isn't sound or lacks the source; or the source has
+-- more than 64 MiB; or memory ran out.
 abbrev pub SourceFails : Over ShelfSeen → List ℕ → Fault → Type 0
 SourceFails shelf name (ReadFault file) =
     (file ≡ name) × RoseOrFull shelf.before.faults shelf.after.faults × (shelf.before.sound → HoldsName shelf.before.sources name → ⊥)
@@ -76,7 +77,7 @@ ReadsWork shelf Run name (Ok (Door port connections)) = ⊥
 ReadsWork shelf Run name (Err fault) = SourceFails shelf name fault
 ReadsWork shelf (Serve port connections) name work = work ≡ Ok (Door port connections)
 
--- the same over tables that were read
+-- what a task on a desk stands on over tables that were read
 abbrev pub StandsOn : Over ShelfSeen → TableRows → DeskTask → List ℕ → Result Ground Fault → Type 0
 StandsOn shelf tables task name (Ok (Reports text)) = ⊥
 StandsOn shelf tables task name (Ok (OnDesk own work)) = (own ≡ tables) × ReadsWork shelf task name (Ok work)

@@ -78,11 +78,11 @@ abbrev pub service : {C D L : Type 0} → clock.Ghosts C → door.Ghosts D L →
 service c d l clock_old clock_new door_old door_new =
     record { clock = over (clock_seen c) clock_old clock_new; door = over (door_seen d) door_old door_new; link = link_seen l }
 
--- the clock and the door are the very same, so nothing was asked of them
+-- the clock and the door are given back as they were
 abbrev pub AreIdle : {L : Type 0} → Service L → Type 0
 AreIdle service = service.clock.same × service.door.same
 
--- The count of faults never falls. A sound object stays so, and its count stands still.
+-- A clock tells the same moments. Of a clock and of a keeper the count of faults never falls; a sound one stays so, and its count stands still.
 pub record ClockGoesOn (clock : Over ClockSeen) : Type 0 where
   pub moments : clock.after.moments ≡ clock.before.moments
   pub later : clock.before.faults ≤ clock.after.faults

@@ -84,8 +84,8 @@ pub record IsOpenOver (tables : TableRows) (keeper : Over KeeperSeen) (board : S
   pub formed : AreFormed board.state
   pub kept : KeepsState keeper.after.rows board.state
 
--- No desk was opened: the keeper failed, or its rows aren't those of a desk. A sound keeper doesn't fail, and the rows of a desk that was
--- left are those of one. They are as before.
+-- No desk was opened: the keeper failed, its rows aren't those of a desk, or memory ran out. A sound keeper doesn't fail, and the rows of a
+-- desk that was left are those of one. The rows are as before.
 pub record IsUnopened (keeper : Over KeeperSeen) (answer : Outcome) : Type 0 where
   pub why : OpenWhy
   pub says : answer ≡ Err (of_opening why)
@@ -102,7 +102,7 @@ Opens tables work service keeper (Some board) answer =
 
 -- ---- what is done, once all was read
 
--- nothing was asked of the keeper, the clock and the door, and there is no board
+-- there is no board, and the keeper, the clock and the door are given back as they were
 pub record IsUntouched {L : Type 0} (service : Service L) (keeper : Over KeeperSeen) (board : Option Shown) : Type 0 where
   pub none : board ≡ None
   pub same : keeper.same

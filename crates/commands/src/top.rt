@@ -64,8 +64,8 @@ fn write<O: Sink>(alloc: Global, answer: Result<Text, Fault>, out: &mut O) -> u8
 /// - 11: only where the clock's count of faults rose, or is full; `error 11 ClockFault`.
 ///
 /// 3, 4, 5, 9 and 11 tell that the shelf, the sink, the keeper, the door or the clock isn't sound, or that the shelf lacks
-/// a source, or that fewer links come to the door than are to be served. Where nothing is served, the door and the clock are
-/// given back as they were.
+/// a source, or that fewer links come to the door than are to be served. Where no door is to be opened, or no desk was, the door
+/// and the clock are given back as they were.
 pub fn desk_main<R: Wait, S: Shelf, O: Sink, C: Clock + Drop, K: Keeper, D: Door>(
     rt: &R,
     alloc: Global,
