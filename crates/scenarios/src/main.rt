@@ -13,21 +13,23 @@
 //! - `clock`: a list of the moments that the clock gives, the last one again and again. Without it that is
 //!   2000-01-01T00:00Z.
 //! - `links`: a list of `{"input": TEXT, "cut": N}`: what comes to the door, at most N bytes at once, or 4,096 where that
-//!   isn't said.
+//!   isn't said. Where none is left to come the door fails.
 //! - `fail`: which calls fail, lists of numbers from 0, of `shelf`, `sink`, `keeper` (its commits, and with `"load"` its
-//!   rows can't be loaded), `clock` and `door`, and such a list for each link in the list `links`.
-//! - what must come, of which nothing that is missing is compared: `status`; `board`, whether one is left; `port`, where
-//!   the door was opened, or null; `asked`, how many moments the clock gave; `written`, a text; `left`, the rows that the
+//!   rows can't be loaded), `clock` and `door` (its opening, and each link that it is asked for), and such a list for each
+//!   link (its reads and writes together) in the list `links`. A step counts from 0 again.
+//! - what must come; what is missing isn't compared: `status`; `board`, whether one is left; `port`, where the door was
+//!   opened, or null; `asked`, how many moments the clock gave; `written`, a text; `left`, the rows that the
 //!   keeper holds at last; and `links_written`, a list of texts, of the links that were given back.
-//! - `steps`: a list of objects of these keys, played one after another over the rows that the one before left. What a
-//!   step lacks it takes from its case.
-//! - `each`: `{"from": A, "to": B}`: the case is played for each number from A to B, and `"each"` stands for the number.
+//! - `steps`: a list of objects of these keys but `rows`, played one after another over the rows that the one before left.
+//!   What a step lacks it takes from its case.
+//! - `each`: `{"from": A, "to": B}`: the case is played for each number from A to B, and `"each"` stands for the number
+//!   wherever one is read.
 //!
-//! A text is a string; or a list of lines, each a string, or JSON that stands for its compact form; or, also in such a
+//! A text is a string; or a list of lines, each a string, or an object that stands for its compact form; or, also in such a
 //! list, `{"text": NAME}`, `{"times": N, "text": NAME}`, `{"hex": DIGITS}`, `{"file": PATH}` or `{"join": [TEXT, ..]}`.
 //! For a text that must come there may stand an object of `first`, its first line, and of `lines`, `prefix` and `part`,
-//! lists of `[LINE, COUNT]`: so many lines are this one, begin with it, or have it in them. `left` may be
-//! `{"same": true}`: the rows as they were before.
+//! lists of `[LINE, COUNT]`: so many lines are this one, begin with it, or have it in them; a line is a string, or JSON that
+//! stands for its compact form. `left` may be `{"same": true}`: the rows as they were before.
 #![tactic(auto)]
 
 mod cases;
