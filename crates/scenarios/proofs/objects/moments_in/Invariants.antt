@@ -1,0 +1,6 @@
+use Rattle.std.specs.List.{All}
+use Rattle.desk_net.specs.Clocks.{IsMoment}
+use Rattle.scenarios.proofs.objects.moments_in.Given as goal
+
+abbrev pub invariant-loop-value : goal.invariant-loop-value
+invariant-loop-value l = All IsMoment l.moments.items
