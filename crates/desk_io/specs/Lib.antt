@@ -1,7 +1,10 @@
 pub mod Told
-pub mod Causes
+pub mod Health
+pub mod Over
+pub mod Seen
 pub mod Whole
 pub mod Runs
 pub mod Planned
+pub mod InMemory
 pub mod Grown
 pub mod Rows

@@ -1,8 +1,10 @@
-ghost use Rattle.std.specs.Prelude.{◌≡◌, ◌<◌, ◌≤◌, [], Some, length, IfOk, IsOk, IsErrOf, OnErr, is_ok};
+ghost use Rattle.std.specs.Prelude.{◌≡◌, ◌<◌, ◌≤◌, [], length, IfOk, OnErr, is_ok};
 ghost use Rattle.std.specs.Option.{option_copied};
-ghost use Rattle.desk_io.specs.Told.{source_named, NextOf, OnSource, HoldsName, Puts};
-ghost use Rattle.desk_io.specs.Causes.{HasCause};
+ghost use Rattle.desk_io.specs.Told.{source_named, NextOf, OnSource, Puts};
+ghost use Rattle.desk_io.specs.Health.{GoesOn, HasCause, HasFailedWhere};
+ghost use Rattle.desk_io.specs.InMemory.{shelf_seen, sink_seen};
 ghost use Rattle.desk_io.specs.Planned.{is_planned, after, gives, Fails};
+ghost use Rattle.desk_io.specs.Seen.{ShelfGoesOn, Holds};
 ghost use Rattle.desk_io.specs.declared.faults.PutFault.TheVariants.{Failed as PutFailed};
 
 use crate::{Failed, PutFault, Shelf, Sink, Text};
@@ -48,24 +50,20 @@ fn source<'a>(sources: &'a [(Text, Text)], name: &[u8]) -> Option<&'a Text>
 }
 
 impl Shelf for MemoryShelf {
-    ghost sources = { λ s. Some (source_named s.sources.items) };
-
-    ghost fault_count = { λ s. s.faults };
-
-    ghost sound = { λ s. s.fail.items ≡ [] };
+    ghost seen = { shelf_seen };
 
     fn next(&mut self, name: &str, place: u64, into: &mut [u8]) -> Result<usize, Failed>
         requires { 0 < length into.old }
         ensures bound { IfOk result (λ n. n ≤ length into.old) }
-        ensures given { IfOk result (λ n. OnSource (Some (source_named self.old.sources.items)) name.now
-            (λ bytes. NextOf bytes place n into.new)) }
-        ensures same { self.new.sources.items ≡ self.old.sources.items }
-        ensures cause { HasCause (record {}) self.old.faults self.new.faults result }
-        ensures sound { self.old.fail.items ≡ [] → (self.new.fail.items ≡ []) ×
-            (HoldsName (Some (source_named self.old.sources.items)) name.now → IsOk result × (self.new.faults ≡ self.old.faults)) }
+        ensures given { IfOk result
+            (λ n. OnSource (shelf_seen self.old).sources name.now (λ bytes. NextOf bytes place n into.new)) }
+        ensures on { ShelfGoesOn (Holds (shelf_seen self.old) name.now) (shelf_seen self.old) (shelf_seen self.new) }
+        ensures cause { OnErr result (HasFailedWhere (Holds (shelf_seen self.old) name.now)
+            (shelf_seen self.old).health (shelf_seen self.new).health) }
         // It gives bytes exactly where it holds the name and the call isn't among those that fail.
         ensures planned { is_ok result ≡ gives (source_named self.old.sources.items name.now)
             (is_planned self.old.fail.items self.old.calls) }
+        ensures sources { self.new.sources.items ≡ self.old.sources.items }
         ensures fail { self.new.fail.items ≡ self.old.fail.items }
         ensures calls { self.new.calls ≡ after self.old.calls }
     {
@@ -130,16 +128,12 @@ impl MemorySink {
 }
 
 impl Sink for MemorySink {
-    ghost content = { λ s. Some s.written.items };
-
-    ghost fault_count = { λ s. s.faults };
-
-    ghost sound = { λ s. s.fail.items ≡ [] };
+    ghost seen = { sink_seen };
 
     fn write(&mut self, bytes: &[u8]) -> Result<(), PutFault>
-        ensures appends { Puts (Some self.old.written.items) (Some self.new.written.items) bytes.now result }
-        ensures cause { HasCause PutFailed self.old.faults self.new.faults result }
-        ensures sound { self.old.fail.items ≡ [] → (self.new.fail.items ≡ []) × (IsErrOf result PutFailed → ⊥) × (self.new.faults ≡ self.old.faults) }
+        ensures appends { Puts (sink_seen self.old).content (sink_seen self.new).content bytes.now result }
+        ensures on { GoesOn (sink_seen self.old).health (sink_seen self.new).health }
+        ensures cause { HasCause PutFailed (sink_seen self.old).health (sink_seen self.new).health result }
         ensures planned { Fails (is_planned self.old.fail.items self.old.calls) result }
         ensures err { OnErr result (self.new.written.items ≡ self.old.written.items) }
         ensures fail { self.new.fail.items ≡ self.old.fail.items }

@@ -1,6 +1,6 @@
-ghost use Rattle.std.specs.Prelude.{◌≡◌, ◌≤◌, length, None, Ok, is_ok, IfOk, OnOk};
+ghost use Rattle.std.specs.Prelude.{◌≡◌, ◌≤◌, length, None, Ok, is_ok, IfOk, OnOk, OnErr};
 ghost use Rattle.std.specs.Io.KnownBytes.{Appends, ReadConsumes};
-ghost use Rattle.desk_io.specs.Causes.{HasCause};
+ghost use Rattle.desk_io.specs.Health.{RoseOrFull, unsound};
 
 use crate::{Failed, PutFault, Shelf, Sink};
 use std::fs::File;
@@ -12,7 +12,8 @@ use std::rt::Files;
 fn counted<T>(answer: io::Result<T>, faults: &mut u64) -> Result<T, Failed>
     ensures fails { is_ok result ≡ is_ok answer }
     ensures value { IfOk result (λ x. answer ≡ Ok x) }
-    ensures cause { HasCause (record {}) faults.old faults.new result }
+    ensures later { faults.old ≤ faults.new }
+    ensures rose { OnErr result (RoseOrFull faults.old faults.new) }
     ensures kept { OnOk result (faults.new ≡ faults.old) }
 {
     match answer {
@@ -125,11 +126,7 @@ impl<R: Files + Drop> FileShelf<R> {
 }
 
 impl<R: Files + Drop> Shelf for FileShelf<R> {
-    ghost sources = { λ s. None };
-
-    ghost fault_count = { λ s. s.faults };
-
-    ghost sound = { λ s. ⊥ };
+    ghost seen = { λ s. record { sources = None; health = unsound s.faults } };
 
     fn next(&mut self, name: &str, place: u64, into: &mut [u8]) -> Result<usize, Failed> {
         let answer = self.read_at(name, place, into);
@@ -165,11 +162,7 @@ impl<R: Print + Drop> StdoutSink<R> {
 }
 
 impl<R: Print + Drop> Sink for StdoutSink<R> {
-    ghost content = { λ s. None };
-
-    ghost fault_count = { λ s. s.faults };
-
-    ghost sound = { λ s. ⊥ };
+    ghost seen = { λ s. record { content = None; health = unsound s.faults } };
 
     fn write(&mut self, bytes: &[u8]) -> Result<(), PutFault> {
         let answer = write_out(&mut io::writer(&self.out), bytes);

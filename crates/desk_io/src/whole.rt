@@ -1,8 +1,7 @@
-ghost use Rattle.std.specs.Prelude.{◌≡◌, ◌<◌, ◌≤◌, List, ℕ, Option, length, IfOk, IsErrOf};
-ghost use Rattle.std.specs.Result.{result_map_both};
-ghost use Rattle.desk_io.specs.Told.{HoldsName};
+ghost use Rattle.std.specs.Prelude.{◌<◌, length, IfOk};
+ghost use Rattle.desk_io.specs.Health.{HasCauseWhere};
+ghost use Rattle.desk_io.specs.Seen.{ShelfGoesOn, Holds};
 ghost use Rattle.desk_io.specs.Whole.{ReadsWhole};
-ghost use Rattle.desk_io.specs.Causes.{HasCause};
 
 use crate::{OutOfMemory, Shelf, Text, WholeFault};
 use std::alloc::Global;
@@ -29,10 +28,10 @@ fn read_by<S: Shelf>(
     piece: &mut [u8],
 ) -> Result<Text, WholeFault>
     requires { 0 < length piece.old }
-    ensures whole { ReadsWhole (S.sources shelf.old) name.now result }
-    ensures same { S.sources shelf.new ≡ S.sources shelf.old }
-    ensures sound { S.sound shelf.old → S.sound shelf.new × (HoldsName (S.sources shelf.old) name.now → (IsErrOf result WholeFault.ReadFault → ⊥) × (S.fault_count shelf.new ≡ S.fault_count shelf.old)) }
-    ensures cause { HasCause WholeFault.ReadFault (S.fault_count shelf.old) (S.fault_count shelf.new) result }
+    ensures whole { ReadsWhole (S.seen shelf.old).sources name.now result }
+    ensures on { ShelfGoesOn (Holds (S.seen shelf.old) name.now) (S.seen shelf.old) (S.seen shelf.new) }
+    ensures cause { HasCauseWhere (Holds (S.seen shelf.old) name.now) WholeFault.ReadFault
+        (S.seen shelf.old).health (S.seen shelf.new).health result }
 {
     let mut text = Vec::new(alloc);
     loop {
@@ -50,10 +49,10 @@ fn read_by<S: Shelf>(
 /// The whole source of that name. `ReadFault` comes only where the shelf's count of faults rose,
 /// `TooLong` exactly where the source has more than `SOURCE_LIMIT` bytes.
 pub fn read_whole<S: Shelf>(alloc: Global, shelf: &mut S, name: &str) -> Result<Text, WholeFault>
-    ensures whole { ReadsWhole (S.sources shelf.old) name.now result }
-    ensures same { S.sources shelf.new ≡ S.sources shelf.old }
-    ensures sound { S.sound shelf.old → S.sound shelf.new × (HoldsName (S.sources shelf.old) name.now → (IsErrOf result WholeFault.ReadFault → ⊥) × (S.fault_count shelf.new ≡ S.fault_count shelf.old)) }
-    ensures cause { HasCause WholeFault.ReadFault (S.fault_count shelf.old) (S.fault_count shelf.new) result }
+    ensures whole { ReadsWhole (S.seen shelf.old).sources name.now result }
+    ensures on { ShelfGoesOn (Holds (S.seen shelf.old) name.now) (S.seen shelf.old) (S.seen shelf.new) }
+    ensures cause { HasCauseWhere (Holds (S.seen shelf.old) name.now) WholeFault.ReadFault
+        (S.seen shelf.old).health (S.seen shelf.new).health result }
 {
     let mut piece = room(alloc)?;
     read_by(alloc, shelf, name, &mut piece)
