@@ -1,2 +1,4 @@
 pub mod Order
 pub mod Kept
+pub mod Seen
+pub mod InMemory

@@ -1,9 +1,10 @@
-ghost use Rattle.std.specs.Prelude.{◌≡◌, [], Some, IsTrue, IfOk, OnOk, OnErr, IsErrOf};
-ghost use Rattle.desk_io.specs.Causes.{HasCause};
+ghost use Rattle.std.specs.Prelude.{◌≡◌, IsTrue, IfOk, OnOk, OnErr, IsErrOf};
+ghost use Rattle.desk_io.specs.Health.{HasCause};
 ghost use Rattle.desk_io.specs.Planned.{is_planned, after};
 ghost use Rattle.desk_io.specs.Rows.{rows_of};
 ghost use Rattle.keeper.specs.Order.{rising, AreApart};
 ghost use Rattle.keeper.specs.Kept.{AreSame, Lists, Leads, Fails};
+ghost use Rattle.keeper.specs.Seen.{KeeperGoesOn};
 ghost use Rattle.keeper.specs.declared.keeping.KeepFault.TheVariants.{Failed as KeepFailed};
 
 use crate::order::{copied_changes, make_all, put_in_order};
@@ -53,21 +54,17 @@ impl MemoryKeeper {
 }
 
 impl Keeper for MemoryKeeper {
-    ghost told = { λ k. Some (rows_of k.rows.items) };
+    ghost use Rattle.keeper.specs.InMemory.{keeper_seen};
 
-    ghost fault_count = { λ k. k.faults };
-
-    ghost commits = { λ k. k.calls };
-
-    ghost sound = { λ k. k.fail.items ≡ [] };
+    ghost seen = { keeper_seen };
 
     fn load(&mut self, alloc: Global) -> Result<Vec<Row>, KeepFault>
         ensures rising { IfOk result (λ rows. IsTrue (rising rows.items)) }
-        ensures rows { IfOk result (λ rows. Lists (Some (rows_of self.old.rows.items)) rows.items) }
-        ensures same { Some (rows_of self.new.rows.items) ≡ Some (rows_of self.old.rows.items) }
+        ensures rows { IfOk result (λ rows. Lists (keeper_seen self.old).rows rows.items) }
+        ensures same { (keeper_seen self.new).rows ≡ (keeper_seen self.old).rows }
         ensures none { self.new.calls ≡ self.old.calls }
-        ensures cause { HasCause KeepFailed self.old.faults self.new.faults result }
-        ensures sound { self.old.fail.items ≡ [] → (self.new.fail.items ≡ []) × (IsErrOf result KeepFailed → ⊥) × (self.new.faults ≡ self.old.faults) }
+        ensures on { KeeperGoesOn (keeper_seen self.old) (keeper_seen self.new) }
+        ensures cause { HasCause KeepFailed (keeper_seen self.old).health (keeper_seen self.new).health result }
         // Only memory can fail it, and nothing changes.
         ensures value { IfOk result (λ rows. rows.items ≡ self.old.rows.items) }
         ensures never { IsErrOf result KeepFailed → ⊥ }
@@ -77,11 +74,11 @@ impl Keeper for MemoryKeeper {
     }
 
     fn commit(&mut self, alloc: Global, changes: &[Change]) -> Result<(), KeepFault>
-        ensures ok { OnOk result (Leads (Some (rows_of self.old.rows.items)) changes.now (Some (rows_of self.new.rows.items))) }
-        ensures err { OnErr result (Some (rows_of self.new.rows.items) ≡ Some (rows_of self.old.rows.items)) }
+        ensures ok { OnOk result (Leads (keeper_seen self.old).rows changes.now (keeper_seen self.new).rows) }
+        ensures err { OnErr result ((keeper_seen self.new).rows ≡ (keeper_seen self.old).rows) }
         ensures one { self.new.calls ≡ after self.old.calls }
-        ensures cause { HasCause KeepFailed self.old.faults self.new.faults result }
-        ensures sound { self.old.fail.items ≡ [] → (self.new.fail.items ≡ []) × (IsErrOf result KeepFailed → ⊥) × (self.new.faults ≡ self.old.faults) }
+        ensures on { KeeperGoesOn (keeper_seen self.old) (keeper_seen self.new) }
+        ensures cause { HasCause KeepFailed (keeper_seen self.old).health (keeper_seen self.new).health result }
         // It fails exactly where its number is planned.
         ensures planned { Fails (is_planned self.old.fail.items self.old.calls) result }
         ensures kept { OnErr result (self.new.rows.items ≡ self.old.rows.items) }

@@ -69,7 +69,8 @@ pub fn put_in_order(rows: &mut Vec<Row>)
 fn place_of(rows: &[Row], kind: u8, key: u64) -> (usize, bool)
     requires { IsTrue (spec.rising rows.now) }
     ensures within { result.0 + (if result.1 then 1 else 0) ≤ length rows.now }
-    ensures place { (put : Option ARow) → spec.put_at kind key put rows.now ≡ take result.0 rows.now ++ cons_option put (drop (result.0 + (if result.1 then 1 else 0)) rows.now) }
+    ensures place { (put : Option ARow) → spec.put_at kind key put rows.now ≡
+        take result.0 rows.now ++ cons_option put (drop (result.0 + (if result.1 then 1 else 0)) rows.now) }
 {
     let place = rows.partition_point(
         |row: &Row| -> bool

@@ -1,5 +1,5 @@
 ghost use Rattle.std.specs.Prelude.{◌≡◌, ◌≤◌, IsTrue, IfOk, None};
-ghost use Rattle.desk_io.specs.Causes.{RoseOrFull};
+ghost use Rattle.desk_io.specs.Health.{RoseOrFull, unsound};
 ghost use Rattle.keeper.specs.Order.{rising};
 
 use crate::table::{all_rows, make_all, make_table};
@@ -104,13 +104,7 @@ impl KeeperOver<Connection<FileStore<File>>> {
 }
 
 impl Keeper for KeeperOver<Connection<FileStore<File>>> {
-    ghost told = { λ k. None };
-
-    ghost fault_count = { λ k. k.faults };
-
-    ghost commits = { λ k. k.commits };
-
-    ghost sound = { λ k. ⊥ };
+    ghost seen = { λ k. record { rows = None; commits = k.commits; health = unsound k.faults } };
 
     fn load(&mut self, alloc: Global) -> Result<Vec<Row>, KeepFault> {
         match self.load_rows(alloc) {
