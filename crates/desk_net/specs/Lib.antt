@@ -2,3 +2,5 @@ pub mod Clocks
 pub mod Streams
 pub mod Doors
 pub mod Calls
+pub mod Seen
+pub mod InMemory

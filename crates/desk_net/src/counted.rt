@@ -1,5 +1,5 @@
-ghost use Rattle.std.specs.Prelude.{◌≡◌, Ok, is_ok, IfOk, OnOk};
-ghost use Rattle.desk_io.specs.Causes.{HasCause};
+ghost use Rattle.std.specs.Prelude.{◌≡◌, ◌≤◌, Ok, is_ok, IfOk, OnOk, OnErr};
+ghost use Rattle.desk_io.specs.Health.{RoseOrFull};
 
 use desk_io::Failed;
 use std::io;
@@ -8,7 +8,8 @@ use std::io;
 pub(crate) fn counted<T>(answer: io::Result<T>, faults: &mut u64) -> Result<T, Failed>
     ensures fails { is_ok result ≡ is_ok answer }
     ensures value { IfOk result (λ x. answer ≡ Ok x) }
-    ensures cause { HasCause (record {}) faults.old faults.new result }
+    ensures later { faults.old ≤ faults.new }
+    ensures rose { OnErr result (RoseOrFull faults.old faults.new) }
     ensures kept { OnOk result (faults.new ≡ faults.old) }
 {
     match answer {

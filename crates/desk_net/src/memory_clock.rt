@@ -1,8 +1,9 @@
-ghost use Rattle.std.specs.Prelude.{◌≡◌, ◌+◌, ◌-◌, ◌<◌, min, not, [], Some, length, slice_index, IfOk, OnOk, OnErr, IsOk, is_ok};
+ghost use Rattle.std.specs.Prelude.{◌≡◌, ◌+◌, ◌-◌, ◌<◌, min, not, length, slice_index, IfOk, OnOk, OnErr, is_ok};
 ghost use Rattle.std.specs.List.{All};
-ghost use Rattle.desk_io.specs.Causes.{HasCause};
+ghost use Rattle.desk_io.specs.Health.{HasFailed, IsStill};
 ghost use Rattle.desk_io.specs.Planned.{is_planned, after};
 ghost use Rattle.desk_net.specs.Clocks.{IsMoment, IsAmong};
+ghost use Rattle.desk_net.specs.Seen.{ClockGoesOn};
 
 use crate::Clock;
 use crate::planned::Calls;
@@ -40,19 +41,16 @@ impl MemoryClock {
 }
 
 impl Clock for MemoryClock {
-    ghost moments = { λ c. Some c.moments.items };
+    ghost use Rattle.desk_net.specs.InMemory.{clock_seen};
 
-    ghost fault_count = { λ c. c.calls.faults };
-
-    ghost sound = { λ c. c.calls.fail.items ≡ [] };
+    ghost seen = { clock_seen };
 
     fn now(&mut self) -> Result<Minute, Failed>
         ensures range { IfOk result IsMoment }
-        ensures told { IfOk result (IsAmong (Some self.old.moments.items)) }
-        ensures same { Some self.new.moments.items ≡ Some self.old.moments.items }
-        ensures cause { HasCause (record {}) self.old.calls.faults self.new.calls.faults result }
-        ensures still { OnOk result (self.new.calls.faults ≡ self.old.calls.faults) }
-        ensures sound { self.old.calls.fail.items ≡ [] → (self.new.calls.fail.items ≡ []) × IsOk result × (self.new.calls.faults ≡ self.old.calls.faults) }
+        ensures told { IfOk result (IsAmong (clock_seen self.old).moments) }
+        ensures on { ClockGoesOn (clock_seen self.old) (clock_seen self.new) }
+        ensures cause { OnErr result (HasFailed (clock_seen self.old).health (clock_seen self.new).health) }
+        ensures still { OnOk result (IsStill (clock_seen self.old).health (clock_seen self.new).health) }
         // It gives the moment at its place exactly where the call isn't among those that fail, and goes on.
         ensures planned { is_ok result ≡ not (is_planned self.old.calls.fail.items self.old.calls.made) }
         ensures moment { IfOk result (λ m. m ≡ slice_index self.old.moments.items self.old.place) }

@@ -1,7 +1,7 @@
-ghost use Rattle.std.specs.Prelude.{◌≡◌, ◌<◌, not, [], None, Some, OnOk, OnErr, IsOk, is_ok};
-ghost use Rattle.desk_io.specs.Causes.{HasCause};
+ghost use Rattle.std.specs.Prelude.{◌≡◌, not, [], None, Some, OnOk, OnErr, is_ok};
+ghost use Rattle.desk_io.specs.Health.{GoesOn, GoesOnWhere, HasFailed, HasFailedWhere};
 ghost use Rattle.desk_io.specs.Planned.{is_planned, after};
-ghost use Rattle.desk_net.specs.Doors.{links, Accepts, TakesBack, HasNext, accepts};
+ghost use Rattle.desk_net.specs.Doors.{Accepts, TakesBack, HasNext, accepts};
 
 use crate::planned::Calls;
 use crate::{Door, MemoryLink};
@@ -53,22 +53,18 @@ impl MemoryDoor {
 }
 
 impl Door for MemoryDoor {
+    ghost use Rattle.desk_net.specs.InMemory.{door_seen};
+
     type Link = MemoryLink;
 
-    ghost told = { λ d. Some (links d.coming.items d.ended.items) };
-
-    ghost opened_at = { λ d. d.port };
-
-    ghost fault_count = { λ d. d.calls.faults };
-
-    ghost sound = { λ d. d.calls.fail.items ≡ [] };
+    ghost seen = { door_seen };
 
     fn bind(&mut self, port: u16) -> Result<(), Failed>
-        ensures same { Some (links self.new.coming.items self.new.ended.items) ≡ Some (links self.old.coming.items self.old.ended.items) }
+        ensures same { (door_seen self.new).links ≡ (door_seen self.old).links }
         ensures opened { OnOk result (self.new.port ≡ Some port) }
         ensures unopened { OnErr result (self.new.port ≡ self.old.port) }
-        ensures cause { HasCause (record {}) self.old.calls.faults self.new.calls.faults result }
-        ensures sound { self.old.calls.fail.items ≡ [] → (self.new.calls.fail.items ≡ []) × IsOk result × (self.new.calls.faults ≡ self.old.calls.faults) }
+        ensures on { GoesOn (door_seen self.old).health (door_seen self.new).health }
+        ensures cause { OnErr result (HasFailed (door_seen self.old).health (door_seen self.new).health) }
         // It fails exactly where its number is planned.
         ensures planned { is_ok result ≡ not (is_planned self.old.calls.fail.items self.old.calls.made) }
         ensures fail { self.new.calls.fail.items ≡ self.old.calls.fail.items }
@@ -82,13 +78,15 @@ impl Door for MemoryDoor {
     }
 
     fn accept(&mut self) -> Result<MemoryLink, Failed>
-        ensures told { Accepts (Some (links self.old.coming.items self.old.ended.items)) (Some (links self.new.coming.items self.new.ended.items)) result }
+        ensures told { Accepts (door_seen self.old).links (door_seen self.new).links result }
         ensures port { self.new.port ≡ self.old.port }
-        ensures cause { HasCause (record {}) self.old.calls.faults self.new.calls.faults result }
-        ensures sound { self.old.calls.fail.items ≡ [] → (self.new.calls.fail.items ≡ []) ×
-            (HasNext (Some (links self.old.coming.items self.old.ended.items)) → IsOk result × (self.new.calls.faults ≡ self.old.calls.faults)) }
+        ensures on { GoesOnWhere (HasNext (door_seen self.old).links)
+            (door_seen self.old).health (door_seen self.new).health }
+        ensures cause { OnErr result (HasFailedWhere (HasNext (door_seen self.old).links)
+            (door_seen self.old).health (door_seen self.new).health) }
         // It gives a link exactly where one is to come and the call isn't among those that fail.
-        ensures planned { is_ok result ≡ accepts self.old.coming.items (is_planned self.old.calls.fail.items self.old.calls.made) }
+        ensures planned { is_ok result ≡
+            accepts self.old.coming.items (is_planned self.old.calls.fail.items self.old.calls.made) }
         ensures fail { self.new.calls.fail.items ≡ self.old.calls.fail.items }
         ensures calls { self.new.calls.made ≡ after self.old.calls.made }
     {
@@ -105,13 +103,13 @@ impl Door for MemoryDoor {
     }
 
     fn done(&mut self, link: MemoryLink) -> Result<(), OutOfMemory>
-        ensures told { TakesBack (Some (links self.old.coming.items self.old.ended.items)) (Some (links self.new.coming.items self.new.ended.items)) link result }
+        ensures told { TakesBack (door_seen self.old).links (door_seen self.new).links link result }
         ensures port { self.new.port ≡ self.old.port }
-        ensures count { self.new.calls.faults ≡ self.old.calls.faults }
-        ensures sound { self.old.calls.fail.items ≡ [] → self.new.calls.fail.items ≡ [] }
+        ensures health { (door_seen self.new).health ≡ (door_seen self.old).health }
         // It isn't numbered among the door's calls.
         ensures fail { self.new.calls.fail.items ≡ self.old.calls.fail.items }
         ensures calls { self.new.calls.made ≡ self.old.calls.made }
+        ensures count { self.new.calls.faults ≡ self.old.calls.faults }
     {
         self.ended.push(link)?;
         Ok(())

@@ -1,8 +1,9 @@
-ghost use Rattle.std.specs.Prelude.{◌≡◌, ◌-◌, ◌<◌, ◌≤◌, min, not, [], Some, length, IfOk, IsOk, IsErrOf, OnErr, is_ok};
-ghost use Rattle.desk_io.specs.Causes.{HasCause};
+ghost use Rattle.std.specs.Prelude.{◌≡◌, ◌-◌, ◌<◌, ◌≤◌, min, not, [], length, IfOk, OnErr, is_ok};
+ghost use Rattle.desk_io.specs.Health.{HasCause, HasFailed};
 ghost use Rattle.desk_io.specs.Planned.{is_planned, after, Fails};
 ghost use Rattle.desk_io.specs.declared.faults.PutFault.TheVariants.{Failed as PutFailed};
-ghost use Rattle.desk_net.specs.Streams.{stream, Reads, Writes};
+ghost use Rattle.desk_net.specs.Seen.{LinkGoesOn};
+ghost use Rattle.desk_net.specs.Streams.{Reads, Writes};
 
 use crate::Link;
 use crate::planned::Calls;
@@ -53,22 +54,20 @@ impl MemoryLink {
 }
 
 impl Link for MemoryLink {
-    ghost told = { λ l. Some (stream l.input.items l.taken l.written.items) };
+    ghost use Rattle.desk_net.specs.InMemory.{link_seen};
 
-    ghost fault_count = { λ l. l.calls.faults };
-
-    ghost sound = { λ l. l.calls.fail.items ≡ [] };
+    ghost seen = { link_seen };
 
     fn read(&mut self, into: &mut [u8]) -> Result<usize, Failed>
         requires { 0 < length into.old }
         ensures bound { IfOk result (λ n. n ≤ length into.old) }
-        ensures told { Reads (Some (stream self.old.input.items self.old.taken self.old.written.items))
-            (Some (stream self.new.input.items self.new.taken self.new.written.items)) into.new result }
-        ensures cause { HasCause (record {}) self.old.calls.faults self.new.calls.faults result }
-        ensures sound { self.old.calls.fail.items ≡ [] → (self.new.calls.fail.items ≡ []) × IsOk result × (self.new.calls.faults ≡ self.old.calls.faults) }
+        ensures told { Reads (link_seen self.old).stream (link_seen self.new).stream into.new result }
+        ensures on { LinkGoesOn (link_seen self.old) (link_seen self.new) }
+        ensures cause { OnErr result (HasFailed (link_seen self.old).health (link_seen self.new).health) }
         // It fails exactly where its number is planned, and gives as many bytes as it may.
         ensures planned { is_ok result ≡ not (is_planned self.old.calls.fail.items self.old.calls.made) }
-        ensures count { IfOk result (λ n. n ≡ min (min (length self.old.input.items - self.old.taken) self.old.cut) (length into.old)) }
+        ensures count { IfOk result
+            (λ n. n ≡ min (min (length self.old.input.items - self.old.taken) self.old.cut) (length into.old)) }
         ensures cut { self.new.cut ≡ self.old.cut }
         ensures fail { self.new.calls.fail.items ≡ self.old.calls.fail.items }
         ensures calls { self.new.calls.made ≡ after self.old.calls.made }
@@ -84,10 +83,9 @@ impl Link for MemoryLink {
     }
 
     fn write(&mut self, bytes: &[u8]) -> Result<(), PutFault>
-        ensures told { Writes (Some (stream self.old.input.items self.old.taken self.old.written.items))
-            (Some (stream self.new.input.items self.new.taken self.new.written.items)) bytes.now result }
-        ensures cause { HasCause PutFailed self.old.calls.faults self.new.calls.faults result }
-        ensures sound { self.old.calls.fail.items ≡ [] → (self.new.calls.fail.items ≡ []) × (IsErrOf result PutFailed → ⊥) × (self.new.calls.faults ≡ self.old.calls.faults) }
+        ensures told { Writes (link_seen self.old).stream (link_seen self.new).stream bytes.now result }
+        ensures on { LinkGoesOn (link_seen self.old) (link_seen self.new) }
+        ensures cause { HasCause PutFailed (link_seen self.old).health (link_seen self.new).health result }
         // It fails exactly where its number is planned, with nothing appended.
         ensures planned { Fails (is_planned self.old.calls.fail.items self.old.calls.made) result }
         ensures err { OnErr result (self.new.written.items ≡ self.old.written.items) }

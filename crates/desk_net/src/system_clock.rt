@@ -1,5 +1,6 @@
 ghost use Rattle.std.specs.Prelude.{◌≡◌, None, IfOk, IfSome};
 ghost use Rattle.std.specs.Duration.{as_nanos};
+ghost use Rattle.desk_io.specs.Health.{unsound};
 ghost use Rattle.desk_net.specs.Clocks as spec;
 ghost use Rattle.desk_net.specs.Clocks.{IsMoment};
 
@@ -54,11 +55,7 @@ impl<R: time::Clock + Drop> SystemClock<R> {
 }
 
 impl<R: time::Clock + Drop> Clock for SystemClock<R> {
-    ghost moments = { λ c. None };
-
-    ghost fault_count = { λ c. c.faults };
-
-    ghost sound = { λ c. ⊥ };
+    ghost seen = { λ c. record { moments = None; health = unsound c.faults } };
 
     fn now(&mut self) -> Result<Minute, Failed> {
         let answer = moment_now(&self.clock);

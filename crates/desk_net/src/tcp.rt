@@ -1,6 +1,6 @@
 ghost use Rattle.std.specs.Prelude.{◌≡◌, ◌<◌, ◌≤◌, length, None, Some, IsSome, IfOk, IsOk, IsErr, OnOk, OnErr};
 ghost use Rattle.std.specs.Io.KnownBytes.{Appends, ReadConsumes};
-ghost use Rattle.desk_io.specs.Causes.{HasCause};
+ghost use Rattle.desk_io.specs.Health.{GoesOn, GoesOnWhere, HasCause, HasFailed, HasFailedWhere, unsound};
 ghost use Rattle.desk_io.specs.declared.faults.PutFault.TheVariants.{Failed as PutFailed};
 
 use crate::counted::counted;
@@ -43,16 +43,13 @@ impl<S: Read + Write + Drop> TcpLink<S> {
 }
 
 impl<S: Read + Write + Drop> Link for TcpLink<S> {
-    ghost told = { λ l. None };
-
-    ghost fault_count = { λ l. l.faults };
-
-    ghost sound = { λ l. ⊥ };
+    ghost seen = { λ l. record { stream = None; health = unsound l.faults } };
 
     fn read(&mut self, into: &mut [u8]) -> Result<usize, Failed>
         requires { 0 < length into.old }
         ensures bound { IfOk result (λ n. n ≤ length into.old) }
-        ensures cause { HasCause (record {}) self.old.faults self.new.faults result }
+        ensures on { GoesOn (unsound self.old.faults) (unsound self.new.faults) }
+        ensures cause { OnErr result (HasFailed (unsound self.old.faults) (unsound self.new.faults)) }
         // It gives what the stream gave.
         ensures bytes { ReadConsumes (S.remaining self.old.stream) (S.remaining self.new.stream) result into.new }
     {
@@ -61,7 +58,8 @@ impl<S: Read + Write + Drop> Link for TcpLink<S> {
     }
 
     fn write(&mut self, bytes: &[u8]) -> Result<(), PutFault>
-        ensures cause { HasCause PutFailed self.old.faults self.new.faults result }
+        ensures on { GoesOn (unsound self.old.faults) (unsound self.new.faults) }
+        ensures cause { HasCause PutFailed (unsound self.old.faults) (unsound self.new.faults) result }
         // The stream took all of the bytes.
         ensures bytes { OnOk result (Appends (S.contents self.old.stream) (S.contents self.new.stream) bytes.now) }
     {
@@ -127,16 +125,11 @@ impl<R: Net + Drop> TcpDoor<R> {
 impl<R: Net + Drop> Door for TcpDoor<R> {
     type Link = TcpLink<R::Stream>;
 
-    ghost told = { λ d. None };
-
-    ghost opened_at = { λ d. d.port };
-
-    ghost fault_count = { λ d. d.faults };
-
-    ghost sound = { λ d. ⊥ };
+    ghost seen = { λ d. record { links = None; opened_at = d.port; health = unsound d.faults } };
 
     fn bind(&mut self, port: u16) -> Result<(), Failed>
-        ensures cause { HasCause (record {}) self.old.faults self.new.faults result }
+        ensures on { GoesOn (unsound self.old.faults) (unsound self.new.faults) }
+        ensures cause { OnErr result (HasFailed (unsound self.old.faults) (unsound self.new.faults)) }
         ensures listens { OnOk result (IsSome self.new.listener) }
         ensures opened { OnOk result (self.new.port ≡ Some port) }
         ensures unopened { OnErr result (self.new.port ≡ self.old.port) }
@@ -146,7 +139,8 @@ impl<R: Net + Drop> Door for TcpDoor<R> {
     }
 
     fn accept(&mut self) -> Result<TcpLink<R::Stream>, Failed>
-        ensures cause { HasCause (record {}) self.old.faults self.new.faults result }
+        ensures on { GoesOnWhere (Unit {0}) (unsound self.old.faults) (unsound self.new.faults) }
+        ensures cause { OnErr result (HasFailedWhere (Unit {0}) (unsound self.old.faults) (unsound self.new.faults)) }
         ensures port { self.new.port ≡ self.old.port }
         ensures shut { self.old.listener ≡ None → IsErr result }
         ensures fresh { IfOk result (λ link. link.faults ≡ 0) }
@@ -161,7 +155,7 @@ impl<R: Net + Drop> Door for TcpDoor<R> {
     // It closes the connection, and takes no memory.
     fn done(&mut self, _link: TcpLink<R::Stream>) -> Result<(), OutOfMemory>
         ensures port { self.new.port ≡ self.old.port }
-        ensures count { self.new.faults ≡ self.old.faults }
+        ensures health { unsound self.new.faults ≡ unsound self.old.faults }
         ensures always { IsOk result }
     {
         Ok(())
