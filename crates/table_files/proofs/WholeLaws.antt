@@ -1,9 +1,12 @@
 -- Reading one file after another.
-use Rattle.std.proofs.Common.{◌≡◌, ◌<◌, ◌≤◌, sym, refl, ap, subst, ℕ, zero, suc, ◌+◌, List, [], ◌∷◌, ◌++◌, take, drop, get_or, length, arith, add-one}
+use Rattle.std.proofs.Common.{◌≡◌, ◌<◌, ◌≤◌, ◌∙◌, sym, refl, ap, subst, ℕ, zero, suc, ◌+◌, List, [], ◌∷◌, ◌++◌, take, drop, get_or, length, arith, add-one}
 use Rattle.std.specs.Prelude.{Ok}
+use Rattle.desk_io.specs.Seen.{ShelfSeen, ShelfGoesOn}
+use Rattle.desk_io.specs.Told.{HoldsName}
+use Rattle.desk_io.proofs.HealthLaws.{goes_on_where}
 use Rattle.ops_tables.specs.Tables.{TableRows}
-use Rattle.table_files.specs.Files.{files, no_rows}
-use Rattle.table_files.specs.Whole.{Told, FileGives, FilesGive, StopsAt}
+use Rattle.table_files.specs.Files.{files, name_of, no_rows}
+use Rattle.table_files.specs.Whole.{Told, FileGives, FilesGive, StopsAt, HoldsFile, HoldsFiles}
 use Rattle.table_files.specs.declared.files.File.{File}
 
 and_one : (told : Told) (start : TableRows) (before : List File) (file : File) (between after : TableRows)
@@ -51,4 +54,12 @@ stops told Fails i d before within read fails = record {
   before = before;
   read = read;
   fails = fails;
+}
+
+-- a shelf goes on through one file more
+pub shelf_goes_on : (old mid new : ShelfSeen) (file : File) → ShelfGoesOn (HoldsFiles old) old mid → ShelfGoesOn (HoldsFile mid file) mid new → ShelfGoesOn (HoldsFiles old) old new
+shelf_goes_on old mid new file one two = record {
+  sources = two.sources ∙ one.sources;
+  health = goes_on_where (HoldsFiles old) (HoldsFile mid file) old.health mid.health new.health
+      (λ all. subst (λ told. HoldsName told (name_of file)) (sym one.sources) (all file)) one.health two.health;
 }

@@ -1,7 +1,8 @@
 -- Reading the tables of a shelf, one whole file after another.
-use Rattle.std.specs.Prelude.{◌≡◌, ℕ, ◌<◌, ◌≤◌, List, [], ◌∷◌, ◌++◌, length, Option, Result, Ok, Err, MatchResult, IfErr}
+use Rattle.std.specs.Prelude.{◌≡◌, ℕ, ◌<◌, ◌≤◌, List, [], ◌∷◌, ◌++◌, length, Option, Result, Ok, Err, MatchResult}
 use Rattle.desk_io.specs.Told.{OnSource, HoldsName}
-use Rattle.desk_io.specs.Causes.{RoseOrFull}
+use Rattle.desk_io.specs.Health.{Health, RoseOrFull}
+use Rattle.desk_io.specs.Seen.{ShelfSeen, Holds}
 use Rattle.ops_tables.specs.Tables.{TableRows}
 use Rattle.table_files.specs.Filling.{Gives}
 use Rattle.table_files.specs.Files.{files, name_of, no_rows, with_file}
@@ -42,6 +43,13 @@ FileFails told file before (fault.ReadFault name) = name ≡ name_of file
 FileFails told file before (fault.TooLong name) = (name ≡ name_of file) × OnSource told (name_of file) (λ given. 67_108_864 < length given)
 FileFails told file before fault.OutOfMemory = Unit {0}
 
+-- the shelf holds the source of a file, or of every one
+abbrev pub HoldsFile : ShelfSeen → File → Type 0
+HoldsFile shelf file = Holds shelf (name_of file)
+
+abbrev pub HoldsFiles : ShelfSeen → Type 0
+HoldsFiles shelf = (file : File) → HoldsFile shelf file
+
 -- a read fault comes only at a name that the shelf doesn't hold
 abbrev pub IsMissing : Told → File → TableFault → Type 0
 IsMissing told file (fault.ReadFault name) = HoldsName told (name_of file) → ⊥
@@ -50,8 +58,8 @@ IsMissing told file (fault.TooLong name) = Unit {0}
 IsMissing told file fault.OutOfMemory = Unit {0}
 
 -- a read fault comes only where the count of faults rose, and a count that is full counts as risen
-abbrev pub RoseAt : ℕ → ℕ → TableFault → Type 0
-RoseAt before now (fault.ReadFault name) = RoseOrFull before now
+abbrev pub RoseAt : Health → Health → TableFault → Type 0
+RoseAt before now (fault.ReadFault name) = RoseOrFull before.faults now.faults
 RoseAt before now (fault.Bad bad) = Unit {0}
 RoseAt before now (fault.TooLong name) = Unit {0}
 RoseAt before now fault.OutOfMemory = Unit {0}
@@ -88,8 +96,3 @@ ReadsTables told result = MatchResult result (λ tables. FilesGive told no_rows 
 -- that one, whose name it carries.
 abbrev pub StopsAtMissing : Told → TableFault → Type 0
 StopsAtMissing told why = StopsAt told (λ file before. FileFails told file before why × IsMissing told file why)
-
--- a read fault has its cause, and the count of faults never falls
-pub record HasReadCause {A : Type 0} (before now : ℕ) (result : Result A TableFault) : Type 0 where
-  pub later : before ≤ now
-  pub failed : IfErr result (RoseAt before now)

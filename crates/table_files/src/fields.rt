@@ -170,7 +170,8 @@ fn is_decimal(field: &[u8]) -> bool
 // The number of some digits, where it isn't above the greatest one.
 fn number_up_to(most: u32, digits: &[u8]) -> Option<u32>
     requires { most ≤ 1_000_000 }
-    ensures { result ≡ if nat_le (spec.digits_after 0 digits.now) most then Some (spec.digits_after 0 digits.now) else None }
+    ensures { result ≡
+        if nat_le (spec.digits_after 0 digits.now) most then Some (spec.digits_after 0 digits.now) else None }
 {
     let mut number = 0;
     for digit in digits {

@@ -66,7 +66,8 @@ fn fill_settings(
     text: &[u8],
     loaded: &mut Loading,
 ) -> Result<Result<(), BadRecord>, OutOfMemory>
-    ensures value { IfOk result (λ made. Fills text.now (with_file file.Settings (shown loaded.old)) made (shown loaded.new)) }
+    ensures value { IfOk result
+        (λ made. Fills text.now (with_file file.Settings (shown loaded.old)) made (shown loaded.new)) }
     ensures settings { FitsSettings loaded.old.settings → OnOk result (FitsSettings loaded.new.settings) }
 {
     match read_settings(alloc, text)? {

@@ -63,7 +63,8 @@ fn row_after<R: FileRow<N>, const N: usize>(
     loaded: &Loading,
 ) -> Result<Result<R, TableWhy>, OutOfMemory>
     requires { N ≤ 48 }
-    ensures value { IfOk result (λ row. row ≡ spec.row_after R.is_same_key R.limit R.table (shown loaded.now) earlier.now fields.now) }
+    ensures value { IfOk result (λ row. row ≡ spec.row_after R.is_same_key R.limit R.table (shown loaded.now)
+        earlier.now fields.now) }
     ensures fits { IfOk result (λ row. IfOk row R.Fits) }
     ensures fresh { IfOk result (λ row. IfOk row (λ one. list_any (R.is_same_key one) earlier.now ≡ false)) }
     ensures room { IfOk result (λ row. OnOk row (length earlier.now < R.limit)) }
@@ -90,7 +91,9 @@ fn rows_under<R: FileRow<N>, const N: usize>(
     loaded: &Loading,
 ) -> Result<Result<Grouped<R, N>, BadRecord>, OutOfMemory>
     requires { N ≤ 48 }
-    ensures { IfOk result (λ rows. (text : List ℕ) → (earlier : List (List (List ℕ))) → HasGiven text earlier reader.old → (others : List (List (List ℕ))) × AreRecordsOf text (earlier ++ others) × (spec.rows_after R.is_same_key R.limit R.table (shown loaded.now) [] others ≡ rows)) }
+    ensures { IfOk result (λ rows. (text : List ℕ) → (earlier : List (List (List ℕ))) → HasGiven text earlier reader.old
+        → (others : List (List (List ℕ))) × AreRecordsOf text (earlier ++ others)
+        × (spec.rows_after R.is_same_key R.limit R.table (shown loaded.now) [] others ≡ rows)) }
 {
     let mut rows = Grouped::new(alloc);
     loop {
@@ -114,7 +117,8 @@ pub(crate) fn read_rows<R: FileRow<N>, const N: usize>(
     loaded: &Loading,
 ) -> Result<Result<Grouped<R, N>, BadRecord>, OutOfMemory>
     requires { N ≤ 48 }
-    ensures { IfOk result (λ rows. Gives text.now (spec.rows_of R.is_same_key R.limit R.table (shown loaded.now)) rows) }
+    ensures { IfOk result
+        (λ rows. Gives text.now (spec.rows_of R.is_same_key R.limit R.table (shown loaded.now)) rows) }
 {
     let mut reader = Records::of(text);
     if has_header(alloc, &mut reader, R::layout().columns)? {
@@ -133,7 +137,8 @@ pub(crate) fn has_header(
     reader: &mut Records,
     columns: &[&str],
 ) -> Result<bool, OutOfMemory>
-    ensures { IfOk result (λ good. (text : List ℕ) → HasGiven text [] reader.old → spec.Begins text (map (λ c. c.now) columns.now) good reader.new) }
+    ensures { IfOk result (λ good. (text : List ℕ) → HasGiven text [] reader.old
+        → spec.Begins text (map (λ c. c.now) columns.now) good reader.new) }
 {
     match reader.next(alloc)? {
         None => Ok(false),

@@ -72,7 +72,15 @@ fn named_approach(
     runway: &Text,
     capability: &Text,
 ) -> Result<Approach, OutOfMemory>
-    ensures { IfOk result (λ row. row ≡ record { station = terms.station; name = name.now; runway = runway.now; capability = capability.now; height = terms.height; ceiling = terms.ceiling; vis16 = terms.vis16 }) }
+    ensures { IfOk result (λ row. row ≡ record {
+      station = terms.station;
+      name = name.now;
+      runway = runway.now;
+      capability = capability.now;
+      height = terms.height;
+      ceiling = terms.ceiling;
+      vis16 = terms.vis16;
+    }) }
 {
     Ok(Approach {
         station: terms.station,
@@ -144,7 +152,8 @@ fn type_terms(
 ) -> Option<TypeTerms>
     ensures value { result ≡ spec.type_terms engines.now oei_knots.now cruise_pph.now hold_pph.now }
     ensures least { IfSome result (λ t. (2 ≤ t.engines) × (1 ≤ t.oei_knots) × (1 ≤ t.cruise_pph) × (1 ≤ t.hold_pph)) }
-    ensures bound { IfSome result (λ t. (t.engines ≤ 4) × (t.oei_knots ≤ 1_000) × (t.cruise_pph ≤ 100_000) × (t.hold_pph ≤ 100_000)) }
+    ensures bound { IfSome result (λ t. (t.engines ≤ 4) × (t.oei_knots ≤ 1_000) × (t.cruise_pph ≤ 100_000)
+        × (t.hold_pph ≤ 100_000)) }
 {
     Some(TypeTerms {
         engines: engines_of(engines)?,

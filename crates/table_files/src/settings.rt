@@ -87,7 +87,8 @@ fn next_value(
     reader: &mut Records,
     setting: Setting,
 ) -> Result<Option<u32>, OutOfMemory>
-    ensures value { IfOk result (λ value. (text : List ℕ) → (earlier : List (List (List ℕ))) → HasGiven text earlier reader.old → spec.GivesValue text earlier setting value reader.new) }
+    ensures value { IfOk result (λ value. (text : List ℕ) → (earlier : List (List (List ℕ)))
+        → HasGiven text earlier reader.old → spec.GivesValue text earlier setting value reader.new) }
     ensures bound { IfOk result (λ value. IfSome value (λ n. n ≤ spec.most_of setting)) }
 {
     match reader.next(alloc)? {
@@ -112,8 +113,11 @@ fn read_values(
     alloc: Global,
     reader: &mut Records,
 ) -> Result<Result<Listed<u32>, BadRecord>, OutOfMemory>
-    ensures value { IfOk result (λ values. (text : List ℕ) → (earlier : List (List (List ℕ))) → HasGiven text earlier reader.old → (others : List (List (List ℕ))) × AreRecordsOf text (earlier ++ others) × (spec.values_after [] spec.settings others ≡ values)) }
-    ensures within { IfOk result (λ values. IfOk values (λ each. spec.AreWithin each spec.settings × (length each ≡ 9))) }
+    ensures value { IfOk result (λ values. (text : List ℕ) → (earlier : List (List (List ℕ)))
+        → HasGiven text earlier reader.old → (others : List (List (List ℕ))) × AreRecordsOf text (earlier ++ others)
+        × (spec.values_after [] spec.settings others ≡ values)) }
+    ensures within { IfOk result (λ values. IfOk values
+        (λ each. spec.AreWithin each spec.settings × (length each ≡ 9))) }
 {
     let mut values = Listed::new(alloc);
     for setting in &SETTINGS {

@@ -1,7 +1,10 @@
 ghost use Rattle.std.specs.Prelude.{◌≡◌, IfOk, OnOk, IfErr};
+ghost use Rattle.desk_io.specs.Health.{IsSound};
+ghost use Rattle.desk_io.specs.Seen.{ShelfGoesOn};
 ghost use Rattle.ops_tables.specs.Limits.{FitsSettings};
 ghost use Rattle.table_files.specs.Files.{name_of};
-ghost use Rattle.table_files.specs.Whole.{ReadsText, ReadsFile, ReadsTables, StopsAtMissing, IsMissing, HasReadCause};
+ghost use Rattle.table_files.specs.Whole.{ReadsText, ReadsFile, ReadsTables, StopsAtMissing, IsMissing};
+ghost use Rattle.table_files.specs.Whole.{HoldsFile, HoldsFiles, RoseAt};
 ghost use Rattle.table_files.specs.declared.faults.TableFault.TheVariants as fault;
 ghost use Rattle.ops_tables.specs.Shown.{shown};
 
@@ -38,10 +41,10 @@ fn bad_table(alloc: Global, file: File, bad: BadRecord) -> Result<BadTable, OutO
 
 // The whole text of a file.
 fn read_text<S: Shelf>(alloc: Global, shelf: &mut S, file: File) -> Result<Text, TableFault>
-    ensures reads { ReadsText (S.sources shelf.old) file result }
-    ensures same { S.sources shelf.new ≡ S.sources shelf.old }
-    ensures sound { S.sound shelf.old → S.sound shelf.new × IfErr result (IsMissing (S.sources shelf.old) file) }
-    ensures cause { HasReadCause (S.fault_count shelf.old) (S.fault_count shelf.new) result }
+    ensures reads { ReadsText (S.seen shelf.old).sources file result }
+    ensures on { ShelfGoesOn (HoldsFile (S.seen shelf.old) file) (S.seen shelf.old) (S.seen shelf.new) }
+    ensures missing { IsSound (S.seen shelf.old).health → IfErr result (IsMissing (S.seen shelf.old).sources file) }
+    ensures cause { IfErr result (RoseAt (S.seen shelf.old).health (S.seen shelf.new).health) }
 {
     match read_whole(alloc, shelf, file.name()) {
         Ok(text) => Ok(text),
@@ -59,11 +62,11 @@ fn read_file<S: Shelf>(
     file: File,
     loaded: &mut Loading,
 ) -> Result<(), TableFault>
-    ensures reads { ReadsFile (S.sources shelf.old) file (shown loaded.old) result (shown loaded.new) }
+    ensures reads { ReadsFile (S.seen shelf.old).sources file (shown loaded.old) result (shown loaded.new) }
     ensures settings { FitsSettings loaded.old.settings → OnOk result (FitsSettings loaded.new.settings) }
-    ensures same { S.sources shelf.new ≡ S.sources shelf.old }
-    ensures sound { S.sound shelf.old → S.sound shelf.new × IfErr result (IsMissing (S.sources shelf.old) file) }
-    ensures cause { HasReadCause (S.fault_count shelf.old) (S.fault_count shelf.new) result }
+    ensures on { ShelfGoesOn (HoldsFile (S.seen shelf.old) file) (S.seen shelf.old) (S.seen shelf.new) }
+    ensures missing { IsSound (S.seen shelf.old).health → IfErr result (IsMissing (S.seen shelf.old).sources file) }
+    ensures cause { IfErr result (RoseAt (S.seen shelf.old).health (S.seen shelf.new).health) }
 {
     let text = read_text(alloc, shelf, file)?;
     match fill(alloc, file, text.bytes(), loaded)? {
@@ -78,10 +81,10 @@ fn read_file<S: Shelf>(
 /// or is full; a sound shelf gives it only at a file that it doesn't hold, after the tables before that
 /// were good. Both carry the file's name.
 pub fn read_tables<S: Shelf>(alloc: Global, shelf: &mut S) -> Result<Tables, TableFault>
-    ensures tables { ReadsTables (S.sources shelf.old) result }
-    ensures same { S.sources shelf.new ≡ S.sources shelf.old }
-    ensures sound { S.sound shelf.old → S.sound shelf.new × IfErr result (StopsAtMissing (S.sources shelf.old)) }
-    ensures cause { HasReadCause (S.fault_count shelf.old) (S.fault_count shelf.new) result }
+    ensures tables { ReadsTables (S.seen shelf.old).sources result }
+    ensures on { ShelfGoesOn (HoldsFiles (S.seen shelf.old)) (S.seen shelf.old) (S.seen shelf.new) }
+    ensures missing { IsSound (S.seen shelf.old).health → IfErr result (StopsAtMissing (S.seen shelf.old).sources) }
+    ensures cause { IfErr result (RoseAt (S.seen shelf.old).health (S.seen shelf.new).health) }
 {
     let mut loaded = unread(alloc);
     for file in &FILES {
