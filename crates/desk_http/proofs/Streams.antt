@@ -7,7 +7,7 @@ use Rattle.httparse.specs.Grammar.{RequestHead, print_request, HasNoRequest, Nev
 use Rattle.httparse.specs.Spans.{IsRequestOf, span_bytes}
 use Rattle.httparse.specs.declared.spans.HeaderSpan.{HeaderSpan}
 use Rattle.httparse.specs.declared.spans.RequestSpans.{RequestSpans}
-use Rattle.desk_io.specs.Causes.{HasCause}
+use Rattle.desk_io.specs.Health.{Health, HasCause}
 use Rattle.desk_http.specs.Heads.{Fields, fields_at, head_limit, asked, asks, IsRefusal}
 use Rattle.desk_http.specs.Requests.{Splits, HasHead, wire_of, Begins, BeginsWithRequest, IsRefused, IsPart, HasRead, EndsBy, IsOutside}
 use Rattle.desk_http.specs.declared.wire.Asked.{Asked}
@@ -179,5 +179,5 @@ refusal_ends before now kept grown BadHead read refuses is = absurd is
 refusal_ends before now kept grown ReadFault read refuses is = absurd is
 refusal_ends before now kept grown OutOfMemory read refuses is = absurd is
 
-pub refusal_cause : {T : Type 0} (before after : ℕ) (fault : WireFault) → before ≤ after → IsRefusal fault → HasCause {T = T} ReadFault before after (Err fault)
-refusal_cause before after fault later is = record { later = later; failed = λ e. let same : fault ≡ ReadFault = cc in absurd (subst IsRefusal same is) }
+pub refusal_cause : {T : Type 0} (before after : Health) (fault : WireFault) → IsRefusal fault → HasCause {T = T} ReadFault before after (Err fault)
+refusal_cause before after fault is = λ e. let same : fault ≡ ReadFault = cc in absurd (subst IsRefusal same is)

@@ -1,5 +1,5 @@
 -- The requests of a stream of bytes, and how a stream that has no further one ends.
-use Rattle.std.specs.Prelude.{◌≡◌, ◌≢◌, ◌≤◌, ◌<◌, ◌⊎◌, ℕ, List, [], ◌++◌, length, take, drop, Option, Some, None, Result, Ok, Err, MatchResult, IsErrOf, Bool, true, false}
+use Rattle.std.specs.Prelude.{◌≡◌, ◌≢◌, ◌≤◌, ◌<◌, ◌⊎◌, ℕ, List, [], ◌++◌, length, take, drop, Option, Some, None, Result, Ok, Err, MatchResult, Bool, true, false}
 use Rattle.httparse.specs.Grammar.{RequestHead, print_request, ReadsRequest, HasNoRequest, NeverHasRequest}
 use Rattle.httparse.specs.Spans.{IsRequestOf}
 use Rattle.httparse.specs.declared.spans.HeaderSpan.{HeaderSpan}
@@ -21,10 +21,6 @@ Splits (Some before) read None = ⊥
 abbrev pub AtEnd : Option (List ℕ) → Type 0
 AtEnd None = Unit {0}
 AtEnd (Some unread) = unread ≡ []
-
--- A sound object stays sound, its count stands still, and the answer isn't this fault.
-abbrev pub StaysSound : {T E : Type 0} → E → Type 0 → Type 0 → ℕ → ℕ → Result T E → Type 0
-StaysSound fault before now old new result = before → now × (IsErrOf result fault → ⊥) × (new ≡ old)
 
 -- bytes begin with a head within its limit, and then come others
 pub record HasHead (bytes : List ℕ) (head : RequestHead) (others : List ℕ) : Type 0 where
@@ -160,3 +156,7 @@ pub record IsBegun (before now : Option (List ℕ)) (kept grown : List ℕ) (ask
   pub within : start ≤ length grown
   pub short : start ≤ head_limit
   pub few : asked.length ≤ body_limit
+
+-- What a head that was read asks for, and where it ends; or why no request was read.
+abbrev pub Begun : Option (List ℕ) → Option (List ℕ) → List ℕ → List ℕ → Result (Asked × ℕ) WireFault → Type 0
+Begun before now kept grown result = MatchResult result (λ p. IsBegun before now kept grown p.0 p.1) (EndsBy before now kept grown)

@@ -53,7 +53,8 @@ fn asked_with(
     head: &RequestSpans,
     spans: &[HeaderSpan],
 ) -> Result<Asked, OutOfMemory>
-    ensures { IfOk result (λ a. a ≡ spec.asked_with get length (span_bytes bytes.now head.now.path) head.now.version (fields_at bytes.now spans.now)) }
+    ensures { IfOk result (λ a. a ≡ spec.asked_with get length (span_bytes bytes.now head.now.path) head.now.version
+        (fields_at bytes.now spans.now)) }
 {
     let path = Text::of(alloc, path_of(part(bytes, head.path)))?;
     let actor = Text::of(alloc, first_value(bytes, b"Desk-Actor", spans))?;
@@ -75,7 +76,8 @@ fn asked_by(
     spans: &[HeaderSpan],
 ) -> Result<Result<Asked, WireFault>, OutOfMemory>
     ensures limit { IfOk result spec.IsWithinLimit }
-    ensures value { IfOk result (λ r. r ≡ spec.asked_by (spec.got (span_bytes bytes.now head.now.method)) (span_bytes bytes.now head.now.path) head.now.version (fields_at bytes.now spans.now)) }
+    ensures value { IfOk result (λ r. r ≡ spec.asked_by (spec.got (span_bytes bytes.now head.now.method))
+        (span_bytes bytes.now head.now.path) head.now.version (fields_at bytes.now spans.now)) }
 {
     let Some(get) = got(part(bytes, head.method)) else {
         return Ok(Err(WireFault::WrongMethod));
@@ -99,7 +101,8 @@ pub fn asked(
     spans: &[HeaderSpan],
 ) -> Result<Result<Asked, WireFault>, OutOfMemory>
     ensures limit { IfOk result spec.IsWithinLimit }
-    ensures value { IfOk result (λ r. r ≡ spec.asked (span_bytes bytes.now head.now.method) (span_bytes bytes.now head.now.path) head.now.version (fields_at bytes.now (take head.now.headers spans.now))) }
+    ensures value { IfOk result (λ r. r ≡ spec.asked (span_bytes bytes.now head.now.method)
+        (span_bytes bytes.now head.now.path) head.now.version (fields_at bytes.now (take head.now.headers spans.now))) }
 {
     asked_by(alloc, bytes, head, first_spans(spans, head.headers))
 }

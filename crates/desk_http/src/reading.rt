@@ -1,10 +1,10 @@
-ghost use Rattle.std.specs.Prelude.{◌≡◌, ◌<◌, ◌≤◌, ◌+◌, ℕ, List, Option, length, take, IfOk, IfErr, MatchResult};
-ghost use Rattle.httparse.specs.Spans.{IsRequestOf};
-ghost use Rattle.desk_io.specs.Causes.{HasCause};
+ghost use Rattle.std.specs.Prelude.{◌≡◌, ◌<◌, ◌≤◌, ◌+◌, length, take, IfOk, IfErr, OnErr, MatchResult};
+ghost use Rattle.desk_io.specs.Health.{HasCause, HasFailed};
+ghost use Rattle.desk_net.specs.Seen.{LinkGoesOn};
 ghost use Rattle.desk_net.specs.Streams.{unread, OnlyRead};
 ghost use Rattle.desk_http.specs.Heads.{head_limit};
 ghost use Rattle.desk_http.specs.Requests as spec;
-ghost use Rattle.desk_http.specs.Requests.{Splits, HasRead, AtEnd, StaysSound};
+ghost use Rattle.desk_http.specs.Requests.{Splits, HasRead, AtEnd};
 
 use crate::fields::front;
 use crate::{FIELD_ROOM, Front, HEAD_LIMIT, WireFault, front_of};
@@ -16,11 +16,12 @@ use httparse::spans::{HeaderSpan, RequestSpans};
 fn read_piece<N: Link>(link: &mut N, into: &mut [u8]) -> Result<usize, Failed>
     requires { 0 < length into.old }
     ensures bound { IfOk result (λ n. n ≤ length into.old) }
-    ensures given { IfOk result (λ n. Splits (unread (N.told link.old)) (take n into.new) (unread (N.told link.new))) }
-    ensures at_end { IfOk result (λ n. n ≡ 0 → AtEnd (unread (N.told link.new))) }
-    ensures same { OnlyRead (N.told link.old) (N.told link.new) }
-    ensures cause { HasCause (record {}) (N.fault_count link.old) (N.fault_count link.new) result }
-    ensures sound { StaysSound (record {}) (N.sound link.old) (N.sound link.new) (N.fault_count link.old) (N.fault_count link.new) result }
+    ensures given { IfOk result
+        (λ n. Splits (unread (N.seen link.old).stream) (take n into.new) (unread (N.seen link.new).stream)) }
+    ensures at_end { IfOk result (λ n. n ≡ 0 → AtEnd (unread (N.seen link.new).stream)) }
+    ensures same { OnlyRead (N.seen link.old).stream (N.seen link.new).stream }
+    ensures on { LinkGoesOn (N.seen link.old) (N.seen link.new) }
+    ensures cause { OnErr result (HasFailed (N.seen link.old).health (N.seen link.new).health) }
 {
     link.read(into)
 }
@@ -32,13 +33,14 @@ pub(crate) fn read_more<N: Link>(
     piece: &mut [u8],
 ) -> Result<usize, WireFault>
     requires { 0 < length piece.old }
-    ensures more { IfOk result (λ _. HasRead (unread (N.told link.old)) (unread (N.told link.new)) bytes.old.items bytes.new.items) }
+    ensures more { IfOk result (λ _. HasRead (unread (N.seen link.old).stream) (unread (N.seen link.new).stream)
+        bytes.old.items bytes.new.items) }
     ensures count { IfOk result (λ n. length bytes.new.items ≡ length bytes.old.items + n) }
-    ensures at_end { IfOk result (λ n. n ≡ 0 → AtEnd (unread (N.told link.new))) }
+    ensures at_end { IfOk result (λ n. n ≡ 0 → AtEnd (unread (N.seen link.new).stream)) }
     ensures outside { IfErr result spec.IsOutside }
-    ensures same { OnlyRead (N.told link.old) (N.told link.new) }
-    ensures cause { HasCause WireFault.ReadFault (N.fault_count link.old) (N.fault_count link.new) result }
-    ensures sound { StaysSound WireFault.ReadFault (N.sound link.old) (N.sound link.new) (N.fault_count link.old) (N.fault_count link.new) result }
+    ensures same { OnlyRead (N.seen link.old).stream (N.seen link.new).stream }
+    ensures on { LinkGoesOn (N.seen link.old) (N.seen link.new) }
+    ensures cause { HasCause WireFault.ReadFault (N.seen link.old).health (N.seen link.new).health result }
 {
     let count = read_piece(link, piece)?;
     bytes.extend_from_slice(&piece[..count])?;
@@ -62,10 +64,11 @@ pub(crate) fn read_head<N: Link>(
 ) -> Result<RequestSpans, WireFault>
     requires piece { 0 < length piece.old }
     requires room { FIELD_ROOM ≤ length spans.old }
-    ensures next { spec.ReadsHead (unread (N.told link.old)) (unread (N.told link.new)) bytes.old.items bytes.new.items spans.new result }
-    ensures same { OnlyRead (N.told link.old) (N.told link.new) }
-    ensures cause { HasCause WireFault.ReadFault (N.fault_count link.old) (N.fault_count link.new) result }
-    ensures sound { StaysSound WireFault.ReadFault (N.sound link.old) (N.sound link.new) (N.fault_count link.old) (N.fault_count link.new) result }
+    ensures next { spec.ReadsHead (unread (N.seen link.old).stream) (unread (N.seen link.new).stream)
+        bytes.old.items bytes.new.items spans.new result }
+    ensures same { OnlyRead (N.seen link.old).stream (N.seen link.new).stream }
+    ensures on { LinkGoesOn (N.seen link.old) (N.seen link.new) }
+    ensures cause { HasCause WireFault.ReadFault (N.seen link.old).health (N.seen link.new).health result }
 {
     loop {
         match front_of(head_bytes(bytes), spans) {
@@ -94,11 +97,13 @@ pub(crate) fn read_up_to<N: Link>(
     count: usize,
 ) -> Result<bool, WireFault>
     requires { 0 < length piece.old }
-    ensures read { IfOk result (λ _. HasRead (unread (N.told link.old)) (unread (N.told link.new)) bytes.old.items bytes.new.items) }
-    ensures next { MatchResult result (spec.IsUpTo count bytes.new.items (unread (N.told link.new))) spec.IsOutside }
-    ensures same { OnlyRead (N.told link.old) (N.told link.new) }
-    ensures cause { HasCause WireFault.ReadFault (N.fault_count link.old) (N.fault_count link.new) result }
-    ensures sound { StaysSound WireFault.ReadFault (N.sound link.old) (N.sound link.new) (N.fault_count link.old) (N.fault_count link.new) result }
+    ensures read { IfOk result (λ _. HasRead (unread (N.seen link.old).stream) (unread (N.seen link.new).stream)
+        bytes.old.items bytes.new.items) }
+    ensures next { MatchResult result
+        (spec.IsUpTo count bytes.new.items (unread (N.seen link.new).stream)) spec.IsOutside }
+    ensures same { OnlyRead (N.seen link.old).stream (N.seen link.new).stream }
+    ensures on { LinkGoesOn (N.seen link.old) (N.seen link.new) }
+    ensures cause { HasCause WireFault.ReadFault (N.seen link.old).health (N.seen link.new).health result }
 {
     while bytes.len() < count {
         if read_more(link, bytes, piece)? == 0 {

@@ -1,8 +1,9 @@
-ghost use Rattle.std.specs.Prelude.{◌≡◌, ◌<◌, ◌≤◌, ◌+◌, ◌-◌, ℕ, List, Option, length, take, drop, slice_range, IfOk, OnOk, MatchResult};
-ghost use Rattle.desk_io.specs.Causes.{HasCause};
+ghost use Rattle.std.specs.Prelude.{◌≡◌, ◌<◌, ◌≤◌, ◌+◌, ◌-◌, length, drop, slice_range, IfOk, OnOk};
+ghost use Rattle.desk_io.specs.Health.{HasCause};
+ghost use Rattle.desk_net.specs.Seen.{LinkGoesOn};
 ghost use Rattle.desk_net.specs.Streams.{unread, OnlyRead};
 ghost use Rattle.desk_http.specs.Requests as spec;
-ghost use Rattle.desk_http.specs.Requests.{NextRequest, StaysSound, unused, AnswersUnused};
+ghost use Rattle.desk_http.specs.Requests.{NextRequest, unused, AnswersUnused};
 
 use crate::reading::{head_bytes, read_head, read_up_to};
 use crate::{Asked, Buffer, FIELD_ROOM, Wire, WireFault, asked};
@@ -44,10 +45,11 @@ fn begin<N: Link>(
 ) -> Result<(Asked, usize), WireFault>
     requires piece { 0 < length piece.old }
     requires room { FIELD_ROOM ≤ length spans.old }
-    ensures next { MatchResult result (λ p. spec.IsBegun (unread (N.told link.old)) (unread (N.told link.new)) bytes.old.items bytes.new.items p.0 p.1) (spec.EndsBy (unread (N.told link.old)) (unread (N.told link.new)) bytes.old.items bytes.new.items) }
-    ensures same { OnlyRead (N.told link.old) (N.told link.new) }
-    ensures cause { HasCause WireFault.ReadFault (N.fault_count link.old) (N.fault_count link.new) result }
-    ensures sound { StaysSound WireFault.ReadFault (N.sound link.old) (N.sound link.new) (N.fault_count link.old) (N.fault_count link.new) result }
+    ensures next { spec.Begun (unread (N.seen link.old).stream) (unread (N.seen link.new).stream)
+        bytes.old.items bytes.new.items result }
+    ensures same { OnlyRead (N.seen link.old).stream (N.seen link.new).stream }
+    ensures on { LinkGoesOn (N.seen link.old) (N.seen link.new) }
+    ensures cause { HasCause WireFault.ReadFault (N.seen link.old).health (N.seen link.new).health result }
 {
     let head = read_head(link, bytes, piece, spans)?;
     match asked(alloc, head_bytes(bytes), &head, spans)? {
@@ -108,10 +110,11 @@ fn request_in<N: Link>(
 ) -> Result<Wire, WireFault>
     requires piece { 0 < length piece.old }
     requires room { FIELD_ROOM ≤ length spans.old }
-    ensures next { NextRequest (unread (N.told link.old)) (unread (N.told link.new)) bytes.old.items bytes.new.items result }
-    ensures same { OnlyRead (N.told link.old) (N.told link.new) }
-    ensures cause { HasCause WireFault.ReadFault (N.fault_count link.old) (N.fault_count link.new) result }
-    ensures sound { StaysSound WireFault.ReadFault (N.sound link.old) (N.sound link.new) (N.fault_count link.old) (N.fault_count link.new) result }
+    ensures next { NextRequest (unread (N.seen link.old).stream) (unread (N.seen link.new).stream)
+        bytes.old.items bytes.new.items result }
+    ensures same { OnlyRead (N.seen link.old).stream (N.seen link.new).stream }
+    ensures on { LinkGoesOn (N.seen link.old) (N.seen link.new) }
+    ensures cause { HasCause WireFault.ReadFault (N.seen link.old).health (N.seen link.new).health result }
 {
     let (asked, start) = begin(alloc, link, bytes, piece, spans)?;
     let end = start + asked.length as usize;
@@ -135,11 +138,13 @@ pub fn next_request<N: Link>(
     link: &mut N,
     buffer: &mut Buffer,
 ) -> Result<Wire, WireFault>
-    ensures next { NextRequest (unread (N.told link.old)) (unread (N.told link.new)) buffer.old buffer.new result }
-    ensures answers { AnswersUnused (unused buffer.old (unread (N.told link.old))) (unused buffer.new (unread (N.told link.new))) result }
-    ensures same { OnlyRead (N.told link.old) (N.told link.new) }
-    ensures cause { HasCause WireFault.ReadFault (N.fault_count link.old) (N.fault_count link.new) result }
-    ensures sound { StaysSound WireFault.ReadFault (N.sound link.old) (N.sound link.new) (N.fault_count link.old) (N.fault_count link.new) result }
+    ensures next { NextRequest (unread (N.seen link.old).stream) (unread (N.seen link.new).stream)
+        buffer.old buffer.new result }
+    ensures answers { AnswersUnused (unused buffer.old (unread (N.seen link.old).stream))
+        (unused buffer.new (unread (N.seen link.new).stream)) result }
+    ensures same { OnlyRead (N.seen link.old).stream (N.seen link.new).stream }
+    ensures on { LinkGoesOn (N.seen link.old) (N.seen link.new) }
+    ensures cause { HasCause WireFault.ReadFault (N.seen link.old).health (N.seen link.new).health result }
 {
     make_piece(&mut buffer.piece)?;
     make_room(&mut buffer.spans)?;

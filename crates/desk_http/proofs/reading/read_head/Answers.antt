@@ -4,6 +4,7 @@ use Rattle.httparse.specs.Spans.{IsRequestOf}
 use Rattle.desk_net.specs.Streams.{unread}
 use Rattle.desk_http.specs.Heads.{head_limit}
 use Rattle.desk_http.specs.Requests.{HasRead, EndsBy, IsPart}
+use Rattle.desk_io.proofs.HealthLaws.{goes_on}
 use Rattle.desk_http.proofs.Links.{only_on}
 use Rattle.desk_http.proofs.Streams.{passed_on, outside_ends, read_on, none_read, never, part_of_head, nonempty}
 use Rattle.desk_http.proofs.reading.read_head.Goals as goal
@@ -15,8 +16,8 @@ returns-in-Never-clause-next g c =
 
 pub returns-in_err-read_more-clause-next : goal.returns-in_err-read_more-clause-next
 returns-in_err-read_more-clause-next g c =
-    let before = unread (g.N.Link.told c.args.link.now) in
-    let now = unread (g.N.Link.told c.read_more.new.link) in
+    let before = unread (g.N.Link.seen c.args.link.now).stream in
+    let now = unread (g.N.Link.seen c.read_more.new.link).stream in
     let kept = c.args.bytes.now.items in
     let grown = c.read_more.new.bytes.items in
     passed_on c.from_residual.result c.in_err-read_more.field-0.0
@@ -41,12 +42,8 @@ pub loop-head-preserved : goal.loop-head-preserved
 loop-head-preserved g c =
     record {
       read = read_on _ _ _ _ _ _ c.loop-head.invariant.read c.in_ok-read_more.ensures.more;
-      later = omega (arith, c.loop-head.invariant.later, c.in_ok-read_more.ensures.cause.later);
       same = only_on _ _ _ c.loop-head.invariant.same c.in_ok-read_more.ensures.same;
-      sound = λ sound.
-          let before = c.loop-head.invariant.sound sound in
-          let now = c.in_ok-read_more.ensures.sound before.0 in
-          (now.0, now.2 ∙ before.1);
+      on = goes_on _ _ _ c.loop-head.invariant.on c.in_ok-read_more.ensures.on;
       room = search rules;
       spans = search rules;
     }

@@ -24,4 +24,4 @@ returns-in-Err-clause-next g c =
 
 pub returns-in-Err-clause-cause : goal.returns-in-Err-clause-cause
 returns-in-Err-clause-cause g c =
-    refusal_cause _ _ c.in-Err.fault c.in_ok-head.ensures.cause.later (subst IsWithinLimit c.in-Err.is c.in_ok-asked.ensures.limit)
+    refusal_cause (g.N.Link.seen c.args.link.now).health (g.N.Link.seen c.read_head.new.link).health c.in-Err.fault (subst IsWithinLimit c.in-Err.is c.in_ok-asked.ensures.limit)

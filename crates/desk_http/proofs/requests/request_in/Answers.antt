@@ -9,8 +9,8 @@ overflow_add-end g c = omega (arith, c.in_ok-asked.ensures.next.short, c.in_ok-a
 
 pub returns-in_err-read_up_to-clause-next : goal.returns-in_err-read_up_to-clause-next
 returns-in_err-read_up_to-clause-next g c =
-    let before = unread (g.N.Link.told c.args.link.now) in
-    let now = unread (g.N.Link.told c.read_up_to.new.link) in
+    let before = unread (g.N.Link.seen c.args.link.now).stream in
+    let now = unread (g.N.Link.seen c.read_up_to.new.link).stream in
     let kept = c.args.bytes.now.items in
     let left = c.read_up_to.new.bytes.items in
     passed_on c.from_residual-in_err-read_up_to.result c.in_err-read_up_to.field-0.0
@@ -25,7 +25,7 @@ returns-then-not-branch-clause-next g c =
     let start = c.in_ok-asked.start in
     let a = c.in_ok-asked.asked in
     let not_all : c.in_ok-read_up_to.field-0 ≡ false = search rules in
-    let end = subst (IsUpTo (start + a.length) s (unread (g.N.Link.told c.read_up_to.new.link))) not_all u.next in
+    let end = subst (IsUpTo (start + a.length) s (unread (g.N.Link.seen c.read_up_to.new.link).stream)) not_all u.next in
     let within : start ≤ length s = omega (arith, b.within, not_shorter _ _ _ s u.read) in
     let few = end.0 in
     (read_on _ _ _ _ _ _ b.read u.read, (part_of_body s start a (begins_on _ _ _ s start a u.read b.begins b.within) within few, end.1))
@@ -38,7 +38,7 @@ returns-clause-next g c =
     let start = c.in_ok-asked.start in
     let a = c.in_ok-asked.asked in
     let all_there : c.in_ok-read_up_to.field-0 ≡ true = search rules in
-    let all = subst (IsUpTo (start + a.length) s (unread (g.N.Link.told c.read_up_to.new.link))) all_there u.next in
+    let all = subst (IsUpTo (start + a.length) s (unread (g.N.Link.seen c.read_up_to.new.link).stream)) all_there u.next in
     let within : start ≤ length s = omega (arith, b.within, not_shorter _ _ _ s u.read) in (
       s,
       read_on _ _ _ _ _ _ b.read u.read,
