@@ -1,30 +1,27 @@
 -- The rows that a desk is opened over.
-use Rattle.std.proofs.Common.{◌≡◌, ℕ, ◌+◌, ◌-◌, ◌^◌, ◌≤◌, ◌<◌, ◌&&◌, Bool, true, List, [], ◌∷◌, map, Option, None, Some, refl, ap, sym, ◌∙◌, subst, arith}
+use Rattle.std.proofs.Common.{◌≡◌, ℕ, ◌&&◌, Bool, List, [], ◌∷◌, map, Option, None, Some, refl, ap, sym, ◌∙◌}
 use Rattle.std.specs.Prelude.{IsTrue, Result, Ok, Err, IfOk, OnOk, MatchResult}
 use Rattle.board.specs.Prepare.{Shown, shown}
-use Rattle.desk_io.specs.Causes.{RoseOrFull}
 use Rattle.desk_io.specs.Rows.{Rows, rows_of, changed_by}
 use Rattle.desk_io.specs.declared.rows.Change.{Change}
 use Rattle.desk_io.specs.declared.rows.Row.{Row}
-use Rattle.keeper.specs.Kept.{AreSame, Lists, Leads}
+use Rattle.keeper.specs.Kept.{AreSame, Leads}
 use Rattle.keeper.specs.Order as order
 use Rattle.kept_state.specs.Rows.{AreKept}
 use Rattle.desk_state.specs.State.{State}
 use Rattle.records.specs.Bodies.{row_of}
-use Rattle.records.specs.Checks.{IsDesk, AreRowsOf}
+use Rattle.records.specs.Checks.{IsDesk}
 use Rattle.records.specs.declared.record.Record.{Record}
 use Rattle.kept_state.specs.Held.{comes_before, rises_from, rising, AreOfDesk}
 use Rattle.desk.proofs.Steps.{same_kept, still_keeps}
 use Rattle.desk.specs.Keeping.{KeepsState}
-use Rattle.desk.specs.Opening.{AreLoaded, AreAsked, OnLoaded, IsWhy, IsOfKeeper, IsOfRows, commits_for, commits_where, commits_to_open}
+use Rattle.desk.specs.Opening.{AreLoaded, AreAsked, commits_for, commits_where, commits_to_open}
 use Rattle.kept_state.specs.Judged.{judged_changes}
 use Rattle.desk_state.specs.Effects.{nothing}
 use Rattle.desk_state.specs.Events.{alert_changes}
 use Rattle.desk_state.specs.declared.change.AlertChange.{AlertChange}
 use Rattle.ops_tables.specs.Tables.{TableRows}
 use Rattle.kept_state.specs.Held.{state_in}
-use Rattle.desk.specs.declared.opening.OpenWhy.{OpenWhy}
-use Rattle.desk.specs.declared.opening.OpenWhy.TheVariants.{KeeperFault, BadRow, BadPair, OutOfMemory}
 
 -- rows stand in order as their records do
 rise_as : (r : Record) (rs : List Record) → order.rises_from (row_of r) (map row_of rs) ≡ rises_from r rs
@@ -58,29 +55,6 @@ opened_keeps (Some before) (Some after) records changes s loaded leads kept =
 pub leads_nowhere : (told : Option Rows) (changes : List Change) → changes ≡ [] → Leads told changes told
 leads_nowhere None changes none = tt
 leads_nowhere (Some rows) changes none = λ kind key. sym (ap (λ cs. changed_by cs rows kind key) none)
-
--- a count that rose later
-rose_before : (before middle after : ℕ) → before ≤ middle → RoseOrFull middle after → RoseOrFull before after
-rose_before before middle after less rose = omega (arith, less, rose)
-
--- a later fault of the keeper
-pub later_why : (told : Option Rows) (before middle after : ℕ) (why : OpenWhy) → before ≤ middle → IsOfKeeper (RoseOrFull middle after) why → IsWhy told (RoseOrFull before after) why
-later_why told before middle after KeeperFault less is = rose_before before middle after less is
-later_why told before middle after (BadRow row why) less is = absurd is
-later_why told before middle after (BadPair one two) less is = absurd is
-later_why told before middle after OutOfMemory less is = tt
-
-pub keeper_why : (told : Option Rows) (rose : Type 0) (why : OpenWhy) → IsOfKeeper rose why → IsWhy told rose why
-keeper_why told rose KeeperFault is = is
-keeper_why told rose (BadRow row why) is = absurd is
-keeper_why told rose (BadPair one two) is = absurd is
-keeper_why told rose OutOfMemory is = tt
-
-pub rows_why : (told : Option Rows) (rose : Type 0) (rows : List Row) (why : OpenWhy) → Lists told rows → IsTrue (order.rising rows) → IsOfRows rows why → IsWhy told rose why
-rows_why told rose rows KeeperFault listed up is = absurd is
-rows_why told rose rows (BadRow row why) listed up is = record { rows = rows; listed = listed; order = up; has = is }
-rows_why told rose rows (BadPair one two) listed up is = record { rows = rows; listed = listed; order = up; has = is }
-rows_why told rose rows OutOfMemory listed up is = tt
 
 -- where an answer is Ok, what follows from its clause
 pub match_ok : {T E : Type 0} (P : T → Type 0) (Q : E → Type 0) (R : T → Type 0) (r : Result T E) → ((x : T) → P x → R x) → MatchResult r P Q → IfOk r R

@@ -3,3 +3,4 @@ pub mod Shown
 pub mod Keeping
 pub mod Settled
 pub mod Opening
+pub mod Seen

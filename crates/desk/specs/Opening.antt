@@ -64,13 +64,6 @@ IsOfKeeper rose (BadRow row why) = ⊥
 IsOfKeeper rose (BadPair one two) = ⊥
 IsOfKeeper rose OutOfMemory = Unit {0}
 
--- it isn't the keeper
-abbrev pub IsNoKeeperFault : OpenWhy → Type 0
-IsNoKeeperFault KeeperFault = ⊥
-IsNoKeeperFault (BadRow row why) = Unit {0}
-IsNoKeeperFault (BadPair one two) = Unit {0}
-IsNoKeeperFault OutOfMemory = Unit {0}
-
 -- the records of rows that were loaded, which are those of a desk
 abbrev pub AreLoaded : Option Rows → List Record → Type 0
 AreLoaded told records = OnLoaded told (λ rows. IsDesk rows records)

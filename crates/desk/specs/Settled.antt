@@ -1,10 +1,18 @@
 -- What comes of a prepared step.
 use Rattle.std.specs.Prelude.{◌≡◌, ◌⊎◌, ℕ, ◌<◌}
+use Rattle.asks.specs.declared.call.Call.{Call}
+use Rattle.asks.specs.declared.kept.KeptReply.{KeptReply}
+use Rattle.asks.specs.declared.reply.Reply.TheVariants.{Done}
 use Rattle.board.specs.Prepare.{installed}
 use Rattle.board.specs.declared.prepared.Prepared.{Prepared}
+use Rattle.desk_state.specs.Lanes as lanes
 use Rattle.desk_state.specs.State.{State}
 use Rattle.desk_state.specs.Step.{Stepped, tick_to}
-use Rattle.desk.specs.Keeping.{Choice}
+use Rattle.desk_state.specs.declared.lanes.Item.{Item}
+use Rattle.desk_state.specs.declared.lanes.Said.TheVariants as said
+use Rattle.desk.specs.Keeping.{Choice, Given, IsGiven, GivenBetween, answer_with, item_with, commits_after, commits_after_item}
+use Rattle.desk.specs.Seen.{DeskSeen}
+use Rattle.desk.specs.declared.answering.Answered.{Answered}
 use Rattle.desk.specs.declared.answering.Judged.{Judged}
 use Rattle.desk.specs.declared.settling.Settled.{Settled}
 
@@ -25,3 +33,29 @@ choice_of j = record { tick = j.tick; call = j.call }
 -- a state where memory ran out: as before, or after the tick that came first
 abbrev pub MayHaveTicked : ℕ → ℕ → State → State → Type 0
 MayHaveTicked lane at s t = (t ≡ s) ⊎ ((s.moment < at) × (t ≡ (tick_to s lane at).state))
+
+-- ---- what is answered
+
+-- the answer, and the state after it, are those that are given
+abbrev pub Gives : Given → State → Answered → Type 0
+Gives given t a = IsGiven given t a.outcome a.ticked a.called
+
+-- The answer to a call of a lane at a moment, under some choice that the keeper's counts allow, and the commits that were asked for.
+abbrev pub AnswersCall : ℕ → ℕ → Call → DeskSeen → DeskSeen → Answered → Type 0
+AnswersCall lane at call old new a =
+    GivenBetween old.keeper.health.faults new.keeper.health.faults (λ c. new.keeper.commits ≡ commits_after c lane old.state at call old.keeper.commits)
+    (λ c. answer_with c lane old.state at call) new.state a.outcome a.ticked a.called
+
+-- the same of an item
+abbrev pub AnswersItem : ℕ → Item → DeskSeen → DeskSeen → Answered → Type 0
+AnswersItem lane i old new a =
+    GivenBetween old.keeper.health.faults new.keeper.health.faults (λ c. new.keeper.commits ≡ commits_after_item c lane old.state i old.keeper.commits)
+    (λ c. item_with c lane old.state i) new.state a.outcome a.ticked a.called
+
+-- the outcome, and the state after it, are those of a lane
+abbrev pub IsSaid : lanes.Answered → State → Answered → Type 0
+IsSaid lane_says t a = (a.outcome ≡ lane_says.outcome) × (t ≡ lane_says.state)
+
+-- what a lane says to a command that comes again: what is kept of it
+abbrev pub done_again : KeptReply → State → lanes.Answered
+done_again k s = lanes.said_at s (said.Reply (Done k.done)) s

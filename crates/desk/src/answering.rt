@@ -1,15 +1,15 @@
-ghost use Rattle.std.specs.Prelude.{◌≡◌, ◌<◌, ◌≤◌, ◌⊎◌, [], ◌∷◌, None, Some, false, true, is_some, IfOk, IfSome, OnErr};
+ghost use Rattle.std.specs.Prelude.{◌≡◌, ◌<◌, ◌≤◌, [], ◌∷◌, None, Some, false, true, is_some, IfOk, IfSome, OnErr};
 ghost use Rattle.asks.specs.Forms.{ReplyHasMoment};
-ghost use Rattle.kept_forms.specs.Formed.{AreFormed};
-ghost use Rattle.call_json.specs.Canonical.{CallHasForms};
-ghost use Rattle.desk_state.specs.Step.{answer_call, tick_to};
 ghost use Rattle.asks.specs.declared.kept.KeptReply.{KeptReply as AKept};
+ghost use Rattle.call_json.specs.Canonical.{CallHasForms};
+ghost use Rattle.desk_io.specs.Health.{IsSound, IsStill};
 ghost use Rattle.desk_state.specs.Lanes as lanes;
-ghost use Rattle.desk_state.specs.declared.lanes.Said.TheVariants as ASaid;
 ghost use Rattle.desk_state.specs.Repeats.{MayAsk, IsKeptFor};
+ghost use Rattle.desk_state.specs.Step.{answer_call, tick_to};
 ghost use Rattle.desk.specs.Keeping as spec;
-ghost use Rattle.desk.specs.Keeping.{adds, AreNow, Counted, CountedOnce, KeepsState, IsGiven, GivenBetween};
-ghost use Rattle.desk.specs.Settled.{IsSettled, MayHaveTicked, choice_of};
+ghost use Rattle.desk.specs.Keeping.{adds, AreNow, Counted, CountedOnce};
+ghost use Rattle.desk.specs.Seen.{desk_seen, StepGoesOn, DeskGoesOn};
+ghost use Rattle.desk.specs.Settled.{IsSettled, MayHaveTicked, choice_of, Gives, AnswersCall, IsSaid, done_again};
 ghost use Rattle.desk.specs.Shown.{IsShown, CanBeSaid};
 
 use crate::settling::{Desk, Settled, settle, stayed};
@@ -49,17 +49,18 @@ fn make_call<K: Keeper, L: Ledger>(
     steps: &mut Steps<L>,
 ) -> Result<Settled, OutOfMemory>
     requires { CallHasForms call.now }
-    ensures settled { IfOk result (λ r. IsSettled r desk.new.board.state (spec.made_with r.fault lane desk.old.board.state call.now)) }
+    ensures settled { IfOk result (λ r. IsSettled r desk.new.board.state
+        (spec.made_with r.fault lane desk.old.board.state call.now)) }
     ensures shown { IfOk result (λ r. IfSome r.reply ReplyHasMoment) }
     ensures replied { IfOk result (λ r. is_some r.reply ≡ true) }
     ensures err { OnErr result (desk.new.board.state ≡ desk.old.board.state) }
-    ensures opening { desk.new.board.opening ≡ desk.old.board.opening }
-    ensures rows { KeepsState (K.told desk.old.keeper) desk.old.board.state → KeepsState (K.told desk.new.keeper) desk.new.board.state }
-    ensures count { IfOk result (λ r. CountedOnce (K.fault_count desk.old.keeper) r.fault (K.fault_count desk.new.keeper)) }
-    ensures later { K.fault_count desk.old.keeper ≤ K.fault_count desk.new.keeper }
-    ensures sound { K.sound desk.old.keeper → K.sound desk.new.keeper × (K.fault_count desk.new.keeper ≡ K.fault_count desk.old.keeper) }
-    ensures asked { IfOk result (λ r. K.commits desk.new.keeper ≡ spec.asked_if (adds desk.old.board.state (answer_call desk.old.board.state lane call.now)) (K.commits desk.old.keeper)) }
-    ensures still { adds desk.old.board.state (answer_call desk.old.board.state lane call.now) ≡ false → desk.new.keeper ≡ desk.old.keeper }
+    ensures on { StepGoesOn (desk_seen K.seen desk.old) (desk_seen K.seen desk.new) }
+    ensures count { IfOk result (λ r. CountedOnce (K.seen desk.old.keeper).health.faults r.fault
+        (K.seen desk.new.keeper).health.faults) }
+    ensures asked { IfOk result (λ r. (K.seen desk.new.keeper).commits ≡ spec.asked_if
+        (adds desk.old.board.state (answer_call desk.old.board.state lane call.now)) (K.seen desk.old.keeper).commits) }
+    ensures still { adds desk.old.board.state (answer_call desk.old.board.state lane call.now) ≡ false
+        → desk.new.keeper ≡ desk.old.keeper }
 {
     let prepared = desk.board.prepare_change(alloc, lane, call, steps)?;
     settle(alloc, desk, prepared)
@@ -74,15 +75,15 @@ fn make_tick<K: Keeper, L: Ledger>(
 ) -> Result<Settled, OutOfMemory>
     requires later { desk.old.board.state.moment < to }
     requires within { to ≤ LAST }
-    ensures settled { IfOk result (λ r. IsSettled r desk.new.board.state (spec.ticked_with r.fault lane desk.old.board.state to)) }
+    ensures settled { IfOk result (λ r. IsSettled r desk.new.board.state
+        (spec.ticked_with r.fault lane desk.old.board.state to)) }
     ensures shown { IfOk result (λ r. IfSome r.reply ReplyHasMoment) }
     ensures err { OnErr result (desk.new.board.state ≡ desk.old.board.state) }
-    ensures opening { desk.new.board.opening ≡ desk.old.board.opening }
-    ensures rows { KeepsState (K.told desk.old.keeper) desk.old.board.state → KeepsState (K.told desk.new.keeper) desk.new.board.state }
-    ensures count { IfOk result (λ r. CountedOnce (K.fault_count desk.old.keeper) r.fault (K.fault_count desk.new.keeper)) }
-    ensures later { K.fault_count desk.old.keeper ≤ K.fault_count desk.new.keeper }
-    ensures sound { K.sound desk.old.keeper → K.sound desk.new.keeper × (K.fault_count desk.new.keeper ≡ K.fault_count desk.old.keeper) }
-    ensures asked { IfOk result (λ r. K.commits desk.new.keeper ≡ spec.asked_if (adds desk.old.board.state (tick_to desk.old.board.state lane to)) (K.commits desk.old.keeper)) }
+    ensures on { StepGoesOn (desk_seen K.seen desk.old) (desk_seen K.seen desk.new) }
+    ensures count { IfOk result (λ r. CountedOnce (K.seen desk.old.keeper).health.faults r.fault
+        (K.seen desk.new.keeper).health.faults) }
+    ensures asked { IfOk result (λ r. (K.seen desk.new.keeper).commits ≡ spec.asked_if
+        (adds desk.old.board.state (tick_to desk.old.board.state lane to)) (K.seen desk.old.keeper).commits) }
     ensures told { IfOk result (λ r. IfSome r.fault (λ n. r.reply ≡ Some (Reply.Refused (Refusal.Unkept n)))) }
 {
     let prepared = desk.board.prepare_tick(alloc, lane, to, steps)?;
@@ -100,17 +101,18 @@ fn once_ticked<K: Keeper, L: Ledger>(
 ) -> Result<Settled, OutOfMemory>
     requires call { CallHasForms call.now }
     requires shown { IfSome refused ReplyHasMoment }
-    ensures settled { IfOk result (λ r. IsSettled r desk.new.board.state (spec.once_ticked r.fault lane refused desk.old.board.state call.now)) }
+    ensures settled { IfOk result (λ r. IsSettled r desk.new.board.state
+        (spec.once_ticked r.fault lane refused desk.old.board.state call.now)) }
     ensures shown { IfOk result (λ r. IfSome r.reply ReplyHasMoment) }
     ensures replied { IfOk result (λ r. is_some r.reply ≡ true) }
-    ensures count { IfOk result (λ r. CountedOnce (K.fault_count desk.old.keeper) r.fault (K.fault_count desk.new.keeper)) }
+    ensures count { IfOk result (λ r. CountedOnce (K.seen desk.old.keeper).health.faults r.fault
+        (K.seen desk.new.keeper).health.faults) }
     ensures err { OnErr result (desk.new.board.state ≡ desk.old.board.state) }
-    ensures opening { desk.new.board.opening ≡ desk.old.board.opening }
-    ensures rows { KeepsState (K.told desk.old.keeper) desk.old.board.state → KeepsState (K.told desk.new.keeper) desk.new.board.state }
-    ensures later { K.fault_count desk.old.keeper ≤ K.fault_count desk.new.keeper }
-    ensures sound { K.sound desk.old.keeper → K.sound desk.new.keeper × (K.fault_count desk.new.keeper ≡ K.fault_count desk.old.keeper) }
-    ensures asked { IfOk result (λ r. K.commits desk.new.keeper ≡ spec.asked_once refused lane desk.old.board.state call.now (K.commits desk.old.keeper)) }
-    ensures stays { IfOk result (λ r. IfSome refused (λ reply. (r.fault ≡ None) × (K.fault_count desk.new.keeper ≡ K.fault_count desk.old.keeper))) }
+    ensures on { StepGoesOn (desk_seen K.seen desk.old) (desk_seen K.seen desk.new) }
+    ensures asked { IfOk result (λ r. (K.seen desk.new.keeper).commits ≡ spec.asked_once refused lane
+        desk.old.board.state call.now (K.seen desk.old.keeper).commits) }
+    ensures stays { IfOk result (λ r. IfSome refused
+        (λ reply. (r.fault ≡ None) × IsStill (K.seen desk.old.keeper).health (K.seen desk.new.keeper).health)) }
 {
     match refused {
         None => make_call(alloc, desk, lane, call, steps),
@@ -170,17 +172,19 @@ fn answer_made<K: Keeper, L: Ledger>(
     steps: &mut Steps<L>,
 ) -> Result<Judged, OutOfMemory>
     requires { CallHasForms call.now }
-    ensures given { IfOk result (λ j. IsGiven (spec.given [] desk.old.board.state (spec.made_with j.call lane desk.old.board.state call.now)) desk.new.board.state j.answered.outcome j.answered.ticked j.answered.called) }
+    ensures given { IfOk result (λ j. Gives
+        (spec.given [] desk.old.board.state (spec.made_with j.call lane desk.old.board.state call.now))
+        desk.new.board.state j.answered) }
     ensures shown { IfOk result (λ j. IsShown j.answered.outcome) }
-    ensures count { IfOk result (λ j. Counted (K.fault_count desk.old.keeper) (choice_of j ∷ []) (K.fault_count desk.new.keeper)) }
+    ensures count { IfOk result (λ j. Counted (K.seen desk.old.keeper).health.faults (choice_of j ∷ [])
+        (K.seen desk.new.keeper).health.faults) }
     ensures err { OnErr result (desk.new.board.state ≡ desk.old.board.state) }
-    ensures opening { desk.new.board.opening ≡ desk.old.board.opening }
-    ensures rows { KeepsState (K.told desk.old.keeper) desk.old.board.state → KeepsState (K.told desk.new.keeper) desk.new.board.state }
-    ensures later { K.fault_count desk.old.keeper ≤ K.fault_count desk.new.keeper }
-    ensures sound { K.sound desk.old.keeper → K.sound desk.new.keeper × (K.fault_count desk.new.keeper ≡ K.fault_count desk.old.keeper) }
-    ensures exact { IfOk result (λ j. AreNow (K.fault_count desk.new.keeper) (choice_of j)) }
-    ensures asked { IfOk result (λ j. K.commits desk.new.keeper ≡ spec.asked_once None lane desk.old.board.state call.now (K.commits desk.old.keeper)) }
-    ensures still { adds desk.old.board.state (answer_call desk.old.board.state lane call.now) ≡ false → desk.new.keeper ≡ desk.old.keeper }
+    ensures on { StepGoesOn (desk_seen K.seen desk.old) (desk_seen K.seen desk.new) }
+    ensures exact { IfOk result (λ j. AreNow (K.seen desk.new.keeper).health.faults (choice_of j)) }
+    ensures asked { IfOk result (λ j. (K.seen desk.new.keeper).commits ≡ spec.asked_once None lane
+        desk.old.board.state call.now (K.seen desk.old.keeper).commits) }
+    ensures still { adds desk.old.board.state (answer_call desk.old.board.state lane call.now) ≡ false
+        → desk.new.keeper ≡ desk.old.keeper }
 {
     let position = desk.board.entries() as u64;
     let settled = make_call(alloc, desk, lane, call, steps)?;
@@ -198,16 +202,17 @@ fn answer_late<K: Keeper, L: Ledger>(
     requires after { desk.old.board.state.moment < at }
     requires within { at ≤ LAST }
     requires call { CallHasForms call.now }
-    ensures given { IfOk result (λ j. IsGiven (spec.made_after j.call lane (spec.ticked_with j.tick lane desk.old.board.state at) call.now) desk.new.board.state j.answered.outcome j.answered.ticked j.answered.called) }
+    ensures given { IfOk result (λ j. Gives
+        (spec.made_after j.call lane (spec.ticked_with j.tick lane desk.old.board.state at) call.now)
+        desk.new.board.state j.answered) }
     ensures shown { IfOk result (λ j. IsShown j.answered.outcome) }
-    ensures count { IfOk result (λ j. Counted (K.fault_count desk.old.keeper) (choice_of j ∷ []) (K.fault_count desk.new.keeper)) }
+    ensures count { IfOk result (λ j. Counted (K.seen desk.old.keeper).health.faults (choice_of j ∷ [])
+        (K.seen desk.new.keeper).health.faults) }
     ensures err { OnErr result (MayHaveTicked lane at desk.old.board.state desk.new.board.state) }
-    ensures opening { desk.new.board.opening ≡ desk.old.board.opening }
-    ensures rows { KeepsState (K.told desk.old.keeper) desk.old.board.state → KeepsState (K.told desk.new.keeper) desk.new.board.state }
-    ensures later { K.fault_count desk.old.keeper ≤ K.fault_count desk.new.keeper }
-    ensures sound { K.sound desk.old.keeper → K.sound desk.new.keeper × (K.fault_count desk.new.keeper ≡ K.fault_count desk.old.keeper) }
-    ensures asked { IfOk result (λ j. K.commits desk.new.keeper ≡ spec.asked_late j.tick lane desk.old.board.state at call.now (K.commits desk.old.keeper)) }
-    ensures exact { IfOk result (λ j. AreNow (K.fault_count desk.new.keeper) (choice_of j)) }
+    ensures on { StepGoesOn (desk_seen K.seen desk.old) (desk_seen K.seen desk.new) }
+    ensures asked { IfOk result (λ j. (K.seen desk.new.keeper).commits ≡ spec.asked_late j.tick lane
+        desk.old.board.state at call.now (K.seen desk.old.keeper).commits) }
+    ensures exact { IfOk result (λ j. AreNow (K.seen desk.new.keeper).health.faults (choice_of j)) }
 {
     let Settled {
         reply,
@@ -231,17 +236,18 @@ fn judge_at<K: Keeper, L: Ledger>(
 ) -> Result<Judged, OutOfMemory>
     requires within { at ≤ LAST }
     requires call { CallHasForms call.now }
-    ensures given { IfOk result (λ j. IsGiven (spec.answer_with (choice_of j) lane desk.old.board.state at call.now) desk.new.board.state j.answered.outcome j.answered.ticked j.answered.called) }
+    ensures given { IfOk result (λ j. Gives
+        (spec.answer_with (choice_of j) lane desk.old.board.state at call.now) desk.new.board.state j.answered) }
     ensures shown { IfOk result (λ j. IsShown j.answered.outcome) }
-    ensures count { IfOk result (λ j. Counted (K.fault_count desk.old.keeper) (choice_of j ∷ []) (K.fault_count desk.new.keeper)) }
+    ensures count { IfOk result (λ j. Counted (K.seen desk.old.keeper).health.faults (choice_of j ∷ [])
+        (K.seen desk.new.keeper).health.faults) }
     ensures err { OnErr result (MayHaveTicked lane at desk.old.board.state desk.new.board.state) }
-    ensures opening { desk.new.board.opening ≡ desk.old.board.opening }
-    ensures rows { KeepsState (K.told desk.old.keeper) desk.old.board.state → KeepsState (K.told desk.new.keeper) desk.new.board.state }
-    ensures later { K.fault_count desk.old.keeper ≤ K.fault_count desk.new.keeper }
-    ensures sound { K.sound desk.old.keeper → K.sound desk.new.keeper × (K.fault_count desk.new.keeper ≡ K.fault_count desk.old.keeper) }
-    ensures exact { IfOk result (λ j. AreNow (K.fault_count desk.new.keeper) (choice_of j)) }
-    ensures asked { IfOk result (λ j. K.commits desk.new.keeper ≡ spec.commits_after (choice_of j) lane desk.old.board.state at call.now (K.commits desk.old.keeper)) }
-    ensures still { at ≤ desk.old.board.state.moment → adds desk.old.board.state (answer_call desk.old.board.state lane call.now) ≡ false → desk.new.keeper ≡ desk.old.keeper }
+    ensures on { StepGoesOn (desk_seen K.seen desk.old) (desk_seen K.seen desk.new) }
+    ensures exact { IfOk result (λ j. AreNow (K.seen desk.new.keeper).health.faults (choice_of j)) }
+    ensures asked { IfOk result (λ j. (K.seen desk.new.keeper).commits ≡ spec.commits_after (choice_of j) lane
+        desk.old.board.state at call.now (K.seen desk.old.keeper).commits) }
+    ensures still { at ≤ desk.old.board.state.moment → adds desk.old.board.state
+        (answer_call desk.old.board.state lane call.now) ≡ false → desk.new.keeper ≡ desk.old.keeper }
 {
     if desk.board.now() < at {
         answer_late(alloc, desk, lane, at, call, steps)
@@ -262,19 +268,18 @@ pub(crate) fn judge<K: Keeper, L: Ledger>(
 ) -> Result<Judged, OutOfMemory>
     requires within { at ≤ LAST }
     requires call { CallHasForms call.now }
-    ensures given { IfOk result (λ j. IsGiven (spec.answer_with (choice_of j) lane desk.old.board.state at call.now) desk.new.board.state j.answered.outcome j.answered.ticked j.answered.called) }
+    ensures given { IfOk result (λ j. Gives
+        (spec.answer_with (choice_of j) lane desk.old.board.state at call.now) desk.new.board.state j.answered) }
     ensures shown { IfOk result (λ j. IsShown j.answered.outcome) }
-    ensures count { IfOk result (λ j. Counted (K.fault_count desk.old.keeper) (choice_of j ∷ []) (K.fault_count desk.new.keeper)) }
+    ensures count { IfOk result (λ j. Counted (K.seen desk.old.keeper).health.faults (choice_of j ∷ [])
+        (K.seen desk.new.keeper).health.faults) }
     ensures err { OnErr result (MayHaveTicked lane at desk.old.board.state desk.new.board.state) }
-    ensures opening { desk.new.board.opening ≡ desk.old.board.opening }
-    ensures rows { KeepsState (K.told desk.old.keeper) desk.old.board.state → KeepsState (K.told desk.new.keeper) desk.new.board.state }
-    ensures later { K.fault_count desk.old.keeper ≤ K.fault_count desk.new.keeper }
-    ensures sound { K.sound desk.old.keeper → K.sound desk.new.keeper × (K.fault_count desk.new.keeper ≡ K.fault_count desk.old.keeper) }
-    // The forms that each part of the state has stay.
-    ensures formed { AreFormed desk.old.board.state → AreFormed desk.new.board.state }
-    ensures exact { IfOk result (λ j. AreNow (K.fault_count desk.new.keeper) (choice_of j)) }
-    ensures asked { IfOk result (λ j. K.commits desk.new.keeper ≡ spec.commits_after (choice_of j) lane desk.old.board.state at call.now (K.commits desk.old.keeper)) }
-    ensures still { at ≤ desk.old.board.state.moment → adds desk.old.board.state (answer_call desk.old.board.state lane call.now) ≡ false → desk.new.keeper ≡ desk.old.keeper }
+    ensures on { DeskGoesOn (desk_seen K.seen desk.old) (desk_seen K.seen desk.new) }
+    ensures exact { IfOk result (λ j. AreNow (K.seen desk.new.keeper).health.faults (choice_of j)) }
+    ensures asked { IfOk result (λ j. (K.seen desk.new.keeper).commits ≡ spec.commits_after (choice_of j) lane
+        desk.old.board.state at call.now (K.seen desk.old.keeper).commits) }
+    ensures still { at ≤ desk.old.board.state.moment → adds desk.old.board.state
+        (answer_call desk.old.board.state lane call.now) ≡ false → desk.new.keeper ≡ desk.old.keeper }
 {
     // what holds of every board
     let _ = desk.board.now();
@@ -294,29 +299,28 @@ pub fn answer<K: Keeper, L: Ledger>(
 ) -> Result<Answered, OutOfMemory>
     requires within { moment ≤ LAST }
     requires call { CallHasForms call.now }
-    // Under some choice that the keeper's counts allow: the numbers of refusals rise strictly. A commit is asked for by the tick and by
-    // the call, where each adds an entry, and by nothing else.
-    ensures given { IfOk result (λ a. GivenBetween (K.fault_count desk.old.keeper) (K.fault_count desk.new.keeper) (λ c. K.commits desk.new.keeper ≡ spec.commits_after c lane desk.old.board.state moment call.now (K.commits desk.old.keeper)) (λ c. spec.answer_with c lane desk.old.board.state moment call.now) desk.new.board.state a.outcome a.ticked a.called) }
+    // Under some choice that the keeper's counts allow: the numbers of refusals rise strictly. A commit is asked for
+    // by the tick and by the call, where each adds an entry, and by nothing else.
+    ensures given { IfOk result
+        (λ a. AnswersCall lane moment call.now (desk_seen K.seen desk.old) (desk_seen K.seen desk.new) a) }
     // Over a sound keeper nothing is refused for its sake.
-    ensures quiet { K.sound desk.old.keeper → IfOk result (λ a. (a.outcome ≡ (lanes.answer lane desk.old.board.state moment call.now).outcome) × (desk.new.board.state ≡ (lanes.answer lane desk.old.board.state moment call.now).state)) }
+    ensures quiet { IsSound (K.seen desk.old.keeper).health
+        → IfOk result (λ a. IsSaid (lanes.answer lane desk.old.board.state moment call.now) desk.new.board.state a) }
     // A command that comes again is answered with what is kept of it, whatever the keeper does.
-    ensures again { (k : AKept) → moment ≤ desk.old.board.state.moment → MayAsk desk.old.board.state call.now → IsKeptFor desk.old.board.state call.now k
-        → IfOk result (λ a. (a.outcome ≡ (lanes.said_at desk.old.board.state (ASaid.Reply (Reply.Done k.done)) desk.old.board.state).outcome) × (desk.new.board.state ≡ desk.old.board.state)) }
+    ensures again { (k : AKept) → moment ≤ desk.old.board.state.moment → MayAsk desk.old.board.state call.now
+        → IsKeptFor desk.old.board.state call.now k
+        → IfOk result (λ a. IsSaid (done_again k desk.old.board.state) desk.new.board.state a) }
     // So is one that comes with a later moment, once the tick to it is put in place.
-    ensures late { (k : AKept) → desk.old.board.state.moment < moment → desk.new.board.state.moment ≡ moment → MayAsk desk.old.board.state call.now → IsKeptFor desk.old.board.state call.now k
-        → IfOk result (λ a. (a.outcome ≡ (lanes.said_at (tick_to desk.old.board.state lane moment).state (ASaid.Reply (Reply.Done k.done)) (tick_to desk.old.board.state lane moment).state).outcome)
-        × (desk.new.board.state ≡ (tick_to desk.old.board.state lane moment).state)) }
+    ensures late { (k : AKept) → desk.old.board.state.moment < moment → desk.new.board.state.moment ≡ moment
+        → MayAsk desk.old.board.state call.now → IsKeptFor desk.old.board.state call.now k
+        → IfOk result
+        (λ a. IsSaid (done_again k (tick_to desk.old.board.state lane moment).state) desk.new.board.state a) }
     ensures shown { IfOk result (λ a. IsShown a.outcome) }
     ensures err { OnErr result (MayHaveTicked lane moment desk.old.board.state desk.new.board.state) }
-    ensures opening { desk.new.board.opening ≡ desk.old.board.opening }
-    // What is kept is kept for the state, whatever is answered.
-    ensures rows { KeepsState (K.told desk.old.keeper) desk.old.board.state → KeepsState (K.told desk.new.keeper) desk.new.board.state }
-    ensures later { K.fault_count desk.old.keeper ≤ K.fault_count desk.new.keeper }
-    ensures sound { K.sound desk.old.keeper → K.sound desk.new.keeper × (K.fault_count desk.new.keeper ≡ K.fault_count desk.old.keeper) }
-    // The forms stay by which the rows are those of a desk.
-    ensures formed { AreFormed desk.old.board.state → AreFormed desk.new.board.state }
+    ensures on { DeskGoesOn (desk_seen K.seen desk.old) (desk_seen K.seen desk.new) }
     // What changes nothing isn't kept.
-    ensures still { moment ≤ desk.old.board.state.moment → adds desk.old.board.state (answer_call desk.old.board.state lane call.now) ≡ false → desk.new.keeper ≡ desk.old.keeper }
+    ensures still { moment ≤ desk.old.board.state.moment → adds desk.old.board.state
+        (answer_call desk.old.board.state lane call.now) ≡ false → desk.new.keeper ≡ desk.old.keeper }
 {
     let judged = judge(alloc, desk, lane, moment, call, steps)?;
     Ok(judged.answered)

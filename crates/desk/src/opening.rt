@@ -1,9 +1,10 @@
-ghost use Rattle.std.specs.Prelude.{◌≡◌, ◌≤◌, map, IfOk, IfErr, OnOk, OnErr, IsTrue, MatchResult};
+ghost use Rattle.std.specs.Prelude.{◌≡◌, map, IfOk, IfErr, OnOk, OnErr, IsTrue, MatchResult};
 ghost use Rattle.board.specs.declared.state.Restored.{Restored as ARestored};
-ghost use Rattle.desk_io.specs.Causes.{RoseOrFull};
+ghost use Rattle.desk_io.specs.Health.{HasFailed};
 ghost use Rattle.desk_io.specs.Rows.{Rows, rows_of, changed_by};
 ghost use Rattle.keeper.specs.Kept.{AreSame, Lists, Leads};
 ghost use Rattle.keeper.specs.Order.{rising};
+ghost use Rattle.keeper.specs.Seen.{KeeperGoesOn};
 ghost use Rattle.kept_state.specs.Rows.{AreKept};
 ghost use Rattle.records.specs.Bodies.{row_of};
 ghost use Rattle.records.specs.Checks.{IsDesk};
@@ -12,7 +13,9 @@ ghost use Rattle.desk_state.specs.State.{State};
 ghost use Rattle.kept_state.specs.Held.{AreOfDesk};
 ghost use Rattle.kept_state.specs.Opening.{reopened};
 ghost use Rattle.desk.specs.Keeping.{KeepsState};
-ghost use Rattle.desk.specs.Opening.{commits_for, commits_to_open, AreAsked, of_keeper, of_rows, IsOfRows, IsOfKeeper, IsWhy, IsNoKeeperFault, AreLoaded, board_of, IsLeft, IsOpened, TellsRowsOf, under};
+ghost use Rattle.desk.specs.Opening.{commits_for, commits_to_open, AreAsked, of_keeper, of_rows};
+ghost use Rattle.desk.specs.Opening.{IsOfRows, IsOfKeeper, IsWhy};
+ghost use Rattle.desk.specs.Opening.{AreLoaded, board_of, IsLeft, IsOpened, TellsRowsOf, under};
 ghost use Rattle.desk.specs.declared.opening.OpenWhy.TheVariants.{OutOfMemory as OpenMemory};
 
 use crate::settling::Desk;
@@ -73,12 +76,11 @@ fn why_of_rows(fault: RowsFault) -> OpenWhy
 
 fn load<K: Keeper>(alloc: Global, keeper: &mut K) -> Result<Vec<Row>, OpenWhy>
     ensures order { IfOk result (λ rows. IsTrue (rising rows.items)) }
-    ensures rows { IfOk result (λ rows. Lists (K.told keeper.old) rows.items) }
-    ensures same { K.told keeper.new ≡ K.told keeper.old }
-    ensures why { IfErr result (IsOfKeeper (RoseOrFull (K.fault_count keeper.old) (K.fault_count keeper.new))) }
-    ensures none { K.commits keeper.new ≡ K.commits keeper.old }
-    ensures later { K.fault_count keeper.old ≤ K.fault_count keeper.new }
-    ensures sound { K.sound keeper.old → K.sound keeper.new × (K.fault_count keeper.new ≡ K.fault_count keeper.old) × IfErr result IsNoKeeperFault }
+    ensures rows { IfOk result (λ rows. Lists (K.seen keeper.old).rows rows.items) }
+    ensures same { (K.seen keeper.new).rows ≡ (K.seen keeper.old).rows }
+    ensures why { IfErr result (IsOfKeeper (HasFailed (K.seen keeper.old).health (K.seen keeper.new).health)) }
+    ensures none { (K.seen keeper.new).commits ≡ (K.seen keeper.old).commits }
+    ensures on { KeeperGoesOn (K.seen keeper.old) (K.seen keeper.new) }
 {
     match keeper.load(alloc) {
         Ok(rows) => Ok(rows),
@@ -97,13 +99,13 @@ fn checked(alloc: Global, rows: &[Row]) -> Result<Vec<Record>, OpenWhy>
 
 // The records of the rows that a keeper has.
 fn records_of<K: Keeper>(alloc: Global, keeper: &mut K) -> Result<Vec<Record>, OpenWhy>
-    ensures loaded { IfOk result (λ records. AreLoaded (K.told keeper.old) records.items) }
+    ensures loaded { IfOk result (λ records. AreLoaded (K.seen keeper.old).rows records.items) }
     ensures desk { IfOk result (λ records. AreOfDesk records.items) }
-    ensures same { K.told keeper.new ≡ K.told keeper.old }
-    ensures why { IfErr result (IsWhy (K.told keeper.old) (RoseOrFull (K.fault_count keeper.old) (K.fault_count keeper.new))) }
-    ensures none { K.commits keeper.new ≡ K.commits keeper.old }
-    ensures later { K.fault_count keeper.old ≤ K.fault_count keeper.new }
-    ensures sound { K.sound keeper.old → K.sound keeper.new × (K.fault_count keeper.new ≡ K.fault_count keeper.old) × IfErr result IsNoKeeperFault }
+    ensures same { (K.seen keeper.new).rows ≡ (K.seen keeper.old).rows }
+    ensures why { IfErr result (IsWhy (K.seen keeper.old).rows
+        (HasFailed (K.seen keeper.old).health (K.seen keeper.new).health)) }
+    ensures none { (K.seen keeper.new).commits ≡ (K.seen keeper.old).commits }
+    ensures on { KeeperGoesOn (K.seen keeper.old) (K.seen keeper.new) }
 {
     let rows = load(alloc, keeper)?;
     checked(alloc, &rows)
@@ -112,12 +114,11 @@ fn records_of<K: Keeper>(alloc: Global, keeper: &mut K) -> Result<Vec<Record>, O
 // Keeps what restoring changed of the rows.
 #[tactic(auto, using(crate::proofs::Opened::leads_nowhere))]
 fn keep_changes<K: Keeper>(alloc: Global, keeper: &mut K, changes: &[Change]) -> Result<(), OpenWhy>
-    ensures ok { OnOk result (Leads (K.told keeper.old) changes.now (K.told keeper.new)) }
-    ensures err { OnErr result (K.told keeper.new ≡ K.told keeper.old) }
-    ensures why { IfErr result (IsOfKeeper (RoseOrFull (K.fault_count keeper.old) (K.fault_count keeper.new))) }
-    ensures asked { K.commits keeper.new ≡ commits_for changes.now (K.commits keeper.old) }
-    ensures later { K.fault_count keeper.old ≤ K.fault_count keeper.new }
-    ensures sound { K.sound keeper.old → K.sound keeper.new × (K.fault_count keeper.new ≡ K.fault_count keeper.old) × IfErr result IsNoKeeperFault }
+    ensures ok { OnOk result (Leads (K.seen keeper.old).rows changes.now (K.seen keeper.new).rows) }
+    ensures err { OnErr result ((K.seen keeper.new).rows ≡ (K.seen keeper.old).rows) }
+    ensures why { IfErr result (IsOfKeeper (HasFailed (K.seen keeper.old).health (K.seen keeper.new).health)) }
+    ensures asked { (K.seen keeper.new).commits ≡ commits_for changes.now (K.seen keeper.old).commits }
+    ensures on { KeeperGoesOn (K.seen keeper.old) (K.seen keeper.new) }
 {
     if changes.is_empty() {
         return Ok(());
@@ -137,12 +138,11 @@ pub fn leave(_: Tables) {}
 // The board that was restored, once what changed is kept.
 fn finish<K: Keeper>(alloc: Global, keeper: &mut K, restored: Restored) -> Result<Board, OpenWhy>
     ensures board { IfOk result (λ b. b ≡ restored.board) }
-    ensures ok { OnOk result (Leads (K.told keeper.old) restored.changes.items (K.told keeper.new)) }
-    ensures err { OnErr result (K.told keeper.new ≡ K.told keeper.old) }
-    ensures why { IfErr result (IsOfKeeper (RoseOrFull (K.fault_count keeper.old) (K.fault_count keeper.new))) }
-    ensures asked { K.commits keeper.new ≡ commits_for restored.changes.items (K.commits keeper.old) }
-    ensures later { K.fault_count keeper.old ≤ K.fault_count keeper.new }
-    ensures sound { K.sound keeper.old → K.sound keeper.new × (K.fault_count keeper.new ≡ K.fault_count keeper.old) × IfErr result IsNoKeeperFault }
+    ensures ok { OnOk result (Leads (K.seen keeper.old).rows restored.changes.items (K.seen keeper.new).rows) }
+    ensures err { OnErr result ((K.seen keeper.new).rows ≡ (K.seen keeper.old).rows) }
+    ensures why { IfErr result (IsOfKeeper (HasFailed (K.seen keeper.old).health (K.seen keeper.new).health)) }
+    ensures asked { (K.seen keeper.new).commits ≡ commits_for restored.changes.items (K.seen keeper.old).commits }
+    ensures on { KeeperGoesOn (K.seen keeper.old) (K.seen keeper.new) }
 {
     let Restored { board, changes } = restored;
     match keep_changes(alloc, keeper, &changes) {
@@ -162,15 +162,15 @@ fn restore<K: Keeper, L: Ledger>(
     keeper: &mut K,
     steps: &mut Steps<L>,
 ) -> Result<Board, OpenWhy>
-    requires loaded { AreLoaded (K.told keeper.old) records.items }
+    requires loaded { AreLoaded (K.seen keeper.old).rows records.items }
     requires desk { AreOfDesk records.items }
     ensures board { IfOk result (λ b. b ≡ board_of tables records.items) }
-    ensures kept { IfOk result (λ b. KeepsState (K.told keeper.new) b.state) }
-    ensures err { OnErr result (K.told keeper.new ≡ K.told keeper.old) }
-    ensures why { IfErr result (IsOfKeeper (RoseOrFull (K.fault_count keeper.old) (K.fault_count keeper.new))) }
-    ensures asked { IfOk result (λ b. K.commits keeper.new ≡ commits_to_open tables records.items (K.commits keeper.old)) }
-    ensures later { K.fault_count keeper.old ≤ K.fault_count keeper.new }
-    ensures sound { K.sound keeper.old → K.sound keeper.new × (K.fault_count keeper.new ≡ K.fault_count keeper.old) × IfErr result IsNoKeeperFault }
+    ensures kept { IfOk result (λ b. KeepsState (K.seen keeper.new).rows b.state) }
+    ensures err { OnErr result ((K.seen keeper.new).rows ≡ (K.seen keeper.old).rows) }
+    ensures why { IfErr result (IsOfKeeper (HasFailed (K.seen keeper.old).health (K.seen keeper.new).health)) }
+    ensures asked { IfOk result (λ b. (K.seen keeper.new).commits ≡ commits_to_open tables records.items
+        (K.seen keeper.old).commits) }
+    ensures on { KeeperGoesOn (K.seen keeper.old) (K.seen keeper.new) }
 {
     let restored = Board::restore(alloc, tables, records, steps)?;
     finish(alloc, keeper, restored)
@@ -183,16 +183,16 @@ fn open_over<K: Keeper, L: Ledger>(
     mut keeper: K,
     steps: &mut Steps<L>,
 ) -> Result<Desk<K>, OpenFault<K>>
-    requires loaded { AreLoaded (K.told keeper) records.items }
+    requires loaded { AreLoaded (K.seen keeper).rows records.items }
     requires desk { AreOfDesk records.items }
     ensures board { IfOk result (λ d. d.board ≡ board_of tables records.items) }
-    ensures kept { IfOk result (λ d. KeepsState (K.told d.keeper) d.board.state) }
-    ensures same { IfErr result (λ f. K.told f.keeper ≡ K.told keeper) }
-    ensures why { IfErr result (λ f. IsOfKeeper (RoseOrFull (K.fault_count keeper) (K.fault_count f.keeper)) f.why) }
-    ensures asked { IfOk result (λ d. K.commits d.keeper ≡ commits_to_open tables records.items (K.commits keeper)) }
-    ensures later { MatchResult result (λ d. K.fault_count keeper ≤ K.fault_count d.keeper) (λ f. K.fault_count keeper ≤ K.fault_count f.keeper) }
-    ensures sound { K.sound keeper → MatchResult result (λ d. K.sound d.keeper × (K.fault_count d.keeper ≡ K.fault_count keeper))
-        (λ f. K.sound f.keeper × (K.fault_count f.keeper ≡ K.fault_count keeper) × IsNoKeeperFault f.why) }
+    ensures kept { IfOk result (λ d. KeepsState (K.seen d.keeper).rows d.board.state) }
+    ensures same { IfErr result (λ f. (K.seen f.keeper).rows ≡ (K.seen keeper).rows) }
+    ensures why { IfErr result (λ f. IsOfKeeper (HasFailed (K.seen keeper).health (K.seen f.keeper).health) f.why) }
+    ensures asked { IfOk result (λ d. (K.seen d.keeper).commits ≡ commits_to_open tables records.items
+        (K.seen keeper).commits) }
+    ensures on { MatchResult result (λ d. KeeperGoesOn (K.seen keeper) (K.seen d.keeper))
+        (λ f. KeeperGoesOn (K.seen keeper) (K.seen f.keeper)) }
 {
     match restore(alloc, tables, records, &mut keeper, steps) {
         Ok(board) => Ok(Desk { board, keeper }),
@@ -207,14 +207,15 @@ fn open_desk<K: Keeper, L: Ledger>(
     mut keeper: K,
     steps: &mut Steps<L>,
 ) -> Result<Desk<K>, OpenFault<K>>
-    ensures opened { IfOk result (λ d. IsOpened (K.told keeper) tables d.board) }
-    ensures kept { IfOk result (λ d. KeepsState (K.told d.keeper) d.board.state) }
-    ensures same { IfErr result (λ f. K.told f.keeper ≡ K.told keeper) }
-    ensures why { IfErr result (λ f. IsWhy (K.told keeper) (RoseOrFull (K.fault_count keeper) (K.fault_count f.keeper)) f.why) }
-    ensures asked { IfOk result (λ d. AreAsked (K.told keeper) tables (K.commits keeper) (K.commits d.keeper)) }
-    ensures later { MatchResult result (λ d. K.fault_count keeper ≤ K.fault_count d.keeper) (λ f. K.fault_count keeper ≤ K.fault_count f.keeper) }
-    ensures sound { K.sound keeper → MatchResult result (λ d. K.sound d.keeper × (K.fault_count d.keeper ≡ K.fault_count keeper))
-        (λ f. K.sound f.keeper × (K.fault_count f.keeper ≡ K.fault_count keeper) × IsNoKeeperFault f.why) }
+    ensures opened { IfOk result (λ d. IsOpened (K.seen keeper).rows tables d.board) }
+    ensures kept { IfOk result (λ d. KeepsState (K.seen d.keeper).rows d.board.state) }
+    ensures same { IfErr result (λ f. (K.seen f.keeper).rows ≡ (K.seen keeper).rows) }
+    ensures why { IfErr result (λ f. IsWhy (K.seen keeper).rows
+        (HasFailed (K.seen keeper).health (K.seen f.keeper).health) f.why) }
+    ensures asked { IfOk result (λ d. AreAsked (K.seen keeper).rows tables (K.seen keeper).commits
+        (K.seen d.keeper).commits) }
+    ensures on { MatchResult result (λ d. KeeperGoesOn (K.seen keeper) (K.seen d.keeper))
+        (λ f. KeeperGoesOn (K.seen keeper) (K.seen f.keeper)) }
 {
     match records_of(alloc, &mut keeper) {
         Ok(records) => open_over(alloc, tables, records, keeper, steps),
@@ -235,18 +236,20 @@ pub fn open<K: Keeper, L: Ledger>(
     keeper: K,
     steps: &mut Steps<L>,
 ) -> Result<Desk<K>, OpenFault<K>>
-    ensures opened { IfOk result (λ d. IsOpened (K.told keeper) tables d.board) }
-    ensures kept { IfOk result (λ d. KeepsState (K.told d.keeper) d.board.state) }
-    ensures same { IfErr result (λ f. K.told f.keeper ≡ K.told keeper) }
-    ensures why { IfErr result (λ f. IsWhy (K.told keeper) (RoseOrFull (K.fault_count keeper) (K.fault_count f.keeper)) f.why) }
+    ensures opened { IfOk result (λ d. IsOpened (K.seen keeper).rows tables d.board) }
+    ensures kept { IfOk result (λ d. KeepsState (K.seen d.keeper).rows d.board.state) }
+    ensures same { IfErr result (λ f. (K.seen f.keeper).rows ≡ (K.seen keeper).rows) }
+    ensures why { IfErr result (λ f. IsWhy (K.seen keeper).rows
+        (HasFailed (K.seen keeper).health (K.seen f.keeper).health) f.why) }
     // A commit is asked for exactly where an alert changed.
-    ensures asked { IfOk result (λ d. AreAsked (K.told keeper) tables (K.commits keeper) (K.commits d.keeper)) }
-    ensures later { MatchResult result (λ d. K.fault_count keeper ≤ K.fault_count d.keeper) (λ f. K.fault_count keeper ≤ K.fault_count f.keeper) }
-    ensures sound { K.sound keeper → MatchResult result (λ d. K.sound d.keeper × (K.fault_count d.keeper ≡ K.fault_count keeper))
-        (λ f. K.sound f.keeper × (K.fault_count f.keeper ≡ K.fault_count keeper) × IsNoKeeperFault f.why) }
+    ensures asked { IfOk result (λ d. AreAsked (K.seen keeper).rows tables (K.seen keeper).commits
+        (K.seen d.keeper).commits) }
+    ensures on { MatchResult result (λ d. KeeperGoesOn (K.seen keeper) (K.seen d.keeper))
+        (λ f. KeeperGoesOn (K.seen keeper) (K.seen f.keeper)) }
     // Over the rows of a desk that was left there is no fault of rows.
-    ensures left { (s : State) → IsLeft s → TellsRowsOf (K.told keeper) s
-        → MatchResult result (λ d. d.board.state ≡ reopened (under tables s)) (λ f. IsOfKeeper (RoseOrFull (K.fault_count keeper) (K.fault_count f.keeper)) f.why) }
+    ensures left { (s : State) → IsLeft s → TellsRowsOf (K.seen keeper).rows s
+        → MatchResult result (λ d. d.board.state ≡ reopened (under tables s))
+        (λ f. IsOfKeeper (HasFailed (K.seen keeper).health (K.seen f.keeper).health) f.why) }
     ensures formed { NamesHaveForms tables → IfOk result (λ d. AreFormed d.board.state) }
 {
     open_desk(alloc, tables, keeper, steps)

@@ -1,10 +1,11 @@
-ghost use Rattle.std.specs.Prelude.{◌≡◌, ◌≤◌, ◌++◌, ◌∷◌, [], IfOk, OnOk};
+ghost use Rattle.std.specs.Prelude.{◌≡◌, ◌++◌, [], IfOk, OnOk};
 ghost use Rattle.std.specs.List.{AllByRecursion};
 ghost use Rattle.desk_state.specs.Texts.{closing};
-ghost use Rattle.kept_forms.specs.Formed.{AreFormed};
-ghost use Rattle.desk.specs.Keeping.{item_with, bad_given, commits_after_item, GivenBetween, AreGiven, KeepsState};
+ghost use Rattle.desk.specs.Keeping.{bad_given, AreGiven};
 ghost use Rattle.desk.specs.Run as spec;
 ghost use Rattle.desk.specs.Run.{texts_of, IsRun};
+ghost use Rattle.desk.specs.Seen.{desk_seen, DeskGoesOn};
+ghost use Rattle.desk.specs.Settled.{AnswersItem};
 ghost use Rattle.desk.specs.Shown.{IsItem, IsShown, CanBeSaid};
 
 use crate::answering::{Answered, answer};
@@ -48,13 +49,10 @@ fn answer_item<K: Keeper, L: Ledger>(
     steps: &mut Steps<L>,
 ) -> Result<Answered, OutOfMemory>
     requires { IsItem item.now }
-    ensures given { IfOk result (λ a. GivenBetween (K.fault_count desk.old.keeper) (K.fault_count desk.new.keeper) (λ c. K.commits desk.new.keeper ≡ commits_after_item c LANE desk.old.board.state item.now (K.commits desk.old.keeper)) (λ c. item_with c LANE desk.old.board.state item.now) desk.new.board.state a.outcome a.ticked a.called) }
+    ensures given { IfOk result
+        (λ a. AnswersItem LANE item.now (desk_seen K.seen desk.old) (desk_seen K.seen desk.new) a) }
     ensures shown { IfOk result (λ a. IsShown a.outcome) }
-    ensures opening { desk.new.board.opening ≡ desk.old.board.opening }
-    ensures rows { KeepsState (K.told desk.old.keeper) desk.old.board.state → KeepsState (K.told desk.new.keeper) desk.new.board.state }
-    ensures later { K.fault_count desk.old.keeper ≤ K.fault_count desk.new.keeper }
-    ensures sound { K.sound desk.old.keeper → K.sound desk.new.keeper × (K.fault_count desk.new.keeper ≡ K.fault_count desk.old.keeper) }
-    ensures formed { AreFormed desk.old.board.state → AreFormed desk.new.board.state }
+    ensures on { DeskGoesOn (desk_seen K.seen desk.old) (desk_seen K.seen desk.new) }
 {
     match item {
         Item::Call { at, call } => answer(alloc, desk, LANE, *at, call, steps),
@@ -77,13 +75,10 @@ fn outcomes_of<K: Keeper, L: Ledger>(
     steps: &mut Steps<L>,
 ) -> Result<Vec<Outcome>, OutOfMemory>
     requires { AllByRecursion IsItem items.now }
-    ensures given { IfOk result (λ v. AreGiven LANE (K.fault_count desk.old.keeper) (K.fault_count desk.new.keeper) desk.old.board.state items.now desk.new.board.state v.items) }
+    ensures given { IfOk result (λ v. AreGiven LANE (K.seen desk.old.keeper).health.faults
+        (K.seen desk.new.keeper).health.faults desk.old.board.state items.now desk.new.board.state v.items) }
     ensures shown { IfOk result (λ v. AllByRecursion IsShown v.items) }
-    ensures opening { desk.new.board.opening ≡ desk.old.board.opening }
-    ensures rows { KeepsState (K.told desk.old.keeper) desk.old.board.state → KeepsState (K.told desk.new.keeper) desk.new.board.state }
-    ensures later { K.fault_count desk.old.keeper ≤ K.fault_count desk.new.keeper }
-    ensures sound { K.sound desk.old.keeper → K.sound desk.new.keeper × (K.fault_count desk.new.keeper ≡ K.fault_count desk.old.keeper) }
-    ensures formed { AreFormed desk.old.board.state → AreFormed desk.new.board.state }
+    ensures on { DeskGoesOn (desk_seen K.seen desk.old) (desk_seen K.seen desk.new) }
 {
     let mut outcomes = Vec::new(alloc);
     for item in items {
@@ -100,13 +95,11 @@ pub(crate) fn run_lane<K: Keeper, L: Ledger>(
     lane: &mut Lane,
     steps: &mut Steps<L>,
 ) -> Result<(), OutOfMemory>
-    ensures given { OnOk result (AreGiven LANE (K.fault_count desk.old.keeper) (K.fault_count desk.new.keeper) desk.old.board.state lane.old.items desk.new.board.state lane.new.outcomes) }
+    ensures given { OnOk result (AreGiven LANE (K.seen desk.old.keeper).health.faults
+        (K.seen desk.new.keeper).health.faults desk.old.board.state lane.old.items desk.new.board.state
+        lane.new.outcomes) }
     ensures items { lane.new.items ≡ lane.old.items }
-    ensures opening { desk.new.board.opening ≡ desk.old.board.opening }
-    ensures rows { KeepsState (K.told desk.old.keeper) desk.old.board.state → KeepsState (K.told desk.new.keeper) desk.new.board.state }
-    ensures later { K.fault_count desk.old.keeper ≤ K.fault_count desk.new.keeper }
-    ensures sound { K.sound desk.old.keeper → K.sound desk.new.keeper × (K.fault_count desk.new.keeper ≡ K.fault_count desk.old.keeper) }
-    ensures formed { AreFormed desk.old.board.state → AreFormed desk.new.board.state }
+    ensures on { DeskGoesOn (desk_seen K.seen desk.old) (desk_seen K.seen desk.new) }
 {
     let outcomes = outcomes_of(alloc, desk, lane.items(), steps)?;
     lane.end(outcomes);
@@ -168,12 +161,9 @@ pub fn text_from<K: Keeper, L: Ledger>(
     script: &[u8],
     steps: &mut Steps<L>,
 ) -> Result<Vec<u8>, OutOfMemory>
-    ensures run { IfOk result (λ v. IsRun (K.fault_count desk.old.keeper) (K.fault_count desk.new.keeper) desk.old.board.state script.now desk.new.board.state v.items) }
-    ensures opening { desk.new.board.opening ≡ desk.old.board.opening }
-    ensures rows { KeepsState (K.told desk.old.keeper) desk.old.board.state → KeepsState (K.told desk.new.keeper) desk.new.board.state }
-    ensures later { K.fault_count desk.old.keeper ≤ K.fault_count desk.new.keeper }
-    ensures sound { K.sound desk.old.keeper → K.sound desk.new.keeper × (K.fault_count desk.new.keeper ≡ K.fault_count desk.old.keeper) }
-    ensures formed { AreFormed desk.old.board.state → AreFormed desk.new.board.state }
+    ensures run { IfOk result (λ v. IsRun (K.seen desk.old.keeper).health.faults
+        (K.seen desk.new.keeper).health.faults desk.old.board.state script.now desk.new.board.state v.items) }
+    ensures on { DeskGoesOn (desk_seen K.seen desk.old) (desk_seen K.seen desk.new) }
 {
     let mut lane = Lane::of(alloc, script)?;
     run_lane(alloc, desk, &mut lane, steps)?;

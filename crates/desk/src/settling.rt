@@ -2,7 +2,9 @@ ghost use Rattle.std.specs.Prelude.{◌≡◌, ◌≤◌, [], None, Some, false,
 ghost use Rattle.asks.specs.Forms.{ReplyHasMoment};
 ghost use Rattle.board.specs.Prepare.{KeepsRows, installed};
 ghost use Rattle.desk_io.specs.Planned.{after};
-ghost use Rattle.desk.specs.Keeping.{asked_if, kept_or, CountedOnce, KeepsState, KeptUnless};
+ghost use Rattle.keeper.specs.Seen.{KeeperGoesOn};
+ghost use Rattle.desk.specs.Keeping.{asked_if, kept_or, CountedOnce, KeptUnless};
+ghost use Rattle.desk.specs.Seen.{desk_seen, StepGoesOn};
 ghost use Rattle.desk.specs.Settled.{stepped_by, IsSettled};
 
 use alerts::Notices;
@@ -46,12 +48,13 @@ fn keep<K: Keeper>(
     keeper: &mut K,
     changes: &[Change],
 ) -> Result<Option<u64>, OutOfMemory>
-    ensures rows { IfOk result (λ fault. KeptUnless fault (K.told keeper.old) changes.now (K.told keeper.new)) }
-    ensures same { OnErr result (K.told keeper.new ≡ K.told keeper.old) }
-    ensures count { IfOk result (λ fault. CountedOnce (K.fault_count keeper.old) fault (K.fault_count keeper.new)) }
-    ensures asked { K.commits keeper.new ≡ after (K.commits keeper.old) }
-    ensures later { K.fault_count keeper.old ≤ K.fault_count keeper.new }
-    ensures sound { K.sound keeper.old → K.sound keeper.new × (K.fault_count keeper.new ≡ K.fault_count keeper.old) }
+    ensures rows { IfOk result (λ fault. KeptUnless fault (K.seen keeper.old).rows changes.now
+        (K.seen keeper.new).rows) }
+    ensures same { OnErr result ((K.seen keeper.new).rows ≡ (K.seen keeper.old).rows) }
+    ensures count { IfOk result (λ fault. CountedOnce (K.seen keeper.old).health.faults fault
+        (K.seen keeper.new).health.faults) }
+    ensures asked { (K.seen keeper.new).commits ≡ after (K.seen keeper.old).commits }
+    ensures on { KeeperGoesOn (K.seen keeper.old) (K.seen keeper.new) }
 {
     let before = keeper.faults();
     match keeper.commit(alloc, changes) {
@@ -114,16 +117,16 @@ pub(crate) fn settle<K: Keeper>(
     requires room { desk.old.board.room ≡ Some prepared }
     requires keeps { KeepsRows desk.old.board.state prepared }
     requires shown { IfSome prepared.reply ReplyHasMoment }
-    ensures settled { IfOk result (λ r. IsSettled r desk.new.board.state (kept_or r.fault desk.old.board.state (stepped_by desk.old.board.state prepared))) }
+    ensures settled { IfOk result (λ r. IsSettled r desk.new.board.state
+        (kept_or r.fault desk.old.board.state (stepped_by desk.old.board.state prepared))) }
     ensures shown { IfOk result (λ r. IfSome r.reply ReplyHasMoment) }
     ensures err { OnErr result (desk.new.board.state ≡ desk.old.board.state) }
-    ensures opening { desk.new.board.opening ≡ desk.old.board.opening }
-    ensures rows { KeepsState (K.told desk.old.keeper) desk.old.board.state → KeepsState (K.told desk.new.keeper) desk.new.board.state }
-    ensures count { IfOk result (λ r. CountedOnce (K.fault_count desk.old.keeper) r.fault (K.fault_count desk.new.keeper)) }
-    ensures later { K.fault_count desk.old.keeper ≤ K.fault_count desk.new.keeper }
-    ensures sound { K.sound desk.old.keeper → K.sound desk.new.keeper × (K.fault_count desk.new.keeper ≡ K.fault_count desk.old.keeper) }
+    ensures on { StepGoesOn (desk_seen K.seen desk.old) (desk_seen K.seen desk.new) }
+    ensures count { IfOk result (λ r. CountedOnce (K.seen desk.old.keeper).health.faults r.fault
+        (K.seen desk.new.keeper).health.faults) }
     ensures told { IfOk result (λ r. IfSome r.fault (λ n. r.reply ≡ Some (Reply.Refused (Refusal.Unkept n)))) }
-    ensures asked { K.commits desk.new.keeper ≡ asked_if (is_some prepared.event) (K.commits desk.old.keeper) }
+    ensures asked { (K.seen desk.new.keeper).commits ≡ asked_if (is_some prepared.event)
+        (K.seen desk.old.keeper).commits }
     // What changes nothing isn't kept.
     ensures still { is_some prepared.event ≡ false → desk.new.keeper ≡ desk.old.keeper }
 {

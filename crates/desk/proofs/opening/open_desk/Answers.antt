@@ -3,4 +3,4 @@ use Rattle.desk.proofs.opening.open_desk.Goals as goal
 
 pub returns-in-Ok-clause-asked : goal.returns-in-Ok-clause-asked
 returns-in-Ok-clause-asked g c =
-    opened_asks (λ d. g.K.Keeper.commits d.keeper) c.open_over.result _ _ _ _ _ c.in-Ok.ensures.loaded c.in-Ok.ensures.none c.open_over.ensures.asked
+    opened_asks (λ d. (g.K.Keeper.seen d.keeper).commits) c.open_over.result _ _ _ _ _ c.in-Ok.ensures.loaded c.in-Ok.ensures.none c.open_over.ensures.asked

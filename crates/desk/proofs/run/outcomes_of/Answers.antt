@@ -1,6 +1,7 @@
 use Rattle.std.proofs.Common.{◌∙◌, arith, subst}
 use Rattle.std.specs.List.{AllByRecursion}
 use Rattle.desk.specs.Shown.{IsItem}
+use Rattle.desk.proofs.SeenLaws.{desk_on}
 use Rattle.desk.proofs.Choices.{given_next, shown_next, item_left, none_left, all_given}
 use Rattle.desk.proofs.run.outcomes_of.Goals as goal
 
@@ -21,11 +22,7 @@ loop-item-preserved g c =
       given = next;
       left = (subst (AllByRecursion IsItem) left inv.left).1;
       shown = shown_next _ _ _ _ c.in_ok-push.ensures.items c.outcome_of.ensures inv.shown is.shown;
-      formed = λ old. is.formed (inv.formed old);
-      opening = is.opening ∙ inv.opening;
-      rows = λ kept. is.rows (inv.rows kept);
-      later = omega (arith, is.later, inv.later);
-      sound = λ sound. let before = inv.sound sound in let after = is.sound before.0 in (after.0, after.1 ∙ before.1);
+      on = desk_on _ _ _ inv.on is.on;
     }
 
 pub returns-clause-given : goal.returns-clause-given
