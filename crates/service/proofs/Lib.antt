@@ -1,4 +1,3 @@
-pub mod Onward
 pub mod Lines
 pub mod Answered
 pub mod Endings

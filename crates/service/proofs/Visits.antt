@@ -4,8 +4,12 @@ use Rattle.std.specs.Prelude.{if◌then◌else◌}
 use Rattle.std.specs.List.{AllByRecursion, list_any}
 use Rattle.std.proofs.lemmas.List.{map-append}
 use Rattle.std.proofs.lemmas.List.Elements.{filter-append}
+use Rattle.desk.specs.Seen.{DeskAt}
+use Rattle.desk_io.specs.Health.{HasFailed, RoseOrFull}
+use Rattle.desk_io.specs.Over.{Over}
 use Rattle.desk_net.specs.Doors.{Links, Accepts, TakesBack, HasNext}
-use Rattle.desk_net.specs.Streams.{Stream, unread}
+use Rattle.desk_net.specs.Seen.{ClockSeen, DoorSeen, LinkSeen}
+use Rattle.desk_net.specs.Streams.{unread}
 use Rattle.desk_state.specs.State.{State}
 use Rattle.service.specs.Connections.{AreRequests, GoesOn, IsConnection, OnBoth}
 use Rattle.service.specs.Doors.{Visit, IsVisit, AreVisits, AreTaken, AreAtPort, HasLinks, came_of, back_of, HadMemory, IsWell, is_clock_fault, ended_by_clock, AreFewer, EndsServing, IsServing, counts_as, met_after, end_of, end_at_door}
@@ -28,21 +32,21 @@ nothing_yet lane moments less before s bytes under =
     record { xs = []; requests = same_bytes bytes; timed = tt; going = tt; counted = under; says = refl; state = refl }
 
 -- a visit, counted from before
-visit_from : {L : Type 0} (told : L → Option Stream) (fails : L → L → Type 0) (lane : ℕ) (moments : Option (List ℕ)) (failed clock : Type 0) (less before after : ℕ) (s : State) (v : Visit L) (t : State)
-    → less ≤ before → (failed → clock) → IsVisit told fails lane moments failed before after s v t → IsVisit told fails lane moments clock less after s v t
-visit_from told fails lane moments failed clock less before after s v t under of_clock is =
-    wrote_as (told v.came) (told v.went) _ _
-    (λ piece one. joined lane moments _ failed _ clock less before after s s t (unread (told v.came)) (unread (told v.came)) v.served [] piece (λ rose. rose) of_clock
-    (nothing_yet lane moments less before s (unread (told v.came)) under) one) is
+visit_from : {L : Type 0} (link : L → LinkSeen) (lane : ℕ) (moments : Option (List ℕ)) (failed clock : Type 0) (less before after : ℕ) (s : State) (v : Visit L) (t : State)
+    → less ≤ before → (failed → clock) → IsVisit link lane moments failed before after s v t → IsVisit link lane moments clock less after s v t
+visit_from link lane moments failed clock less before after s v t under of_clock is =
+    wrote_as (link v.came).stream (link v.went).stream _ _
+    (λ piece one. joined lane moments _ failed _ clock less before after s s t (unread (link v.came).stream) (unread (link v.came).stream) v.served [] piece (λ rose. rose) of_clock
+    (nothing_yet lane moments less before s (unread (link v.came).stream) under) one) is
 
-pub visits_from : {L : Type 0} (told : L → Option Stream) (fails : L → L → Type 0) (lane : ℕ) (moments : Option (List ℕ)) (failed clock : Type 0) (less before after : ℕ) (s : State) (vs : List (Visit L)) (t : State)
-    → less ≤ before → (failed → clock) → AreVisits told fails lane moments failed before after s vs t → AreVisits told fails lane moments clock less after s vs t
-visits_from told fails lane moments failed clock less before after s [] t under of_clock are = let more = are.0 in (omega (arith, under, more), are.1)
-visits_from told fails lane moments failed clock less before after s (v ∷ vs) t under of_clock (middle, u, one, rest) = (
+pub visits_from : {L : Type 0} (link : L → LinkSeen) (lane : ℕ) (moments : Option (List ℕ)) (failed clock : Type 0) (less before after : ℕ) (s : State) (vs : List (Visit L)) (t : State)
+    → less ≤ before → (failed → clock) → AreVisits link lane moments failed before after s vs t → AreVisits link lane moments clock less after s vs t
+visits_from link lane moments failed clock less before after s [] t under of_clock are = let more = are.0 in (omega (arith, under, more), are.1)
+visits_from link lane moments failed clock less before after s (v ∷ vs) t under of_clock (middle, u, one, rest) = (
   middle,
   u,
-  visit_from told fails lane moments failed clock less before middle s v u under of_clock one,
-  visits_from told fails (lane + 1) moments failed clock middle middle after u vs t (omega arith) of_clock rest,
+  visit_from link lane moments failed clock less before middle s v u under of_clock one,
+  visits_from link (lane + 1) moments failed clock middle middle after u vs t (omega arith) of_clock rest,
 )
 
 -- ---- one more
@@ -53,16 +57,16 @@ same_lane lane = omega arith
 next_lane : (lane n : ℕ) → lane + suc n ≡ (lane + 1) + n
 next_lane lane n = omega arith
 
-pub visits_on : {L : Type 0} (told : L → Option Stream) (fails : L → L → Type 0) (lane : ℕ) (moments : Option (List ℕ)) (clock : Type 0) (before middle after : ℕ) (s : State) (vs : List (Visit L)) (u : State) (v : Visit L) (t : State)
-    → AreVisits told fails lane moments clock before middle s vs u → IsVisit told fails (lane + length vs) moments clock middle after u v t → AreVisits told fails lane moments clock before after s (vs ++ v ∷ []) t
-visits_on told fails lane moments clock before middle after s [] u v t are is =
-    (after, t, visit_from told fails lane moments clock clock before middle after s v t are.0 (λ rose. rose) (subst (λ (x : State). IsVisit told fails lane moments clock middle after x v t) are.1 (subst (λ l. IsVisit told fails l moments clock middle after u v t) (same_lane lane) is)), (omega arith, refl))
-visits_on told fails lane moments clock before middle after s (w ∷ ws) u v t (first, x, one, rest) is = (
+pub visits_on : {L : Type 0} (link : L → LinkSeen) (lane : ℕ) (moments : Option (List ℕ)) (clock : Type 0) (before middle after : ℕ) (s : State) (vs : List (Visit L)) (u : State) (v : Visit L) (t : State)
+    → AreVisits link lane moments clock before middle s vs u → IsVisit link (lane + length vs) moments clock middle after u v t → AreVisits link lane moments clock before after s (vs ++ v ∷ []) t
+visits_on link lane moments clock before middle after s [] u v t are is =
+    (after, t, visit_from link lane moments clock clock before middle after s v t are.0 (λ rose. rose) (subst (λ (x : State). IsVisit link lane moments clock middle after x v t) are.1 (subst (λ l. IsVisit link l moments clock middle after u v t) (same_lane lane) is)), (omega arith, refl))
+visits_on link lane moments clock before middle after s (w ∷ ws) u v t (first, x, one, rest) is = (
   first,
   x,
   one,
-  visits_on told fails (lane + 1) moments clock first middle after x ws u v t rest
-      (subst (λ l. IsVisit told fails l moments clock middle after u v t) (next_lane lane (length ws)) is),
+  visits_on link (lane + 1) moments clock first middle after x ws u v t rest
+      (subst (λ l. IsVisit link l moments clock middle after u v t) (next_lane lane (length ws)) is),
 )
 
 all_on : {L : Type 0} (P : Visit L → Type 0) (vs : List (Visit L)) (v : Visit L) → AllByRecursion P vs → P v → AllByRecursion P (vs ++ v ∷ [])
@@ -158,16 +162,16 @@ not_by_link lane moments link clock before after s bytes how t text one never = 
   λ is. never (subst (λ (h : Served). IsConnection lane moments link clock before after s bytes h t text) is one).ends.0,
 )
 
-pub visit_clock : {L : Type 0} (told : L → Option Stream) (fails : L → L → Type 0) (lane : ℕ) (moments : Option (List ℕ)) (clock : Type 0) (before after : ℕ) (s : State) (v : Visit L) (t : State)
-    → IsVisit told fails lane moments clock before after s v t → v.served ≡ served.ClockFault → clock
-visit_clock told fails lane moments clock before after s v t is how = ends_clock lane moments _ clock before after s (unread (told v.came)) v.served t is.0 how is.2
+pub visit_clock : {L : Type 0} (link : L → LinkSeen) (lane : ℕ) (moments : Option (List ℕ)) (clock : Type 0) (before after : ℕ) (s : State) (v : Visit L) (t : State)
+    → IsVisit link lane moments clock before after s v t → v.served ≡ served.ClockFault → clock
+visit_clock link lane moments clock before after s v t is how = ends_clock lane moments _ clock before after s (unread (link v.came).stream) v.served t is.0 how is.2
 
 -- ---- what connections have met
 
 -- so many connections were served, and this was met
-pub record HasServed {L : Type 0} (told : L → Option Stream) (fails : L → L → Type 0) (old new : Option (Links L)) (moments : Option (List ℕ)) (clock : Type 0) (done : ℕ) (met : Met) (before after : ℕ) (s t : State) : Type 0 where
+pub record HasServed {L : Type 0} (link : L → LinkSeen) (old new : Option (Links L)) (moments : Option (List ℕ)) (clock : Type 0) (done : ℕ) (met : Met) (before after : ℕ) (s t : State) : Type 0 where
   pub vs : List (Visit L)
-  pub are : AreVisits told fails 1 moments clock before after s vs t
+  pub are : AreVisits link 1 moments clock before after s vs t
   pub taken : AreTaken old new vs
   pub many : length vs ≡ done
   pub had : met.memory ≡ false → AllByRecursion HadMemory vs
@@ -175,9 +179,9 @@ pub record HasServed {L : Type 0} (told : L → Option Stream) (fails : L → L 
   pub fault : met.clock ≡ true → clock
   pub some : met.clock ≡ true → list_any ended_by_clock vs ≡ true
 
-pub served_none : {L : Type 0} (told : L → Option Stream) (fails : L → L → Type 0) (old new : Option (Links L)) (moments : Option (List ℕ)) (clock : Type 0) (faults : ℕ) (s : State) → new ≡ old
-    → HasServed told fails old new moments clock 0 (record { memory = false; clock = false }) faults faults s s
-served_none told fails old new moments clock faults s same =
+pub served_none : {L : Type 0} (link : L → LinkSeen) (old new : Option (Links L)) (moments : Option (List ℕ)) (clock : Type 0) (faults : ℕ) (s : State) → new ≡ old
+    → HasServed link old new moments clock 0 (record { memory = false; clock = false }) faults faults s s
+served_none link old new moments clock faults s same =
     record { vs = []; are = (omega arith, refl); taken = taken_none old new same; many = refl; had = λ none. tt; well = λ none fine. tt; fault = λ e. absurd (cc); some = λ e. absurd (cc) }
 
 abbrev is_memory : Served → Bool
@@ -232,18 +236,18 @@ adds : {L : Type 0} (met : Met) (v : Visit L) (how : Served) → how ≡ counts_
 adds met v how is = subst (λ (h : Served). Adds met v (met_after met h)) (sym is) (adds_by met v v.back v.served refl refl)
 
 -- one connection more
-pub served_next : {L : Type 0} (told : L → Option Stream) (fails : L → L → Type 0) (old mid new : Option (Links L)) (moments there : Option (List ℕ)) (rose failed clock : Type 0) (done : ℕ) (met next : Met) (how : Served)
-    (before middle after : ℕ) (s u t : State) (v : Visit L) → there ≡ moments → (rose → clock) → (failed → clock) → HasServed told fails old mid moments rose done met before middle s u
-    → IsVisit told fails (done + 1) there failed middle after u v t → AreTaken mid new (v ∷ []) → how ≡ counts_as v → next ≡ met_after met how → HasServed told fails old new moments clock (done + 1) next before after s t
-served_next told fails old mid new moments there rose failed clock done met next how before middle after s u t v same of_rose of_failed has is taken counts met_is =
+pub served_next : {L : Type 0} (link : L → LinkSeen) (old mid new : Option (Links L)) (moments there : Option (List ℕ)) (rose failed clock : Type 0) (done : ℕ) (met next : Met) (how : Served)
+    (before middle after : ℕ) (s u t : State) (v : Visit L) → there ≡ moments → (rose → clock) → (failed → clock) → HasServed link old mid moments rose done met before middle s u
+    → IsVisit link (done + 1) there failed middle after u v t → AreTaken mid new (v ∷ []) → how ≡ counts_as v → next ≡ met_after met how → HasServed link old new moments clock (done + 1) next before after s t
+served_next link old mid new moments there rose failed clock done met next how before middle after s u t v same of_rose of_failed has is taken counts met_is =
     let many = has.many in
     let one : Adds met v next = subst (λ (m : Met). Adds met v m) (sym met_is) (adds met v how counts) in
-    let here : IsVisit told fails (1 + length has.vs) moments failed middle after u v t =
-    subst (λ l. IsVisit told fails l moments failed middle after u v t) (omega (arith, many)) (subst (λ ms. IsVisit told fails (done + 1) ms failed middle after u v t) same is) in
+    let here : IsVisit link (1 + length has.vs) moments failed middle after u v t =
+    subst (λ l. IsVisit link l moments failed middle after u v t) (omega (arith, many)) (subst (λ ms. IsVisit link (done + 1) ms failed middle after u v t) same is) in
     record {
       vs = has.vs ++ v ∷ [];
-      are = visits_on told fails 1 moments clock before middle after s has.vs u v t (visits_from told fails 1 moments rose clock before before middle s has.vs u (omega arith) of_rose has.are)
-          (visit_from told fails (1 + length has.vs) moments failed clock middle middle after u v t (omega arith) of_failed here);
+      are = visits_on link 1 moments clock before middle after s has.vs u v t (visits_from link 1 moments rose clock before before middle s has.vs u (omega arith) of_rose has.are)
+          (visit_from link (1 + length has.vs) moments failed clock middle middle after u v t (omega arith) of_failed here);
       taken = taken_on old mid new has.vs (v ∷ []) has.taken taken;
       many = length_on has.vs v ∙ ap (λ n. n + 1) many;
       had = λ none. let more = one.had none in all_on HadMemory has.vs v (has.had more.0) more.1;
@@ -254,7 +258,7 @@ served_next told fails old mid new moments there rose failed clock done met next
   where
     by : (met.clock ≡ true) ⊎ (v.served ≡ served.ClockFault) → clock
     by (inl before_it) = of_rose (has.fault before_it)
-    by (inr now) = of_failed (visit_clock told fails (done + 1) there failed middle after u v t is now)
+    by (inr now) = of_failed (visit_clock link (done + 1) there failed middle after u v t is now)
 
     some_by : (met.clock ≡ true) ⊎ (v.served ≡ served.ClockFault) → list_any ended_by_clock (has.vs ++ v ∷ []) ≡ true
     some_by (inl before_it) = some_first has.vs v (has.some before_it)
@@ -275,18 +279,26 @@ at_port : {L : Type 0} (opened_at : Option ℕ) (port : ℕ) (vs : List (Visit L
 at_port opened_at port [] is = tt
 at_port opened_at port (v ∷ vs) is = is
 
-pub served_to_fault : {L : Type 0} (told : L → Option Stream) (fails : L → L → Type 0) (old mid new : Option (Links L)) (opened_at : Option ℕ) (moments : Option (List ℕ)) (door rose clock : Type 0) (port done most : ℕ) (met : Met) (end : ServeEnd)
-    (before middle after : ℕ) (s u t : State) → end ≡ end_at_door met → done < most → opened_at ≡ Some port → door → (rose → clock) → new ≡ mid → after ≡ middle → t ≡ u → HasServed told fails old mid moments rose done met before middle s u
-    → IsServing told fails old new opened_at moments door clock port most end before after s t
-served_to_fault {L} told fails old mid new opened_at moments door rose clock port done most met end before middle after s u t how within opened failing of_rose same counts is has =
+-- the next link didn't come
+pub served_to_fault : {L : Type 0} (link : L → LinkSeen) (mid : Option (Links L)) (rose : Type 0) (door : Over (DoorSeen L)) (clock : Over ClockSeen) (desk : Over DeskAt) (port done most : ℕ) (met : Met) (end : ServeEnd)
+    (middle : ℕ) (u : State) → end ≡ end_at_door met → done < most → door.after.opened_at ≡ Some port → RoseOrFull door.before.health.faults door.after.health.faults → (rose → HasFailed clock.before.health clock.after.health)
+    → door.after.links ≡ mid → desk.after.faults ≡ middle → desk.after.state ≡ u → HasServed link door.before.links mid clock.before.moments rose done met desk.before.faults middle desk.before.state u
+    → IsServing link door clock desk port most end
+served_to_fault {L} link mid rose door clock desk port done most met end middle u how within opened failing of_rose same counts is has =
     let many = has.many in
-    let are : AreVisits told fails 1 moments clock before middle s has.vs u = visits_from told fails 1 moments rose clock before before middle s has.vs u (omega arith) of_rose has.are in (
-      has.vs,
-      subst (λ n. AreVisits told fails 1 moments clock before n s has.vs t) (sym counts) (subst (λ (x : State). AreVisits told fails 1 moments clock before middle s has.vs x) (sym is) are),
-      subst (λ (d : Option (Links L)). AreTaken old d has.vs) (sym same) has.taken,
-      at_port opened_at port has.vs opened,
-      subst (EndsServing door clock most has.vs) (sym how) (door_ends door clock most has.vs met.memory failing has.had (fewer has.vs done most many within)),
-    )
+    let moments = clock.before.moments in
+    let failed = HasFailed clock.before.health clock.after.health in
+    let low = desk.before.faults in
+    let s = desk.before.state in
+    let are : AreVisits link 1 moments failed low middle s has.vs u = visits_from link 1 moments rose failed low low middle s has.vs u (omega arith) of_rose has.are in
+    record {
+      visits = has.vs;
+      are = subst (λ n. AreVisits link 1 moments failed low n s has.vs desk.after.state) (sym counts) (subst (λ (x : State). AreVisits link 1 moments failed low middle s has.vs x) (sym is) are);
+      taken = subst (λ (d : Option (Links L)). AreTaken door.before.links d has.vs) (sym same) has.taken;
+      came_at = at_port door.after.opened_at port has.vs opened;
+      ends = subst (EndsServing (RoseOrFull door.before.health.faults door.after.health.faults) failed most has.vs) (sym how)
+          (door_ends (RoseOrFull door.before.health.faults door.after.health.faults) failed most has.vs met.memory failing has.had (fewer has.vs done most many within));
+    }
 
 all_end : {L : Type 0} (door failed clock : Type 0) (most : ℕ) (vs : List (Visit L)) (memory late : Bool) → (failed → clock) → (late ≡ true → failed) → (memory ≡ false → AllByRecursion HadMemory vs)
     → (memory ≡ false → late ≡ false → AllByRecursion IsWell vs) → (late ≡ true → list_any ended_by_clock vs ≡ true) → length vs ≡ most → EndsServing door clock most vs (if memory then ends.OutOfMemory else (if late then ends.ClockFault else ends.Done))
@@ -295,17 +307,22 @@ all_end door failed clock most vs false true of_clock fault had well some many =
 all_end door failed clock most vs false false of_clock fault had well some many = (many, well refl refl)
 
 -- as many connections were served as stated
-pub served_to_end : {L : Type 0} (told : L → Option Stream) (fails : L → L → Type 0) (old new : Option (Links L)) (opened_at : Option ℕ) (moments : Option (List ℕ)) (door failed clock : Type 0) (port done most : ℕ) (met : Met) (end : ServeEnd)
-    (before after : ℕ) (s t : State) → end ≡ end_of met → done ≤ most → most ≤ done → opened_at ≡ Some port → (failed → clock) → HasServed told fails old new moments failed done met before after s t
-    → IsServing told fails old new opened_at moments door clock port most end before after s t
-served_to_end told fails old new opened_at moments door failed clock port done most met end before after s t how within all opened of_clock has =
-    let many = has.many in (
-      has.vs,
-      visits_from told fails 1 moments failed clock before before after s has.vs t (omega arith) of_clock has.are,
-      has.taken,
-      at_port opened_at port has.vs opened,
-      subst (EndsServing door clock most has.vs) (sym how) (all_end door failed clock most has.vs met.memory met.clock of_clock has.fault has.had has.well has.some (omega (arith, many, within, all))),
-    )
+pub served_to_end : {L : Type 0} (link : L → LinkSeen) (door : Over (DoorSeen L)) (clock : Over ClockSeen) (desk : Over DeskAt) (port done most : ℕ) (met : Met) (end : ServeEnd) → end ≡ end_of met → done ≤ most → most ≤ done
+    → door.after.opened_at ≡ Some port
+    → HasServed link door.before.links door.after.links clock.before.moments (HasFailed clock.before.health clock.after.health) done met desk.before.faults desk.after.faults desk.before.state desk.after.state
+    → IsServing link door clock desk port most end
+served_to_end link door clock desk port done most met end how within all opened has =
+    let many = has.many in
+    let rose = RoseOrFull door.before.health.faults door.after.health.faults in
+    let failed = HasFailed clock.before.health clock.after.health in
+    record {
+      visits = has.vs;
+      are = has.are;
+      taken = has.taken;
+      came_at = at_port door.after.opened_at port has.vs opened;
+      ends = subst (EndsServing rose failed most has.vs) (sym how)
+          (all_end rose failed failed most has.vs met.memory met.clock (λ late. late) has.fault has.had has.well has.some (omega (arith, many, within, all)));
+    }
 
 -- ---- where the clock has not failed
 
@@ -364,7 +381,15 @@ next_comes (Some old) None vs done most taken many few links = absurd taken
 
 -- ---- the same, counted from before
 
-pub serving_from : {L : Type 0} (told : L → Option Stream) (fails : L → L → Type 0) (old new : Option (Links L)) (opened_at : Option ℕ) (moments : Option (List ℕ)) (door clock : Type 0) (port most : ℕ) (end : ServeEnd) (less before after : ℕ) (s t : State)
-    → less ≤ before → IsServing told fails old new opened_at moments door clock port most end before after s t → IsServing told fails old new opened_at moments door clock port most end less after s t
-serving_from told fails old new opened_at moments door clock port most end less before after s t under (vs, are, taken, at, ends) =
-    (vs, visits_from told fails 1 moments clock clock less before after s vs t under (λ rose. rose) are, taken, at, ends)
+pub serving_from : {L : Type 0} (link : L → LinkSeen) (door : Over (DoorSeen L)) (clock : Over ClockSeen) (desk : Over DeskAt) (port most : ℕ) (end : ServeEnd) (less : ℕ) → less ≤ desk.before.faults
+    → IsServing link door clock desk port most end
+    → IsServing link door clock (record desk { before = record desk.before { faults = less } }) port most end
+serving_from link door clock desk port most end less under is =
+    let failed = HasFailed clock.before.health clock.after.health in
+    record {
+      visits = is.visits;
+      are = visits_from link 1 clock.before.moments failed failed less desk.before.faults desk.after.faults desk.before.state is.visits desk.after.state under (λ rose. rose) is.are;
+      taken = is.taken;
+      came_at = is.came_at;
+      ends = is.ends;
+    }

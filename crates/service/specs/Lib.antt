@@ -1,7 +1,6 @@
 pub mod Statuses
 pub mod Requested
 pub mod Forms
-pub mod Onward
 pub mod Exchanges
 pub mod Steps
 pub mod Connections

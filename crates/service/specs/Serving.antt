@@ -1,11 +1,16 @@
 -- What one request adds to a connection.
 use Rattle.std.specs.Prelude.{◌≡◌, ◌⊎◌, ℕ, Bool, true, false, List, [], Option, None, Some}
+use Rattle.desk.specs.Seen.{DeskAt}
+use Rattle.desk_http.specs.Requests.{unused}
 use Rattle.desk_http.specs.declared.wire.Wire.{Wire}
 use Rattle.desk_http.specs.declared.wire.WireFault.{WireFault}
 use Rattle.desk_http.specs.declared.wire.WireFault.TheVariants as fault
-use Rattle.desk_net.specs.Streams.{Stream}
+use Rattle.desk_io.specs.Health.{HasFailed}
+use Rattle.desk_io.specs.Over.{Over}
+use Rattle.desk_net.specs.Seen.{ClockSeen, LinkSeen}
+use Rattle.desk_net.specs.Streams.{Stream, unread}
 use Rattle.desk_state.specs.State.{State}
-use Rattle.service.specs.Connections.{Gains, IsFrontOf, IsWritten, bad_head_answer, too_large_answer, no_length_answer, wrong_method_answer, clock_fault_answer, out_of_memory_answer}
+use Rattle.service.specs.Connections.{Gains, IsConnection, IsFrontOf, IsStep, IsWritten, bad_head_answer, too_large_answer, no_length_answer, wrong_method_answer, clock_fault_answer, out_of_memory_answer}
 use Rattle.service.specs.Exchanges.{bytes_of}
 use Rattle.service.specs.Requested.{requested_by}
 use Rattle.service.specs.Steps.{IsAnswered, MakesCall, MayHaveStepped}
@@ -47,3 +52,28 @@ ServesRequest lane moments link clock before after s wire t result piece =
     ((r : Response) × IsAnswered lane moments before after s (requested_by wire) t r × WritesAll link (bytes_of r) wire.last result piece)
     ⊎ (((result ≡ Some served.ClockFault) × clock × MakesCall (requested_by wire) × (t ≡ s) × (IsWritten link clock_fault_answer piece ⊎ (piece ≡ [])))
     ⊎ ((result ≡ Some served.OutOfMemory) × MayHaveStepped lane moments before after s (requested_by wire) t × EndsAs link served.OutOfMemory out_of_memory_answer served.OutOfMemory piece))
+
+-- ---- over what is seen of a link, of the clock and of the desk
+
+-- a link gained bytes that have the property, which may say that the link has failed
+abbrev pub WroteTo : Over LinkSeen → (Type 0 → List ℕ → Type 0) → Type 0
+WroteTo link P = Wrote link.before.stream link.after.stream (P (HasFailed link.before.health link.after.health))
+
+-- what comes of a request
+abbrev pub Serves : ℕ → Over LinkSeen → Over ClockSeen → Over DeskAt → Wire → Option Served → Type 0
+Serves lane link clock desk wire result =
+    WroteTo link (λ failed. ServesRequest lane clock.before.moments failed (HasFailed clock.before.health clock.after.health) desk.before.faults desk.after.faults desk.before.state wire desk.after.state result)
+
+-- what comes of the bytes that a buffer holds and of those that are unread: one step of a connection, and the bytes that are left
+abbrev pub ServesStep : ℕ → Over LinkSeen → Over ClockSeen → Over DeskAt → List ℕ → List ℕ → Option Served → Type 0
+ServesStep lane link clock desk kept left result =
+    WroteTo link
+    (λ failed piece. IsStep lane clock.before.moments failed (HasFailed clock.before.health clock.after.health) desk.before.faults desk.after.faults desk.before.state
+    (unused kept (unread link.before.stream)) (unused left (unread link.after.stream)) desk.after.state piece result)
+
+-- a whole connection
+abbrev pub ServesLink : ℕ → Over LinkSeen → Over ClockSeen → Over DeskAt → Served → Type 0
+ServesLink lane link clock desk result =
+    WroteTo link
+    (λ failed. IsConnection lane clock.before.moments failed (HasFailed clock.before.health clock.after.health) desk.before.faults desk.after.faults desk.before.state
+    (unread link.before.stream) result desk.after.state)

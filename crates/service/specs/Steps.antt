@@ -1,8 +1,12 @@
 -- What one request comes to, and why it may have no response.
 use Rattle.std.specs.Prelude.{◌≡◌, ◌⊎◌, ℕ, List, [], ◌∷◌, Option, Result, MatchResult}
 use Rattle.desk.specs.Keeping.{Choice, Counted}
+use Rattle.desk.specs.Seen.{DeskAt}
 use Rattle.desk.specs.Settled.{MayHaveTicked}
+use Rattle.desk_io.specs.Health.{HasFailed}
+use Rattle.desk_io.specs.Over.{Over}
 use Rattle.desk_net.specs.Clocks.{IsMoment, IsAmong}
+use Rattle.desk_net.specs.Seen.{ClockSeen}
 use Rattle.desk_state.specs.State.{State}
 use Rattle.service.specs.Exchanges.{exchanged, bytes_of}
 use Rattle.service.specs.declared.exchange.NoAnswer.{NoAnswer}
@@ -57,3 +61,13 @@ AnswersTo lane moments clock before after s asked t result =
 abbrev pub TextAnswersTo : ℕ → Option (List ℕ) → Type 0 → ℕ → ℕ → State → Requested → State → Result (List ℕ) NoAnswer → Type 0
 TextAnswersTo lane moments clock before after s asked t result =
     MatchResult result (λ text. (r : Response) × IsAnswered lane moments before after s asked t r × (text ≡ bytes_of r)) (IsUnanswered lane moments clock before after s asked t)
+
+-- ---- over what is seen of the clock and of the desk
+
+abbrev pub Answers : ℕ → Over ClockSeen → Over DeskAt → Requested → Result Response NoAnswer → Type 0
+Answers lane clock desk asked result =
+    AnswersTo lane clock.before.moments (HasFailed clock.before.health clock.after.health) desk.before.faults desk.after.faults desk.before.state asked desk.after.state result
+
+abbrev pub AnswersText : ℕ → Over ClockSeen → Over DeskAt → Requested → Result (List ℕ) NoAnswer → Type 0
+AnswersText lane clock desk asked result =
+    TextAnswersTo lane clock.before.moments (HasFailed clock.before.health clock.after.health) desk.before.faults desk.after.faults desk.before.state asked desk.after.state result

@@ -1,11 +1,13 @@
-ghost use Rattle.std.specs.Prelude.{◌≡◌, ◌≢◌, ◌≤◌, ◌∷◌, [], Ok, IfOk, IfErr, IsOk};
-ghost use Rattle.desk_io.specs.Causes.{RoseOrFull};
+ghost use Rattle.std.specs.Prelude.{◌≡◌, ◌≢◌, ◌≤◌, Ok, IfOk, IfErr, IsOk};
+ghost use Rattle.desk.specs.Seen.{desk_at, desk_seen, DeskGoesOn};
+ghost use Rattle.desk_io.specs.Health.{IsSound, IsStill};
+ghost use Rattle.desk_io.specs.Over.{over};
 ghost use Rattle.desk_net.specs.Doors.{HasNext};
+ghost use Rattle.desk_net.specs.Seen.{ClockGoesOn};
 ghost use Rattle.service.specs.Doors as spec;
-ghost use Rattle.service.specs.Doors.{AreTaken, HasLinks, IsServing, IsVisit, Visit};
-ghost use Rattle.service.specs.Onward.{DeskGoesOn, ClockGoesOn, HasFailed};
+ghost use Rattle.service.specs.Doors.{HasLinks, IsServing, NoneCame, Visits};
 ghost use Rattle.service.specs.declared.doors.ServeEnd.TheVariants as ends;
-ghost use Rattle.service.specs.declared.serving.Served.TheVariants as seen;
+ghost use Rattle.service.specs.declared.serving.Served.TheVariants as ended;
 
 use crate::serving::{Served, serve_link};
 use desk::Desk;
@@ -89,16 +91,18 @@ fn serve_next_link<R: Wait, K: Keeper, C: Clock, D: Door, L: Ledger>(
     clock: &mut C,
     steps: &mut Steps<L>,
 ) -> Result<Served, Failed>
-    ensures visit { IfOk result (λ served. (v : Visit D.Link) × IsVisit D.Link.told (HasFailed D.Link.fault_count D.Link.sound) lane (C.moments clock.old) (HasFailed C.fault_count C.sound clock.old clock.new) (K.fault_count desk.old.keeper) (K.fault_count desk.new.keeper) desk.old.board.state v desk.new.board.state
-        × AreTaken (D.told door.old) (D.told door.new) (v ∷ []) × (served ≡ spec.counts_as v)) }
-    ensures none { IfErr result (λ _. RoseOrFull (D.fault_count door.old) (D.fault_count door.new) × (D.told door.new ≡ D.told door.old) × (desk.new.board.state ≡ desk.old.board.state)
-        × (K.fault_count desk.new.keeper ≡ K.fault_count desk.old.keeper)) }
-    ensures desk { DeskGoesOn K.told K.fault_count K.sound desk.old desk.new }
-    ensures clock { ClockGoesOn C.moments C.fault_count C.sound clock.old clock.new }
-    ensures still { result ≢ Ok seen.ClockFault → result ≢ Ok seen.OutOfMemory → C.fault_count clock.new ≡ C.fault_count clock.old }
-    ensures door { D.fault_count door.old ≤ D.fault_count door.new }
-    ensures port { D.opened_at door.new ≡ D.opened_at door.old }
-    ensures steady_door { D.sound door.old → D.sound door.new × (HasNext (D.told door.old) → IsOk result) }
+    ensures visit { IfOk result (λ served. Visits D.Link.seen lane (over D.seen door.old door.new)
+        (over C.seen clock.old clock.new) (over (desk_at K.seen) desk.old desk.new) served) }
+    ensures none { IfErr result (λ _. NoneCame (over D.seen door.old door.new)
+        (over (desk_at K.seen) desk.old desk.new)) }
+    ensures desk { DeskGoesOn (desk_seen K.seen desk.old) (desk_seen K.seen desk.new) }
+    ensures clock { ClockGoesOn (C.seen clock.old) (C.seen clock.new) }
+    ensures still { result ≢ Ok ended.ClockFault → result ≢ Ok ended.OutOfMemory → IsStill (C.seen clock.old).health
+        (C.seen clock.new).health }
+    ensures door { (D.seen door.old).health.faults ≤ (D.seen door.new).health.faults }
+    ensures port { (D.seen door.new).opened_at ≡ (D.seen door.old).opened_at }
+    ensures steady_door { IsSound (D.seen door.old).health
+        → IsSound (D.seen door.new).health × (HasNext (D.seen door.old).links → IsOk result) }
 {
     let mut link = door.accept()?;
     let served = serve_link(rt, alloc, desk, lane, &mut link, clock, steps);
@@ -120,15 +124,17 @@ pub fn serve_door<R: Wait, K: Keeper, C: Clock, D: Door, L: Ledger>(
     connections: u32,
     steps: &mut Steps<L>,
 ) -> ServeEnd
-    ensures serves { IsServing D.Link.told (HasFailed D.Link.fault_count D.Link.sound) (D.told door.old) (D.told door.new) (D.opened_at door.new) (C.moments clock.old) (RoseOrFull (D.fault_count door.old) (D.fault_count door.new)) (RoseOrFull (C.fault_count clock.old) (C.fault_count clock.new)) port connections result (K.fault_count desk.old.keeper) (K.fault_count desk.new.keeper) desk.old.board.state desk.new.board.state }
-    ensures desk { DeskGoesOn K.told K.fault_count K.sound desk.old desk.new }
-    ensures clock { ClockGoesOn C.moments C.fault_count C.sound clock.old clock.new }
+    ensures serves { IsServing D.Link.seen (over D.seen door.old door.new) (over C.seen clock.old clock.new)
+        (over (desk_at K.seen) desk.old desk.new) port connections result }
+    ensures desk { DeskGoesOn (desk_seen K.seen desk.old) (desk_seen K.seen desk.new) }
+    ensures clock { ClockGoesOn (C.seen clock.old) (C.seen clock.new) }
     // A fault of the clock isn't passed over: where all was served well, the count stands still.
-    ensures still { result ≡ ends.Done → C.fault_count clock.new ≡ C.fault_count clock.old }
-    ensures door { D.fault_count door.old ≤ D.fault_count door.new }
+    ensures still { result ≡ ends.Done → IsStill (C.seen clock.old).health (C.seen clock.new).health }
+    ensures door { (D.seen door.old).health.faults ≤ (D.seen door.new).health.faults }
     // Neither ends the serving where it is sound, and the door has a link to come for each connection.
-    ensures steady_clock { C.sound clock.old → result ≢ ends.ClockFault }
-    ensures steady_door { D.sound door.old → HasLinks (D.told door.old) connections → result ≢ ends.DoorFault }
+    ensures steady_clock { IsSound (C.seen clock.old).health → result ≢ ends.ClockFault }
+    ensures steady_door { IsSound (D.seen door.old).health → HasLinks (D.seen door.old).links connections
+        → result ≢ ends.DoorFault }
 {
     let mut met = Met {
         memory: false,

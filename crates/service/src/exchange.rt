@@ -1,10 +1,13 @@
 ghost use Rattle.std.specs.Prelude.{◌≡◌, ◌≢◌, Err, IfOk, IsErrOf};
 ghost use Rattle.http.specs.StatusCode.{IsStatusCode};
 ghost use Rattle.call_json.specs.Canonical.{CallHasForms};
+ghost use Rattle.desk.specs.Seen.{desk_at, desk_seen, DeskGoesOn};
+ghost use Rattle.desk_io.specs.Health.{IsSound, IsStill};
+ghost use Rattle.desk_io.specs.Over.{over};
+ghost use Rattle.desk_net.specs.Seen.{ClockGoesOn};
 ghost use Rattle.service.specs.Forms.{RequestedHasForms};
-ghost use Rattle.service.specs.Onward.{DeskGoesOn, ClockGoesOn, HasFailed};
 ghost use Rattle.service.specs.Requested.{requested_by as request_of};
-ghost use Rattle.service.specs.Steps.{AnswersTo, TextAnswersTo};
+ghost use Rattle.service.specs.Steps.{Answers, AnswersText};
 ghost use Rattle.service.specs.declared.exchange.NoAnswer.TheVariants.{ClockFault as ByClock, OutOfMemory as NoMemory};
 
 use crate::requested::{Requested, requested_by};
@@ -46,11 +49,12 @@ fn reply_to<K: Keeper, C: Clock, L: Ledger>(
     steps: &mut Steps<L>,
 ) -> Result<Response, NoAnswer>
     requires { CallHasForms call.now }
-    ensures answers { AnswersTo lane (C.moments clock.old) (HasFailed C.fault_count C.sound clock.old clock.new) (K.fault_count desk.old.keeper) (K.fault_count desk.new.keeper) desk.old.board.state (Requested.Call call.now) desk.new.board.state result }
+    ensures answers { Answers lane (over C.seen clock.old clock.new) (over (desk_at K.seen) desk.old desk.new)
+        (Requested.Call call.now) result }
     ensures code { IfOk result (λ r. IsStatusCode r.status) }
-    ensures desk { DeskGoesOn K.told K.fault_count K.sound desk.old desk.new }
-    ensures clock { ClockGoesOn C.moments C.fault_count C.sound clock.old clock.new }
-    ensures still { result ≢ Err ByClock → C.fault_count clock.new ≡ C.fault_count clock.old }
+    ensures desk { DeskGoesOn (desk_seen K.seen desk.old) (desk_seen K.seen desk.new) }
+    ensures clock { ClockGoesOn (C.seen clock.old) (C.seen clock.new) }
+    ensures still { result ≢ Err ByClock → IsStill (C.seen clock.old).health (C.seen clock.new).health }
 {
     let Ok(at) = clock.now() else {
         return Err(NoAnswer::ClockFault);
@@ -69,11 +73,12 @@ fn respond<K: Keeper, C: Clock, L: Ledger>(
     steps: &mut Steps<L>,
 ) -> Result<Response, NoAnswer>
     requires { RequestedHasForms requested.now }
-    ensures answers { AnswersTo lane (C.moments clock.old) (HasFailed C.fault_count C.sound clock.old clock.new) (K.fault_count desk.old.keeper) (K.fault_count desk.new.keeper) desk.old.board.state requested.now desk.new.board.state result }
+    ensures answers { Answers lane (over C.seen clock.old clock.new) (over (desk_at K.seen) desk.old desk.new)
+        requested.now result }
     ensures code { IfOk result (λ r. IsStatusCode r.status) }
-    ensures desk { DeskGoesOn K.told K.fault_count K.sound desk.old desk.new }
-    ensures clock { ClockGoesOn C.moments C.fault_count C.sound clock.old clock.new }
-    ensures still { result ≢ Err ByClock → C.fault_count clock.new ≡ C.fault_count clock.old }
+    ensures desk { DeskGoesOn (desk_seen K.seen desk.old) (desk_seen K.seen desk.new) }
+    ensures clock { ClockGoesOn (C.seen clock.old) (C.seen clock.new) }
+    ensures still { result ≢ Err ByClock → IsStill (C.seen clock.old).health (C.seen clock.new).health }
 {
     match requested {
         Requested::Call(call) => reply_to(alloc, desk, lane, clock, call, steps),
@@ -92,12 +97,13 @@ pub fn exchange<K: Keeper, C: Clock, L: Ledger>(
     wire: &Wire,
     steps: &mut Steps<L>,
 ) -> Result<Text, NoAnswer>
-    ensures answers { TextAnswersTo lane (C.moments clock.old) (HasFailed C.fault_count C.sound clock.old clock.new) (K.fault_count desk.old.keeper) (K.fault_count desk.new.keeper) desk.old.board.state (request_of wire.now) desk.new.board.state result }
-    ensures desk { DeskGoesOn K.told K.fault_count K.sound desk.old desk.new }
-    ensures clock { ClockGoesOn C.moments C.fault_count C.sound clock.old clock.new }
-    ensures still { result ≢ Err ByClock → C.fault_count clock.new ≡ C.fault_count clock.old }
+    ensures answers { AnswersText lane (over C.seen clock.old clock.new) (over (desk_at K.seen) desk.old desk.new)
+        (request_of wire.now) result }
+    ensures desk { DeskGoesOn (desk_seen K.seen desk.old) (desk_seen K.seen desk.new) }
+    ensures clock { ClockGoesOn (C.seen clock.old) (C.seen clock.new) }
+    ensures still { result ≢ Err ByClock → IsStill (C.seen clock.old).health (C.seen clock.new).health }
     // Over a sound clock only want of memory leaves a request without a response.
-    ensures steady_clock { C.sound clock.old → IsErrOf result ByClock → ⊥ }
+    ensures steady_clock { IsSound (C.seen clock.old).health → IsErrOf result ByClock → ⊥ }
 {
     let requested = requested_by(alloc, wire)?;
     let response = respond(alloc, desk, lane, clock, &requested, steps)?;

@@ -1,10 +1,12 @@
 ghost use Rattle.std.specs.Prelude.{◌≡◌, ◌≢◌, ◌⊎◌, [], Some};
-ghost use Rattle.desk_http.specs.Requests.{unused};
+ghost use Rattle.desk.specs.Seen.{desk_at, desk_seen, DeskGoesOn};
+ghost use Rattle.desk_io.specs.Health.{IsSound, IsStill};
+ghost use Rattle.desk_io.specs.Over.{over};
+ghost use Rattle.desk_net.specs.Seen.{ClockGoesOn, LinkGoesOn};
 ghost use Rattle.desk_net.specs.Streams.{unread};
-ghost use Rattle.service.specs.Connections.{IsConnection, IsStep, IsWritten, clock_fault_answer as clock_response};
+ghost use Rattle.service.specs.Connections.{IsWritten, clock_fault_answer as clock_response};
 ghost use Rattle.service.specs.Exchanges.{bytes_of};
-ghost use Rattle.service.specs.Onward.{DeskGoesOn, ClockGoesOn, LinkGoesOn, HasFailed};
-ghost use Rattle.service.specs.Serving.{EndsAs, EndsWithout, ServesRequest, WritesAll, Wrote};
+ghost use Rattle.service.specs.Serving.{EndsAs, EndsWithout, Serves, ServesLink, ServesStep, WritesAll, WroteTo};
 ghost use Rattle.service.specs.declared.responses.Response.{Response as AResponse};
 ghost use Rattle.service.specs.declared.serving.Served.TheVariants as ended;
 
@@ -51,9 +53,10 @@ pub enum Served {
 
 // Writes the answer that ends a connection. A link that fails now doesn't change why it ends.
 fn end_by<N: Link>(link: &mut N, text: &[u8], served: Served) -> Served
-    ensures wrote { (r : AResponse) → text.now ≡ bytes_of r → Wrote (N.told link.old) (N.told link.new) (EndsAs (HasFailed N.fault_count N.sound link.old link.new) served r result) }
-    ensures link { LinkGoesOn N.fault_count N.sound link.old link.new }
-    ensures left { unread (N.told link.new) ≡ unread (N.told link.old) }
+    ensures wrote { (r : AResponse) → text.now ≡ bytes_of r
+        → WroteTo (over N.seen link.old link.new) (λ failed. EndsAs failed served r result) }
+    ensures link { LinkGoesOn (N.seen link.old) (N.seen link.new) }
+    ensures left { unread (N.seen link.new).stream ≡ unread (N.seen link.old).stream }
 {
     match link.write(text) {
         Ok(()) => served,
@@ -64,17 +67,18 @@ fn end_by<N: Link>(link: &mut N, text: &[u8], served: Served) -> Served
 
 // After a fault of the clock the connection ends by it, whatever comes of the answer.
 fn end_by_clock<N: Link>(link: &mut N)
-    ensures wrote { Wrote (N.told link.old) (N.told link.new) (λ piece. IsWritten (HasFailed N.fault_count N.sound link.old link.new) clock_response piece ⊎ (piece ≡ [])) }
-    ensures link { LinkGoesOn N.fault_count N.sound link.old link.new }
-    ensures left { unread (N.told link.new) ≡ unread (N.told link.old) }
+    ensures wrote { WroteTo (over N.seen link.old link.new)
+        (λ failed piece. IsWritten failed clock_response piece ⊎ (piece ≡ [])) }
+    ensures link { LinkGoesOn (N.seen link.old) (N.seen link.new) }
+    ensures left { unread (N.seen link.new).stream ≡ unread (N.seen link.old).stream }
 {
     let _ = link.write(clock_fault_answer());
 }
 
 // There is no further request.
 fn end_without<N: Link>(link: &mut N, fault: WireFault) -> Served
-    ensures wrote { Wrote (N.told link.old) (N.told link.new) (EndsWithout (HasFailed N.fault_count N.sound link.old link.new) fault result) }
-    ensures link { LinkGoesOn N.fault_count N.sound link.old link.new }
+    ensures wrote { WroteTo (over N.seen link.old link.new) (λ failed. EndsWithout failed fault result) }
+    ensures link { LinkGoesOn (N.seen link.old) (N.seen link.new) }
 {
     match fault {
         WireFault::End => Served::Ended,
@@ -90,9 +94,9 @@ fn end_without<N: Link>(link: &mut N, fault: WireFault) -> Served
 
 // Writes a response. The connection ends where that fails, or where its request was to be the last.
 fn write_response<N: Link>(link: &mut N, bytes: &[u8], last: bool) -> Option<Served>
-    ensures wrote { Wrote (N.told link.old) (N.told link.new) (WritesAll (HasFailed N.fault_count N.sound link.old link.new) bytes.now last result) }
-    ensures link { LinkGoesOn N.fault_count N.sound link.old link.new }
-    ensures left { unread (N.told link.new) ≡ unread (N.told link.old) }
+    ensures wrote { WroteTo (over N.seen link.old link.new) (λ failed. WritesAll failed bytes.now last result) }
+    ensures link { LinkGoesOn (N.seen link.old) (N.seen link.new) }
+    ensures left { unread (N.seen link.new).stream ≡ unread (N.seen link.old).stream }
 {
     match link.write(bytes) {
         Ok(()) if last => Some(Served::Ended),
@@ -111,12 +115,13 @@ fn serve_request<K: Keeper, N: Link, C: Clock, L: Ledger>(
     wire: &Wire,
     steps: &mut Steps<L>,
 ) -> Option<Served>
-    ensures serves { Wrote (N.told link.old) (N.told link.new) (ServesRequest lane (C.moments clock.old) (HasFailed N.fault_count N.sound link.old link.new) (HasFailed C.fault_count C.sound clock.old clock.new) (K.fault_count desk.old.keeper) (K.fault_count desk.new.keeper) desk.old.board.state wire.now desk.new.board.state result) }
-    ensures desk { DeskGoesOn K.told K.fault_count K.sound desk.old desk.new }
-    ensures clock { ClockGoesOn C.moments C.fault_count C.sound clock.old clock.new }
-    ensures still { result ≢ Some ended.ClockFault → C.fault_count clock.new ≡ C.fault_count clock.old }
-    ensures link { LinkGoesOn N.fault_count N.sound link.old link.new }
-    ensures left { unread (N.told link.new) ≡ unread (N.told link.old) }
+    ensures serves { Serves lane (over N.seen link.old link.new) (over C.seen clock.old clock.new)
+        (over (desk_at K.seen) desk.old desk.new) wire.now result }
+    ensures desk { DeskGoesOn (desk_seen K.seen desk.old) (desk_seen K.seen desk.new) }
+    ensures clock { ClockGoesOn (C.seen clock.old) (C.seen clock.new) }
+    ensures still { result ≢ Some ended.ClockFault → IsStill (C.seen clock.old).health (C.seen clock.new).health }
+    ensures link { LinkGoesOn (N.seen link.old) (N.seen link.new) }
+    ensures left { unread (N.seen link.new).stream ≡ unread (N.seen link.old).stream }
 {
     match exchange(alloc, desk, lane, clock, wire, steps) {
         Ok(bytes) => write_response(link, bytes.bytes(), wire.last),
@@ -142,11 +147,12 @@ fn serve_next<K: Keeper, N: Link, C: Clock, L: Ledger>(
     buffer: &mut Buffer,
     steps: &mut Steps<L>,
 ) -> Option<Served>
-    ensures serves { Wrote (N.told link.old) (N.told link.new) (λ piece. IsStep lane (C.moments clock.old) (HasFailed N.fault_count N.sound link.old link.new) (HasFailed C.fault_count C.sound clock.old clock.new) (K.fault_count desk.old.keeper) (K.fault_count desk.new.keeper) desk.old.board.state (unused buffer.old (unread (N.told link.old))) (unused buffer.new (unread (N.told link.new))) desk.new.board.state piece result) }
-    ensures desk { DeskGoesOn K.told K.fault_count K.sound desk.old desk.new }
-    ensures clock { ClockGoesOn C.moments C.fault_count C.sound clock.old clock.new }
-    ensures still { result ≢ Some ended.ClockFault → C.fault_count clock.new ≡ C.fault_count clock.old }
-    ensures link { LinkGoesOn N.fault_count N.sound link.old link.new }
+    ensures serves { ServesStep lane (over N.seen link.old link.new) (over C.seen clock.old clock.new)
+        (over (desk_at K.seen) desk.old desk.new) buffer.old buffer.new result }
+    ensures desk { DeskGoesOn (desk_seen K.seen desk.old) (desk_seen K.seen desk.new) }
+    ensures clock { ClockGoesOn (C.seen clock.old) (C.seen clock.new) }
+    ensures still { result ≢ Some ended.ClockFault → IsStill (C.seen clock.old).health (C.seen clock.new).health }
+    ensures link { LinkGoesOn (N.seen link.old) (N.seen link.new) }
 {
     match next_request(alloc, link, buffer) {
         Ok(wire) => serve_request(alloc, desk, lane, link, clock, &wire, steps),
@@ -169,15 +175,16 @@ pub fn serve_link<R: Wait, K: Keeper, N: Link, C: Clock, L: Ledger>(
     clock: &mut C,
     steps: &mut Steps<L>,
 ) -> Served
-    ensures serves { Wrote (N.told link.old) (N.told link.new) (IsConnection lane (C.moments clock.old) (HasFailed N.fault_count N.sound link.old link.new) (HasFailed C.fault_count C.sound clock.old clock.new) (K.fault_count desk.old.keeper) (K.fault_count desk.new.keeper) desk.old.board.state (unread (N.told link.old)) result desk.new.board.state) }
-    ensures desk { DeskGoesOn K.told K.fault_count K.sound desk.old desk.new }
-    ensures clock { ClockGoesOn C.moments C.fault_count C.sound clock.old clock.new }
+    ensures serves { ServesLink lane (over N.seen link.old link.new) (over C.seen clock.old clock.new)
+        (over (desk_at K.seen) desk.old desk.new) result }
+    ensures desk { DeskGoesOn (desk_seen K.seen desk.old) (desk_seen K.seen desk.new) }
+    ensures clock { ClockGoesOn (C.seen clock.old) (C.seen clock.new) }
     // A fault of the clock ends the connection as such: however else it ends, the count stands still.
-    ensures still { result ≢ ended.ClockFault → C.fault_count clock.new ≡ C.fault_count clock.old }
-    ensures link { LinkGoesOn N.fault_count N.sound link.old link.new }
+    ensures still { result ≢ ended.ClockFault → IsStill (C.seen clock.old).health (C.seen clock.new).health }
+    ensures link { LinkGoesOn (N.seen link.old) (N.seen link.new) }
     // Neither ends it where it is sound.
-    ensures steady_clock { C.sound clock.old → result ≢ ended.ClockFault }
-    ensures steady_link { N.sound link.old → (result ≢ ended.ReadFault) × (result ≢ ended.WriteFault) }
+    ensures steady_clock { IsSound (C.seen clock.old).health → result ≢ ended.ClockFault }
+    ensures steady_link { IsSound (N.seen link.old).health → (result ≢ ended.ReadFault) × (result ≢ ended.WriteFault) }
 {
     let mut buffer = Buffer::new(alloc);
     for _ in rt.forever() {

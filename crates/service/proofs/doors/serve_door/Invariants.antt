@@ -1,17 +1,20 @@
 use Rattle.std.proofs.Common.{◌≡◌, ◌≤◌, Some, false}
-use Rattle.service.specs.Onward.{DeskGoesOn, ClockGoesOn, HasFailed}
+use Rattle.desk.specs.Seen.{desk_seen, DeskGoesOn}
+use Rattle.desk_io.specs.Health.{HasFailed, IsSound}
+use Rattle.desk_net.specs.Seen.{ClockGoesOn}
 use Rattle.service.proofs.Visits.{HasServed}
 use Rattle.service.proofs.doors.serve_door.Given as goal
 
 abbrev pub invariant-loop-before : goal.invariant-loop-before
 invariant-loop-before g l = record {
-  served : HasServed g.D.Link.Link.told (HasFailed g.D.Link.Link.fault_count g.D.Link.Link.sound) (g.D.Door.told l.fn.door) (g.D.Door.told l.door) (g.C.Clock.moments l.fn.clock)
-      (HasFailed g.C.Clock.fault_count g.C.Clock.sound l.fn.clock l.clock) l.before l.met (g.K.Keeper.fault_count l.fn.desk.keeper) (g.K.Keeper.fault_count l.desk.keeper) l.fn.desk.board.state l.desk.board.state;
+  served : HasServed g.D.Link.Link.seen (g.D.Door.seen l.fn.door).links (g.D.Door.seen l.door).links (g.C.Clock.seen l.fn.clock).moments
+      (HasFailed (g.C.Clock.seen l.fn.clock).health (g.C.Clock.seen l.clock).health) l.before l.met (g.K.Keeper.seen l.fn.desk.keeper).health.faults (g.K.Keeper.seen l.desk.keeper).health.faults
+      l.fn.desk.board.state l.desk.board.state;
   within : l.before ≤ l.connections;
-  port : g.D.Door.opened_at l.door ≡ Some l.port;
-  desk : DeskGoesOn g.K.Keeper.told g.K.Keeper.fault_count g.K.Keeper.sound l.fn.desk l.desk;
-  still : l.met.memory ≡ false → l.met.clock ≡ false → g.C.Clock.fault_count l.clock ≡ g.C.Clock.fault_count l.fn.clock;
-  clock : ClockGoesOn g.C.Clock.moments g.C.Clock.fault_count g.C.Clock.sound l.fn.clock l.clock;
-  door : g.D.Door.fault_count l.fn.door ≤ g.D.Door.fault_count l.door;
-  steady : g.D.Door.sound l.fn.door → g.D.Door.sound l.door;
+  port : (g.D.Door.seen l.door).opened_at ≡ Some l.port;
+  desk : DeskGoesOn (desk_seen g.K.Keeper.seen l.fn.desk) (desk_seen g.K.Keeper.seen l.desk);
+  still : l.met.memory ≡ false → l.met.clock ≡ false → (g.C.Clock.seen l.clock).health.faults ≡ (g.C.Clock.seen l.fn.clock).health.faults;
+  clock : ClockGoesOn (g.C.Clock.seen l.fn.clock) (g.C.Clock.seen l.clock);
+  door : (g.D.Door.seen l.fn.door).health.faults ≤ (g.D.Door.seen l.door).health.faults;
+  steady : IsSound (g.D.Door.seen l.fn.door).health → IsSound (g.D.Door.seen l.door).health;
 }

@@ -9,4 +9,4 @@ pub returns-in-Err-Failed-clause-wrote : goal.returns-in-Err-Failed-clause-wrote
 returns-in-Err-Failed-clause-wrote g c = λ r same.
     let is = c.in-Err-Failed.ensures in
     let fails = ap Err c.in-Err-Failed.field-0-is in
-    ends_front _ _ _ _ _ _ _ r c.in-Err-Failed.field-0-is is.told (is.cause.failed fails, λ sound. (is.sound sound).1 fails) same
+    ends_front _ _ _ _ _ _ _ r c.in-Err-Failed.field-0-is is.told (is.cause fails) same
