@@ -8,17 +8,17 @@ use Rattle.desk.specs.Keeping.{KeepsState, numbers_of}
 use Rattle.desk.specs.Opening.{IsOpened}
 use Rattle.desk.specs.Run.{IsRun}
 use Rattle.desk.specs.declared.settling.Desk.{Desk}
-use Rattle.desk_io.specs.Causes.{RoseOrFull}
-use Rattle.keeper.specs.declared.keeping.Keeper as keeper
+use Rattle.desk.specs.Seen.{DeskAt, DeskGoesOn, desk_at, desk_seen}
+use Rattle.desk_io.specs.Over.{Over, over}
+use Rattle.keeper.specs.Seen.{KeeperSeen, KeeperGoesOn}
 use Rattle.kept_forms.specs.Formed.{AreFormed}
 use Rattle.desk_state.specs.Sound.{IsBoard}
 use Rattle.desk_state.specs.State.{State}
 use Rattle.ops_tables.specs.Tables.{TableRows}
 use Rattle.service.proofs.Visits.{serving_from}
-use Rattle.service.specs.Onward.{DeskGoesOn, HasFailed}
 use Rattle.commands.specs.Faults.{Gives, Outcome}
-use Rattle.commands.specs.Seen.{Service, keeper_seen, over}
-use Rattle.commands.specs.Working.{Opens, Works, WorksOn}
+use Rattle.commands.specs.Seen.{Service, lent as lent_over}
+use Rattle.commands.specs.Working.{Opens, Works}
 use Rattle.commands.specs.declared.fault.Fault.TheVariants.{OutOfMemory}
 use Rattle.commands.specs.declared.preparing.Work.{Work}
 use Rattle.commands.specs.declared.preparing.Work.TheVariants.{Script, Door}
@@ -42,15 +42,14 @@ gives_lower less before after s script t (Err OutOfMemory) under gives = tt
 gives_lower less before after s script t (Err other) under gives = absurd gives
 
 -- work that counts from before
-works_lower : {L : Type 0} (work : Work) (service : Service L) (less before after : ℕ) (s t : State) (answer : Outcome) → less ≤ before → Works work service before after s t answer
-    → Works work service less after s t answer
-works_lower (Script script) service less before after s t answer under works = (gives_lower less before after s script t answer under works.0, works.1)
-works_lower (Door port most) service less before after s t answer under works =
+works_lower : {L : Type 0} (work : Work) (service : Service L) (desk : Over DeskAt) (less : ℕ) (answer : Outcome) → less ≤ desk.before.faults → Works work service desk answer
+    → Works work service (record desk { before = record desk.before { faults = less } }) answer
+works_lower (Script script) service desk less answer under works =
+    (gives_lower less desk.before.faults desk.after.faults desk.before.state script desk.after.state answer under works.0, works.1)
+works_lower (Door port most) service desk less answer under works =
     record {
       end = works.end;
-      served = serving_from (λ l. (service.link l).stream) (HasFailed (λ l. (service.link l).faults) (λ l. (service.link l).sound)) service.door.before.links service.door.after.links
-          service.door.after.opened_at service.clock.before.moments (RoseOrFull service.door.before.faults service.door.after.faults)
-          (RoseOrFull service.clock.before.faults service.clock.after.faults) port most works.end less before after s t under works.served;
+      served = serving_from service.link service.door service.clock desk port most works.end less under works.served;
       says = works.says;
       clock = works.clock;
       still = works.still;
@@ -59,12 +58,13 @@ works_lower (Door port most) service less before after s t answer under works =
       steady_door = works.steady_door;
     }
 
-module _ {K L : Type 0} (g : keeper.Ghosts K) (tables : TableRows) (work : Work) (service : Service L) (lent : K) where
-  opened_over : (desk done : Desk K) (answer : Outcome) → IsOpened (g.told lent) tables desk.board → g.fault_count lent ≤ g.fault_count desk.keeper → KeepsState (g.told desk.keeper) desk.board.state
-      → AreFormed desk.board.state → DeskGoesOn g.told g.fault_count g.sound desk done → WorksOn g work service desk done answer → IsBoard done.board.opening done.board.state
-      → Opens tables work service (over (keeper_seen g) lent done.keeper) (Some done.board) answer
-  opened_over desk done answer opened later kept formed goes works holds =
-      let first = ap (λ (b : Shown). b.state) opened.shows ∙ sym (ap (λ (b : Shown). b.opening) opened.shows) ∙ sym goes.opening in (
+module _ {K L : Type 0} (seen : K → KeeperSeen) (tables : TableRows) (work : Work) (service : Service L) (lent : K) where
+  opened_over : (desk done : Desk K) (answer : Outcome) → IsOpened (seen lent).rows tables desk.board → KeeperGoesOn (seen lent) (seen desk.keeper) → KeepsState (seen desk.keeper).rows desk.board.state
+      → AreFormed desk.board.state → DeskGoesOn (desk_seen seen desk) (desk_seen seen done) → Works work service (over (desk_at seen) desk done) answer → IsBoard done.board.opening done.board.state
+      → Opens tables work service (lent_over seen lent done.keeper) (Some done.board) answer
+  opened_over desk done answer opened lasts kept formed goes works holds =
+      let first = ap (λ (b : Shown). b.state) opened.shows ∙ sym (ap (λ (b : Shown). b.opening) opened.shows) ∙ sym goes.opening in
+      let less = (seen lent).health.faults in (
         record {
           records = opened.records;
           loaded = opened.loaded;
@@ -73,17 +73,17 @@ module _ {K L : Type 0} (g : keeper.Ghosts K) (tables : TableRows) (work : Work)
           formed = goes.formed formed;
           kept = goes.rows kept;
         },
-        works_lower work service (g.fault_count lent) (g.fault_count desk.keeper) (g.fault_count done.keeper) done.board.opening done.board.state answer later
-            (subst (λ (s : State). Works work service (g.fault_count desk.keeper) (g.fault_count done.keeper) s done.board.state answer) first works),
+        subst (λ (s : State). Works work service (record { before = record { state = s; faults = less }; after = desk_at seen done }) answer) first
+            (works_lower work service (over (desk_at seen) desk done) less answer lasts.later works),
       )
 
   -- what is given back is the desk on which the work was done
   pub worked : (desk done : Desk K) (answer : Outcome) (said : Said K) → said.answer ≡ answer → said.board ≡ Some done.board → said.keeper ≡ done.keeper
-      → IsOpened (g.told lent) tables desk.board → g.fault_count lent ≤ g.fault_count desk.keeper → KeepsState (g.told desk.keeper) desk.board.state
-      → AreFormed desk.board.state → DeskGoesOn g.told g.fault_count g.sound desk done → WorksOn g work service desk done answer → IsBoard done.board.opening done.board.state
-      → Opens tables work service (over (keeper_seen g) lent said.keeper) said.board said.answer
-  worked desk done answer said answer_is board_is keeper_is opened later kept formed goes works holds =
-      subst (λ k. Opens tables work service (over (keeper_seen g) lent k) said.board said.answer) (sym keeper_is)
-      (subst (λ b. Opens tables work service (over (keeper_seen g) lent done.keeper) b said.answer) (sym board_is)
-      (subst (λ a. Opens tables work service (over (keeper_seen g) lent done.keeper) (Some done.board) a) (sym answer_is)
-      (opened_over desk done answer opened later kept formed goes works holds)))
+      → IsOpened (seen lent).rows tables desk.board → KeeperGoesOn (seen lent) (seen desk.keeper) → KeepsState (seen desk.keeper).rows desk.board.state
+      → AreFormed desk.board.state → DeskGoesOn (desk_seen seen desk) (desk_seen seen done) → Works work service (over (desk_at seen) desk done) answer → IsBoard done.board.opening done.board.state
+      → Opens tables work service (lent_over seen lent said.keeper) said.board said.answer
+  worked desk done answer said answer_is board_is keeper_is opened lasts kept formed goes works holds =
+      subst (λ k. Opens tables work service (lent_over seen lent k) said.board said.answer) (sym keeper_is)
+      (subst (λ b. Opens tables work service (lent_over seen lent done.keeper) b said.answer) (sym board_is)
+      (subst (λ a. Opens tables work service (lent_over seen lent done.keeper) (Some done.board) a) (sym answer_is)
+      (opened_over desk done answer opened lasts kept formed goes works holds)))

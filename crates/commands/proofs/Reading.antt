@@ -3,7 +3,9 @@ use Rattle.std.proofs.Common.{◌≡◌, ℕ, ◌<◌, ◌≤◌, length, List, 
 use Rattle.std.specs.Prelude.{All, Result, Ok, Err}
 use Rattle.std.proofs.lemmas.List.Elements.{All-head, All-tail}
 use Rattle.desk_io.specs.Told.{HoldsName, OnSource}
-use Rattle.desk_io.specs.declared.outside.Shelf as shelf
+use Rattle.desk_io.specs.Health.{IsSound}
+use Rattle.desk_io.specs.Over.{Over}
+use Rattle.desk_io.specs.Seen.{ShelfSeen}
 use Rattle.ops_tables.specs.Tables.{TableRows}
 use Rattle.table_files.specs.Files.{files, name_of}
 use Rattle.table_files.specs.Whole.{Told, StopsAtMissing}
@@ -11,7 +13,6 @@ use Rattle.table_files.specs.declared.faults.TableFault.TheVariants as fault
 use Rattle.words.specs.declared.task.DeskTask.{DeskTask}
 use Rattle.words.specs.declared.task.DeskTask.TheVariants.{Run, Serve}
 use Rattle.commands.specs.Preparing.{ReadsWork, SourceFails, StandsOn}
-use Rattle.commands.specs.Seen.{over, shelf_seen}
 use Rattle.commands.specs.declared.fault.Fault.{Fault}
 use Rattle.commands.specs.declared.fault.Fault.TheVariants.{ReadFault, OutOfMemory, InputTooLong}
 use Rattle.commands.specs.declared.preparing.Ground.{Ground}
@@ -34,22 +35,25 @@ pub none_missing : (told : Told) (name : List ℕ) (rest : List (List ℕ)) → 
 none_missing told name rest all stop =
     stop.fails.1 (held_among name_of (HoldsName told) stop.earlier stop.file stop.later rest (subst (λ fs. All (HoldsName told) (map name_of fs ++ rest)) stop.order all))
 
-module _ {S : Type 0} (g : shelf.Ghosts S) (old middle new : S) (same : g.sources middle ≡ g.sources old) (later : g.fault_count old ≤ g.fault_count middle) (sound : g.sound old → g.sound middle) where
-  fails_earlier : (name : List ℕ) (fault : Fault) → SourceFails (over (shelf_seen g) middle new) name fault → SourceFails (over (shelf_seen g) old new) name fault
+abbrev between : ShelfSeen → ShelfSeen → Over ShelfSeen
+between old new = record { before = old; after = new }
+
+module _ (old middle new : ShelfSeen) (same : middle.sources ≡ old.sources) (later : old.health.faults ≤ middle.health.faults) (sound : IsSound old.health → IsSound middle.health) where
+  fails_earlier : (name : List ℕ) (fault : Fault) → SourceFails (between middle new) name fault → SourceFails (between old new) name fault
   fails_earlier name (ReadFault file) says =
-      let rose = says.1 in (says.0, omega (arith, later, rose), λ is held. says.2 (sound is) (subst (λ told. HoldsName told name) (sym same) held))
+      let rose = says.1.0 in (says.0, (omega (arith, later, rose), λ is held. says.1.1 (sound is) (subst (λ told. HoldsName told name) (sym same) held)))
   fails_earlier name (InputTooLong file) says = (says.0, subst (λ told. OnSource told name (λ bytes. 67_108_864 < length bytes)) same says.1)
   fails_earlier name OutOfMemory says = tt
   fails_earlier name other says = absurd says
 
-  work_earlier : (task : DeskTask) (name : List ℕ) (work : Result Work Fault) → ReadsWork (over (shelf_seen g) middle new) task name work → ReadsWork (over (shelf_seen g) old new) task name work
+  work_earlier : (task : DeskTask) (name : List ℕ) (work : Result Work Fault) → ReadsWork (between middle new) task name work → ReadsWork (between old new) task name work
   work_earlier Run name (Ok (Script text)) says = (says.0, subst (λ told. OnSource told name (λ bytes. bytes ≡ text)) same says.1)
   work_earlier Run name (Ok (Door port most)) says = absurd says
   work_earlier Run name (Err fault) says = fails_earlier name fault says
   work_earlier (Serve port most) name work says = says
 
-  pub stands_earlier : (tables : TableRows) (task : DeskTask) (name : List ℕ) (whole : Result Ground Fault) → StandsOn (over (shelf_seen g) middle new) tables task name whole
-      → StandsOn (over (shelf_seen g) old new) tables task name whole
+  pub stands_earlier : (tables : TableRows) (task : DeskTask) (name : List ℕ) (whole : Result Ground Fault) → StandsOn (between middle new) tables task name whole
+      → StandsOn (between old new) tables task name whole
   stands_earlier tables task name (Ok (Reports text)) says = absurd says
   stands_earlier tables task name (Ok (OnDesk read work)) says = (says.0, work_earlier task name (Ok work) says.1)
   stands_earlier tables task name (Err fault) says = work_earlier task name (Err fault) says

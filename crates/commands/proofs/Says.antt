@@ -4,15 +4,19 @@ use Rattle.std.specs.Prelude.{◌==◌, All, IfErr, IfOk, IfSome, MatchBool, Mat
 use Rattle.std.specs.List.{Contains}
 use Rattle.std.proofs.lemmas.List.Elements.{All-head}
 use Rattle.board.specs.Prepare.{Shown}
-use Rattle.desk.specs.Opening.{IsLeft, IsNoKeeperFault, IsOfKeeper, TellsRowsOf}
+use Rattle.desk.specs.Opening.{IsLeft, IsOfKeeper, IsWhy, TellsRowsOf}
 use Rattle.desk.specs.declared.opening.OpenWhy.{OpenWhy}
 use Rattle.desk.specs.declared.opening.OpenWhy.TheVariants as why
 use Rattle.desk_io.specs.Rows.{Rows}
 use Rattle.desk_io.specs.Told.{HoldsName}
-use Rattle.desk_net.specs.declared.outside.Clock as clock
-use Rattle.desk_net.specs.declared.outside.Door as door
-use Rattle.desk_net.specs.declared.outside.Link as link
-use Rattle.keeper.specs.declared.keeping.Keeper as keeper
+use Rattle.desk.specs.Seen.{DeskAt}
+use Rattle.desk_io.specs.Health.{IsSound}
+use Rattle.desk_io.specs.Over.{Over}
+use Rattle.desk_io.specs.Seen.{ShelfSeen, SinkSeen}
+use Rattle.desk_io.proofs.HealthLaws.{stays}
+use Rattle.desk_net.specs.Seen.{ClockSeen, DoorSeen, LinkSeen, ClockGoesOn}
+use Rattle.desk_net.proofs.SeenLaws.{clock_stays}
+use Rattle.keeper.specs.Seen.{KeeperSeen, KeeperGoesOn}
 use Rattle.kept_forms.specs.Formed.{AreFormed}
 use Rattle.desk_state.specs.Sound.{IsBoard}
 use Rattle.desk_state.specs.State.{State}
@@ -32,8 +36,8 @@ use Rattle.commands.proofs.Reading.{held_last, none_missing}
 use Rattle.commands.specs.Answers.{AreKeptOver, HasDoor, HasSources, Says, Writes}
 use Rattle.commands.specs.Faults.{Gives, Outcome, of_opening, of_tables, status_of_fault}
 use Rattle.commands.specs.Preparing.{Prepares, ReadsWork, SourceFails, links_of, sources_on_desk}
-use Rattle.commands.specs.Seen.{AreIdle, ClockGoesOn, KeeperGoesOn, KeeperSeen, Over, Service, ShelfSeen, SinkSeen, clock_seen, door_seen, keeper_seen, over, service}
-use Rattle.commands.specs.Working.{Does, EndSays, IsUntouched, Opens, Works}
+use Rattle.commands.specs.Seen.{Lent, Service, lent as lent_over, service}
+use Rattle.commands.specs.Working.{Does, EndSays, IsUntouched, Opens, Works, desk_over}
 use Rattle.commands.specs.declared.fault.Fault.{Fault}
 use Rattle.commands.specs.declared.fault.Fault.TheVariants.{Usage, ReadFault, WriteFault, KeeperFault, BadTable, BadRow, BadPair, OutOfMemory, DoorFault, InputTooLong, ClockFault}
 use Rattle.commands.specs.declared.preparing.Ground.{Ground}
@@ -60,14 +64,14 @@ abbrev pub AreLeft : Option Rows → Type 0
 AreLeft rows = (s : State) × IsLeft s × TellsRowsOf rows s
 
 module _ (shelf : Over ShelfSeen) (keeper rows door clock : Type 0) where
-  source_accuses : (has : Type 0) (name : List ℕ) → (has → shelf.before.sound × HoldsName shelf.before.sources name) → (fault : Fault) → SourceFails shelf name fault → Accuses has keeper rows door clock fault
-  source_accuses has name gives (ReadFault file) says = λ h. says.2 (gives h).0 (gives h).1
+  source_accuses : (has : Type 0) (name : List ℕ) → (has → IsSound shelf.before.health × HoldsName shelf.before.sources name) → (fault : Fault) → SourceFails shelf name fault → Accuses has keeper rows door clock fault
+  source_accuses has name gives (ReadFault file) says = λ h. says.1.1 (gives h).0 (gives h).1
   source_accuses has name gives (InputTooLong file) says = tt
   source_accuses has name gives OutOfMemory says = tt
   source_accuses has name gives other says = absurd says
 
-  tables_accuse : (rest : List (List ℕ)) (stop : TableFault) → (shelf.before.sound → StopsAtMissing shelf.before.sources stop)
-      → Accuses (shelf.before.sound × All (HoldsName shelf.before.sources) (map name_of files ++ rest)) keeper rows door clock (of_tables stop)
+  tables_accuse : (rest : List (List ℕ)) (stop : TableFault) → (IsSound shelf.before.health → StopsAtMissing shelf.before.sources stop)
+      → Accuses (IsSound shelf.before.health × All (HoldsName shelf.before.sources) (map name_of files ++ rest)) keeper rows door clock (of_tables stop)
   tables_accuse rest (table.Bad bad) stops = tt
   tables_accuse rest (table.ReadFault name) stops = λ has. none_missing shelf.before.sources name rest has.1 (stops has.0)
   tables_accuse rest (table.TooLong name) stops = tt
@@ -90,11 +94,11 @@ module _ (shelf keeper rows door clock : Type 0) where
   gives_accuses P (Err OutOfMemory) gives = tt
   gives_accuses P (Err other) gives = absurd gives
 
-  why_accuses : (rose : Type 0) (why : OpenWhy) → (keeper → IsNoKeeperFault why) → (rows → IsOfKeeper rose why) → Acquits (Err (of_opening why))
-  why_accuses rose why.KeeperFault sound left = sound
-  why_accuses rose (why.BadRow row reason) sound left = left
-  why_accuses rose (why.BadPair one two) sound left = left
-  why_accuses rose why.OutOfMemory sound left = tt
+  why_accuses : (told : Option Rows) (failed : Type 0) (why : OpenWhy) → (failed → keeper → ⊥) → IsWhy told failed why → (rows → IsOfKeeper failed why) → Acquits (Err (of_opening why))
+  why_accuses told failed why.KeeperFault never is left = never is
+  why_accuses told failed (why.BadRow row reason) never is left = left
+  why_accuses told failed (why.BadPair one two) never is left = left
+  why_accuses told failed why.OutOfMemory never is left = tt
 
   end_accuses : (end : ServeEnd) (s : State) (answer : Outcome) → EndSays end s answer → (clock → end ≢ ends.ClockFault) → (door → end ≢ ends.DoorFault) → Acquits answer
   end_accuses ends.Done s answer says steady_clock steady_door = gives_accuses _ answer says
@@ -130,48 +134,48 @@ prepared_serves shelf (Desk task) name tables work (inr (read, reads, stands)) =
 
 -- ---- what goes on, whatever is said
 
-module _ {K C D L : Type 0} (k : keeper.Ghosts K) (c : clock.Ghosts C) (d : door.Ghosts D L) (l : link.Ghosts L) (lent kept : K) (clock_old clock_new : C) (door_old door_new : D) (shelf : Over ShelfSeen) where
-  abbrev rows_over : Over KeeperSeen
-  rows_over = over (keeper_seen k) lent kept
+module _ {K C D L : Type 0} (k : K → KeeperSeen) (c : C → ClockSeen) (d : D → DoorSeen L) (l : L → LinkSeen) (lent kept : K) (clock_old clock_new : C) (door_old door_new : D) (shelf : Over ShelfSeen) where
+  abbrev rows_over : Lent
+  rows_over = lent_over k lent kept
 
   abbrev serving : Service L
   serving = service c d l clock_old clock_new door_old door_new
 
   abbrev HasNoFault : Option (Task × List ℕ) → Outcome → Type 0
-  HasNoFault command = Acquits (HasSources shelf.before command) (k.sound lent) (AreLeft (k.told lent)) (HasDoor (door_seen d door_old) command) (c.sound clock_old)
+  HasNoFault command = Acquits (HasSources shelf.before command) (IsSound (k lent).health) (AreLeft (k lent).rows) (HasDoor (d door_old) command) (IsSound (c clock_old).health)
 
   abbrev IsStill : Type 0
-  IsStill = c.fault_count clock_new ≡ c.fault_count clock_old
+  IsStill = (c clock_new).health.faults ≡ (c clock_old).health.faults
 
   -- what goes on of the clock and the door, and who isn't told of
   pub record Served (command : Option (Task × List ℕ)) (answer : Outcome) : Type 0 where
-    pub clock : ClockGoesOn serving.clock
-    pub door : d.fault_count door_old ≤ d.fault_count door_new
+    pub clock : ClockGoesOn (c clock_old) (c clock_new)
+    pub door : (d door_old).health.faults ≤ (d door_new).health.faults
     pub still : IfOk answer (λ text. IsStill)
     pub accuses : HasNoFault command answer
 
   -- and of the keeper and the board
   pub record Follows (command : Option (Task × List ℕ)) (board : Option Shown) (answer : Outcome) : Type 0 where
-    pub keeper : KeeperGoesOn rows_over
+    pub keeper : KeeperGoesOn (k lent) (k kept)
     pub are_kept : AreKeptOver rows_over board
     pub holds : IfSome board (λ b. IsBoard b.opening b.state)
     pub formed : IfSome board (λ b. AreFormed b.state)
     pub served : Served command answer
 
-  idle_served : (command : Option (Task × List ℕ)) (answer : Outcome) → AreIdle serving → HasNoFault command answer → Served command answer
+  idle_served : (command : Option (Task × List ℕ)) (answer : Outcome) → serving.idle → HasNoFault command answer → Served command answer
   idle_served command answer idle accuses =
       record {
-        clock = subst (λ x. ClockGoesOn (over (clock_seen c) clock_old x)) (sym idle.0) (record { moments = refl; later = omega arith; sound = λ s. (s, refl) });
-        door = subst (λ x. d.fault_count door_old ≤ d.fault_count x) (sym idle.1) (omega arith);
-        still = ok_any answer (ap c.fault_count idle.0);
+        clock = subst (λ x. ClockGoesOn (c clock_old) (c x)) (sym idle.0) (clock_stays (c clock_old));
+        door = subst (λ x. (d door_old).health.faults ≤ (d x).health.faults) (sym idle.1) (omega arith);
+        still = ok_any answer (ap (λ x. (c x).health.faults) idle.0);
         accuses = accuses;
       }
 
   untouched_follows : (command : Option (Task × List ℕ)) (board : Option Shown) (answer : Outcome) → IsUntouched serving rows_over board → HasNoFault command answer → Follows command board answer
   untouched_follows command board answer is accuses =
       record {
-        keeper = subst (λ x. KeeperGoesOn (over (keeper_seen k) lent x)) (sym is.same) (record { later = omega arith; sound = λ s. (s, refl) });
-        are_kept = subst (λ b. AreKeptOver rows_over b) (sym is.none) (ap k.told is.same);
+        keeper = subst (λ x. KeeperGoesOn (k lent) (k x)) (sym is.same) (stays (k lent).health);
+        are_kept = subst (λ b. AreKeptOver rows_over b) (sym is.none) (ap (λ x. (k x).rows) is.same);
         holds = subst (λ b. IfSome b (λ b. IsBoard b.opening b.state)) (sym is.none) tt;
         formed = subst (λ b. IfSome b (λ b. AreFormed b.state)) (sym is.none) tt;
         served = idle_served command answer is.idle accuses;
@@ -183,22 +187,22 @@ module _ {K C D L : Type 0} (k : keeper.Ghosts K) (c : clock.Ghosts C) (d : door
   end_still ends.ClockFault s answer says still = subst (λ a. IfOk a (λ text. IsStill)) (sym says) tt
   end_still ends.OutOfMemory s answer says still = subst (λ a. IfOk a (λ text. IsStill)) (sym says) tt
 
-  work_follows : (command : Option (Task × List ℕ)) (work : Work) (before after : ℕ) (s t : State) (answer : Outcome) → WorkServes command work → Works work serving before after s t answer → Served command answer
-  work_follows command (Script script) before after s t answer serves works = idle_served command answer works.1 (gives_accuses _ _ _ _ _ _ answer works.0)
-  work_follows command (Door port most) before after s t answer serves works =
+  work_follows : (command : Option (Task × List ℕ)) (work : Work) (desk : Over DeskAt) (answer : Outcome) → WorkServes command work → Works work serving desk answer → Served command answer
+  work_follows command (Script script) desk answer serves works = idle_served command answer works.1 (gives_accuses _ _ _ _ _ _ answer works.0)
+  work_follows command (Door port most) desk answer serves works =
       record {
         clock = works.clock;
         door = works.door;
-        still = end_still works.end t answer works.says works.still;
-        accuses = end_accuses _ _ _ _ _ works.end t answer works.says works.steady_clock
-            (λ has. works.steady_door has.0 (subst (λ n. HasLinks (d.told door_old) n) (sym serves) has.1));
+        still = end_still works.end desk.after.state answer works.says works.still;
+        accuses = end_accuses _ _ _ _ _ works.end desk.after.state answer works.says works.steady_clock
+            (λ has. works.steady_door has.0 (subst (λ n. HasLinks (d door_old).links n) (sym serves) has.1));
       }
 
-  opens_follow : (command : Option (Task × List ℕ)) (tables : TableRows) (work : Work) (board : Option Shown) (answer : Outcome) → WorkServes command work → KeeperGoesOn rows_over
+  opens_follow : (command : Option (Task × List ℕ)) (tables : TableRows) (work : Work) (board : Option Shown) (answer : Outcome) → WorkServes command work → KeeperGoesOn (k lent) (k kept)
       → Opens tables work serving rows_over board answer → Follows command board answer
   opens_follow command tables work None answer serves goes opens =
       let un = opens.0 in
-      let accuses = why_accuses _ _ _ _ _ _ un.why un.sound (λ rows. un.left rows.0 rows.1 rows.2) in
+      let accuses = why_accuses _ _ _ _ _ _ _ un.why (λ failed. failed.1) un.is (λ rows. un.left rows.0 rows.1 rows.2) in
       record { keeper = goes; are_kept = un.rows; holds = tt; formed = tt; served = idle_served command answer opens.1 (subst (HasNoFault command) (sym un.says) accuses) }
   opens_follow command tables work (Some b) answer serves goes opens =
       record {
@@ -206,7 +210,7 @@ module _ {K C D L : Type 0} (k : keeper.Ghosts K) (c : clock.Ghosts C) (d : door
         are_kept = (tables, opens.0);
         holds = opens.0.holds;
         formed = opens.0.formed;
-        served = work_follows command work (k.fault_count lent) (k.fault_count kept) b.opening b.state answer serves opens.1;
+        served = work_follows command work (desk_over rows_over b) answer serves opens.1;
       }
 
   done_follows : (task : Task) (name : List ℕ) (board : Option Shown) (answer : Outcome) (ground : Result Ground Fault) → Prepares shelf task name ground
@@ -235,7 +239,7 @@ abbrev pub Remains : ℕ → Type 0
 Remains n = Contains (0 ∷ 2 ∷ 6 ∷ 7 ∷ 8 ∷ 10 ∷ []) n
 
 module _ (still shelf keeper rows door clock : Type 0) (sink : Over SinkSeen) where
-  module _ (P : ℕ → Type 0) (two : P 2) (three : (shelf → ⊥) → P 3) (four : (sink.before.sound → ⊥) → P 4) (five : (keeper → ⊥) → P 5) (six : P 6) (seven : (rows → ⊥) → P 7) (eight : P 8)
+  module _ (P : ℕ → Type 0) (two : P 2) (three : (shelf → ⊥) → P 3) (four : (IsSound sink.before.health → ⊥) → P 4) (five : (keeper → ⊥) → P 5) (six : P 6) (seven : (rows → ⊥) → P 7) (eight : P 8)
       (nine : (door → ⊥) → P 9) (ten : P 10) (eleven : (clock → ⊥) → P 11) where
     by_fault : (fault : Fault) → Accuses shelf keeper rows door clock fault → P (status_of_fault fault)
     by_fault Usage says = two
@@ -253,14 +257,14 @@ module _ (still shelf keeper rows door clock : Type 0) (sink : Over SinkSeen) wh
     by_status : (answer : Outcome) (status : ℕ) → IfOk answer (λ text. P 0) → IfErr answer (Accuses shelf keeper rows door clock) → Writes sink answer status → P status
     by_status (Ok text) status is says (inl (said, has, same, wrote)) = subst P (sym same) is
     by_status (Err fault) status is says (inl (said, has, same, wrote)) = subst P (sym same) (by_fault fault says)
-    by_status answer status is says (inr (inl wrote)) = subst P (sym wrote.0) (four wrote.2)
+    by_status answer status is says (inr (inl wrote)) = subst P (sym wrote.0) (four wrote.1.1)
     by_status answer status is says (inr (inr wrote)) = subst P (sym wrote.0) eight
 
   pub status_cause : (answer : Outcome) (status : ℕ) → IfOk answer (λ text. still) → IfErr answer (Accuses shelf keeper rows door clock) → Writes sink answer status
-      → Cause still shelf sink.before.sound keeper rows door clock status
-  status_cause = by_status (Cause still shelf sink.before.sound keeper rows door clock) tt (λ no. no) (λ no. no) (λ no. no) tt (λ no. no) tt (λ no. no) tt (λ no. no)
+      → Cause still shelf (IsSound sink.before.health) keeper rows door clock status
+  status_cause = by_status (Cause still shelf (IsSound sink.before.health) keeper rows door clock) tt (λ no. no) (λ no. no) (λ no. no) tt (λ no. no) tt (λ no. no) tt (λ no. no)
 
-  pub status_remains : shelf → sink.before.sound → keeper → door → clock → (answer : Outcome) (status : ℕ) → IfErr answer (Accuses shelf keeper rows door clock) → Writes sink answer status
+  pub status_remains : shelf → IsSound sink.before.health → keeper → door → clock → (answer : Outcome) (status : ℕ) → IfErr answer (Accuses shelf keeper rows door clock) → Writes sink answer status
       → Remains status
   status_remains s o k d c answer status says wrote =
       by_status Remains (1, omega arith, refl) (λ no. absurd (no s)) (λ no. absurd (no o)) (λ no. absurd (no k)) (2, omega arith, refl) (λ no. (3, omega arith, refl)) (4, omega arith, refl)

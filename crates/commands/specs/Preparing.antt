@@ -1,7 +1,9 @@
 -- What a command stands on: the tables, and then the sources that its task names.
 use Rattle.std.specs.Prelude.{◌≡◌, ◌⊎◌, ℕ, ◌<◌, ◌≤◌, List, [], ◌∷◌, ◌++◌, length, map, Option, None, Some, Result, Ok, Err, IsErrAnd}
-use Rattle.desk_io.specs.Causes.{RoseOrFull}
-use Rattle.desk_io.specs.Told.{HoldsName, OnSource}
+use Rattle.desk_io.specs.Health.{HasFailedWhere, IsSound}
+use Rattle.desk_io.specs.Over.{Over}
+use Rattle.desk_io.specs.Seen.{Holds, ShelfSeen}
+use Rattle.desk_io.specs.Told.{OnSource}
 use Rattle.kept_forms.specs.Formed.{NamesHaveForms}
 use Rattle.ops_tables.specs.Tables.{TableRows}
 use Rattle.table_files.specs.Files.{files, name_of}
@@ -12,7 +14,6 @@ use Rattle.words.specs.declared.task.DeskTask.TheVariants.{Run, Serve}
 use Rattle.words.specs.declared.task.Task.{Task}
 use Rattle.words.specs.declared.task.Task.TheVariants.{Weather, Desk}
 use Rattle.commands.specs.Faults.{of_tables}
-use Rattle.commands.specs.Seen.{Over, ShelfSeen}
 use Rattle.commands.specs.declared.fault.Fault.{Fault}
 use Rattle.commands.specs.declared.fault.Fault.TheVariants.{ReadFault, OutOfMemory, InputTooLong}
 use Rattle.commands.specs.declared.preparing.Ground.{Ground}
@@ -52,7 +53,7 @@ links_of (Some command) = links_for command.0
 -- more than 64 MiB; or memory ran out.
 abbrev pub SourceFails : Over ShelfSeen → List ℕ → Fault → Type 0
 SourceFails shelf name (ReadFault file) =
-    (file ≡ name) × RoseOrFull shelf.before.faults shelf.after.faults × (shelf.before.sound → HoldsName shelf.before.sources name → ⊥)
+    (file ≡ name) × HasFailedWhere (Holds shelf.before name) shelf.before.health shelf.after.health
 SourceFails shelf name (InputTooLong file) = (file ≡ name) × OnSource shelf.before.sources name (λ bytes. 67_108_864 < length bytes)
 SourceFails shelf name OutOfMemory = Unit {0}
 SourceFails shelf name _ = ⊥
@@ -67,8 +68,8 @@ pub record TablesFail (shelf : Over ShelfSeen) (fault : Fault) : Type 0 where
   pub stop : TableFault
   pub is : fault ≡ of_tables stop
   pub reads : ReadsTables shelf.before.sources (Err stop)
-  pub rose : RoseAt shelf.before.faults shelf.after.faults stop
-  pub sound : shelf.before.sound → StopsAtMissing shelf.before.sources stop
+  pub rose : RoseAt shelf.before.health shelf.after.health stop
+  pub sound : IsSound shelf.before.health → StopsAtMissing shelf.before.sources stop
 
 -- what a task on a desk does with its sources, or why one wasn't read
 abbrev pub ReadsWork : Over ShelfSeen → DeskTask → List ℕ → Result Work Fault → Type 0

@@ -1,6 +1,7 @@
 ghost use Rattle.std.specs.Prelude.{map, string_bytes};
 ghost use Rattle.commands.specs.Answers.{IsDone, Says};
-ghost use Rattle.commands.specs.Seen.{keeper_seen, over, service, shelf_seen};
+ghost use Rattle.desk_io.specs.Over.{over};
+ghost use Rattle.commands.specs.Seen.{lent, service};
 ghost use Rattle.words.specs.Words.{command_of};
 
 use crate::fault::Fault;
@@ -24,9 +25,9 @@ fn done<R: Wait, S: Shelf, K: Keeper, C: Clock, D: Door>(
     door: &mut D,
     keeper: K,
 ) -> Said<K>
-    ensures { IsDone (over (shelf_seen S.Shelf.own) shelf.old shelf.new)
-        (service C.Clock.own D.Door.own D.Link.Link.own clock.old clock.new door.old door.new)
-        (over (keeper_seen K.Keeper.own) keeper result.keeper) (task, name.now) result.board result.answer }
+    ensures { IsDone (over S.seen shelf.old shelf.new)
+        (service C.seen D.seen D.Link.seen clock.old clock.new door.old door.new)
+        (lent K.seen keeper result.keeper) (task, name.now) result.board result.answer }
 {
     match prepare(alloc, task, name, shelf) {
         Ok(ground) => work(rt, alloc, ground, clock, door, keeper),
@@ -44,9 +45,9 @@ pub(crate) fn answer_to<R: Wait, S: Shelf, K: Keeper, C: Clock, D: Door>(
     door: &mut D,
     keeper: K,
 ) -> Said<K>
-    ensures { Says (over (shelf_seen S.Shelf.own) shelf.old shelf.new)
-        (service C.Clock.own D.Door.own D.Link.Link.own clock.old clock.new door.old door.new)
-        (over (keeper_seen K.Keeper.own) keeper result.keeper) (command_of (map string_bytes words.now))
+    ensures { Says (over S.seen shelf.old shelf.new)
+        (service C.seen D.seen D.Link.seen clock.old clock.new door.old door.new)
+        (lent K.seen keeper result.keeper) (command_of (map string_bytes words.now))
         result.board result.answer }
 {
     match command(alloc, words) {

@@ -1,6 +1,6 @@
 ghost use Rattle.std.specs.Prelude.{IfOk};
 ghost use Rattle.commands.specs.Preparing.{HasFormedNames, Prepares, ReadsSource, ReadsWork, StandsOn};
-ghost use Rattle.commands.specs.Seen.{over, shelf_seen};
+ghost use Rattle.desk_io.specs.Over.{over};
 ghost use Rattle.kept_forms.specs.Formed.{NamesHaveForms};
 
 use crate::fault::Fault;
@@ -31,7 +31,7 @@ pub(crate) enum Ground {
 
 // The whole source of that name.
 fn read_source<S: Shelf>(alloc: Global, shelf: &mut S, name: &str) -> Result<Text, Fault>
-    ensures { ReadsSource (over (shelf_seen S.Shelf.own) shelf.old shelf.new) name.now result }
+    ensures { ReadsSource (over S.seen shelf.old shelf.new) name.now result }
 {
     match read_whole(alloc, shelf, name) {
         Ok(text) => Ok(text),
@@ -48,7 +48,7 @@ fn read_work<S: Shelf>(
     name: &str,
     shelf: &mut S,
 ) -> Result<Work, Fault>
-    ensures { ReadsWork (over (shelf_seen S.Shelf.own) shelf.old shelf.new) task name.now result }
+    ensures { ReadsWork (over S.seen shelf.old shelf.new) task name.now result }
 {
     match task {
         DeskTask::Run => Ok(Work::Script(read_source(alloc, shelf, name)?)),
@@ -65,7 +65,7 @@ fn on_desk<S: Shelf>(
     shelf: &mut S,
 ) -> Result<Ground, Fault>
     requires { NamesHaveForms tables }
-    ensures stands { StandsOn (over (shelf_seen S.Shelf.own) shelf.old shelf.new) tables task name.now result }
+    ensures stands { StandsOn (over S.seen shelf.old shelf.new) tables task name.now result }
     ensures formed { IfOk result HasFormedNames }
 {
     match read_work(alloc, task, name, shelf) {
@@ -84,7 +84,7 @@ pub(crate) fn prepare<S: Shelf>(
     name: &str,
     shelf: &mut S,
 ) -> Result<Ground, Fault>
-    ensures prepares { Prepares (over (shelf_seen S.Shelf.own) shelf.old shelf.new) task name.now result }
+    ensures prepares { Prepares (over S.seen shelf.old shelf.new) task name.now result }
     ensures formed { IfOk result HasFormedNames }
 {
     match task {

@@ -1,12 +1,15 @@
 ghost use Rattle.std.specs.Prelude.{◌≡◌, ◌≢◌, ◌≤◌, [], ◌∷◌, map, string_bytes, IfSome};
 ghost use Rattle.std.specs.List.{Contains};
 ghost use Rattle.commands.specs.Answers.{AreKeptOver, Blames, EndsProgram, HasDoor, HasSources, Says, Writes};
-ghost use Rattle.commands.specs.Seen.{door_seen, keeper_seen, over, service, shelf_seen, sink_seen};
+ghost use Rattle.desk_io.specs.Health.{IsSound, IsStill};
+ghost use Rattle.desk_io.specs.Over.{over};
+ghost use Rattle.keeper.specs.Seen.{KeeperGoesOn};
+ghost use Rattle.commands.specs.Seen.{lent, service};
 ghost use Rattle.desk.specs.Opening.{IsLeft, TellsRowsOf};
 ghost use Rattle.kept_forms.specs.Formed.{AreFormed};
 ghost use Rattle.desk_state.specs.Sound.{IsBoard};
 ghost use Rattle.desk_state.specs.State.{State};
-ghost use Rattle.service.specs.Onward.{ClockGoesOn};
+ghost use Rattle.desk_net.specs.Seen.{ClockGoesOn};
 ghost use Rattle.words.specs.Words.{command_of};
 
 use crate::commands::answer_to;
@@ -31,7 +34,7 @@ pub struct Ending<K, C> {
 
 // Writes what is told of an answer, and gives the status.
 fn write<O: Sink>(alloc: Global, answer: Result<Text, Fault>, out: &mut O) -> u8
-    ensures { Writes (over (sink_seen O.Sink.own) out.old out.new) answer result }
+    ensures { Writes (over O.seen out.old out.new) answer result }
 {
     let Ok(told) = tell(alloc, answer) else {
         return Fault::OutOfMemory.status();
@@ -78,35 +81,35 @@ pub fn desk_main<R: Wait, S: Shelf, O: Sink, C: Clock + Drop, K: Keeper, D: Door
 ) -> Ending<K, C>
     // Over an outside that is sound, with the sources that the words name and a link to come for each connection,
     // nothing fails but memory: all was read and said, or the words, a source, a table or a row are at fault.
-    ensures complete { HasSources (shelf_seen S.Shelf.own shelf.old) (command_of (map string_bytes words.now))
-        → HasDoor (door_seen D.Door.own door.old) (command_of (map string_bytes words.now))
-        → O.sound out.old → K.sound keeper → C.sound clock → Contains (0 ∷ 2 ∷ 6 ∷ 7 ∷ 8 ∷ 10 ∷ []) result.status }
-    ensures blames { Blames (HasSources (shelf_seen S.Shelf.own shelf.old) (command_of (map string_bytes words.now)))
-        (O.sound out.old) (K.sound keeper)
-        (HasDoor (door_seen D.Door.own door.old) (command_of (map string_bytes words.now)))
-        (C.sound clock) result.status }
-    ensures ends { EndsProgram (Says (over (shelf_seen S.Shelf.own) shelf.old shelf.new)
-        (service C.Clock.own D.Door.own D.Link.Link.own clock result.clock door.old door.new)
-        (over (keeper_seen K.Keeper.own) keeper result.keeper) (command_of (map string_bytes words.now)) result.board)
-        (over (sink_seen O.Sink.own) out.old out.new) result.status }
+    ensures complete { HasSources (S.seen shelf.old) (command_of (map string_bytes words.now))
+        → HasDoor (D.seen door.old) (command_of (map string_bytes words.now))
+        → IsSound (O.seen out.old).health → IsSound (K.seen keeper).health → IsSound (C.seen clock).health → Contains
+        (0 ∷ 2 ∷ 6 ∷ 7 ∷ 8 ∷ 10 ∷ []) result.status }
+    ensures blames { Blames (HasSources (S.seen shelf.old) (command_of (map string_bytes words.now)))
+        (IsSound (O.seen out.old).health) (IsSound (K.seen keeper).health)
+        (HasDoor (D.seen door.old) (command_of (map string_bytes words.now)))
+        (IsSound (C.seen clock).health) result.status }
+    ensures ends { EndsProgram (Says (over S.seen shelf.old shelf.new)
+        (service C.seen D.seen D.Link.seen clock result.clock door.old door.new)
+        (lent K.seen keeper result.keeper) (command_of (map string_bytes words.now)) result.board)
+        (over O.seen out.old out.new) result.status }
     // Whatever the status: the clock tells the same moments, and neither its count nor the door's falls. A sound clock
     // stays sound, and its count stands still.
-    ensures clock { ClockGoesOn C.moments C.fault_count C.sound clock result.clock }
+    ensures clock { ClockGoesOn (C.seen clock) (C.seen result.clock) }
     // At status 0 no fault of the clock was passed over.
-    ensures still { result.status ≡ 0 → C.fault_count result.clock ≡ C.fault_count clock }
-    ensures door { D.fault_count door.old ≤ D.fault_count door.new }
-    ensures later { K.fault_count keeper ≤ K.fault_count result.keeper }
+    ensures still { result.status ≡ 0 → IsStill (C.seen clock).health (C.seen result.clock).health }
+    ensures door { (D.seen door.old).health.faults ≤ (D.seen door.new).health.faults }
+    ensures keeper { KeeperGoesOn (K.seen keeper) (K.seen result.keeper) }
     // A sound keeper never ends a run, and since its count stands still nothing is refused for its sake.
-    ensures steady { K.sound keeper
-        → K.sound result.keeper × (K.fault_count result.keeper ≡ K.fault_count keeper) × (result.status ≢ 5) }
+    ensures steady { IsSound (K.seen keeper).health → result.status ≢ 5 }
     // Whatever the status: without a board the rows are as before, and else they are kept for its state.
-    ensures kept { AreKeptOver (over (keeper_seen K.Keeper.own) keeper result.keeper) result.board }
+    ensures kept { AreKeptOver (lent K.seen keeper result.keeper) result.board }
     // The board is one: its history is legal from its opening state, and each active release bears both signatures on
     // its very text, and fails no rule or has one alert that names exactly the rules that it fails.
     ensures board { IfSome result.board (λ b. IsBoard b.opening b.state) }
     // Over the rows of a desk that was left there is no fault of rows; and a desk that is left again has the forms by
     // which its rows are those of a desk.
-    ensures left { (s : State) → IsLeft s → TellsRowsOf (K.told keeper) s → result.status ≢ 7 }
+    ensures left { (s : State) → IsLeft s → TellsRowsOf (K.seen keeper).rows s → result.status ≢ 7 }
     ensures formed { IfSome result.board (λ b. AreFormed b.state) }
 {
     let Said {

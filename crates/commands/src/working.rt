@@ -1,12 +1,14 @@
 ghost use Rattle.std.specs.Prelude.{◌≡◌, ◌<◌};
 ghost use Rattle.commands.specs.Faults.{Gives};
-ghost use Rattle.commands.specs.Seen.{KeeperGoesOn, keeper_seen, over, service};
+ghost use Rattle.desk.specs.Seen.{desk_at, desk_seen, DeskGoesOn};
+ghost use Rattle.desk_io.specs.Over.{over};
+ghost use Rattle.keeper.specs.Seen.{KeeperGoesOn};
+ghost use Rattle.commands.specs.Seen.{lent, service};
 ghost use Rattle.commands.specs.Weather.{weather_text};
 ghost use Rattle.commands.specs.Preparing.{HasFormedNames};
-ghost use Rattle.commands.specs.Working.{Does, EndSays, Opens, Runs, WorksOn};
+ghost use Rattle.commands.specs.Working.{Does, EndSays, Opens, Runs, Works};
 ghost use Rattle.kept_forms.specs.Formed.{NamesHaveForms};
 ghost use Rattle.desk_state.specs.Sound.{IsBoard};
-ghost use Rattle.service.specs.Onward.{DeskGoesOn};
 
 use crate::fault::Fault;
 use crate::preparing::{Ground, Work};
@@ -75,8 +77,8 @@ fn run<K: Keeper, L: Ledger>(
     script: &[u8],
     steps: &mut Steps<L>,
 ) -> Result<Text, Fault>
-    ensures run { Runs K.Keeper.own script.now desk.old desk.new result }
-    ensures desk { DeskGoesOn K.told K.fault_count K.sound desk.old desk.new }
+    ensures run { Runs script.now (over (desk_at K.seen) desk.old desk.new) result }
+    ensures desk { DeskGoesOn (desk_seen K.seen desk.old) (desk_seen K.seen desk.new) }
 {
     Ok(Text::from_vec(text_from(alloc, desk, script, steps)?))
 }
@@ -104,10 +106,10 @@ fn serve<R: Wait, K: Keeper, C: Clock, D: Door, L: Ledger>(
     connections: u32,
     steps: &mut Steps<L>,
 ) -> Result<Text, Fault>
-    ensures serves { WorksOn K.Keeper.own (Work.Door port connections)
-        (service C.Clock.own D.Door.own D.Link.Link.own clock.old clock.new door.old door.new)
-        desk.old desk.new result }
-    ensures desk { DeskGoesOn K.told K.fault_count K.sound desk.old desk.new }
+    ensures serves { Works (Work.Door port connections)
+        (service C.seen D.seen D.Link.seen clock.old clock.new door.old door.new)
+        (over (desk_at K.seen) desk.old desk.new) result }
+    ensures desk { DeskGoesOn (desk_seen K.seen desk.old) (desk_seen K.seen desk.new) }
 {
     let end = serve_door(rt, alloc, desk, door, clock, port, connections, steps);
     answer_of_end(alloc, end, &desk.board)
@@ -123,10 +125,10 @@ fn work_on<R: Wait, K: Keeper, C: Clock, D: Door, L: Ledger>(
     door: &mut D,
     steps: &mut Steps<L>,
 ) -> Result<Text, Fault>
-    ensures works { WorksOn K.Keeper.own work
-        (service C.Clock.own D.Door.own D.Link.Link.own clock.old clock.new door.old door.new)
-        desk.old desk.new result }
-    ensures desk { DeskGoesOn K.told K.fault_count K.sound desk.old desk.new }
+    ensures works { Works work
+        (service C.seen D.seen D.Link.seen clock.old clock.new door.old door.new)
+        (over (desk_at K.seen) desk.old desk.new) result }
+    ensures desk { DeskGoesOn (desk_seen K.seen desk.old) (desk_seen K.seen desk.new) }
 {
     match work {
         Work::Script(script) => run(alloc, desk, script.bytes(), steps),
@@ -152,9 +154,9 @@ fn open_for<R: Wait, K: Keeper, C: Clock, D: Door, L: Ledger>(
     requires parts { blank.parts ≡ L.parts }
     requires some { 0 < blank.parts }
     ensures opens { Opens tables work
-        (service C.Clock.own D.Door.own D.Link.Link.own clock.old clock.new door.old door.new)
-        (over (keeper_seen K.Keeper.own) keeper result.keeper) result.board result.answer }
-    ensures keeper { KeeperGoesOn (over (keeper_seen K.Keeper.own) keeper result.keeper) }
+        (service C.seen D.seen D.Link.seen clock.old clock.new door.old door.new)
+        (lent K.seen keeper result.keeper) result.board result.answer }
+    ensures keeper { KeeperGoesOn (K.seen keeper) (K.seen result.keeper) }
 {
     let mut steps = Steps::<L>::new(blank);
     match open(alloc, tables, keeper, &mut steps) {
@@ -177,8 +179,8 @@ pub(crate) fn work<R: Wait, K: Keeper, C: Clock, D: Door>(
 ) -> Said<K>
     requires { HasFormedNames ground }
     ensures { Does ground
-        (service C.Clock.own D.Door.own D.Link.Link.own clock.old clock.new door.old door.new)
-        (over (keeper_seen K.Keeper.own) keeper result.keeper) result.board result.answer }
+        (service C.seen D.seen D.Link.seen clock.old clock.new door.old door.new)
+        (lent K.seen keeper result.keeper) result.board result.answer }
 {
     match ground {
         Ground::Reports(file) => boardless(read_reports(alloc, file.bytes()), keeper),

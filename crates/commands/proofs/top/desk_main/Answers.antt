@@ -1,6 +1,6 @@
 use Rattle.std.proofs.Common.{subst}
 use Rattle.commands.proofs.Says.{Cause, follows, status_cause, status_remains}
-use Rattle.commands.specs.Seen.{over, sink_seen}
+use Rattle.desk_io.specs.Over.{over}
 use Rattle.commands.proofs.top.desk_main.Goals as goal
 
 pub returns : goal.returns
@@ -8,8 +8,8 @@ returns g c =
     let said = c.answer_to-answer in
     let answer = said.result.answer in
     let status = c.write-status.result in
-    let sink = over (sink_seen g.O.Sink) c.args.out.now c.write-status.new.out in
-    let all = follows g.K.Keeper g.C.Clock g.D.Door g.D.Link.Link c.args.keeper said.result.keeper c.args.clock said.new.clock c.args.door.now said.new.door _ _ said.result.board answer said.ensures in
+    let sink = over g.O.Sink.seen c.args.out.now c.write-status.new.out in
+    let all = follows g.K.Keeper.seen g.C.Clock.seen g.D.Door.seen g.D.Link.Link.seen c.args.keeper said.result.keeper c.args.clock said.new.clock c.args.door.now said.new.door _ _ said.result.board answer said.ensures in
     let on = all.served in
     let cause = status_cause _ _ _ _ _ _ sink answer status on.still on.accuses c.write-status.ensures in
     record {
@@ -22,11 +22,11 @@ returns g c =
         eleven = λ clock is. subst (Cause _ _ _ _ _ _ _) is cause clock;
       };
       ends = record { answer = answer; says = said.ensures; writes = c.write-status.ensures };
-      clock = record { moments = on.clock.moments; later = on.clock.later; sound = on.clock.sound };
+      clock = on.clock;
       still = λ zero. subst (Cause _ _ _ _ _ _ _) zero cause;
       door = on.door;
-      later = all.keeper.later;
-      steady = λ keeper. ((all.keeper.sound keeper).0, (all.keeper.sound keeper).1, λ is. subst (Cause _ _ _ _ _ _ _) is cause keeper);
+      keeper = all.keeper;
+      steady = λ keeper is. subst (Cause _ _ _ _ _ _ _) is cause keeper;
       kept = all.are_kept;
       board = all.holds;
       left = λ s is tells seven. subst (Cause _ _ _ _ _ _ _) seven cause (s, is, tells);
