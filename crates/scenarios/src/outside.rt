@@ -1,4 +1,5 @@
 ghost use Rattle.std.specs.Prelude.{None};
+ghost use Rattle.desk_io.specs.Health.{unsound};
 
 use desk_io::{Change, Failed, Row};
 use desk_net::{Clock, MemoryClock};
@@ -31,11 +32,7 @@ impl CaseClock {
 }
 
 impl Clock for CaseClock {
-    ghost moments = { λ c. None };
-
-    ghost fault_count = { λ c. c.faults };
-
-    ghost sound = { λ c. ⊥ };
+    ghost seen = { λ c. record { moments = None; health = unsound c.faults } };
 
     fn now(&mut self) -> Result<Minute, Failed> {
         match self.clock.now() {
@@ -82,13 +79,7 @@ impl CaseKeeper {
 }
 
 impl Keeper for CaseKeeper {
-    ghost told = { λ k. None };
-
-    ghost fault_count = { λ k. k.faults };
-
-    ghost commits = { λ k. k.commits };
-
-    ghost sound = { λ k. ⊥ };
+    ghost seen = { λ k. record { rows = None; commits = k.commits; health = unsound k.faults } };
 
     fn load(&mut self, alloc: Global) -> Result<Vec<Row>, KeepFault> {
         if self.loads {
