@@ -1,13 +1,13 @@
 ghost use Rattle.std.specs.Prelude.{◌≡◌, ◌≤◌, ◌++◌, map, filter, All, IfOk, OnOk};
 ghost use Rattle.ops_tables.specs.Limits.{FitsApproach, FitsAlternate, FitsSettings};
-ghost use Rattle.codes.specs.Pair.{AreWithin};
+ghost use Rattle.stations.specs.Pair.{AreWithin};
 ghost use Rattle.airport_minima.specs.Minima as spec;
 ghost use Rattle.airport_minima.specs.Minima.{landing, alternate_pairs};
 
 use crate::usable::{millimetres, minima_of, usable};
-use codes::{Pair, Pairs, Station};
 use desk_io::{Listed, OutOfMemory};
 use ops_tables::{AlternateRow, Approach, Lost, Settings, Tables, TypeRow};
+use stations::{Pair, Pairs, Station};
 use std::alloc::Global;
 
 fn landing_minima(alloc: Global, usable: &[&Approach]) -> Result<Vec<Pair>, OutOfMemory>

@@ -6,8 +6,8 @@ ghost use Rattle.airport_minima.specs.Floor.{flag_floor};
 ghost use Rattle.airport_minima.specs.Lowest.{IsFlagFloor};
 
 use crate::usable::{is_usable, millimetres};
-use codes::{MILE, Pair, Station};
 use ops_tables::{Approach, Lost, Tables, TypeRow};
+use stations::{MILE, Pair, Station};
 
 /// The least height in feet and the least visibility in sixteenths of a statute mile of some
 /// approaches.

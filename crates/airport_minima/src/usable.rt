@@ -2,9 +2,9 @@ ghost use Rattle.std.specs.Prelude.{◌≡◌, ◌≤◌, map, filter, All, IfOk
 ghost use Rattle.ops_tables.specs.Limits.{FitsApproach};
 ghost use Rattle.airport_minima.specs.Minima as spec;
 
-use codes::Pair;
 use desk_io::OutOfMemory;
 use ops_tables::{Approach, Lost, TypeRow, has_name};
+use stations::Pair;
 use std::alloc::Global;
 
 /// Millimetres in a sixteenth of a statute mile.

@@ -1,7 +1,7 @@
-use codes::Station;
 use desk_io::{Copied, OutOfMemory, Text};
 use desk_time::Minute;
 use plan::Plan;
+use stations::Station;
 use std::alloc::Global;
 
 /// What is asked.

@@ -9,7 +9,6 @@ pub mod TextsAgain
 pub mod Whole
 pub mod Compact
 pub mod Plain
-pub mod Chains
 pub mod MomentRange
 pub mod PlanForms
 pub mod AskForms

@@ -11,7 +11,7 @@ use Rattle.desk_time.specs.Limits.{last_moment}
 use Rattle.desk_time.specs.Moments.{written, up_to, minute_of, date_at, time_at, time_of}
 use Rattle.desk_time.proofs.CalendarLaws.{day_number-count}
 use Rattle.plan.specs.Texts.{IsMoment}
-use Rattle.call_json.proofs.Chains.{bind_if, bind_any, under}
+use Rattle.desk_time.proofs.Chains.{bind_if, bind_any, under}
 
 last_of_1999 : day_number 1999 12 31 ≡ 10_956
 unfolding day_number days_of_years days_of_months

@@ -15,7 +15,7 @@ use Rattle.serde_json.specs.declared.value.Value.TheOpen.{Value-F}
 use Rattle.call_json.specs.Fields.{text_at, short, short_at}
 use Rattle.call_json.specs.Canonical.{IsShort}
 use Rattle.call_json.specs.Plain.{HasText, ItemsHaveText, MembersHaveText}
-use Rattle.call_json.proofs.Chains.{under}
+use Rattle.desk_time.proofs.Chains.{under}
 
 abbrev ValueHasText : Value → Type 0
 ValueHasText v = HasText (view v)

@@ -7,7 +7,7 @@ use Rattle.serde_json.specs.View.{items_of}
 use Rattle.serde_json.specs.Written.{compact_text}
 use Rattle.sha2.specs.Sha256.{sha256}
 use Rattle.desk_time.specs.Moments.{shown}
-use Rattle.codes.specs.Station.{is_station}
+use Rattle.stations.specs.Station.{is_station}
 use Rattle.plan.specs.Texts.{IsMoment}
 use Rattle.plan.specs.declared.flights.Kind.{Kind}
 use Rattle.plan.specs.declared.flights.Kind.TheVariants.{Domestic, Flag}

@@ -5,10 +5,10 @@ ghost use Rattle.serde_json.specs.Find.{get, as_number, as_u64};
 ghost use Rattle.plan.specs.Texts.{IsMoment};
 ghost use Rattle.call_json.specs.Fields as spec;
 
-use codes::Station;
 use desk_io::OutOfMemory;
 use desk_time::{Minute, read_minute};
 use serde_json::Value;
+use stations::Station;
 use std::alloc::Global;
 use std::str;
 

@@ -7,11 +7,11 @@ ghost use Rattle.call_json.specs.Fields.{each_read};
 ghost use Rattle.call_json.specs.Legs as spec;
 
 use crate::fields::{amount_at, has_members, list_at, moment_at, station_at};
-use codes::Station;
 use desk_io::OutOfMemory;
 use desk_time::Minute;
 use plan::{Alternate, Alternates, Leg, Legs, TakeoffAlternate};
 use serde_json::Value;
+use stations::Station;
 use std::alloc::Global;
 
 // The airports of a leg.

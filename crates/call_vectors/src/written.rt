@@ -1,4 +1,5 @@
-use codes::{BadReport, Cond, Pair, Why};
+use codes::{BadReport, Cond, Why};
+use stations::Pair;
 use desk_io::OutOfMemory;
 use metar::Metar;
 use std::alloc::Global;

@@ -1,4 +1,3 @@
-pub mod Station
 pub mod Groups
 pub mod Shapes
 pub mod Class
@@ -6,7 +5,7 @@ pub mod Cond
 pub mod Moment
 pub mod Period
 pub mod Answers
-pub mod Pair
+pub mod Minima
 pub mod Digits
 pub mod VisibilityTable
 pub mod SkyTable

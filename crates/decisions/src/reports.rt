@@ -10,7 +10,8 @@ ghost use Rattle.decisions.specs.Reads.{DecisionAdmitsRead};
 
 use crate::chain::{Stop, refused_if};
 use asks::{Done, Refusal, Reply};
-use codes::{BadReport, ReportFault, Station, Why};
+use codes::{BadReport, ReportFault, Why};
+use stations::Station;
 use desk_io::Text;
 use desk_state::{Content, Decision, Effect};
 use facts::{HELD_LIMIT, Received, Report, receive};

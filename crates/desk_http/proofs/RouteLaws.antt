@@ -6,7 +6,7 @@ use Rattle.std.specs.Prelude.{unwrap_or}
 use Rattle.std.specs.Option.{option_map}
 use Rattle.std.proofs.lemmas.Bool.{and_right, and_parts, cases_eq, eqb-true, false_from_ne_true}
 use Rattle.matchit.specs.Seek.{first, has_slash}
-use Rattle.codes.specs.Station.{is_capital, is_capital_or_digit, is_station}
+use Rattle.stations.specs.Station.{is_capital, is_capital_or_digit, is_station}
 use Rattle.desk_http.specs.Digits.{is_digit, has_length, digits_after}
 use Rattle.desk_http.specs.Routes.{after, fixed_route, release_route, weather_route, deferred_route, route_among, route_in, route_of}
 use Rattle.desk_http.specs.Names.{patterns, rest_after, named_route}

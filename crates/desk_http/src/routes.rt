@@ -10,8 +10,8 @@ ghost use Rattle.desk_http.specs.declared.routes.RouteFault.TheVariants.{OutOfMe
 use crate::Wire;
 use crate::digits::{has_length, number_of};
 use crate::router::{Named, name_of};
-use codes::Station;
 use desk_io::{OutOfMemory, Text};
+use stations::Station;
 use std::alloc::Global;
 use std::str;
 

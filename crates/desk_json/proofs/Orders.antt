@@ -12,7 +12,7 @@ use Rattle.serde_json.specs.Find.{get, get_member}
 use Rattle.serde_json.specs.Read.{max_depth, read, of_json, of_items, of_members, number_of}
 use Rattle.call_json.specs.Fields.{data_of}
 use Rattle.call_json.specs.Plain.{IsBefore, AreInOrder}
-use Rattle.call_json.proofs.Chains.{then_if, under}
+use Rattle.desk_time.proofs.Chains.{then_if, under}
 
 abbrev mutual
   pub Ordered : Data → Type 0

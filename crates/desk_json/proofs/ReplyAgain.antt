@@ -27,7 +27,7 @@ use Rattle.call_json.specs.Canonical.{IsAmount}
 use Rattle.call_json.specs.Fields.{data_of, up_to}
 use Rattle.call_json.specs.Plain.{IsPlain, HasText}
 use Rattle.call_json.proofs.Again.{small_again, amount_again, each_again, done_again}
-use Rattle.call_json.proofs.Chains.{bind_any, under}
+use Rattle.desk_time.proofs.Chains.{bind_any, under}
 use Rattle.call_json.proofs.Compact.{read_compact, utf8_compact}
 use Rattle.call_json.proofs.DigestLaws.{digest_again}
 use Rattle.call_json.proofs.Plain.{order_of, text_of, list_plain, list_has_text, list_depth, done_plain, done_has_text, done_depth}

@@ -23,7 +23,7 @@ use Rattle.call_json.specs.Canonical.{IsAmount, SaidDoneHasForms}
 use Rattle.call_json.specs.Digests.{digest_at, IsDigest}
 use Rattle.call_json.specs.Dones.{said_done_of}
 use Rattle.call_json.specs.Fields.{text_at, number_at, amount_at, list_at, each_read}
-use Rattle.call_json.proofs.Chains.{bind_if, bind_any, then_if, under, either, weaker}
+use Rattle.desk_time.proofs.Chains.{bind_if, bind_any, then_if, under, either, weaker}
 use Rattle.call_json.proofs.DoneForms.{digest_is, done_formed}
 use Rattle.call_json.proofs.MomentRange.{minute_within}
 use Rattle.call_json.proofs.PlanForms.{number_formed, amount_formed, each_formed}

@@ -14,7 +14,7 @@ use Rattle.std.proofs.lemmas.List.Elements.{All-filter}
 use Rattle.std.proofs.lemmas.List.Kept.{AllPairs-filter}
 use Rattle.std.proofs.lemmas.Map.Text.{is_eq-slice_cmp}
 use Rattle.std.proofs.lemmas.Slice.Eq.{bytes_eq-Decides}
-use Rattle.codes.specs.Station.{Station}
+use Rattle.stations.specs.Station.{Station}
 use Rattle.facts.specs.declared.latest.Kind.{Kind}
 use Rattle.facts.specs.declared.latest.Kind.TheVariants as kind
 use Rattle.facts.specs.declared.report.Read.{Read}

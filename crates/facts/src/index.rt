@@ -95,7 +95,7 @@ pub(crate) fn first_place(
 
 /// A number of a text that texts seldom share.
 #[tactic(auto, unfolding(crate::specs::Index::fingerprint))]
-pub(crate) fn fingerprint(text: &[u8]) -> u64
+pub fn fingerprint(text: &[u8]) -> u64
     ensures { result ≡ spec.fingerprint text.now }
 {
     let mut number: u64 = 1;

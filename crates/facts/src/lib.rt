@@ -10,6 +10,7 @@ mod reports;
 mod sorted;
 mod sweeping;
 
+pub use index::fingerprint;
 pub use latest::Kind;
 pub use lines::{push_line, push_weather, push_weather_at};
 pub use reader::{read_groups, read_report, receive};

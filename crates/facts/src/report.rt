@@ -2,10 +2,10 @@ ghost use Rattle.std.specs.Prelude.{◌≡◌};
 ghost use Rattle.std.specs.Option.{option_copied};
 ghost use Rattle.facts.specs.Same as spec;
 
-use codes::Station;
 use desk_io::{Copied, OutOfMemory, Text};
 use desk_time::Minute;
 use metar::Metar;
+use stations::Station;
 use std::alloc::Global;
 use taf::Taf;
 

@@ -8,7 +8,6 @@ pub mod DigestForms
 pub mod NameForms
 pub mod EffectForms
 pub mod FormLaws
-pub mod Names
 pub mod Segments
 pub mod Validity
 pub mod Together

@@ -6,7 +6,7 @@ use Rattle.codes.specs.Cond.{is_period, stretch_of}
 use Rattle.codes.specs.Groups.{first_of}
 use Rattle.codes.specs.Moment.{written_moment, moment_or, time_of}
 use Rattle.codes.specs.Period.{end_of, ends, period_of}
-use Rattle.codes.specs.Station.{Station, station_of}
+use Rattle.stations.specs.Station.{Station, station_of}
 use Rattle.codes.specs.declared.cond.Stretch.{Stretch}
 use Rattle.codes.specs.declared.fault.BadReport.{BadReport}
 use Rattle.codes.specs.declared.fault.Form.TheVariants.{Report}
@@ -19,7 +19,7 @@ use Rattle.desk_time.specs.declared.moments.BadDay.{BadDay}
 use Rattle.desk_time.specs.declared.moments.BadDay.TheVariants.{BadTime, OutOfReach}
 use Rattle.metar.specs.Reading.{is_cor, is_nil, is_speci, after_word, after_words, body_of, number_of, nil_report, with_stretch, after_time, observed_at, after_station, at_station, from_station, reading}
 use Rattle.metar.specs.declared.metar.Metar.{Metar}
-use Rattle.call_json.proofs.Chains.{bind_any}
+use Rattle.desk_time.proofs.Chains.{bind_any}
 use Rattle.taf.specs.Parts.{IsMoment}
 
 -- on either side of a test

@@ -5,7 +5,7 @@ use Rattle.std.specs.List.{AllByRecursion}
 use Rattle.std.proofs.lemmas.Bool.{le-ltb, ltb-false}
 use Rattle.codes.specs.Answers.{too_long}
 use Rattle.codes.specs.Groups.{groups_of, canonical, first_of}
-use Rattle.codes.specs.Station.{Station}
+use Rattle.stations.specs.Station.{Station}
 use Rattle.codes.specs.declared.fault.BadReport.{BadReport}
 use Rattle.codes.proofs.CanonicalLaws.{groups_are_groups, groups_of_canonical}
 use Rattle.codes.proofs.LengthLaws.{length-canonical}

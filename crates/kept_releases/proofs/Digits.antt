@@ -8,7 +8,7 @@ use Rattle.std.proofs.lemmas.Fmt.{decimal_nonempty, decimal_digit, first_decimal
 use Rattle.std.proofs.lemmas.List.{take_at, take-append-drop, drop_more}
 use Rattle.std.proofs.lemmas.List.Quantifiers.{position-Some}
 use Rattle.std.proofs.lemmas.Str.Parse.{IsDigitsTest, FoldsDigits, IsNumeralModel, numerals_by_fold}
-use Rattle.call_json.proofs.Chains.{bind_known, under}
+use Rattle.desk_time.proofs.Chains.{bind_known, under}
 use Rattle.kept_releases.specs.Numbers.{is_digit, digits_after, is_decimal, number_in, leg_of, cut}
 
 grows : (n : ℕ) (ds : List ℕ) → n ≤ digits_after n ds

@@ -25,7 +25,7 @@ use Rattle.kept_releases.specs.Rows.{SignedAtMoment, RevisionHasMoments, Release
 use Rattle.kept_releases.specs.declared.revisions.Head.{Head}
 use Rattle.kept_releases.specs.declared.revisions.Signatures.{Signatures}
 use Rattle.kept_releases.specs.declared.releases.Revisions.{Revisions}
-use Rattle.call_json.proofs.Chains.{bind_if, bind_any, then_if, under, either, weaker}
+use Rattle.desk_time.proofs.Chains.{bind_if, bind_any, then_if, under, either, weaker}
 use Rattle.kept_releases.proofs.KeptLaws.{valid_from_test}
 use Rattle.kept_releases.proofs.PhaseLaws.{phase_formed}
 use Rattle.call_json.proofs.DigestLaws.{digest_formed}

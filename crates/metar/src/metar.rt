@@ -6,10 +6,11 @@ ghost use Rattle.metar.specs.Reading.{reading, metar_of};
 ghost use Rattle.metar.specs.Report.{ReadsMetar};
 
 use codes::{
-    BadReport, Cond, Form, Group, Groups, REPORT_LIMIT, ReportFault, Station, Stretch, TOO_LONG,
-    Why, first_of, stretch_in, time_of,
+    BadReport, Cond, Form, Group, Groups, REPORT_LIMIT, ReportFault, Stretch, TOO_LONG, Why,
+    first_of, stretch_in, time_of,
 };
 use desk_time::{FIRST, LAST, Minute};
+use stations::Station;
 use std::alloc::Global;
 
 /// What a METAR or SPECI says.

@@ -1,4 +1,4 @@
-use codes::Station;
+use stations::Station;
 use desk_io::{MemoryShelf, OutOfMemory, Text, push_all};
 use ops_tables::Tables;
 use small_airline::{lines_of, push_small, shelf_of};

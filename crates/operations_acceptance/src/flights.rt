@@ -1,4 +1,4 @@
-use codes::Station;
+use stations::Station;
 use desk_io::{Blanks, Listed, OutOfMemory, Run, Text, runs_between};
 use desk_time::Minute;
 use plan::{Alternate, Kind, Leg, Legs, Plan, TakeoffAlternate};

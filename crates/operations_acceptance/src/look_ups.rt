@@ -1,4 +1,4 @@
-use codes::Station;
+use stations::Station;
 use desk_io::OutOfMemory;
 use ops_tables::{Category, Role, Tables};
 use small_airline::holds_with;

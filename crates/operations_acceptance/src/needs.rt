@@ -1,5 +1,6 @@
 use alternates::{in_range, is_marginal, needs_destination, needs_takeoff};
-use codes::{Cond, Pair, Station, meets};
+use codes::{Cond, meets};
+use stations::{Pair, Station};
 use desk_io::Listed;
 use plan::{Kind, Leg};
 use std::alloc::Global;

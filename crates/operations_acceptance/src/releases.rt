@@ -3,7 +3,8 @@ ghost use Rattle.plan.specs.Check.{IsPlan};
 ghost use Rattle.facts.specs.Reading.{IsRead};
 
 use crate::flights::{ETD, leg_between, plan_of};
-use codes::{ReportFault, Station};
+use codes::ReportFault;
+use stations::Station;
 use desk_io::{Listed, OutOfMemory};
 use desk_time::{FIRST, LAST, Minute};
 use facts::{Received, Report, Reports, receive};

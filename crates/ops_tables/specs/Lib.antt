@@ -5,5 +5,6 @@ pub mod Names
 pub mod Grouped
 pub mod Keys
 pub mod Linked
+pub mod Named
 pub mod Shown
 pub mod SameGroup

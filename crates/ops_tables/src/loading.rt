@@ -8,7 +8,7 @@ use crate::{
     Actor, Airport, AlternateRow, Approach, Distance, ItemPair, MelRow, Route, Settings, Tail,
     TypeRow, Use,
 };
-use codes::Station;
+use stations::Station;
 
 /// The tables while they are loaded, each put in as a whole.
 #[derive(Drop)]

@@ -11,7 +11,7 @@ use crate::search::{
     type_among,
 };
 use crate::{Actor, Airport, Distance, ItemPair, MelRow, Route, Tail, TypeRow, Use};
-use codes::Station;
+use stations::Station;
 
 /// The airport of a station.
 pub(crate) fn airport_in(rows: &Grouped<Airport, 4>, s: Station) -> Option<&Airport>

@@ -1,5 +1,5 @@
-use codes::Station;
 use desk_io::{Listed, Text};
+use stations::Station;
 
 /// A list of names: capabilities of a type, or capabilities that are lost.
 pub type Names = Listed<Text>;

@@ -6,7 +6,7 @@ ghost use Rattle.ops_tables.specs.Limits.{FitsAirport, FitsType, FitsDistance, F
 ghost use Rattle.ops_tables.specs.Tables.{is_station, is_pair};
 
 use crate::{Actor, Airport, Distance, ItemPair, MelRow, Route, Tail, TypeRow, Use};
-use codes::Station;
+use stations::Station;
 
 /// The first airport of a station.
 pub(crate) fn airport_among(rows: &[Airport], s: Station) -> Option<&Airport>

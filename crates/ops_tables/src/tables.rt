@@ -2,6 +2,7 @@ ghost use Rattle.std.specs.Prelude.{◌≡◌, ◌≤◌, All, IfSome, IsSome, i
 ghost use Rattle.std.specs.Option.{option_copied};
 ghost use Rattle.ops_tables.specs.Limits.{FitsSettings, FitsAirport, FitsApproach, FitsAlternate, FitsType, FitsItem};
 ghost use Rattle.ops_tables.specs.Linked.{AreLinked};
+ghost use Rattle.ops_tables.specs.Named.{AreNamed};
 ghost use Rattle.ops_tables.specs.Shown.{shown};
 ghost use Rattle.ops_tables.specs.Tables.{airport_of, tail_named, type_of, may_use, miles_of, route_free, item_of, are_paired, actor_of, approaches_of, alternates_of};
 
@@ -11,7 +12,7 @@ use crate::lookups::{
     type_in,
 };
 use crate::{Actor, Airport, AlternateRow, Approach, MelRow, Settings, TypeRow};
-use codes::Station;
+use stations::Station;
 use std::marker::Model;
 
 /// The operations tables. Each row has the forms and ranges of its columns, no two rows of a table have
@@ -26,21 +27,30 @@ impl Model for Tables {
     ghost use Rattle.ops_tables.specs.Tables.{TableRows};
     ghost use Rattle.ops_tables.specs.Shown.{shown};
     ghost use Rattle.ops_tables.specs.Linked.{AreLinked};
+    ghost use Rattle.ops_tables.specs.Named.{AreNamed};
 
     ghost Value = { TableRows };
 
     ghost view = { λ t. shown t.loaded };
 
-    ghost invariant = { λ t. AreLinked (shown t.loaded) };
+    ghost invariant = { λ t. AreLinked (shown t.loaded) × AreNamed (shown t.loaded) };
 }
 
 impl Tables {
     /// The tables that were loaded.
     pub fn of(loaded: Loading) -> Tables
-        requires { AreLinked (shown loaded) }
+        requires linked { AreLinked (shown loaded) }
+        requires named { AreNamed (shown loaded) }
         ensures { result ≡ shown loaded }
     {
         Tables { loaded }
+    }
+
+    /// The names of its aircraft, items and persons have their forms: a law, which does nothing.
+    pub fn are_named(&self)
+        ensures { AreNamed self.now }
+    {
+        let _ = &self.loaded;
     }
 
     /// The settings of the airline.

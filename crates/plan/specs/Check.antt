@@ -4,7 +4,7 @@ use Rattle.std.specs.List.{AllByRecursion, list_all, list_any}
 use Rattle.std.specs.Str.{bytes_eq}
 use Rattle.plan.specs.Texts.{IsMoment}
 use Rattle.desk_time.specs.Limits.{first_planned, last_planned}
-use Rattle.codes.specs.Station.{Station}
+use Rattle.stations.specs.Station.{Station}
 use Rattle.ops_tables.specs.Tables.{TableRows, tail_named, actor_of, has_airport}
 use Rattle.ops_tables.specs.declared.rows.Actor.{Actor}
 use Rattle.ops_tables.specs.declared.rows.Role.{Role}

@@ -22,7 +22,7 @@ use Rattle.call_json.specs.Dones.{done_of}
 use Rattle.call_json.specs.Fields.{text_at, up_to, number_at, id_at, moment_at, list_at, each_read, has_members}
 use Rattle.call_json.proofs.DigestLaws.{digest_formed}
 use Rattle.call_json.proofs.DoneForms.{done_formed}
-use Rattle.call_json.proofs.Chains.{bind_if, bind_any, then_if, under, either}
+use Rattle.desk_time.proofs.Chains.{bind_if, bind_any, then_if, under, either}
 use Rattle.call_json.proofs.PlanForms.{id_formed, moment_formed, each_formed}
 use Rattle.kept_releases.specs.Findings.{finding_of, finding_in, are_in_order, findings_of, IsFinding}
 use Rattle.kept_releases.proofs.FindingLaws.{finding_formed, order_tested}

@@ -16,7 +16,8 @@ use Rattle.std.proofs.lemmas.Slice.Eq.{bytes_eq-Decides}
 use Rattle.plan.specs.Phases.{is_active}
 use Rattle.records.specs.Kinds.{kind_of, key_of}
 use Rattle.records.specs.Faults.{minute_of, is_same_row, are_at_odds, is_bad_pair, is_release_of}
-use Rattle.records.specs.Marks.{fingerprint, own_mark, other_mark, marks_of, mark_cmp, is_marked, place_at, IsIndex}
+use Rattle.facts.specs.Index.{fingerprint}
+use Rattle.records.specs.Marks.{own_mark, other_mark, marks_of, mark_cmp, is_marked, place_at, IsIndex}
 use Rattle.records.specs.declared.marks.Marks.{Marks}
 use Rattle.records.specs.declared.record.Record.{Record}
 use Rattle.records.specs.declared.record.Record.TheVariants.{Report, Release, Kept, Alert}

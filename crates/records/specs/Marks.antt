@@ -1,5 +1,5 @@
 -- Marks of records: two that make a bad pair share one. An index says where each mark stands first.
-use Rattle.std.specs.Prelude.{◌≡◌, ℕ, ◌+◌, ◌*◌, ◌%◌, ◌^◌, Bool, ◌||◌, if◌then◌else◌, List, [], ◌∷◌, Option}
+use Rattle.std.specs.Prelude.{◌≡◌, ℕ, Bool, ◌||◌, if◌then◌else◌, List, Option}
 use Rattle.std.specs.declared.cmp.Ordering.{Ordering}
 use Rattle.std.specs.Ordering.{nat_cmp, ordering_then}
 use Rattle.std.specs.List.{position_from}
@@ -7,6 +7,7 @@ use Rattle.std.specs.Map.{lookup}
 use Rattle.std.specs.BTreeMap.{is_at}
 use Rattle.plan.specs.Phases.{is_active}
 use Rattle.records.specs.Kinds.{kind_of, key_of}
+use Rattle.facts.specs.Index.{fingerprint}
 use Rattle.records.specs.Faults.{minute_of}
 use Rattle.records.specs.declared.marks.Marks.{Marks}
 use Rattle.records.specs.declared.record.Record.{Record}
@@ -14,14 +15,6 @@ use Rattle.records.specs.declared.record.Record.TheVariants.{Meta, Report, Defer
 
 abbrev pub Mark : Type 0
 Mark = ℕ × ℕ
-
--- A number that texts seldom share: the value modulo 2^64 of their bytes as the digits of a number in a large base.
-abbrev pub fingerprint_from : ℕ → List ℕ → ℕ
-fingerprint_from n [] = n
-fingerprint_from n (b ∷ bs) = fingerprint_from (((n * 1099511628211) % 2 ^ 64 + b) % 2 ^ 64) bs
-
-unfoldable pub fingerprint : List ℕ → ℕ
-fingerprint text = fingerprint_from 1 text
 
 -- the mark of its own row
 abbrev pub own_mark : Record → Mark

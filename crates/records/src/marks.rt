@@ -10,7 +10,7 @@ use crate::record::{KeptReport, Record};
 use codes::ReportFault;
 use desk_io::OutOfMemory;
 use desk_time::Minute;
-use facts::read_report;
+use facts::{fingerprint, read_report};
 use plan::is_active;
 use std::alloc::Global;
 use std::collections::BTreeMap;
@@ -28,20 +28,6 @@ pub(crate) struct Marks {
     pub(crate) own: Mark,
     /// That of what it says.
     pub(crate) other: Mark,
-}
-
-// A number of a text that texts seldom share.
-#[tactic(auto, unfolding(crate::specs::Marks::fingerprint))]
-fn fingerprint(text: &[u8]) -> u64
-    ensures { result ≡ spec.fingerprint text.now }
-{
-    let mut number: u64 = 1;
-    for byte in text {
-        number = number
-            .wrapping_mul(1_099_511_628_211)
-            .wrapping_add(*byte as u64);
-    }
-    number
 }
 
 fn own_mark(held: &Record) -> Mark

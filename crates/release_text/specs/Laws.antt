@@ -1,7 +1,7 @@
 -- What the attached weather is, in the words of the regulation (14 CFR 121.687(b)).
 use Rattle.std.specs.Prelude.{◌≡◌, ◌↔◌, ℕ, IsTrue, List, Option, None}
 use Rattle.std.specs.List.{AllByRecursion}
-use Rattle.codes.specs.Station.{Station}
+use Rattle.stations.specs.Station.{Station}
 use Rattle.plan.specs.declared.flights.Plan.{Plan}
 use Rattle.plan.specs.declared.release.Phase.{Phase}
 use Rattle.facts.specs.declared.latest.Kind.{Kind}

@@ -4,11 +4,11 @@ ghost use Rattle.plan.specs.Check.{IsPlan};
 ghost use Rattle.release_text.specs.Weather as spec;
 ghost use Rattle.release_text.specs.Laws.{AreLatest};
 
-use crate::stations::concerned;
-use codes::Station;
+use crate::airports::concerned;
 use desk_io::{Copied, Listed, OutOfMemory};
 use facts::{Report, Reports};
 use plan::{Attached, AttachedList, Phase, Plan};
+use stations::Station;
 use std::alloc::Global;
 
 fn attached_of(alloc: Global, report: &Report) -> Result<Attached, OutOfMemory>

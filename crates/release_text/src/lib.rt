@@ -1,10 +1,10 @@
 //! The text of a release, the weather reports that are attached to it, and its digest (14 CFR 121.687).
 #![tactic(auto)]
 
+mod airports;
 mod attached;
 mod digest;
 mod revision;
-mod stations;
 mod unattached;
 mod written;
 

@@ -12,11 +12,12 @@ ghost use Rattle.release_text.specs.Concerned.{
 ghost use Rattle.release_text.specs.Weather as spec;
 ghost use Rattle.release_text.specs.Laws.{IsNoneNewer};
 
-use codes::{Station, least_of};
+use codes::least_of;
 use facts::{Report, Reports};
 use plan::{
     Alternate, Attached, AttachedList, Leg, Phase, Plan, Standing, TakeoffAlternate, standing_of,
 };
+use stations::Station;
 
 fn is_attached(attached: &[Attached], id: u64) -> bool
     ensures { result ≡ spec.is_attached attached.now id }

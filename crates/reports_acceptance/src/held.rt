@@ -1,7 +1,8 @@
 ghost use Rattle.std.specs.Prelude.{◌≡◌, ◌<◌, ◌≤◌, All, IfOk, IsTrue};
 ghost use Rattle.facts.specs.Reading.{IsRead};
 
-use codes::{ReportFault, Station};
+use codes::ReportFault;
+use stations::Station;
 use desk_io::OutOfMemory;
 use desk_time::{FIRST, LAST, Minute};
 use facts::{Received, Report, Reports, push_weather, push_weather_at, receive};

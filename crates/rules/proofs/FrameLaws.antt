@@ -2,8 +2,8 @@
 use Rattle.std.proofs.Common.{◌≡◌, ℕ, ◌+◌, ◌-◌, Bool, true, false, cond, not, ◌&&◌, ◌||◌, List, [], ◌∷◌, ◌++◌, Option, None, Some, refl, ap}
 use Rattle.std.specs.Prelude.{is_none, nat_lt}
 use Rattle.std.specs.Option.{option_map, option_and_then}
-use Rattle.codes.specs.Station.{Station}
-use Rattle.codes.specs.Pair.{meets}
+use Rattle.stations.specs.Station.{Station}
+use Rattle.codes.specs.Minima.{meets}
 use Rattle.ops_tables.specs.declared.rows.TypeRow.{TypeRow}
 use Rattle.ops_tables.specs.Tables.{type_of}
 use Rattle.plan.specs.Check.{plan_fault}

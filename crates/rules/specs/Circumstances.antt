@@ -1,9 +1,9 @@
 -- The circumstances in which a plan is judged: its aircraft, the weather, and the minima that hold for both.
 use Rattle.std.specs.Prelude.{ℕ, Bool, not, List}
-use Rattle.codes.specs.Station.{Station}
+use Rattle.stations.specs.Station.{Station}
 use Rattle.codes.specs.declared.cond.Cond.{Cond}
-use Rattle.codes.specs.declared.pair.Pair.{Pair}
-use Rattle.codes.specs.Pair.{meets}
+use Rattle.stations.specs.declared.pair.Pair.{Pair}
+use Rattle.codes.specs.Minima.{meets}
 use Rattle.ops_tables.specs.declared.rows.TypeRow.{TypeRow}
 use Rattle.plan.specs.declared.flights.Kind.{Kind}
 use Rattle.plan.specs.declared.flights.Plan.{Plan}

@@ -1,6 +1,6 @@
 -- What a judgement reads of the reports: the latest of each kind of a station.
 use Rattle.std.specs.Prelude.{◌≡◌, List}
-use Rattle.codes.specs.Station.{Station}
+use Rattle.stations.specs.Station.{Station}
 use Rattle.facts.specs.declared.report.Report.{Report}
 use Rattle.facts.specs.Latest.{metar_latest, taf_latest}
 use Rattle.rules.specs.Grounds.{Grounds}

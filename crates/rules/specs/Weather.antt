@@ -1,6 +1,6 @@
 -- Weather at the destination (14 CFR 121.613).
 use Rattle.std.specs.Prelude.{Bool, not}
-use Rattle.codes.specs.Pair.{meets}
+use Rattle.codes.specs.Minima.{meets}
 use Rattle.plan.specs.declared.flights.Leg.{Leg}
 use Rattle.rules.specs.Circumstances.{Case, weather_at, landing_at}
 

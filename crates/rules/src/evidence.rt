@@ -7,13 +7,13 @@ ghost use Rattle.deferrals.specs.Limits.{is_of, open_on as opened};
 ghost use Rattle.rules.specs.Grounds.{reports_of, once_cleared, deferrals_of};
 ghost use Rattle.rules.specs.Evidence as spec;
 
-use codes::Station;
 use deferrals::{Deferral, Deferrals, open_on};
 use desk_io::OutOfMemory;
 use desk_time::Minute;
 use facts::{Read, Report, Reports};
 use metar::Metar;
 use ops_tables::Tables;
+use stations::Station;
 use std::alloc::Global;
 use taf::Taf;
 

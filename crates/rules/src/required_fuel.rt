@@ -5,10 +5,10 @@ ghost use Rattle.rules.specs.Sights.{case_by, need_of, fuel_of, IsWithin};
 
 use crate::circumstances::Circumstances;
 use crate::destination_alternates::{Need, is_domestic, lists_none};
-use codes::Station;
 use fuel::{Basis, required};
 use ops_tables::Tables;
 use plan::Leg;
+use stations::Station;
 
 /// What the rules on fuel say of a leg (14 CFR 121.639, 121.645).
 #[derive(Clone, Copy)]

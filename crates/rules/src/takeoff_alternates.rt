@@ -6,10 +6,11 @@ ghost use Rattle.rules.specs.Sights.{case_by, takeoff_where, takeoff_of, IsWithi
 
 use crate::circumstances::Circumstances;
 use alternates::{in_range, needs_takeoff};
-use codes::{Station, meets};
+use codes::meets;
 use desk_io::OutOfMemory;
 use desk_time::Minute;
 use plan::{Leg, TakeoffAlternate};
+use stations::Station;
 use std::alloc::Global;
 
 /// What the rules on takeoff alternates say of a leg (14 CFR 121.617).

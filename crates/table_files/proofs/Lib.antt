@@ -4,6 +4,7 @@ pub mod Headers
 pub mod Digits
 pub mod WholeLaws
 pub mod Linking
+pub mod Naming
 pub mod GoodRows
 pub mod GoodSettings
 pub mod GoodFiles

@@ -8,12 +8,12 @@ use crate::fields::{
     capabilities, category_of, is_item, is_key, is_name, is_name_or_none, is_person, is_tail,
     mark_of, number_within, role_of,
 };
-use codes::Station;
 use desk_io::{Copied, OutOfMemory, Text};
 use ops_tables::{
     Actor, Airport, AlternateRow, Approach, Category, Distance, ItemPair, MelRow, Route, Tail,
     TypeRow, Use,
 };
+use stations::Station;
 use std::alloc::Global;
 
 /// The airport of a record.

@@ -1,6 +1,7 @@
-use codes::{Cond, Station};
+use codes::Cond;
 use desk_io::{Copied, Listed, OutOfMemory};
 use desk_time::Minute;
+use stations::Station;
 use std::alloc::Global;
 
 /// Whether a forecast says anything.

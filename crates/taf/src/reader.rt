@@ -11,10 +11,11 @@ use crate::change::{is_amended, is_cancelled, is_corrected, is_modifier, is_nil}
 use crate::forecast::{PartKind, Parts, Taf, TafState};
 use crate::parts::{after_first, part_of, with_parts};
 use codes::{
-    BadReport, Group, Groups, REPORT_LIMIT, ReportFault, Station, TOO_LONG, Why, first_of,
-    numbered, period_in, time_of,
+    BadReport, Group, Groups, REPORT_LIMIT, ReportFault, TOO_LONG, Why, first_of, numbered,
+    period_in, time_of,
 };
 use desk_time::{FIRST, LAST, Minute};
+use stations::Station;
 use std::alloc::Global;
 
 // What stands before the validity.

@@ -6,10 +6,10 @@ mod boards;
 mod due_lines;
 mod findings;
 mod releases;
-mod stations;
+mod weather;
 
 pub use alert_lines::alerts_view;
 pub use boards::{board_view, closing};
 pub use due_lines::deferral_lines;
 pub use releases::release_view;
-pub use stations::weather_view;
+pub use weather::weather_view;

@@ -1,6 +1,6 @@
 use Rattle.std.proofs.Common.{◌≡◌, ◌++◌, drop}
 use Rattle.std.specs.Prelude.{map}
-use Rattle.codes.specs.Pair.{AreWithin}
+use Rattle.stations.specs.Pair.{AreWithin}
 use Rattle.airport_minima.specs.Minima.{single}
 use Rattle.airport_minima.proofs.derived.singles.Given as goal
 

@@ -4,6 +4,7 @@ use Rattle.table_files.specs.Files.{files}
 use Rattle.table_files.specs.Whole.{FileFails, IsMissing}
 use Rattle.table_files.specs.declared.files.File.TheVariants as file
 use Rattle.table_files.proofs.Linking.{linked}
+use Rattle.table_files.proofs.Naming.{names_formed}
 use Rattle.table_files.proofs.WholeLaws.{reads_more, reads_all, stops, shelf_goes_on}
 use Rattle.table_files.proofs.whole.read_tables.Goals as goal
 
@@ -37,11 +38,17 @@ returns-in_err-read_file-clause-missing g c = λ s.
     let stop = stops told (λ file before. FileFails told file before why × IsMissing told file why) c.loop-file.file-index file.Settings (shown c.loop-file.loaded) c.loop-file-test.true inv.read (rw inv.on.sources at e.reads, missing) in
     search (rules, stop)
 
-pub of-requires : goal.of-requires
-of-requires g c =
+pub of-requires-linked : goal.of-requires-linked
+of-requires-linked g c =
     let inv = c.loop-file.invariant in
     let told = (g.S.Shelf.seen c.args.shelf.now).sources in
     linked told (shown c.loop-file.loaded) (reads_all told c.loop-file.file-index (shown c.loop-file.loaded) (omega (arith, c.loop-file-test.false)) inv.read) inv.settings
+
+pub of-requires-named : goal.of-requires-named
+of-requires-named g c =
+    let inv = c.loop-file.invariant in
+    let told = (g.S.Shelf.seen c.args.shelf.now).sources in
+    names_formed told (shown c.loop-file.loaded) (reads_all told c.loop-file.file-index (shown c.loop-file.loaded) (omega (arith, c.loop-file-test.false)) inv.read)
 
 pub returns-clause-tables : goal.returns-clause-tables
 returns-clause-tables g c =

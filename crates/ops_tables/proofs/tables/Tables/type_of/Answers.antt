@@ -16,6 +16,6 @@ pub returns-in-Some-clause-known : goal.returns-in-Some-clause-known
 returns-in-Some-clause-known c = λ some.
     let loaded = c.self.inside.loaded in
     let HasType = λ (r : Tail). IsTrue (has_type (shown loaded) r.kind) in
-    let found : IfSome (find (λ (r : Tail). bytes_eq r.tail c.args.tail.now) loaded.tails) HasType = of_found HasType (λ r. bytes_eq r.tail c.args.tail.now) loaded.tails c.self.invariant.tails in
+    let found : IfSome (find (λ (r : Tail). bytes_eq r.tail c.args.tail.now) loaded.tails) HasType = of_found HasType (λ r. bytes_eq r.tail c.args.tail.now) loaded.tails c.self.invariant.0.tails in
     let there : HasType c.in-Some.row.now = rw (← c.in-Some.ensures) at found in
     sym (some_copied c.type_in.result) ∙ ap is_some c.type_in.ensures.value ∙ ap (λ k. has_type (shown loaded) k) c.bytes.ensures ∙ there

@@ -1,6 +1,6 @@
 use Rattle.std.proofs.lemmas.Result.{IfOk-weaker}
 use Rattle.release_text.proofs.StationLaws.{concerned_once}
-use Rattle.release_text.proofs.stations.concerned.Goals as goal
+use Rattle.release_text.proofs.airports.concerned.Goals as goal
 
 pub returns-clause-once : goal.returns-clause-once
 returns-clause-once c =

@@ -1,6 +1,6 @@
 use Rattle.std.proofs.Common.{◌≡◌, ◌+◌, drop}
 use Rattle.release_text.specs.Concerned.{stations_from, with_stations}
-use Rattle.release_text.proofs.stations.add_legs.Given as goal
+use Rattle.release_text.proofs.airports.add_legs.Given as goal
 
 abbrev pub invariant-loop-i : goal.invariant-loop-i
 invariant-loop-i l =

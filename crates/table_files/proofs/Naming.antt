@@ -3,21 +3,21 @@ use Rattle.std.proofs.Common.{◌≡◌, ℕ, ◌&&◌, Bool, true, List, [], �
 use Rattle.std.specs.List.{AllByRecursion}
 use Rattle.std.proofs.lemmas.Bool.{and_parts}
 use Rattle.desk_time.specs.Digits.{◌>>=◌}
+use Rattle.desk_time.proofs.Chains.{bind_any, under}
 use Rattle.ops_tables.specs.Forms.{is_name, is_tail, is_item, is_person, is_key, is_name_or_none, are_item_names}
 use Rattle.ops_tables.specs.Keys.{is_same_airport, is_same_approach, is_same_alternate, is_same_type, is_same_tail, is_same_use, is_same_distance, is_same_route, is_same_item, is_same_pair, is_same_actor}
+use Rattle.ops_tables.specs.Named.{AreNamed}
 use Rattle.ops_tables.specs.Tables.{TableRows}
 use Rattle.ops_tables.specs.declared.rows.Actor.{Actor}
 use Rattle.ops_tables.specs.declared.rows.MelRow.{MelRow}
 use Rattle.ops_tables.specs.declared.rows.Role.{Role}
 use Rattle.ops_tables.specs.declared.rows.Tail.{Tail}
 use Rattle.table_files.specs.Fields.{role_of}
-use Rattle.table_files.specs.Files.{no_rows, airports, approaches, alternates, types, tails, uses, distances, routes, mel, pairs, actors}
+use Rattle.table_files.specs.Files.{no_rows, files, airports, approaches, alternates, types, tails, uses, distances, routes, mel, pairs, actors}
 use Rattle.table_files.specs.Good.{SaysSettings, SaysTable}
 use Rattle.table_files.specs.Reading.{Table}
 use Rattle.table_files.specs.Records.{actor_row, item_row, item_terms, named_item, tail_row}
-use Rattle.table_files.specs.Whole.{ReadsTables, Told}
-use Rattle.call_json.proofs.Chains.{bind_any, under}
-use Rattle.kept_forms.specs.Formed.{NamesHaveForms}
+use Rattle.table_files.specs.Whole.{FilesGive, Told}
 
 -- ---- rows
 
@@ -89,16 +89,16 @@ any_row (Some row) = tt
 
 -- one more table keeps the forms, where its rows do
 table_keeps : {R : Type 0} (P : R → Type 0) (is_same_key : R → R → Bool) (limit : ℕ) (table : Table R) (before after : TableRows) (records : List (List (List ℕ)))
-    → ((fields : List (List ℕ)) → IfSome (table.row_of fields) P) → ((rows : List R) → AllByRecursion P rows → NamesHaveForms (table.with_rows before rows))
-    → SaysTable is_same_key limit table before records (Ok after) → NamesHaveForms after
+    → ((fields : List (List ℕ)) → IfSome (table.row_of fields) P) → ((rows : List R) → AllByRecursion P rows → AreNamed (table.with_rows before rows))
+    → SaysTable is_same_key limit table before records (Ok after) → AreNamed after
 table_keeps P is_same_key limit table before after records row keeps says =
     let good = (says.good after).1 refl in
-    subst NamesHaveForms good.2 (keeps good.0 (rows_formed P table.row_of row good.1.below good.0 good.1.holds.given))
+    subst AreNamed good.2 (keeps good.0 (rows_formed P table.row_of row good.1.below good.0 good.1.holds.given))
 
-settings_keep : (before after : TableRows) (records : List (List (List ℕ))) → NamesHaveForms before → SaysSettings before records (Ok after) → NamesHaveForms after
+settings_keep : (before after : TableRows) (records : List (List (List ℕ))) → AreNamed before → SaysSettings before records (Ok after) → AreNamed after
 settings_keep before after records names says =
     let good = (says.good after).1 refl in
-    subst NamesHaveForms good.2 (record { tails = names.tails; items = names.items; people = names.people })
+    subst AreNamed good.2 (record { tails = names.tails; items = names.items; people = names.people })
 
 -- tables with rows in a table that isn't one of the three
 abbrev LeavesNames : {R : Type 0} → Table R → Type 0
@@ -107,12 +107,12 @@ LeavesNames {R} table =
     → ((table.with_rows before rows).tails ≡ before.tails) × ((table.with_rows before rows).mel ≡ before.mel) × ((table.with_rows before rows).actors ≡ before.actors)
 
 other_keeps : {R : Type 0} (is_same_key : R → R → Bool) (limit : ℕ) (table : Table R) (before after : TableRows) (records : List (List (List ℕ)))
-    → LeavesNames table → NamesHaveForms before → SaysTable is_same_key limit table before records (Ok after) → NamesHaveForms after
+    → LeavesNames table → AreNamed before → SaysTable is_same_key limit table before records (Ok after) → AreNamed after
 other_keeps is_same_key limit table before after records leaves names says =
     table_keeps (λ row. Unit {0}) is_same_key limit table before after records (λ fields. any_row (table.row_of fields))
     (λ rows any. same_names before (table.with_rows before rows) names (leaves before rows)) says
   where
-    same_names : (before after : TableRows) → NamesHaveForms before → (after.tails ≡ before.tails) × (after.mel ≡ before.mel) × (after.actors ≡ before.actors) → NamesHaveForms after
+    same_names : (before after : TableRows) → AreNamed before → (after.tails ≡ before.tails) × (after.mel ≡ before.mel) × (after.actors ≡ before.actors) → AreNamed after
     same_names before after names same = record {
       tails = subst (AllByRecursion IsTailRow) (sym same.0) names.tails;
       items = subst (AllByRecursion IsItemRow) (sym same.1) names.items;
@@ -120,7 +120,7 @@ other_keeps is_same_key limit table before after records leaves names says =
     }
 
 -- The names of tables that were read have their forms: file by file, in the order in which they are read.
-pub names_formed : (told : Told) (t : TableRows) → ReadsTables told (Ok t) → NamesHaveForms t
+pub names_formed : (told : Told) (t : TableRows) → FilesGive told no_rows files t → AreNamed t
 names_formed told t one =
     let after_settings = settings_keep no_rows one.0 one.1.gives.records (record { tails = tt; items = tt; people = tt }) one.1.says in
     let two = one.2 in
@@ -148,4 +148,4 @@ names_formed told t one =
     let twelve = eleven.2 in
     let after_actors = table_keeps IsPersonRow is_same_actor 5000 actors eleven.0 twelve.0 twelve.1.gives.records person_formed
     (λ rows are. record { tails = after_pairs.tails; items = after_pairs.items; people = are }) twelve.1.says in
-    subst NamesHaveForms twelve.2 after_actors
+    subst AreNamed twelve.2 after_actors

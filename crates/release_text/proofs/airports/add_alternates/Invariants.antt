@@ -1,6 +1,6 @@
 use Rattle.std.proofs.Common.{◌≡◌, drop}
 use Rattle.release_text.specs.Concerned.{alternate_stations, with_stations}
-use Rattle.release_text.proofs.stations.add_alternates.Given as goal
+use Rattle.release_text.proofs.airports.add_alternates.Given as goal
 
 abbrev pub invariant-loop-alternate : goal.invariant-loop-alternate
 invariant-loop-alternate l =

@@ -1,7 +1,7 @@
 use Rattle.std.proofs.Common.{◌∙◌, ◌+◌, ap}
 use Rattle.release_text.specs.Concerned.{leg_stations, with_stations}
 use Rattle.release_text.proofs.StationLaws.{next_leg}
-use Rattle.release_text.proofs.stations.add_legs.Goals as goal
+use Rattle.release_text.proofs.airports.add_legs.Goals as goal
 
 pub loop-i-preserved : goal.loop-i-preserved
 loop-i-preserved c =
