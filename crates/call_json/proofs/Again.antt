@@ -23,7 +23,8 @@ use Rattle.call_json.specs.Fields.{each_read, up_to, short}
 use Rattle.call_json.specs.Legs.{alternate_of, takeoff_in, leg_of, legs_of}
 use Rattle.call_json.specs.Plans.{has_form, formed, kind_of, plan_of}
 use Rattle.call_json.specs.Dones.{done_within}
-use Rattle.call_json.specs.Canonical.{option_data, alternate_data, takeoff_data, leg_data, kind_name, plan_data, done_data, IsAmount, IsId, IsShort, IsAlternate, MayBeTakeoff, IsLeg, HasForms, DoneWithin}
+use Rattle.call_json.specs.Canonical.{option_data, alternate_data, takeoff_data, leg_data, kind_name, plan_data, done_data}
+use Rattle.call_json.specs.Forms.{IsAmount, IsId, IsShort, IsAlternate, MayBeTakeoff, IsLeg, HasForms, DoneWithin}
 use Rattle.call_json.proofs.Texts.{name_utf8, station_utf8, moment_utf8}
 use Rattle.call_json.proofs.DigestLaws.{digest_again}
 

@@ -2,7 +2,7 @@
 use Rattle.asks.specs.Forms.{IsCall}
 use Rattle.asks.specs.declared.call.Ask.{Ask}
 use Rattle.asks.specs.declared.call.Ask.TheVariants.{Admit, Defer, Clear, Draft, Prepare, Sign, Concur, Amend, Cancel, Depart, Arrive, Acknowledge, Purge, Sweep, ViewBoard, ViewAlerts, ViewRelease, ViewWeather, ViewDeferred}
-use Rattle.call_json.specs.Canonical.{AskHasForms}
+use Rattle.call_json.specs.Forms.{AskHasForms}
 use Rattle.call_json.proofs.PlanForms.{plan_from_forms}
 
 -- its text can be made

@@ -8,7 +8,7 @@ use Rattle.asks.specs.declared.reply.Done.{Done}
 use Rattle.asks.specs.declared.reply.Done.TheVariants.{Report, Deferral, Filed, Prepared, Release, Swept}
 use Rattle.call_json.specs.Digests.{digest_of, digest_at, IsDigest}
 use Rattle.call_json.specs.Fields.{text_at, number_at, has_members}
-use Rattle.call_json.specs.Canonical.{DoneWithin}
+use Rattle.call_json.specs.Forms.{DoneWithin}
 use Rattle.call_json.specs.Dones.{report_of, deferral_of, filed_of, prepared_of, release_of, swept_of, done_within}
 use Rattle.call_json.proofs.DigestLaws.{digest_formed}
 use Rattle.call_json.proofs.PlanForms.{number_formed}

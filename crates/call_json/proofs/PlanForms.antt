@@ -18,7 +18,7 @@ use Rattle.call_json.specs.declared.legs.Times.{Times}
 use Rattle.call_json.specs.declared.legs.Fuel.{Fuel}
 use Rattle.call_json.specs.declared.plans.Form.{Form}
 use Rattle.call_json.specs.declared.plans.Form.TheVariants.{Flight, Tail, Captain}
-use Rattle.call_json.specs.Canonical.{IsAmount, IsId, IsAlternate, IsTakeoff, MayBeTakeoff, IsLeg, HasForms}
+use Rattle.call_json.specs.Forms.{IsAmount, IsId, IsAlternate, IsTakeoff, MayBeTakeoff, IsLeg, HasForms}
 use Rattle.call_json.specs.Fields.{text_at, up_to, number_at, amount_at, id_at, station_at, moment_at, list_at, each_read, has_members}
 use Rattle.call_json.specs.Legs.{alternate_of, alternates_at, takeoff_of, takeoff_in, takeoff_at, route_of, times_of, fuel_of, leg_of_parts, leg_of, legs_of, legs_at}
 use Rattle.call_json.specs.Plans.{has_form, formed, name_at, kind_at, named_plan, plan_of}

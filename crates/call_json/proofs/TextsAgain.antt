@@ -4,7 +4,8 @@ use Rattle.serde_json.specs.Read.{read}
 use Rattle.serde_json.specs.Written.{compact_text}
 use Rattle.plan.specs.declared.flights.Plan.{Plan}
 use Rattle.asks.specs.declared.reply.Done.{Done}
-use Rattle.call_json.specs.Canonical.{plan_data, done_data, HasForms, DoneHasForms}
+use Rattle.call_json.specs.Canonical.{plan_data, done_data}
+use Rattle.call_json.specs.Forms.{HasForms, DoneHasForms}
 use Rattle.call_json.specs.Dones.{done_of}
 use Rattle.call_json.specs.Plans.{plan_of}
 use Rattle.call_json.proofs.Again.{plan_again, done_again}

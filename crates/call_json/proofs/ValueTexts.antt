@@ -13,7 +13,7 @@ use Rattle.serde_json.specs.View.{view, view_step, items_of, members_of}
 use Rattle.serde_json.specs.declared.value.Value.{Value, fold-roll-Value, ind-Value, map-Value}
 use Rattle.serde_json.specs.declared.value.Value.TheOpen.{Value-F}
 use Rattle.call_json.specs.Fields.{text_at, short, short_at}
-use Rattle.call_json.specs.Canonical.{IsShort}
+use Rattle.call_json.specs.Forms.{IsShort}
 use Rattle.call_json.specs.Plain.{HasText, ItemsHaveText, MembersHaveText}
 use Rattle.desk_time.proofs.Chains.{under}
 

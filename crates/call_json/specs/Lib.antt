@@ -3,5 +3,6 @@ pub mod Digests
 pub mod Legs
 pub mod Plans
 pub mod Canonical
+pub mod Forms
 pub mod Dones
 pub mod Plain

@@ -2,12 +2,12 @@ use crate::fields::{is_written, items_at, number_at, small_number_at, text_at, t
 use crate::tables::{Files, NAMES, push_file, tables_of};
 use crate::written::{option_pair_text, pairs_text};
 use airport_minima::{alternate_pairs, flag_floor, landing};
-use stations::Station;
 use desk_io::{Listed, OutOfMemory, Text, push_all};
 use fuel::{Basis, required};
 use ops_tables::{Lost, Tables, TypeRow};
 use plan::{Alternate, Alternates, Leg};
 use serde_json::Value;
+use stations::Station;
 use std::alloc::Global;
 use table_files::TableFault;
 

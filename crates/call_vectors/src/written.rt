@@ -1,7 +1,7 @@
 use codes::{BadReport, Cond, Why};
-use stations::Pair;
 use desk_io::OutOfMemory;
 use metar::Metar;
+use stations::Pair;
 use std::alloc::Global;
 use std::str;
 use table_files::{BadTable, TableWhy};

@@ -11,7 +11,7 @@ use Rattle.desk.specs.declared.settling.Desk.{Desk}
 use Rattle.desk.specs.Seen.{DeskAt, DeskGoesOn, desk_at, desk_seen}
 use Rattle.desk_io.specs.Over.{Over, over}
 use Rattle.keeper.specs.Seen.{KeeperSeen, KeeperGoesOn}
-use Rattle.kept_forms.specs.Formed.{AreFormed}
+use Rattle.desk_state.specs.Formed.{AreFormed}
 use Rattle.desk_state.specs.Sound.{IsBoard}
 use Rattle.desk_state.specs.State.{State}
 use Rattle.ops_tables.specs.Tables.{TableRows}

@@ -17,7 +17,7 @@ use Rattle.desk_io.proofs.HealthLaws.{stays}
 use Rattle.desk_net.specs.Seen.{ClockSeen, DoorSeen, LinkSeen, ClockGoesOn}
 use Rattle.desk_net.proofs.SeenLaws.{clock_stays}
 use Rattle.keeper.specs.Seen.{KeeperSeen, KeeperGoesOn}
-use Rattle.kept_forms.specs.Formed.{AreFormed}
+use Rattle.desk_state.specs.Formed.{AreFormed}
 use Rattle.desk_state.specs.Sound.{IsBoard}
 use Rattle.desk_state.specs.State.{State}
 use Rattle.service.specs.Doors.{HasLinks}

@@ -4,7 +4,7 @@ use Rattle.desk_io.specs.Health.{HasFailedWhere, IsSound}
 use Rattle.desk_io.specs.Over.{Over}
 use Rattle.desk_io.specs.Seen.{Holds, ShelfSeen}
 use Rattle.desk_io.specs.Told.{OnSource}
-use Rattle.kept_forms.specs.Formed.{NamesHaveForms}
+use Rattle.ops_tables.specs.Named.{AreNamed}
 use Rattle.ops_tables.specs.Tables.{TableRows}
 use Rattle.table_files.specs.Files.{files, name_of}
 use Rattle.table_files.specs.Whole.{ReadsTables, RoseAt, StopsAtMissing}
@@ -95,4 +95,4 @@ Prepares shelf (Desk task) name read =
 -- the names in the tables have their forms
 abbrev pub HasFormedNames : Ground → Type 0
 HasFormedNames (Reports text) = Unit {0}
-HasFormedNames (OnDesk tables work) = NamesHaveForms tables
+HasFormedNames (OnDesk tables work) = AreNamed tables

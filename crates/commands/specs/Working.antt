@@ -10,7 +10,7 @@ use Rattle.desk_io.specs.Health.{HasFailed, IsSound, IsStill}
 use Rattle.desk_io.specs.Over.{Over}
 use Rattle.desk_net.specs.Seen.{ClockGoesOn}
 use Rattle.keeper.specs.Seen.{KeeperGoesOn}
-use Rattle.kept_forms.specs.Formed.{AreFormed}
+use Rattle.desk_state.specs.Formed.{AreFormed}
 use Rattle.desk_state.specs.Sound.{IsBoard}
 use Rattle.desk_state.specs.State.{State}
 use Rattle.desk_state.specs.Texts.{closing}

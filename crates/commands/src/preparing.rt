@@ -1,7 +1,7 @@
 ghost use Rattle.std.specs.Prelude.{IfOk};
 ghost use Rattle.commands.specs.Preparing.{HasFormedNames, Prepares, ReadsSource, ReadsWork, StandsOn};
 ghost use Rattle.desk_io.specs.Over.{over};
-ghost use Rattle.kept_forms.specs.Formed.{NamesHaveForms};
+ghost use Rattle.ops_tables.specs.Named.{AreNamed};
 
 use crate::fault::Fault;
 use desk::leave;
@@ -64,7 +64,7 @@ fn on_desk<S: Shelf>(
     name: &str,
     shelf: &mut S,
 ) -> Result<Ground, Fault>
-    requires { NamesHaveForms tables }
+    requires { AreNamed tables }
     ensures stands { StandsOn (over S.seen shelf.old shelf.new) tables task name.now result }
     ensures formed { IfOk result HasFormedNames }
 {

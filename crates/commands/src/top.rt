@@ -6,7 +6,7 @@ ghost use Rattle.desk_io.specs.Over.{over};
 ghost use Rattle.keeper.specs.Seen.{KeeperGoesOn};
 ghost use Rattle.commands.specs.Seen.{lent, service};
 ghost use Rattle.desk.specs.Opening.{IsLeft, TellsRowsOf};
-ghost use Rattle.kept_forms.specs.Formed.{AreFormed};
+ghost use Rattle.desk_state.specs.Formed.{AreFormed};
 ghost use Rattle.desk_state.specs.Sound.{IsBoard};
 ghost use Rattle.desk_state.specs.State.{State};
 ghost use Rattle.desk_net.specs.Seen.{ClockGoesOn};

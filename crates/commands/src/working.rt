@@ -7,7 +7,7 @@ ghost use Rattle.commands.specs.Seen.{lent, service};
 ghost use Rattle.commands.specs.Weather.{weather_text};
 ghost use Rattle.commands.specs.Preparing.{HasFormedNames};
 ghost use Rattle.commands.specs.Working.{Does, EndSays, Opens, Runs, Works};
-ghost use Rattle.kept_forms.specs.Formed.{NamesHaveForms};
+ghost use Rattle.ops_tables.specs.Named.{AreNamed};
 ghost use Rattle.desk_state.specs.Sound.{IsBoard};
 
 use crate::fault::Fault;
@@ -149,7 +149,7 @@ fn open_for<R: Wait, K: Keeper, C: Clock, D: Door, L: Ledger>(
     keeper: K,
     blank: Blank,
 ) -> Said<K>
-    requires formed { NamesHaveForms tables }
+    requires formed { AreNamed tables }
     requires name { blank.name ≡ L.name }
     requires parts { blank.parts ≡ L.parts }
     requires some { 0 < blank.parts }

@@ -3,7 +3,8 @@ use Rattle.std.proofs.Common.{ℕ, ◌≤◌, Option, None, Some, IfSome, arith}
 use Rattle.plan.specs.declared.release.Phase.{Phase}
 use Rattle.plan.specs.declared.release.Release.{Release}
 use Rattle.plan.specs.declared.release.Revision.{Revision}
-use Rattle.desk_state.specs.Sound.{InBounds, Fits, HasLegs, AreNumbered, RevisionInBounds}
+use Rattle.desk_state.specs.Sound.{InBounds, Fits, RevisionInBounds}
+use Rattle.release_text.specs.Valid.{HasLegs, AreNumbered}
 use Rattle.desk_state.specs.State.{State}
 use Rattle.desk_state.specs.Texts.{newest}
 use Rattle.decisions.specs.Newest.{IsNewest, HasNewest}

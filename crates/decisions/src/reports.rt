@@ -11,10 +11,10 @@ ghost use Rattle.decisions.specs.Reads.{DecisionAdmitsRead};
 use crate::chain::{Stop, refused_if};
 use asks::{Done, Refusal, Reply};
 use codes::{BadReport, ReportFault, Why};
-use stations::Station;
 use desk_io::Text;
 use desk_state::{Content, Decision, Effect};
 use facts::{HELD_LIMIT, Received, Report, receive};
+use stations::Station;
 use std::alloc::Global;
 use views::weather_view;
 

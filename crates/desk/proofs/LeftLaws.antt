@@ -7,13 +7,14 @@ use Rattle.desk_io.specs.Rows.{Rows}
 use Rattle.desk_io.specs.declared.rows.Row.{Row}
 use Rattle.keeper.specs.Order as order
 use Rattle.kept_state.specs.Rows.{records_of}
-use Rattle.kept_forms.specs.Formed.{AreFormed, NamesHaveForms}
-use Rattle.kept_forms.proofs.Again.{state_again}
-use Rattle.kept_forms.proofs.DeskRecords.{records_formed}
-use Rattle.kept_forms.proofs.Faultless.{no_bad_row, no_bad_pair}
-use Rattle.kept_forms.proofs.FormLaws.{reopened_formed}
-use Rattle.kept_forms.proofs.HeldForms.{state_formed}
-use Rattle.kept_forms.proofs.SameRows.{desk_records, listed_as}
+use Rattle.desk_state.specs.Formed.{AreFormed}
+use Rattle.ops_tables.specs.Named.{AreNamed}
+use Rattle.kept_state.proofs.Again.{state_again}
+use Rattle.kept_state.proofs.DeskRecords.{records_formed}
+use Rattle.kept_state.proofs.Faultless.{no_bad_row, no_bad_pair}
+use Rattle.desk_state.proofs.FormLaws.{reopened_formed}
+use Rattle.kept_state.proofs.HeldForms.{state_formed}
+use Rattle.kept_state.proofs.SameRows.{desk_records, listed_as}
 use Rattle.desk_state.specs.State.{State, start}
 use Rattle.ops_tables.specs.Tables.{TableRows}
 use Rattle.records.specs.Bodies.{row_of}
@@ -33,13 +34,13 @@ use Rattle.desk.specs.declared.opening.OpenWhy.TheVariants.{KeeperFault, BadRow,
 
 -- ---- the forms of what is opened
 
-has_forms : (told : Option Rows) (tables : TableRows) (b : Shown) → IsOpened told tables b → NamesHaveForms tables → AreFormed b.state
+has_forms : (told : Option Rows) (tables : TableRows) (b : Shown) → IsOpened told tables b → AreNamed tables → AreFormed b.state
 has_forms told tables b is names =
     let are = of_desk is.loaded.rows is.records is.loaded.has is.loaded.order in
     let s : State = state_in tables is.records in
     subst (λ (x : Shown). AreFormed x.state) (sym is.shows) (reopened_formed s (may_reopen tables is.records are) (state_formed tables is.records names are))
 
-pub opened_formed : {D E : Type 0} (told : Option Rows) (tables : TableRows) (board : D → Shown) (r : Result D E) → IfOk r (λ d. IsOpened told tables (board d)) → NamesHaveForms tables
+pub opened_formed : {D E : Type 0} (told : Option Rows) (tables : TableRows) (board : D → Shown) (r : Result D E) → IfOk r (λ d. IsOpened told tables (board d)) → AreNamed tables
     → IfOk r (λ d. AreFormed (board d).state)
 opened_formed told tables board (Ok d) is names = has_forms told tables (board d) is names
 opened_formed told tables board (Err e) is names = tt

@@ -4,13 +4,13 @@ use Rattle.std.specs.Prelude.{nat_lt, Result, Ok, Err, IfOk, OnErr}
 use Rattle.std.proofs.lemmas.Bool.{ltb-true}
 use Rattle.asks.specs.declared.call.Call.{Call}
 use Rattle.asks.specs.declared.reply.Reply.{Reply}
-use Rattle.kept_forms.specs.Formed.{AreFormed}
-use Rattle.kept_forms.proofs.FormLaws.{call_formed, tick_formed}
+use Rattle.desk_state.specs.Formed.{AreFormed}
+use Rattle.desk_state.proofs.FormLaws.{call_formed, tick_formed}
 use Rattle.desk_state.specs.Sound.{IsBoard}
 use Rattle.desk_state.specs.State.{State}
 use Rattle.desk_state.specs.Step.{Stepped, stay, answer_call, tick_to}
 use Rattle.desk_state.proofs.Boards.{call_keeps, tick_board}
-use Rattle.call_json.specs.Canonical.{CallHasForms}
+use Rattle.call_json.specs.Forms.{CallHasForms}
 use Rattle.call_json.proofs.AskForms.{call_from_forms}
 use Rattle.desk.specs.Keeping.{Choice, adds, kept_or, unkept_if, made_with, ticked_with, once_ticked, made_by, answer_with, IsGiven}
 use Rattle.desk.specs.Settled.{MayHaveTicked, choice_of}

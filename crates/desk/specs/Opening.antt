@@ -12,7 +12,7 @@ use Rattle.keeper.specs.Kept.{Lists}
 use Rattle.keeper.specs.Order.{rising}
 use Rattle.keeper.specs.declared.keeping.KeepFault.{KeepFault}
 use Rattle.kept_state.specs.Rows.{AreKept}
-use Rattle.kept_forms.specs.Formed.{AreFormed}
+use Rattle.desk_state.specs.Formed.{AreFormed}
 use Rattle.desk_state.specs.Sound.{IsBoard}
 use Rattle.desk_state.specs.State.{State}
 use Rattle.keeper.specs.declared.keeping.KeepFault.TheVariants as keep

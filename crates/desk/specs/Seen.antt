@@ -4,7 +4,7 @@ use Rattle.desk.specs.Keeping.{KeepsState}
 use Rattle.desk.specs.declared.settling.Desk.{Desk}
 use Rattle.desk_state.specs.State.{State}
 use Rattle.keeper.specs.Seen.{KeeperSeen, KeeperGoesOn}
-use Rattle.kept_forms.specs.Formed.{AreFormed}
+use Rattle.desk_state.specs.Formed.{AreFormed}
 
 pub record DeskSeen : Type 0 where
   -- the state in which it was opened, and the one that it is in

@@ -1,7 +1,7 @@
 -- What holds of items that are asked and of outcomes that are written.
 use Rattle.std.specs.Prelude.{◌≤◌}
 use Rattle.asks.specs.Forms.{ReplyHasMoment}
-use Rattle.call_json.specs.Canonical.{CallHasForms}
+use Rattle.call_json.specs.Forms.{CallHasForms}
 use Rattle.desk_state.specs.declared.lanes.Item.{Item}
 use Rattle.desk_state.specs.declared.lanes.Item.TheVariants as item
 use Rattle.desk_state.specs.declared.lanes.Outcome.{Outcome}

@@ -7,7 +7,8 @@ use Rattle.plan.specs.Texts.{IsMoment}
 use Rattle.asks.specs.declared.call.Call.{Call}
 use Rattle.asks.specs.declared.call.Ask.{Ask}
 use Rattle.asks.specs.declared.call.Ask.TheVariants.{Admit, Defer, Clear, Draft, Prepare, Sign, Concur, Amend, Cancel, Depart, Arrive, Acknowledge, Purge, Sweep, ViewBoard, ViewAlerts, ViewRelease, ViewWeather, ViewDeferred}
-use Rattle.call_json.specs.Canonical.{ask_data, AskHasForms, CallHasForms}
+use Rattle.call_json.specs.Canonical.{ask_data}
+use Rattle.call_json.specs.Forms.{AskHasForms, CallHasForms}
 use Rattle.call_json.proofs.DigestLaws.{digest_again}
 use Rattle.call_json.proofs.Again.{small_again, amount_again, short_again, station_again, moment_again, id_again, plan_again}
 use Rattle.desk_json.specs.declared.bad_call.CallFault.{CallFault}

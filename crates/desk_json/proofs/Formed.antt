@@ -14,7 +14,7 @@ use Rattle.call_json.specs.Plain.{HasText}
 use Rattle.call_json.specs.Digests.{digest_at, IsDigest}
 use Rattle.call_json.specs.Plans.{plan_of}
 use Rattle.call_json.specs.Fields.{text_at, id_at, amount_at, short_at, station_at, moment_at}
-use Rattle.call_json.specs.Canonical.{IsAmount, IsId, IsShort, HasForms, AskHasForms, CallHasForms}
+use Rattle.call_json.specs.Forms.{IsAmount, IsId, IsShort, HasForms, AskHasForms, CallHasForms}
 use Rattle.desk_time.proofs.Chains.{then_if, under}
 use Rattle.call_json.proofs.PlanForms.{IsAirport, number_formed, id_formed, amount_formed, station_formed, moment_formed, plan_formed}
 use Rattle.call_json.proofs.DoneForms.{digest_is}

@@ -2,7 +2,7 @@ ghost use Rattle.std.specs.Prelude.{◌≡◌, IfOk};
 ghost use Rattle.serde_json.specs.View.{view};
 ghost use Rattle.plan.specs.Texts.{IsMoment};
 ghost use Rattle.asks.specs.Forms.{IsCall};
-ghost use Rattle.call_json.specs.Canonical.{CallHasForms};
+ghost use Rattle.call_json.specs.Forms.{CallHasForms};
 ghost use Rattle.desk_json.specs.Keys.{is_call_key, is_line_key};
 ghost use Rattle.desk_json.specs.Faults as spec;
 ghost use Rattle.desk_json.specs.Faults.{call_or_fault, line_or_fault, Answers};

@@ -36,7 +36,8 @@ use Rattle.desk_state.specs.People.{mistaken, not_his_role}
 use Rattle.desk_state.specs.Legal.{MayCome, next, Legal, IsHistory}
 use Rattle.plan.specs.Texts.{IsMoment}
 use Rattle.rules.specs.Grounds.{Grounds}
-use Rattle.desk_state.specs.Sound.{Sound, InBounds, ReleaseInBounds, IsValid, IsBoard, IsNumbered, AreOpen, AreUnlike, AreSingle, IsReplied, IsEntered, IsToldTo, IsAlerted, Rise, EffectFits, DecisionFits}
+use Rattle.desk_state.specs.Sound.{Sound, InBounds, ReleaseInBounds, IsBoard, IsNumbered, AreOpen, AreUnlike, AreSingle, IsReplied, IsEntered, IsToldTo, IsAlerted, Rise, EffectFits, DecisionFits}
+use Rattle.release_text.specs.Valid.{IsValid}
 use Rattle.asks.specs.Forms.{IsCall, RefusalHasMoment, ReplyHasMoment}
 use Rattle.desk_state.proofs.Each.{each_push, each_weaker}
 use Rattle.desk_state.proofs.Judging.{AreTold, alerts_have, all_own, are_alerted, are_alerts, told_kept}

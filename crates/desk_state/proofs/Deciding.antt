@@ -52,7 +52,8 @@ use Rattle.desk_state.specs.Decide as d
 use Rattle.desk_state.specs.Decide.{decide}
 use Rattle.desk_state.specs.People.{may_ask, not_his_role}
 use Rattle.plan.specs.Texts.{HasMoment, IsMoment}
-use Rattle.desk_state.specs.Sound.{Sound, InBounds, ReleaseInBounds, IsValid, IsPhased, IsThere, AreNumbered, Waits, MaySigned, HasLegs, RevisionInBounds, IsSigned, IsNew, Fits, MayReplace, IsTaken, IsToldTo, Matches, IsAlerted, EffectFits, DecisionFits}
+use Rattle.desk_state.specs.Sound.{Sound, InBounds, ReleaseInBounds, RevisionInBounds, IsNew, Fits, MayReplace, IsTaken, IsToldTo, Matches, IsAlerted, EffectFits, DecisionFits}
+use Rattle.release_text.specs.Valid.{IsValid, IsPhased, IsThere, AreNumbered, Waits, MaySigned, HasLegs, IsSigned}
 use Rattle.desk_state.specs.Effects as effect
 use Rattle.desk_state.specs.Texts.{newest}
 use Rattle.asks.specs.Forms.{IsCall, CanBeShown, RefusalHasMoment}

@@ -25,7 +25,8 @@ use Rattle.release_text.specs.Revisions.{revision_digest}
 use Rattle.release_text.specs.Weather.{newer_than}
 use Rattle.rules.specs.Grounds.{Grounds}
 use Rattle.desk_state.proofs.Each.{found_each}
-use Rattle.desk_state.specs.Sound.{Sound, InBounds, IsPhased, IsThere, IsValid, EffectFits, DecisionFits}
+use Rattle.desk_state.specs.Sound.{Sound, InBounds, EffectFits, DecisionFits}
+use Rattle.release_text.specs.Valid.{IsPhased, IsThere, IsValid}
 use Rattle.asks.specs.Forms.{IsCall}
 use Rattle.plan.specs.Texts.{IsMoment}
 use Rattle.facts.specs.Same.{minute_of_report}

@@ -8,3 +8,11 @@ pub mod AllowedLaws
 pub mod LeadingLaws
 pub mod ToldLaws
 pub mod RepeatLaws
+pub mod FindingForms
+pub mod AlertForms
+pub mod FloorForms
+pub mod DigestForms
+pub mod NameForms
+pub mod EffectForms
+pub mod ReportForms
+pub mod FormLaws

@@ -23,7 +23,8 @@ use Rattle.desk_state.specs.declared.effect.OnDeferrals.TheVariants as on_deferr
 use Rattle.desk_state.specs.declared.effect.OnReleases.{OnReleases}
 use Rattle.desk_state.specs.declared.effect.OnReleases.TheVariants as on_releases
 use Rattle.desk_state.specs.Events.{put, without_release, moment_after, reports_after, reports_swept, is_since, kept_after, deferrals_after, releases_after, next_report, next_deferral, next_release}
-use Rattle.desk_state.specs.Sound.{Sound, AreJudgeable, ReleaseInBounds, IsValid, AreNumbered, IsNumbered, IsOpen, AreOpen, MayOpen, IsNext, AreUnlike, AreSingle, IsToldTo, Rise, DeferralsFit, ReleasesFit}
+use Rattle.desk_state.specs.Sound.{Sound, AreJudgeable, ReleaseInBounds, IsNumbered, IsOpen, AreOpen, MayOpen, IsNext, AreUnlike, AreSingle, IsToldTo, Rise, DeferralsFit, ReleasesFit}
+use Rattle.release_text.specs.Valid.{IsValid, AreNumbered}
 use Rattle.desk_state.specs.Requests.{is_request, kept_at}
 use Rattle.desk_state.specs.State.{State, alert_at}
 use Rattle.desk_state.proofs.Each.{each_push, each_weaker, put_each, put_length, without_each, without_shorter}

@@ -8,6 +8,7 @@ pub mod People
 pub mod Decide
 pub mod Step
 pub mod Legal
+pub mod Formed
 pub mod Sound
 pub mod Lanes
 pub mod Repeats

@@ -9,3 +9,6 @@ pub mod IndexLaws
 pub mod LeavingLaws
 pub mod ReindexLaws
 pub mod SweepLaws
+pub mod Moments
+pub mod Forecasts
+pub mod ReadLaws

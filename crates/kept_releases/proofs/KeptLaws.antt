@@ -12,7 +12,8 @@ use Rattle.plan.specs.declared.release.Release.{Release}
 use Rattle.plan.specs.declared.release.Revision.{Revision}
 use Rattle.plan.specs.declared.release.Signature.{Signature}
 use Rattle.release_text.specs.Revisions.{revision_digest}
-use Rattle.kept_releases.specs.Kept.{IsThere, IsNone, IsPhased, IsSigned, BearsBoth, MaySigned, Waits, HasLegs, AreNumbered, IsValid, is_phased, phase_fits, has_legs, are_numbered, is_shaped, has_digest, bears_both, may_be_signed, waits, is_valid}
+use Rattle.release_text.specs.Valid.{IsThere, IsNone, IsPhased, IsSigned, BearsBoth, MaySigned, Waits, HasLegs, AreNumbered, IsValid}
+use Rattle.kept_releases.specs.Kept.{is_phased, phase_fits, has_legs, are_numbered, is_shaped, has_digest, bears_both, may_be_signed, waits, is_valid}
 
 there : (v : Option Revision) → is_some v ≡ true → IsThere v
 there None is = absurd (cc is)

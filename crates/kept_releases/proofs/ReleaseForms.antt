@@ -13,11 +13,12 @@ use Rattle.plan.specs.declared.release.Phase.TheVariants.{Drafted, Ready, Flying
 use Rattle.plan.specs.declared.release.Release.{Release}
 use Rattle.plan.specs.declared.release.Revision.{Revision}
 use Rattle.plan.specs.declared.release.Signature.{Signature}
-use Rattle.call_json.specs.Canonical.{IsId, HasForms}
+use Rattle.call_json.specs.Forms.{IsId, HasForms}
 use Rattle.call_json.specs.Digests.{digest_of, digest_at, IsDigest}
 use Rattle.call_json.specs.Fields.{text_at, id_at, moment_at, list_at, has_members}
 use Rattle.call_json.specs.Plans.{plan_of}
-use Rattle.kept_releases.specs.Kept.{IsAttached, IsSignature, IsRevision, IsFormed, IsKept, is_valid}
+use Rattle.call_json.specs.Forms.{IsAttached, IsSignature, IsRevision, IsFormed}
+use Rattle.kept_releases.specs.Kept.{IsKept, is_valid}
 use Rattle.kept_releases.specs.Phases.{IsPhase, phase_of}
 use Rattle.kept_releases.specs.Plans.{MayHavePlan, HasPlans}
 use Rattle.kept_releases.specs.Releases.{bool_at, person, person_at, attached_with, attached_of, attached_at, signature_of, signature_in, signature_at, signatures_of, head_of, plan_at, revision_of, revision_in, revision_at, revisions_of, phase_at, release_in, release_of}

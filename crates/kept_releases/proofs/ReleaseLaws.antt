@@ -21,7 +21,9 @@ use Rattle.plan.specs.declared.release.Signature.{Signature}
 use Rattle.call_json.proofs.Again.{id_again, moment_again, plan_again, each_again}
 use Rattle.call_json.proofs.Texts.{passing_utf8, moment_utf8}
 use Rattle.call_json.proofs.DigestLaws.{digest_again}
-use Rattle.kept_releases.specs.Kept.{IsAttached, IsSignature, IsRevision, IsFormed, IsKept, IsPhased, HasLegs}
+use Rattle.call_json.specs.Forms.{IsAttached, IsSignature, IsRevision, IsFormed}
+use Rattle.kept_releases.specs.Kept.{IsKept}
+use Rattle.release_text.specs.Valid.{IsPhased, HasLegs}
 use Rattle.kept_releases.specs.Phases.{IsPhase, phase_of}
 use Rattle.kept_releases.specs.Releases.{person, attached_with, attached_of, signature_in, revision_in, release_in, release_of}
 use Rattle.kept_releases.specs.Rows.{attached_data, signature_data, revision_data, release_data}

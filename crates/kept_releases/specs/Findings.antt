@@ -9,7 +9,7 @@ use Rattle.plan.specs.Texts.{finding_text}
 use Rattle.plan.specs.declared.findings.Rule.{Rule}
 use Rattle.plan.specs.declared.findings.Rule.TheVariants.{No1, No2, No3, No4, No5, No6, No7, No8, No9, No10, No11, No12, No13, No14, No15, No16, No17, No18, No19}
 use Rattle.plan.specs.declared.findings.Finding.{Finding}
-use Rattle.call_json.specs.Canonical.{text_data, list_data, IsAmount}
+use Rattle.call_json.specs.Canonical.{text_data, list_data}
 use Rattle.call_json.specs.Fields.{each_read}
 use Rattle.kept_releases.specs.Numbers.{number_in, leg_of, cut}
 
@@ -68,16 +68,3 @@ in_order fs = if are_in_order fs then Some fs else None
 -- the findings of a list, which stand in order, each once
 unfoldable pub findings_of : Items → Option (List Finding)
 findings_of ds = each_read finding_in ds >>= λ fs. in_order fs
-
--- a finding whose leg is a number of 32 bits, and whose place has a limit
-pub record FindingWithin (places : ℕ) (f : Finding) : Type 0 where
-  pub leg : IsAmount f.leg
-  pub place : f.place ≤ places
-
--- as it is kept
-abbrev pub IsFinding : Finding → Type 0
-IsFinding f = FindingWithin 1_000_000_000_000_000 f
-
--- as a reply may say it
-abbrev pub IsSaidFinding : Finding → Type 0
-IsSaidFinding f = FindingWithin 18_446_744_073_709_551_615 f

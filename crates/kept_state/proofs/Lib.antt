@@ -21,3 +21,11 @@ pub mod RestoringLaws
 pub mod RowLaws
 pub mod SavedLaws
 pub mod RecordLaws
+pub mod Segments
+pub mod KeptForms
+pub mod Together
+pub mod DeskRecords
+pub mod Again
+pub mod HeldForms
+pub mod SameRows
+pub mod Faultless

@@ -7,7 +7,8 @@ use Rattle.plan.specs.declared.release.Release.{Release}
 use Rattle.desk_state.specs.Effects.{nothing}
 use Rattle.desk_state.specs.Events.{alert_changes, put_changes}
 use Rattle.desk_state.specs.Legal.{IsHistory}
-use Rattle.desk_state.specs.Sound.{AreCounters, AreJudgeable, InBounds, IsBoard, IsValid, Sound}
+use Rattle.desk_state.specs.Sound.{AreCounters, AreJudgeable, InBounds, IsBoard, Sound}
+use Rattle.release_text.specs.Valid.{IsValid}
 use Rattle.desk_state.specs.State.{State, judged_all}
 use Rattle.desk_state.specs.declared.change.AlertChange.{AlertChange}
 use Rattle.desk_state.specs.declared.counters.Counters.{Counters}

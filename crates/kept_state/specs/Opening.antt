@@ -3,7 +3,8 @@ use Rattle.std.specs.Prelude.{◌≡◌, ℕ, ◌+◌, ◌<◌, List, [], ◌∷
 use Rattle.std.specs.List.{AllByRecursion}
 use Rattle.desk_state.specs.Effects.{nothing}
 use Rattle.desk_state.specs.Events.{alert_changes}
-use Rattle.desk_state.specs.Sound.{AreJudgeable, AreSingle, AreUnlike, InBounds, IsToldTo, IsValid}
+use Rattle.desk_state.specs.Sound.{AreJudgeable, AreSingle, AreUnlike, InBounds, IsToldTo}
+use Rattle.release_text.specs.Valid.{IsValid}
 use Rattle.desk_state.specs.State.{State, alert_at, judged_all}
 use Rattle.desk_state.specs.declared.change.AlertChange.{AlertChange}
 use Rattle.desk_state.specs.declared.counters.Counters.{Counters}

@@ -2,10 +2,10 @@ ghost use Rattle.std.specs.Prelude.{◌≡◌, IsTrue};
 ghost use Rattle.plan.specs.Phases.{PhaseFits};
 
 use crate::flights::{ETD, leg_of, plan_of};
-use stations::Station;
 use desk_io::{LineFeeds, Listed, OutOfMemory, Text, runs_between};
 use plan::{Alternate, Kind, Leg, Legs, Phase, Plan, PlanWhy, check_change};
 use small_airline::may_be_checked;
+use stations::Station;
 use std::alloc::Global;
 use std::test::Fail;
 

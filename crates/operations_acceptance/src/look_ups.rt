@@ -1,7 +1,7 @@
-use stations::Station;
 use desk_io::OutOfMemory;
 use ops_tables::{Category, Role, Tables};
 use small_airline::holds_with;
+use stations::Station;
 use std::alloc::Global;
 use std::test::Fail;
 

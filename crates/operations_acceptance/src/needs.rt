@@ -1,8 +1,8 @@
 use alternates::{in_range, is_marginal, needs_destination, needs_takeoff};
 use codes::{Cond, meets};
-use stations::{Pair, Station};
 use desk_io::Listed;
 use plan::{Kind, Leg};
+use stations::{Pair, Station};
 use std::alloc::Global;
 
 // A leg from Boston to Kennedy.

@@ -4,13 +4,13 @@ ghost use Rattle.facts.specs.Reading.{IsRead};
 
 use crate::flights::{ETD, leg_between, plan_of};
 use codes::ReportFault;
-use stations::Station;
 use desk_io::{Listed, OutOfMemory};
 use desk_time::{FIRST, LAST, Minute};
 use facts::{Received, Report, Reports, receive};
 use plan::{Alternate, AttachedList, Phase, Plan};
 use release_text::{attach, newer};
 use small_airline::may_be_checked;
+use stations::Station;
 use std::alloc::Global;
 use std::test::Fail;
 

@@ -15,7 +15,8 @@ use Rattle.kept_releases.proofs.ReleaseLaws.{release_again}
 use Rattle.records.specs.Kinds.{kind_of, key_of}
 use Rattle.records.specs.Bodies.{floors_data, body_data}
 use Rattle.records.specs.Reading as spec
-use Rattle.records.specs.Valid.{IsFloor, AreRising, IsReport, IsRecord, is_report, are_among}
+use Rattle.call_json.specs.Forms.{IsFloor, FloorsRise}
+use Rattle.records.specs.Valid.{IsReport, IsRecord, is_report, are_among}
 use Rattle.records.specs.declared.record.KeptReport.{KeptReport}
 use Rattle.records.specs.declared.record.Record.{Record}
 use Rattle.records.specs.declared.record.Record.TheVariants.{Meta, Report, Deferral, Release, Kept, Alert}
@@ -24,7 +25,7 @@ use Rattle.records.proofs.NameLaws.{person_again, tail_again, item_again, text_l
 
 -- ---- floors
 
-floors_read : (fs : List Floor) → AllByRecursion IsFloor fs → AreRising fs → spec.floors_of (floors_data fs) ≡ Some fs
+floors_read : (fs : List Floor) → AllByRecursion IsFloor fs → FloorsRise fs → spec.floors_of (floors_data fs) ≡ Some fs
 unfolding floors_data
 floors_read fs all rising =
     ap (λ ms. spec.floors_of (object ms)) (floors_in_turn fs all rising) ∙ rw (floors_again fs all, rising_tested fs rising) refl

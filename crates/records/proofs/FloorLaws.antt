@@ -12,7 +12,8 @@ use Rattle.call_json.specs.Plain.{IsBefore, AreInOrder, MembersArePlain, Members
 use Rattle.call_json.proofs.Again.{small_again}
 use Rattle.records.specs.Bodies.{with_floors}
 use Rattle.records.specs.Reading.{floor_of, floors_in}
-use Rattle.records.specs.Valid.{IsFloor, AreRising, comes_before, are_rising}
+use Rattle.call_json.specs.Forms.{IsFloor, FloorsRise}
+use Rattle.records.specs.Valid.{comes_before, are_rising}
 use Rattle.records.proofs.NameLaws.{person_utf8, person_lossy, person_known}
 
 abbrev joined : Members → Members → Members
@@ -47,7 +48,7 @@ name_before : (name : List ℕ) (fs : List Floor) → AllByRecursion (λ (g : Fl
 name_before name [] all = tt
 name_before name (f ∷ fs) all = (all.0, name_before name fs all.1)
 
-pub turn_order : (fs : List Floor) → AreRising fs → AreInOrder (in_turn fs)
+pub turn_order : (fs : List Floor) → FloorsRise fs → AreInOrder (in_turn fs)
 turn_order [] rising = tt
 turn_order (f ∷ fs) rising = (name_before f.actor fs rising.0, turn_order fs rising.1)
 
@@ -62,7 +63,7 @@ onto ms (f ∷ fs) all order =
     ∙ again
 
 -- where names rise each is put behind those before it
-pub floors_in_turn : (fs : List Floor) → AllByRecursion IsFloor fs → AreRising fs → with_floors no_members fs ≡ in_turn fs
+pub floors_in_turn : (fs : List Floor) → AllByRecursion IsFloor fs → FloorsRise fs → with_floors no_members fs ≡ in_turn fs
 floors_in_turn fs all rising = onto no_members fs all (turn_order fs rising)
 
 pub turn_plain : (fs : List Floor) → AllByRecursion IsFloor fs → MembersArePlain (in_turn fs)
@@ -90,7 +91,7 @@ next_rises : (name : List ℕ) (fs : List Floor) → AllByRecursion (λ (g : Flo
 next_rises name [] all = refl
 next_rises name (f ∷ fs) all = ap is_lt all.0
 
-pub rising_tested : (fs : List Floor) → AreRising fs → are_rising fs ≡ true
+pub rising_tested : (fs : List Floor) → FloorsRise fs → are_rising fs ≡ true
 rising_tested [] rising = refl
 rising_tested (f ∷ fs) rising = rw (next_rises f.actor fs rising.0, rising_tested fs rising.1) refl
 
@@ -102,11 +103,11 @@ all_later : (name key : List ℕ) (fs : List Floor) → slice_cmp nat_cmp name k
 all_later name key [] below all = tt
 all_later name key (f ∷ fs) below all = (nat_list_cmp_total.trans name key f.actor below all.0, all_later name key fs below all.1)
 
-first_before : (name : List ℕ) (fs : List Floor) → comes_before name fs ≡ true → AreRising fs → AllByRecursion (λ (g : Floor). slice_cmp nat_cmp name g.actor ≡ Less) fs
+first_before : (name : List ℕ) (fs : List Floor) → comes_before name fs ≡ true → FloorsRise fs → AllByRecursion (λ (g : Floor). slice_cmp nat_cmp name g.actor ≡ Less) fs
 first_before name [] is rising = tt
 first_before name (f ∷ fs) is rising = (less _ is, all_later name f.actor fs (less _ is) rising.0)
 
-pub rising_from_test : (fs : List Floor) → are_rising fs ≡ true → AreRising fs
+pub rising_from_test : (fs : List Floor) → are_rising fs ≡ true → FloorsRise fs
 rising_from_test [] is = tt
 rising_from_test (f ∷ fs) is =
     let parts = and_parts (comes_before f.actor fs) (are_rising fs) is in

@@ -3,13 +3,14 @@ use Rattle.std.proofs.Common.{ℕ, ◌^◌, ◌<◌, ◌≤◌, List, refl, sym,
 use Rattle.std.specs.List.{AllByRecursion}
 use Rattle.serde_json.specs.Data.{object, depth}
 use Rattle.asks.specs.declared.kept.Floor.{Floor}
-use Rattle.call_json.specs.Canonical.{IsId}
+use Rattle.call_json.specs.Forms.{IsId}
 use Rattle.call_json.specs.Plain.{IsPlain, HasText}
 use Rattle.call_json.proofs.Plain.{order_of, text_of, done_plain, done_has_text, done_depth, kept_said}
 use Rattle.call_json.proofs.Texts.{written_utf8, digest_utf8}
 use Rattle.kept_releases.proofs.PlainLaws.{release_plain, release_has_text, release_depth, findings_plain, findings_have_text, findings_depth}
 use Rattle.records.specs.Bodies.{floors_data, meta_members, report_members, deferral_members, reply_members, kept_members, alert_members, body_data}
-use Rattle.records.specs.Valid.{IsFloor, AreRising, IsRecord}
+use Rattle.call_json.specs.Forms.{IsFloor, FloorsRise}
+use Rattle.records.specs.Valid.{IsRecord}
 use Rattle.records.specs.declared.record.Record.{Record}
 use Rattle.records.specs.declared.record.Record.TheVariants.{Meta, Report, Deferral, Release, Kept, Alert}
 use Rattle.records.proofs.FloorLaws.{floors_in_turn, turn_order, turn_plain, turn_has_text, turn_depth}
@@ -19,15 +20,15 @@ id_plain n few = omega arith
 
 -- ---- floors
 
-floors_plain : (fs : List Floor) → AllByRecursion IsFloor fs → AreRising fs → IsPlain (floors_data fs)
+floors_plain : (fs : List Floor) → AllByRecursion IsFloor fs → FloorsRise fs → IsPlain (floors_data fs)
 unfolding floors_data
 floors_plain fs all rising = subst (λ ms. IsPlain (object ms)) (sym (floors_in_turn fs all rising)) (turn_order fs rising, turn_plain fs all)
 
-floors_have_text : (fs : List Floor) → AllByRecursion IsFloor fs → AreRising fs → HasText (floors_data fs)
+floors_have_text : (fs : List Floor) → AllByRecursion IsFloor fs → FloorsRise fs → HasText (floors_data fs)
 unfolding floors_data
 floors_have_text fs all rising = subst (λ ms. HasText (object ms)) (sym (floors_in_turn fs all rising)) (turn_has_text fs all)
 
-floors_depth : (fs : List Floor) → AllByRecursion IsFloor fs → AreRising fs → depth (floors_data fs) ≤ 1
+floors_depth : (fs : List Floor) → AllByRecursion IsFloor fs → FloorsRise fs → depth (floors_data fs) ≤ 1
 unfolding floors_data
 floors_depth fs all rising = subst (λ ms. depth (object ms) ≤ 1) (sym (floors_in_turn fs all rising)) (let flat = turn_depth fs in omega arith)
 

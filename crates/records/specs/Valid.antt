@@ -14,29 +14,14 @@ use Rattle.asks.specs.declared.kept.Floor.{Floor}
 use Rattle.asks.specs.declared.kept.KeptReply.{KeptReply}
 use Rattle.deferrals.specs.declared.items.Deferral.{Deferral as DeferralOf}
 use Rattle.facts.specs.Reading.{read_of}
-use Rattle.call_json.specs.Canonical.{IsId, DoneHasForms}
+use Rattle.call_json.specs.Forms.{IsId, DoneHasForms, IsFinding, IsRequest, IsFloor, FloorsRise}
 use Rattle.call_json.specs.Digests.{IsDigest}
-use Rattle.kept_releases.specs.Findings.{IsFinding}
 use Rattle.kept_releases.specs.Kept.{IsKept}
 use Rattle.records.specs.declared.record.KeptAlert.{KeptAlert}
 use Rattle.records.specs.declared.record.KeptReport.{KeptReport}
 use Rattle.records.specs.declared.record.Meta.{Meta as Counters}
 use Rattle.records.specs.declared.record.Record.{Record}
 use Rattle.records.specs.declared.record.Record.TheVariants.{Meta, Report, Deferral, Release, Kept, Alert}
-
--- the number of a request
-abbrev pub IsRequest : ℕ → Type 0
-IsRequest n = n ≤ 1_000_000_000_000
-
--- the name of a person and the number of a request
-pub record IsFloor (f : Floor) : Type 0 where
-  pub actor : is_person f.actor ≡ true
-  pub number : IsRequest f.number
-
--- names in byte order, each once
-abbrev pub AreRising : List Floor → Type 0
-AreRising [] = Unit {0}
-AreRising (f ∷ fs) = AllByRecursion (λ (g : Floor). slice_cmp nat_cmp f.actor g.actor ≡ Less) fs × AreRising fs
 
 -- counters of at most 10^15, and floors of persons
 pub record IsMeta (m : Counters) : Type 0 where
@@ -47,7 +32,7 @@ pub record IsMeta (m : Counters) : Type 0 where
   pub next_release : IsId m.next_release
   pub next_kept : IsId m.next_kept
   pub floors : AllByRecursion IsFloor m.floors
-  pub rising : AreRising m.floors
+  pub rising : FloorsRise m.floors
 
 -- a report whose text is canonical, and is read as one that was received then
 pub record IsReport (r : KeptReport) : Type 0 where

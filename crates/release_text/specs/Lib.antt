@@ -3,3 +3,4 @@ pub mod Weather
 pub mod Laws
 pub mod Text
 pub mod Revisions
+pub mod Valid

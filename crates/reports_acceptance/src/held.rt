@@ -2,10 +2,10 @@ ghost use Rattle.std.specs.Prelude.{◌≡◌, ◌<◌, ◌≤◌, All, IfOk, Is
 ghost use Rattle.facts.specs.Reading.{IsRead};
 
 use codes::ReportFault;
-use stations::Station;
 use desk_io::OutOfMemory;
 use desk_time::{FIRST, LAST, Minute};
 use facts::{Received, Report, Reports, push_weather, push_weather_at, receive};
+use stations::Station;
 use std::alloc::Global;
 use std::test::Fail;
 

@@ -1,6 +1,6 @@
 ghost use Rattle.std.specs.Prelude.{◌≡◌, ◌≢◌, Err, IfOk, IsErrOf};
 ghost use Rattle.http.specs.StatusCode.{IsStatusCode};
-ghost use Rattle.call_json.specs.Canonical.{CallHasForms};
+ghost use Rattle.call_json.specs.Forms.{CallHasForms};
 ghost use Rattle.desk.specs.Seen.{desk_at, desk_seen, DeskGoesOn};
 ghost use Rattle.desk_io.specs.Health.{IsSound, IsStill};
 ghost use Rattle.desk_io.specs.Over.{over};

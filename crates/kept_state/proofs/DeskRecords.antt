@@ -21,14 +21,14 @@ use Rattle.records.specs.Valid.{IsRecord}
 use Rattle.records.specs.declared.faults.RowWhy.TheVariants.{NoMeta, Orphan, OverLimit}
 use Rattle.records.specs.declared.record.Record.{Record}
 use Rattle.records.specs.declared.record.Record.TheVariants.{Meta, Report, Deferral, Release, Kept, Alert}
-use Rattle.kept_releases.specs.Kept.{IsFormed}
+use Rattle.call_json.specs.Forms.{IsFormed}
 use Rattle.kept_state.specs.Held.{AreOfDesk, comes_before}
 use Rattle.kept_state.proofs.Fitting.{Agree, AreFew}
 use Rattle.kept_state.proofs.Lists.{both, weaker, weaker_pairs}
-use Rattle.kept_forms.proofs.Segments.{all_any, all_rise, none_if, none_paired, none_placed, room_before}
-use Rattle.kept_forms.proofs.Together.{Stands, all_few, all_pairs, all_records, all_stand, has_release, ids_below}
-use Rattle.kept_forms.proofs.Validity.{Counts, IsKeptRecord, kept_alert, kept_deferral, kept_meta, kept_release, kept_reply, kept_report}
-use Rattle.kept_forms.specs.Formed.{AlertHasForms, AreFormed, DeferralHasForms, ReplyHasForms, ReportHasForms}
+use Rattle.kept_state.proofs.Segments.{all_any, all_rise, none_if, none_paired, none_placed, room_before}
+use Rattle.kept_state.proofs.Together.{Stands, all_few, all_pairs, all_records, all_stand, has_release, ids_below}
+use Rattle.kept_state.proofs.KeptForms.{Counts, IsKeptRecord, kept_alert, kept_deferral, kept_meta, kept_release, kept_reply, kept_report}
+use Rattle.desk_state.specs.Formed.{AlertHasForms, AreFormed, DeferralHasForms, ReplyHasForms, ReportHasForms}
 
 -- ---- there is a meta record
 

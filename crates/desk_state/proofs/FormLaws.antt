@@ -10,11 +10,12 @@ use Rattle.asks.specs.declared.reply.Reply.TheVariants.{Done, Seen, Refused}
 use Rattle.deferrals.specs.Held.{has_id}
 use Rattle.deferrals.specs.declared.items.Deferral.{Deferral}
 use Rattle.facts.specs.declared.report.Report.{Report}
-use Rattle.kept_forms.specs.Formed.{NamesHaveForms, ReportHasForms, DeferralHasForms, AlertHasForms, ReplyHasForms, AreFormed}
-use Rattle.kept_forms.proofs.AlertForms.{all_judged, ids_low}
-use Rattle.kept_forms.proofs.DigestForms.{ask_digest_formed}
-use Rattle.kept_forms.proofs.EffectForms.{OpensFormed, PutsFormed, HasFloors, BringsForms, Stands, effect_formed}
-use Rattle.kept_forms.proofs.NameForms.{person_formed}
+use Rattle.ops_tables.specs.Named.{AreNamed}
+use Rattle.desk_state.specs.Formed.{ReportHasForms, DeferralHasForms, AlertHasForms, ReplyHasForms, AreFormed}
+use Rattle.desk_state.proofs.AlertForms.{all_judged, ids_low}
+use Rattle.desk_state.proofs.DigestForms.{ask_digest_formed}
+use Rattle.desk_state.proofs.EffectForms.{OpensFormed, PutsFormed, HasFloors, BringsForms, Stands, effect_formed}
+use Rattle.desk_state.proofs.NameForms.{person_formed}
 use Rattle.desk_state.specs.Allowed.{DecisionOf}
 use Rattle.desk_state.specs.Decide.{decide}
 use Rattle.desk_state.specs.Effects.{tick}
@@ -41,14 +42,14 @@ use Rattle.desk_state.proofs.Parts.{filter_each, kept_each, swept_each}
 use Rattle.ops_tables.specs.Forms.{is_person}
 use Rattle.ops_tables.specs.Tables.{TableRows, actor_of}
 use Rattle.plan.specs.declared.release.Release.{Release}
-use Rattle.call_json.specs.Canonical.{CallHasForms, DoneHasForms}
+use Rattle.call_json.specs.Forms.{CallHasForms, DoneHasForms}
 use Rattle.call_json.proofs.AskForms.{call_from_forms}
-use Rattle.records.specs.Valid.{IsFloor, IsRequest, AreRising}
-use Rattle.kept_releases.specs.Kept.{IsFormed}
+use Rattle.call_json.specs.Forms.{IsFloor, IsRequest, FloorsRise}
+use Rattle.call_json.specs.Forms.{IsFormed}
 use Rattle.kept_state.specs.Opening.{MayReopen, reopened}
 
 -- nothing is held at the beginning
-pub start_formed : (tables : TableRows) → NamesHaveForms tables → AreFormed (start tables)
+pub start_formed : (tables : TableRows) → AreNamed tables → AreFormed (start tables)
 start_formed tables names = record { names = names; reports = tt; deferrals = tt; releases = tt; alerts = tt; kept = tt; floors = tt; rising = tt }
 
 -- ---- the effect, part by part
@@ -68,7 +69,7 @@ releases_more (on_releases.File r) rs brings all = each_push IsFormed rs r all b
 releases_more (on_releases.Put r) rs brings all = put_each IsFormed r rs all brings
 releases_more (on_releases.Remove id) rs brings all = without_each IsFormed id rs all
 
-floors_more : (o : Option Sweep) (fs : List Floor) → IfSome o HasFloors → AllByRecursion IsFloor fs × AreRising fs → AllByRecursion IsFloor (floors_after o fs) × AreRising (floors_after o fs)
+floors_more : (o : Option Sweep) (fs : List Floor) → IfSome o HasFloors → AllByRecursion IsFloor fs × FloorsRise fs → AllByRecursion IsFloor (floors_after o fs) × FloorsRise (floors_after o fs)
 floors_more None fs brings all = all
 floors_more (Some w) fs brings all = brings
 

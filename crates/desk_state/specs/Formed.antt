@@ -8,18 +8,12 @@ use Rattle.facts.specs.Reading.{IsRead}
 use Rattle.facts.specs.declared.report.Report.{Report}
 use Rattle.desk_state.specs.State.{State}
 use Rattle.ops_tables.specs.Forms.{is_tail, is_item, is_person}
-use Rattle.ops_tables.specs.Tables.{TableRows}
-use Rattle.call_json.specs.Canonical.{DoneHasForms}
+use Rattle.ops_tables.specs.Named.{AreNamed}
+use Rattle.call_json.specs.Forms.{DoneHasForms}
 use Rattle.call_json.specs.Digests.{IsDigest}
-use Rattle.records.specs.Valid.{IsRequest, IsFloor, AreRising}
-use Rattle.kept_releases.specs.Findings.{IsFinding}
-use Rattle.kept_releases.specs.Kept.{IsFormed}
-
--- the names in the tables that the desk keeps
-pub record NamesHaveForms (t : TableRows) : Type 0 where
-  pub tails : AllByRecursion (λ r. is_tail r.tail ≡ true) t.tails
-  pub items : AllByRecursion (λ r. is_item r.item ≡ true) t.mel
-  pub people : AllByRecursion (λ a. is_person a.name ≡ true) t.actors
+use Rattle.call_json.specs.Forms.{IsRequest, IsFloor, FloorsRise}
+use Rattle.call_json.specs.Forms.{IsFinding}
+use Rattle.call_json.specs.Forms.{IsFormed}
 
 -- a canonical text, and what it says as of its receipt
 pub record ReportHasForms (r : Report) : Type 0 where
@@ -44,11 +38,11 @@ pub record ReplyHasForms (k : KeptReply) : Type 0 where
 
 -- Each part of the state has its forms, and floors rise in byte order of the persons.
 pub record AreFormed (s : State) : Type 0 where
-  pub names : NamesHaveForms s.tables
+  pub names : AreNamed s.tables
   pub reports : AllByRecursion ReportHasForms s.reports
   pub deferrals : AllByRecursion DeferralHasForms s.deferrals
   pub releases : AllByRecursion IsFormed s.releases
   pub alerts : AllByRecursion AlertHasForms s.alerts
   pub kept : AllByRecursion ReplyHasForms s.kept
   pub floors : AllByRecursion IsFloor s.floors
-  pub rising : AreRising s.floors
+  pub rising : FloorsRise s.floors

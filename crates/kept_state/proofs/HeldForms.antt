@@ -15,13 +15,14 @@ use Rattle.records.specs.declared.record.KeptReport.{KeptReport}
 use Rattle.records.specs.declared.record.Meta.{Meta as MetaOf}
 use Rattle.records.specs.declared.record.Record.{Record}
 use Rattle.records.specs.declared.record.Record.TheVariants.{Meta, Report, Deferral, Release, Kept, Alert}
-use Rattle.kept_releases.specs.Kept.{IsFormed}
+use Rattle.call_json.specs.Forms.{IsFormed}
 use Rattle.kept_state.specs.Held.{AreOfDesk, alert_in, alert_of, alert_with, deferral_in, meta_in, release_in, reply_in, report_if, report_in, report_of, state_by, state_in, state_with}
 use Rattle.kept_state.proofs.Fitting.{meta_among}
 use Rattle.kept_state.proofs.Lists.{each_mapped}
-use Rattle.kept_forms.proofs.FormLaws.{start_formed}
-use Rattle.kept_forms.proofs.ReportForms.{read_moments}
-use Rattle.kept_forms.specs.Formed.{AlertHasForms, AreFormed, DeferralHasForms, NamesHaveForms, ReplyHasForms, ReportHasForms}
+use Rattle.desk_state.proofs.FormLaws.{start_formed}
+use Rattle.desk_state.proofs.ReportForms.{read_moments}
+use Rattle.desk_state.specs.Formed.{AlertHasForms, AreFormed, DeferralHasForms, ReplyHasForms, ReportHasForms}
+use Rattle.ops_tables.specs.Named.{AreNamed}
 
 -- ---- reports
 
@@ -103,7 +104,7 @@ meta_valid : (m : MetaOf) → IsRecord (Meta m) → IsMeta m
 unfolding IsRecord
 meta_valid m is = is
 
-counted_formed : (tables : TableRows) (rs : List Record) (m : MetaOf) → NamesHaveForms tables → AreOfDesk rs → meta_in rs ≡ Some m → AreFormed (state_with tables m rs)
+counted_formed : (tables : TableRows) (rs : List Record) (m : MetaOf) → AreNamed tables → AreOfDesk rs → meta_in rs ≡ Some m → AreFormed (state_with tables m rs)
 counted_formed tables rs m names are is =
     let valid = recursion_from_All IsRecord rs are.valid in
     let meta = meta_valid m (meta_among rs m are is).valid in
@@ -118,11 +119,11 @@ counted_formed tables rs m names are is =
       rising = meta.rising;
     }
 
-formed_by : (tables : TableRows) (rs : List Record) (o : Option MetaOf) → NamesHaveForms tables → AreOfDesk rs → meta_in rs ≡ o → AreFormed (state_by tables o rs)
+formed_by : (tables : TableRows) (rs : List Record) (o : Option MetaOf) → AreNamed tables → AreOfDesk rs → meta_in rs ≡ o → AreFormed (state_by tables o rs)
 formed_by tables rs None names are is = start_formed tables names
 formed_by tables rs (Some m) names are is = counted_formed tables rs m names are is
 
 -- what valid records stand for has its forms, where the names of the tables have theirs
-pub state_formed : (tables : TableRows) (rs : List Record) → NamesHaveForms tables → AreOfDesk rs → AreFormed (state_in tables rs)
+pub state_formed : (tables : TableRows) (rs : List Record) → AreNamed tables → AreOfDesk rs → AreFormed (state_in tables rs)
 unfolding state_in
 state_formed tables rs names are = formed_by tables rs (meta_in rs) names are refl

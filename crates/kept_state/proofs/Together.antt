@@ -28,7 +28,7 @@ use Rattle.kept_state.proofs.Fitting.{Agree, AreFew}
 use Rattle.kept_state.proofs.Lists.{Pairs, both, both_pairs, each_mapped, pairs_mapped, weaker, weaker_pairs}
 use Rattle.kept_state.proofs.ReleaseLaws.{Below}
 use Rattle.rules.specs.Grounds.{Grounds}
-use Rattle.kept_forms.proofs.Segments.{Across, across_any, across_made, all_joined, all_made, any_back, any_front, any_made, counted, counted_all, counted_is, counted_joined, counted_none, pairs_from, pairs_joined, pairs_made, with_each}
+use Rattle.kept_state.proofs.Segments.{Across, across_any, across_made, all_joined, all_made, any_back, any_front, any_made, counted, counted_all, counted_is, counted_joined, counted_none, pairs_from, pairs_joined, pairs_made, with_each}
 
 -- ---- releases by their ids
 

@@ -6,7 +6,8 @@ use Rattle.std.specs.Str.{bytes_eq}
 use Rattle.std.proofs.lemmas.Bool.{and_parts}
 use Rattle.codes.proofs.WordLaws.{same_bytes}
 use Rattle.deferrals.specs.declared.items.Deferral.{Deferral}
-use Rattle.kept_forms.specs.Formed.{NamesHaveForms, DeferralHasForms}
+use Rattle.ops_tables.specs.Named.{AreNamed}
+use Rattle.desk_state.specs.Formed.{DeferralHasForms}
 use Rattle.desk_state.specs.Allowed.{IsListed, IsDeferred}
 use Rattle.desk_state.specs.People.{mistaken}
 use Rattle.desk_state.specs.State.{State}
@@ -35,7 +36,7 @@ person_by None actor key has known = absurd (cc)
 person_by (Some person) actor key has known = subst (λ (name : List ℕ). is_person name ≡ true) (same_bytes person.name actor has.1) has.0
 
 -- who calls with a name and a key that aren't mistaken
-pub person_formed : (tables : TableRows) (actor key : List ℕ) → NamesHaveForms tables → mistaken (actor_of tables actor) key ≡ None → is_person actor ≡ true
+pub person_formed : (tables : TableRows) (actor key : List ℕ) → AreNamed tables → mistaken (actor_of tables actor) key ≡ None → is_person actor ≡ true
 person_formed tables actor key names known =
     person_by (actor_of tables actor) actor key (found_has (λ a. is_person a.name ≡ true) (λ a. bytes_eq a.name actor) tables.actors names.people) known
 
@@ -51,14 +52,14 @@ item_found None kind item has there = absurd (cc)
 item_found (Some r) kind item has there =
     subst (λ (name : List ℕ). is_item name ≡ true) (same_bytes r.item item (and_parts (bytes_eq r.kind kind) (bytes_eq r.item item) has.1).1) has.0
 
-item_by : (tables : TableRows) (o : Option TypeRow) (item : List ℕ) → NamesHaveForms tables → IsListed tables o item → is_item item ≡ true
+item_by : (tables : TableRows) (o : Option TypeRow) (item : List ℕ) → AreNamed tables → IsListed tables o item → is_item item ≡ true
 item_by tables None item names listed = absurd listed
 item_by tables (Some kind) item names listed =
     item_found (item_of tables kind.kind item) kind.kind item
     (found_has (λ r. is_item r.item ≡ true) (λ r. bytes_eq r.kind kind.kind && bytes_eq r.item item) tables.mel names.items) listed
 
 -- a new deferral is of an aircraft and an item that the tables name
-pub deferred_formed : (s : State) (tail item : List ℕ) (found : ℕ) (d : Deferral) → NamesHaveForms s.tables → IsDeferred s tail item found d → DeferralHasForms d
+pub deferred_formed : (s : State) (tail item : List ℕ) (found : ℕ) (d : Deferral) → AreNamed s.tables → IsDeferred s tail item found d → DeferralHasForms d
 deferred_formed s tail item found d names is = record {
   tail = subst (λ (name : List ℕ). is_tail name ≡ true) (sym is.aircraft)
       (tail_by s.tables (tail_named s.tables tail) tail item (found_has (λ r. is_tail r.tail ≡ true) (λ r. bytes_eq r.tail tail) s.tables.tails names.tails) is.listed);

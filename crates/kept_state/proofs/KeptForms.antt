@@ -19,13 +19,15 @@ use Rattle.plan.specs.declared.release.Phase.TheVariants.{Drafted, Ready, Flying
 use Rattle.plan.specs.declared.release.Release.{Release as ReleaseOf}
 use Rattle.plan.specs.declared.release.Revision.{Revision}
 use Rattle.plan.specs.declared.release.Signature.{Signature}
-use Rattle.call_json.specs.Canonical.{IsId}
+use Rattle.call_json.specs.Forms.{IsId}
 use Rattle.records.specs.Faults.{is_ahead, is_late, outruns}
-use Rattle.records.specs.Valid.{AreRising, IsFloor, IsMeta, IsRecord}
+use Rattle.call_json.specs.Forms.{FloorsRise, IsFloor}
+use Rattle.records.specs.Valid.{IsMeta, IsRecord}
 use Rattle.records.specs.declared.record.Record.{Record}
 use Rattle.records.specs.declared.record.Record.TheVariants.{Meta, Report, Deferral, Release, Kept, Alert}
-use Rattle.kept_releases.specs.Kept.{AreNumbered, BearsBoth, HasLegs, IsFormed, IsNone, IsPhased, IsSigned, IsThere, IsValid, MaySigned, Waits}
-use Rattle.kept_forms.specs.Formed.{AlertHasForms, DeferralHasForms, ReplyHasForms, ReportHasForms}
+use Rattle.release_text.specs.Valid.{AreNumbered, BearsBoth, HasLegs, IsNone, IsPhased, IsSigned, IsThere, IsValid, MaySigned, Waits}
+use Rattle.call_json.specs.Forms.{IsFormed}
+use Rattle.desk_state.specs.Formed.{AlertHasForms, DeferralHasForms, ReplyHasForms, ReportHasForms}
 
 -- ---- a release that may stand is one that may be kept
 
@@ -105,7 +107,7 @@ pub record Counts (s : State) : Type 0 where
 pub id_below : (s : State) → Counts s → (next id : ℕ) → next ≤ s.counters.events + 1 → id < next → IsId id
 id_below s is next id few below = let room = is.room in omega (arith, few, below, room)
 
-meta_valid : (s : State) → Counts s → AllByRecursion IsFloor s.floors → AreRising s.floors → IsMeta (meta_of s)
+meta_valid : (s : State) → Counts s → AllByRecursion IsFloor s.floors → FloorsRise s.floors → IsMeta (meta_of s)
 meta_valid s is floors rising =
     let room = is.room in
     record {
@@ -136,7 +138,7 @@ pub record IsKeptRecord (s : State) (r : Record) : Type 0 where
   pub valid : IsRecord r
   pub ahead : is_ahead (meta_of s) r ≡ false
 
-pub kept_meta : (s : State) → Counts s → AllByRecursion IsFloor s.floors → AreRising s.floors → IsKeptRecord s (Meta (meta_of s))
+pub kept_meta : (s : State) → Counts s → AllByRecursion IsFloor s.floors → FloorsRise s.floors → IsKeptRecord s (Meta (meta_of s))
 unfolding IsRecord
 kept_meta s is floors rising = record { valid = meta_valid s is floors rising; ahead = none_outruns s is }
 

@@ -12,7 +12,7 @@ use Rattle.records.specs.declared.faults.RowWhy.TheVariants.{NotCanonical, NoMet
 use Rattle.records.specs.declared.faults.RowsFault.TheVariants.{BadRow, BadPair}
 use Rattle.records.specs.declared.record.Record.{Record}
 use Rattle.kept_state.specs.Held.{AreOfDesk}
-use Rattle.kept_forms.proofs.SameRows.{one_list}
+use Rattle.kept_state.proofs.SameRows.{one_list}
 
 -- each row of valid records is that of one of them
 row_there : (rs : List Record) (before after : List Row) (row : Row) → AllByRecursion IsRecord rs → map row_of rs ≡ before ++ row ∷ after

@@ -3,8 +3,8 @@ use Rattle.std.proofs.Common.{ℕ, ◌≤◌, Bool, true, false, cond, eqb, List
 use Rattle.std.specs.List.{AllByRecursion, filter_map, cons_option}
 use Rattle.alerts.specs.Alerts.{are_same, with_finding, with_findings, alert_once_open, alert_after}
 use Rattle.alerts.specs.declared.alert.Alert.{Alert}
-use Rattle.kept_forms.specs.Formed.{AlertHasForms}
-use Rattle.kept_forms.proofs.Findings.{HaveIds, findings_formed}
+use Rattle.desk_state.specs.Formed.{AlertHasForms}
+use Rattle.desk_state.proofs.FindingForms.{HaveIds, findings_formed}
 use Rattle.desk_state.specs.Sound.{InBounds, IsOpen, ReleaseInBounds, RevisionInBounds}
 use Rattle.desk_state.specs.State.{State, alert_at, alert_for, failing_if, failing_in, failing_of, grounds_of, judged}
 use Rattle.desk_state.proofs.Each.{each_weaker, found_each}
@@ -14,8 +14,8 @@ use Rattle.plan.specs.declared.findings.Finding.{Finding}
 use Rattle.plan.specs.declared.release.Phase.{Phase}
 use Rattle.plan.specs.declared.release.Release.{Release}
 use Rattle.plan.specs.declared.release.Revision.{Revision}
-use Rattle.call_json.specs.Canonical.{IsId}
-use Rattle.kept_releases.specs.Findings.{IsFinding}
+use Rattle.call_json.specs.Forms.{IsId}
+use Rattle.call_json.specs.Forms.{IsFinding}
 use Rattle.rules.specs.Grounds.{Grounds}
 
 -- ---- findings that are put in their places

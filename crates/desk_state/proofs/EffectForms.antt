@@ -7,17 +7,18 @@ use Rattle.asks.specs.declared.kept.Floor.{Floor}
 use Rattle.asks.specs.declared.reply.Done.{Done as DoneType}
 use Rattle.asks.specs.declared.reply.Done.TheVariants as done
 use Rattle.facts.specs.Swept.{stays, leaving}
-use Rattle.kept_forms.specs.Formed.{ReportHasForms, DeferralHasForms, AreFormed, ReplyHasForms}
-use Rattle.kept_forms.proofs.DigestForms.{revision_digest_formed}
-use Rattle.kept_forms.proofs.FloorForms.{raised_formed, raised_rise}
-use Rattle.kept_forms.proofs.NameForms.{deferred_formed}
-use Rattle.kept_forms.proofs.ReportForms.{MayAttach, may_attach, attached_formed, received_formed}
+use Rattle.desk_state.specs.Formed.{ReportHasForms, DeferralHasForms, AreFormed, ReplyHasForms}
+use Rattle.desk_state.proofs.DigestForms.{revision_digest_formed}
+use Rattle.desk_state.proofs.FloorForms.{raised_formed, raised_rise}
+use Rattle.desk_state.proofs.NameForms.{deferred_formed}
+use Rattle.desk_state.proofs.ReportForms.{MayAttach, may_attach, attached_formed, received_formed}
 use Rattle.desk_state.specs.Allowed.{IsEffectOf, admits, defers, clears, drafts, prepares, signs, concurs, amends, cancels, departs, stops, completes, acknowledges, sweeps, purges, IsSignedBy, GainsDispatcher, GainsCaptain, GainsWeather, BothAre, IsPreparing, IsSigning, IsReleased, IsConcurring, IsCancelling, IsFresh, IsDrafted, IsNextRevision, IsAmending, IsDeparting, IsStopping, IsCompleting, IsSweeping, OfHeld}
 use Rattle.desk_state.specs.Decide.{attached_reports, reports_before}
 use Rattle.desk_state.specs.Effects as effect
 use Rattle.desk_state.specs.Events.{is_since}
 use Rattle.desk_state.specs.Requests.{kept_before}
-use Rattle.desk_state.specs.Sound.{Sound, InBounds, AreNumbered, IsValid, Rise}
+use Rattle.desk_state.specs.Sound.{Sound, InBounds, Rise}
+use Rattle.release_text.specs.Valid.{AreNumbered, IsValid}
 use Rattle.desk_state.specs.State.{State, release_at}
 use Rattle.desk_state.specs.declared.effect.Effect.{Effect}
 use Rattle.desk_state.specs.declared.effect.OnDeferrals.{OnDeferrals}
@@ -36,10 +37,10 @@ use Rattle.plan.specs.declared.release.Phase.TheVariants.{Drafted, Ready, Flying
 use Rattle.plan.specs.declared.release.Release.{Release}
 use Rattle.plan.specs.declared.release.Revision.{Revision}
 use Rattle.plan.specs.declared.release.Signature.{Signature}
-use Rattle.call_json.specs.Canonical.{IsId, HasForms, AskHasForms, DoneHasForms}
+use Rattle.call_json.specs.Forms.{IsId, HasForms, AskHasForms, DoneHasForms}
 use Rattle.call_json.specs.Digests.{IsDigest}
-use Rattle.records.specs.Valid.{IsFloor, AreRising}
-use Rattle.kept_releases.specs.Kept.{IsAttached, IsSignature, IsRevision, IsFormed}
+use Rattle.call_json.specs.Forms.{IsFloor, FloorsRise}
+use Rattle.call_json.specs.Forms.{IsAttached, IsSignature, IsRevision, IsFormed}
 use Rattle.release_text.specs.Revisions.{revision_digest}
 
 -- ---- what an effect brings
@@ -56,7 +57,7 @@ PutsFormed (on_releases.Put r) = IsFormed r
 PutsFormed (on_releases.Remove id) = Unit {0}
 
 abbrev pub HasFloors : Sweep → Type 0
-HasFloors w = AllByRecursion IsFloor w.floors × AreRising w.floors
+HasFloors w = AllByRecursion IsFloor w.floors × FloorsRise w.floors
 
 -- the report, the deferral, the release and the floors of an effect have their forms
 pub record BringsForms (e : Effect) : Type 0 where
@@ -344,7 +345,7 @@ sweeping_done : (s : State) (before : ℕ) (attached : List ℕ) (floors : List 
     → IsDoneFormed (effect.sweep before attached floors) (done.Swept (length (reports_before s before)) (length (kept_before before s.kept)))
 sweeping_done s before attached floors stands is =
     let swept : AllByRecursion ReplyHasForms (kept_before before s.kept) = filter_each ReplyHasForms (λ k. not (is_since before k)) s.kept stands.formed.kept in
-    let risen : AllByRecursion IsFloor floors × AreRising floors = subst (λ (fs : List Floor). AllByRecursion IsFloor fs × AreRising fs) (sym is.floors)
+    let risen : AllByRecursion IsFloor floors × FloorsRise floors = subst (λ (fs : List Floor). AllByRecursion IsFloor fs × FloorsRise fs) (sym is.floors)
     (raised_formed (kept_before before s.kept) s.floors swept stands.formed.floors, raised_rise (kept_before before s.kept) s.floors stands.formed.rising) in
     let fewer = fewer_reports s before in
     let few = stands.bounds.few in

@@ -13,7 +13,7 @@ use Rattle.records.specs.declared.record.Record.TheVariants.{Meta, Report, Defer
 use Rattle.kept_state.specs.Held.{alert_of, state_in}
 use Rattle.kept_state.proofs.Lists.{weaker}
 use Rattle.kept_state.proofs.SavedLaws.{alerts_again, listed, reports_again, state_listed}
-use Rattle.kept_forms.specs.Formed.{AreFormed, ReportHasForms}
+use Rattle.desk_state.specs.Formed.{AreFormed, ReportHasForms}
 
 map_twice : {A B C : Type 0} (f : A → B) (g : B → C) (xs : List A) → map (λ x. g (f x)) xs ≡ map g (map f xs)
 map_twice f g [] = refl

@@ -9,9 +9,9 @@ use Rattle.std.specs.Cmp.Lexicographic.{slice_cmp}
 use Rattle.std.proofs.lemmas.Cmp.{nat_list_cmp_total}
 use Rattle.asks.specs.declared.kept.Floor.{Floor}
 use Rattle.asks.specs.declared.kept.KeptReply.{KeptReply}
-use Rattle.kept_forms.specs.Formed.{ReplyHasForms}
+use Rattle.desk_state.specs.Formed.{ReplyHasForms}
 use Rattle.desk_state.specs.Requests.{floor, raised_here, raised_to, raised_by}
-use Rattle.records.specs.Valid.{IsRequest, IsFloor, AreRising}
+use Rattle.call_json.specs.Forms.{IsRequest, IsFloor, FloorsRise}
 
 -- ---- what holds of each floor
 
@@ -50,18 +50,18 @@ all_later name key (f ∷ fs) below all = (nat_list_cmp_total.trans name key f.a
 turned : (a b : List ℕ) → slice_cmp nat_cmp a b ≡ Greater → slice_cmp nat_cmp b a ≡ Less
 turned a b e = nat_list_cmp_total.antisymm b a ∙ ap ordering_reverse e
 
-here_rises : (o : Ordering) (actor : List ℕ) (number : ℕ) (f : Floor) (rest raised : List Floor) → slice_cmp nat_cmp actor f.actor ≡ o → AllByRecursion (IsBelow f.actor) rest → AreRising rest
-    → (o ≡ Greater → AllByRecursion (IsBelow f.actor) raised) → AreRising raised → AreRising (raised_here o actor number f rest raised)
+here_rises : (o : Ordering) (actor : List ℕ) (number : ℕ) (f : Floor) (rest raised : List Floor) → slice_cmp nat_cmp actor f.actor ≡ o → AllByRecursion (IsBelow f.actor) rest → FloorsRise rest
+    → (o ≡ Greater → AllByRecursion (IsBelow f.actor) raised) → FloorsRise raised → FloorsRise (raised_here o actor number f rest raised)
 here_rises Less actor number f rest raised e below rising above more = ((e, all_later actor f.actor rest e below), (below, rising))
 here_rises Equal actor number f rest raised e below rising above more = (below, rising)
 here_rises Greater actor number f rest raised e below rising above more = (above refl, more)
 
-raised_rises : (actor : List ℕ) (number : ℕ) (fs : List Floor) → AreRising fs → AreRising (raised_to actor number fs)
+raised_rises : (actor : List ℕ) (number : ℕ) (fs : List Floor) → FloorsRise fs → FloorsRise (raised_to actor number fs)
 raised_rises actor number [] rising = (tt, tt)
 raised_rises actor number (f ∷ fs) rising =
     here_rises (slice_cmp nat_cmp actor f.actor) actor number f fs (raised_to actor number fs) refl rising.0 rising.1
     (λ greater. raised_each (IsBelow f.actor) actor number fs (λ g is. is) (turned actor f.actor greater) rising.0) (raised_rises actor number fs rising.1)
 
-pub raised_rise : (ks : List KeptReply) (fs : List Floor) → AreRising fs → AreRising (raised_by ks fs)
+pub raised_rise : (ks : List KeptReply) (fs : List Floor) → FloorsRise fs → FloorsRise (raised_by ks fs)
 raised_rise [] fs rising = rising
 raised_rise (k ∷ ks) fs rising = raised_rise ks (raised_to k.actor k.number fs) (raised_rises k.actor k.number fs rising)
