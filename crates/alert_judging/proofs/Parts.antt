@@ -3,14 +3,13 @@ use Rattle.std.proofs.Common.{◌≡◌, ℕ, List, ◌++◌, append-nil, Option
 use Rattle.deferrals.specs.declared.items.Deferral.{Deferral}
 use Rattle.deferrals.specs.Held.{without}
 use Rattle.facts.specs.declared.report.Report.{Report}
-use Rattle.rules.specs.Grounds.{once_cleared}
+use Rattle.rules.specs.Grounds.{once_cleared, Grounds}
 use Rattle.desk_state.specs.Events.{reports_after, reports_swept, deferrals_after}
 use Rattle.desk_state.specs.declared.effect.OnDeferrals.{OnDeferrals}
 use Rattle.desk_state.specs.declared.effect.OnDeferrals.TheVariants as on_deferrals
 use Rattle.plan.specs.declared.findings.Finding.{Finding}
 use Rattle.plan.specs.declared.flights.Plan.{Plan}
 use Rattle.plan.specs.declared.release.Phase.{Phase}
-use Rattle.rules.specs.Grounds.{Grounds}
 use Rattle.rules.specs.Judgement.{findings_of}
 use Rattle.rules.proofs.FrameLaws.{findings_swept}
 use Rattle.desk_state.specs.State.{grounds_of}

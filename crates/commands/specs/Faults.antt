@@ -11,8 +11,7 @@ use Rattle.table_files.specs.declared.faults.TableFault.TheVariants as table
 use Rattle.table_files.specs.declared.faults.TableWhy.{TableWhy}
 use Rattle.table_files.specs.declared.faults.TableWhy.TheVariants.{BadField, Doubled, Unlinked, OverLimit}
 use Rattle.commands.specs.declared.fault.Fault.{Fault}
-use Rattle.commands.specs.declared.fault.Fault.TheVariants.{Usage, ReadFault, WriteFault, KeeperFault, BadTable, BadRow, BadPair, OutOfMemory}
-use Rattle.commands.specs.declared.fault.Fault.TheVariants.{DoorFault, InputTooLong, ClockFault}
+use Rattle.commands.specs.declared.fault.Fault.TheVariants.{Usage, ReadFault, WriteFault, KeeperFault, BadTable, BadRow, BadPair, OutOfMemory, DoorFault, InputTooLong, ClockFault}
 
 abbrev pub Outcome : Type 0
 Outcome = Result (List ℕ) Fault

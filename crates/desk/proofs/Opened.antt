@@ -12,7 +12,7 @@ use Rattle.desk_state.specs.State.{State}
 use Rattle.records.specs.Bodies.{row_of}
 use Rattle.records.specs.Checks.{IsDesk}
 use Rattle.records.specs.declared.record.Record.{Record}
-use Rattle.kept_state.specs.Held.{comes_before, rises_from, rising, AreOfDesk}
+use Rattle.kept_state.specs.Held.{comes_before, rises_from, rising, AreOfDesk, state_in}
 use Rattle.desk.proofs.Steps.{same_kept, still_keeps}
 use Rattle.desk.specs.Keeping.{KeepsState}
 use Rattle.desk.specs.Opening.{AreLoaded, AreAsked, commits_for, commits_where, commits_to_open}
@@ -21,7 +21,6 @@ use Rattle.desk_state.specs.Effects.{nothing}
 use Rattle.desk_state.specs.Events.{alert_changes}
 use Rattle.desk_state.specs.declared.change.AlertChange.{AlertChange}
 use Rattle.ops_tables.specs.Tables.{TableRows}
-use Rattle.kept_state.specs.Held.{state_in}
 
 -- rows stand in order as their records do
 rise_as : (r : Record) (rs : List Record) → order.rises_from (row_of r) (map row_of rs) ≡ rises_from r rs

@@ -23,7 +23,7 @@ use Rattle.asks.specs.declared.reply.Reply.{Reply}
 use Rattle.asks.specs.declared.reply.Reply.TheVariants.{Done, Seen, Refused}
 use Rattle.asks.specs.declared.reply.Refusal.{Refusal}
 use Rattle.asks.specs.declared.reply.Refusal.TheVariants.{UnknownActor, WrongKey, NotYourRole, NumberReused, BadReport, DayOutOfReach, ReportsFull, UnknownTail, NoSuchDeferral, NoSuchRelease, NotYours, BadPlan, NotPending, WrongRevision, WrongText, WeatherNewer, RuleFails, WrongPhase, AlreadySigned, NoSuchAlert, AlertMoved, TooYoung, ReleasesFull, HistoryFull, NoSuchStation, Unkept, NumberSwept, UnknownItem, BadFound, DeferralsFull}
-use Rattle.call_json.specs.Forms.{IsAmount}
+use Rattle.call_json.specs.Forms.{IsAmount, IsSaidFinding}
 use Rattle.call_json.specs.Fields.{data_of, up_to}
 use Rattle.call_json.specs.Plain.{IsPlain, HasText}
 use Rattle.call_json.proofs.Again.{small_again, amount_again, each_again, done_again}
@@ -32,7 +32,6 @@ use Rattle.call_json.proofs.Compact.{read_compact, utf8_compact}
 use Rattle.call_json.proofs.DigestLaws.{digest_again}
 use Rattle.call_json.proofs.Plain.{order_of, text_of, list_plain, list_has_text, list_depth, done_plain, done_has_text, done_depth}
 use Rattle.call_json.proofs.Texts.{written_utf8, moment_utf8, digest_utf8}
-use Rattle.call_json.specs.Forms.{IsSaidFinding}
 use Rattle.kept_releases.specs.Phases.{phase_of, IsPhase}
 use Rattle.kept_releases.proofs.FindingLaws.{finding_again, finding_utf8}
 use Rattle.kept_releases.proofs.PhaseLaws.{phase_again}

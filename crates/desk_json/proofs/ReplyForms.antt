@@ -19,7 +19,7 @@ use Rattle.asks.specs.declared.reply.Reply.TheVariants.{Done, Seen, Refused}
 use Rattle.asks.specs.declared.reply.Refusal.{Refusal}
 use Rattle.asks.specs.declared.reply.Refusal.TheVariants.{UnknownActor, WrongKey, NotYourRole, NumberReused, BadReport, DayOutOfReach, ReportsFull, UnknownTail, NoSuchDeferral, NoSuchRelease, NotYours, BadPlan, NotPending, WrongRevision, WrongText, WeatherNewer, RuleFails, WrongPhase, AlreadySigned, NoSuchAlert, AlertMoved, TooYoung, ReleasesFull, HistoryFull, NoSuchStation, Unkept, NumberSwept, UnknownItem, BadFound, DeferralsFull}
 use Rattle.call_json.specs.Plain.{HasText}
-use Rattle.call_json.specs.Forms.{IsAmount, SaidDoneHasForms}
+use Rattle.call_json.specs.Forms.{IsAmount, SaidDoneHasForms, IsSaidFinding}
 use Rattle.call_json.specs.Digests.{digest_at, IsDigest}
 use Rattle.call_json.specs.Dones.{said_done_of}
 use Rattle.call_json.specs.Fields.{text_at, number_at, amount_at, list_at, each_read}
@@ -29,7 +29,6 @@ use Rattle.call_json.proofs.MomentRange.{minute_within}
 use Rattle.call_json.proofs.PlanForms.{number_formed, amount_formed, each_formed}
 use Rattle.call_json.proofs.ValueTexts.{view_has_text, text_formed}
 use Rattle.kept_releases.specs.Findings.{said_finding_of}
-use Rattle.call_json.specs.Forms.{IsSaidFinding}
 use Rattle.kept_releases.specs.Phases.{phase_of, IsPhase}
 use Rattle.kept_releases.proofs.FindingLaws.{finding_formed}
 use Rattle.kept_releases.proofs.PhaseLaws.{phase_formed}

@@ -14,8 +14,7 @@ use Rattle.plan.specs.declared.findings.Finding.{Finding}
 use Rattle.plan.specs.declared.release.Phase.{Phase}
 use Rattle.plan.specs.declared.release.Release.{Release}
 use Rattle.plan.specs.declared.release.Revision.{Revision}
-use Rattle.call_json.specs.Forms.{IsId}
-use Rattle.call_json.specs.Forms.{IsFinding}
+use Rattle.call_json.specs.Forms.{IsId, IsFinding}
 use Rattle.rules.specs.Grounds.{Grounds}
 
 -- ---- findings that are put in their places

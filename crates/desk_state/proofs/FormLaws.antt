@@ -42,10 +42,8 @@ use Rattle.desk_state.proofs.Parts.{filter_each, kept_each, swept_each}
 use Rattle.ops_tables.specs.Forms.{is_person}
 use Rattle.ops_tables.specs.Tables.{TableRows, actor_of}
 use Rattle.plan.specs.declared.release.Release.{Release}
-use Rattle.call_json.specs.Forms.{CallHasForms, DoneHasForms}
+use Rattle.call_json.specs.Forms.{CallHasForms, DoneHasForms, IsFloor, IsRequest, FloorsRise, IsFormed}
 use Rattle.call_json.proofs.AskForms.{call_from_forms}
-use Rattle.call_json.specs.Forms.{IsFloor, IsRequest, FloorsRise}
-use Rattle.call_json.specs.Forms.{IsFormed}
 use Rattle.kept_state.specs.Opening.{MayReopen, reopened}
 
 -- nothing is held at the beginning

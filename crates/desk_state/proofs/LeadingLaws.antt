@@ -12,7 +12,7 @@ use Rattle.ops_tables.specs.declared.rows.TypeRow.{TypeRow}
 use Rattle.ops_tables.specs.declared.rows.MelRow.{MelRow}
 use Rattle.ops_tables.specs.Tables.{actor_of, type_of, item_of, has_airport}
 use Rattle.deferrals.specs.Held.{has_id}
-use Rattle.facts.specs.Same.{is_same, same_id, minute_of_read, station_of_read}
+use Rattle.facts.specs.Same.{is_same, same_id, minute_of_read, station_of_read, minute_of_report}
 use Rattle.facts.specs.declared.report.Report.{Report}
 use Rattle.facts.specs.Reading.{read_of}
 use Rattle.facts.specs.declared.report.Read.{Read}
@@ -20,7 +20,7 @@ use Rattle.codes.specs.declared.fault.BadReport.{BadReport}
 use Rattle.alerts.specs.declared.alert.Alert.{Alert}
 use Rattle.stations.specs.Station.{Station}
 use Rattle.plan.specs.Change.{change_fault}
-use Rattle.plan.specs.Check.{plan_fault}
+use Rattle.plan.specs.Check.{plan_fault, is_captain_role}
 use Rattle.release_text.specs.Revisions.{revision_digest}
 use Rattle.release_text.specs.Weather.{newer_than}
 use Rattle.rules.specs.Grounds.{Grounds}
@@ -29,7 +29,6 @@ use Rattle.desk_state.specs.Sound.{Sound, InBounds, EffectFits, DecisionFits}
 use Rattle.release_text.specs.Valid.{IsPhased, IsThere, IsValid}
 use Rattle.asks.specs.Forms.{IsCall}
 use Rattle.plan.specs.Texts.{IsMoment}
-use Rattle.facts.specs.Same.{minute_of_report}
 use Rattle.alerts.proofs.Laws.{follows}
 use Rattle.desk_state.specs.declared.effect.OnAlerts.{OnAlerts}
 use Rattle.desk_state.specs.declared.effect.OnAlerts.TheVariants as on_alerts
@@ -38,7 +37,6 @@ use Rattle.desk_state.proofs.Judging.{IsOf, Agrees, agrees_all, alerts_kept, fou
 use Rattle.desk_state.proofs.Parts.{releases_rise}
 use Rattle.ops_tables.specs.declared.rows.Role.{Role}
 use Rattle.ops_tables.specs.declared.rows.Role.TheVariants.{D, C, F, M, S}
-use Rattle.plan.specs.Check.{is_captain_role}
 use Rattle.desk_state.specs.Texts.{newest}
 use Rattle.plan.specs.declared.check.BadPlan.{BadPlan}
 use Rattle.plan.specs.declared.findings.Finding.{Finding}

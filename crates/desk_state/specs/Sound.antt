@@ -31,7 +31,8 @@ use Rattle.desk_state.specs.declared.effect.OnReleases.{OnReleases}
 use Rattle.desk_state.specs.declared.effect.OnReleases.TheVariants as on_releases
 use Rattle.desk_state.specs.declared.effect.Decision.{Decision}
 use Rattle.desk_state.specs.declared.effect.Decision.TheVariants.{Show, Do}
-use Rattle.release_text.specs.Revisions.{revision_digest}
+use Rattle.release_text.specs.Valid.{IsValid}
+use Rattle.desk_state.specs.Formed.{AreFormed}
 use Rattle.desk_state.specs.State.{State, grounds_of, failing_of, alert_at}
 use Rattle.desk_state.specs.Legal.{IsHistory}
 use Rattle.desk_state.specs.Requests.{is_request}
@@ -56,65 +57,14 @@ abbrev pub Rise : ℕ → List Release → ℕ → Type 0
 Rise low [] next = low ≤ next
 Rise low (r ∷ rs) next = (low ≤ r.id) × Rise (r.id + 1) rs next
 
-abbrev pub IsThere : Option Revision → Type 0
-IsThere None = ⊥
-IsThere (Some v) = Unit {0}
-
-abbrev pub IsNone : Option Revision → Type 0
-IsNone None = Unit {0}
-IsNone (Some v) = ⊥
-
--- A draft has a pending revision and no active one; a release by which one may fly has an active one; one that ended
--- has no pending one.
-abbrev pub IsPhased : Phase → Option Revision → Option Revision → Type 0
-IsPhased Drafted pending active = IsThere pending × IsNone active
-IsPhased Ready pending active = IsThere active
-IsPhased (Flying leg) pending active = IsThere active
-IsPhased (Stopped next since again) pending active = IsThere active
-IsPhased (Completed at) pending active = IsNone pending
-IsPhased (Cancelled at) pending active = IsNone pending
-
--- a signature on the very text of a revision
-abbrev pub IsSigned : Revision → Option Signature → Type 0
-IsSigned v None = ⊥
-IsSigned v (Some signature) = signature.digest ≡ revision_digest v
-
--- A revision by which one may fly is prepared, and bears the dispatcher's and the captain's signature on its text.
-pub record BearsBoth (v : Revision) : Type 0 where
-  pub prepared : v.prepared ≡ true
-  pub dispatcher : IsSigned v v.dispatcher
-  pub captain : IsSigned v v.captain
-
--- a signature on the text of a revision that is prepared, or none
-abbrev pub MaySigned : Revision → Option Signature → Type 0
-MaySigned v None = Unit {0}
-MaySigned v (Some signature) = (v.prepared ≡ true) × (signature.digest ≡ revision_digest v)
-
--- A pending revision bears no captain's signature, and a dispatcher's only where it is prepared, on its text.
-pub record Waits (v : Revision) : Type 0 where
-  pub captain : v.captain ≡ None
-  pub dispatcher : MaySigned v v.dispatcher
-
--- the plan of a revision has a leg, and the one that the phase names
-pub record HasLegs (phase : Phase) (v : Revision) : Type 0 where
-  pub some : 1 ≤ length v.plan.legs
-  pub fits : PhaseFits phase v.plan.legs
-
--- no revision is numbered above a number, and the pending one is above the active one
-abbrev pub AreNumbered : ℕ → Option Revision → Option Revision → Type 0
-AreNumbered most None None = Unit {0}
-AreNumbered most (Some v) None = v.number ≤ most
-AreNumbered most None (Some w) = w.number ≤ most
-AreNumbered most (Some v) (Some w) = (w.number < v.number) × (v.number ≤ most)
+-- no revision is numbered above a number
+abbrev pub IsWithin : ℕ → Release → Type 0
+IsWithin most r = IfSome r.pending (λ v. v.number ≤ most) × IfSome r.active (λ v. v.number ≤ most)
 
 -- a release that may stand, where no revision has a number above `most`
-pub record IsValid (most : ℕ) (r : Release) : Type 0 where
-  pub phased : IsPhased r.phase r.pending r.active
-  pub both : IfSome r.active BearsBoth
-  pub waits : IfSome r.pending Waits
-  pub numbered : AreNumbered most r.pending r.active
-  pub pending_legs : IfSome r.pending (HasLegs r.phase)
-  pub active_legs : IfSome r.active (HasLegs r.phase)
+pub record MayStand (most : ℕ) (r : Release) : Type 0 where
+  pub valid : IsValid r
+  pub within : IsWithin most r
 
 -- no two reports have the same canonical text and the same moment
 abbrev pub AreUnlike : List Report → Type 0
@@ -132,7 +82,7 @@ pub record Sound (s : State) : Type 0 where
   pub alerted : AllByRecursion (IsAlerted (grounds_of s) s.alerts) s.releases
   pub own : s.alerts ≡ filter_map (λ r. alert_at r.id s.alerts) s.releases
   pub alerts : AllByRecursion (IsAlert s.counters.events) s.alerts
-  pub valid : AllByRecursion (IsValid s.counters.events) s.releases
+  pub valid : AllByRecursion (MayStand s.counters.events) s.releases
   pub unlike : AreUnlike s.reports
   pub single : AreSingle s.kept
   pub ids : Rise 0 s.releases s.counters.next_release
@@ -158,7 +108,7 @@ pub record ReleaseInBounds (r : Release) : Type 0 where
 
 -- a release that may be held
 pub record Fits (most : ℕ) (r : Release) : Type 0 where
-  pub valid : IsValid most r
+  pub stands : MayStand most r
   pub kept : ReleaseInBounds r
 
 -- a report whose id is below a number
@@ -269,9 +219,11 @@ DecisionFits s (Err refusal) = RefusalHasMoment refusal
 DecisionFits s (Ok (Show reply)) = ReplyHasMoment reply
 DecisionFits s (Ok (Do reply effect)) = ReplyHasMoment reply × EffectFits s effect
 
--- what holds of a board at every moment
+-- What holds of a board at every moment: its state comes from the opening one by a history of legal steps, is sound,
+-- keeps its bounds, and each part of it has its forms, so that its rows are read again.
 pub record IsBoard (opening s : State) : Type 0 where
   pub tables : s.tables ≡ opening.tables
   pub history : IsHistory opening s
   pub sound : Sound s
   pub kept : InBounds s
+  pub formed : AreFormed s

@@ -10,14 +10,13 @@ use Rattle.plan.specs.declared.release.Revision.{Revision}
 use Rattle.plan.specs.declared.release.Signature.{Signature}
 use Rattle.plan.specs.Texts.{finding_text, phase_text}
 use Rattle.desk_time.specs.Moments.{shown}
-use Rattle.call_json.specs.Forms.{IsId}
+use Rattle.call_json.specs.Forms.{IsId, IsAttached, IsSignature, IsRevision, IsFormed}
 use Rattle.call_json.specs.Plain.{IsPlain, HasText}
 use Rattle.call_json.proofs.Compact.{read_compact, utf8_compact}
 use Rattle.call_json.proofs.Plain.{order_of, text_of, list_plain, list_has_text, list_depth, plan_plain, plan_has_text, plan_depth}
 use Rattle.call_json.proofs.Texts.{written_utf8, digest_utf8}
 use Rattle.std.specs.List.{AllByRecursion}
 use Rattle.kept_releases.specs.Findings.{finding_data, findings_data}
-use Rattle.call_json.specs.Forms.{IsAttached, IsSignature, IsRevision, IsFormed}
 use Rattle.kept_releases.specs.Kept.{IsKept}
 use Rattle.kept_releases.specs.Rows.{attached_members, attached_data, signature_members, signature_data, revision_members, revision_data, release_members, release_data}
 

@@ -13,11 +13,10 @@ use Rattle.plan.specs.declared.release.Phase.TheVariants.{Drafted, Ready, Flying
 use Rattle.plan.specs.declared.release.Release.{Release}
 use Rattle.plan.specs.declared.release.Revision.{Revision}
 use Rattle.plan.specs.declared.release.Signature.{Signature}
-use Rattle.call_json.specs.Forms.{IsId, HasForms}
+use Rattle.call_json.specs.Forms.{IsId, HasForms, IsAttached, IsSignature, IsRevision, IsFormed}
 use Rattle.call_json.specs.Digests.{digest_of, digest_at, IsDigest}
 use Rattle.call_json.specs.Fields.{text_at, id_at, moment_at, list_at, has_members}
 use Rattle.call_json.specs.Plans.{plan_of}
-use Rattle.call_json.specs.Forms.{IsAttached, IsSignature, IsRevision, IsFormed}
 use Rattle.kept_releases.specs.Kept.{IsKept, is_valid}
 use Rattle.kept_releases.specs.Phases.{IsPhase, phase_of}
 use Rattle.kept_releases.specs.Plans.{MayHavePlan, HasPlans}

@@ -19,14 +19,12 @@ use Rattle.plan.specs.declared.release.Phase.TheVariants.{Drafted, Ready, Flying
 use Rattle.plan.specs.declared.release.Release.{Release as ReleaseOf}
 use Rattle.plan.specs.declared.release.Revision.{Revision}
 use Rattle.plan.specs.declared.release.Signature.{Signature}
-use Rattle.call_json.specs.Forms.{IsId}
+use Rattle.call_json.specs.Forms.{IsId, FloorsRise, IsFloor, IsFormed}
 use Rattle.records.specs.Faults.{is_ahead, is_late, outruns}
-use Rattle.call_json.specs.Forms.{FloorsRise, IsFloor}
 use Rattle.records.specs.Valid.{IsMeta, IsRecord}
 use Rattle.records.specs.declared.record.Record.{Record}
 use Rattle.records.specs.declared.record.Record.TheVariants.{Meta, Report, Deferral, Release, Kept, Alert}
 use Rattle.release_text.specs.Valid.{AreNumbered, BearsBoth, HasLegs, IsNone, IsPhased, IsSigned, IsThere, IsValid, MaySigned, Waits}
-use Rattle.call_json.specs.Forms.{IsFormed}
 use Rattle.desk_state.specs.Formed.{AlertHasForms, DeferralHasForms, ReplyHasForms, ReportHasForms}
 
 -- ---- a release that may stand is one that may be kept

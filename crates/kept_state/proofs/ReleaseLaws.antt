@@ -11,10 +11,9 @@ use Rattle.plan.specs.declared.release.Phase.TheVariants.{Drafted, Ready, Flying
 use Rattle.plan.specs.declared.release.Release.{Release as ReleaseOf}
 use Rattle.plan.specs.declared.release.Revision.{Revision}
 use Rattle.plan.specs.declared.release.Signature.{Signature}
-use Rattle.call_json.specs.Forms.{HasForms, IsLeg}
+use Rattle.call_json.specs.Forms.{HasForms, IsLeg, IsRevision, IsSignature}
 use Rattle.kept_releases.specs.Kept as kept
 use Rattle.kept_releases.specs.Kept.{IsKept}
-use Rattle.call_json.specs.Forms.{IsRevision, IsSignature}
 use Rattle.release_text.specs.Valid.{AreNumbered, BearsBoth, HasLegs, IsNone, IsPhased, IsSigned, IsThere, IsValid, MaySigned, Waits}
 use Rattle.desk_state.specs.Sound.{ReleaseInBounds, RevisionInBounds, Rise}
 use Rattle.records.specs.Faults.{is_late}

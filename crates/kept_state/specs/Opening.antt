@@ -3,8 +3,8 @@ use Rattle.std.specs.Prelude.{◌≡◌, ℕ, ◌+◌, ◌<◌, List, [], ◌∷
 use Rattle.std.specs.List.{AllByRecursion}
 use Rattle.desk_state.specs.Effects.{nothing}
 use Rattle.desk_state.specs.Events.{alert_changes}
-use Rattle.desk_state.specs.Sound.{AreJudgeable, AreSingle, AreUnlike, InBounds, IsToldTo}
-use Rattle.release_text.specs.Valid.{IsValid}
+use Rattle.desk_state.specs.Formed.{AreFormed}
+use Rattle.desk_state.specs.Sound.{AreJudgeable, AreSingle, AreUnlike, InBounds, IsToldTo, MayStand}
 use Rattle.desk_state.specs.State.{State, alert_at, judged_all}
 use Rattle.desk_state.specs.declared.change.AlertChange.{AlertChange}
 use Rattle.desk_state.specs.declared.counters.Counters.{Counters}
@@ -27,8 +27,9 @@ pub record MayReopen (s : State) : Type 0 where
   pub bounds : InBounds s
   pub judgeable : AreJudgeable s
   pub told : AllByRecursion (λ r. IsToldTo r.holder (alert_at r.id s.alerts)) s.releases
-  pub valid : AllByRecursion (IsValid s.counters.events) s.releases
+  pub valid : AllByRecursion (MayStand s.counters.events) s.releases
   pub unlike : AreUnlike s.reports
   pub single : AreSingle s.kept
   pub room : s.counters.events < 999_999_999_999_999
+  pub formed : AreFormed s
   pub fresh : s.entries ≡ []

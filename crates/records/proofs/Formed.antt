@@ -16,7 +16,7 @@ use Rattle.plan.specs.Findings.{AreAmong, is_among}
 use Rattle.plan.specs.Texts.{IsMoment}
 use Rattle.plan.specs.declared.findings.Finding.{Finding}
 use Rattle.asks.specs.declared.kept.Floor.{Floor}
-use Rattle.call_json.specs.Forms.{IsId, DoneHasForms}
+use Rattle.call_json.specs.Forms.{IsId, DoneHasForms, IsFinding, IsRequest, IsFloor, FloorsRise}
 use Rattle.call_json.specs.Digests.{digest_of, digest_at, IsDigest}
 use Rattle.call_json.specs.Dones.{done_of}
 use Rattle.call_json.specs.Fields.{text_at, up_to, number_at, id_at, moment_at, list_at, each_read, has_members}
@@ -25,13 +25,11 @@ use Rattle.call_json.proofs.DoneForms.{done_formed}
 use Rattle.desk_time.proofs.Chains.{bind_if, bind_any, then_if, under, either}
 use Rattle.call_json.proofs.PlanForms.{id_formed, moment_formed, each_formed}
 use Rattle.kept_releases.specs.Findings.{finding_of, finding_in, are_in_order, findings_of}
-use Rattle.call_json.specs.Forms.{IsFinding}
 use Rattle.kept_releases.proofs.FindingLaws.{finding_formed, order_tested}
 use Rattle.kept_releases.specs.Kept.{IsKept}
 use Rattle.kept_releases.specs.Releases.{bool_at, person, person_at, release_of}
 use Rattle.kept_releases.proofs.ReleaseForms.{release_kept, release_named}
 use Rattle.records.specs.Reading as read
-use Rattle.call_json.specs.Forms.{IsRequest, IsFloor, FloorsRise}
 use Rattle.records.specs.Valid.{IsMeta, IsReport, IsDeferral, IsKeptReply, AreFindings, IsKeptAlert, IsRecord, are_rising, is_report, are_among}
 use Rattle.records.specs.declared.alert_rows.Opening.{Opening}
 use Rattle.records.specs.declared.kept_rows.Stamp.{Stamp}

@@ -3,13 +3,12 @@ use Rattle.std.proofs.Common.{ℕ, ◌^◌, ◌<◌, ◌≤◌, List, refl, sym,
 use Rattle.std.specs.List.{AllByRecursion}
 use Rattle.serde_json.specs.Data.{object, depth}
 use Rattle.asks.specs.declared.kept.Floor.{Floor}
-use Rattle.call_json.specs.Forms.{IsId}
+use Rattle.call_json.specs.Forms.{IsId, IsFloor, FloorsRise}
 use Rattle.call_json.specs.Plain.{IsPlain, HasText}
 use Rattle.call_json.proofs.Plain.{order_of, text_of, done_plain, done_has_text, done_depth, kept_said}
 use Rattle.call_json.proofs.Texts.{written_utf8, digest_utf8}
 use Rattle.kept_releases.proofs.PlainLaws.{release_plain, release_has_text, release_depth, findings_plain, findings_have_text, findings_depth}
 use Rattle.records.specs.Bodies.{floors_data, meta_members, report_members, deferral_members, reply_members, kept_members, alert_members, body_data}
-use Rattle.call_json.specs.Forms.{IsFloor, FloorsRise}
 use Rattle.records.specs.Valid.{IsRecord}
 use Rattle.records.specs.declared.record.Record.{Record}
 use Rattle.records.specs.declared.record.Record.TheVariants.{Meta, Report, Deferral, Release, Kept, Alert}
