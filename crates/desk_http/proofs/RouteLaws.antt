@@ -7,7 +7,8 @@ use Rattle.std.specs.Option.{option_map}
 use Rattle.std.proofs.lemmas.Bool.{and_right, and_parts, cases_eq, eqb-true, false_from_ne_true}
 use Rattle.matchit.specs.Seek.{first, has_slash}
 use Rattle.stations.specs.Station.{is_capital, is_capital_or_digit, is_station}
-use Rattle.desk_http.specs.Digits.{is_digit, has_length, digits_after}
+use Rattle.desk_time.specs.Numbers.{is_digit, digits_after}
+use Rattle.desk_http.specs.Digits.{has_length}
 use Rattle.desk_http.specs.Routes.{after, fixed_route, release_route, weather_route, deferred_route, route_among, route_in, route_of}
 use Rattle.desk_http.specs.Names.{patterns, rest_after, named_route}
 use Rattle.desk_http.proofs.Found.{follows, whole, one_segment, or_next, name_at, AreBytes, first_is}

@@ -1,18 +1,11 @@
 -- Numbers that are written in decimal digits.
-use Rattle.std.specs.Prelude.{ℕ, ◌+◌, ◌*◌, ◌-◌, nat_le, Bool, ◌&&◌, List, [], ◌∷◌, length, if◌then◌else◌, Option, None, Some}
+use Rattle.std.specs.Prelude.{ℕ, nat_le, Bool, ◌&&◌, List, length, if◌then◌else◌, Option, None, Some}
 use Rattle.std.specs.List.{list_all}
-
-abbrev pub is_digit : ℕ → Bool
-is_digit b = nat_le 48 b && nat_le b 57
+use Rattle.desk_time.specs.Numbers.{is_digit, digits_after}
 
 -- it has one to so many bytes
 abbrev pub has_length : ℕ → List ℕ → Bool
 has_length most text = nat_le 1 (length text) && nat_le (length text) most
-
--- the number of some digits, after that of the digits before them
-abbrev pub digits_after : ℕ → List ℕ → ℕ
-digits_after before [] = before
-digits_after before (d ∷ ds) = digits_after (10 * before + (d - 48)) ds
 
 -- one to so many digits
 abbrev pub are_digits : ℕ → List ℕ → Bool

@@ -1,18 +1,8 @@
 ghost use Rattle.std.specs.Prelude.{◌≡◌, ◌≤◌, ◌&&◌, ℕ, IsTrue, length, nat_le, if◌then◌else◌, Some, None};
-ghost use Rattle.std.specs.List.{list_all};
+ghost use Rattle.desk_time.specs.Numbers.{digits_after};
 ghost use Rattle.desk_http.specs.Digits as spec;
 
-fn is_digit(b: u8) -> bool
-    ensures { result ≡ spec.is_digit b }
-{
-    b'0' <= b && b <= b'9'
-}
-
-fn all_digits(text: &[u8]) -> bool
-    ensures { result ≡ list_all spec.is_digit text.now }
-{
-    text.iter().all(|b| is_digit(*b))
-}
+use desk_time::all_digits;
 
 /// Whether a text has one to so many bytes.
 pub(crate) fn has_length(most: usize, text: &[u8]) -> bool
@@ -23,7 +13,7 @@ pub(crate) fn has_length(most: usize, text: &[u8]) -> bool
 
 fn digits_value(digits: &[u8]) -> u64
     requires { length digits.now ≤ 10 }
-    ensures { result ≡ spec.digits_after 0 digits.now }
+    ensures { result ≡ digits_after 0 digits.now }
 {
     let mut number = 0;
     for digit in digits {

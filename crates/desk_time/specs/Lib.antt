@@ -1,4 +1,5 @@
 pub mod Limits
 pub mod Digits
+pub mod Numbers
 pub mod Calendar
 pub mod Moments

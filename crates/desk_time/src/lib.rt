@@ -4,6 +4,7 @@
 mod calendar;
 mod digits;
 mod moments;
+mod numbers;
 
 pub use calendar::three_months;
 pub use digits::{digit, pair};
@@ -11,3 +12,4 @@ pub use moments::{
     BadDay, FIRST, LAST, Minute, PLAN_FIRST, PLAN_LAST, SHOWN_LAST, read_minute, read_shown,
     resolve, show,
 };
+pub use numbers::{all_digits, is_digit, read_number};

@@ -1,40 +1,52 @@
 -- The settings that a table gives are those of its records, and the record that it names is the first bad one.
-use Rattle.std.proofs.Common.{◌≡◌, ◌∙◌, sym, ap, refl, subst, ℕ, suc, ◌+◌, ◌≤◌, List, [], ◌∷◌, ◌++◌, append-nil, append_assoc, length, Bool, true, false, Option, Some, None, Result, Ok, Err, arith}
-use Rattle.std.specs.Prelude.{MatchResult, nat_le, cond, ◌&&◌}
+use Rattle.std.proofs.Common.{◌≡◌, ◌∙◌, sym, ap, refl, subst, ℕ, suc, ◌+◌, ◌^◌, ◌<◌, List, [], ◌∷◌, ◌++◌, append-nil, append_assoc, length, Bool, true, false, Option, Some, None, Result, Ok, Err, arith}
+use Rattle.std.specs.Prelude.{MatchResult, nat_le, cond, if◌then◌else◌}
 use Rattle.std.specs.Str.{bytes_eq}
-use Rattle.std.proofs.lemmas.Bool.{and_parts}
 use Rattle.std.proofs.lemmas.Bool.Decides.{nat_tests}
 use Rattle.std.proofs.lemmas.Slice.Eq.{bytes_eq-Decides}
 use Rattle.ops_tables.specs.declared.rows.Settings.{Settings}
-use Rattle.table_files.specs.Fields.{is_decimal, digits_after, number_within}
+use Rattle.desk_time.specs.Digits.{◌>>=◌}
+use Rattle.desk_time.specs.Numbers.{number_in}
+use Rattle.desk_time.proofs.NumberLaws.{number_again, number_exact}
+use Rattle.table_files.specs.Fields.{number_within}
 use Rattle.table_files.specs.Good.{IsValue, AreValues, none, first, AreSettings, IsBadNext, IsFirstBadSetting}
 use Rattle.table_files.specs.Settings.{settings, name_of, most_of, value_of, values_after, settings_with, settings_from}
 use Rattle.table_files.specs.declared.faults.BadRecord.{BadRecord}
 use Rattle.table_files.specs.declared.faults.TableWhy.{TableWhy}
 use Rattle.table_files.specs.declared.faults.TableWhy.TheVariants as why
 use Rattle.table_files.specs.declared.settings.Setting.{Setting}
+use Rattle.table_files.specs.declared.settings.Setting.TheVariants as setting
 use Rattle.table_files.proofs.SettingSteps.{good_value, bad_value}
+
+small : (s : Setting) → most_of s < 2 ^ 64
+small setting.HoldMinutes = omega arith
+small setting.MarginalCeiling = omega arith
+small setting.SingleCeiling = omega arith
+small setting.DoubleCeiling = omega arith
+small setting.MarginalVis16 = omega arith
+small setting.SingleVis16 = omega arith
+small setting.DoubleVis16 = omega arith
+small setting.LateOff = omega arith
+small setting.LateOn = omega arith
+
+from_zero : (n : ℕ) → nat_le 0 n ≡ true
+from_zero n = grind (arith, nat_tests)
 
 is_value : (s : Setting) (fields : List (List ℕ)) (value : ℕ) → IsValue s fields value → value_of s fields ≡ Some value
 is_value s fields value v =
     let named : bytes_eq (name_of s) (name_of s) ≡ true = (bytes_eq-Decides (name_of s) (name_of s)).1 refl in
-    let least : nat_le 0 (digits_after 0 v.digits) ≡ true = grind (arith, nat_tests) in
-    let most : nat_le (digits_after 0 v.digits) (most_of s) ≡ true = grind (arith, nat_tests, v.is_value, v.within) in
-    ap (value_of s) v.is_named ∙ rw (named, v.is_number, least, most) (ap Some v.is_value)
+    let read = number_again (most_of s) value v.within (omega (arith, v.within, small s)) in
+    ap (value_of s) v.is_named ∙ rw (named, read, from_zero value) refl
 
-number_is : (most : ℕ) (digits : List ℕ) (value : ℕ) (b : Bool) → (is_decimal digits && nat_le 0 (digits_after 0 digits) && nat_le (digits_after 0 digits) most) ≡ b
-    → cond b (Some (digits_after 0 digits)) None ≡ Some value → (is_decimal digits ≡ true) × (digits_after 0 digits ≡ value) × (value ≤ most)
-number_is most digits value true h e =
-    let one = and_parts (is_decimal digits && nat_le 0 (digits_after 0 digits)) (nat_le (digits_after 0 digits) most) h in
-    let two = and_parts (is_decimal digits) (nat_le 0 (digits_after 0 digits)) one.0 in
-    let same : digits_after 0 digits ≡ value = cc in
-    (two.0, same, grind (arith, nat_tests, one.1, same))
-number_is most digits value false h e = absurd cc
+-- a number that is at least 0 is any number
+any_number : (o : Option ℕ) (value : ℕ) → (o >>= λ n. if nat_le 0 n then Some n else None) ≡ Some value → o ≡ Some value
+any_number None value e = absurd cc
+any_number (Some n) value e = rw (from_zero n) at e
 
 value_named : (s : Setting) (name digits : List ℕ) (value : ℕ) (b : Bool) → bytes_eq name (name_of s) ≡ b → cond b (number_within 0 (most_of s) digits) None ≡ Some value → IsValue s (name ∷ digits ∷ []) value
 value_named s name digits value true h e =
-    let n = number_is (most_of s) digits value (is_decimal digits && nat_le 0 (digits_after 0 digits) && nat_le (digits_after 0 digits) (most_of s)) refl e in
-    record { digits = digits; is_named = ap (λ x. x ∷ digits ∷ []) ((bytes_eq-Decides name (name_of s)).0 h); is_number = n.0; is_value = n.1; within = n.2 }
+    let n = (number_exact (most_of s) digits (number_in (most_of s) digits) (small s) refl value).0 (any_number (number_in (most_of s) digits) value e) in
+    record { is_named = (λ i. (bytes_eq-Decides name (name_of s)).0 h i ∷ n.1 i ∷ []); within = n.0 }
 value_named s name digits value false h e = absurd cc
 
 value_is : (s : Setting) (fields : List (List ℕ)) (value : ℕ) → value_of s fields ≡ Some value → IsValue s fields value

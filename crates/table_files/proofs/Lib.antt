@@ -1,7 +1,6 @@
 pub mod Steps
 pub mod SettingSteps
 pub mod Headers
-pub mod Digits
 pub mod WholeLaws
 pub mod Linking
 pub mod Naming

@@ -1,8 +1,10 @@
 -- The fields of the records of a table: numbers, names and marks.
-use Rattle.std.specs.Prelude.{ℕ, ◌+◌, ◌*◌, ◌-◌, ◌==◌, nat_le, Bool, true, false, ◌&&◌, ◌||◌, not, List, [], ◌∷◌, length, if◌then◌else◌, Option, None, Some, codes}
+use Rattle.std.specs.Prelude.{ℕ, ◌==◌, nat_le, Bool, true, false, List, [], ◌∷◌, length, if◌then◌else◌, Option, None, Some, codes}
 use Rattle.std.specs.List.{list_all, slice_split}
 use Rattle.std.specs.Str.{bytes_eq}
-use Rattle.ops_tables.specs.Forms.{is_digit, is_name, in_name, in_mark, in_person, in_key}
+use Rattle.desk_time.specs.Digits.{◌>>=◌}
+use Rattle.desk_time.specs.Numbers.{number_in}
+use Rattle.ops_tables.specs.Forms.{is_name, in_name, in_mark, in_person, in_key}
 use Rattle.table_files.specs.declared.fields.Class.{Class}
 use Rattle.table_files.specs.declared.fields.Class.TheVariants as class
 use Rattle.ops_tables.specs.declared.rows.Category.{Category}
@@ -28,20 +30,9 @@ names_of field = if length field == 0 then [] else slice_split is_blank field
 unfoldable pub capabilities_of : List ℕ → Option (List (List ℕ))
 capabilities_of field = if list_all is_name (names_of field) then Some (names_of field) else None
 
--- the number of some digits, after that of the digits before them
-abbrev pub digits_after : ℕ → List ℕ → ℕ
-digits_after before [] = before
-digits_after before (d ∷ ds) = digits_after (10 * before + (d - 48)) ds
-
--- digits of which the first is no zero, or one zero alone
-abbrev pub is_decimal : List ℕ → Bool
-is_decimal [] = false
-is_decimal (d ∷ ds) = list_all is_digit (d ∷ ds) && (not (d == 48) || (length ds == 0))
-
 -- a number from a least to a greatest one
 abbrev pub number_within : ℕ → ℕ → List ℕ → Option ℕ
-number_within least most field =
-    if is_decimal field && nat_le least (digits_after 0 field) && nat_le (digits_after 0 field) most then Some (digits_after 0 field) else None
+number_within least most field = number_in most field >>= λ number. if nat_le least number then Some number else None
 
 -- 1 for yes, 0 for no
 abbrev pub mark_of : List ℕ → Option Bool

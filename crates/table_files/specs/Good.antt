@@ -1,9 +1,8 @@
 -- Which tables and which settings are good, and which record is the first bad one.
-use Rattle.std.specs.Prelude.{◌≡◌, ◌↔◌, ℕ, ◌+◌, ◌<◌, ◌≤◌, Bool, true, false, List, [], ◌∷◌, ◌++◌, length, map, All, AllPairs, Any, None, Some, Result, Ok, Err}
+use Rattle.std.specs.Prelude.{◌≡◌, ◌↔◌, ℕ, decimal, ◌+◌, ◌<◌, ◌≤◌, Bool, true, false, List, [], ◌∷◌, ◌++◌, length, map, All, AllPairs, Any, None, Some, Result, Ok, Err}
 use Rattle.ops_tables.specs.Tables.{TableRows}
 use Rattle.ops_tables.specs.Keys.{is_same_airport, is_same_approach, is_same_alternate, is_same_type, is_same_tail, is_same_use, is_same_distance, is_same_route, is_same_item, is_same_pair, is_same_actor}
 use Rattle.ops_tables.specs.declared.rows.Settings.{Settings}
-use Rattle.table_files.specs.Fields.{is_decimal, digits_after}
 use Rattle.table_files.specs.Files.{airports, approaches, alternates, types, tails, uses, distances, routes, mel, pairs, actors}
 use Rattle.table_files.specs.Reading.{Table}
 use Rattle.table_files.specs.Settings.{settings, settings_columns, name_of, most_of}
@@ -43,12 +42,9 @@ pub record IsFirstBad {R : Type 0} (is_same_key : R → R → Bool) (limit : ℕ
   pub number : bad.line ≡ length good + 2
   pub fails : IsBadAfter is_same_key limit table tables rows fields bad.why
 
--- A record is the name of a setting and its value, a number within the setting's limit.
+-- A record is the name of a setting and its value in decimal, within the setting's limit.
 pub record IsValue (s : Setting) (fields : List (List ℕ)) (value : ℕ) : Type 0 where
-  pub digits : List ℕ
-  pub is_named : fields ≡ name_of s ∷ digits ∷ []
-  pub is_number : is_decimal digits ≡ true
-  pub is_value : digits_after 0 digits ≡ value
+  pub is_named : fields ≡ name_of s ∷ decimal value ∷ []
   pub within : value ≤ most_of s
 
 -- Some records are the names and the values of some settings, each in its place.

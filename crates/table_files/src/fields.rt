@@ -4,14 +4,9 @@ ghost use Rattle.ops_tables.specs.Forms as form;
 ghost use Rattle.table_files.specs.Fields as spec;
 
 use desk_io::{Listed, OutOfMemory, Text};
+use desk_time::{is_digit, read_number};
 use ops_tables::{Category, Names, Role};
 use std::alloc::{AllocError, Global};
-
-fn is_digit(b: u8) -> bool
-    ensures { result ≡ form.is_digit b }
-{
-    b'0' <= b && b <= b'9'
-}
 
 /// The characters of which a name is made.
 #[derive(Clone, Copy, Debug)]
@@ -152,48 +147,13 @@ pub(crate) fn capabilities(alloc: Global, field: &[u8]) -> Result<Option<Names>,
     Ok(Some(texts(alloc, &pieces)?))
 }
 
-fn all_digits(field: &[u8]) -> bool
-    ensures { result ≡ list_all form.is_digit field.now }
-{
-    field.iter().all(|b| is_digit(*b))
-}
-
-fn is_decimal(field: &[u8]) -> bool
-    ensures { result ≡ spec.is_decimal field.now }
-{
-    match field {
-        [] => false,
-        [first, rest @ ..] => all_digits(field) && (*first != b'0' || rest.is_empty()),
-    }
-}
-
-// The number of some digits, where it isn't above the greatest one.
-fn number_up_to(most: u32, digits: &[u8]) -> Option<u32>
-    requires { most ≤ 1_000_000 }
-    ensures { result ≡
-        if nat_le (spec.digits_after 0 digits.now) most then Some (spec.digits_after 0 digits.now) else None }
-{
-    let mut number = 0;
-    for digit in digits {
-        number = 10 * number + u32::from(digit.saturating_sub(b'0'));
-        if number > most {
-            return None;
-        }
-    }
-    Some(number)
-}
-
 /// The number of a field, from a least to a greatest one. It has no sign and begins with no zero but
 /// its own.
 pub(crate) fn number_within(least: u32, most: u32, field: &[u8]) -> Option<u32>
-    requires { most ≤ 1_000_000 }
     ensures value { result ≡ spec.number_within least most field.now }
     ensures bound { IfSome result (λ n. (least ≤ n) × (n ≤ most)) }
 {
-    if !is_decimal(field) {
-        return None;
-    }
-    let number = number_up_to(most, field)?;
+    let number = read_number(u64::from(most), field)? as u32;
     if least <= number { Some(number) } else { None }
 }
 

@@ -3,7 +3,7 @@ use Rattle.std.specs.Prelude.{ℕ, Bool, false, not, ◌==◌, ◌&&◌, ◌||�
 use Rattle.std.specs.List.{list_all}
 use Rattle.std.specs.Str.{bytes_eq}
 use Rattle.desk_time.specs.Digits.{◌>>=◌}
-use Rattle.kept_releases.specs.Numbers.{number_in}
+use Rattle.desk_time.specs.Numbers.{number_in}
 use Rattle.words.specs.declared.task.Task.{Task}
 use Rattle.words.specs.declared.task.Task.TheVariants.{Weather, Desk}
 use Rattle.words.specs.declared.task.DeskTask.TheVariants.{Run, Serve}

@@ -3,7 +3,7 @@ ghost use Rattle.std.specs.Option.{option_map};
 ghost use Rattle.words.specs.Words as spec;
 
 use crate::{DeskTask, Task};
-use kept_releases::read_number;
+use desk_time::read_number;
 
 fn with_source<'a>(name: &str, source: &'a str) -> Option<(Task, &'a str)>
     ensures { option_map (λ c. (c.0, c.1.now)) result ≡ spec.with_source name.now source.entry.now }

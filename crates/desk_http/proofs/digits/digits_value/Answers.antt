@@ -1,5 +1,5 @@
 use Rattle.std.proofs.Common.{◌≡◌, ◌+◌, ◌*◌, ◌-◌, ℕ, List, ◌∷◌, ◌<◌, drop, get_or, length, drop-cons, add-one, ap, sym, ◌∙◌, arith, refl}
-use Rattle.desk_http.specs.Digits.{digits_after}
+use Rattle.desk_time.specs.Numbers.{digits_after}
 use Rattle.desk_http.proofs.Bounds.{more}
 use Rattle.desk_http.proofs.digits.digits_value.Goals as goal
 

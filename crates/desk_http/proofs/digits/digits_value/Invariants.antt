@@ -1,5 +1,5 @@
 use Rattle.std.proofs.Common.{◌≡◌, ◌≤◌, ◌+◌, ◌*◌, ◌^◌, drop}
-use Rattle.desk_http.specs.Digits.{digits_after}
+use Rattle.desk_time.specs.Numbers.{digits_after}
 use Rattle.desk_http.proofs.digits.digits_value.Given as goal
 
 -- A byte less 48 is at most 207, which is nine times 23.

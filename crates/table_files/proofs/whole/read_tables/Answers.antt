@@ -38,14 +38,14 @@ returns-in_err-read_file-clause-missing g c = λ s.
     let stop = stops told (λ file before. FileFails told file before why × IsMissing told file why) c.loop-file.file-index file.Settings (shown c.loop-file.loaded) c.loop-file-test.true inv.read (rw inv.on.sources at e.reads, missing) in
     search (rules, stop)
 
-pub of-requires-linked : goal.of-requires-linked
-of-requires-linked g c =
+pub of-requires-clause-linked : goal.of-requires-clause-linked
+of-requires-clause-linked g c =
     let inv = c.loop-file.invariant in
     let told = (g.S.Shelf.seen c.args.shelf.now).sources in
     linked told (shown c.loop-file.loaded) (reads_all told c.loop-file.file-index (shown c.loop-file.loaded) (omega (arith, c.loop-file-test.false)) inv.read) inv.settings
 
-pub of-requires-named : goal.of-requires-named
-of-requires-named g c =
+pub of-requires-clause-named : goal.of-requires-clause-named
+of-requires-clause-named g c =
     let inv = c.loop-file.invariant in
     let told = (g.S.Shelf.seen c.args.shelf.now).sources in
     names_formed told (shown c.loop-file.loaded) (reads_all told c.loop-file.file-index (shown c.loop-file.loaded) (omega (arith, c.loop-file-test.false)) inv.read)
