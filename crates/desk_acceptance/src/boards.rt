@@ -1,5 +1,5 @@
 ghost use Rattle.std.specs.Prelude.{◌≡◌, ◌<◌, ◌≤◌, IfOk, IfSome};
-ghost use Rattle.asks.specs.Forms.{IsCall};
+ghost use Rattle.call_json.specs.Forms.{CallHasForms};
 
 use crate::texts::{AFTERNOON, CANCELLATION, STOPPED, WATCHED};
 use alerts::{Notice, NoticeKind, Notices};
@@ -44,7 +44,7 @@ fn make<L: Ledger>(
     told: &mut Vec<u8>,
 ) -> Result<(), OutOfMemory>
     requires within { at ≤ LAST }
-    requires form { IsCall call.now.ask }
+    requires form { CallHasForms call.now }
 {
     let before = told.len();
     if board.now() < at {
@@ -62,7 +62,7 @@ fn make<L: Ledger>(
 // The moment and the call of a line, if it is one.
 fn call_in(alloc: Global, line: &[u8]) -> Result<Option<(Minute, Call)>, OutOfMemory>
     ensures within { IfOk result (λ o. IfSome o (λ p. p.0 ≤ LAST)) }
-    ensures form { IfOk result (λ o. IfSome o (λ p. IsCall p.1.ask)) }
+    ensures form { IfOk result (λ o. IfSome o (λ p. CallHasForms p.1)) }
 {
     match read_line(alloc, line) {
         Ok((at, call)) => Ok(Some((at, call))),
@@ -87,86 +87,98 @@ fn make_all<L: Ledger>(
     Ok(())
 }
 
+// An entry of the history as a letter: T for a tick, C for a call, K for the captain's call in this lane without his key.
+fn entry_letter(entry: &Entry) -> u8 {
+    match &entry.what {
+        What::Tick { .. } => b'T',
+        What::Asked { call, .. } => {
+            let is_captains = entry.lane == 3
+                && call.actor.bytes() == b"C7".as_slice()
+                && call.key.bytes().is_empty();
+            if is_captains { b'K' } else { b'C' }
+        }
+    }
+}
+
+fn push_entries(board: &Board, entries: &mut Vec<u8>) -> Result<(), OutOfMemory> {
+    for i in 0..board.entries() {
+        entries.push(entry_letter(board.entry(i)))?;
+    }
+    Ok(())
+}
+
+// What is seen of a board after a script.
+#[derive(Drop)]
+struct Seen {
+    // What was told of alerts, line by line.
+    told: Vec<u8>,
+    // The entries of the history.
+    entries: Vec<u8>,
+    // Whether release 1 has an alert.
+    is_alerted: bool,
+    // Whether release 1 is there, and no other and no other alert.
+    is_alone: bool,
+}
+
+fn is_alone(board: &Board) -> bool {
+    board.release(1).is_some() && board.release(2).is_none() && board.alert(2).is_none()
+}
+
+// Plays a script, and shows what is seen then. The board is owned here alone, and has one exit.
 fn play<L: Ledger>(
     alloc: Global,
     tables: Tables,
     script: &[u8],
     blank: Blank,
-    told: &mut Vec<u8>,
-) -> Result<Board, OutOfMemory>
+    seen: &mut Seen,
+) -> Result<(), OutOfMemory>
     requires name { blank.name ≡ L.name }
     requires parts { blank.parts ≡ L.parts }
     requires some { 0 < blank.parts }
 {
     let mut steps = Steps::<L>::new(blank);
     let mut board = Board::new(alloc, tables);
-    make_all(alloc, &mut board, script, &mut steps, told)?;
-    Ok(board)
+    let made = make_all(alloc, &mut board, script, &mut steps, &mut seen.told);
+    let shown = push_entries(&board, &mut seen.entries);
+    seen.is_alerted = board.alert(1).is_some();
+    seen.is_alone = is_alone(&board);
+    made.and(shown)
 }
 
-// The board after a script, and what was told of alerts at each of its lines.
-fn played(
-    alloc: Global,
-    tables: Tables,
-    script: &[u8],
-    told: &mut Vec<u8>,
-) -> Result<Board, OutOfMemory> {
-    play::<Brand>(alloc, tables, script, Blank::new(1), told)
-}
-
-// The entries of the history: a T for a tick, a C for a call.
-fn history(alloc: Global, board: &Board) -> Result<Vec<u8>, OutOfMemory> {
-    let mut kinds = Vec::new(alloc);
-    for i in 0..board.entries() {
-        kinds.push(match &board.entry(i).what {
-            What::Tick { .. } => b'T',
-            What::Asked { .. } => b'C',
-        })?;
-    }
-    Ok(kinds)
-}
-
-// The captain's call, without his key.
-fn is_concurrence(entry: &Entry) -> bool {
-    match &entry.what {
-        What::Tick { .. } => false,
-        What::Asked { call, .. } => {
-            entry.lane == 3
-                && call.actor.bytes() == b"C7".as_slice()
-                && call.key.bytes().is_empty()
-                && call.number == 1
-        }
-    }
+// What is seen after two texts, one after the other, over the tables of a small airline.
+fn seen_after(alloc: Global, script: &[u8], more: &[u8]) -> Result<Seen, OutOfMemory> {
+    let mut whole = Vec::new(alloc);
+    push_all(&mut whole, &[script, more])?;
+    let mut seen = Seen {
+        told: Vec::new(alloc),
+        entries: Vec::new(alloc),
+        is_alerted: false,
+        is_alone: false,
+    };
+    let tables = small_tables(alloc)?;
+    play::<Brand>(alloc, tables, &whole, Blank::new(1), &mut seen)?;
+    Ok(seen)
 }
 
 // A tick for each moment and a call for each line, but none for the view: 7 ticks and 9 calls.
 #[test]
 fn the_history_has_ticks_and_calls(rt: HostRuntime) -> Result<(), Fail> {
-    let alloc = rt.alloc();
-    let mut told = Vec::new(alloc);
-    let tables = small_tables(alloc)?;
-    let board = played(alloc, tables, AFTERNOON, &mut told)?;
-    assert!(rt; history(alloc, &board)?.as_slice() == b"TCCCTCCTCTCTCTTC".as_slice());
-    assert!(rt; board.entries() > 10 && is_concurrence(board.entry(10)));
-    assert!(rt; board.alert(1).is_some() && board.alert(2).is_none());
-    assert!(rt; board.release(1).is_some() && board.release(2).is_none());
+    let seen = seen_after(rt.alloc(), AFTERNOON, b"")?;
+    assert!(rt; seen.entries.as_slice() == b"TCCCTCCTCTKTCTTC".as_slice());
+    assert!(rt; seen.is_alerted && seen.is_alone);
     Ok(())
 }
 
-// What is told of alerts at each line of two texts, and whether one is open after them.
+// Whether this is told of alerts at each line of two texts, and an alert is open after them.
 fn is_told(
     alloc: Global,
-    tables: Tables,
     script: &[u8],
     more: &[u8],
     wanted: &[u8],
     is_open: bool,
 ) -> Result<bool, OutOfMemory> {
-    let mut whole = Vec::new(alloc);
-    push_all(&mut whole, &[script, more])?;
-    let mut told = Vec::new(alloc);
-    let board = played(alloc, tables, &whole, &mut told)?;
-    Ok(told.as_slice() == wanted && board.alert(1).is_some() == is_open)
+    let seen = seen_after(alloc, script, more)?;
+    Ok(seen.told.as_slice() == wanted && seen.is_alerted == is_open)
 }
 
 // An alert is told when it opens and when it changes, by a tick too. It is closed by a concurrence, a cancellation or
@@ -180,8 +192,7 @@ fn notices_follow_the_alert(rt: HostRuntime) -> Result<(), Fail> {
         (WATCHED, b"", b"........OC....XO..CX", false),
         (STOPPED, b"", b"..........O", true),
     ] {
-        let tables = small_tables(alloc)?;
-        assert!(rt; is_told(alloc, tables, script, more, wanted, is_open)?);
+        assert!(rt; is_told(alloc, script, more, wanted, is_open)?);
     }
     Ok(())
 }

@@ -1,14 +1,15 @@
 use crate::lines::rows_in;
 use crate::rows::{ALERT, DEFERRAL, DRAFTED, KEPT, META, READY, REPORT};
 use alerts::Alert;
-use asks::{Call, Done, Refusal, Reply};
+use asks::{Done, Refusal, Reply};
 use codes::ReportFault;
 use desk_io::{Copied, LineFeeds, OutOfMemory, Row, Text, runs_between};
 use desk_json::{CallFault, read_line};
 use facts::{Report, read_report};
 use plan::{Finding, Findings, Rule};
-use records::{KeptAlert, KeptReport, Meta, Record, RowFault, read_row};
+use records::{Record, RowFault, read_row};
 use std::alloc::Global;
+use std::fmt::Debug;
 use std::test::Fail;
 
 // The life of a release until both have signed it.
@@ -22,56 +23,26 @@ const SIGNED: &[u8] =
 {"actor":"C7","ask":{"digest":"93552bd08bcf733af54f012ef3711733ecf23ec2726678302a0dba7d4b038410","do":"concur","release":1,"revision":1},"at":"2025-03-12T17:41Z","key":"kC7","number":1}
 "#;
 
-fn copy_of_meta(alloc: Global, meta: &Meta) -> Result<Meta, OutOfMemory> {
-    Ok(Meta {
-        moment: meta.moment,
-        events: meta.events,
-        next_report: meta.next_report,
-        next_deferral: meta.next_deferral,
-        next_release: meta.next_release,
-        next_kept: meta.next_kept,
-        floors: meta.floors.copy(alloc)?,
-    })
+fn is_copied<T: Copied + Debug + Drop>(alloc: Global, value: &T) -> Result<bool, OutOfMemory> {
+    let copy = value.copy(alloc)?;
+    Ok(format!(in alloc; "{value:?}")? == format!(in alloc; "{copy:?}")?)
 }
 
-fn copy_of_alert(alloc: Global, alert: &KeptAlert) -> Result<KeptAlert, OutOfMemory> {
-    Ok(KeptAlert {
-        release: alert.release,
-        version: alert.version,
-        opened: alert.opened,
-        failing: alert.failing.copy(alloc)?,
-        ever: alert.ever.copy(alloc)?,
-        acknowledged: alert.acknowledged,
-    })
-}
-
-fn copy_of_report(alloc: Global, report: &KeptReport) -> Result<KeptReport, OutOfMemory> {
-    Ok(KeptReport {
-        id: report.id,
-        received: report.received,
-        text: report.text.copy(alloc)?,
-    })
-}
-
-fn copy_of(alloc: Global, record: &Record) -> Result<Record, OutOfMemory> {
+// A deferral, a release and what is kept of a command; of the others the parts are copied.
+fn is_record_copied(alloc: Global, record: &Record) -> Result<bool, OutOfMemory> {
     match record {
-        Record::Meta(meta) => Ok(Record::Meta(copy_of_meta(alloc, meta)?)),
-        Record::Report(report) => Ok(Record::Report(copy_of_report(alloc, report)?)),
-        Record::Deferral(deferral) => Ok(Record::Deferral(deferral.copy(alloc)?)),
-        Record::Release(release) => Ok(Record::Release(release.copy(alloc)?)),
-        Record::Kept(kept) => Ok(Record::Kept(kept.copy(alloc)?)),
-        Record::Alert(alert) => Ok(Record::Alert(copy_of_alert(alloc, alert)?)),
+        Record::Deferral(deferral) => is_copied(alloc, deferral),
+        Record::Release(release) => is_copied(alloc, release),
+        Record::Kept(kept) => is_copied(alloc, kept),
+        Record::Meta(meta) => is_copied(alloc, &meta.floors),
+        Record::Report(report) => is_copied(alloc, &report.text),
+        Record::Alert(alert) => is_copied(alloc, &alert.ever),
     }
-}
-
-fn is_copied(alloc: Global, record: &Record) -> Result<bool, OutOfMemory> {
-    let copy = copy_of(alloc, record)?;
-    Ok(format!(in alloc; "{record:?}")? == format!(in alloc; "{copy:?}")?)
 }
 
 fn is_row_copied(alloc: Global, row: &Row) -> Result<bool, OutOfMemory> {
     match read_row(alloc, row) {
-        Ok(record) => is_copied(alloc, &record),
+        Ok(record) => is_record_copied(alloc, &record),
         Err(RowFault::OutOfMemory) => Err(OutOfMemory),
         Err(RowFault::NotCanonical) => Ok(false),
     }
@@ -95,15 +66,10 @@ fn rows_copied(alloc: Global) -> Result<bool, OutOfMemory> {
     Ok(true)
 }
 
-fn is_call_copied(alloc: Global, call: &Call) -> Result<bool, OutOfMemory> {
-    let copy = call.copy(alloc)?;
-    Ok(format!(in alloc; "{call:?}")? == format!(in alloc; "{copy:?}")?)
-}
-
 // The call of a line, if it is one.
 fn is_line_copied(alloc: Global, line: &[u8]) -> Result<bool, OutOfMemory> {
     match read_line(alloc, line) {
-        Ok((_, call)) => is_call_copied(alloc, &call),
+        Ok((_, call)) => is_copied(alloc, &call),
         Err(CallFault::Bad(_)) => Ok(true),
         Err(CallFault::OutOfMemory) => Err(OutOfMemory),
     }
@@ -119,32 +85,22 @@ fn calls_copied(alloc: Global, script: &[u8]) -> Result<bool, OutOfMemory> {
     Ok(true)
 }
 
-fn is_reply_copied(alloc: Global, reply: &Reply) -> Result<bool, OutOfMemory> {
-    let copy = reply.copy(alloc)?;
-    Ok(format!(in alloc; "{reply:?}")? == format!(in alloc; "{copy:?}")?)
-}
-
 fn replies_copied(alloc: Global) -> Result<bool, OutOfMemory> {
     let seen = Reply::Seen(Text::of(alloc, b"BOARD")?);
     let refused = Reply::Refused(Refusal::NotYours {
         holder: Text::of(alloc, b"D1")?,
     });
     Ok(
-        is_reply_copied(alloc, &seen)?
-            && is_reply_copied(alloc, &refused)?
-            && is_reply_copied(alloc, &Reply::Done(Done::Report(1)))?,
+        is_copied(alloc, &seen)?
+            && is_copied(alloc, &refused)?
+            && is_copied(alloc, &Reply::Done(Done::Report(1)))?,
     )
-}
-
-fn is_report_copied(alloc: Global, report: &Report) -> Result<bool, OutOfMemory> {
-    let copy = report.copy(alloc)?;
-    Ok(format!(in alloc; "{report:?}")? == format!(in alloc; "{copy:?}")?)
 }
 
 fn report_copied(alloc: Global) -> Result<bool, OutOfMemory> {
     let text = Text::of(alloc, b"METAR KJFK 121651Z 24008KT 10SM FEW250")?;
     match read_report(alloc, text.bytes(), 29_029_500) {
-        Ok(read) => is_report_copied(
+        Ok(read) => is_copied(
             alloc,
             &Report {
                 id: 1,
@@ -174,8 +130,7 @@ fn alert_copied(alloc: Global) -> Result<bool, OutOfMemory> {
         failing,
         acknowledged: true,
     };
-    let copy = alert.copy(alloc)?;
-    Ok(format!(in alloc; "{alert:?}")? == format!(in alloc; "{copy:?}")?)
+    is_copied(alloc, &alert)
 }
 
 #[test]
