@@ -3,7 +3,7 @@ use Rattle.std.proofs.Common.{◌≡◌, ℕ, ◌+◌, ◌<◌, ◌≤◌, arith
 use Rattle.std.specs.Prelude.{◌==◌, nat_lt}
 use Rattle.std.specs.Str.{bytes_eq}
 use Rattle.std.specs.List.{AllByRecursion, AllPairs, filter_map, count_by}
-use Rattle.std.proofs.lemmas.Bool.{eqb-true, ltb-true, leb-false}
+use Rattle.std.proofs.lemmas.Bool.{eqb-true, ltb-true, leb-false, or_parts}
 use Rattle.std.proofs.lemmas.Bool.Decides.{Decides-like, same_from_decides}
 use Rattle.std.proofs.lemmas.List.Recursion.{is_count_by}
 use Rattle.std.proofs.lemmas.Slice.Eq.{bytes_eq-Decides}
@@ -28,10 +28,6 @@ use Rattle.kept_state.proofs.Lists.{Pairs, all_pairs, each_mapped, no_longer, pa
 use Rattle.kept_state.proofs.Fitting.{Agree, IsAmong, all_agree, are_few, each_among}
 
 -- ---- tests
-
-pub or_false : (a b : Bool) → (a || b) ≡ false → (a ≡ false) × (b ≡ false)
-or_false true b e = absurd (cc)
-or_false false b e = (refl, e)
 
 same_bytes : (s t : List ℕ) → bytes_eq s t ≡ bytes_eq t s
 same_bytes s t = same_from_decides (bytes_eq s t) (bytes_eq t s) (bytes_eq-Decides s t) (Decides-like (bytes_eq t s) (λ e. sym e) (λ e. sym e) (bytes_eq-Decides t s))
@@ -108,7 +104,7 @@ AreApart a b = (a.id < b.id) × (is_same_report b a ≡ false)
 
 -- what holds of two of one kind that agree
 below_by : (a b : ℕ) (odds : Bool) → (nat_lt a b ≡ true) × (((b == a) || odds) ≡ false) → (a < b) × (odds ≡ false)
-below_by a b odds agree = (ltb-true a b agree.0, (or_false (b == a) odds agree.1).1)
+below_by a b odds agree = (ltb-true a b agree.0, (or_parts (b == a) odds agree.1).1)
 
 reports_apart : (x y : Record) → Agree x y → IfSome (report_in x) (λ a. IfSome (report_in y) (AreApart a))
 reports_apart (Report a) (Report b) agree = below_by a.id b.id (is_same_report b a) agree

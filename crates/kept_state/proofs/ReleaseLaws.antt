@@ -2,13 +2,12 @@
 use Rattle.std.proofs.Common.{◌≡◌, ℕ, ◌+◌, ◌<◌, ◌≤◌, arith, false, ◌||◌, List, [], ◌∷◌, length, Option, None, Some, IfSome, refl}
 use Rattle.std.specs.Prelude.{nat_le}
 use Rattle.std.specs.List.{AllByRecursion, filter_map}
-use Rattle.std.proofs.lemmas.Bool.{ltb-true, ltb-false, leb-false}
+use Rattle.std.proofs.lemmas.Bool.{ltb-true, ltb-false, leb-false, or_parts}
 use Rattle.desk_time.proofs.Chains as chain
-use Rattle.plan.specs.Check.{IsPlan, HasMoments}
-use Rattle.plan.specs.declared.flights.Plan.{Plan}
 use Rattle.plan.specs.declared.release.Release.{Release as ReleaseOf}
 use Rattle.plan.specs.declared.release.Revision.{Revision}
-use Rattle.call_json.specs.Forms.{HasForms, IsLeg, IsRevision}
+use Rattle.call_json.specs.Forms.{IsRevision}
+use Rattle.call_json.proofs.PlanForms.{plan_from_forms}
 use Rattle.kept_releases.specs.Kept.{IsKept}
 use Rattle.desk_state.specs.Sound.{MayStand, ReleaseInBounds, RevisionInBounds, Rise}
 use Rattle.records.specs.Faults.{is_late}
@@ -19,22 +18,19 @@ use Rattle.records.specs.declared.record.Record.TheVariants.{Meta, Report, Defer
 use Rattle.kept_state.specs.Held.{AreOfDesk, meta_in, release_in}
 use Rattle.kept_state.proofs.Lists.{Pairs, each_mapped, pairs_mapped, weaker}
 use Rattle.kept_state.proofs.Fitting.{Agree, IsAmong, all_agree, are_few, each_among}
-use Rattle.kept_state.proofs.PartLaws.{Counted, at_most, or_false}
+use Rattle.kept_state.proofs.PartLaws.{Counted, at_most}
 
 -- ---- a release that may be kept is one that may stand
 
-within : (events : ℕ) (o : Option Revision) → is_late events o ≡ false → IfSome o (λ v. v.number ≤ events)
-within events None late = tt
-within events (Some v) late = ltb-false events v.number late
+not_above : (events : ℕ) (o : Option Revision) → is_late events o ≡ false → IfSome o (λ v. v.number ≤ events)
+not_above events None late = tt
+not_above events (Some v) late = ltb-false events v.number late
 
 -- ---- and is within bounds
 
-plan_is : (p : Plan) → HasForms p → IsPlan p
-plan_is p is = record { few = is.few; moments = weaker IsLeg HasMoments (λ l leg. (leg.etd, leg.eta)) p.legs is.legs }
-
 revision_is : (v : Revision) → IsRevision v → RevisionInBounds v
 revision_is v is = record {
-  is_plan = plan_is v.plan is.plan;
+  is_plan = plan_from_forms v.plan is.plan;
   dispatcher = chain.weaker v.dispatcher is.dispatcher (λ signature signed. signed.at);
   captain = chain.weaker v.captain is.captain (λ signature signed. signed.at);
 }
@@ -54,10 +50,10 @@ record IsHeldRelease (events next : ℕ) (r : ReleaseOf) : Type 0 where
 
 held_release : (m : MetaOf) (r : ReleaseOf) → IsKept r → (nat_le m.next_release r.id || is_late m.events r.pending || is_late m.events r.active) ≡ false → IsHeldRelease m.events m.next_release r
 held_release m r is ahead =
-    let last = or_false (nat_le m.next_release r.id || is_late m.events r.pending) (is_late m.events r.active) ahead in
-    let first = or_false (nat_le m.next_release r.id) (is_late m.events r.pending) last.0 in
+    let last = or_parts (nat_le m.next_release r.id || is_late m.events r.pending) (is_late m.events r.active) ahead in
+    let first = or_parts (nat_le m.next_release r.id) (is_late m.events r.pending) last.0 in
     record {
-      stands = record { valid = is.valid; within = (within m.events r.pending first.1, within m.events r.active last.1) };
+      stands = record { valid = is.valid; within = (not_above m.events r.pending first.1, not_above m.events r.active last.1) };
       bounds = release_is r is;
       below = leb-false m.next_release r.id first.0;
     }

@@ -1,7 +1,7 @@
 -- The state that records stand for may be judged and then stand as that of a board.
 use Rattle.std.proofs.Common.{◌≡◌, ◌+◌, ◌<◌, arith, false, ◌||◌, List, Option, None, Some, refl}
 use Rattle.std.specs.Prelude.{nat_lt}
-use Rattle.std.proofs.lemmas.Bool.{ltb-false, leb-false}
+use Rattle.std.proofs.lemmas.Bool.{ltb-false, leb-false, or_parts}
 use Rattle.ops_tables.specs.Named.{AreNamed}
 use Rattle.ops_tables.specs.Tables.{TableRows}
 use Rattle.plan.specs.Texts.{IsMoment}
@@ -17,7 +17,7 @@ use Rattle.records.specs.declared.record.Record.TheVariants.{Meta}
 use Rattle.kept_state.specs.Held.{AreOfDesk, counters_of, meta_in, state_by, state_in, state_with}
 use Rattle.kept_state.specs.Opening.{MayReopen, reopened}
 use Rattle.kept_state.proofs.Fitting.{HasRoom, IsAmong, meta_among}
-use Rattle.kept_state.proofs.PartLaws.{deferrals_open, or_false, replies_few, replies_numbered, replies_rise, replies_single, reports_few, reports_numbered, reports_rise, reports_unlike}
+use Rattle.kept_state.proofs.PartLaws.{deferrals_open, replies_few, replies_numbered, replies_rise, replies_single, reports_few, reports_numbered, reports_rise, reports_unlike}
 use Rattle.kept_state.proofs.ReleaseLaws.{releases_bounded, releases_few, releases_rise, releases_valid}
 use Rattle.kept_state.proofs.AlertLaws.{alerts_are, alerts_own, alerts_told}
 use Rattle.kept_state.proofs.HeldForms.{counted_formed}
@@ -36,9 +36,9 @@ record Counts (m : MetaOf) : Type 0 where
 
 counters_are : (m : MetaOf) → m.events < 999_999_999_999_999 → outruns m ≡ false → AreCounters (counters_of m)
 counters_are m room within =
-    let kept = or_false (nat_lt (m.events + 1) m.next_report || nat_lt (m.events + 1) m.next_deferral || nat_lt (m.events + 1) m.next_release) (nat_lt (m.events + 1) m.next_kept) within in
-    let release = or_false (nat_lt (m.events + 1) m.next_report || nat_lt (m.events + 1) m.next_deferral) (nat_lt (m.events + 1) m.next_release) kept.0 in
-    let deferral = or_false (nat_lt (m.events + 1) m.next_report) (nat_lt (m.events + 1) m.next_deferral) release.0 in
+    let kept = or_parts (nat_lt (m.events + 1) m.next_report || nat_lt (m.events + 1) m.next_deferral || nat_lt (m.events + 1) m.next_release) (nat_lt (m.events + 1) m.next_kept) within in
+    let release = or_parts (nat_lt (m.events + 1) m.next_report || nat_lt (m.events + 1) m.next_deferral) (nat_lt (m.events + 1) m.next_release) kept.0 in
+    let deferral = or_parts (nat_lt (m.events + 1) m.next_report) (nat_lt (m.events + 1) m.next_deferral) release.0 in
     record {
       events = omega (arith, room);
       report = ltb-false (m.events + 1) m.next_report deferral.0;

@@ -9,7 +9,7 @@ use Rattle.std.specs.Str.{bytes_eq}
 use Rattle.std.specs.List.{list_any, position_from}
 use Rattle.std.specs.Option.{unwrap_or}
 use Rattle.std.specs.BTreeMap.{is_at}
-use Rattle.std.proofs.lemmas.Bool.{and_parts, eqb-true}
+use Rattle.std.proofs.lemmas.Bool.{and_parts, eqb-true, not-true, or_left, or_right}
 use Rattle.std.proofs.lemmas.List.{take_more, length-take-le}
 use Rattle.std.proofs.lemmas.Cmp.{nat_cmp_total, on_total, then_total, tied_itself, ranked}
 use Rattle.std.proofs.lemmas.Slice.Eq.{bytes_eq-Decides}
@@ -32,23 +32,11 @@ itself m = ap is_eq (tied_itself mark_total m)
 same_mark : (m k : ℕ × ℕ) → m ≡ k → is_at (mark_cmp m) k ≡ true
 same_mark m k e = subst (λ x. is_at (mark_cmp m) x ≡ true) e (itself m)
 
-or_right : (a b : Bool) → b ≡ true → a || b ≡ true
-or_right true b e = refl
-or_right false b e = e
-
-or_left : (a b : Bool) → a ≡ true → a || b ≡ true
-or_left true b e = refl
-or_left false b e = absurd cc
-
 two_numbers : (a b c d : ℕ) → a ≡ c → b ≡ d → is_at (mark_cmp (a, b)) (c, d) ≡ true
 two_numbers a b c d e f = same_mark (a, b) (c, d) (λ i. (e i, f i))
 
 numbers_same : (a b c d : ℕ) → (a == c) && (b == d) ≡ true → is_at (mark_cmp (a, b)) (c, d) ≡ true
 numbers_same a b c d e = let both = and_parts (a == c) (b == d) e in two_numbers a b c d (eqb-true a c both.0) (eqb-true b d both.1)
-
-not_false : (b : Bool) → not b ≡ true → b ≡ false
-not_false true e = absurd cc
-not_false false e = refl
 
 -- what two say that are at odds has one mark
 odds : (r e : Record) → are_at_odds r e ≡ true → other_mark e ≡ other_mark r
@@ -65,11 +53,11 @@ odds (Kept a) (Kept b) h =
 odds (Release r) (Alert a) h =
     let both = and_parts (r.id == a.release) (not (is_active r.phase)) h in
     let id : a.release ≡ r.id = sym (eqb-true r.id a.release both.0) in
-    rw (not_false (is_active r.phase) both.1) (λ i. (6, id i))
+    rw (not-true (is_active r.phase) both.1) (λ i. (6, id i))
 odds (Alert a) (Release r) h =
     let both = and_parts (r.id == a.release) (not (is_active r.phase)) h in
     let id : r.id ≡ a.release = eqb-true r.id a.release both.0 in
-    rw (not_false (is_active r.phase) both.1) (λ i. (6, id i))
+    rw (not-true (is_active r.phase) both.1) (λ i. (6, id i))
 odds _ _ h = absurd cc
 
 same_row : (r e : Record) → is_same_row r e ≡ true → own_mark e ≡ own_mark r
