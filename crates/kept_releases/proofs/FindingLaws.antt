@@ -19,11 +19,13 @@ use Rattle.plan.specs.declared.findings.Rule.TheVariants.{No1, No2, No3, No4, No
 use Rattle.plan.specs.declared.findings.Finding.{Finding}
 use Rattle.call_json.specs.Fields.{each_read}
 use Rattle.call_json.proofs.Again.{each_again}
-use Rattle.kept_releases.specs.Numbers.{number_in, leg_of, cut}
+use Rattle.desk_time.specs.Numbers.{number_in}
+use Rattle.kept_releases.specs.Cuts.{leg_of, cut}
 use Rattle.kept_releases.specs.Findings.{every_rule, rule_among, rule_of, finding_at, finding_with, finding_within, finding_data, finding_in, comes_before, are_in_order, findings_of}
 use Rattle.call_json.specs.Forms.{IsFinding, FindingWithin}
 use Rattle.desk_time.proofs.Chains.{bind_if, bind_any, under, either_known}
-use Rattle.kept_releases.proofs.Digits.{leg_again, number_again, number_within, number_back, decimal_free, is_free, IsCut, cut_at, cut_back}
+use Rattle.desk_time.proofs.NumberLaws.{number_again, number_within, number_back}
+use Rattle.kept_releases.proofs.CutLaws.{leg_again, decimal_free, is_free, IsCut, cut_at, cut_back}
 
 rule_again : (r : Rule) → rule_of (code_of r) ≡ Some r
 rule_again No1 = refl

@@ -1,4 +1,4 @@
-pub mod Digits
+pub mod CutLaws
 pub mod PhaseLaws
 pub mod FindingLaws
 pub mod KeptLaws

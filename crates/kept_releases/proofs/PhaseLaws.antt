@@ -11,10 +11,11 @@ use Rattle.desk_time.proofs.ReadLaws.{minute_is_shown}
 use Rattle.plan.specs.Texts.{IsMoment, phase_text, again_text}
 use Rattle.plan.specs.declared.release.Phase.{Phase}
 use Rattle.plan.specs.declared.release.Phase.TheVariants.{Drafted, Ready, Flying, Stopped, Completed, Cancelled}
-use Rattle.kept_releases.specs.Numbers.{leg_of, cut}
+use Rattle.kept_releases.specs.Cuts.{leg_of, cut}
 use Rattle.kept_releases.specs.Phases.{ready_of, flying_of, again_of, stopped_since, stopped_before, stopped_with, stopped_of, completed_of, cancelled_of, phase_with, phase_in, phase_of, IsPhase}
 use Rattle.desk_time.proofs.Chains.{bind_if, bind_any, under, either, either_known}
-use Rattle.kept_releases.proofs.Digits.{leg_again, number_within, number_back, decimal_free, IsCut, cut_at, cut_back}
+use Rattle.desk_time.proofs.NumberLaws.{number_within, number_back}
+use Rattle.kept_releases.proofs.CutLaws.{leg_again, decimal_free, IsCut, cut_at, cut_back}
 use Rattle.call_json.proofs.MomentRange.{minute_within}
 
 -- a word and what stands after it

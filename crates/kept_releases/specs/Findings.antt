@@ -11,7 +11,8 @@ use Rattle.plan.specs.declared.findings.Rule.TheVariants.{No1, No2, No3, No4, No
 use Rattle.plan.specs.declared.findings.Finding.{Finding}
 use Rattle.call_json.specs.Canonical.{text_data, list_data}
 use Rattle.call_json.specs.Fields.{each_read}
-use Rattle.kept_releases.specs.Numbers.{number_in, leg_of, cut}
+use Rattle.desk_time.specs.Numbers.{number_in}
+use Rattle.kept_releases.specs.Cuts.{leg_of, cut}
 
 abbrev pub every_rule : List Rule
 every_rule = No1 ∷ No2 ∷ No3 ∷ No4 ∷ No5 ∷ No6 ∷ No7 ∷ No8 ∷ No9 ∷ No10 ∷ No11 ∷ No12 ∷ No13 ∷ No14 ∷ No15 ∷ No16 ∷ No17 ∷ No18 ∷ No19 ∷ []

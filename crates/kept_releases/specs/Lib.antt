@@ -1,4 +1,4 @@
-pub mod Numbers
+pub mod Cuts
 pub mod Phases
 pub mod Findings
 pub mod Rows

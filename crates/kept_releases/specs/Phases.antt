@@ -7,7 +7,7 @@ use Rattle.plan.specs.Texts.{IsMoment}
 use Rattle.plan.specs.declared.release.Phase.{Phase}
 use Rattle.plan.specs.declared.release.Phase.TheVariants.{Drafted, Ready, Flying, Stopped, Completed, Cancelled}
 use Rattle.call_json.specs.Forms.{IsAmount}
-use Rattle.kept_releases.specs.Numbers.{leg_of, cut}
+use Rattle.kept_releases.specs.Cuts.{leg_of, cut}
 
 abbrev pub ready_of : List ℕ → Option Phase
 ready_of rest = if bytes_eq rest (codes "1") then Some Ready else None

@@ -6,9 +6,10 @@ ghost use Rattle.call_json.specs.Fields.{each_read};
 ghost use Rattle.call_json.specs.Forms.{IsFinding, IsSaidFinding};
 ghost use Rattle.kept_releases.specs.Findings as spec;
 
-use crate::numbers::{cut, leg_of, read_number};
+use crate::cuts::{cut, leg_of};
 use call_json::text_value;
 use desk_io::OutOfMemory;
+use desk_time::read_number;
 use plan::{Finding, Findings, Rule, finding_text, is_before};
 use serde_json::Value;
 use std::alloc::Global;

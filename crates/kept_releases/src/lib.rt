@@ -1,16 +1,15 @@
 //! Releases and findings as they are kept: JSON, both ways, and which are valid.
 #![tactic(auto)]
 
+mod cuts;
 mod findings;
 mod kept;
-mod numbers;
 mod phases;
 mod releases;
 mod revisions;
 mod rows;
 
 pub use findings::{findings_value, read_finding, read_findings, read_said_finding};
-pub use numbers::read_number;
 pub use phases::read_phase;
 pub use releases::read_release;
 pub use rows::release_value;

@@ -2,7 +2,7 @@ ghost use Rattle.std.specs.Prelude.{◌≡◌, ◌↔◌, Some};
 ghost use Rattle.plan.specs.Texts.{phase_text};
 ghost use Rattle.kept_releases.specs.Phases as spec;
 
-use crate::numbers::{cut, leg_of};
+use crate::cuts::{cut, leg_of};
 use desk_time::read_minute;
 use plan::Phase;
 
