@@ -100,8 +100,7 @@ pub(crate) fn defer(
     found_later(content, found)?;
     deferrals_full(content)?;
     let deferral = new_deferral(alloc, content, tail, item, found)?;
-    Ok(Decision::Do(
-        Reply::Done(Done::Deferral(content.counters.next_deferral)),
+    Ok(Decision::Do(Done::Deferral(content.counters.next_deferral),
         Effect::defer(deferral),
     ))
 }
@@ -112,8 +111,7 @@ pub(crate) fn clear(content: &Content, deferral: u64) -> Result<Decision, Stop>
     ensures read { IfOk result DecisionAdmitsRead }
 {
     not_open(content, deferral)?;
-    Ok(Decision::Do(
-        Reply::Done(Done::Deferral(deferral)),
+    Ok(Decision::Do(Done::Deferral(deferral),
         Effect::clear(deferral),
     ))
 }
