@@ -50,7 +50,5 @@ pub(crate) fn acknowledge(
     let alert = alert_of(content, release.id)?;
     not_yours(alloc, &release.holder, actor)?;
     moved(alert, version)?;
-    Ok(Decision::Do(Done::Release(release.id),
-        Effect::acknowledge(release.id),
-    ))
+    Ok(Decision::Do(Done::Release(release.id), Effect::acknowledge(release.id)))
 }

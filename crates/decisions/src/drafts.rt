@@ -154,7 +154,8 @@ pub(crate) fn draft(
     releases_full(content)?;
     let id = content.counters.next_release;
     let release = drafted(alloc, id, actor, plan)?;
-    Ok(Decision::Do(Done::Filed {
+    Ok(Decision::Do(
+        Done::Filed {
             release: id,
             revision: 1,
         },

@@ -100,7 +100,8 @@ pub(crate) fn defer(
     found_later(content, found)?;
     deferrals_full(content)?;
     let deferral = new_deferral(alloc, content, tail, item, found)?;
-    Ok(Decision::Do(Done::Deferral(content.counters.next_deferral),
+    Ok(Decision::Do(
+        Done::Deferral(content.counters.next_deferral),
         Effect::defer(deferral),
     ))
 }
@@ -111,9 +112,7 @@ pub(crate) fn clear(content: &Content, deferral: u64) -> Result<Decision, Stop>
     ensures read { IfOk result DecisionAdmitsRead }
 {
     not_open(content, deferral)?;
-    Ok(Decision::Do(Done::Deferral(deferral),
-        Effect::clear(deferral),
-    ))
+    Ok(Decision::Do(Done::Deferral(deferral), Effect::clear(deferral)))
 }
 
 /// The open deferrals of an aircraft.

@@ -58,7 +58,5 @@ pub(crate) fn purge(content: &Content, id: u64) -> Result<Decision, Stop>
     let release = held(content, id)?;
     let at = ended(release.phase)?;
     too_young(content, kept_until(at))?;
-    Ok(Decision::Do(Done::Release(release.id),
-        Effect::remove(release.id),
-    ))
+    Ok(Decision::Do(Done::Release(release.id), Effect::remove(release.id)))
 }

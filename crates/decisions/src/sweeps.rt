@@ -133,7 +133,8 @@ pub(crate) fn sweep(alloc: Global, content: &Content, before: Minute) -> Result<
     let reports = leaving.as_slice().len() as u64;
     let kept = count_before(before, &content.kept);
     let floors = raised(alloc, before, content)?;
-    Ok(Decision::Do(Done::Swept { reports, kept },
+    Ok(Decision::Do(
+        Done::Swept { reports, kept },
         Effect::sweep(before, attached, floors),
     ))
 }
