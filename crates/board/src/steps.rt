@@ -8,7 +8,7 @@ ghost use Rattle.desk_state.specs.Step as step;
 ghost use Rattle.desk_state.specs.Step.{do_call, answer_call, tick_to};
 ghost use Rattle.desk_state.specs.Sound.{Sound, InBounds, EffectFits};
 ghost use Rattle.plan.specs.Texts.{IsMoment};
-ghost use Rattle.asks.specs.Forms.{IsCall};
+ghost use Rattle.call_json.specs.Forms.{CallHasForms};
 ghost use Rattle.board.specs.Room.{HasRoom, MayBeMade};
 ghost use Rattle.kept_state.specs.Changes as kept_rows;
 ghost use Rattle.desk_state.specs.State.{State};
@@ -84,6 +84,7 @@ fn moment_after(content: &Content, effect: &Effect) -> Minute
     }
 }
 
+#[tactic(auto, using(call_json::proofs::AskForms::call_from_forms))]
 fn kept_reply(
     alloc: Global,
     content: &Content,
@@ -91,7 +92,7 @@ fn kept_reply(
     call: &Call,
     done: Done,
 ) -> Result<KeptReply, OutOfMemory>
-    requires { IsCall call.now.ask }
+    requires { CallHasForms call.now }
     ensures { IfOk result (λ k. k ≡ step.kept_reply (effected effect.now (state_of content.now)) (step.without_key call.now) done) }
 {
     Ok(KeptReply {
@@ -112,7 +113,7 @@ fn kept_of(
     call: &Call,
     reply: &Reply,
 ) -> Result<Option<KeptReply>, OutOfMemory>
-    requires { IsCall call.now.ask }
+    requires { CallHasForms call.now }
     ensures { IfOk result (λ k. k ≡ step.kept_of_call (effected effect.now (state_of content.now)) (step.without_key call.now) reply.now) }
 {
     match reply {
@@ -129,7 +130,7 @@ fn record_call(
     reply: &Reply,
     effect: &Effect,
 ) -> Result<Recorded, OutOfMemory>
-    requires { IsCall call.now.ask }
+    requires { CallHasForms call.now }
     ensures entered { IfOk result (λ r. r.entered ≡ step.entry lane (What.Asked (step.without_key call.now) reply.now)) }
     ensures kept { IfOk result (λ r. r.kept ≡ step.kept_of (effected effect.now (state_of content.now)) (What.Asked (step.without_key call.now) reply.now)) }
 {
@@ -303,7 +304,7 @@ fn prepare_accepted<L: Ledger>(
     requires sound { Sound (state_of content.old) }
     requires kept { InBounds (state_of content.old) }
     requires fits { EffectFits (state_of content.old) effect }
-    requires call { IsCall call.now.ask }
+    requires call { CallHasForms call.now }
     requires may { MayBeMade (state_of content.old) effect }
     ensures same { state_of content.new ≡ state_of content.old }
     ensures stepped { IfOk result (λ p. IsStepped (state_of content.old) p (step.accepted (state_of content.old) lane call.now reply effect)) }
@@ -335,7 +336,7 @@ fn prepare_entered<L: Ledger>(
     requires sound { Sound (state_of content.old) }
     requires kept { InBounds (state_of content.old) }
     requires fits { EffectFits (state_of content.old) effect }
-    requires call { IsCall call.now.ask }
+    requires call { CallHasForms call.now }
     requires may { MayBeMade (state_of content.old) effect }
     ensures same { state_of content.new ≡ state_of content.old }
     ensures stepped { IfOk result (λ p. IsStepped (state_of content.old) p (step.enter (is_full_for (state_of content.old) call.now.ask) (state_of content.old) lane call.now reply effect)) }
@@ -360,7 +361,7 @@ fn prepare_call<L: Ledger>(
 ) -> Result<Prepared, OutOfMemory>
     requires sound { Sound (state_of content.old) }
     requires kept { InBounds (state_of content.old) }
-    requires call { IsCall call.now.ask }
+    requires call { CallHasForms call.now }
     ensures same { state_of content.new ≡ state_of content.old }
     ensures stepped { IfOk result (λ p. IsStepped (state_of content.old) p (do_call (state_of content.old) lane call.now)) }
     ensures may { IfOk result (λ p. MayInstall content.new p.event) }
@@ -387,7 +388,7 @@ pub fn prepare_answer<L: Ledger>(
 ) -> Result<Prepared, OutOfMemory>
     requires sound { Sound (state_of content.old) }
     requires kept { InBounds (state_of content.old) }
-    requires call { IsCall call.now.ask }
+    requires call { CallHasForms call.now }
     ensures same { state_of content.new ≡ state_of content.old }
     ensures stepped { IfOk result (λ p. IsStepped (state_of content.old) p (answer_call (state_of content.old) lane call.now)) }
     ensures may { IfOk result (λ p. MayInstall content.new p.event) }
