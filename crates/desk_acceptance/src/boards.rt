@@ -1,5 +1,5 @@
 ghost use Rattle.std.specs.Prelude.{◌≡◌, ◌<◌, ◌≤◌, IfOk, IfSome};
-ghost use Rattle.asks.specs.Forms.{IsCall};
+ghost use Rattle.call_json.specs.Forms.{CallHasForms};
 
 use crate::texts::{AFTERNOON, CANCELLATION, STOPPED, WATCHED};
 use alerts::{Notice, NoticeKind, Notices};
@@ -44,7 +44,7 @@ fn make<L: Ledger>(
     told: &mut Vec<u8>,
 ) -> Result<(), OutOfMemory>
     requires within { at ≤ LAST }
-    requires form { IsCall call.now.ask }
+    requires forms { CallHasForms call.now }
 {
     let before = told.len();
     if board.now() < at {
@@ -62,7 +62,7 @@ fn make<L: Ledger>(
 // The moment and the call of a line, if it is one.
 fn call_in(alloc: Global, line: &[u8]) -> Result<Option<(Minute, Call)>, OutOfMemory>
     ensures within { IfOk result (λ o. IfSome o (λ p. p.0 ≤ LAST)) }
-    ensures form { IfOk result (λ o. IfSome o (λ p. IsCall p.1.ask)) }
+    ensures forms { IfOk result (λ o. IfSome o (λ p. CallHasForms p.1)) }
 {
     match read_line(alloc, line) {
         Ok((at, call)) => Ok(Some((at, call))),
