@@ -4,6 +4,7 @@ ghost use Rattle.serde_json.specs.View.{view, members_view};
 ghost use Rattle.call_json.specs.Canonical as spec;
 ghost use Rattle.call_json.specs.Dones as dones;
 ghost use Rattle.call_json.specs.Dones.{done_of, said_done_of, done_within};
+ghost use Rattle.call_json.specs.Forms.{DoneHasForms, DoneWithin, SaidDoneHasForms};
 
 use crate::digests::{digest_at, with_digest};
 use crate::fields::{has_members, number_at};
@@ -145,7 +146,7 @@ fn done_in(ids: u64, counts: u64, value: &Value) -> Option<Done>
 
 fn done_within(ids: u64, counts: u64, value: &Value) -> Option<Done>
     ensures value { result ≡ done_within ids counts (view value.now) }
-    ensures form { IfSome result (spec.DoneWithin ids counts) }
+    ensures form { IfSome result (DoneWithin ids counts) }
 {
     done_in(ids, counts, value)
 }
@@ -155,7 +156,7 @@ fn done_within(ids: u64, counts: u64, value: &Value) -> Option<Done>
 /// capital letter.
 pub fn read_done(value: &Value) -> Option<Done>
     ensures value { result ≡ done_of (view value.now) }
-    ensures form { IfSome result spec.DoneHasForms }
+    ensures form { IfSome result DoneHasForms }
 {
     done_within(1_000_000_000_000_000, 4_294_967_295, value)
 }
@@ -163,7 +164,7 @@ pub fn read_done(value: &Value) -> Option<Done>
 /// What was done, as a reply says it: the same, but each number as far as its 64 bits go.
 pub fn read_said_done(value: &Value) -> Option<Done>
     ensures value { result ≡ said_done_of (view value.now) }
-    ensures form { IfSome result spec.SaidDoneHasForms }
+    ensures form { IfSome result SaidDoneHasForms }
 {
     done_within(u64::MAX, u64::MAX, value)
 }
