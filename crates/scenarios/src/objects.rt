@@ -5,7 +5,7 @@ ghost use Rattle.desk_net.specs.Clocks.{IsMoment};
 use crate::fails::{fail_at, failing, is_load, numbers_in};
 use crate::fault::CaseFault;
 use crate::members::{check_keys, items_of};
-use crate::outside::{CaseClock, CaseKeeper};
+use crate::outside::{CaseClock, CaseDoor, CaseKeeper};
 use crate::play::Play;
 use crate::texts::text_of;
 use desk_io::{MemorySink, Row, Shelf};
@@ -129,12 +129,12 @@ fn links_in<'a, F: Shelf>(
 }
 
 /// The door of a play.
-pub fn door_of<'a, F: Shelf>(play: &Play<'a>, files: &mut F) -> Result<MemoryDoor, CaseFault<'a>> {
+pub fn door_of<'a, F: Shelf>(play: &Play<'a>, files: &mut F) -> Result<CaseDoor, CaseFault<'a>> {
     let listed = match play.part("links") {
         None => &[],
         Some(listed) => items_of(listed, "links")?,
     };
     let fail = failing(play, "door")?;
     let links = links_in(play, files, listed, fail_at(play, "links")?)?;
-    Ok(MemoryDoor::new(play.alloc, links, fail))
+    Ok(CaseDoor::new(MemoryDoor::new(play.alloc, links, fail)))
 }
