@@ -54,7 +54,7 @@ fn misses(window: Cond, floor: Option<Pair>) -> bool
 {
     match floor {
         None => true,
-        Some(floor) => !floor.is_met(window),
+        Some(floor) => !window.is_at_least(floor),
     }
 }
 
@@ -68,7 +68,7 @@ pub fn needs_destination(leg: &Leg, kind: Kind, window: Cond, floor: Option<Pair
     ensures { result ≡ spec.needs_destination leg.now kind window floor }
 {
     match kind {
-        Kind::Domestic => !DOMESTIC_FLOOR.is_met(window),
+        Kind::Domestic => !window.is_at_least(DOMESTIC_FLOOR),
         Kind::Flag => leg.eta.saturating_sub(leg.etd) > LONGEST_WITHOUT || misses(window, floor),
     }
 }
