@@ -1,5 +1,5 @@
 -- Numbers in decimal are read as they are written, and a text is cut at its first sign.
-use Rattle.std.proofs.Common.{◌≡◌, ◌↔◌, ℕ, suc, ◌+◌, ◌*◌, ◌-◌, ◌^◌, ◌<◌, ◌≤◌, Bool, true, false, not, ◌&&◌, ◌||◌, ◌==◌, inl, inr, if◌then◌else◌, List, [], ◌∷◌, ◌++◌, length, take, drop, get_or, Option, None, Some, IfSome, decimal, refl, sym, ap, ◌∙◌, rules, arith, length-append, add-one, eq-eqb, ne_eqb, le-leb, lt-ltb}
+use Rattle.std.proofs.Common.{◌≡◌, ◌↔◌, ℕ, suc, ◌+◌, ◌*◌, ◌-◌, ◌^◌, ◌<◌, ◌≤◌, Bool, true, false, not, ◌&&◌, ◌||◌, ◌==◌, inl, inr, List, [], ◌∷◌, ◌++◌, length, take, drop, get_or, Option, None, Some, IfSome, decimal, refl, sym, ap, ◌∙◌, rules, arith, length-append, add-one, eq-eqb, ne_eqb, le-leb, lt-ltb}
 use Rattle.std.specs.Prelude.{nat_le}
 use Rattle.std.specs.List.{list_all, position, position_or_len}
 use Rattle.std.proofs.lemmas.Bool.{and_parts, cases_eq, eqb-true, leb-true}
@@ -56,16 +56,11 @@ number_again limit n few small = rw (is_decimal-decimal n small, digits_value-de
 pub leg_again : (n : ℕ) → n ≤ 4_294_967_295 → leg_of (decimal n) ≡ Some n
 leg_again n few = number_again 4_294_967_295 n few (omega arith)
 
-chosen : (b : Bool) (limit n : ℕ) → (b && nat_le n limit) ≡ true → n ≤ limit
-chosen b limit n is = leb-true n limit ((and_parts b (nat_le n limit) is).1)
-
-within_if : (b : Bool) (limit n : ℕ) → (b ≡ true → n ≤ limit) → IfSome (if b then Some n else None) (λ k. k ≤ limit)
-within_if true limit n is = is refl
-within_if false limit n is = tt
-
 -- what is read is within the limit
 pub number_within : (limit : ℕ) (text : List ℕ) → IfSome (number_in limit text) (λ n. n ≤ limit)
-number_within limit text = within_if (is_decimal text && nat_le (digits_after 0 text) limit) limit (digits_after 0 text) (chosen (is_decimal text) limit (digits_after 0 text))
+number_within limit text =
+    under (is_decimal text && nat_le (digits_after 0 text) limit) (Some (digits_after 0 text)) (λ n. n ≤ limit)
+    (λ is. leb-true (digits_after 0 text) limit (and_parts (is_decimal text) (nat_le (digits_after 0 text) limit) is).1)
 
 alone : (d k : ℕ) → (not (d == 48) || (k == 0)) ≡ true → d ≡ 48 → suc k ≡ 1
 alone d k is zero = grind (arith, nat_tests, is, zero)

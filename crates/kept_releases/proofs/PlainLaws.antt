@@ -20,7 +20,7 @@ use Rattle.kept_releases.specs.Findings.{finding_data, findings_data}
 use Rattle.kept_releases.specs.Kept.{IsKept}
 use Rattle.kept_releases.specs.Rows.{attached_members, attached_data, signature_members, signature_data, revision_members, revision_data, release_members, release_data}
 
-id_plain : (n : ℕ) → IsId n → n < 2 ^ 64
+pub id_plain : (n : ℕ) → IsId n → n < 2 ^ 64
 id_plain n few = omega arith
 
 -- ---- numbers and keys

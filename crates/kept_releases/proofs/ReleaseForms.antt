@@ -33,14 +33,17 @@ use Rattle.call_json.proofs.PlanForms.{id_formed, moment_formed, each_formed, pl
 
 -- ---- fields
 
-digest_at_formed : (key : List ℕ) (d : Data) → IfSome (digest_at key d) IsDigest
+pub digest_at_formed : (key : List ℕ) (d : Data) → IfSome (digest_at key d) IsDigest
 digest_at_formed key d = then_if digest_of (text_at key d) IsDigest digest_formed
 
-abbrev IsPerson : List ℕ → Type 0
+abbrev pub IsPerson : List ℕ → Type 0
 IsPerson t = is_person t ≡ true
 
-person_formed : (key : List ℕ) (d : Data) → IfSome (person_at key d) IsPerson
-person_formed key d = then_if person (text_at key d) IsPerson (λ t. under (is_person t) (Some t) IsPerson (λ is. is))
+pub person_formed : (t : List ℕ) → IfSome (person t) IsPerson
+person_formed t = under (is_person t) (Some t) IsPerson (λ is. is)
+
+pub person_at_formed : (key : List ℕ) (d : Data) → IfSome (person_at key d) IsPerson
+person_at_formed key d = then_if person (text_at key d) IsPerson person_formed
 
 -- ---- revisions
 
@@ -57,7 +60,7 @@ all_formed d = bind_any (list_at (codes "attached") d) _ (AllByRecursion IsAttac
 
 signature_formed : (d : Data) → IfSome (signature_of d) IsSignature
 signature_formed d =
-    bind_if (person_at (codes "actor") d) _ IsPerson IsSignature (person_formed (codes "actor") d) (λ actor is_actor.
+    bind_if (person_at (codes "actor") d) _ IsPerson IsSignature (person_at_formed (codes "actor") d) (λ actor is_actor.
     bind_if (moment_at (codes "at") d) _ IsMoment IsSignature (moment_formed (codes "at") d) (λ at is_at.
     bind_if (digest_at (codes "digest") d) _ IsDigest IsSignature (digest_at_formed (codes "digest") d) (λ digest is_digest.
     under (has_members 3 d) _ IsSignature (λ exact. record { actor = is_actor; at = is_at; digest = is_digest }))))
@@ -134,7 +137,7 @@ moment_of_phase (Cancelled at) is = is
 pub release_formed : (id : ℕ) (d : Data) → IfSome (release_in id d) IsFormed
 unfolding release_in
 release_formed id d =
-    bind_if (person_at (codes "holder") d) _ IsPerson IsFormed (person_formed (codes "holder") d) (λ holder is_holder.
+    bind_if (person_at (codes "holder") d) _ IsPerson IsFormed (person_at_formed (codes "holder") d) (λ holder is_holder.
     bind_if (phase_at d) _ IsPhase IsFormed (phase_at_formed d) (λ phase is_phase.
     bind_if (revisions_of d) _ AreRevisions IsFormed (revisions_formed d) (λ v are.
     under (has_members 4 d) _ IsFormed (λ exact. record { holder = is_holder; moment = moment_of_phase phase is_phase; pending = are.later; active = are.earlier }))))

@@ -35,11 +35,11 @@ use Rattle.kept_releases.proofs.PhaseLaws.{phase_again}
 ascii : (b : ℕ) → in_person b ≡ true → nat_lt b 128 ≡ true
 ascii b is = grind (arith, nat_tests, is)
 
-person_utf8 : (t : List ℕ) → is_person t ≡ true → IsUtf8 t
+pub person_utf8 : (t : List ℕ) → is_person t ≡ true → IsUtf8 t
 unfolding is_person
 person_utf8 t is = passing_utf8 in_person ascii t ((and_parts _ (list_all in_person t) is).1)
 
-person_again : (t : List ℕ) → is_person t ≡ true → person (utf8_lossy t) ≡ Some t
+pub person_again : (t : List ℕ) → is_person t ≡ true → person (utf8_lossy t) ≡ Some t
 person_again t is = rw (utf8_lossy-IsUtf8 t (person_utf8 t is), is) refl
 
 decimal_utf8 : (n : ℕ) → n ≤ 4_294_967_295 → IsUtf8 (decimal n)

@@ -3,6 +3,7 @@ ghost use Rattle.plan.specs.Findings.{AreInOrder};
 ghost use Rattle.serde_json.specs.View.{view, items_view};
 ghost use Rattle.plan.specs.Texts.{finding_text};
 ghost use Rattle.call_json.specs.Fields.{each_read};
+ghost use Rattle.call_json.specs.Forms.{IsFinding, IsSaidFinding};
 ghost use Rattle.kept_releases.specs.Findings as spec;
 
 use crate::numbers::{cut, leg_of, read_number};
@@ -79,7 +80,7 @@ fn finding_within(places: u64, text: &[u8]) -> Option<Finding>
 /// The finding whose text this is, as it is kept: a leg is at most 4,294,967,295, a place at most 10^15.
 pub fn read_finding(text: &[u8]) -> Option<Finding>
     ensures value { result ≡ spec.finding_of text.now }
-    ensures exact { (f : Finding) → (result ≡ Some f) ↔ (spec.IsFinding f × (text.now ≡ finding_text f)) }
+    ensures exact { (f : Finding) → (result ≡ Some f) ↔ (IsFinding f × (text.now ≡ finding_text f)) }
 {
     finding_within(1_000_000_000_000_000, text)
 }
@@ -87,7 +88,7 @@ pub fn read_finding(text: &[u8]) -> Option<Finding>
 /// The finding whose text this is, as a reply says it: a place is a number of 64 bits.
 pub fn read_said_finding(text: &[u8]) -> Option<Finding>
     ensures value { result ≡ spec.said_finding_of text.now }
-    ensures exact { (f : Finding) → (result ≡ Some f) ↔ (spec.IsSaidFinding f × (text.now ≡ finding_text f)) }
+    ensures exact { (f : Finding) → (result ≡ Some f) ↔ (IsSaidFinding f × (text.now ≡ finding_text f)) }
 {
     finding_within(u64::MAX, text)
 }

@@ -90,7 +90,7 @@ alert_by events a (Some r) is =
 alert_is : (releases : List ReleaseOf) (events : ℕ) (a : KeptAlert) → IsOpen events a → IfSome (alert_of releases a) (IsAlert events)
 alert_is releases events a is = alert_by events a (release_at a.release releases) is
 
-abbrev Rises : AlertOf → AlertOf → Type 0
+abbrev pub Rises : AlertOf → AlertOf → Type 0
 Rises a b = a.release < b.release
 
 rises_by : (a b : KeptAlert) (o p : Option ReleaseOf) → a.release < b.release → IfSome (option_map (λ r. alert_with a r.holder) o) (λ x. IfSome (option_map (λ r. alert_with b r.holder) p) (Rises x))
@@ -184,9 +184,13 @@ taken_above : (low : ℕ) (rs : List ReleaseOf) (next id : ℕ) → Rise low rs 
 taken_above low [] next id rise taken = absurd (cc)
 taken_above low (r ∷ rs) next id rise taken = above_by id low r (eqb r.id id) (list_any (λ q. q.id == id) rs) refl rise.0 (taken_above (r.id + 1) rs next id rise.1) taken
 
-pub rise_above : (id low : ℕ) (rs : List ReleaseOf) (next : ℕ) → id < low → Rise low rs next → AllByRecursion (λ q. id < q.id) rs
+rise_above : (id low : ℕ) (rs : List ReleaseOf) (next : ℕ) → id < low → Rise low rs next → AllByRecursion (λ q. id < q.id) rs
 rise_above id low [] next less rise = tt
 rise_above id low (r ∷ rs) next less rise = let one = rise.0 in (omega (arith, one, less), rise_above id (r.id + 1) rs next (omega (arith, one, less)) rise.1)
+
+pub rise_pairs : (low : ℕ) (rs : List ReleaseOf) (next : ℕ) → Rise low rs next → Pairs Below rs
+rise_pairs low [] next rise = tt
+rise_pairs low (r ∷ rs) next rise = (rise_above r.id (r.id + 1) rs next (omega arith) rise.1, rise_pairs (r.id + 1) rs next rise.1)
 
 -- alerts of some releases, in order of these, are those that are found by them
 Own : List ReleaseOf → Type 0

@@ -1,4 +1,4 @@
--- The records of a state that has its forms are valid, fit together and rise.
+-- The records of a state of a board are valid, fit together and rise.
 use Rattle.std.proofs.Common.{◌≡◌, ℕ, ◌<◌, ◌≤◌, Bool, true, false, ◌||◌, cond, not, List, [], ◌∷◌, ◌++◌, length, Option, None, Some, Ok, refl, sym, ap, ◌∙◌, subst}
 use Rattle.std.specs.Prelude.{◌==◌}
 use Rattle.std.specs.List.{AllByRecursion, list_any}
@@ -11,8 +11,7 @@ use Rattle.deferrals.specs.declared.items.Deferral.{Deferral as DeferralOf}
 use Rattle.facts.specs.Reading.{IsRead}
 use Rattle.facts.specs.declared.report.Report.{Report as ReportOf}
 use Rattle.kept_state.specs.Rows.{alert_kept, meta_of, records_of, report_kept}
-use Rattle.desk_state.specs.Sound as machine
-use Rattle.desk_state.specs.Sound.{InBounds, IsBoard, IsNumbered, IsOpen, IsReplied, Sound}
+use Rattle.desk_state.specs.Sound.{InBounds, IsBoard, IsNumbered, IsOpen, IsReplied, MayStand, Sound}
 use Rattle.desk_state.specs.State.{State}
 use Rattle.plan.specs.declared.release.Release.{Release as ReleaseOf}
 use Rattle.records.specs.Faults.{fit, within_limits, have_releases, agree, are_counted, lacks_meta, place_of, first_after, pair_after, is_over, is_orphan, is_bad_pair, is_ahead, meta_from, beside, ahead_of, bad, pair, ◌>>◌}
@@ -87,15 +86,15 @@ all_kept s counts sound kept formed =
     let next = s.counters.next_release in
     let reports = both ReportHasForms (IsNumbered s.counters.next_report) s.reports formed.reports kept.reports in
     let deferrals = both DeferralHasForms (IsOpen s.counters.next_deferral) s.deferrals formed.deferrals kept.deferrals.each in
-    let valid = both (machine.IsValid s.counters.events) (λ r. r.id < next) s.releases sound.valid (ids_below 0 s.releases next sound.ids) in
-    let releases = both IsFormed (λ r. machine.IsValid s.counters.events r × (r.id < next)) s.releases formed.releases valid in
+    let valid = both (MayStand s.counters.events) (λ r. r.id < next) s.releases sound.valid (ids_below 0 s.releases next sound.ids) in
+    let releases = both IsFormed (λ r. MayStand s.counters.events r × (r.id < next)) s.releases formed.releases valid in
     let replies = both ReplyHasForms (IsReplied s.counters.next_kept) s.kept formed.kept kept.replies in
     let standing = both (IsAlert s.counters.events) (Stands s.releases next) s.alerts sound.alerts (all_stand s sound) in
     let alerts = both AlertHasForms (λ a. IsAlert s.counters.events a × Stands s.releases next a) s.alerts formed.alerts standing in
     all_records (IsKeptRecord s) s (kept_meta s counts formed.floors formed.rising)
     (weaker (λ r. ReportHasForms r × IsNumbered s.counters.next_report r) (λ r. IsKeptRecord s (Report (report_kept r))) (λ r is. kept_report s r counts is.0 is.1) s.reports reports)
     (weaker (λ d. DeferralHasForms d × IsOpen s.counters.next_deferral d) (λ d. IsKeptRecord s (Deferral d)) (λ d is. kept_deferral s d counts is.0 is.1) s.deferrals deferrals)
-    (weaker (λ r. IsFormed r × (machine.IsValid s.counters.events r × (r.id < next))) (λ r. IsKeptRecord s (Release r)) (λ r is. kept_release s r counts is.0 is.1.0 is.1.1) s.releases releases)
+    (weaker (λ r. IsFormed r × (MayStand s.counters.events r × (r.id < next))) (λ r. IsKeptRecord s (Release r)) (λ r is. kept_release s r counts is.0 is.1.0 is.1.1) s.releases releases)
     (weaker (λ k. ReplyHasForms k × IsReplied s.counters.next_kept k) (λ k. IsKeptRecord s (Kept k)) (λ k is. kept_reply s k counts is.0 is.1) s.kept replies)
     (weaker (λ a. AlertHasForms a × (IsAlert s.counters.events a × Stands s.releases next a)) (λ a. IsKeptRecord s (Alert (alert_kept a)))
     (λ a is. kept_alert s a counts is.0 is.1.0 is.1.1.below) s.alerts alerts)
@@ -134,7 +133,7 @@ records_are s counts sound kept formed few =
       order = all_rise rs (weaker_pairs Agree (λ a b. comes_before a b ≡ true) (λ a b is. is.0) rs two);
     }
 
--- The records of a state of a board that has its forms, and room for one more event, are those of a desk.
-pub records_formed : (opening s : State) → IsBoard opening s → AreFormed s → length s.kept ≤ 800_000 → s.counters.events < 999_999_999_999_999 → AreOfDesk (records_of s)
-records_formed opening s board formed few room =
-    records_are s (record { counters = board.kept.counters; moment = board.kept.moment; room = room }) board.sound board.kept formed few
+-- The records of a state of a board with room for one more event are those of a desk.
+pub records_formed : (opening s : State) → IsBoard opening s → length s.kept ≤ 800_000 → s.counters.events < 999_999_999_999_999 → AreOfDesk (records_of s)
+records_formed opening s board few room =
+    records_are s (record { counters = board.kept.counters; moment = board.kept.moment; room = room }) board.sound board.kept board.formed few

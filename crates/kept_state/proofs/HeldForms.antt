@@ -1,12 +1,12 @@
 -- The state that records stand for has its forms.
-use Rattle.std.proofs.Common.{◌≡◌, Option, None, Some, IfSome, Result, Ok, Err, IfOk, List, refl}
+use Rattle.std.proofs.Common.{◌≡◌, Option, None, Some, IfSome, Result, Ok, Err, List, refl}
 use Rattle.std.specs.List.{AllByRecursion, filter_map}
 use Rattle.std.specs.Option.{option_map}
 use Rattle.std.proofs.lemmas.List.Elements.{recursion_from_All}
 use Rattle.codes.specs.declared.fault.BadReport.{BadReport}
-use Rattle.facts.specs.Reading.{ReadHasMoments, read_of}
+use Rattle.facts.specs.Reading.{read_of}
 use Rattle.facts.specs.declared.report.Read.{Read}
-use Rattle.desk_state.specs.State.{release_at, start}
+use Rattle.desk_state.specs.State.{release_at}
 use Rattle.ops_tables.specs.Tables.{TableRows}
 use Rattle.plan.specs.declared.release.Release.{Release as ReleaseOf}
 use Rattle.records.specs.Valid.{IsKeptAlert, IsMeta, IsRecord, IsReport}
@@ -16,24 +16,15 @@ use Rattle.records.specs.declared.record.Meta.{Meta as MetaOf}
 use Rattle.records.specs.declared.record.Record.{Record}
 use Rattle.records.specs.declared.record.Record.TheVariants.{Meta, Report, Deferral, Release, Kept, Alert}
 use Rattle.call_json.specs.Forms.{IsFormed}
-use Rattle.kept_state.specs.Held.{AreOfDesk, alert_in, alert_of, alert_with, deferral_in, meta_in, release_in, reply_in, report_if, report_in, report_of, state_by, state_in, state_with}
+use Rattle.kept_state.specs.Held.{AreOfDesk, alert_in, alert_of, alert_with, deferral_in, meta_in, release_in, reply_in, report_if, report_in, report_of, state_with}
 use Rattle.kept_state.proofs.Fitting.{meta_among}
 use Rattle.kept_state.proofs.Lists.{each_mapped}
-use Rattle.desk_state.proofs.FormLaws.{start_formed}
-use Rattle.desk_state.proofs.ReportForms.{read_moments}
+use Rattle.kept_state.proofs.RestoringLaws.{report_valid}
+use Rattle.facts.proofs.ReadLaws.{read_moments}
 use Rattle.desk_state.specs.Formed.{AlertHasForms, AreFormed, DeferralHasForms, ReplyHasForms, ReportHasForms}
 use Rattle.ops_tables.specs.Named.{AreNamed}
 
 -- ---- reports
-
-report_valid : (x : Record) → IsRecord x → IfSome (report_in x) IsReport
-unfolding IsRecord
-report_valid (Report r) is = is
-report_valid (Meta m) is = tt
-report_valid (Deferral d) is = tt
-report_valid (Release r) is = tt
-report_valid (Kept k) is = tt
-report_valid (Alert a) is = tt
 
 report_by : (r : KeptReport) (o : Result Read BadReport) → read_of r.text r.received ≡ o → IsReport r → IfSome (report_if r o) ReportHasForms
 report_by r (Ok read) reading is = record {
@@ -104,7 +95,8 @@ meta_valid : (m : MetaOf) → IsRecord (Meta m) → IsMeta m
 unfolding IsRecord
 meta_valid m is = is
 
-counted_formed : (tables : TableRows) (rs : List Record) (m : MetaOf) → AreNamed tables → AreOfDesk rs → meta_in rs ≡ Some m → AreFormed (state_with tables m rs)
+-- what a meta record and those after it stand for has its forms
+pub counted_formed : (tables : TableRows) (rs : List Record) (m : MetaOf) → AreNamed tables → AreOfDesk rs → meta_in rs ≡ Some m → AreFormed (state_with tables m rs)
 counted_formed tables rs m names are is =
     let valid = recursion_from_All IsRecord rs are.valid in
     let meta = meta_valid m (meta_among rs m are is).valid in
@@ -118,12 +110,3 @@ counted_formed tables rs m names are is =
       floors = meta.floors;
       rising = meta.rising;
     }
-
-formed_by : (tables : TableRows) (rs : List Record) (o : Option MetaOf) → AreNamed tables → AreOfDesk rs → meta_in rs ≡ o → AreFormed (state_by tables o rs)
-formed_by tables rs None names are is = start_formed tables names
-formed_by tables rs (Some m) names are is = counted_formed tables rs m names are is
-
--- what valid records stand for has its forms, where the names of the tables have theirs
-pub state_formed : (tables : TableRows) (rs : List Record) → AreNamed tables → AreOfDesk rs → AreFormed (state_in tables rs)
-unfolding state_in
-state_formed tables rs names are = formed_by tables rs (meta_in rs) names are refl

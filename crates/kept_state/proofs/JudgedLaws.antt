@@ -1,5 +1,5 @@
 -- The changes of a judgement lead from the rows of a state to those of the judged one.
-use Rattle.std.proofs.Common.{◌≡◌, ℕ, ◌+◌, lit≤, List, [], ◌∷◌, ◌++◌, refl, ap, sym, ◌∙◌, subst}
+use Rattle.std.proofs.Common.{◌≡◌, ◌+◌, lit≤, List, [], ◌∷◌, refl, ap, sym, ◌∙◌, subst}
 use Rattle.std.specs.Prelude.{map, All}
 use Rattle.std.specs.List.{AllByRecursion}
 use Rattle.std.proofs.lemmas.List.Elements.{All-from_recursion}
@@ -15,7 +15,7 @@ use Rattle.desk_state.specs.State.{State}
 use Rattle.desk_state.proofs.Each.{each_weaker}
 use Rattle.records.specs.Bodies.{row_of}
 use Rattle.kept_state.specs.Rows.{state_rows}
-use Rattle.kept_state.specs.Changes.{put, alert_rows}
+use Rattle.kept_state.specs.Changes.{alert_rows}
 use Rattle.kept_state.specs.Judged.{after_event, judged_changes}
 use Rattle.kept_state.specs.Shown.{WasOpened}
 use Rattle.kept_state.proofs.Parts.{becomes, becomes_is, Leads, joined}

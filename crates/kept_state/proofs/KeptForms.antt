@@ -10,89 +10,23 @@ use Rattle.deferrals.specs.declared.items.Deferral.{Deferral as DeferralOf}
 use Rattle.facts.specs.Reading.{read_of}
 use Rattle.facts.specs.declared.report.Report.{Report as ReportOf}
 use Rattle.kept_state.specs.Rows.{alert_kept, meta_of, report_kept}
-use Rattle.desk_state.specs.Sound as machine
-use Rattle.desk_state.specs.Sound.{AreCounters, IsNumbered, IsOpen, IsReplied}
+use Rattle.desk_state.specs.Sound.{AreCounters, IsNumbered, IsOpen, IsReplied, MayStand}
 use Rattle.desk_state.specs.State.{State}
 use Rattle.plan.specs.Texts.{IsMoment}
-use Rattle.plan.specs.declared.release.Phase.{Phase}
-use Rattle.plan.specs.declared.release.Phase.TheVariants.{Drafted, Ready, Flying, Stopped, Completed, Cancelled}
 use Rattle.plan.specs.declared.release.Release.{Release as ReleaseOf}
 use Rattle.plan.specs.declared.release.Revision.{Revision}
-use Rattle.plan.specs.declared.release.Signature.{Signature}
 use Rattle.call_json.specs.Forms.{IsId, FloorsRise, IsFloor, IsFormed}
 use Rattle.records.specs.Faults.{is_ahead, is_late, outruns}
 use Rattle.records.specs.Valid.{IsMeta, IsRecord}
 use Rattle.records.specs.declared.record.Record.{Record}
 use Rattle.records.specs.declared.record.Record.TheVariants.{Meta, Report, Deferral, Release, Kept, Alert}
-use Rattle.release_text.specs.Valid.{AreNumbered, BearsBoth, HasLegs, IsNone, IsPhased, IsSigned, IsThere, IsValid, MaySigned, Waits}
 use Rattle.desk_state.specs.Formed.{AlertHasForms, DeferralHasForms, ReplyHasForms, ReportHasForms}
-
--- ---- a release that may stand is one that may be kept
-
-some_weaker : {A : Type 0} (P Q : A → Type 0) → ((x : A) → P x → Q x) → (o : Option A) → IfSome o P → IfSome o Q
-some_weaker P Q is None has = tt
-some_weaker P Q is (Some x) has = is x has
-
-there_is : (o : Option Revision) → machine.IsThere o → IsThere o
-there_is None is = absurd is
-there_is (Some v) is = tt
-
-none_is : (o : Option Revision) → machine.IsNone o → IsNone o
-none_is None is = tt
-none_is (Some v) is = absurd is
-
-phased_is : (phase : Phase) (pending active : Option Revision) → machine.IsPhased phase pending active → IsPhased phase pending active
-phased_is Drafted pending active is = (there_is pending is.0, none_is active is.1)
-phased_is Ready pending active is = there_is active is
-phased_is (Flying leg) pending active is = there_is active is
-phased_is (Stopped next since again) pending active is = there_is active is
-phased_is (Completed at) pending active is = none_is pending is
-phased_is (Cancelled at) pending active is = none_is pending is
-
-signed_is : (v : Revision) (o : Option Signature) → machine.IsSigned v o → IsSigned v o
-signed_is v None is = absurd is
-signed_is v (Some signature) is = is
-
-both_is : (v : Revision) → machine.BearsBoth v → BearsBoth v
-both_is v is = record { prepared = is.prepared; dispatcher = signed_is v v.dispatcher is.dispatcher; captain = signed_is v v.captain is.captain }
-
-may_is : (v : Revision) (o : Option Signature) → machine.MaySigned v o → MaySigned v o
-may_is v None is = tt
-may_is v (Some signature) is = is
-
-waits_is : (v : Revision) → machine.Waits v → Waits v
-waits_is v is = record { captain = is.captain; dispatcher = may_is v v.dispatcher is.dispatcher }
-
-legs_are : (phase : Phase) (v : Revision) → machine.HasLegs phase v → HasLegs phase v
-legs_are phase v is = record { some = is.some; fits = is.fits }
-
-numbered_is : (most : ℕ) (pending active : Option Revision) → machine.AreNumbered most pending active → AreNumbered pending active
-numbered_is most None None is = tt
-numbered_is most (Some v) None is = tt
-numbered_is most None (Some w) is = tt
-numbered_is most (Some v) (Some w) is = is.0
-
-valid_is : (most : ℕ) (r : ReleaseOf) → machine.IsValid most r → IsValid r
-valid_is most r is = record {
-  phased = phased_is r.phase r.pending r.active is.phased;
-  numbered = numbered_is most r.pending r.active is.numbered;
-  pending_legs = some_weaker (machine.HasLegs r.phase) (HasLegs r.phase) (legs_are r.phase) r.pending is.pending_legs;
-  active_legs = some_weaker (machine.HasLegs r.phase) (HasLegs r.phase) (legs_are r.phase) r.active is.active_legs;
-  both = some_weaker machine.BearsBoth BearsBoth both_is r.active is.both;
-  waits = some_weaker machine.Waits Waits waits_is r.pending is.waits;
-}
 
 -- ---- no revision is late
 
-pending_late : (most : ℕ) (pending active : Option Revision) → machine.AreNumbered most pending active → is_late most pending ≡ false
-pending_late most None active is = refl
-pending_late most (Some v) None is = le-ltb most v.number is
-pending_late most (Some v) (Some w) is = le-ltb most v.number is.1
-
-active_late : (most : ℕ) (pending active : Option Revision) → machine.AreNumbered most pending active → is_late most active ≡ false
-active_late most pending None is = refl
-active_late most None (Some w) is = le-ltb most w.number is
-active_late most (Some v) (Some w) is = let less = is.0 in let few = is.1 in le-ltb most w.number (omega (arith, less, few))
+not_late : (most : ℕ) (o : Option Revision) → IfSome o (λ v. v.number ≤ most) → is_late most o ≡ false
+not_late most None is = refl
+not_late most (Some v) is = le-ltb most v.number is
 
 -- ---- the counters
 
@@ -164,15 +98,15 @@ kept_deferral s d is formed open_now = record {
   ahead = lt-leb s.counters.next_deferral d.id open_now.0;
 }
 
-pub kept_release : (s : State) (r : ReleaseOf) → Counts s → IsFormed r → machine.IsValid s.counters.events r → r.id < s.counters.next_release → IsKeptRecord s (Release r)
+pub kept_release : (s : State) (r : ReleaseOf) → Counts s → IsFormed r → MayStand s.counters.events r → r.id < s.counters.next_release → IsKeptRecord s (Release r)
 unfolding IsRecord
-kept_release s r is formed valid below = record {
-  valid = (id_below s is s.counters.next_release r.id is.counters.release below, record { formed = formed; valid = valid_is s.counters.events r valid });
+kept_release s r is formed stands below = record {
+  valid = (id_below s is s.counters.next_release r.id is.counters.release below, record { formed = formed; valid = stands.valid });
   ahead =
       or_from (nat_le s.counters.next_release r.id || is_late s.counters.events r.pending) (is_late s.counters.events r.active)
       (or_from (nat_le s.counters.next_release r.id) (is_late s.counters.events r.pending) (lt-leb s.counters.next_release r.id below)
-      (pending_late s.counters.events r.pending r.active valid.numbered))
-      (active_late s.counters.events r.pending r.active valid.numbered);
+      (not_late s.counters.events r.pending stands.within.0))
+      (not_late s.counters.events r.active stands.within.1);
 }
 
 pub kept_reply : (s : State) (k : KeptReply) → Counts s → ReplyHasForms k → IsReplied s.counters.next_kept k → IsKeptRecord s (Kept k)

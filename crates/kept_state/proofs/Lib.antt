@@ -15,9 +15,11 @@ pub mod PartLaws
 pub mod ReleaseLaws
 pub mod AlertLaws
 pub mod Bisection
+pub mod RestoringLaws
+pub mod HeldForms
+pub mod ReopenedForms
 pub mod OpeningLaws
 pub mod StateLaws
-pub mod RestoringLaws
 pub mod RowLaws
 pub mod SavedLaws
 pub mod RecordLaws
@@ -26,6 +28,5 @@ pub mod KeptForms
 pub mod Together
 pub mod DeskRecords
 pub mod Again
-pub mod HeldForms
 pub mod SameRows
 pub mod Faultless

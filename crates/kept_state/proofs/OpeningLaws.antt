@@ -7,8 +7,7 @@ use Rattle.plan.specs.declared.release.Release.{Release}
 use Rattle.desk_state.specs.Effects.{nothing}
 use Rattle.desk_state.specs.Events.{alert_changes, put_changes}
 use Rattle.desk_state.specs.Legal.{IsHistory}
-use Rattle.desk_state.specs.Sound.{AreCounters, AreJudgeable, InBounds, IsBoard, Sound}
-use Rattle.release_text.specs.Valid.{IsValid}
+use Rattle.desk_state.specs.Sound.{AreCounters, AreJudgeable, InBounds, IsBoard, MayStand, Sound}
 use Rattle.desk_state.specs.State.{State, judged_all}
 use Rattle.desk_state.specs.declared.change.AlertChange.{AlertChange}
 use Rattle.desk_state.specs.declared.counters.Counters.{Counters}
@@ -17,6 +16,7 @@ use Rattle.desk_state.proofs.Judging.{all_own, are_alerted, are_alerts}
 use Rattle.desk_state.proofs.Parts.{more_valid}
 use Rattle.kept_state.specs.Opening.{MayReopen, counters_with, events_with, reopened}
 use Rattle.kept_state.proofs.Lists.{weaker}
+use Rattle.kept_state.proofs.ReopenedForms.{reopened_formed}
 
 -- the changes of the alerts lead to those of the judgement
 pub changes_lead : (s : State) → AreJudgeable s → put_changes (alert_changes nothing s) s.alerts ≡ judged_all s
@@ -32,9 +32,9 @@ counted (change ∷ changes) c are room = record {
   accepted = let n = are.accepted in omega (arith, n);
 }
 
-still_valid : (changes : List AlertChange) (events : ℕ) (rs : List Release) → AllByRecursion (IsValid events) rs → AllByRecursion (IsValid (events_with changes events)) rs
+still_valid : (changes : List AlertChange) (events : ℕ) (rs : List Release) → AllByRecursion (MayStand events) rs → AllByRecursion (MayStand (events_with changes events)) rs
 still_valid [] events rs all = all
-still_valid (change ∷ changes) events rs all = weaker (IsValid events) (IsValid (events + 1)) (λ r is. more_valid events r is) rs all
+still_valid (change ∷ changes) events rs all = weaker (MayStand events) (MayStand (events + 1)) (λ r is. more_valid events r is) rs all
 
 -- where no alert changes, they are those that were held
 judged_alerts : (changes : List AlertChange) (events : ℕ) (held judged : List Alert) → put_changes changes held ≡ judged → AllByRecursion (IsAlert events) held → AllByRecursion (IsAlert (events + 1)) judged
@@ -79,4 +79,4 @@ history s may = record { empty = may.fresh; legal = rw (may.fresh) refl }
 
 -- once a state is judged on opening, all holds of it that holds of a board
 pub reopened_board : (s : State) → MayReopen s → IsBoard (reopened s) (reopened s)
-reopened_board s may = record { tables = refl; history = history s may; sound = sound s may; kept = bounds s may }
+reopened_board s may = record { tables = refl; history = history s may; sound = sound s may; kept = bounds s may; formed = reopened_formed s may }

@@ -3,7 +3,8 @@ use Rattle.std.proofs.Common.{◌≡◌, ℕ, ◌+◌, ◌<◌, ◌≤◌, arith
 use Rattle.std.specs.Prelude.{◌==◌, nat_lt}
 use Rattle.std.specs.Str.{bytes_eq}
 use Rattle.std.specs.List.{AllByRecursion, AllPairs, filter_map, count_by}
-use Rattle.std.proofs.lemmas.Bool.{eqb-true, ltb-true, leb-false}
+use Rattle.std.proofs.lemmas.Bool.{eqb-true, ltb-true, leb-false, or_parts}
+use Rattle.std.proofs.lemmas.Bool.Decides.{Decides-like, same_from_decides}
 use Rattle.std.proofs.lemmas.List.Recursion.{is_count_by}
 use Rattle.std.proofs.lemmas.Slice.Eq.{bytes_eq-Decides}
 use Rattle.codes.specs.declared.fault.BadReport.{BadReport}
@@ -28,29 +29,16 @@ use Rattle.kept_state.proofs.Fitting.{Agree, IsAmong, all_agree, are_few, each_a
 
 -- ---- tests
 
-pub or_false : (a b : Bool) → (a || b) ≡ false → (a ≡ false) × (b ≡ false)
-or_false true b e = absurd (cc)
-or_false false b e = (refl, e)
-
-same_by : (s t : List ℕ) (b c : Bool) → bytes_eq s t ≡ b → bytes_eq t s ≡ c → b ≡ c
-same_by s t true true one two = refl
-same_by s t false false one two = refl
-same_by s t true false one two = absurd (let yes : bytes_eq t s ≡ true = (bytes_eq-Decides t s).1 (sym ((bytes_eq-Decides s t).0 one)) in cc)
-same_by s t false true one two = absurd (let yes : bytes_eq s t ≡ true = (bytes_eq-Decides s t).1 (sym ((bytes_eq-Decides t s).0 two)) in cc)
-
 same_bytes : (s t : List ℕ) → bytes_eq s t ≡ bytes_eq t s
-same_bytes s t = same_by s t (bytes_eq s t) (bytes_eq t s) refl refl
-
-number_by : (m n : ℕ) (b c : Bool) → eqb m n ≡ b → eqb n m ≡ c → b ≡ c
-number_by m n true true one two = refl
-number_by m n false false one two = refl
-number_by m n true false one two = absurd (let yes : eqb n m ≡ true = eq-eqb n m (sym (eqb-true m n one)) in cc)
-number_by m n false true one two = absurd (let yes : eqb m n ≡ true = eq-eqb m n (sym (eqb-true n m two)) in cc)
+same_bytes s t = same_from_decides (bytes_eq s t) (bytes_eq t s) (bytes_eq-Decides s t) (Decides-like (bytes_eq t s) (λ e. sym e) (λ e. sym e) (bytes_eq-Decides t s))
 
 same_number : (m n : ℕ) → eqb m n ≡ eqb n m
-same_number m n = number_by m n (eqb m n) (eqb n m) refl refl
+same_number m n = same_from_decides (eqb m n) (eqb n m) (eqb-true m n, eq-eqb m n) ((λ e. sym (eqb-true n m e)), (λ e. eq-eqb n m (sym e)))
 
-swapped : (a b : Bool) → (a && b) ≡ (b && a)
+pub turned : (s t : List ℕ) (m n : ℕ) → (bytes_eq t s && (n == m)) ≡ false → (bytes_eq s t && (m == n)) ≡ false
+turned s t m n other = ap (λ b. b && (m == n)) (same_bytes s t) ∙ ap (λ b. bytes_eq t s && b) (same_number m n) ∙ other
+
+pub swapped : (a b : Bool) → (a && b) ≡ (b && a)
 swapped true true = refl
 swapped true false = refl
 swapped false true = refl
@@ -116,7 +104,7 @@ AreApart a b = (a.id < b.id) × (is_same_report b a ≡ false)
 
 -- what holds of two of one kind that agree
 below_by : (a b : ℕ) (odds : Bool) → (nat_lt a b ≡ true) × (((b == a) || odds) ≡ false) → (a < b) × (odds ≡ false)
-below_by a b odds agree = (ltb-true a b agree.0, (or_false (b == a) odds agree.1).1)
+below_by a b odds agree = (ltb-true a b agree.0, (or_parts (b == a) odds agree.1).1)
 
 reports_apart : (x y : Record) → Agree x y → IfSome (report_in x) (λ a. IfSome (report_in y) (AreApart a))
 reports_apart (Report a) (Report b) agree = below_by a.id b.id (is_same_report b a) agree
@@ -142,15 +130,13 @@ again_numbered : (next : ℕ) (r : KeptReport) → IsKeptReport next r → IfSom
 unfolding report_of
 again_numbered next r is = again_below next r (read_of r.text r.received) is.below
 
-abbrev Unlike : ReportOf → ReportOf → Type 0
+-- ids rise, and no two reports are the same
+abbrev pub Unlike : ReportOf → ReportOf → Type 0
 Unlike a b = (a.id < b.id) × (is_same b.text (minute_of_report b) a ≡ false)
-
-same_turned : (s t : List ℕ) (m n : ℕ) → (bytes_eq t s && (n == m)) ≡ false → (bytes_eq s t && (m == n)) ≡ false
-same_turned s t m n other = ap (λ b. b && (m == n)) (same_bytes s t) ∙ ap (λ b. bytes_eq t s && b) (same_number m n) ∙ other
 
 again_unlike_by : (a b : KeptReport) (one two : Result Read BadReport) → (a.id < b.id) × ((bytes_eq b.text a.text && (minute_in two == minute_in one)) ≡ false)
     → IfSome (report_if a one) (λ x. IfSome (report_if b two) (Unlike x))
-again_unlike_by a b (Ok one) (Ok two) apart = (apart.0, same_turned a.text b.text (minute_in (Ok one)) (minute_in (Ok two)) apart.1)
+again_unlike_by a b (Ok one) (Ok two) apart = (apart.0, turned a.text b.text (minute_in (Ok one)) (minute_in (Ok two)) apart.1)
 again_unlike_by a b (Ok one) (Err bad) apart = tt
 again_unlike_by a b (Err bad) two apart = tt
 
@@ -233,11 +219,11 @@ reply_among rs m (Deferral d) is = tt
 reply_among rs m (Release r) is = tt
 reply_among rs m (Alert a) is = tt
 
-abbrev Other : KeptReply → KeptReply → Type 0
+abbrev pub Other : KeptReply → KeptReply → Type 0
 Other a b = (a.id < b.id) × (is_request b.actor b.number a ≡ false)
 
 request_turned : (s t : List ℕ) (m n : ℕ) → (bytes_eq t s && (n == m)) ≡ false → ((m == n) && bytes_eq s t) ≡ false
-request_turned s t m n other = swapped (m == n) (bytes_eq s t) ∙ same_turned s t m n other
+request_turned s t m n other = swapped (m == n) (bytes_eq s t) ∙ turned s t m n other
 
 replies_apart : (x y : Record) → Agree x y → IfSome (reply_in x) (λ a. IfSome (reply_in y) (Other a))
 replies_apart (Kept a) (Kept b) agree = let both = below_by a.id b.id (is_same_request b a) agree in (both.0, request_turned a.actor b.actor a.number b.number both.1)

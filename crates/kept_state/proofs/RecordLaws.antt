@@ -1,9 +1,9 @@
 -- Records in order are the records of the state that they stand for.
-use Rattle.std.proofs.Common.{◌≡◌, ℕ, ◌+◌, ◌<◌, ◌≤◌, arith, Bool, true, false, not, ◌&&◌, ◌||◌, cond, eqb, List, [], ◌∷◌, ◌++◌, map, length, Option, None, Some, IfSome, Result, Ok, Err, refl, sym, ap, ◌∙◌}
-use Rattle.std.specs.Prelude.{◌==◌, nat_lt, is_some, IsOk}
+use Rattle.std.proofs.Common.{◌≡◌, ℕ, ◌+◌, ◌≤◌, arith, Bool, true, false, ◌&&◌, ◌||◌, cond, eqb, List, [], ◌∷◌, ◌++◌, map, length, Option, None, Some, IfSome, Result, Ok, Err, refl, sym, ap, ◌∙◌}
+use Rattle.std.specs.Prelude.{◌==◌, nat_lt, not-falseme, IsOk}
 use Rattle.std.specs.List.{AllByRecursion, filter_map, cons_option, list_any}
 use Rattle.std.specs.Option.{option_map}
-use Rattle.std.proofs.lemmas.Bool.{and_parts, eqb-true, ltb-true}
+use Rattle.std.proofs.lemmas.Bool.{and_parts, eqb-true, ltb-true, not-false}
 use Rattle.codes.specs.declared.fault.BadReport.{BadReport}
 use Rattle.asks.specs.declared.kept.KeptReply.{KeptReply}
 use Rattle.deferrals.specs.declared.items.Deferral.{Deferral as DeferralOf}
@@ -11,7 +11,7 @@ use Rattle.facts.specs.Reading.{read_of}
 use Rattle.facts.specs.declared.report.Read.{Read}
 use Rattle.plan.specs.declared.release.Release.{Release as ReleaseOf}
 use Rattle.desk_state.specs.State.{release_at}
-use Rattle.records.specs.Faults.{fit, has_meta, within_limits, have_releases, agree, are_counted, lacks_meta, meta_from, is_release_of, ◌>>◌}
+use Rattle.records.specs.Faults.{fit, agree, meta_from, is_release_of}
 use Rattle.records.specs.Kinds.{kind_of, key_of, is_kind}
 use Rattle.records.specs.declared.record.KeptAlert.{KeptAlert}
 use Rattle.records.specs.declared.record.KeptReport.{KeptReport}
@@ -19,11 +19,12 @@ use Rattle.records.specs.declared.record.Meta.{Meta as MetaOf}
 use Rattle.records.specs.declared.record.Record.{Record}
 use Rattle.records.specs.declared.record.Record.TheVariants.{Meta, Report, Deferral, Release, Kept, Alert}
 use Rattle.kept_state.specs.Held.{AreOfDesk, alert_in, alert_of, alert_with, deferral_in, meta_in, release_in, reply_in, report_if, report_in, report_of}
+use Rattle.kept_state.specs.Rows.{alert_kept, report_kept}
 use Rattle.kept_state.proofs.Lists.{Pairs, each_mapped, weaker}
 use Rattle.kept_state.proofs.Fitting.{Agree, IsAmong, all_agree, each_among, has_one}
 use Rattle.kept_state.proofs.PartLaws.{IsKeptReport, kept_reports, reports_in}
 use Rattle.kept_state.proofs.AlertLaws.{alerts_in}
-use Rattle.kept_state.proofs.SavedLaws.{kept_alert, kept_report, listed}
+use Rattle.kept_state.proofs.SavedLaws.{listed}
 
 -- ---- records in order, kind after kind
 
@@ -190,25 +191,25 @@ all_back : {A B : Type 0} (f : A → Option B) (g : B → A) (xs : List A) → A
 all_back f g [] all = refl
 all_back f g (x ∷ xs) all = back_by f g x xs (f x) all.0 (all_back f g xs all.1)
 
-read_back : (r : KeptReport) (o : Result Read BadReport) → IsOk o → option_map (λ x. kept_report x) (report_if r o) ≡ Some r
+read_back : (r : KeptReport) (o : Result Read BadReport) → IsOk o → option_map report_kept (report_if r o) ≡ Some r
 read_back r (Ok read) is = refl
 read_back r (Err bad) is = absurd (cc)
 
-report_back : (r : KeptReport) → IsOk (read_of r.text r.received) → option_map (λ x. kept_report x) (report_of r) ≡ Some r
+report_back : (r : KeptReport) → IsOk (read_of r.text r.received) → option_map report_kept (report_of r) ≡ Some r
 unfolding report_of
 report_back r is = read_back r (read_of r.text r.received) is
 
-reports_back : (rs : List Record) (m : MetaOf) → AreOfDesk rs → meta_in rs ≡ Some m → map (λ x. kept_report x) (reports_in rs) ≡ filter_map report_in rs
+reports_back : (rs : List Record) (m : MetaOf) → AreOfDesk rs → meta_in rs ≡ Some m → map report_kept (reports_in rs) ≡ filter_map report_in rs
 reports_back rs m are is =
-    all_back report_of (λ x. kept_report x) (filter_map report_in rs)
-    (weaker (IsKeptReport m.next_report) (λ r. option_map (λ x. kept_report x) (report_of r) ≡ Some r) (λ r kept. report_back r kept.valid.read) (filter_map report_in rs) (kept_reports rs m are is))
+    all_back report_of report_kept (filter_map report_in rs)
+    (weaker (IsKeptReport m.next_report) (λ r. option_map report_kept (report_of r) ≡ Some r) (λ r kept. report_back r kept.valid.read) (filter_map report_in rs) (kept_reports rs m are is))
 
 -- the release of an id is there
-there_by : (r : ReleaseOf) (later : Option ReleaseOf) (b any : Bool) → (b || any) ≡ true → (any ≡ true → is_some later ≡ true) → is_some (cond b (Some r) later) ≡ true
+there_by : (r : ReleaseOf) (later : Option ReleaseOf) (b any : Bool) → (b || any) ≡ true → (any ≡ true → not-falseme later ≡ true) → not-falseme (cond b (Some r) later) ≡ true
 there_by r later true any is rest = refl
 there_by r later false any is rest = rest is
 
-is_there : (id : ℕ) (rs : List Record) → list_any (is_release_of id) rs ≡ true → is_some (release_at id (filter_map release_in rs)) ≡ true
+is_there : (id : ℕ) (rs : List Record) → list_any (is_release_of id) rs ≡ true → not-falseme (release_at id (filter_map release_in rs)) ≡ true
 is_there id [] any = absurd (cc)
 is_there id (Release r ∷ rs) any = there_by r (release_at id (filter_map release_in rs)) (eqb r.id id) (list_any (is_release_of id) rs) any (is_there id rs)
 is_there id (Meta m ∷ rs) any = is_there id rs any
@@ -217,35 +218,31 @@ is_there id (Deferral d ∷ rs) any = is_there id rs any
 is_there id (Kept k ∷ rs) any = is_there id rs any
 is_there id (Alert a ∷ rs) any = is_there id rs any
 
-is_so : (b : Bool) → not b ≡ false → b ≡ true
-is_so true e = refl
-is_so false e = absurd (cc)
-
-alert_there : (rs : List Record) (m : MetaOf) (x : Record) → IsAmong rs m x → IfSome (alert_in x) (λ a. is_some (release_at a.release (filter_map release_in rs)) ≡ true)
-alert_there rs m (Alert a) is = is_there a.release rs (is_so (list_any (is_release_of a.release) rs) is.orphan)
+alert_there : (rs : List Record) (m : MetaOf) (x : Record) → IsAmong rs m x → IfSome (alert_in x) (λ a. not-falseme (release_at a.release (filter_map release_in rs)) ≡ true)
+alert_there rs m (Alert a) is = is_there a.release rs (not-false (list_any (is_release_of a.release) rs) is.orphan)
 alert_there rs m (Meta n) is = tt
 alert_there rs m (Report r) is = tt
 alert_there rs m (Deferral d) is = tt
 alert_there rs m (Release r) is = tt
 alert_there rs m (Kept k) is = tt
 
-alert_back : (a : KeptAlert) (o : Option ReleaseOf) → is_some o ≡ true → option_map (λ x. kept_alert x) (option_map (λ r. alert_with a r.holder) o) ≡ Some a
+alert_back : (a : KeptAlert) (o : Option ReleaseOf) → not-falseme o ≡ true → option_map alert_kept (option_map (λ r. alert_with a r.holder) o) ≡ Some a
 alert_back a None is = absurd (cc)
 alert_back a (Some r) is = refl
 
-alerts_back : (rs : List Record) (m : MetaOf) → AreOfDesk rs → meta_in rs ≡ Some m → map (λ x. kept_alert x) (alerts_in rs) ≡ filter_map alert_in rs
+alerts_back : (rs : List Record) (m : MetaOf) → AreOfDesk rs → meta_in rs ≡ Some m → map alert_kept (alerts_in rs) ≡ filter_map alert_in rs
 alerts_back rs m are is =
     let releases = filter_map release_in rs in
-    all_back (alert_of releases) (λ x. kept_alert x) (filter_map alert_in rs)
-    (weaker (λ a. is_some (release_at a.release releases) ≡ true) (λ a. option_map (λ x. kept_alert x) (alert_of releases a) ≡ Some a)
+    all_back (alert_of releases) alert_kept (filter_map alert_in rs)
+    (weaker (λ a. not-falseme (release_at a.release releases) ≡ true) (λ a. option_map alert_kept (alert_of releases a) ≡ Some a)
     (λ a there. alert_back a (release_at a.release releases) there) (filter_map alert_in rs)
-    (each_mapped (IsAmong rs m) (λ a. is_some (release_at a.release releases) ≡ true) alert_in (alert_there rs m) rs (each_among rs m are is)))
+    (each_mapped (IsAmong rs m) (λ a. not-falseme (release_at a.release releases) ≡ true) alert_in (alert_there rs m) rs (each_among rs m are is)))
 
 -- the records of the state that records stand for are these
 pub records_again : (rs : List Record) (m : MetaOf) → AreOfDesk rs → meta_in rs ≡ Some m
-    → listed m (map (λ x. kept_report x) (reports_in rs)) (filter_map deferral_in rs) (filter_map release_in rs) (filter_map reply_in rs) (map (λ x. kept_alert x) (alerts_in rs)) ≡ rs
+    → listed m (map report_kept (reports_in rs)) (filter_map deferral_in rs) (filter_map release_in rs) (filter_map reply_in rs) (map alert_kept (alerts_in rs)) ≡ rs
 records_again rs m are is =
-    ap (λ xs. listed m xs (filter_map deferral_in rs) (filter_map release_in rs) (filter_map reply_in rs) (map (λ x. kept_alert x) (alerts_in rs))) (reports_back rs m are is)
+    ap (λ xs. listed m xs (filter_map deferral_in rs) (filter_map release_in rs) (filter_map reply_in rs) (map alert_kept (alerts_in rs))) (reports_back rs m are is)
     ∙ ap (λ xs. listed m (filter_map report_in rs) (filter_map deferral_in rs) (filter_map release_in rs) (filter_map reply_in rs) xs) (alerts_back rs m are is)
     ∙ sym (meta_first rs m (all_agree rs are) is)
 
@@ -268,7 +265,6 @@ none_by : (r : Record) (rs : List Record) (b any : Bool) → (length (r ∷ rs) 
 none_by r rs true any is either not_any = absurd (let zero = eqb-true (length (r ∷ rs)) 0 is in omega (arith, zero))
 none_by r rs false any is either not_any = absurd (cc)
 
--- has_one (in Fitting): fit rs ≡ Ok tt → lacks_meta rs ≡ None, a field more of Passes
 pub no_records : (rs : List Record) → AreOfDesk rs → meta_in rs ≡ None → rs ≡ []
 no_records [] are none = refl
 no_records (r ∷ rs) are none =

@@ -75,7 +75,7 @@ all_kinds rs = all_joined rs no_kinds 0
 
 -- ---- records that can be held
 
-report_valid : (x : Record) → IsRecord x → IfSome (report_in x) IsReport
+pub report_valid : (x : Record) → IsRecord x → IfSome (report_in x) IsReport
 unfolding IsRecord
 report_valid (Report r) is = is
 report_valid (Meta m) is = tt

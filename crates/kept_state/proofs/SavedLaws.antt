@@ -1,5 +1,5 @@
 -- The records of a state stand for it.
-use Rattle.std.proofs.Common.{◌≡◌, ℕ, ◌+◌, arith, List, [], ◌∷◌, ◌++◌, append-nil, map, Option, None, Some, IfSome, Result, Ok, Err, refl, sym, ap, ◌∙◌, subst}
+use Rattle.std.proofs.Common.{◌≡◌, ℕ, ◌+◌, List, [], ◌∷◌, ◌++◌, append-nil, map, Option, None, Some, IfSome, Result, Ok, Err, refl, sym, ap, ◌∙◌, subst}
 use Rattle.std.specs.List.{AllByRecursion, filter_map, cons_option}
 use Rattle.std.proofs.lemmas.List.Elements.{filter_map-append}
 use Rattle.ops_tables.specs.Tables.{TableRows}
@@ -20,9 +20,9 @@ use Rattle.records.specs.declared.record.Meta.{Meta as MetaOf}
 use Rattle.records.specs.declared.record.Record.{Record}
 use Rattle.records.specs.declared.record.Record.TheVariants.{Meta, Report, Deferral, Release, Kept, Alert}
 use Rattle.kept_state.specs.Held.{alert_in, alert_of, alert_with, counters_of, deferral_in, release_in, reply_in, report_if, report_in, report_of, state_in}
-use Rattle.kept_state.proofs.Lists.{Pairs, both, each_mapped}
-use Rattle.kept_state.proofs.AlertLaws.{found_self, rise_above}
-use Rattle.kept_state.proofs.ReleaseLaws.{Below}
+use Rattle.kept_state.specs.Rows.{alert_kept, report_kept}
+use Rattle.kept_state.proofs.Lists.{both, each_mapped}
+use Rattle.kept_state.proofs.AlertLaws.{found_self, rise_pairs}
 
 -- ---- the kinds of a list that was made of them
 
@@ -95,26 +95,18 @@ module _ (m : MetaOf) (reports : List KeptReport) (deferrals : List DeferralOf) 
 
 -- ---- reports and alerts, as a state has them
 
--- what is kept of a report
-abbrev pub kept_report : ReportOf → KeptReport
-kept_report r = record { id = r.id; received = r.received; text = r.text }
-
-read_if : (r : ReportOf) (o : Result Read BadReport) → o ≡ Ok r.read → report_if (kept_report r) o ≡ Some r
+read_if : (r : ReportOf) (o : Result Read BadReport) → o ≡ Ok r.read → report_if (report_kept r) o ≡ Some r
 read_if r (Ok read) is = let same : read ≡ r.read = cc in ap (λ x. Some (record r { read = x })) same
 read_if r (Err bad) is = absurd (cc)
 
-read_again : (r : ReportOf) → IsRead r → report_of (kept_report r) ≡ Some r
+read_again : (r : ReportOf) → IsRead r → report_of (report_kept r) ≡ Some r
 unfolding report_of
 read_again r is = read_if r (read_of r.text r.received) is.reading
 
 -- reports that say what their texts say are read again as they were
-pub reports_again : (rs : List ReportOf) → AllByRecursion IsRead rs → filter_map report_of (map (λ r. kept_report r) rs) ≡ rs
+pub reports_again : (rs : List ReportOf) → AllByRecursion IsRead rs → filter_map report_of (map report_kept rs) ≡ rs
 reports_again [] all = refl
-reports_again (r ∷ rs) all = ap (λ o. cons_option o (filter_map report_of (map kept_report rs))) (read_again r all.0) ∙ ap (λ rest. r ∷ rest) (reports_again rs all.1)
-
--- what is kept of an alert
-abbrev pub kept_alert : AlertOf → KeptAlert
-kept_alert a = record { release = a.release; version = a.version; opened = a.opened; failing = a.failing; ever = a.ever; acknowledged = a.acknowledged }
+reports_again (r ∷ rs) all = ap (λ o. cons_option o (filter_map report_of (map report_kept rs))) (read_again r all.0) ∙ ap (λ rest. r ∷ rest) (reports_again rs all.1)
 
 -- a release that is held, to whose holder the alert is told
 record IsHolders (releases : List ReleaseOf) (a : AlertOf) : Type 0 where
@@ -122,26 +114,22 @@ record IsHolders (releases : List ReleaseOf) (a : AlertOf) : Type 0 where
   pub found : release_at a.release releases ≡ Some release
   pub told : a.desk ≡ release.holder
 
-told_again : (releases : List ReleaseOf) (a : AlertOf) → IsHolders releases a → alert_of releases (kept_alert a) ≡ Some a
-told_again releases a is = rw is.found (ap (λ desk. Some (alert_with (kept_alert a) desk)) (sym is.told))
+told_again : (releases : List ReleaseOf) (a : AlertOf) → IsHolders releases a → alert_of releases (alert_kept a) ≡ Some a
+told_again releases a is = rw is.found (ap (λ desk. Some (alert_with (alert_kept a) desk)) (sym is.told))
 
-all_told : (releases : List ReleaseOf) (alerts : List AlertOf) → AllByRecursion (IsHolders releases) alerts → filter_map (alert_of releases) (map kept_alert alerts) ≡ alerts
+all_told : (releases : List ReleaseOf) (alerts : List AlertOf) → AllByRecursion (IsHolders releases) alerts → filter_map (alert_of releases) (map alert_kept alerts) ≡ alerts
 all_told releases [] all = refl
-all_told releases (a ∷ rest) all = ap (λ o. cons_option o (filter_map (alert_of releases) (map kept_alert rest))) (told_again releases a all.0) ∙ ap (λ more. a ∷ more) (all_told releases rest all.1)
+all_told releases (a ∷ rest) all = ap (λ o. cons_option o (filter_map (alert_of releases) (map alert_kept rest))) (told_again releases a all.0) ∙ ap (λ more. a ∷ more) (all_told releases rest all.1)
 
 holders_by : (releases : List ReleaseOf) (r : ReleaseOf) (o : Option AlertOf) → release_at r.id releases ≡ Some r → IsToldTo r.holder o → IfSome o (IsOf r.id) → IfSome o (IsHolders releases)
 holders_by releases r None found told of = tt
 holders_by releases r (Some a) found told of = record { release = r; found = ap (λ id. release_at id releases) of ∙ found; told = told }
 
-pairs_of : (low : ℕ) (rs : List ReleaseOf) (next : ℕ) → Rise low rs next → Pairs Below rs
-pairs_of low [] next rise = tt
-pairs_of low (r ∷ rs) next rise = (rise_above r.id (r.id + 1) rs next (omega arith) rise.1, pairs_of (r.id + 1) rs next rise.1)
-
 -- alerts that are those of the releases, and are told to their holders, are told again as they were
 pub alerts_again : (alerts : List AlertOf) (releases : List ReleaseOf) (next : ℕ) → Rise 0 releases next → alerts ≡ filter_map (λ r. alert_at r.id alerts) releases
-    → AllByRecursion (λ r. IsToldTo r.holder (alert_at r.id alerts)) releases → filter_map (alert_of releases) (map (λ a. kept_alert a) alerts) ≡ alerts
+    → AllByRecursion (λ r. IsToldTo r.holder (alert_at r.id alerts)) releases → filter_map (alert_of releases) (map alert_kept alerts) ≡ alerts
 alerts_again alerts releases next rise own told =
-    let each = both (λ r. release_at r.id releases ≡ Some r) (λ r. IsToldTo r.holder (alert_at r.id alerts)) releases (found_self releases (pairs_of 0 releases next rise)) told in
+    let each = both (λ r. release_at r.id releases ≡ Some r) (λ r. IsToldTo r.holder (alert_at r.id alerts)) releases (found_self releases (rise_pairs 0 releases next rise)) told in
     let held = each_mapped (λ r. (release_at r.id releases ≡ Some r) × IsToldTo r.holder (alert_at r.id alerts)) (IsHolders releases) (λ r. alert_at r.id alerts)
     (λ r is. holders_by releases r (alert_at r.id alerts) is.0 is.1 (found_of r.id alerts)) releases each in
     all_told releases alerts (subst (λ (xs : List AlertOf). AllByRecursion (IsHolders releases) xs) (sym own) held)

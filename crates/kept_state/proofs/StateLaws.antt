@@ -1,7 +1,8 @@
 -- The state that records stand for may be judged and then stand as that of a board.
 use Rattle.std.proofs.Common.{◌≡◌, ◌+◌, ◌<◌, arith, false, ◌||◌, List, Option, None, Some, refl}
 use Rattle.std.specs.Prelude.{nat_lt}
-use Rattle.std.proofs.lemmas.Bool.{ltb-false, leb-false}
+use Rattle.std.proofs.lemmas.Bool.{ltb-false, leb-false, or_parts}
+use Rattle.ops_tables.specs.Named.{AreNamed}
 use Rattle.ops_tables.specs.Tables.{TableRows}
 use Rattle.plan.specs.Texts.{IsMoment}
 use Rattle.desk_state.specs.Sound.{AreCounters, AreJudgeable, InBounds, IsBoard}
@@ -16,9 +17,10 @@ use Rattle.records.specs.declared.record.Record.TheVariants.{Meta}
 use Rattle.kept_state.specs.Held.{AreOfDesk, counters_of, meta_in, state_by, state_in, state_with}
 use Rattle.kept_state.specs.Opening.{MayReopen, reopened}
 use Rattle.kept_state.proofs.Fitting.{HasRoom, IsAmong, meta_among}
-use Rattle.kept_state.proofs.PartLaws.{deferrals_open, or_false, replies_few, replies_numbered, replies_rise, replies_single, reports_few, reports_numbered, reports_rise, reports_unlike}
+use Rattle.kept_state.proofs.PartLaws.{deferrals_open, replies_few, replies_numbered, replies_rise, replies_single, reports_few, reports_numbered, reports_rise, reports_unlike}
 use Rattle.kept_state.proofs.ReleaseLaws.{releases_bounded, releases_few, releases_rise, releases_valid}
 use Rattle.kept_state.proofs.AlertLaws.{alerts_are, alerts_own, alerts_told}
+use Rattle.kept_state.proofs.HeldForms.{counted_formed}
 use Rattle.kept_state.proofs.OpeningLaws.{reopened_board}
 
 -- ---- the meta record
@@ -34,9 +36,9 @@ record Counts (m : MetaOf) : Type 0 where
 
 counters_are : (m : MetaOf) → m.events < 999_999_999_999_999 → outruns m ≡ false → AreCounters (counters_of m)
 counters_are m room within =
-    let kept = or_false (nat_lt (m.events + 1) m.next_report || nat_lt (m.events + 1) m.next_deferral || nat_lt (m.events + 1) m.next_release) (nat_lt (m.events + 1) m.next_kept) within in
-    let release = or_false (nat_lt (m.events + 1) m.next_report || nat_lt (m.events + 1) m.next_deferral) (nat_lt (m.events + 1) m.next_release) kept.0 in
-    let deferral = or_false (nat_lt (m.events + 1) m.next_report) (nat_lt (m.events + 1) m.next_deferral) release.0 in
+    let kept = or_parts (nat_lt (m.events + 1) m.next_report || nat_lt (m.events + 1) m.next_deferral || nat_lt (m.events + 1) m.next_release) (nat_lt (m.events + 1) m.next_kept) within in
+    let release = or_parts (nat_lt (m.events + 1) m.next_report || nat_lt (m.events + 1) m.next_deferral) (nat_lt (m.events + 1) m.next_release) kept.0 in
+    let deferral = or_parts (nat_lt (m.events + 1) m.next_report) (nat_lt (m.events + 1) m.next_deferral) release.0 in
     record {
       events = omega (arith, room);
       report = ltb-false (m.events + 1) m.next_report deferral.0;
@@ -71,8 +73,8 @@ bounds tables rs m are is counts = record {
 judged_by : (tables : TableRows) (rs : List Record) (m : MetaOf) → AreOfDesk rs → meta_in rs ≡ Some m → AreJudgeable (state_with tables m rs)
 judged_by tables rs m are is = record { own = alerts_own rs m are is; alerts = alerts_are rs m are is; ids = releases_rise rs m are is }
 
-counted_reopens : (tables : TableRows) (rs : List Record) (m : MetaOf) → AreOfDesk rs → meta_in rs ≡ Some m → MayReopen (state_with tables m rs)
-counted_reopens tables rs m are is =
+counted_reopens : (tables : TableRows) (rs : List Record) (m : MetaOf) → AreNamed tables → AreOfDesk rs → meta_in rs ≡ Some m → MayReopen (state_with tables m rs)
+counted_reopens tables rs m names are is =
     let counts = counts rs m (meta_among rs m are is) in
     record {
       bounds = bounds tables rs m are is counts;
@@ -82,13 +84,14 @@ counted_reopens tables rs m are is =
       unlike = reports_unlike rs are;
       single = replies_single rs are;
       room = counts.room;
+      formed = counted_formed tables rs m names are is;
       fresh = refl;
     }
 
 -- the beginning may be judged
-pub start_reopens : (tables : TableRows) → MayReopen (start tables)
-start_reopens tables =
-    let board = start_board tables in
+start_reopens : (tables : TableRows) → AreNamed tables → MayReopen (start tables)
+start_reopens tables names =
+    let board = start_board tables names in
     record {
       bounds = board.kept;
       judgeable = judgeable (start tables) board.sound;
@@ -97,21 +100,22 @@ start_reopens tables =
       unlike = board.sound.unlike;
       single = board.sound.single;
       room = omega arith;
+      formed = board.formed;
       fresh = refl;
     }
 
-reopens_by : (tables : TableRows) (rs : List Record) (o : Option MetaOf) → AreOfDesk rs → meta_in rs ≡ o → MayReopen (state_by tables o rs)
-reopens_by tables rs None are is = start_reopens tables
-reopens_by tables rs (Some m) are is = counted_reopens tables rs m are is
+reopens_by : (tables : TableRows) (rs : List Record) (o : Option MetaOf) → AreNamed tables → AreOfDesk rs → meta_in rs ≡ o → MayReopen (state_by tables o rs)
+reopens_by tables rs None names are is = start_reopens tables names
+reopens_by tables rs (Some m) names are is = counted_reopens tables rs m names are is
 
 -- the state that records stand for, where these are valid, fit together and rise
-pub may_reopen : (tables : TableRows) (rs : List Record) → AreOfDesk rs → MayReopen (state_in tables rs)
+pub may_reopen : (tables : TableRows) (rs : List Record) → AreNamed tables → AreOfDesk rs → MayReopen (state_in tables rs)
 unfolding state_in
-may_reopen tables rs are = reopens_by tables rs (meta_in rs) are refl
+may_reopen tables rs names are = reopens_by tables rs (meta_in rs) names are refl
 
 -- once it is judged it is that of a board
-pub held_board : (tables : TableRows) (rs : List Record) → AreOfDesk rs → IsBoard (reopened (state_in tables rs)) (reopened (state_in tables rs))
-held_board tables rs are = reopened_board (state_in tables rs) (may_reopen tables rs are)
+pub held_board : (tables : TableRows) (rs : List Record) → AreNamed tables → AreOfDesk rs → IsBoard (reopened (state_in tables rs)) (reopened (state_in tables rs))
+held_board tables rs names are = reopened_board (state_in tables rs) (may_reopen tables rs names are)
 
 tables_by : (tables : TableRows) (rs : List Record) (o : Option MetaOf) → (state_by tables o rs).tables ≡ tables
 tables_by tables rs None = refl

@@ -2,9 +2,7 @@
 use Rattle.std.proofs.Common.{◌≡◌, ℕ, ◌+◌, ◌<◌, ◌≤◌, arith, Bool, true, false, ◌&&◌, ◌||◌, not, cond, eqb, List, [], ◌∷◌, ◌++◌, map, length, bytes_eq, count_by, Option, None, Some, IfSome, refl, sym, ap, ◌∙◌, subst}
 use Rattle.std.specs.Prelude.{◌==◌, nat_lt}
 use Rattle.std.specs.List.{AllByRecursion, list_any}
-use Rattle.std.proofs.lemmas.Bool.{eqb-true, eq-eqb, lt-ltb, ne_eqb, or_from}
-use Rattle.std.proofs.lemmas.Bool.Decides.{Decides-like, same_from_decides}
-use Rattle.std.proofs.lemmas.Slice.Eq.{bytes_eq-Decides}
+use Rattle.std.proofs.lemmas.Bool.{eqb-true, lt-ltb, ne_eqb, or_from}
 use Rattle.alerts.specs.declared.alert.Alert.{Alert as AlertOf}
 use Rattle.asks.specs.declared.kept.KeptReply.{KeptReply}
 use Rattle.facts.specs.Reading.{IsRead}
@@ -23,18 +21,14 @@ use Rattle.records.specs.Faults.{is_release_of, is_same_report, is_same_request,
 use Rattle.records.specs.Kinds.{is_kind}
 use Rattle.records.specs.declared.record.Record.{Record}
 use Rattle.records.specs.declared.record.Record.TheVariants.{Meta, Report, Deferral, Release, Kept, Alert}
-use Rattle.kept_state.proofs.AlertLaws.{found_self, rise_above}
+use Rattle.kept_state.proofs.AlertLaws.{Rises, found_self, rise_pairs}
 use Rattle.kept_state.proofs.Fitting.{Agree, AreFew}
 use Rattle.kept_state.proofs.Lists.{Pairs, both, both_pairs, each_mapped, pairs_mapped, weaker, weaker_pairs}
+use Rattle.kept_state.proofs.PartLaws.{Other, Unlike, swapped, turned}
 use Rattle.kept_state.proofs.ReleaseLaws.{Below}
-use Rattle.rules.specs.Grounds.{Grounds}
 use Rattle.kept_state.proofs.Segments.{Across, across_any, across_made, all_joined, all_made, any_back, any_front, any_made, counted, counted_all, counted_is, counted_joined, counted_none, pairs_from, pairs_joined, pairs_made, with_each}
 
 -- ---- releases by their ids
-
-pub release_pairs : (low : ℕ) (rs : List ReleaseOf) (next : ℕ) → Rise low rs next → Pairs Below rs
-release_pairs low [] next rise = tt
-release_pairs low (r ∷ rs) next rise = (rise_above r.id (r.id + 1) rs next (omega arith) rise.1, release_pairs (r.id + 1) rs next rise.1)
 
 rise_within : (low : ℕ) (rs : List ReleaseOf) (next : ℕ) → Rise low rs next → low ≤ next
 rise_within low [] next rise = rise
@@ -61,29 +55,29 @@ pub record Stands (releases : List ReleaseOf) (next : ℕ) (a : AlertOf) : Type 
   pub active : is_active release.phase ≡ true
   pub below : a.release < next
 
-active_if : (b : Bool) (g : Grounds) (v : Revision) (phase : Phase) (a : AlertOf) → Matches (Some a) (failing_if b g v phase) → b ≡ true
-active_if true g v phase a is = refl
-active_if false g v phase a is = absurd is
+active_if : (b : Bool) (s : State) (v : Revision) (phase : Phase) (a : AlertOf) → Matches (Some a) (failing_if b (grounds_of s) v phase) → b ≡ true
+active_if true s v phase a is = refl
+active_if false s v phase a is = absurd is
 
-active_in : (g : Grounds) (active : Option Revision) (phase : Phase) (a : AlertOf) → Matches (Some a) (failing_in g active phase) → is_active phase ≡ true
-active_in g None phase a is = absurd is
-active_in g (Some v) phase a is = active_if (is_active phase) g v phase a is
+active_in : (s : State) (active : Option Revision) (phase : Phase) (a : AlertOf) → Matches (Some a) (failing_in (grounds_of s) active phase) → is_active phase ≡ true
+active_in s None phase a is = absurd is
+active_in s (Some v) phase a is = active_if (is_active phase) s v phase a is
 
-stands_by : (g : Grounds) (releases : List ReleaseOf) (next : ℕ) (r : ReleaseOf) (o : Option AlertOf) → release_at r.id releases ≡ Some r → r.id < next → Matches o (failing_of g r)
-    → IfSome o (IsOf r.id) → IfSome o (Stands releases next)
-stands_by g releases next r None found below is of = tt
-stands_by g releases next r (Some a) found below is of =
-    record { release = r; found = ap (λ id. release_at id releases) of ∙ found; active = active_in g r.active r.phase a is; below = omega (arith, of, below) }
+stands_by : (s : State) (next : ℕ) (r : ReleaseOf) (o : Option AlertOf) → release_at r.id s.releases ≡ Some r → r.id < next → Matches o (failing_of (grounds_of s) r)
+    → IfSome o (IsOf r.id) → IfSome o (Stands s.releases next)
+stands_by s next r None found below is of = tt
+stands_by s next r (Some a) found below is of =
+    record { release = r; found = ap (λ id. release_at id s.releases) of ∙ found; active = active_in s r.active r.phase a is; below = omega (arith, of, below) }
 
 pub all_stand : (s : State) → Sound s → AllByRecursion (Stands s.releases s.counters.next_release) s.alerts
 all_stand s sound =
     let next = s.counters.next_release in
     let alerted = both (λ r. r.id < next) (IsAlerted (grounds_of s) s.alerts) s.releases (ids_below 0 s.releases next sound.ids) sound.alerted in
     let each = both (λ r. release_at r.id s.releases ≡ Some r) (λ r. (r.id < next) × IsAlerted (grounds_of s) s.alerts r) s.releases
-    (found_self s.releases (release_pairs 0 s.releases next sound.ids)) alerted in
+    (found_self s.releases (rise_pairs 0 s.releases next sound.ids)) alerted in
     subst (λ (xs : List AlertOf). AllByRecursion (Stands s.releases next) xs) (sym sound.own)
     (each_mapped (λ r. (release_at r.id s.releases ≡ Some r) × ((r.id < next) × IsAlerted (grounds_of s) s.alerts r)) (Stands s.releases next) (λ r. alert_at r.id s.alerts)
-    (λ r is. stands_by (grounds_of s) s.releases next r (alert_at r.id s.alerts) is.0 is.1.0 is.1.1.0 (found_of r.id s.alerts)) s.releases each)
+    (λ r is. stands_by s next r (alert_at r.id s.alerts) is.0 is.1.0 is.1.1.0 (found_of r.id s.alerts)) s.releases each)
 
 -- the release of each alert is among the records
 pub has_release : (s : State) (a : AlertOf) → Stands s.releases s.counters.next_release a → list_any (is_release_of a.release) (records_of s) ≡ true
@@ -106,25 +100,6 @@ Apart a b odds = (nat_lt a b ≡ true) × (((b == a) || odds) ≡ false)
 
 apart_by : (a b : ℕ) (odds : Bool) → a < b → odds ≡ false → Apart a b odds
 apart_by a b odds less none = (lt-ltb a b less, or_from (b == a) odds (ne_eqb b a (λ e. absurd (omega (arith, e, less)))) none)
-
-same_bytes : (s t : List ℕ) → bytes_eq s t ≡ bytes_eq t s
-same_bytes s t = same_from_decides (bytes_eq s t) (bytes_eq t s) (bytes_eq-Decides s t) (Decides-like (bytes_eq t s) (λ e. sym e) (λ e. sym e) (bytes_eq-Decides t s))
-
-same_number : (m n : ℕ) → eqb m n ≡ eqb n m
-same_number m n = same_from_decides (eqb m n) (eqb n m) (eqb-true m n, eq-eqb m n) ((λ e. sym (eqb-true n m e)), (λ e. eq-eqb n m (sym e)))
-
-turned : (s t : List ℕ) (m n : ℕ) → (bytes_eq t s && (n == m)) ≡ false → (bytes_eq s t && (m == n)) ≡ false
-turned s t m n other = ap (λ b. b && (m == n)) (same_bytes s t) ∙ ap (λ b. bytes_eq t s && b) (same_number m n) ∙ other
-
-swapped : (a b : Bool) → (a && b) ≡ (b && a)
-swapped true true = refl
-swapped true false = refl
-swapped false true = refl
-swapped false false = refl
-
--- ids rise, and no two reports are the same
-abbrev Unlike : ReportOf → ReportOf → Type 0
-Unlike a b = (a.id < b.id) × (is_same b.text (minute_of_report b) a ≡ false)
 
 -- the minute of a report that is kept is that of its reading
 minute_again : (r : ReportOf) → IsRead r → minute_of (report_kept r) ≡ minute_of_report r
@@ -156,10 +131,7 @@ deferral_pairs s kept =
 held_pairs : (s : State) → Sound s → Pairs Agree (map Release s.releases)
 held_pairs s sound =
     pairs_made Agree Release s.releases
-    (weaker_pairs Below (λ a b. Agree (Release a) (Release b)) (λ a b less. apart_by a.id b.id false less refl) s.releases (release_pairs 0 s.releases s.counters.next_release sound.ids))
-
-abbrev Other : KeptReply → KeptReply → Type 0
-Other a b = (a.id < b.id) × (is_request b.actor b.number a ≡ false)
+    (weaker_pairs Below (λ a b. Agree (Release a) (Release b)) (λ a b less. apart_by a.id b.id false less refl) s.releases (rise_pairs 0 s.releases s.counters.next_release sound.ids))
 
 replies_agree : (a b : KeptReply) → Other a b → Agree (Kept a) (Kept b)
 replies_agree a b is =
@@ -172,10 +144,7 @@ reply_pairs s sound kept =
     (both_pairs (λ a b. a.id < b.id) (λ a b. is_request b.actor b.number a ≡ false) s.kept
     (pairs_from (λ a b. a.id < b.id) s.kept kept.accepted) (pairs_from (λ a b. is_request b.actor b.number a ≡ false) s.kept sound.single)))
 
-abbrev Earlier : AlertOf → AlertOf → Type 0
-Earlier a b = a.release < b.release
-
-earlier_by : (i j : ℕ) (o p : Option AlertOf) → i < j → IfSome o (IsOf i) → IfSome p (IsOf j) → IfSome o (λ a. IfSome p (Earlier a))
+earlier_by : (i j : ℕ) (o p : Option AlertOf) → i < j → IfSome o (IsOf i) → IfSome p (IsOf j) → IfSome o (λ a. IfSome p (Rises a))
 earlier_by i j None p less one two = tt
 earlier_by i j (Some a) None less one two = tt
 earlier_by i j (Some a) (Some b) less one two = omega (arith, less, one, two)
@@ -183,11 +152,11 @@ earlier_by i j (Some a) (Some b) less one two = omega (arith, less, one, two)
 alert_pairs : (s : State) → Sound s → Pairs Agree (map (λ a. Alert (alert_kept a)) s.alerts)
 alert_pairs s sound =
     pairs_made Agree (λ a. Alert (alert_kept a)) s.alerts
-    (weaker_pairs Earlier (λ a b. Agree (Alert (alert_kept a)) (Alert (alert_kept b))) (λ a b less. apart_by a.release b.release false less refl) s.alerts
-    (subst (λ (xs : List AlertOf). Pairs Earlier xs) (sym sound.own)
-    (pairs_mapped Below Earlier (λ r. alert_at r.id s.alerts)
+    (weaker_pairs Rises (λ a b. Agree (Alert (alert_kept a)) (Alert (alert_kept b))) (λ a b less. apart_by a.release b.release false less refl) s.alerts
+    (subst (λ (xs : List AlertOf). Pairs Rises xs) (sym sound.own)
+    (pairs_mapped Below Rises (λ r. alert_at r.id s.alerts)
     (λ q r less. earlier_by q.id r.id (alert_at q.id s.alerts) (alert_at r.id s.alerts) less (found_of q.id s.alerts) (found_of r.id s.alerts))
-    s.releases (release_pairs 0 s.releases s.counters.next_release sound.ids))))
+    s.releases (rise_pairs 0 s.releases s.counters.next_release sound.ids))))
 
 -- ---- a release and an alert
 
@@ -206,7 +175,7 @@ none_idle s sound =
     weaker (λ r. release_at r.id s.releases ≡ Some r) (λ r. AllByRecursion (λ a. Agree (Release r) (Alert (alert_kept a))) s.alerts)
     (λ r found. weaker (Stands s.releases next) (λ a. Agree (Release r) (Alert (alert_kept a)))
     (λ a is. (refl, idle_by s.releases r is.release a (eqb r.id a.release) refl found is.found is.active)) s.alerts stand) s.releases
-    (found_self s.releases (release_pairs 0 s.releases next sound.ids))
+    (found_self s.releases (rise_pairs 0 s.releases next sound.ids))
 
 -- ---- all of them
 

@@ -1,5 +1,5 @@
 -- Events whose changes can be put into rows: their moments can be shown, and their numbers are small.
-use Rattle.std.specs.Prelude.{ℕ, ◌<◌, List, Option, None, Some, IfSome, All}
+use Rattle.std.specs.Prelude.{ℕ, ◌<◌, List, Option, IfSome, All}
 use Rattle.alerts.specs.declared.alert.Alert.{Alert}
 use Rattle.asks.specs.declared.kept.KeptReply.{KeptReply}
 use Rattle.facts.specs.declared.report.Report.{Report}

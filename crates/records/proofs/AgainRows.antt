@@ -11,7 +11,7 @@ use Rattle.plan.specs.declared.findings.Finding.{Finding}
 use Rattle.call_json.proofs.Again.{small_again, id_again, moment_again, done_again}
 use Rattle.call_json.proofs.DigestLaws.{digest_again}
 use Rattle.kept_releases.proofs.FindingLaws.{findings_again}
-use Rattle.kept_releases.proofs.ReleaseLaws.{release_again}
+use Rattle.kept_releases.proofs.ReleaseLaws.{person_again, release_again}
 use Rattle.records.specs.Kinds.{kind_of, key_of}
 use Rattle.records.specs.Bodies.{floors_data, body_data}
 use Rattle.records.specs.Reading as spec
@@ -21,7 +21,7 @@ use Rattle.records.specs.declared.record.KeptReport.{KeptReport}
 use Rattle.records.specs.declared.record.Record.{Record}
 use Rattle.records.specs.declared.record.Record.TheVariants.{Meta, Report, Deferral, Release, Kept, Alert}
 use Rattle.records.proofs.FloorLaws.{floors_in_turn, floors_again, rising_tested}
-use Rattle.records.proofs.NameLaws.{person_again, tail_again, item_again, text_lossy}
+use Rattle.records.proofs.NameLaws.{tail_again, item_again, text_lossy}
 
 -- ---- floors
 

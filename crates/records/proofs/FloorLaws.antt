@@ -10,11 +10,12 @@ use Rattle.asks.specs.declared.kept.Floor.{Floor}
 use Rattle.call_json.specs.Canonical.{count}
 use Rattle.call_json.specs.Plain.{IsBefore, AreInOrder, MembersArePlain, MembersHaveText}
 use Rattle.call_json.proofs.Again.{small_again}
+use Rattle.kept_releases.proofs.ReleaseLaws.{person_utf8}
 use Rattle.records.specs.Bodies.{with_floors}
 use Rattle.records.specs.Reading.{floor_of, floors_in}
 use Rattle.call_json.specs.Forms.{IsFloor, FloorsRise}
 use Rattle.records.specs.Valid.{comes_before, are_rising}
-use Rattle.records.proofs.NameLaws.{person_utf8, person_lossy, person_known}
+use Rattle.records.proofs.NameLaws.{person_lossy, person_known}
 
 abbrev joined : Members → Members → Members
 joined no_members more = more

@@ -10,17 +10,16 @@ use Rattle.std.proofs.lemmas.Str.{IsUtf8-from_is_utf8}
 use Rattle.serde_json.specs.Data.{Data, Items, Members, no_members, member}
 use Rattle.serde_json.specs.Find.{get, as_number, as_str, as_u64, as_object}
 use Rattle.codes.specs.Groups.{groups_of, canonical}
-use Rattle.ops_tables.specs.Forms.{is_tail, is_item, is_person}
+use Rattle.ops_tables.specs.Forms.{is_tail, is_item}
 use Rattle.facts.specs.Reading.{read_of}
 use Rattle.plan.specs.Findings.{AreAmong, is_among}
 use Rattle.plan.specs.Texts.{IsMoment}
 use Rattle.plan.specs.declared.findings.Finding.{Finding}
 use Rattle.asks.specs.declared.kept.Floor.{Floor}
 use Rattle.call_json.specs.Forms.{IsId, DoneHasForms, IsFinding, IsRequest, IsFloor, FloorsRise}
-use Rattle.call_json.specs.Digests.{digest_of, digest_at, IsDigest}
+use Rattle.call_json.specs.Digests.{digest_at, IsDigest}
 use Rattle.call_json.specs.Dones.{done_of}
 use Rattle.call_json.specs.Fields.{text_at, up_to, number_at, id_at, moment_at, list_at, each_read, has_members}
-use Rattle.call_json.proofs.DigestLaws.{digest_formed}
 use Rattle.call_json.proofs.DoneForms.{done_formed}
 use Rattle.desk_time.proofs.Chains.{bind_if, bind_any, then_if, under, either}
 use Rattle.call_json.proofs.PlanForms.{id_formed, moment_formed, each_formed}
@@ -28,7 +27,7 @@ use Rattle.kept_releases.specs.Findings.{finding_of, finding_in, are_in_order, f
 use Rattle.kept_releases.proofs.FindingLaws.{finding_formed, order_tested}
 use Rattle.kept_releases.specs.Kept.{IsKept}
 use Rattle.kept_releases.specs.Releases.{bool_at, person, person_at, release_of}
-use Rattle.kept_releases.proofs.ReleaseForms.{release_kept, release_named}
+use Rattle.kept_releases.proofs.ReleaseForms.{IsPerson, digest_at_formed, person_formed, person_at_formed, release_kept, release_named}
 use Rattle.records.specs.Reading as read
 use Rattle.records.specs.Valid.{IsMeta, IsReport, IsDeferral, IsKeptReply, AreFindings, IsKeptAlert, IsRecord, are_rising, is_report, are_among}
 use Rattle.records.specs.declared.alert_rows.Opening.{Opening}
@@ -42,15 +41,6 @@ use Rattle.records.proofs.FloorLaws.{rising_from_test}
 
 small_formed : (limit : ℕ) (o : Option ℕ) → IfSome (option_and_then (up_to limit) o) (λ n. n ≤ limit)
 small_formed limit o = then_if (up_to limit) o (λ n. n ≤ limit) (λ n. under (nat_le n limit) (Some n) (λ n. n ≤ limit) (leb-true n limit))
-
-abbrev IsPerson : List ℕ → Type 0
-IsPerson t = is_person t ≡ true
-
-person_formed : (t : List ℕ) → IfSome (person t) IsPerson
-person_formed t = under (is_person t) (Some t) IsPerson (λ is. is)
-
-person_at_formed : (key : List ℕ) (d : Data) → IfSome (person_at key d) IsPerson
-person_at_formed key d = then_if person (text_at key d) IsPerson person_formed
 
 abbrev IsTail : List ℕ → Type 0
 IsTail t = is_tail t ≡ true
@@ -149,9 +139,6 @@ deferral_formed id d few =
     under (has_members 3 d) _ IsDeferral (λ exact. record { id = few; tail = two; item = one; found = at }))))
 
 -- ---- kept replies
-
-digest_at_formed : (key : List ℕ) (d : Data) → IfSome (digest_at key d) IsDigest
-digest_at_formed key d = then_if digest_of (text_at key d) IsDigest digest_formed
 
 reply_formed : (d : Data) → IfSome (read.reply_of d) DoneHasForms
 reply_formed d =

@@ -9,7 +9,7 @@ use Rattle.std.specs.Str.{bytes_eq}
 use Rattle.std.specs.List.{list_any, position_from}
 use Rattle.std.specs.Option.{unwrap_or}
 use Rattle.std.specs.BTreeMap.{is_at}
-use Rattle.std.proofs.lemmas.Bool.{eqb-true}
+use Rattle.std.proofs.lemmas.Bool.{and_parts, eqb-true, not-true, or_left, or_right}
 use Rattle.std.proofs.lemmas.List.{take_more, length-take-le}
 use Rattle.std.proofs.lemmas.Cmp.{nat_cmp_total, on_total, then_total, tied_itself, ranked}
 use Rattle.std.proofs.lemmas.Slice.Eq.{bytes_eq-Decides}
@@ -32,54 +32,37 @@ itself m = ap is_eq (tied_itself mark_total m)
 same_mark : (m k : ℕ × ℕ) → m ≡ k → is_at (mark_cmp m) k ≡ true
 same_mark m k e = subst (λ x. is_at (mark_cmp m) x ≡ true) e (itself m)
 
-both_true : (a b : Bool) → a && b ≡ true → (a ≡ true) × (b ≡ true)
-both_true true true e = (refl, refl)
-both_true true false e = absurd cc
-both_true false b e = absurd cc
-
-or_right : (a b : Bool) → b ≡ true → a || b ≡ true
-or_right true b e = refl
-or_right false b e = e
-
-or_left : (a b : Bool) → a ≡ true → a || b ≡ true
-or_left true b e = refl
-or_left false b e = absurd cc
-
 two_numbers : (a b c d : ℕ) → a ≡ c → b ≡ d → is_at (mark_cmp (a, b)) (c, d) ≡ true
 two_numbers a b c d e f = same_mark (a, b) (c, d) (λ i. (e i, f i))
 
 numbers_same : (a b c d : ℕ) → (a == c) && (b == d) ≡ true → is_at (mark_cmp (a, b)) (c, d) ≡ true
-numbers_same a b c d e = let both = both_true (a == c) (b == d) e in two_numbers a b c d (eqb-true a c both.0) (eqb-true b d both.1)
-
-not_false : (b : Bool) → not b ≡ true → b ≡ false
-not_false true e = absurd cc
-not_false false e = refl
+numbers_same a b c d e = let both = and_parts (a == c) (b == d) e in two_numbers a b c d (eqb-true a c both.0) (eqb-true b d both.1)
 
 -- what two say that are at odds has one mark
 odds : (r e : Record) → are_at_odds r e ≡ true → other_mark e ≡ other_mark r
 odds (Report a) (Report b) h =
-    let both = both_true (bytes_eq a.text b.text) (minute_of a == minute_of b) h in
+    let both = and_parts (bytes_eq a.text b.text) (minute_of a == minute_of b) h in
     let text : b.text ≡ a.text = sym ((bytes_eq-Decides a.text b.text).0 both.0) in
     let minute : minute_of b ≡ minute_of a = sym (eqb-true (minute_of a) (minute_of b) both.1) in
     λ i. (minute i, fingerprint (text i))
 odds (Kept a) (Kept b) h =
-    let both = both_true (bytes_eq a.actor b.actor) (a.number == b.number) h in
+    let both = and_parts (bytes_eq a.actor b.actor) (a.number == b.number) h in
     let actor : b.actor ≡ a.actor = sym ((bytes_eq-Decides a.actor b.actor).0 both.0) in
     let number : b.number ≡ a.number = sym (eqb-true a.number b.number both.1) in
     λ i. (fingerprint (actor i), number i)
 odds (Release r) (Alert a) h =
-    let both = both_true (r.id == a.release) (not (is_active r.phase)) h in
+    let both = and_parts (r.id == a.release) (not (is_active r.phase)) h in
     let id : a.release ≡ r.id = sym (eqb-true r.id a.release both.0) in
-    rw (not_false (is_active r.phase) both.1) (λ i. (6, id i))
+    rw (not-true (is_active r.phase) both.1) (λ i. (6, id i))
 odds (Alert a) (Release r) h =
-    let both = both_true (r.id == a.release) (not (is_active r.phase)) h in
+    let both = and_parts (r.id == a.release) (not (is_active r.phase)) h in
     let id : r.id ≡ a.release = eqb-true r.id a.release both.0 in
-    rw (not_false (is_active r.phase) both.1) (λ i. (6, id i))
+    rw (not-true (is_active r.phase) both.1) (λ i. (6, id i))
 odds _ _ h = absurd cc
 
 same_row : (r e : Record) → is_same_row r e ≡ true → own_mark e ≡ own_mark r
 same_row r e h =
-    let both = both_true (kind_of r == kind_of e) (key_of r == key_of e) h in
+    let both = and_parts (kind_of r == kind_of e) (key_of r == key_of e) h in
     let kind : kind_of e ≡ kind_of r = sym (eqb-true (kind_of r) (kind_of e) both.0) in
     let key : key_of e ≡ key_of r = sym (eqb-true (key_of r) (key_of e) both.1) in
     λ i. (kind i, key i)
@@ -111,7 +94,7 @@ none_before entries rs r m start place index its own other =
 
 release_marked : (id : ℕ) (r : Record) → is_release_of id r ≡ true → is_marked (3, id) (marks_of r) || is_marked (3, id) (marks_of r) ≡ true
 release_marked id r h =
-    let both = both_true (kind_of r == 3) (key_of r == id) h in
+    let both = and_parts (kind_of r == 3) (key_of r == id) h in
     let kind : kind_of r ≡ 3 = eqb-true (kind_of r) 3 both.0 in
     let key : key_of r ≡ id = eqb-true (key_of r) id both.1 in
     or_left _ _ (or_left _ _ (same_mark (own_mark r) (3, id) (λ i. (kind i, key i))))

@@ -5,24 +5,18 @@ use Rattle.std.specs.Str.Lossy.{utf8_lossy}
 use Rattle.std.proofs.lemmas.Bool.{and_parts}
 use Rattle.std.proofs.lemmas.Bool.Decides.{nat_tests}
 use Rattle.std.proofs.lemmas.Str.{utf8_lossy-IsUtf8, is_utf8-from_IsUtf8}
-use Rattle.ops_tables.specs.Forms.{in_mark, in_person, is_word, is_tail, is_item, is_person}
+use Rattle.ops_tables.specs.Forms.{in_mark, is_word, is_tail, is_item, is_person}
 use Rattle.call_json.proofs.Texts.{passing_utf8}
 use Rattle.kept_releases.specs.Releases.{person}
+use Rattle.kept_releases.proofs.ReleaseLaws.{person_utf8}
 use Rattle.records.specs.Reading.{tail, item, if_report, report_with, utf8_report}
 use Rattle.records.specs.declared.record.KeptReport.{KeptReport}
 
 small_mark : (b : ℕ) → in_mark b ≡ true → nat_lt b 128 ≡ true
 small_mark b is = grind (arith, nat_tests, is)
 
-small_person : (b : ℕ) → in_person b ≡ true → nat_lt b 128 ≡ true
-small_person b is = grind (arith, nat_tests, is)
-
 word_utf8 : (allowed : ℕ → Bool) (most : ℕ) (t : List ℕ) → ((b : ℕ) → allowed b ≡ true → nat_lt b 128 ≡ true) → is_word allowed most t ≡ true → IsUtf8 t
 word_utf8 allowed most t small is = passing_utf8 allowed small t (and_parts _ (list_all allowed t) is).1
-
-pub person_utf8 : (t : List ℕ) → is_person t ≡ true → IsUtf8 t
-unfolding is_person
-person_utf8 t is = word_utf8 in_person 16 t small_person is
 
 tail_utf8 : (t : List ℕ) → is_tail t ≡ true → IsUtf8 t
 unfolding is_tail
@@ -37,9 +31,6 @@ person_lossy t is = utf8_lossy-IsUtf8 t (person_utf8 t is)
 
 pub person_known : (t : List ℕ) → is_person t ≡ true → person t ≡ Some t
 person_known t is = rw is refl
-
-pub person_again : (t : List ℕ) → is_person t ≡ true → person (utf8_lossy t) ≡ Some t
-person_again t is = rw (person_lossy t is) (person_known t is)
 
 pub tail_again : (t : List ℕ) → is_tail t ≡ true → tail (utf8_lossy t) ≡ Some t
 tail_again t is = rw (utf8_lossy-IsUtf8 t (tail_utf8 t is), is) refl

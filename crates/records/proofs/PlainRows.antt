@@ -1,21 +1,18 @@
 -- The body of a valid record is plain data.
-use Rattle.std.proofs.Common.{ℕ, ◌^◌, ◌<◌, ◌≤◌, List, refl, sym, arith, subst}
+use Rattle.std.proofs.Common.{◌≤◌, List, refl, sym, arith, subst}
 use Rattle.std.specs.List.{AllByRecursion}
 use Rattle.serde_json.specs.Data.{object, depth}
 use Rattle.asks.specs.declared.kept.Floor.{Floor}
-use Rattle.call_json.specs.Forms.{IsId, IsFloor, FloorsRise}
+use Rattle.call_json.specs.Forms.{IsFloor, FloorsRise}
 use Rattle.call_json.specs.Plain.{IsPlain, HasText}
 use Rattle.call_json.proofs.Plain.{order_of, text_of, done_plain, done_has_text, done_depth, kept_said}
 use Rattle.call_json.proofs.Texts.{written_utf8, digest_utf8}
-use Rattle.kept_releases.proofs.PlainLaws.{release_plain, release_has_text, release_depth, findings_plain, findings_have_text, findings_depth}
+use Rattle.kept_releases.proofs.PlainLaws.{id_plain, release_plain, release_has_text, release_depth, findings_plain, findings_have_text, findings_depth}
 use Rattle.records.specs.Bodies.{floors_data, meta_members, report_members, deferral_members, reply_members, kept_members, alert_members, body_data}
 use Rattle.records.specs.Valid.{IsRecord}
 use Rattle.records.specs.declared.record.Record.{Record}
 use Rattle.records.specs.declared.record.Record.TheVariants.{Meta, Report, Deferral, Release, Kept, Alert}
 use Rattle.records.proofs.FloorLaws.{floors_in_turn, turn_order, turn_plain, turn_has_text, turn_depth}
-
-id_plain : (n : ℕ) → IsId n → n < 2 ^ 64
-id_plain n few = omega arith
 
 -- ---- floors
 

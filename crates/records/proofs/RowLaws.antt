@@ -8,6 +8,7 @@ use Rattle.std.proofs.lemmas.Str.{utf8_valid_len-IsUtf8}
 use Rattle.serde_json.specs.Written.{compact_text}
 use Rattle.desk_io.specs.declared.rows.Row.{Row}
 use Rattle.desk_time.specs.Digits.{◌>>=◌}
+use Rattle.desk_time.proofs.Chains.{bind_if, bind_any, weaker}
 use Rattle.call_json.specs.Fields.{data_of}
 use Rattle.call_json.proofs.Compact.{read_compact, utf8_compact}
 use Rattle.kept_releases.proofs.ReleaseForms.{moments_formed}
@@ -42,21 +43,13 @@ found_again : (r : Record) → IsRecord r → spec.found_in (row_of r) ≡ Some 
 unfolding row_of spec.found_in
 found_again r is = ap (λ o. o >>= spec.record_of (kind_of r) (key_of r)) (body_again r is) ∙ record_again r is
 
-bind_held : {A B : Type 0} (o : Option A) (f : A → Option B) (Q : B → Type 0) → ((x : A) → IfSome (f x) Q) → IfSome (o >>= f) Q
-bind_held None f Q next = tt
-bind_held (Some x) f Q next = next x
-
 found_valid : (row : Row) → IfSome (spec.found_in row) IsRecord
 unfolding spec.found_in
-found_valid row = bind_held (data_of row.body) (spec.record_of row.kind row.key) IsRecord (record_formed row.kind row.key)
-
-weaker : {A : Type 0} (o : Option A) (P Q : A → Type 0) → IfSome o P → ((x : A) → P x → Q x) → IfSome o Q
-weaker None P Q held next = tt
-weaker (Some x) P Q held next = next x held
+found_valid row = bind_any (data_of row.body) (spec.record_of row.kind row.key) IsRecord (record_formed row.kind row.key)
 
 -- what is found can be shown
 pub found_moments : (row : Row) (found : Option Record) → found ≡ spec.found_in row → IfSome found HasMoments
-found_moments row found is = subst (λ o. IfSome o HasMoments) (sym is) (weaker (spec.found_in row) IsRecord HasMoments (found_valid row) valid_moments)
+found_moments row found is = subst (λ o. IfSome o HasMoments) (sym is) (weaker (spec.found_in row) (found_valid row) valid_moments)
 
 -- ---- rows that are the same
 
@@ -80,10 +73,6 @@ if_same row r valid = by (spec.is_same_row (row_of r) row) refl
     by : (b : Bool) → spec.is_same_row (row_of r) row ≡ b → IfSome (if b then Some r else None) (λ x. IsRecord x × (row_of x ≡ row))
     by true is = (valid, row_from_test (row_of r) row is)
     by false is = tt
-
-bind_if : {A B : Type 0} (o : Option A) (f : A → Option B) (P : A → Type 0) (Q : B → Type 0) → IfSome o P → ((x : A) → P x → IfSome (f x) Q) → IfSome (o >>= f) Q
-bind_if None f P Q held next = tt
-bind_if (Some x) f P Q held next = next x held
 
 -- what is read is valid, and has the row
 pub read_has_row : (row : Row) → IfSome (spec.record_with row) (λ r. IsRecord r × (row_of r ≡ row))
