@@ -19,7 +19,6 @@ use Rattle.desk_net.proofs.SeenLaws.{clock_stays}
 use Rattle.keeper.specs.Seen.{KeeperSeen, KeeperGoesOn}
 use Rattle.desk_state.specs.Sound.{IsBoard}
 use Rattle.desk_state.specs.State.{State}
-use Rattle.service.specs.Doors.{HasLinks}
 use Rattle.service.specs.declared.doors.ServeEnd.{ServeEnd}
 use Rattle.service.specs.declared.doors.ServeEnd.TheVariants as ends
 use Rattle.ops_tables.specs.Tables.{TableRows}

@@ -1,8 +1,8 @@
 -- Rows that a desk has left are opened again.
-use Rattle.std.proofs.Common.{◌≡◌, ◌≢◌, ℕ, List, [], ◌∷◌, map, Option, None, Some, refl, ap, sym, ◌∙◌, subst, inl, inr, ◌⊎◌, arith}
-use Rattle.std.specs.Prelude.{Result, Ok, Err, IfOk, IfErr, MatchResult, All, IsTrue}
+use Rattle.std.proofs.Common.{◌≡◌, List, [], ◌∷◌, map, Option, None, Some, refl, ap, sym, ◌∙◌, subst, inl, inr, ◌⊎◌}
+use Rattle.std.specs.Prelude.{Result, Ok, Err, IfOk, IfErr, MatchResult}
 use Rattle.std.proofs.lemmas.List.Elements.{All-from_recursion}
-use Rattle.board.specs.Prepare.{Shown, shown}
+use Rattle.board.specs.Prepare.{Shown}
 use Rattle.desk_io.specs.Rows.{Rows}
 use Rattle.desk_io.specs.declared.rows.Row.{Row}
 use Rattle.keeper.specs.Order as order
@@ -17,7 +17,6 @@ use Rattle.records.specs.Bodies.{row_of}
 use Rattle.records.specs.Checks.{IsDesk, IsFaultOf}
 use Rattle.records.specs.Faults.{fit}
 use Rattle.records.specs.Valid.{IsRecord}
-use Rattle.records.specs.declared.faults.RowWhy.{RowWhy}
 use Rattle.records.specs.declared.faults.RowsFault.TheVariants as fault
 use Rattle.records.specs.declared.record.Record.{Record}
 use Rattle.kept_state.specs.Held.{AreOfDesk, state_in}
