@@ -1,4 +1,4 @@
-use crate::fails::compare_reached;
+use crate::fails::compare_made;
 use crate::fault::CaseFault;
 use crate::members::{check_keys, items_of};
 use crate::play::Play;
@@ -382,7 +382,7 @@ pub fn compare<'a, F: Shelf>(
     if !compares(play) {
         report.says(play, "nothing is compared")?;
     }
-    compare_reached(play, played, report)?;
+    compare_made(play, played, report)?;
     compare_values(play, played, report)?;
     compare_at(play, files, "written", played.sink.written(), report)?;
     let left = lines_of(play.alloc, played.keeper.rows())?;

@@ -1,7 +1,7 @@
 //! Plays cases through the program's call over objects in memory, and compares what comes with what the cases say must
 //! come. The words name files of cases. A line is printed for each difference, and a last one with the counts of cases;
-//! the status is 0 where nothing differs. A case or a step that compares nothing differs, and one of which a call that is
-//! to fail isn't made; and so does a file that has no case to be played, or that no file is named.
+//! the status is 0 where nothing differs. A case or a step that compares nothing differs, and one of which a call that
+//! must fail isn't made; and so does a file that has no case to be played, or that no file is named.
 //!
 //! A file is one JSON object of `cases` and, where it has them, of `texts` by their names and of `common`: what a case
 //! lacks it takes from there. A case has
@@ -18,6 +18,7 @@
 //! - `fail`: which calls fail, lists of numbers from 0, of `shelf`, `sink`, `keeper` (its commits, and with `"load"` its
 //!   rows can't be loaded), `clock` and `door` (its opening, and each link that it is asked for), and such a list for each
 //!   link (its reads and writes together) in the list `links`. A step counts from 0 again.
+//! - `unmade`: calls that would fail, of the same form, but mustn't be made.
 //! - what must come; what is missing isn't compared: `status`; `board`, whether one is left; `port`, where the door was
 //!   opened, or null; `asked`, how many moments the clock gave; `written`, a text; `left`, the rows that the
 //!   keeper holds at last; and `links_written`, a list of texts, of the links that were given back.
