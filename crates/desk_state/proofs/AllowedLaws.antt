@@ -1,10 +1,10 @@
 -- Each ask changes no more than it may.
-use Rattle.std.proofs.Common.{◌≡◌, ℕ, ◌+◌, ◌++◌, ◌<◌, append-nil, ◌∙◌, ◌&&◌, ltb, IfSome, Bool, true, false, List, Option, None, Some, Result, Ok, Err, inl, inr, refl, ap, subst, sym, not, cond, eqb, eq-eqb, ◌≢◌, ◌||◌, [], ◌∷◌, length, is_some, is_none, arith}
-use Rattle.std.specs.Prelude.{nat_le, nat_lt, find, option_to_list}
+use Rattle.std.proofs.Common.{◌≡◌, ℕ, ◌+◌, ◌<◌, ◌&&◌, ltb, IfSome, Bool, true, false, List, Option, None, Some, Result, Ok, Err, inl, inr, refl, ap, subst, sym, not, cond, eqb, eq-eqb, ◌≢◌, ◌||◌, [], ◌∷◌, length, is_some, is_none, arith}
+use Rattle.std.specs.Prelude.{nat_le, nat_lt, find}
 use Rattle.std.specs.Option.{option_map}
-use Rattle.std.proofs.lemmas.Bool.{leb-false, ltb-true, ltb-false, eqb-true, ne_eqb}
+use Rattle.std.proofs.lemmas.Bool.{leb-false, ltb-true, ltb-false, eqb-true}
 use Rattle.std.specs.Str.{bytes_eq}
-use Rattle.std.specs.List.{AllByRecursion, list_any}
+use Rattle.std.specs.List.{list_any}
 use Rattle.std.proofs.lemmas.Slice.Eq.{bytes_eq-Decides}
 use Rattle.codes.specs.Groups.{groups_of, canonical}
 use Rattle.ops_tables.specs.declared.rows.Actor.{Actor}
@@ -25,16 +25,9 @@ use Rattle.release_text.specs.Revisions.{revision_digest}
 use Rattle.release_text.specs.Weather.{newer_than}
 use Rattle.rules.specs.Grounds.{Grounds}
 use Rattle.desk_state.proofs.Each.{found_each}
-use Rattle.desk_state.specs.Sound.{Sound, InBounds, EffectFits, DecisionFits}
-use Rattle.release_text.specs.Valid.{IsPhased, IsThere, IsValid}
-use Rattle.asks.specs.Forms.{IsCall}
-use Rattle.plan.specs.Texts.{IsMoment}
+use Rattle.desk_state.specs.Sound.{Sound, MayStand}
+use Rattle.release_text.specs.Valid.{IsPhased, IsThere}
 use Rattle.alerts.proofs.Laws.{follows}
-use Rattle.desk_state.specs.declared.effect.OnAlerts.{OnAlerts}
-use Rattle.desk_state.specs.declared.effect.OnAlerts.TheVariants as on_alerts
-use Rattle.desk_state.proofs.Deciding.{decision_fits}
-use Rattle.desk_state.proofs.Judging.{IsOf, Agrees, agrees_all, alerts_kept, found_of, judged_is}
-use Rattle.desk_state.proofs.Parts.{releases_rise}
 use Rattle.ops_tables.specs.declared.rows.Role.{Role}
 use Rattle.ops_tables.specs.declared.rows.Role.TheVariants.{D, C, F, M, S}
 use Rattle.desk_state.specs.Texts.{newest}
@@ -58,20 +51,15 @@ use Rattle.asks.specs.declared.reply.Reply.TheVariants.{Done, Seen, Refused}
 use Rattle.asks.specs.declared.reply.Refusal.TheVariants.{NumberReused}
 use Rattle.call_json.specs.Canonical.{ask_digest}
 use Rattle.desk_state.specs.Requests.{kept_at, floor_at}
-use Rattle.desk_state.specs.declared.entry.What.TheVariants as what
-use Rattle.desk_state.specs.declared.entry.Entry.{Entry}
 use Rattle.desk_state.specs.declared.effect.Effect.{Effect}
-use Rattle.desk_state.specs.Effects.{tick}
-use Rattle.desk_state.specs.Events.{effected, acknowledged_if, kept_alert, kept_after}
 use Rattle.desk_state.specs.declared.effect.Decision.{Decision}
 use Rattle.desk_state.specs.declared.effect.Decision.TheVariants.{Show, Do}
-use Rattle.desk_state.specs.State.{State, grounds_of, failing_in, failing_of, release_at, alert_at, alert_for, judged, judged_all, is_full, is_full_for}
-use Rattle.desk_state.specs.Step.{entry, entered, kept_of_call, without_key, accepted, enter, finish, do_call, do_unless, answer_call, tick_unless, tick_to}
+use Rattle.desk_state.specs.State.{State, grounds_of, failing_in, failing_of, release_at, alert_at, judged}
 use Rattle.desk_state.specs.Chain.{◌>>-◌, unless, some_or, refused_if}
-use Rattle.desk_state.specs.People.{may_ask, mistaken, not_his_role}
+use Rattle.desk_state.specs.People.{not_his_role}
 use Rattle.desk_state.specs.Decide as d
 use Rattle.desk_state.specs.Decide.{decide}
-use Rattle.desk_state.specs.Allowed.{MaySign, GainsDispatcher, GainsCaptain, GainsWeather, BothAre, IsPreparing, IsSigning, IsReleased, IsConcurring, HasNotEnded, IsCancelling, IsNextRevision, IsAmending, HasMore, HasNoMore, has_text, IsAcknowledged, IsLeft, FollowsIf, IsAlertAfter, IsNextLeg, IsCaptainOf, FliesAs, FliesBy, IsDeparting, IsStopping, IsCompleting, IsInVersion, IsAcknowledging, OfHeld, IsListed, IsEffectOf, admits, defers, clears, drafts, prepares, signs, concurs, amends, cancels, departs, stops, completes, acknowledges, purges, sweeps, IsSweeping, HasEndedAt, AskedOf, IsShownTo, IsRepeat, IsAnswer, IsUnused, DecisionOf, IsEntryOf, IsAfter, IsKeptOf, IsPermitted, MayLeadTo, MayTickTo}
+use Rattle.desk_state.specs.Allowed.{MaySign, GainsDispatcher, GainsCaptain, GainsWeather, BothAre, IsPreparing, IsSigning, IsReleased, IsConcurring, HasNotEnded, IsCancelling, IsNextRevision, IsAmending, HasMore, HasNoMore, has_text, IsNextLeg, IsCaptainOf, FliesAs, FliesBy, IsDeparting, IsStopping, IsCompleting, IsInVersion, IsAcknowledging, OfHeld, IsListed, IsEffectOf, admits, defers, clears, drafts, prepares, signs, concurs, amends, cancels, departs, stops, completes, acknowledges, purges, sweeps, HasEndedAt, AskedOf, IsShownTo, IsAnswer, IsUnused, DecisionOf}
 
 given : {A : Type 0} (s : State) (actor : List ℕ) (a : Ask) (m : Result A Refusal) (f : A → Result Decision Refusal) → ((x : A) → m ≡ Ok x → AskedOf s actor a (f x)) → AskedOf s actor a (m >>- f)
 given s actor a (Err x) f goes = tt
@@ -551,13 +539,9 @@ view_weather s actor station = known s actor (ask.ViewWeather station) (d.no_air
 
 -- What soundness says of a release that is held.
 
-valid_by : (most : ℕ) (o : Option Release) (q : Release) → IfSome o (IsValid most) → o ≡ Some q → IsValid most q
-valid_by most None q is e = absurd (cc)
-valid_by most (Some r) q is e = subst (λ (p : Option Release). IfSome p (IsValid most)) e is
-
-valid_held : (s : State) (id : ℕ) (q : Release) → Sound s → release_at id s.releases ≡ Some q → IsValid s.counters.events q
+valid_held : (s : State) (id : ℕ) (q : Release) → Sound s → release_at id s.releases ≡ Some q → MayStand s.counters.events q
 valid_held s id q sound is =
-    valid_by s.counters.events (release_at id s.releases) q (found_each (IsValid s.counters.events) (λ r. eqb r.id id) s.releases sound.valid) is
+    subst (λ (o : Option Release). IfSome o (MayStand s.counters.events)) is (found_each (MayStand s.counters.events) (λ r. eqb r.id id) s.releases sound.valid)
 
 there_by : (phase : Phase) (pending active : Option Revision) → d.may_change phase ≡ true → IsPhased phase pending active → newest pending active ≡ None → ⊥
 there_by phase (Some v) active e is none = absurd (cc)
@@ -605,12 +589,12 @@ ask_is s actor (ask.Draft plan) sound = draft s actor plan
 ask_is s actor (ask.Prepare id) sound = prepare s actor id
 ask_is s actor (ask.Sign id number digest) sound = sign s actor id number digest
 ask_is s actor (ask.Concur id number digest) sound = concur s actor id number digest
-ask_is s actor (ask.Amend id plan) sound = amend s actor id plan (λ q e may. there_by q.phase q.pending q.active may (valid_held s id q sound e).phased)
+ask_is s actor (ask.Amend id plan) sound = amend s actor id plan (λ q e may. there_by q.phase q.pending q.active may (valid_held s id q sound e).valid.phased)
 ask_is s actor (ask.Cancel id) sound = cancel s actor id
 ask_is s actor (ask.Depart id leg) sound =
-    depart s actor id leg (λ q e may. judged_by (grounds_of s) q.phase leg q.pending q.active may (valid_held s id q sound e).phased)
-    (λ q e may. depart_there q.phase leg q.pending q.active may (valid_held s id q sound e).phased)
-ask_is s actor (ask.Arrive id leg) sound = arrive s actor id leg (λ q e may. arrive_there q.phase leg q.pending q.active may (valid_held s id q sound e).phased)
+    depart s actor id leg (λ q e may. judged_by (grounds_of s) q.phase leg q.pending q.active may (valid_held s id q sound e).valid.phased)
+    (λ q e may. depart_there q.phase leg q.pending q.active may (valid_held s id q sound e).valid.phased)
+ask_is s actor (ask.Arrive id leg) sound = arrive s actor id leg (λ q e may. arrive_there q.phase leg q.pending q.active may (valid_held s id q sound e).valid.phased)
 ask_is s actor (ask.Acknowledge id version) sound = acknowledge s actor id version
 ask_is s actor (ask.Purge id) sound = purge s actor id
 ask_is s actor (ask.Sweep before) sound = sweep s actor before

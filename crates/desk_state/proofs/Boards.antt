@@ -5,6 +5,8 @@ use Rattle.std.specs.List.{AllByRecursion, AllPairs}
 use Rattle.std.proofs.lemmas.Bool.{leb-false}
 use Rattle.std.proofs.lemmas.List.Elements.{All-from_recursion}
 use Rattle.std.proofs.lemmas.List.Quantifiers.{all_pairs_push}
+use Rattle.ops_tables.specs.Forms.{is_person}
+use Rattle.ops_tables.specs.Named.{AreNamed}
 use Rattle.ops_tables.specs.Tables.{TableRows, actor_of}
 use Rattle.plan.specs.declared.release.Release.{Release}
 use Rattle.asks.specs.declared.call.Call.{Call}
@@ -25,9 +27,9 @@ use Rattle.asks.specs.declared.kept.KeptReply.{KeptReply}
 use Rattle.asks.specs.declared.reply.Reply.TheVariants.{Done, Seen, Refused}
 use Rattle.desk_state.specs.Requests.{is_request, kept_at}
 use Rattle.desk_state.specs.State.{State, start, grounds_of, alert_at, is_sweep, is_full, is_full_for}
-use Rattle.desk_state.specs.Events.{effected, releases_after, reports_after, kept_after}
+use Rattle.desk_state.specs.Events.{effected, releases_after, reports_after}
 use Rattle.desk_state.specs.Decide.{decide, is_view, decide_new, decide_numbered}
-use Rattle.desk_state.specs.Step.{entry, entered, kept_of, kept_of_call, kept_reply, next_kept, accepted, enter, finish, do_call, changes, changes_by, do_unless, answer_call, ticked, tick_unless, tick_to, without_key}
+use Rattle.desk_state.specs.Step.{entry, entered, kept_of, kept_reply, next_kept, accepted, enter, finish, do_call, changes, changes_by, do_unless, answer_call, ticked, tick_unless, tick_to, without_key}
 use Rattle.std.specs.Str.{bytes_eq}
 use Rattle.ops_tables.specs.declared.rows.Actor.{Actor}
 use Rattle.asks.specs.declared.reply.Refusal.TheVariants.{WrongKey}
@@ -36,15 +38,18 @@ use Rattle.desk_state.specs.People.{mistaken, not_his_role}
 use Rattle.desk_state.specs.Legal.{MayCome, next, Legal, IsHistory}
 use Rattle.plan.specs.Texts.{IsMoment}
 use Rattle.rules.specs.Grounds.{Grounds}
-use Rattle.desk_state.specs.Sound.{Sound, InBounds, ReleaseInBounds, IsBoard, IsNumbered, AreOpen, AreUnlike, AreSingle, IsReplied, IsEntered, IsToldTo, IsAlerted, Rise, EffectFits, DecisionFits}
-use Rattle.release_text.specs.Valid.{IsValid}
-use Rattle.asks.specs.Forms.{IsCall, RefusalHasMoment, ReplyHasMoment}
+use Rattle.desk_state.specs.Sound.{Sound, MayStand, InBounds, ReleaseInBounds, IsBoard, IsNumbered, AreOpen, AreUnlike, AreSingle, IsReplied, IsEntered, IsToldTo, IsAlerted, Rise, EffectFits, DecisionFits}
+use Rattle.asks.specs.Forms.{RefusalHasMoment, ReplyHasMoment}
+use Rattle.call_json.specs.Forms.{CallHasForms}
+use Rattle.call_json.proofs.AskForms.{call_from_forms}
 use Rattle.desk_state.proofs.Each.{each_push, each_weaker}
 use Rattle.desk_state.proofs.Judging.{AreTold, alerts_have, all_own, are_alerted, are_alerts, told_kept}
 use Rattle.desk_state.proofs.AllowedLaws.{decision_is}
 use Rattle.desk_state.specs.Allowed.{DecisionOf}
 use Rattle.desk_state.proofs.Parts.{judgeable, moment_shown, none_found, reports_unlike, reports_numbered, reports_rise, reports_few, swept_each, swept_unlike, swept_rise, swept_fewer, kept_each, kept_single, kept_rise, kept_fewer, still_unused, report_next, deferrals_open, deferral_next, releases_rise, releases_valid, releases_kept, releases_held, releases_told, release_next}
 use Rattle.desk_state.proofs.Deciding.{decision_fits}
+use Rattle.desk_state.proofs.FormLaws.{start_formed, tick_formed, command_formed}
+use Rattle.desk_state.proofs.NameForms.{person_formed}
 
 -- an entry more keeps a history legal
 legal_more : (s : State) (es : List Entry) (t : State) (e : Entry) → Legal s es t → MayCome t e.lane e.what → Legal s (es ++ e ∷ []) (next t e.lane e.what)
@@ -73,7 +78,7 @@ record AreNext (c : Counters) : Type 0 where
 record IsEffected (t : State) : Type 0 where
   pub ids : Rise 0 t.releases t.counters.next_release
   pub unlike : AreUnlike t.reports
-  pub valid : AllByRecursion (IsValid (t.counters.events + 1)) t.releases
+  pub valid : AllByRecursion (MayStand (t.counters.events + 1)) t.releases
   pub told : AreTold t.alerts t.releases
   pub alerts : AllByRecursion (IsAlert t.counters.events) t.alerts
   pub moment : IsMoment t.moment
@@ -243,11 +248,13 @@ tick_by false opening s lane to full board later within =
     let moment : IsMoment to = (let low = board.kept.moment.0 in omega arith, within) in
     let effect = effect_is s (tick to) (tick_fits s to moment) board.sound board.kept full in
     let is : (tick_to s lane to).state ≡ (ticked s lane to).state = rw full refl in
+    let kept = event_kept (effected (tick to) s) (entry lane (what.Tick to)) effect moment in
     record {
       tables = board.tables;
       history = history_more opening s (ticked s lane to).state lane (what.Tick to) board.history (later, full) is refl;
       sound = event_sound (effected (tick to) s) (entry lane (what.Tick to)) effect tt;
-      kept = event_kept (effected (tick to) s) (entry lane (what.Tick to)) effect moment;
+      kept = kept;
+      formed = tick_formed s lane to kept board.formed;
     }
 
 -- a tick keeps what holds of a board
@@ -288,46 +295,42 @@ accepted_history opening s lane call reply effect is room history =
     history_more opening s (accepted s lane call reply effect).state lane (what.Asked (without_key call) reply) history
     (ap (λ p. p.reply) same, changes_accepted s call.ask reply effect (decide s (without_key call)) keyless room) (ap (λ p. p.state) same) refl
 
--- an accepted call is new
-decided_unused : (s : State) (call : Call) (decision : Result Decision Refusal) (reply : Reply) (effect : Effect) → DecisionOf s call decision → decision ≡ Ok (Do reply effect)
-    → kept_at call.actor call.number s.kept ≡ None
-decided_unused s call decision reply effect is e = (subst (DecisionOf s call) e is).0.none
-
 enter_board : (full : Bool) (opening s : State) (lane : ℕ) (call : Call) (reply : Reply) (effect : Effect) → is_full_for s call.ask ≡ full → decide s call ≡ Ok (Do reply effect)
-    → EffectFits s effect → IsCall call.ask × ReplyHasMoment reply → IsBoard opening s → IsBoard opening (enter full s lane call reply effect).state
-enter_board true opening s lane call reply effect full is fits form board = board
-enter_board false opening s lane call reply effect full is fits form board =
-    let event = effect_is s effect fits board.sound board.kept (room_for s call.ask full) in
-    let unused = decided_unused s call (decide s call) reply effect (decision_is s call board.sound) is in
+    → ReplyHasMoment reply × EffectFits s effect → is_person call.actor ≡ true → CallHasForms call → IsBoard opening s → IsBoard opening (enter full s lane call reply effect).state
+enter_board true opening s lane call reply effect full is fits person has board = board
+enter_board false opening s lane call reply effect full is fits person has board =
+    let event = effect_is s effect fits.1 board.sound board.kept (room_for s call.ask full) in
+    let decided : DecisionOf s call (Ok (Do reply effect)) = subst (DecisionOf s call) is (decision_is s call board.sound) in
+    let entered_as : Entry = entry lane (what.Asked (without_key call) reply) in
+    let kept = event_kept (effected effect s) entered_as event (call_from_forms call.ask has.ask, fits.0) in
     record {
       tables = board.tables;
       history = accepted_history opening s lane call reply effect is full board.history;
-      sound = event_sound (effected effect s) (entry lane (what.Asked (without_key call) reply)) event (still_unused call.actor call.number effect.sweep s.kept unused);
-      kept = event_kept (effected effect s) (entry lane (what.Asked (without_key call) reply)) event form;
+      sound = event_sound (effected effect s) entered_as event (still_unused call.actor call.number effect.sweep s.kept decided.0.none);
+      kept = kept;
+      formed = command_formed s lane call reply effect decided (record { formed = board.formed; sound = board.sound; bounds = board.kept }) person has kept;
     }
 
-finish_board : (opening s : State) (lane : ℕ) (call : Call) (decision : Result Decision Refusal) → decide s call ≡ decision → DecisionFits s decision → IsCall call.ask → IsBoard opening s
-    → IsBoard opening (finish s lane call decision).state
-finish_board opening s lane call (Err refusal) is fits form board = board
-finish_board opening s lane call (Ok (Show reply)) is fits form board = board
-finish_board opening s lane call (Ok (Do reply effect)) is fits form board = enter_board (is_full_for s call.ask) opening s lane call reply effect refl is fits.1 (form, fits.0) board
+finish_board : (opening s : State) (lane : ℕ) (call : Call) (decision : Result Decision Refusal) → decide s call ≡ decision → DecisionFits s decision → is_person call.actor ≡ true → CallHasForms call
+    → IsBoard opening s → IsBoard opening (finish s lane call decision).state
+finish_board opening s lane call (Err refusal) is fits person has board = board
+finish_board opening s lane call (Ok (Show reply)) is fits person has board = board
+finish_board opening s lane call (Ok (Do reply effect)) is fits person has board = enter_board (is_full_for s call.ask) opening s lane call reply effect refl is fits person has board
 
--- a call keeps what holds of a board
-pub call_board : (opening s : State) (lane : ℕ) (call : Call) → IsBoard opening s → IsCall call.ask → IsBoard opening (do_call s lane call).state
+do_board : (opening s : State) (lane : ℕ) (call : Call) (o : Option Refusal) → mistaken (actor_of s.tables call.actor) call.key ≡ o → IsBoard opening s → CallHasForms call
+    → IsBoard opening (do_unless o s lane call).state
 unfolding do_call
-call_board opening s lane call board is = finish_board opening s lane call (decide s call) refl (decision_fits s call board.sound board.kept is) is board
+do_board opening s lane call None known board has =
+    finish_board opening s lane call (decide s call) refl (decision_fits s call board.sound board.kept has) (person_formed s.tables call.actor call.key board.formed.names known) has board
+do_board opening s lane call (Some refusal) known board has = board
 
-do_board : (opening s : State) (lane : ℕ) (call : Call) (o : Option Refusal) → IsBoard opening s → IsCall call.ask → IsBoard opening (do_unless o s lane call).state
-do_board opening s lane call None board is = call_board opening s lane call board is
-do_board opening s lane call (Some refusal) board is = board
-
-answer_board : (opening s : State) (lane : ℕ) (call : Call) → IsBoard opening s → IsCall call.ask → IsBoard opening (answer_call s lane call).state
+answer_board : (opening s : State) (lane : ℕ) (call : Call) → IsBoard opening s → CallHasForms call → IsBoard opening (answer_call s lane call).state
 unfolding answer_call
-answer_board opening s lane call board is = do_board opening s lane call (mistaken (actor_of s.tables call.actor) call.key) board is
+answer_board opening s lane call board has = do_board opening s lane call (mistaken (actor_of s.tables call.actor) call.key) refl board has
 
 -- nothing is held at the beginning
-pub start_board : (tables : TableRows) → IsBoard (start tables) (start tables)
-start_board tables = record {
+pub start_board : (tables : TableRows) → AreNamed tables → IsBoard (start tables) (start tables)
+start_board tables names = record {
   tables = refl;
   history = record { empty = refl; legal = refl };
   sound = record { alerted = tt; own = refl; alerts = tt; valid = tt; unlike = λ i j d before within. absurd (omega (arith, before, within)); single = λ i j d before within. absurd (omega (arith, before, within)); ids = omega arith };
@@ -346,10 +349,11 @@ start_board tables = record {
     many = omega arith;
     entries = omega arith;
   };
+  formed = start_formed tables names;
 }
 
 -- the same, of a state that a step leads to
-pub call_keeps : (opening s t : State) (lane : ℕ) (call : Call) → IsBoard opening s → IsCall call.ask → t ≡ (answer_call s lane call).state → IsBoard opening t
+pub call_keeps : (opening s t : State) (lane : ℕ) (call : Call) → IsBoard opening s → CallHasForms call → t ≡ (answer_call s lane call).state → IsBoard opening t
 call_keeps opening s t lane call board is leads = subst (λ (u : State). IsBoard opening u) (sym leads) (answer_board opening s lane call board is)
 
 pub tick_keeps : (opening s t : State) (lane to : ℕ) → IsBoard opening s → s.moment < to → to ≤ 68_374_079 → t ≡ (tick_to s lane to).state → IsBoard opening t
@@ -367,7 +371,7 @@ finish_shown s lane call (Err refusal) fits = fits
 finish_shown s lane call (Ok (Show reply)) fits = fits
 finish_shown s lane call (Ok (Do reply effect)) fits = enter_shown (is_full_for s call.ask) s lane call reply effect fits.0
 
-call_shown : (s : State) (lane : ℕ) (call : Call) → Sound s → InBounds s → IsCall call.ask → IfSome (do_call s lane call).reply ReplyHasMoment
+call_shown : (s : State) (lane : ℕ) (call : Call) → Sound s → InBounds s → CallHasForms call → IfSome (do_call s lane call).reply ReplyHasMoment
 unfolding do_call
 call_shown s lane call sound kept is = finish_shown s lane call (decide s call) (decision_fits s call sound kept is)
 
@@ -379,17 +383,17 @@ mistaken_shown (Some person) key = if_shown (not (bytes_eq person.key key))
     if_shown true = tt
     if_shown false = tt
 
-do_shown : (s : State) (lane : ℕ) (call : Call) (o : Option Refusal) → IfSome o RefusalHasMoment → Sound s → InBounds s → IsCall call.ask → IfSome (do_unless o s lane call).reply ReplyHasMoment
+do_shown : (s : State) (lane : ℕ) (call : Call) (o : Option Refusal) → IfSome o RefusalHasMoment → Sound s → InBounds s → CallHasForms call → IfSome (do_unless o s lane call).reply ReplyHasMoment
 do_shown s lane call None has sound kept is = call_shown s lane call sound kept is
 do_shown s lane call (Some refusal) has sound kept is = has
 
-answer_shown : (s : State) (lane : ℕ) (call : Call) → Sound s → InBounds s → IsCall call.ask → IfSome (answer_call s lane call).reply ReplyHasMoment
+answer_shown : (s : State) (lane : ℕ) (call : Call) → Sound s → InBounds s → CallHasForms call → IfSome (answer_call s lane call).reply ReplyHasMoment
 unfolding answer_call
 answer_shown s lane call sound kept is =
     do_shown s lane call (mistaken (actor_of s.tables call.actor) call.key) (mistaken_shown (actor_of s.tables call.actor) call.key) sound kept is
 
 -- the reply to a call can be written
-pub reply_shown : (s : State) (lane : ℕ) (call : Call) (o : Option Reply) → o ≡ (answer_call s lane call).reply → Sound s → InBounds s → IsCall call.ask → IfSome o ReplyHasMoment
+pub reply_shown : (s : State) (lane : ℕ) (call : Call) (o : Option Reply) → o ≡ (answer_call s lane call).reply → Sound s → InBounds s → CallHasForms call → IfSome o ReplyHasMoment
 reply_shown s lane call o is sound kept form = subst (λ (p : Option Reply). IfSome p ReplyHasMoment) (sym is) (answer_shown s lane call sound kept form)
 
 enter_replies : (full : Bool) (s : State) (lane : ℕ) (call : Call) (reply : Reply) (effect : Effect) → is_some (enter full s lane call reply effect).reply ≡ true

@@ -2,7 +2,7 @@
 use Rattle.std.specs.Str.{bytes_eq}
 use Rattle.std.proofs.lemmas.Bool.{eqb-true, eq-eqb, leb-false, leb-true, ltb-true}
 use Rattle.std.proofs.lemmas.Slice.Eq.{bytes_eq-Decides}
-use Rattle.std.proofs.Common.{◌≡◌, ℕ, ◌+◌, ◌*◌, ◌/◌, ◌<◌, ◌≤◌, ◌==◌, not, ◌&&◌, Bool, true, false, cond, eqb, ltb, is_some, List, [], ◌∷◌, length, Option, None, Some, IfSome, Result, Ok, Err, refl, subst, sym, ◌∙◌, arith}
+use Rattle.std.proofs.Common.{◌≡◌, ℕ, ◌+◌, ◌/◌, ◌<◌, ◌≤◌, ◌==◌, not, ◌&&◌, Bool, true, false, cond, eqb, ltb, is_some, List, [], ◌∷◌, length, Option, None, Some, IfSome, Result, Ok, Err, refl, subst, sym, ◌∙◌, arith}
 use Rattle.std.specs.Prelude.{nat_le}
 use Rattle.std.specs.List.{AllByRecursion}
 use Rattle.codes.specs.Groups.{groups_of, canonical}
@@ -40,6 +40,8 @@ use Rattle.asks.specs.declared.reply.Reply.TheVariants.{Done}
 use Rattle.asks.specs.declared.reply.Refusal.{Refusal}
 use Rattle.asks.specs.declared.reply.Refusal.TheVariants.{NumberReused}
 use Rattle.call_json.specs.Canonical.{ask_digest}
+use Rattle.call_json.specs.Forms.{CallHasForms}
+use Rattle.call_json.proofs.AskForms.{call_from_forms}
 use Rattle.desk_state.specs.declared.effect.Decision.{Decision}
 use Rattle.desk_state.specs.declared.effect.Decision.TheVariants.{Show}
 use Rattle.desk_state.specs.Requests.{kept_at, floor_at}
@@ -52,12 +54,13 @@ use Rattle.desk_state.specs.Decide as d
 use Rattle.desk_state.specs.Decide.{decide}
 use Rattle.desk_state.specs.People.{may_ask, not_his_role}
 use Rattle.plan.specs.Texts.{HasMoment, IsMoment}
-use Rattle.desk_state.specs.Sound.{Sound, InBounds, ReleaseInBounds, RevisionInBounds, IsNew, Fits, MayReplace, IsTaken, IsToldTo, Matches, IsAlerted, EffectFits, DecisionFits}
-use Rattle.release_text.specs.Valid.{IsValid, IsPhased, IsThere, AreNumbered, Waits, MaySigned, HasLegs, IsSigned}
+use Rattle.desk_state.specs.Sound.{Sound, InBounds, ReleaseInBounds, RevisionInBounds, IsNew, MayStand, Fits, MayReplace, IsTaken, IsToldTo, Matches, IsAlerted, EffectFits, DecisionFits}
+use Rattle.release_text.specs.Valid.{IsPhased, IsThere, AreNumbered, Waits, MaySigned, HasLegs, IsSigned}
 use Rattle.desk_state.specs.Effects as effect
 use Rattle.desk_state.specs.Texts.{newest}
 use Rattle.asks.specs.Forms.{IsCall, CanBeShown, RefusalHasMoment}
 use Rattle.desk_state.proofs.Each.{found_each, each_weaker}
+use Rattle.desk_state.proofs.Parts.{later_within}
 
 -- Chains.
 
@@ -196,9 +199,9 @@ still_phased (Stopped next since again) v w active is = is
 still_phased (Completed at) v w active is = is
 still_phased (Cancelled at) v w active is = is
 
-still_numbered : (most : ℕ) (v w : Revision) (active : Option Revision) → w.number ≡ v.number → AreNumbered most (Some v) active → AreNumbered (most + 1) (Some w) active
-still_numbered most v w None same is = omega (arith, same, is)
-still_numbered most v w (Some x) same is = (let one = is.0 in omega (arith, same, one), let two = is.1 in omega (arith, same, two))
+still_numbered : (v w : Revision) (active : Option Revision) → w.number ≡ v.number → AreNumbered (Some v) active → AreNumbered (Some w) active
+still_numbered v w None same is = tt
+still_numbered v w (Some x) same is = omega (arith, same, is)
 
 active_phased : (phase : Phase) (w : Revision) → IsPhased (d.once_signed phase) None (Some w)
 active_phased Drafted w = tt
@@ -216,16 +219,6 @@ active_fit (Stopped next since again) legs fits = fits
 active_fit (Completed at) legs fits = tt
 active_fit (Cancelled at) legs fits = tt
 
-active_numbered : (most : ℕ) (v w : Revision) (active : Option Revision) → w.number ≡ v.number → AreNumbered most (Some v) active → AreNumbered (most + 1) None (Some w)
-active_numbered most v w None same is = omega (arith, same, is)
-active_numbered most v w (Some x) same is = let two = is.1 in omega (arith, same, two)
-
-alone_numbered : (most : ℕ) (pending active : Option Revision) → AreNumbered most pending active → AreNumbered (most + 1) None active
-alone_numbered most None None is = tt
-alone_numbered most None (Some w) is = omega (arith, is)
-alone_numbered most (Some v) None is = tt
-alone_numbered most (Some v) (Some w) is = let one = is.0 in let two = is.1 in omega (arith, one, two)
-
 some_weaker : {A : Type 0} (P Q : A → Type 0) → ((x : A) → P x → Q x) → (o : Option A) → IfSome o P → IfSome o Q
 some_weaker P Q f None is = tt
 some_weaker P Q f (Some x) is = f x is
@@ -241,7 +234,8 @@ record IsPending (s : State) (r : Release) (v : Revision) : Type 0 where
   pub held : IsHeld s r
   pub phased : IsPhased r.phase (Some v) r.active
   pub waits : Waits v
-  pub numbered : AreNumbered s.counters.events (Some v) r.active
+  pub numbered : AreNumbered (Some v) r.active
+  pub within : v.number ≤ s.counters.events
   pub legs : HasLegs r.phase v
   pub bounds : RevisionInBounds v
 
@@ -251,10 +245,11 @@ pending_is s r (Some w) v held is e =
     let same : r.pending ≡ Some v = is ∙ e in
     record {
       held = held;
-      phased = subst (λ (o : Option Revision). IsPhased r.phase o r.active) same held.fits.valid.phased;
-      waits = subst (λ (o : Option Revision). IfSome o Waits) same held.fits.valid.waits;
-      numbered = subst (λ (o : Option Revision). AreNumbered s.counters.events o r.active) same held.fits.valid.numbered;
-      legs = subst (λ (o : Option Revision). IfSome o (HasLegs r.phase)) same held.fits.valid.pending_legs;
+      phased = subst (λ (o : Option Revision). IsPhased r.phase o r.active) same held.fits.stands.valid.phased;
+      waits = subst (λ (o : Option Revision). IfSome o Waits) same held.fits.stands.valid.waits;
+      numbered = subst (λ (o : Option Revision). AreNumbered o r.active) same held.fits.stands.valid.numbered;
+      within = subst (λ (o : Option Revision). IfSome o (λ x. x.number ≤ s.counters.events)) same held.fits.stands.within.0;
+      legs = subst (λ (o : Option Revision). IfSome o (HasLegs r.phase)) same held.fits.stands.valid.pending_legs;
       bounds = subst (λ (o : Option Revision). IfSome o RevisionInBounds) same held.fits.kept.pending;
     }
 
@@ -262,13 +257,16 @@ pending_is s r (Some w) v held is e =
 pending_fits : (s : State) (r : Release) (v w : Revision) → IsPending s r v → w.number ≡ v.number → Waits w → HasLegs r.phase w → RevisionInBounds w → MayReplace s (record r { pending = Some w })
 pending_fits s r v w is same waits legs bounds = record {
   fits = record {
-    valid = record {
-      phased = still_phased r.phase v w r.active is.phased;
-      both = is.held.fits.valid.both;
-      waits = waits;
-      numbered = still_numbered s.counters.events v w r.active same is.numbered;
-      pending_legs = legs;
-      active_legs = is.held.fits.valid.active_legs;
+    stands = record {
+      valid = record {
+        phased = still_phased r.phase v w r.active is.phased;
+        both = is.held.fits.stands.valid.both;
+        waits = waits;
+        numbered = still_numbered v w r.active same is.numbered;
+        pending_legs = legs;
+        active_legs = is.held.fits.stands.valid.active_legs;
+      };
+      within = (let low = is.within in omega (arith, same, low), later_within s.counters.events r.active is.held.fits.stands.within.1);
     };
     kept = record { moment = is.held.fits.kept.moment; pending = bounds; active = is.held.fits.kept.active };
   };
@@ -291,13 +289,16 @@ active_fits : (s : State) (r : Release) (v : Revision) (signature : Signature) �
     → IsSigned v v.dispatcher → MayReplace s (d.made_active r v signature)
 active_fits s r v signature shown prepared on is signed = record {
   fits = record {
-    valid = record {
-      phased = active_phased r.phase (record v { captain = Some signature });
-      both = record { prepared = prepared; dispatcher = signed; captain = on };
-      waits = tt;
-      numbered = active_numbered s.counters.events v (record v { captain = Some signature }) r.active refl is.numbered;
-      pending_legs = tt;
-      active_legs = record { some = is.legs.some; fits = active_fit r.phase v.plan.legs is.legs.fits };
+    stands = record {
+      valid = record {
+        phased = active_phased r.phase (record v { captain = Some signature });
+        both = record { prepared = prepared; dispatcher = signed; captain = on };
+        waits = tt;
+        numbered = tt;
+        pending_legs = tt;
+        active_legs = record { some = is.legs.some; fits = active_fit r.phase v.plan.legs is.legs.fits };
+      };
+      within = (tt, let low = is.within in omega (arith, low));
     };
     kept = record {
       moment = once_signed_moment r.phase is.held.fits.kept.moment;
@@ -314,13 +315,16 @@ moved_fits : (s : State) (r : Release) (phase : Phase) → IsHeld s r → IsPhas
     → MayReplace s (record r { phase = phase; pending = None })
 moved_fits s r phase is phased legs shown = record {
   fits = record {
-    valid = record {
-      phased = phased;
-      both = is.fits.valid.both;
-      waits = tt;
-      numbered = alone_numbered s.counters.events r.pending r.active is.fits.valid.numbered;
-      pending_legs = tt;
-      active_legs = some_weaker (HasLegs r.phase) (HasLegs phase) legs r.active is.fits.valid.active_legs;
+    stands = record {
+      valid = record {
+        phased = phased;
+        both = is.fits.stands.valid.both;
+        waits = tt;
+        numbered = tt;
+        pending_legs = tt;
+        active_legs = some_weaker (HasLegs r.phase) (HasLegs phase) legs r.active is.fits.stands.valid.active_legs;
+      };
+      within = (tt, later_within s.counters.events r.active is.fits.stands.within.1);
     };
     kept = record { moment = shown; pending = tt; active = is.fits.kept.active };
   };
@@ -352,7 +356,7 @@ depart_fit (Cancelled at) leg legs e some fits = absurd (cc)
 
 departed_fits : (s : State) (r : Release) (leg : ℕ) → IsHeld s r → d.may_depart r.phase leg ≡ true → MayReplace s (d.departed r leg)
 departed_fits s r leg is may =
-    moved_fits s r (Flying leg) is (depart_phased r.phase leg r.pending r.active may is.fits.valid.phased)
+    moved_fits s r (Flying leg) is (depart_phased r.phase leg r.pending r.active may is.fits.stands.valid.phased)
     (λ v has. record { some = has.some; fits = depart_fit r.phase leg v.plan.legs may has.some has.fits }) tt
 
 arrive_phased : (phase : Phase) (leg next since : ℕ) (again : Bool) (pending active : Option Revision) → d.may_arrive phase leg ≡ true → IsPhased phase pending active
@@ -372,13 +376,16 @@ stop_legs phase leg since (Some v) e is = record { some = is.some; fits = (omega
 stopped_fits : (s : State) (r : Release) (leg : ℕ) → IsHeld s r → d.may_arrive r.phase leg ≡ true → d.has_more r leg ≡ true → IsMoment s.moment → MayReplace s (d.stopped r leg s.moment)
 stopped_fits s r leg is may more shown = record {
   fits = record {
-    valid = record {
-      phased = arrive_phased r.phase leg (leg + 1) s.moment false r.pending r.active may is.fits.valid.phased;
-      both = is.fits.valid.both;
-      waits = tt;
-      numbered = alone_numbered s.counters.events r.pending r.active is.fits.valid.numbered;
-      pending_legs = tt;
-      active_legs = stop_legs r.phase leg s.moment r.active more is.fits.valid.active_legs;
+    stands = record {
+      valid = record {
+        phased = arrive_phased r.phase leg (leg + 1) s.moment false r.pending r.active may is.fits.stands.valid.phased;
+        both = is.fits.stands.valid.both;
+        waits = tt;
+        numbered = tt;
+        pending_legs = tt;
+        active_legs = stop_legs r.phase leg s.moment r.active more is.fits.stands.valid.active_legs;
+      };
+      within = (tt, later_within s.counters.events r.active is.fits.stands.within.1);
     };
     kept = record { moment = shown; pending = tt; active = is.fits.kept.active };
   };
@@ -396,12 +403,14 @@ amend_phased (Stopped next since again) w pending active e is = is
 amend_phased (Completed at) w pending active e is = absurd (cc)
 amend_phased (Cancelled at) w pending active e is = absurd (cc)
 
-amend_numbered : (most : ℕ) (w : Revision) (pending active : Option Revision) → w.number ≡ d.newest_number (newest pending active) + 1 → AreNumbered most pending active
-    → AreNumbered (most + 1) (Some w) active
-amend_numbered most w None None is has = omega (arith, is)
-amend_numbered most w (Some v) None is has = omega (arith, is, has)
-amend_numbered most w None (Some x) is has = (omega (arith, is), omega (arith, is, has))
-amend_numbered most w (Some v) (Some x) is has = (let one = has.0 in omega (arith, is, one), let two = has.1 in omega (arith, is, two))
+amend_numbered : (w : Revision) (pending active : Option Revision) → w.number ≡ d.newest_number (newest pending active) + 1 → AreNumbered pending active → AreNumbered (Some w) active
+amend_numbered w pending None is has = tt
+amend_numbered w (Some v) (Some x) is has = omega (arith, is, has)
+amend_numbered w None (Some x) is has = omega (arith, is)
+
+next_within : (most : ℕ) (o : Option Revision) → IfSome o (λ v. v.number ≤ most) → d.newest_number o + 1 ≤ most + 1
+next_within most None is = omega arith
+next_within most (Some v) is = omega (arith, is)
 
 -- there is a revision until the release has ended
 newest_there : (phase : Phase) (pending active : Option Revision) → d.may_change phase ≡ true → IsPhased phase pending active → IsThere (newest pending active)
@@ -436,17 +445,23 @@ amended_fits s r plan is form may passes follows =
     let w : Revision = d.fresh_revision (d.newest_number (newest r.pending r.active) + 1) plan in
     record {
       fits = record {
-        valid = record {
-          phased = amend_phased r.phase w r.pending r.active may is.fits.valid.phased;
-          both = is.fits.valid.both;
-          waits = record { captain = refl; dispatcher = tt };
-          numbered = amend_numbered s.counters.events w r.pending r.active refl is.fits.valid.numbered;
-          pending_legs = record {
-            some = has_a_leg s.tables plan passes;
-            fits = amend_legs r.phase plan (newest r.pending r.active) (newest_there r.phase r.pending r.active may is.fits.valid.phased)
-                (newest_has (HasLegs r.phase) r.pending r.active is.fits.valid.pending_legs is.fits.valid.active_legs) follows;
+        stands = record {
+          valid = record {
+            phased = amend_phased r.phase w r.pending r.active may is.fits.stands.valid.phased;
+            both = is.fits.stands.valid.both;
+            waits = record { captain = refl; dispatcher = tt };
+            numbered = amend_numbered w r.pending r.active refl is.fits.stands.valid.numbered;
+            pending_legs = record {
+              some = has_a_leg s.tables plan passes;
+              fits = amend_legs r.phase plan (newest r.pending r.active) (newest_there r.phase r.pending r.active may is.fits.stands.valid.phased)
+                  (newest_has (HasLegs r.phase) r.pending r.active is.fits.stands.valid.pending_legs is.fits.stands.valid.active_legs) follows;
+            };
+            active_legs = is.fits.stands.valid.active_legs;
           };
-          active_legs = is.fits.valid.active_legs;
+          within = (
+            next_within s.counters.events (newest r.pending r.active) (newest_has (λ v. v.number ≤ s.counters.events) r.pending r.active is.fits.stands.within.0 is.fits.stands.within.1),
+            later_within s.counters.events r.active is.fits.stands.within.1,
+          );
         };
         kept = record { moment = is.fits.kept.moment; pending = record { is_plan = form; dispatcher = tt; captain = tt }; active = is.fits.kept.active };
       };
@@ -471,11 +486,11 @@ own_ids : (rs : List Release) → AllByRecursion (λ r. IsTaken r.id rs) rs
 own_ids [] = tt
 own_ids (q ∷ rs) = (rw (eq-eqb q.id q.id refl) refl, each_weaker (λ r. IsTaken r.id rs) (λ r. IsTaken r.id (q ∷ rs)) (λ r taken. taken_more _ q r.id rs refl taken) rs (own_ids rs))
 
-held_each : (s : State) (rs : List Release) → AllByRecursion (IsAlerted (grounds_of s) s.alerts) rs → AllByRecursion (IsValid s.counters.events) rs → AllByRecursion ReleaseInBounds rs
+held_each : (s : State) (rs : List Release) → AllByRecursion (IsAlerted (grounds_of s) s.alerts) rs → AllByRecursion (MayStand s.counters.events) rs → AllByRecursion ReleaseInBounds rs
     → AllByRecursion (λ r. IsTaken r.id s.releases) rs → AllByRecursion (IsHeld s) rs
 held_each s [] alerted valid kept taken = tt
 held_each s (r ∷ rs) alerted valid kept taken =
-    (record { fits = record { valid = valid.0; kept = kept.0 }; holder = alerted.0.1; taken = taken.0 }, held_each s rs alerted.1 valid.1 kept.1 taken.1)
+    (record { fits = record { stands = valid.0; kept = kept.0 }; holder = alerted.0.1; taken = taken.0 }, held_each s rs alerted.1 valid.1 kept.1 taken.1)
 
 found_held : (s : State) (id : ℕ) → Sound s → InBounds s → IfSome (release_at id s.releases) (IsHeld s)
 found_held s id sound kept = found_each (IsHeld s) (λ r. r.id == id) s.releases (held_each s s.releases sound.alerted sound.valid kept.releases (own_ids s.releases))
@@ -539,13 +554,16 @@ drafted_fits : (s : State) (actor : List ℕ) (plan : Plan) → IsPlan plan → 
     → IsNew (s.counters.events + 1) s.counters.next_release (length s.releases) (d.drafted s.counters.next_release actor plan)
 drafted_fits s actor plan form passes few = record {
   fits = record {
-    valid = record {
-      phased = (tt, tt);
-      both = tt;
-      waits = record { captain = refl; dispatcher = tt };
-      numbered = omega arith;
-      pending_legs = record { some = has_a_leg s.tables plan passes; fits = tt };
-      active_legs = tt;
+    stands = record {
+      valid = record {
+        phased = (tt, tt);
+        both = tt;
+        waits = record { captain = refl; dispatcher = tt };
+        numbered = tt;
+        pending_legs = record { some = has_a_leg s.tables plan passes; fits = tt };
+        active_legs = tt;
+      };
+      within = (omega arith, tt);
     };
     kept = record { moment = tt; pending = record { is_plan = form; dispatcher = tt; captain = tt }; active = tt };
   };
@@ -751,8 +769,8 @@ numbered_fits : (view : Bool) (s : State) (call : Call) → Sound s → InBounds
 numbered_fits true s call sound kept is = ask_fits s call.actor call.ask sound kept is
 numbered_fits false s call sound kept is = new_fits (kept_at call.actor call.number s.kept) s call sound kept is
 
-pub decision_fits : (s : State) (call : Call) → Sound s → InBounds s → IsCall call.ask → DecisionFits s (decide s call)
+pub decision_fits : (s : State) (call : Call) → Sound s → InBounds s → CallHasForms call → DecisionFits s (decide s call)
 unfolding decide
 decision_fits s call sound kept is =
     passed s (not_his_role (actor_of s.tables call.actor) call.ask) _ (role_stops (actor_of s.tables call.actor) call.ask)
-    (λ e. numbered_fits (d.is_view call.ask) s call sound kept is)
+    (λ e. numbered_fits (d.is_view call.ask) s call sound kept (call_from_forms call.ask is.ask))

@@ -1,6 +1,5 @@
 -- What an accepted ask brings has its forms.
-use Rattle.std.proofs.Common.{◌≡◌, ℕ, ◌+◌, ◌≤◌, Bool, true, false, cond, not, eqb, List, [], ◌∷◌, length, Option, None, Some, IfSome, sym, subst, arith}
-use Rattle.std.specs.Prelude.{filter}
+use Rattle.std.proofs.Common.{◌≡◌, ℕ, ◌+◌, ◌≤◌, true, false, not, eqb, List, [], ◌∷◌, length, Option, None, Some, IfSome, sym, subst, arith}
 use Rattle.std.specs.List.{AllByRecursion}
 use Rattle.asks.specs.declared.call.Ask.{Ask}
 use Rattle.asks.specs.declared.kept.Floor.{Floor}
@@ -17,8 +16,7 @@ use Rattle.desk_state.specs.Decide.{attached_reports, reports_before}
 use Rattle.desk_state.specs.Effects as effect
 use Rattle.desk_state.specs.Events.{is_since}
 use Rattle.desk_state.specs.Requests.{kept_before}
-use Rattle.desk_state.specs.Sound.{Sound, InBounds, Rise}
-use Rattle.release_text.specs.Valid.{AreNumbered, IsValid}
+use Rattle.desk_state.specs.Sound.{Sound, IsWithin, MayStand, InBounds, Rise}
 use Rattle.desk_state.specs.State.{State, release_at}
 use Rattle.desk_state.specs.declared.effect.Effect.{Effect}
 use Rattle.desk_state.specs.declared.effect.OnDeferrals.{OnDeferrals}
@@ -28,7 +26,7 @@ use Rattle.desk_state.specs.declared.effect.OnReleases.TheVariants as on_release
 use Rattle.desk_state.specs.declared.effect.Sweep.{Sweep}
 use Rattle.desk_state.proofs.Each.{found_each}
 use Rattle.desk_state.proofs.Judging.{rise_bound}
-use Rattle.desk_state.proofs.Parts.{filter_each}
+use Rattle.desk_state.proofs.Parts.{filter_each, filter_shorter}
 use Rattle.ops_tables.specs.Forms.{is_person}
 use Rattle.plan.specs.Texts.{IsMoment, HasMoment}
 use Rattle.plan.specs.declared.flights.Plan.{Plan}
@@ -75,14 +73,14 @@ pub record Stands (s : State) : Type 0 where
 record IsHeld (s : State) (q : Release) : Type 0 where
   formed : IsFormed q
   low : IsId q.id
-  numbered : AreNumbered s.counters.events q.pending q.active
+  within : IsWithin s.counters.events q
 
-all_held : (s : State) (low : ℕ) (rs : List Release) (next : ℕ) → next ≤ 1_000_000_000_000_000 → Rise low rs next → AllByRecursion (IsValid s.counters.events) rs → AllByRecursion IsFormed rs
+all_held : (s : State) (low : ℕ) (rs : List Release) (next : ℕ) → next ≤ 1_000_000_000_000_000 → Rise low rs next → AllByRecursion (MayStand s.counters.events) rs → AllByRecursion IsFormed rs
     → AllByRecursion (IsHeld s) rs
 all_held s low [] next top rise valid formed = tt
 all_held s low (r ∷ rs) next top rise valid formed =
     let below = rise_bound (r.id + 1) rs next rise.1 in
-    (record { formed = formed.0; low = omega (arith, below, top); numbered = valid.0.numbered }, all_held s (r.id + 1) rs next top rise.1 valid.1 formed.1)
+    (record { formed = formed.0; low = omega (arith, below, top); within = valid.0.within }, all_held s (r.id + 1) rs next top rise.1 valid.1 formed.1)
 
 held_at : (s : State) (id : ℕ) → Stands s → IfSome (release_at id s.releases) (IsHeld s)
 held_at s id stands =
@@ -166,11 +164,11 @@ fresh_formed number plan (Some v) low has is = record {
 
 -- the number of a revision that takes the place of another
 next_low : (s : State) (plan : Plan) (phase : Phase) (pending active after : Option Revision) (number : ℕ) → s.counters.events ≤ 999_999_999_999_999
-    → AreNumbered s.counters.events pending active → IsNextRevision s plan phase pending active after number → IsId number × IsFresh number plan after
-next_low s plan phase (Some v) None after number top low is = (let same = is.1 in omega (arith, same, low, top), is.2)
-next_low s plan phase (Some v) (Some w) after number top low is = (let same = is.1 in let below = low.1 in omega (arith, same, below, top), is.2)
-next_low s plan phase None (Some w) after number top low is = (let same = is.1 in omega (arith, same, low, top), is.2)
-next_low s plan phase None None after number top low is = absurd is
+    → IfSome pending (λ v. v.number ≤ s.counters.events) → IfSome active (λ v. v.number ≤ s.counters.events) → IsNextRevision s plan phase pending active after number
+    → IsId number × IsFresh number plan after
+next_low s plan phase (Some v) active after number top one two is = (let same = is.1 in omega (arith, same, one, top), is.2)
+next_low s plan phase None (Some w) after number top one two is = (let same = is.1 in omega (arith, same, two, top), is.2)
+next_low s plan phase None None after number top one two is = absurd is
 
 -- ---- releases
 
@@ -227,7 +225,7 @@ drafted_formed s actor plan r person has is = record {
 
 amended_low : (s : State) (actor : List ℕ) (plan : Plan) (number : ℕ) (q r : Release) → Stands s → IsHeld s q → IsAmending s actor plan number q r → IsId number × IsFresh number plan r.pending
 amended_low s actor plan number q r stands held is =
-    next_low s plan q.phase q.pending q.active r.pending number stands.bounds.counters.events held.numbered is.pending
+    next_low s plan q.phase q.pending q.active r.pending number stands.bounds.counters.events held.within.0 held.within.1 is.pending
 
 amended_formed : (s : State) (actor : List ℕ) (plan : Plan) (number : ℕ) (q r : Release) → Stands s → HasForms plan → IsHeld s q → IsAmending s actor plan number q r → IsFormed r
 amended_formed s actor plan number q r stands has held is =
@@ -326,14 +324,6 @@ completing_done s actor id leg r stands is =
 -- a release that is found
 found_low : (s : State) (id : ℕ) (q : Release) → Stands s → release_at id s.releases ≡ Some q → IsId q.id
 found_low s id q stands e = let held : IsHeld s q = subst (λ (o : Option Release). IfSome o (IsHeld s)) e (held_at s id stands) in held.low
-
-shorter : {A : Type 0} (b : Bool) (x : A) (rest xs : List A) → length rest ≤ length xs → length (cond b (x ∷ rest) rest) ≤ length (x ∷ xs)
-shorter true x rest xs within = omega (arith, within)
-shorter false x rest xs within = omega (arith, within)
-
-filter_shorter : {A : Type 0} (q : A → Bool) (xs : List A) → length (filter q xs) ≤ length xs
-filter_shorter q [] = omega arith
-filter_shorter q (x ∷ xs) = shorter (q x) x (filter q xs) xs (filter_shorter q xs)
 
 fewer_reports : (s : State) (before : ℕ) → length (reports_before s before) ≤ length s.reports
 unfolding leaving

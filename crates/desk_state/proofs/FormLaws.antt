@@ -1,10 +1,9 @@
 -- Every step of the desk keeps the forms of what it holds.
-use Rattle.std.proofs.Common.{◌≡◌, ℕ, ◌<◌, ◌≤◌, Bool, true, false, not, List, ◌++◌, append-nil, option_to_list, Option, None, Some, IfSome, Result, Ok, Err, refl, sym, subst}
+use Rattle.std.proofs.Common.{◌≡◌, ℕ, true, not, List, ◌++◌, append-nil, option_to_list, Option, None, Some, IfSome, Ok, refl, sym, subst}
 use Rattle.std.specs.List.{AllByRecursion}
 use Rattle.asks.specs.declared.call.Call.{Call}
 use Rattle.asks.specs.declared.kept.Floor.{Floor}
 use Rattle.asks.specs.declared.kept.KeptReply.{KeptReply}
-use Rattle.asks.specs.declared.reply.Refusal.{Refusal}
 use Rattle.asks.specs.declared.reply.Reply.{Reply}
 use Rattle.asks.specs.declared.reply.Reply.TheVariants.{Done, Seen, Refused}
 use Rattle.deferrals.specs.Held.{has_id}
@@ -15,17 +14,13 @@ use Rattle.desk_state.specs.Formed.{ReportHasForms, DeferralHasForms, AlertHasFo
 use Rattle.desk_state.proofs.AlertForms.{all_judged, ids_low}
 use Rattle.desk_state.proofs.DigestForms.{ask_digest_formed}
 use Rattle.desk_state.proofs.EffectForms.{OpensFormed, PutsFormed, HasFloors, BringsForms, Stands, effect_formed}
-use Rattle.desk_state.proofs.NameForms.{person_formed}
 use Rattle.desk_state.specs.Allowed.{DecisionOf}
-use Rattle.desk_state.specs.Decide.{decide}
 use Rattle.desk_state.specs.Effects.{tick}
 use Rattle.desk_state.specs.Events.{effected, reports_after, deferrals_after, releases_after, floors_after}
-use Rattle.desk_state.specs.People.{mistaken}
-use Rattle.desk_state.specs.Sound.{InBounds, IsBoard}
-use Rattle.desk_state.specs.State.{State, start, is_full, is_full_for}
-use Rattle.desk_state.specs.Step.{entry, entered, kept_of, kept_of_call, enter, finish, do_call, do_unless, answer_call, tick_unless, tick_to, without_key}
-use Rattle.desk_state.specs.declared.effect.Decision.{Decision}
-use Rattle.desk_state.specs.declared.effect.Decision.TheVariants.{Show, Do}
+use Rattle.desk_state.specs.Sound.{InBounds}
+use Rattle.desk_state.specs.State.{State, start}
+use Rattle.desk_state.specs.Step.{entry, entered, kept_of, kept_of_call, accepted, ticked, without_key}
+use Rattle.desk_state.specs.declared.effect.Decision.TheVariants.{Do}
 use Rattle.desk_state.specs.declared.effect.Effect.{Effect}
 use Rattle.desk_state.specs.declared.effect.OnDeferrals.{OnDeferrals}
 use Rattle.desk_state.specs.declared.effect.OnDeferrals.TheVariants as on_deferrals
@@ -34,17 +29,13 @@ use Rattle.desk_state.specs.declared.effect.OnReleases.TheVariants as on_release
 use Rattle.desk_state.specs.declared.effect.Sweep.{Sweep}
 use Rattle.desk_state.specs.declared.entry.Entry.{Entry}
 use Rattle.desk_state.specs.declared.entry.What.TheVariants as what
-use Rattle.desk_state.proofs.AllowedLaws.{decision_is}
-use Rattle.desk_state.proofs.Boards.{call_board, tick_board}
 use Rattle.desk_state.proofs.Each.{each_push, put_each, without_each}
 use Rattle.desk_state.proofs.Judging.{alerts_have}
 use Rattle.desk_state.proofs.Parts.{filter_each, kept_each, swept_each}
 use Rattle.ops_tables.specs.Forms.{is_person}
-use Rattle.ops_tables.specs.Tables.{TableRows, actor_of}
+use Rattle.ops_tables.specs.Tables.{TableRows}
 use Rattle.plan.specs.declared.release.Release.{Release}
 use Rattle.call_json.specs.Forms.{CallHasForms, DoneHasForms, IsFloor, IsRequest, FloorsRise, IsFormed}
-use Rattle.call_json.proofs.AskForms.{call_from_forms}
-use Rattle.kept_state.specs.Opening.{MayReopen, reopened}
 
 -- nothing is held at the beginning
 pub start_formed : (tables : TableRows) → AreNamed tables → AreFormed (start tables)
@@ -104,18 +95,10 @@ entered_formed t e bounds reply formed = record {
   rising = formed.rising;
 }
 
--- ---- ticks
-
-tick_by : (full : Bool) (opening s : State) (lane to : ℕ) → IsBoard opening (tick_unless full s lane to).state → AreFormed s → AreFormed (tick_unless full s lane to).state
-tick_by true opening s lane to board formed = formed
-tick_by false opening s lane to board formed =
-    entered_formed (effected (tick to) s) (entry lane (what.Tick to)) board.kept tt
-    (effected_formed s (tick to) (record { admitted = tt; opened = tt; filed = tt; floors = tt }) formed)
-
--- A tick keeps the forms.
-pub tick_formed : (opening s : State) (lane to : ℕ) → IsBoard opening s → AreFormed s → s.moment < to → to ≤ 68_374_079 → AreFormed (tick_to s lane to).state
-unfolding tick_to
-tick_formed opening s lane to board formed later within = tick_by (is_full s) opening s lane to (tick_board opening s lane to board later within) formed
+-- a tick brings nothing
+pub tick_formed : (s : State) (lane to : ℕ) → InBounds (ticked s lane to).state → AreFormed s → AreFormed (ticked s lane to).state
+tick_formed s lane to bounds formed =
+    entered_formed (effected (tick to) s) (entry lane (what.Tick to)) bounds tt (effected_formed s (tick to) (record { admitted = tt; opened = tt; filed = tt; floors = tt }) formed)
 
 -- ---- calls
 
@@ -130,49 +113,10 @@ reply_kept t call (Done made) person low says = record { actor = person; number 
 reply_kept t call (Seen text) person low says = tt
 reply_kept t call (Refused refusal) person low says = tt
 
-enter_formed : (full : Bool) (opening s : State) (lane : ℕ) (call : Call) (reply : Reply) (e : Effect) → is_person call.actor ≡ true → IsRequest call.number → SaysFormed reply → BringsForms e
-    → IsBoard opening (enter full s lane call reply e).state → AreFormed s → AreFormed (enter full s lane call reply e).state
-enter_formed true opening s lane call reply e person low says brings board formed = formed
-enter_formed false opening s lane call reply e person low says brings board formed =
-    entered_formed (effected e s) (entry lane (what.Asked (without_key call) reply)) board.kept (reply_kept (effected e s) (without_key call) reply person low says)
-    (effected_formed s e brings formed)
-
-finish_formed : (opening s : State) (lane : ℕ) (call : Call) (decision : Result Decision Refusal) → DecisionOf s call decision → Stands s → is_person call.actor ≡ true → CallHasForms call
-    → IsBoard opening (finish s lane call decision).state → AreFormed (finish s lane call decision).state
-finish_formed opening s lane call (Err refusal) decided stands person has board = stands.formed
-finish_formed opening s lane call (Ok (Show reply)) decided stands person has board = stands.formed
-finish_formed opening s lane call (Ok (Do reply e)) decided stands person has board =
+-- what an accepted command of a person brings has its forms, and so has what is kept of it
+pub command_formed : (s : State) (lane : ℕ) (call : Call) (reply : Reply) (e : Effect) → DecisionOf s call (Ok (Do reply e)) → Stands s → is_person call.actor ≡ true → CallHasForms call
+    → InBounds (accepted s lane call reply e).state → AreFormed (accepted s lane call reply e).state
+command_formed s lane call reply e decided stands person has bounds =
     let made = effect_formed s call.actor stands person decided.3 has.ask in
-    enter_formed (is_full_for s call.ask) opening s lane call reply e person has.number (subst SaysFormed (sym decided.2) made.1) made.0 board stands.formed
-
-done_formed : (opening s : State) (lane : ℕ) (call : Call) → IsBoard opening s → AreFormed s → is_person call.actor ≡ true → CallHasForms call → AreFormed (do_call s lane call).state
-unfolding do_call
-done_formed opening s lane call board formed person has =
-    finish_formed opening s lane call (decide s call) (decision_is s call board.sound) (record { formed = formed; sound = board.sound; bounds = board.kept }) person has
-    (call_board opening s lane call board (call_from_forms call.ask has.ask))
-
-answer_by : (o : Option Refusal) (opening s : State) (lane : ℕ) (call : Call) → mistaken (actor_of s.tables call.actor) call.key ≡ o → IsBoard opening s → AreFormed s → CallHasForms call
-    → AreFormed (do_unless o s lane call).state
-answer_by None opening s lane call known board formed has = done_formed opening s lane call board formed (person_formed s.tables call.actor call.key formed.names known) has
-answer_by (Some refusal) opening s lane call known board formed has = formed
-
--- A call keeps the forms.
-pub call_formed : (opening s : State) (lane : ℕ) (call : Call) → IsBoard opening s → AreFormed s → CallHasForms call → AreFormed (answer_call s lane call).state
-unfolding answer_call
-call_formed opening s lane call board formed has = answer_by (mistaken (actor_of s.tables call.actor) call.key) opening s lane call refl board formed has
-
--- ---- opening
-
--- A state that is judged as it is opened keeps its forms.
-pub reopened_formed : (s : State) → MayReopen s → AreFormed s → AreFormed (reopened s)
-unfolding reopened
-reopened_formed s may formed = record {
-  names = formed.names;
-  reports = formed.reports;
-  deferrals = formed.deferrals;
-  releases = formed.releases;
-  alerts = all_judged s s.releases (ids_low s may.bounds) may.bounds.releases formed.alerts;
-  kept = formed.kept;
-  floors = formed.floors;
-  rising = formed.rising;
-}
+    entered_formed (effected e s) (entry lane (what.Asked (without_key call) reply)) bounds
+    (reply_kept (effected e s) (without_key call) reply person has.number (subst SaysFormed (sym decided.2) made.1)) (effected_formed s e made.0 stands.formed)

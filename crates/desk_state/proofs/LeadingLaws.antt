@@ -1,33 +1,14 @@
 -- A call and a tick lead to no other state than they may.
-use Rattle.std.proofs.Common.{◌≡◌, ℕ, ◌+◌, ◌++◌, ◌<◌, append-nil, ◌∙◌, ◌&&◌, ltb, IfSome, Bool, true, false, List, Option, None, Some, Result, Ok, Err, inl, inr, refl, ap, subst, sym, not, cond, eqb, eq-eqb, ◌≢◌, ◌||◌, [], ◌∷◌, length, is_some, is_none, arith}
-use Rattle.std.specs.Prelude.{nat_le, nat_lt, find, option_to_list}
+use Rattle.std.proofs.Common.{◌≡◌, ℕ, ◌+◌, ◌++◌, append-nil, ◌∙◌, IfSome, Bool, true, false, List, Option, None, Some, Result, Ok, Err, inl, inr, refl, ap, subst, sym, cond, eqb, eq-eqb, ◌≢◌, [], ◌∷◌, arith}
+use Rattle.std.specs.Prelude.{option_to_list}
 use Rattle.std.specs.Option.{option_map}
-use Rattle.std.proofs.lemmas.Bool.{leb-false, ltb-true, ltb-false, eqb-true, ne_eqb}
+use Rattle.std.proofs.lemmas.Bool.{ne_eqb}
 use Rattle.std.specs.Str.{bytes_eq}
-use Rattle.std.specs.List.{AllByRecursion, list_any}
-use Rattle.std.proofs.lemmas.Slice.Eq.{bytes_eq-Decides}
-use Rattle.codes.specs.Groups.{groups_of, canonical}
+use Rattle.std.specs.List.{AllByRecursion}
 use Rattle.ops_tables.specs.declared.rows.Actor.{Actor}
-use Rattle.ops_tables.specs.declared.rows.TypeRow.{TypeRow}
-use Rattle.ops_tables.specs.declared.rows.MelRow.{MelRow}
-use Rattle.ops_tables.specs.Tables.{actor_of, type_of, item_of, has_airport}
-use Rattle.deferrals.specs.Held.{has_id}
-use Rattle.facts.specs.Same.{is_same, same_id, minute_of_read, station_of_read, minute_of_report}
-use Rattle.facts.specs.declared.report.Report.{Report}
-use Rattle.facts.specs.Reading.{read_of}
-use Rattle.facts.specs.declared.report.Read.{Read}
-use Rattle.codes.specs.declared.fault.BadReport.{BadReport}
+use Rattle.ops_tables.specs.Tables.{actor_of}
 use Rattle.alerts.specs.declared.alert.Alert.{Alert}
-use Rattle.stations.specs.Station.{Station}
-use Rattle.plan.specs.Change.{change_fault}
-use Rattle.plan.specs.Check.{plan_fault, is_captain_role}
-use Rattle.release_text.specs.Revisions.{revision_digest}
-use Rattle.release_text.specs.Weather.{newer_than}
-use Rattle.rules.specs.Grounds.{Grounds}
-use Rattle.desk_state.proofs.Each.{found_each}
 use Rattle.desk_state.specs.Sound.{Sound, InBounds, EffectFits, DecisionFits}
-use Rattle.release_text.specs.Valid.{IsPhased, IsThere, IsValid}
-use Rattle.asks.specs.Forms.{IsCall}
 use Rattle.plan.specs.Texts.{IsMoment}
 use Rattle.alerts.proofs.Laws.{follows}
 use Rattle.desk_state.specs.declared.effect.OnAlerts.{OnAlerts}
@@ -35,29 +16,15 @@ use Rattle.desk_state.specs.declared.effect.OnAlerts.TheVariants as on_alerts
 use Rattle.desk_state.proofs.Deciding.{decision_fits}
 use Rattle.desk_state.proofs.Judging.{IsOf, Agrees, agrees_all, alerts_kept, found_of, judged_is}
 use Rattle.desk_state.proofs.Parts.{releases_rise}
-use Rattle.ops_tables.specs.declared.rows.Role.{Role}
-use Rattle.ops_tables.specs.declared.rows.Role.TheVariants.{D, C, F, M, S}
-use Rattle.desk_state.specs.Texts.{newest}
-use Rattle.plan.specs.declared.check.BadPlan.{BadPlan}
 use Rattle.plan.specs.declared.findings.Finding.{Finding}
-use Rattle.plan.specs.declared.release.Phase.{Phase}
-use Rattle.plan.specs.declared.release.Phase.TheVariants.{Drafted, Ready, Flying, Stopped, Completed, Cancelled}
-use Rattle.plan.specs.declared.release.Signature.{Signature}
-use Rattle.plan.specs.declared.flights.Plan.{Plan}
 use Rattle.plan.specs.declared.release.Release.{Release}
-use Rattle.plan.specs.declared.release.Revision.{Revision}
 use Rattle.asks.specs.declared.call.Ask.{Ask}
-use Rattle.asks.specs.declared.call.Ask.TheVariants as ask
 use Rattle.asks.specs.declared.call.Call.{Call}
 use Rattle.asks.specs.declared.reply.Refusal.{Refusal}
 use Rattle.asks.specs.declared.reply.Done.{Done as DoneType}
-use Rattle.asks.specs.declared.reply.Done.TheVariants as done
 use Rattle.asks.specs.declared.reply.Reply.{Reply}
-use Rattle.asks.specs.declared.kept.KeptReply.{KeptReply}
 use Rattle.asks.specs.declared.reply.Reply.TheVariants.{Done, Seen, Refused}
-use Rattle.asks.specs.declared.reply.Refusal.TheVariants.{NumberReused}
-use Rattle.call_json.specs.Canonical.{ask_digest}
-use Rattle.desk_state.specs.Requests.{kept_at, floor_at}
+use Rattle.call_json.specs.Forms.{CallHasForms}
 use Rattle.desk_state.specs.declared.entry.What.TheVariants as what
 use Rattle.desk_state.specs.declared.entry.Entry.{Entry}
 use Rattle.desk_state.specs.declared.effect.Effect.{Effect}
@@ -65,13 +32,13 @@ use Rattle.desk_state.specs.Effects.{tick}
 use Rattle.desk_state.specs.Events.{effected, acknowledged_if, kept_alert, kept_after}
 use Rattle.desk_state.specs.declared.effect.Decision.{Decision}
 use Rattle.desk_state.specs.declared.effect.Decision.TheVariants.{Show, Do}
-use Rattle.desk_state.specs.State.{State, grounds_of, failing_in, failing_of, release_at, alert_at, alert_for, judged, judged_all, is_full, is_full_for}
+use Rattle.desk_state.specs.State.{State, grounds_of, failing_of, alert_at, alert_for, judged, judged_all, is_full, is_full_for}
 use Rattle.desk_state.specs.Step.{entry, entered, kept_of_call, without_key, accepted, enter, finish, do_call, do_unless, answer_call, tick_unless, tick_to}
-use Rattle.desk_state.specs.Chain.{◌>>-◌, unless, some_or, refused_if}
+use Rattle.desk_state.specs.Chain.{unless}
 use Rattle.desk_state.specs.People.{may_ask, mistaken, not_his_role}
 use Rattle.desk_state.specs.Decide as d
 use Rattle.desk_state.specs.Decide.{decide}
-use Rattle.desk_state.specs.Allowed.{MaySign, GainsDispatcher, GainsCaptain, GainsWeather, BothAre, IsPreparing, IsSigning, IsReleased, IsConcurring, HasNotEnded, IsCancelling, IsNextRevision, IsAmending, HasMore, HasNoMore, has_text, IsAcknowledged, IsLeft, FollowsIf, IsAlertAfter, IsNextLeg, IsCaptainOf, FliesAs, FliesBy, IsDeparting, IsStopping, IsCompleting, IsInVersion, IsAcknowledging, OfHeld, IsListed, IsEffectOf, admits, defers, clears, drafts, prepares, signs, concurs, amends, cancels, departs, stops, completes, acknowledges, purges, sweeps, IsSweeping, HasEndedAt, AskedOf, IsShownTo, IsRepeat, IsAnswer, IsUnused, DecisionOf, IsEntryOf, IsAfter, IsKeptOf, IsPermitted, IsSaidTo, MayLeadTo, MayTickTo}
+use Rattle.desk_state.specs.Allowed.{IsAcknowledged, IsLeft, FollowsIf, IsAlertAfter, IsEffectOf, IsUnused, DecisionOf, IsEntryOf, IsAfter, IsKeptOf, IsPermitted, IsSaidTo, MayLeadTo, MayTickTo}
 use Rattle.desk_state.proofs.AllowedLaws.{decision_is, so, same_bytes}
 
 -- Who may make a call.
@@ -204,7 +171,7 @@ finish_leads s lane call (Err refusal) fits sound permitted is = inl (refl, (tt,
 finish_leads s lane call (Ok (Show reply)) fits sound permitted is = inl (refl, (is, said_to s call reply (permitted tt)))
 finish_leads s lane call (Ok (Do reply effect)) fits sound permitted is = enter_leads (is_full_for s call.ask) s lane call reply effect is.1 fits.1 sound (permitted tt) is.0 is.2 is.3
 
-do_leads : (s : State) (lane : ℕ) (call : Call) (o : Option Refusal) → Sound s → InBounds s → IsCall call.ask → mistaken (actor_of s.tables call.actor) call.key ≡ o
+do_leads : (s : State) (lane : ℕ) (call : Call) (o : Option Refusal) → Sound s → InBounds s → CallHasForms call → mistaken (actor_of s.tables call.actor) call.key ≡ o
     → MayLeadTo lane call s (do_unless o s lane call).state (do_unless o s lane call).reply
 unfolding do_call
 do_leads s lane call (Some refusal) sound kept form is = inl (refl, (tt, tt))
@@ -212,7 +179,7 @@ do_leads s lane call None sound kept form is =
     finish_leads s lane call (decide s call) (decision_fits s call sound kept form) sound (λ goes. permitted_by s call (actor_of s.tables call.actor) refl is (decided_role s call goes)) (decision_is s call sound)
 
 -- a call leads to no other state than its ask may
-pub call_leads : (s t : State) (lane : ℕ) (call : Call) (reply : Option Reply) → Sound s → InBounds s → IsCall call.ask → t ≡ (answer_call s lane call).state → reply ≡ (answer_call s lane call).reply
+pub call_leads : (s t : State) (lane : ℕ) (call : Call) (reply : Option Reply) → Sound s → InBounds s → CallHasForms call → t ≡ (answer_call s lane call).state → reply ≡ (answer_call s lane call).reply
     → MayLeadTo lane call s t reply
 unfolding answer_call
 call_leads s t lane call reply sound kept form one two =

@@ -23,8 +23,7 @@ use Rattle.desk_state.specs.declared.effect.OnDeferrals.TheVariants as on_deferr
 use Rattle.desk_state.specs.declared.effect.OnReleases.{OnReleases}
 use Rattle.desk_state.specs.declared.effect.OnReleases.TheVariants as on_releases
 use Rattle.desk_state.specs.Events.{put, without_release, moment_after, reports_after, reports_swept, is_since, kept_after, deferrals_after, releases_after, next_report, next_deferral, next_release}
-use Rattle.desk_state.specs.Sound.{Sound, AreJudgeable, ReleaseInBounds, IsNumbered, IsOpen, AreOpen, MayOpen, IsNext, AreUnlike, AreSingle, IsToldTo, Rise, DeferralsFit, ReleasesFit}
-use Rattle.release_text.specs.Valid.{IsValid, AreNumbered}
+use Rattle.desk_state.specs.Sound.{Sound, AreJudgeable, MayStand, ReleaseInBounds, IsNumbered, IsOpen, AreOpen, MayOpen, IsNext, AreUnlike, AreSingle, IsToldTo, Rise, DeferralsFit, ReleasesFit}
 use Rattle.desk_state.specs.Requests.{is_request, kept_at}
 use Rattle.desk_state.specs.State.{State, alert_at}
 use Rattle.desk_state.proofs.Each.{each_push, each_weaker, put_each, put_length, without_each, without_shorter}
@@ -117,7 +116,7 @@ shorter : {A : Type 0} (b : Bool) (x : A) (rest xs : List A) → length rest ≤
 shorter true x rest xs within = omega (arith, within)
 shorter false x rest xs within = omega (arith, within)
 
-filter_shorter : {A : Type 0} (q : A → Bool) (xs : List A) → length (filter q xs) ≤ length xs
+pub filter_shorter : {A : Type 0} (q : A → Bool) (xs : List A) → length (filter q xs) ≤ length xs
 filter_shorter q [] = omega arith
 filter_shorter q (x ∷ xs) = shorter (q x) x (filter q xs) xs (filter_shorter q xs)
 
@@ -214,31 +213,22 @@ release_next s (on_releases.File r) fits least = let same = fits.numbered in ome
 release_next s (on_releases.Put r) fits least = omega (arith, least)
 release_next s (on_releases.Remove id) fits least = omega (arith, least)
 
-more_numbers : (most : ℕ) (pending active : Option Revision) → AreNumbered most pending active → AreNumbered (most + 1) pending active
-more_numbers most None None is = tt
-more_numbers most (Some v) None is = omega (arith, is)
-more_numbers most None (Some w) is = omega (arith, is)
-more_numbers most (Some v) (Some w) is = (is.0, let two = is.1 in omega (arith, two))
+pub later_within : (most : ℕ) (o : Option Revision) → IfSome o (λ v. v.number ≤ most) → IfSome o (λ v. v.number ≤ most + 1)
+later_within most None is = tt
+later_within most (Some v) is = omega (arith, is)
 
-pub more_valid : (most : ℕ) (r : Release) → IsValid most r → IsValid (most + 1) r
-more_valid most r is = record {
-  phased = is.phased;
-  both = is.both;
-  waits = is.waits;
-  numbered = more_numbers most r.pending r.active is.numbered;
-  pending_legs = is.pending_legs;
-  active_legs = is.active_legs;
-}
+pub more_valid : (most : ℕ) (r : Release) → MayStand most r → MayStand (most + 1) r
+more_valid most r is = record { valid = is.valid; within = (later_within most r.pending is.within.0, later_within most r.active is.within.1) }
 
-all_valid : (most : ℕ) (rs : List Release) → AllByRecursion (IsValid most) rs → AllByRecursion (IsValid (most + 1)) rs
-all_valid most rs all = each_weaker (IsValid most) (IsValid (most + 1)) (λ r is. more_valid most r is) rs all
+all_valid : (most : ℕ) (rs : List Release) → AllByRecursion (MayStand most) rs → AllByRecursion (MayStand (most + 1)) rs
+all_valid most rs all = each_weaker (MayStand most) (MayStand (most + 1)) (more_valid most) rs all
 
-pub releases_valid : (s : State) (on : OnReleases) → ReleasesFit s on → AllByRecursion (IsValid s.counters.events) s.releases
-    → AllByRecursion (IsValid (s.counters.events + 1)) (releases_after on s.releases)
+pub releases_valid : (s : State) (on : OnReleases) → ReleasesFit s on → AllByRecursion (MayStand s.counters.events) s.releases
+    → AllByRecursion (MayStand (s.counters.events + 1)) (releases_after on s.releases)
 releases_valid s on_releases.Nothing fits all = all_valid s.counters.events s.releases all
-releases_valid s (on_releases.File r) fits all = each_push (IsValid (s.counters.events + 1)) s.releases r (all_valid s.counters.events s.releases all) fits.fits.valid
-releases_valid s (on_releases.Remove id) fits all = without_each (IsValid (s.counters.events + 1)) id s.releases (all_valid s.counters.events s.releases all)
-releases_valid s (on_releases.Put r) fits all = put_each (IsValid (s.counters.events + 1)) r s.releases (all_valid s.counters.events s.releases all) fits.fits.valid
+releases_valid s (on_releases.File r) fits all = each_push (MayStand (s.counters.events + 1)) s.releases r (all_valid s.counters.events s.releases all) fits.fits.stands
+releases_valid s (on_releases.Remove id) fits all = without_each (MayStand (s.counters.events + 1)) id s.releases (all_valid s.counters.events s.releases all)
+releases_valid s (on_releases.Put r) fits all = put_each (MayStand (s.counters.events + 1)) r s.releases (all_valid s.counters.events s.releases all) fits.fits.stands
 
 pub releases_kept : (s : State) (on : OnReleases) → ReleasesFit s on → AllByRecursion ReleaseInBounds s.releases → AllByRecursion ReleaseInBounds (releases_after on s.releases)
 releases_kept s on_releases.Nothing fits all = all

@@ -1,5 +1,5 @@
 -- A command that comes again gets what is kept of it, and changes nothing.
-use Rattle.std.proofs.Common.{◌≡◌, ℕ, ◌<◌, ◌≤◌, ◌&&◌, Bool, true, false, cond, eqb, eq-eqb, List, [], ◌∷◌, ◌++◌, append-nil, append_assoc, Option, None, Some, refl, ap, sym, ◌∙◌, subst, arith, inl, inr}
+use Rattle.std.proofs.Common.{◌≡◌, ℕ, ◌<◌, ◌≤◌, Bool, true, false, eqb, eq-eqb, List, [], ◌∷◌, ◌++◌, Option, None, Some, refl, ap, sym, ◌∙◌, arith, inl, inr}
 use Rattle.std.specs.Prelude.{find, nat_lt}
 use Rattle.std.specs.Option.{option_or}
 use Rattle.std.specs.List.{AllByRecursion}
@@ -7,19 +7,18 @@ use Rattle.std.specs.Str.{bytes_eq}
 use Rattle.std.proofs.lemmas.Bool.{le-ltb, ltb-true}
 use Rattle.std.proofs.lemmas.List.Folds.{find-append}
 use Rattle.std.proofs.lemmas.Slice.Eq.{bytes_eq-Decides}
-use Rattle.asks.specs.Forms.{IsCall}
 use Rattle.asks.specs.declared.call.Ask.{Ask}
 use Rattle.asks.specs.declared.call.Call.{Call}
 use Rattle.asks.specs.declared.kept.KeptReply.{KeptReply}
 use Rattle.asks.specs.declared.reply.Done.{Done as DoneType}
 use Rattle.asks.specs.declared.reply.Reply.{Reply}
 use Rattle.asks.specs.declared.reply.Reply.TheVariants.{Done}
+use Rattle.call_json.specs.Forms.{CallHasForms}
 use Rattle.call_json.specs.Canonical.{ask_digest}
 use Rattle.desk_state.specs.Allowed.{IsEffectOf, admits, defers, clears, drafts, prepares, signs, concurs, amends, cancels, departs, stops, completes, acknowledges, purges, sweeps, MayLeadTo, MayTickTo}
 use Rattle.desk_state.specs.Decide.{decide}
 use Rattle.desk_state.specs.Events.{effected, kept_after}
-use Rattle.desk_state.specs.Lanes.{Answered, said_at, said_of, made, answer, made_by, once_ticked, made_late, answer_item, outcomes, after_items}
-use Rattle.desk_state.specs.Legal.{IsHistory}
+use Rattle.desk_state.specs.Lanes.{Answered, said_at, said_of, made, answer, made_by, once_ticked, answer_item, outcomes, after_items}
 use Rattle.desk_state.specs.Repeats.{MayAsk, IsKeptFor, SweepsNothing, IsAskable, MayBeLeftOut}
 use Rattle.desk_state.specs.Requests.{is_request, kept_at}
 use Rattle.desk_state.specs.Sound.{IsBoard}
@@ -113,7 +112,7 @@ record Holds (opening : State) (actor : List ℕ) (number : ℕ) (k : KeptReply)
   pub board : IsBoard opening s
   pub held : kept_at actor number s.kept ≡ Some k
 
-after_call : (opening s : State) (lane : ℕ) (call : Call) (actor : List ℕ) (number : ℕ) (k : KeptReply) → IsCall call.ask → is_sweep call.ask ≡ false → Holds opening actor number k s
+after_call : (opening s : State) (lane : ℕ) (call : Call) (actor : List ℕ) (number : ℕ) (k : KeptReply) → CallHasForms call → is_sweep call.ask ≡ false → Holds opening actor number k s
     → Holds opening actor number k (answer_call s lane call).state
 after_call opening s lane call actor number k form e holds = record {
   board = call_keeps opening s (answer_call s lane call).state lane call holds.board form refl;
@@ -131,12 +130,12 @@ after_tick opening s lane to actor number k later within holds =
           (tick_leads s (tick_to s lane to).state lane to (tick_to s lane to).reply holds.board.sound (omega (arith, low, later), within) refl refl) holds.held;
     }
 
-after_ticked : (opening s : State) (lane : ℕ) (o : Option Reply) (call : Call) (actor : List ℕ) (number : ℕ) (k : KeptReply) → IsCall call.ask → is_sweep call.ask ≡ false
+after_ticked : (opening s : State) (lane : ℕ) (o : Option Reply) (call : Call) (actor : List ℕ) (number : ℕ) (k : KeptReply) → CallHasForms call → is_sweep call.ask ≡ false
     → Holds opening actor number k s → Holds opening actor number k (once_ticked lane o s call).state
 after_ticked opening s lane None call actor number k form e holds = after_call opening s lane call actor number k form e holds
 after_ticked opening s lane (Some reply) call actor number k form e holds = holds
 
-after_answer : (later : Bool) (opening s : State) (lane at : ℕ) (call : Call) (actor : List ℕ) (number : ℕ) (k : KeptReply) → nat_lt s.moment at ≡ later → at ≤ 68_374_079 → IsCall call.ask
+after_answer : (later : Bool) (opening s : State) (lane at : ℕ) (call : Call) (actor : List ℕ) (number : ℕ) (k : KeptReply) → nat_lt s.moment at ≡ later → at ≤ 68_374_079 → CallHasForms call
     → is_sweep call.ask ≡ false → Holds opening actor number k s → Holds opening actor number k (made_by later lane s at call).state
 after_answer false opening s lane at call actor number k f within form e holds = after_call opening s lane call actor number k form e holds
 after_answer true opening s lane at call actor number k f within form e holds =

@@ -1,6 +1,6 @@
 -- Reports that are received have their forms, and so has what is attached of them.
-use Rattle.std.proofs.Common.{◌≡◌, ℕ, ◌≤◌, Bool, true, false, cond, List, [], ◌∷◌, length, Option, None, Some, IfSome, Result, Ok, Err, IsUtf8, codes, refl, ap, sym, ◌∙◌, arith}
-use Rattle.std.specs.Prelude.{IfOk, map, nat_lt}
+use Rattle.std.proofs.Common.{ℕ, ◌≤◌, Bool, true, false, cond, List, [], ◌∷◌, Option, None, Some, IfSome, IsUtf8, refl, arith}
+use Rattle.std.specs.Prelude.{map, nat_lt}
 use Rattle.std.specs.List.{AllByRecursion}
 use Rattle.stations.specs.Station.{Station}
 use Rattle.facts.specs.Latest.{is_of, where_of, later, latest, latest_metar, latest_taf}

@@ -15,7 +15,7 @@ use Rattle.asks.specs.declared.call.Call.{Call}
 use Rattle.asks.specs.declared.reply.Refusal.{Refusal}
 use Rattle.asks.specs.declared.reply.Reply.{Reply}
 use Rattle.asks.specs.declared.reply.Done.{Done}
-use Rattle.asks.specs.Forms.{IsCall}
+use Rattle.call_json.specs.Forms.{CallHasForms}
 use Rattle.plan.specs.Texts.{IsMoment}
 use Rattle.ops_tables.specs.Tables.{actor_of}
 use Rattle.desk_state.specs.declared.change.AlertChange.{AlertChange}
@@ -225,14 +225,14 @@ finish_told s lane call (Err refusal) fits sound is = nothing_told (takes_alert 
 finish_told s lane call (Ok (Show reply)) fits sound is = nothing_told (takes_alert s call.ask) s
 finish_told s lane call (Ok (Do reply effect)) fits sound is = enter_told (is_full_for s call.ask) s lane call reply effect is.1 fits.1 sound is.3
 
-do_told : (s : State) (lane : ℕ) (call : Call) (o : Option Refusal) → Sound s → InBounds s → IsCall call.ask
+do_told : (s : State) (lane : ℕ) (call : Call) (o : Option Refusal) → Sound s → InBounds s → CallHasForms call
     → AreDifferences (takes_alert s call.ask) s (do_unless o s lane call).state (do_unless o s lane call).notices
 unfolding do_call
 do_told s lane call (Some refusal) sound kept form = nothing_told (takes_alert s call.ask) s
 do_told s lane call None sound kept form = finish_told s lane call (decide s call) (decision_fits s call sound kept form) sound (decision_is s call sound)
 
 -- what is told of a call
-pub call_told : (s t : State) (lane : ℕ) (call : Call) (notices : List Notice) → Sound s → InBounds s → IsCall call.ask → t ≡ (answer_call s lane call).state → notices ≡ (answer_call s lane call).notices
+pub call_told : (s t : State) (lane : ℕ) (call : Call) (notices : List Notice) → Sound s → InBounds s → CallHasForms call → t ≡ (answer_call s lane call).state → notices ≡ (answer_call s lane call).notices
     → AreDifferences (takes_alert s call.ask) s t notices
 unfolding answer_call
 call_told s t lane call notices sound kept form one two =

@@ -1,16 +1,16 @@
 -- A command that comes again.
 use Rattle.std.specs.Prelude.{◌≡◌, ℕ, ◌≤◌, false, List, ◌∷◌, ◌++◌, None, Some}
 use Rattle.ops_tables.specs.Tables.{actor_of}
-use Rattle.asks.specs.Forms.{IsCall}
 use Rattle.asks.specs.declared.call.Call.{Call}
 use Rattle.asks.specs.declared.kept.KeptReply.{KeptReply}
 use Rattle.asks.specs.declared.reply.Reply.TheVariants.{Done}
 use Rattle.call_json.specs.Canonical.{ask_digest}
+use Rattle.call_json.specs.Forms.{CallHasForms}
 use Rattle.desk_state.specs.declared.lanes.Item.{Item}
 use Rattle.desk_state.specs.declared.lanes.Item.TheVariants as item
 use Rattle.desk_state.specs.declared.lanes.Said.TheVariants as said
 use Rattle.desk_state.specs.Decide.{is_view}
-use Rattle.desk_state.specs.Lanes.{answer_item, outcomes, after_items, said_at}
+use Rattle.desk_state.specs.Lanes.{outcomes, after_items, said_at}
 use Rattle.desk_state.specs.People.{mistaken, not_his_role}
 use Rattle.desk_state.specs.Requests.{kept_at}
 use Rattle.desk_state.specs.State.{State, is_sweep}
@@ -31,10 +31,10 @@ abbrev pub SweepsNothing : Item → Type 0
 SweepsNothing (item.Bad fault) = Unit {0}
 SweepsNothing (item.Call at call) = is_sweep call.ask ≡ false
 
--- an item that may be asked: its moment can be reached, and its call has its form
+-- an item that may be asked: its moment can be reached, and its call has its forms
 abbrev pub IsAskable : Item → Type 0
 IsAskable (item.Bad fault) = Unit {0}
-IsAskable (item.Call at call) = (at ≤ 68_374_079) × IsCall call.ask
+IsAskable (item.Call at call) = (at ≤ 68_374_079) × CallHasForms call
 
 -- A command that comes again among other items, at a moment that has come, may as well be left out: it is answered with what it
 -- has done, and neither the last state nor any other outcome is another without it.

@@ -1,5 +1,5 @@
 -- Requests by who made them and their numbers: what is kept of them, and the floors below which nothing is.
-use Rattle.std.specs.Prelude.{ℕ, ◌==◌, nat_le, max, ◌&&◌, Bool, List, [], ◌∷◌, filter, find, not, Option, None, Some}
+use Rattle.std.specs.Prelude.{ℕ, ◌==◌, max, ◌&&◌, Bool, List, [], ◌∷◌, filter, find, not, Option}
 use Rattle.std.specs.Option.{option_map}
 use Rattle.std.specs.Ordering.{nat_cmp}
 use Rattle.std.specs.declared.cmp.Ordering.{Ordering}

@@ -4,12 +4,8 @@ use Rattle.std.specs.List.{AllByRecursion, AllPairs, filter_map, list_any}
 use Rattle.facts.specs.Same.{is_same, same_id, minute_of_report}
 use Rattle.plan.specs.declared.findings.Finding.{Finding}
 use Rattle.plan.specs.Texts.{IsMoment, HasMoment}
-use Rattle.plan.specs.declared.release.Phase.{Phase}
-use Rattle.plan.specs.Phases.{PhaseFits}
-use Rattle.plan.specs.declared.release.Phase.TheVariants.{Drafted, Ready, Flying, Stopped, Completed, Cancelled}
 use Rattle.plan.specs.declared.release.Release.{Release}
 use Rattle.plan.specs.declared.release.Revision.{Revision}
-use Rattle.plan.specs.declared.release.Signature.{Signature}
 use Rattle.facts.specs.declared.report.Report.{Report}
 use Rattle.alerts.specs.declared.alert.Alert.{Alert}
 use Rattle.alerts.specs.Alerts.{IsAlert}
