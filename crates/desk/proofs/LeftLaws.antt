@@ -7,7 +7,7 @@ use Rattle.desk_io.specs.Rows.{Rows}
 use Rattle.desk_io.specs.declared.rows.Row.{Row}
 use Rattle.keeper.specs.Order as order
 use Rattle.kept_state.specs.Rows.{records_of}
-use Rattle.kept_state.proofs.Again.{state_again}
+use Rattle.kept_state.proofs.RecordsAgain.{state_again}
 use Rattle.kept_state.proofs.DeskRecords.{records_formed}
 use Rattle.kept_state.proofs.Faultless.{no_bad_row, no_bad_pair}
 use Rattle.kept_state.proofs.SameRows.{desk_records, listed_as}
