@@ -11,17 +11,14 @@ use Rattle.desk.specs.declared.settling.Desk.{Desk}
 use Rattle.desk.specs.Seen.{DeskAt, DeskGoesOn, desk_at, desk_seen}
 use Rattle.desk_io.specs.Over.{Over, over}
 use Rattle.keeper.specs.Seen.{KeeperSeen, KeeperGoesOn}
-use Rattle.desk_state.specs.Formed.{AreFormed}
 use Rattle.desk_state.specs.Sound.{IsBoard}
 use Rattle.desk_state.specs.State.{State}
 use Rattle.ops_tables.specs.Tables.{TableRows}
 use Rattle.service.proofs.Visits.{serving_from}
 use Rattle.commands.specs.Faults.{Gives, Outcome}
 use Rattle.commands.specs.Seen.{Service, lent as lent_over}
-use Rattle.commands.specs.Working.{Opens, Works}
+use Rattle.commands.specs.Working.{Opens, Runs, Serves}
 use Rattle.commands.specs.declared.fault.Fault.TheVariants.{OutOfMemory}
-use Rattle.commands.specs.declared.preparing.Work.{Work}
-use Rattle.commands.specs.declared.preparing.Work.TheVariants.{Script, Door}
 use Rattle.commands.specs.declared.working.Said.{Said}
 
 -- a run that counts from before
@@ -41,12 +38,15 @@ gives_lower less before after s script t (Ok text) under gives = run_lower less 
 gives_lower less before after s script t (Err OutOfMemory) under gives = tt
 gives_lower less before after s script t (Err other) under gives = absurd gives
 
--- work that counts from before
-works_lower : {L : Type 0} (work : Work) (service : Service L) (desk : Over DeskAt) (less : ℕ) (answer : Outcome) → less ≤ desk.before.faults → Works work service desk answer
-    → Works work service (record desk { before = record desk.before { faults = less } }) answer
-works_lower (Script script) service desk less answer under works =
-    (gives_lower less desk.before.faults desk.after.faults desk.before.state script desk.after.state answer under works.0, works.1)
-works_lower (Door port most) service desk less answer under works =
+-- what it comes to is told as well where faults are counted from before
+abbrev Lowers : (Over DeskAt → Outcome → Type 0) → Type 0
+Lowers Works = (desk : Over DeskAt) (less : ℕ) (answer : Outcome) → less ≤ desk.before.faults → Works desk answer → Works (record desk { before = record desk.before { faults = less } }) answer
+
+pub runs_lower : (script : List ℕ) → Lowers (Runs script)
+runs_lower script = λ desk less answer under works. gives_lower less desk.before.faults desk.after.faults desk.before.state script desk.after.state answer under works
+
+pub serves_lower : {L : Type 0} (service : Service L) (port most : ℕ) → Lowers (Serves service port most)
+serves_lower service port most = λ desk less answer under works.
     record {
       end = works.end;
       served = serving_from service.link service.door service.clock desk port most works.end less under works.served;
@@ -58,11 +58,11 @@ works_lower (Door port most) service desk less answer under works =
       steady_door = works.steady_door;
     }
 
-module _ {K L : Type 0} (seen : K → KeeperSeen) (tables : TableRows) (work : Work) (service : Service L) (lent : K) where
+module _ {K : Type 0} (seen : K → KeeperSeen) (tables : TableRows) (Works : Over DeskAt → Outcome → Type 0) (lower : Lowers Works) (lent : K) where
   opened_over : (desk done : Desk K) (answer : Outcome) → IsOpened (seen lent).rows tables desk.board → KeeperGoesOn (seen lent) (seen desk.keeper) → KeepsState (seen desk.keeper).rows desk.board.state
-      → AreFormed desk.board.state → DeskGoesOn (desk_seen seen desk) (desk_seen seen done) → Works work service (over (desk_at seen) desk done) answer → IsBoard done.board.opening done.board.state
-      → Opens tables work service (lent_over seen lent done.keeper) (Some done.board) answer
-  opened_over desk done answer opened lasts kept formed goes works holds =
+      → DeskGoesOn (desk_seen seen desk) (desk_seen seen done) → Works (over (desk_at seen) desk done) answer → IsBoard done.board.opening done.board.state
+      → Opens tables Works (lent_over seen lent done.keeper) (Some done.board) answer
+  opened_over desk done answer opened lasts kept goes works holds =
       let first = ap (λ (b : Shown). b.state) opened.shows ∙ sym (ap (λ (b : Shown). b.opening) opened.shows) ∙ sym goes.opening in
       let less = (seen lent).health.faults in (
         record {
@@ -70,20 +70,19 @@ module _ {K L : Type 0} (seen : K → KeeperSeen) (tables : TableRows) (work : W
           loaded = opened.loaded;
           opening = goes.opening ∙ ap (λ (b : Shown). b.opening) opened.shows;
           holds = holds;
-          formed = goes.formed formed;
           kept = goes.rows kept;
         },
-        subst (λ (s : State). Works work service (record { before = record { state = s; faults = less }; after = desk_at seen done }) answer) first
-            (works_lower work service (over (desk_at seen) desk done) less answer lasts.later works),
+        subst (λ (s : State). Works (record { before = record { state = s; faults = less }; after = desk_at seen done }) answer) first
+            (lower (over (desk_at seen) desk done) less answer lasts.later works),
       )
 
   -- what is given back is the desk on which the work was done
   pub worked : (desk done : Desk K) (answer : Outcome) (said : Said K) → said.answer ≡ answer → said.board ≡ Some done.board → said.keeper ≡ done.keeper
       → IsOpened (seen lent).rows tables desk.board → KeeperGoesOn (seen lent) (seen desk.keeper) → KeepsState (seen desk.keeper).rows desk.board.state
-      → AreFormed desk.board.state → DeskGoesOn (desk_seen seen desk) (desk_seen seen done) → Works work service (over (desk_at seen) desk done) answer → IsBoard done.board.opening done.board.state
-      → Opens tables work service (lent_over seen lent said.keeper) said.board said.answer
-  worked desk done answer said answer_is board_is keeper_is opened lasts kept formed goes works holds =
-      subst (λ k. Opens tables work service (lent_over seen lent k) said.board said.answer) (sym keeper_is)
-      (subst (λ b. Opens tables work service (lent_over seen lent done.keeper) b said.answer) (sym board_is)
-      (subst (λ a. Opens tables work service (lent_over seen lent done.keeper) (Some done.board) a) (sym answer_is)
-      (opened_over desk done answer opened lasts kept formed goes works holds)))
+      → DeskGoesOn (desk_seen seen desk) (desk_seen seen done) → Works (over (desk_at seen) desk done) answer → IsBoard done.board.opening done.board.state
+      → Opens tables Works (lent_over seen lent said.keeper) said.board said.answer
+  worked desk done answer said answer_is board_is keeper_is opened lasts kept goes works holds =
+      subst (λ k. Opens tables Works (lent_over seen lent k) said.board said.answer) (sym keeper_is)
+      (subst (λ b. Opens tables Works (lent_over seen lent done.keeper) b said.answer) (sym board_is)
+      (subst (λ a. Opens tables Works (lent_over seen lent done.keeper) (Some done.board) a) (sym answer_is)
+      (opened_over desk done answer opened lasts kept goes works holds)))

@@ -6,19 +6,12 @@ use Rattle.desk_io.specs.Told.{HoldsName, OnSource}
 use Rattle.desk_io.specs.Health.{IsSound}
 use Rattle.desk_io.specs.Over.{Over}
 use Rattle.desk_io.specs.Seen.{ShelfSeen}
-use Rattle.ops_tables.specs.Tables.{TableRows}
 use Rattle.table_files.specs.Files.{files, name_of}
 use Rattle.table_files.specs.Whole.{Told, StopsAtMissing}
 use Rattle.table_files.specs.declared.faults.TableFault.TheVariants as fault
-use Rattle.words.specs.declared.task.DeskTask.{DeskTask}
-use Rattle.words.specs.declared.task.DeskTask.TheVariants.{Run, Serve}
-use Rattle.commands.specs.Preparing.{ReadsWork, SourceFails, StandsOn}
+use Rattle.commands.specs.Sources.{ReadsSource, SourceFails}
 use Rattle.commands.specs.declared.fault.Fault.{Fault}
 use Rattle.commands.specs.declared.fault.Fault.TheVariants.{ReadFault, OutOfMemory, InputTooLong}
-use Rattle.commands.specs.declared.preparing.Ground.{Ground}
-use Rattle.commands.specs.declared.preparing.Ground.TheVariants.{Reports, OnDesk}
-use Rattle.commands.specs.declared.preparing.Work.{Work}
-use Rattle.commands.specs.declared.preparing.Work.TheVariants.{Script, Door}
 
 held_among : {F : Type 0} (name : F → List ℕ) (P : List ℕ → Type 0) (earlier : List F) (file : F) (later : List F) (rest : List (List ℕ))
     → All P (map name (earlier ++ file ∷ later) ++ rest) → P (name file)
@@ -46,14 +39,6 @@ module _ (old middle new : ShelfSeen) (same : middle.sources ≡ old.sources) (l
   fails_earlier name OutOfMemory says = tt
   fails_earlier name other says = absurd says
 
-  work_earlier : (task : DeskTask) (name : List ℕ) (work : Result Work Fault) → ReadsWork (between middle new) task name work → ReadsWork (between old new) task name work
-  work_earlier Run name (Ok (Script text)) says = (says.0, subst (λ told. OnSource told name (λ bytes. bytes ≡ text)) same says.1)
-  work_earlier Run name (Ok (Door port most)) says = absurd says
-  work_earlier Run name (Err fault) says = fails_earlier name fault says
-  work_earlier (Serve port most) name work says = says
-
-  pub stands_earlier : (tables : TableRows) (task : DeskTask) (name : List ℕ) (whole : Result Ground Fault) → StandsOn (between middle new) tables task name whole
-      → StandsOn (between old new) tables task name whole
-  stands_earlier tables task name (Ok (Reports text)) says = absurd says
-  stands_earlier tables task name (Ok (OnDesk read work)) says = (says.0, work_earlier task name (Ok work) says.1)
-  stands_earlier tables task name (Err fault) says = work_earlier task name (Err fault) says
+  pub reads_earlier : (name : List ℕ) (read : Result (List ℕ) Fault) → ReadsSource (between middle new) name read → ReadsSource (between old new) name read
+  reads_earlier name (Ok text) says = (says.0, subst (λ told. OnSource told name (λ bytes. bytes ≡ text)) same says.1)
+  reads_earlier name (Err fault) says = fails_earlier name fault says

@@ -17,10 +17,8 @@ use Rattle.desk_io.proofs.HealthLaws.{stays}
 use Rattle.desk_net.specs.Seen.{ClockSeen, DoorSeen, LinkSeen, ClockGoesOn}
 use Rattle.desk_net.proofs.SeenLaws.{clock_stays}
 use Rattle.keeper.specs.Seen.{KeeperSeen, KeeperGoesOn}
-use Rattle.desk_state.specs.Formed.{AreFormed}
 use Rattle.desk_state.specs.Sound.{IsBoard}
 use Rattle.desk_state.specs.State.{State}
-use Rattle.service.specs.Doors.{HasLinks}
 use Rattle.service.specs.declared.doors.ServeEnd.{ServeEnd}
 use Rattle.service.specs.declared.doors.ServeEnd.TheVariants as ends
 use Rattle.ops_tables.specs.Tables.{TableRows}
@@ -28,22 +26,18 @@ use Rattle.table_files.specs.Files.{files, name_of}
 use Rattle.table_files.specs.Whole.{StopsAtMissing}
 use Rattle.table_files.specs.declared.faults.TableFault.{TableFault}
 use Rattle.table_files.specs.declared.faults.TableFault.TheVariants as table
-use Rattle.words.specs.declared.task.DeskTask.{DeskTask}
 use Rattle.words.specs.declared.task.DeskTask.TheVariants.{Run, Serve}
 use Rattle.words.specs.declared.task.Task.{Task}
 use Rattle.words.specs.declared.task.Task.TheVariants.{Weather, Desk}
 use Rattle.commands.proofs.Reading.{held_last, none_missing}
-use Rattle.commands.specs.Answers.{AreKeptOver, HasDoor, HasSources, Says, Writes}
+use Rattle.commands.specs.Answers.{AreKeptOver, HasDoor, HasSources, IsDone, IsUntouched, RunsUnder, Says, Writes}
 use Rattle.commands.specs.Faults.{Gives, Outcome, of_opening, of_tables, status_of_fault}
-use Rattle.commands.specs.Preparing.{Prepares, ReadsWork, SourceFails, links_of, sources_on_desk}
 use Rattle.commands.specs.Seen.{Lent, Service, lent as lent_over, service}
-use Rattle.commands.specs.Working.{Does, EndSays, IsUntouched, Opens, Works, desk_over}
+use Rattle.commands.specs.Sources.{ReadsFiles, ReadsSource, SourceFails, TablesFail}
+use Rattle.commands.specs.Weather.{weather_text}
+use Rattle.commands.specs.Working.{EndSays, Opens, Runs, Serves, desk_over}
 use Rattle.commands.specs.declared.fault.Fault.{Fault}
 use Rattle.commands.specs.declared.fault.Fault.TheVariants.{Usage, ReadFault, WriteFault, KeeperFault, BadTable, BadRow, BadPair, OutOfMemory, DoorFault, InputTooLong, ClockFault}
-use Rattle.commands.specs.declared.preparing.Ground.{Ground}
-use Rattle.commands.specs.declared.preparing.Ground.TheVariants.{Reports, OnDesk}
-use Rattle.commands.specs.declared.preparing.Work.{Work}
-use Rattle.commands.specs.declared.preparing.Work.TheVariants.{Script, Door}
 
 -- ---- what a fault tells of the outside
 
@@ -77,13 +71,10 @@ module _ (shelf : Over ShelfSeen) (keeper rows door clock : Type 0) where
   tables_accuse rest (table.TooLong name) stops = tt
   tables_accuse rest table.OutOfMemory stops = tt
 
-  prepare_accuses : (task : Task) (name : List ℕ) (fault : Fault) → Prepares shelf task name (Err fault) → Accuses (HasSources shelf.before (Some (task, name))) keeper rows door clock fault
-  prepare_accuses Weather name fault says = source_accuses _ name (λ has. (has.0, All-head (HoldsName shelf.before.sources) name [] has.1)) fault says
-  prepare_accuses (Desk task) name fault (inl bad) =
-      subst (λ f. Accuses (HasSources shelf.before (Some (Desk task, name))) keeper rows door clock f) (sym bad.is) (tables_accuse (sources_on_desk task name) bad.stop bad.sound)
-  prepare_accuses (Desk Run) name fault (inr (tables, reads, work)) =
-      source_accuses _ name (λ has. (has.0, held_last (HoldsName shelf.before.sources) (map name_of files) name has.1)) fault work
-  prepare_accuses (Desk (Serve port most)) name fault (inr (tables, reads, work)) = absurd (cc work)
+  files_accuse : (rest : List (List ℕ)) (fault : Fault) → TablesFail shelf fault
+      → Accuses (IsSound shelf.before.health × All (HoldsName shelf.before.sources) (map name_of files ++ rest)) keeper rows door clock fault
+  files_accuse rest fault bad =
+      subst (λ f. Accuses (IsSound shelf.before.health × All (HoldsName shelf.before.sources) (map name_of files ++ rest)) keeper rows door clock f) (sym bad.is) (tables_accuse rest bad.stop bad.sound)
 
 module _ (shelf keeper rows door clock : Type 0) where
   abbrev Acquits : Outcome → Type 0
@@ -109,28 +100,6 @@ module _ (shelf keeper rows door clock : Type 0) where
 ok_any : {P : Type 0} (answer : Outcome) → P → IfOk answer (λ text. P)
 ok_any (Ok text) holds = holds
 ok_any (Err fault) holds = tt
-
--- ---- the connections that a command serves
-
--- work at a door serves as many connections as its command names
-abbrev WorkServes : Option (Task × List ℕ) → Work → Type 0
-WorkServes command (Script script) = Unit {0}
-WorkServes command (Door port most) = most ≡ links_of command
-
-abbrev door_links : Result Work Fault → ℕ
-door_links (Ok (Door port most)) = most
-door_links other = 0
-
-read_serves : (shelf : Over ShelfSeen) (task : DeskTask) (name : List ℕ) (work : Work) → ReadsWork shelf task name (Ok work) → WorkServes (Some (Desk task, name)) work
-read_serves shelf Run name (Script script) reads = tt
-read_serves shelf Run name (Door port most) reads = absurd reads
-read_serves shelf (Serve port most) name (Script script) reads = tt
-read_serves shelf (Serve port most) name (Door at links) reads = ap door_links reads
-
-prepared_serves : (shelf : Over ShelfSeen) (task : Task) (name : List ℕ) (tables : TableRows) (work : Work) → Prepares shelf task name (Ok (OnDesk tables work)) → WorkServes (Some (task, name)) work
-prepared_serves shelf Weather name tables work prepares = absurd prepares
-prepared_serves shelf (Desk task) name tables work (inl bad) = absurd bad
-prepared_serves shelf (Desk task) name tables work (inr (read, reads, stands)) = read_serves shelf task name work stands.1
 
 -- ---- what goes on, whatever is said
 
@@ -159,7 +128,6 @@ module _ {K C D L : Type 0} (k : K → KeeperSeen) (c : C → ClockSeen) (d : D 
     pub keeper : KeeperGoesOn (k lent) (k kept)
     pub are_kept : AreKeptOver rows_over board
     pub holds : IfSome board (λ b. IsBoard b.opening b.state)
-    pub formed : IfSome board (λ b. AreFormed b.state)
     pub served : Served command answer
 
   idle_served : (command : Option (Task × List ℕ)) (answer : Outcome) → serving.idle → HasNoFault command answer → Served command answer
@@ -171,15 +139,19 @@ module _ {K C D L : Type 0} (k : K → KeeperSeen) (c : C → ClockSeen) (d : D 
         accuses = accuses;
       }
 
-  untouched_follows : (command : Option (Task × List ℕ)) (board : Option Shown) (answer : Outcome) → IsUntouched serving rows_over board → HasNoFault command answer → Follows command board answer
-  untouched_follows command board answer is accuses =
+  untouched_follows : (command : Option (Task × List ℕ)) (board : Option Shown) (answer : Outcome) → IsUntouched rows_over board → serving.idle → HasNoFault command answer → Follows command board answer
+  untouched_follows command board answer is idle accuses =
       record {
         keeper = subst (λ x. KeeperGoesOn (k lent) (k x)) (sym is.same) (stays (k lent).health);
         are_kept = subst (λ b. AreKeptOver rows_over b) (sym is.none) (ap (λ x. (k x).rows) is.same);
         holds = subst (λ b. IfSome b (λ b. IsBoard b.opening b.state)) (sym is.none) tt;
-        formed = subst (λ b. IfSome b (λ b. AreFormed b.state)) (sym is.none) tt;
-        served = idle_served command answer is.idle accuses;
+        served = idle_served command answer idle accuses;
       }
+
+  -- a fault is told, and nothing else comes of it
+  told_follows : (command : Option (Task × List ℕ)) (board : Option Shown) (answer : Outcome) (fault : Fault) → (answer ≡ Err fault) × IsUntouched rows_over board → serving.idle
+      → HasNoFault command (Err fault) → Follows command board answer
+  told_follows command board answer fault says idle accuses = untouched_follows command board answer says.1 idle (subst (HasNoFault command) (sym says.0) accuses)
 
   end_still : (end : ServeEnd) (s : State) (answer : Outcome) → EndSays end s answer → (end ≡ ends.Done → IsStill) → IfOk answer (λ text. IsStill)
   end_still ends.Done s answer says still = ok_any answer (still refl)
@@ -187,44 +159,63 @@ module _ {K C D L : Type 0} (k : K → KeeperSeen) (c : C → ClockSeen) (d : D 
   end_still ends.ClockFault s answer says still = subst (λ a. IfOk a (λ text. IsStill)) (sym says) tt
   end_still ends.OutOfMemory s answer says still = subst (λ a. IfOk a (λ text. IsStill)) (sym says) tt
 
-  work_follows : (command : Option (Task × List ℕ)) (work : Work) (desk : Over DeskAt) (answer : Outcome) → WorkServes command work → Works work serving desk answer → Served command answer
-  work_follows command (Script script) desk answer serves works = idle_served command answer works.1 (gives_accuses _ _ _ _ _ _ answer works.0)
-  work_follows command (Door port most) desk answer serves works =
-      record {
-        clock = works.clock;
-        door = works.door;
-        still = end_still works.end desk.after.state answer works.says works.still;
-        accuses = end_accuses _ _ _ _ _ works.end desk.after.state answer works.says works.steady_clock
-            (λ has. works.steady_door has.0 (subst (λ n. HasLinks (d door_old).links n) (sym serves) has.1));
-      }
-
-  opens_follow : (command : Option (Task × List ℕ)) (tables : TableRows) (work : Work) (board : Option Shown) (answer : Outcome) → WorkServes command work → KeeperGoesOn (k lent) (k kept)
-      → Opens tables work serving rows_over board answer → Follows command board answer
-  opens_follow command tables work None answer serves goes opens =
-      let un = opens.0 in
+  -- what follows of the work on a desk, of which this is known
+  opens_follow : (command : Option (Task × List ℕ)) (tables : TableRows) (Works : Over DeskAt → Outcome → Type 0) (board : Option Shown) (answer : Outcome) → KeeperGoesOn (k lent) (k kept)
+      → Opens tables Works rows_over board answer → (board ≡ None → serving.idle) → ((desk : Over DeskAt) → Works desk answer → Served command answer) → Follows command board answer
+  opens_follow command tables Works None answer goes un idle served =
       let accuses = why_accuses _ _ _ _ _ _ _ un.why (λ failed. failed.1) un.is (λ rows. un.left rows.0 rows.1 rows.2) in
-      record { keeper = goes; are_kept = un.rows; holds = tt; formed = tt; served = idle_served command answer opens.1 (subst (HasNoFault command) (sym un.says) accuses) }
-  opens_follow command tables work (Some b) answer serves goes opens =
-      record {
-        keeper = goes;
-        are_kept = (tables, opens.0);
-        holds = opens.0.holds;
-        formed = opens.0.formed;
-        served = work_follows command work (desk_over rows_over b) answer serves opens.1;
-      }
+      record { keeper = goes; are_kept = un.rows; holds = tt; served = idle_served command answer (idle refl) (subst (HasNoFault command) (sym un.says) accuses) }
+  opens_follow command tables Works (Some b) answer goes opens idle served =
+      record { keeper = goes; are_kept = (tables, opens.0); holds = opens.0.holds; served = served (desk_over rows_over b) opens.1 }
 
-  done_follows : (task : Task) (name : List ℕ) (board : Option Shown) (answer : Outcome) (ground : Result Ground Fault) → Prepares shelf task name ground
-      → MatchResult ground (λ g. Does g serving rows_over board answer) (λ fault. (answer ≡ Err fault) × IsUntouched serving rows_over board) → Follows (Some (task, name)) board answer
-  done_follows task name board answer (Err fault) prepares does =
-      untouched_follows (Some (task, name)) board answer does.1 (subst (HasNoFault (Some (task, name))) (sym does.0) (prepare_accuses shelf _ _ _ _ task name fault prepares))
-  done_follows task name board answer (Ok (Reports file)) prepares does = untouched_follows (Some (task, name)) board answer does.1 (gives_accuses _ _ _ _ _ _ answer does.0)
-  done_follows task name board answer (Ok (OnDesk tables work)) prepares does =
-      opens_follow (Some (task, name)) tables work board answer (prepared_serves shelf task name tables work prepares) does.0 does.1
+  reports_follow : (name : List ℕ) (board : Option Shown) (answer : Outcome) (read : Result (List ℕ) Fault) → ReadsSource shelf name read
+      → MatchResult read (λ file. Gives (λ text. text ≡ weather_text file) answer × IsUntouched rows_over board) (λ fault. (answer ≡ Err fault) × IsUntouched rows_over board) → serving.idle
+      → Follows (Some (Weather, name)) board answer
+  reports_follow name board answer (Ok file) reads does idle = untouched_follows (Some (Weather, name)) board answer does.1 idle (gives_accuses _ _ _ _ _ _ answer does.0)
+  reports_follow name board answer (Err fault) reads does idle =
+      told_follows (Some (Weather, name)) board answer fault does idle
+      (source_accuses shelf _ _ _ _ _ name (λ has. (has.0, All-head (HoldsName shelf.before.sources) name [] has.1)) fault reads)
+
+  script_follows : (name : List ℕ) (tables : TableRows) (board : Option Shown) (answer : Outcome) (read : Result (List ℕ) Fault) → ReadsSource shelf name read
+      → MatchResult read (λ script. KeeperGoesOn (k lent) (k kept) × Opens tables (Runs script) rows_over board answer) (λ fault. (answer ≡ Err fault) × IsUntouched rows_over board) → serving.idle
+      → Follows (Some (Desk Run, name)) board answer
+  script_follows name tables board answer (Ok script) reads does idle =
+      opens_follow (Some (Desk Run, name)) tables (Runs script) board answer does.0 does.1 (λ none. idle)
+      (λ desk ran. idle_served (Some (Desk Run, name)) answer idle (gives_accuses _ _ _ _ _ _ answer ran))
+  script_follows name tables board answer (Err fault) reads does idle =
+      told_follows (Some (Desk Run, name)) board answer fault does idle
+      (source_accuses shelf _ _ _ _ _ name (λ has. (has.0, held_last (HoldsName shelf.before.sources) (map name_of files) name has.1)) fault reads)
+
+  run_follows : (name : List ℕ) (board : Option Shown) (answer : Outcome) (read : Result TableRows Fault) → ReadsFiles shelf read
+      → MatchResult read (λ tables. RunsUnder tables shelf rows_over name board answer) (λ fault. (answer ≡ Err fault) × IsUntouched rows_over board) → serving.idle
+      → Follows (Some (Desk Run, name)) board answer
+  run_follows name board answer (Ok tables) reads does idle = script_follows name tables board answer does.0 does.1 does.2 idle
+  run_follows name board answer (Err fault) reads does idle =
+      told_follows (Some (Desk Run, name)) board answer fault does idle (files_accuse shelf _ _ _ _ (name ∷ []) fault reads)
+
+  serve_follows : (port most : ℕ) (name : List ℕ) (board : Option Shown) (answer : Outcome) (read : Result TableRows Fault) → ReadsFiles shelf read
+      → MatchResult read (λ tables. KeeperGoesOn (k lent) (k kept) × Opens tables (Serves serving port most) rows_over board answer) (λ fault. (answer ≡ Err fault) × IsUntouched rows_over board)
+      → (board ≡ None → serving.idle) → Follows (Some (Desk (Serve port most), name)) board answer
+  serve_follows port most name board answer (Ok tables) reads does idle =
+      opens_follow (Some (Desk (Serve port most), name)) tables (Serves serving port most) board answer does.0 does.1 idle (λ desk serves.
+      record {
+        clock = serves.clock;
+        door = serves.door;
+        still = end_still serves.end desk.after.state answer serves.says serves.still;
+        accuses = end_accuses _ _ _ _ _ serves.end desk.after.state answer serves.says serves.steady_clock (λ has. serves.steady_door has.0 has.1);
+      })
+  serve_follows port most name board answer (Err fault) reads does idle =
+      told_follows (Some (Desk (Serve port most), name)) board answer fault does (idle does.1.none) (files_accuse shelf _ _ _ _ [] fault reads)
+
+  done_follows : (task : Task) (name : List ℕ) (board : Option Shown) (answer : Outcome) → IsDone shelf serving rows_over task name board answer → Follows (Some (task, name)) board answer
+  done_follows Weather name board answer does = reports_follow name board answer does.0.0 does.0.1 does.0.2 does.1
+  done_follows (Desk Run) name board answer does = run_follows name board answer does.0.0 does.0.1 does.0.2 does.1
+  done_follows (Desk (Serve port most)) name board answer does = serve_follows port most name board answer does.0.0 does.0.1 does.0.2 does.1
 
   pub follows : (command : Option (Task × List ℕ)) (board : Option Shown) (answer : Outcome) → Says shelf serving rows_over command board answer → Follows command board answer
-  follows command board answer (inr says) = untouched_follows command board answer says.1 (subst (HasNoFault command) (sym says.0) tt)
-  follows None board answer (inl says) = untouched_follows None board answer says.1 (subst (HasNoFault None) (sym says.0) tt)
-  follows (Some command) board answer (inl (ground, prepares, does)) = done_follows command.0 command.1 board answer ground prepares does
+  follows command board answer (inr says) = untouched_follows command board answer says.1 says.2 (subst (HasNoFault command) (sym says.0) tt)
+  follows None board answer (inl says) = untouched_follows None board answer says.1 says.2 (subst (HasNoFault None) (sym says.0) tt)
+  follows (Some command) board answer (inl does) = done_follows command.0 command.1 board answer does
 
 -- ---- the status
 

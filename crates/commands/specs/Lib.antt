@@ -1,6 +1,6 @@
 pub mod Seen
 pub mod Faults
 pub mod Weather
-pub mod Preparing
+pub mod Sources
 pub mod Working
 pub mod Answers

@@ -1,10 +1,9 @@
--- What a command stands on: the tables, and then the sources that its task names.
-use Rattle.std.specs.Prelude.{◌≡◌, ◌⊎◌, ℕ, ◌<◌, ◌≤◌, List, [], ◌∷◌, ◌++◌, length, map, Option, None, Some, Result, Ok, Err, IsErrAnd}
+-- What a command reads: the tables, and then the sources that its task names.
+use Rattle.std.specs.Prelude.{◌≡◌, ℕ, ◌<◌, ◌≤◌, List, [], ◌∷◌, ◌++◌, length, map, Option, None, Some, Result, Ok, Err}
 use Rattle.desk_io.specs.Health.{HasFailedWhere, IsSound}
 use Rattle.desk_io.specs.Over.{Over}
 use Rattle.desk_io.specs.Seen.{Holds, ShelfSeen}
 use Rattle.desk_io.specs.Told.{OnSource}
-use Rattle.ops_tables.specs.Named.{AreNamed}
 use Rattle.ops_tables.specs.Tables.{TableRows}
 use Rattle.table_files.specs.Files.{files, name_of}
 use Rattle.table_files.specs.Whole.{ReadsTables, RoseAt, StopsAtMissing}
@@ -16,10 +15,6 @@ use Rattle.words.specs.declared.task.Task.TheVariants.{Weather, Desk}
 use Rattle.commands.specs.Faults.{of_tables}
 use Rattle.commands.specs.declared.fault.Fault.{Fault}
 use Rattle.commands.specs.declared.fault.Fault.TheVariants.{ReadFault, OutOfMemory, InputTooLong}
-use Rattle.commands.specs.declared.preparing.Ground.{Ground}
-use Rattle.commands.specs.declared.preparing.Ground.TheVariants.{Reports, OnDesk}
-use Rattle.commands.specs.declared.preparing.Work.{Work}
-use Rattle.commands.specs.declared.preparing.Work.TheVariants.{Script, Door}
 
 -- ---- the sources
 
@@ -71,28 +66,7 @@ pub record TablesFail (shelf : Over ShelfSeen) (fault : Fault) : Type 0 where
   pub rose : RoseAt shelf.before.health shelf.after.health stop
   pub sound : IsSound shelf.before.health → StopsAtMissing shelf.before.sources stop
 
--- what a task on a desk does with its sources, or why one wasn't read
-abbrev pub ReadsWork : Over ShelfSeen → DeskTask → List ℕ → Result Work Fault → Type 0
-ReadsWork shelf Run name (Ok (Script text)) = ReadsSource shelf name (Ok text)
-ReadsWork shelf Run name (Ok (Door port connections)) = ⊥
-ReadsWork shelf Run name (Err fault) = SourceFails shelf name fault
-ReadsWork shelf (Serve port connections) name work = work ≡ Ok (Door port connections)
-
--- what a task on a desk stands on over tables that were read
-abbrev pub StandsOn : Over ShelfSeen → TableRows → DeskTask → List ℕ → Result Ground Fault → Type 0
-StandsOn shelf tables task name (Ok (Reports text)) = ⊥
-StandsOn shelf tables task name (Ok (OnDesk own work)) = (own ≡ tables) × ReadsWork shelf task name (Ok work)
-StandsOn shelf tables task name (Err fault) = ReadsWork shelf task name (Err fault)
-
--- What a task stands on: the source of reports; or the tables, and then its sources. Or the first fault in this order.
-abbrev pub Prepares : Over ShelfSeen → Task → List ℕ → Result Ground Fault → Type 0
-Prepares shelf Weather name (Ok (Reports text)) = ReadsSource shelf name (Ok text)
-Prepares shelf Weather name (Ok (OnDesk tables work)) = ⊥
-Prepares shelf Weather name (Err fault) = SourceFails shelf name fault
-Prepares shelf (Desk task) name read =
-    IsErrAnd read (TablesFail shelf) ⊎ ((tables : TableRows) × ReadsTables shelf.before.sources (Ok tables) × StandsOn shelf tables task name read)
-
--- the names in the tables have their forms
-abbrev pub HasFormedNames : Ground → Type 0
-HasFormedNames (Reports text) = Unit {0}
-HasFormedNames (OnDesk tables work) = AreNamed tables
+-- the tables of all files, or their first fault
+abbrev pub ReadsFiles : Over ShelfSeen → Result TableRows Fault → Type 0
+ReadsFiles shelf (Ok tables) = ReadsTables shelf.before.sources (Ok tables)
+ReadsFiles shelf (Err fault) = TablesFail shelf fault

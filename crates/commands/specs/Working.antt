@@ -9,8 +9,6 @@ use Rattle.desk.specs.declared.opening.OpenWhy.{OpenWhy}
 use Rattle.desk_io.specs.Health.{HasFailed, IsSound, IsStill}
 use Rattle.desk_io.specs.Over.{Over}
 use Rattle.desk_net.specs.Seen.{ClockGoesOn}
-use Rattle.keeper.specs.Seen.{KeeperGoesOn}
-use Rattle.desk_state.specs.Formed.{AreFormed}
 use Rattle.desk_state.specs.Sound.{IsBoard}
 use Rattle.desk_state.specs.State.{State}
 use Rattle.desk_state.specs.Texts.{closing}
@@ -23,12 +21,7 @@ use Rattle.service.specs.declared.doors.ServeEnd.{ServeEnd}
 use Rattle.service.specs.declared.doors.ServeEnd.TheVariants as ends
 use Rattle.commands.specs.Faults.{Gives, Outcome, of_opening}
 use Rattle.commands.specs.Seen.{Lent, Service}
-use Rattle.commands.specs.Weather.{weather_text}
 use Rattle.commands.specs.declared.fault.Fault.TheVariants.{DoorFault, ClockFault, OutOfMemory}
-use Rattle.commands.specs.declared.preparing.Ground.{Ground}
-use Rattle.commands.specs.declared.preparing.Ground.TheVariants.{Reports, OnDesk}
-use Rattle.commands.specs.declared.preparing.Work.{Work}
-use Rattle.commands.specs.declared.preparing.Work.TheVariants.{Script, Door}
 
 -- ---- the work on an open desk
 
@@ -55,20 +48,14 @@ pub record Serves {L : Type 0} (service : Service L) (port most : ℕ) (desk : O
 abbrev pub Runs : List ℕ → Over DeskAt → Outcome → Type 0
 Runs script desk answer = Gives (IsRun desk.before.faults desk.after.faults desk.before.state script desk.after.state) answer
 
--- what work on an open desk comes to
-abbrev pub Works : {L : Type 0} → Work → Service L → Over DeskAt → Outcome → Type 0
-Works (Script script) service desk answer = Runs script desk answer × service.idle
-Works (Door port most) service desk answer = Serves service port most desk answer
-
 -- ---- the desk
 
--- A board that was opened over the rows: it is a board, each part of its state has its forms, and the rows are kept for it.
+-- A board that was opened over the rows: it is a board, and the rows are kept for it.
 pub record IsOpenOver (tables : TableRows) (keeper : Lent) (board : Shown) : Type 0 where
   pub records : List Record
   pub loaded : AreLoaded keeper.before.rows records
   pub opening : board.opening ≡ reopened (state_in tables records)
   pub holds : IsBoard board.opening board.state
-  pub formed : AreFormed board.state
   pub kept : KeepsState keeper.after.rows board.state
 
 -- No desk was opened: the keeper failed, its rows aren't those of a desk, or memory ran out. A sound keeper doesn't fail, and the rows of a
@@ -87,21 +74,7 @@ desk_over keeper board = record {
   after = record { state = board.state; faults = keeper.after.health.faults };
 }
 
--- The rows are loaded, a desk is opened over them, and the work is done on it; or none is opened.
-abbrev pub Opens : {L : Type 0} → TableRows → Work → Service L → Lent → Option Shown → Outcome → Type 0
-Opens tables work service keeper None answer = IsUnopened keeper answer × service.idle
-Opens tables work service keeper (Some board) answer =
-    IsOpenOver tables keeper board × Works work service (desk_over keeper board) answer
-
--- ---- what is done, once all was read
-
--- there is no board, and the keeper, the clock and the door are given back as they were
-pub record IsUntouched {L : Type 0} (service : Service L) (keeper : Lent) (board : Option Shown) : Type 0 where
-  pub none : board ≡ None
-  pub same : keeper.same
-  pub idle : service.idle
-
--- what is said of reports, or the work on a desk
-abbrev pub Does : {L : Type 0} → Ground → Service L → Lent → Option Shown → Outcome → Type 0
-Does (Reports file) service keeper board answer = Gives (λ text. text ≡ weather_text file) answer × IsUntouched service keeper board
-Does (OnDesk tables work) service keeper board answer = KeeperGoesOn keeper.before keeper.after × Opens tables work service keeper board answer
+-- The rows are loaded, a desk is opened over them, and this work is done on it; or none is opened.
+abbrev pub Opens : TableRows → (Over DeskAt → Outcome → Type 0) → Lent → Option Shown → Outcome → Type 0
+Opens tables Works keeper None answer = IsUnopened keeper answer
+Opens tables Works keeper (Some board) answer = IsOpenOver tables keeper board × Works (desk_over keeper board) answer

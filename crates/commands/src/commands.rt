@@ -1,41 +1,145 @@
-ghost use Rattle.std.specs.Prelude.{map, string_bytes};
-ghost use Rattle.commands.specs.Answers.{IsDone, Says};
-ghost use Rattle.desk_io.specs.Over.{over};
+ghost use Rattle.std.specs.Prelude.{◌≡◌, ◌<◌, None, map, string_bytes};
+ghost use Rattle.commands.specs.Answers.{RunsScript, RunsUnder, Says, SaysReports, ServesLinks};
 ghost use Rattle.commands.specs.Seen.{lent, service};
+ghost use Rattle.desk_io.specs.Over.{over};
 ghost use Rattle.words.specs.Words.{command_of};
 
 use crate::fault::Fault;
-use crate::preparing::prepare;
-use crate::working::{Said, boardless, work};
+use crate::sources::{read_files, read_source};
+use crate::working::{Said, boardless, read_reports, run_over, serve_over};
+use desk::leave;
 use desk_io::{OutOfMemory, Shelf};
 use desk_net::{Clock, Door};
 use keeper::Keeper;
+use ops_tables::Tables;
+use rules::Steps;
 use std::alloc::Global;
+use std::marker::Brand;
 use std::sync::Wait;
-use words::{Task, command};
+use std::sync::ledger::{Blank, Ledger};
+use words::{DeskTask, Task, command};
 
-// A command is prepared, and then its work is done.
-fn done<R: Wait, S: Shelf, K: Keeper, C: Clock, D: Door>(
-    rt: &R,
-    alloc: Global,
-    task: Task,
-    name: &str,
-    shelf: &mut S,
-    clock: &mut C,
-    door: &mut D,
-    keeper: K,
-) -> Said<K>
-    ensures { IsDone (over S.seen shelf.old shelf.new)
-        (service C.seen D.seen D.Link.seen clock.old clock.new door.old door.new)
-        (lent K.seen keeper result.keeper) (task, name.now) result.board result.answer }
+// The reports of a file.
+fn weather<S: Shelf, K: Keeper>(alloc: Global, name: &str, shelf: &mut S, keeper: K) -> Said<K>
+    ensures { SaysReports (over S.seen shelf.old shelf.new) (lent K.seen keeper result.keeper) name.now
+        result.board result.answer }
 {
-    match prepare(alloc, task, name, shelf) {
-        Ok(ground) => work(rt, alloc, ground, clock, door, keeper),
+    match read_source(alloc, shelf, name) {
+        Ok(file) => boardless(read_reports(alloc, file.bytes()), keeper),
         Err(fault) => boardless(Err(fault), keeper),
     }
 }
 
-/// What the program says to the words.
+// A script, once the tables are read.
+fn run_under<S: Shelf, K: Keeper, L: Ledger>(
+    alloc: Global,
+    tables: Tables,
+    name: &str,
+    shelf: &mut S,
+    keeper: K,
+    steps: &mut Steps<L>,
+) -> Said<K>
+    ensures { RunsUnder tables (over S.seen shelf.old shelf.new) (lent K.seen keeper result.keeper) name.now
+        result.board result.answer }
+{
+    match read_source(alloc, shelf, name) {
+        Ok(script) => run_over(alloc, tables, script.bytes(), keeper, steps),
+        Err(fault) => {
+            leave(tables);
+            boardless(Err(fault), keeper)
+        }
+    }
+}
+
+// A script on the desk of the rows.
+fn run<S: Shelf, K: Keeper, L: Ledger>(
+    alloc: Global,
+    name: &str,
+    shelf: &mut S,
+    keeper: K,
+    steps: &mut Steps<L>,
+) -> Said<K>
+    ensures { RunsScript (over S.seen shelf.old shelf.new) (lent K.seen keeper result.keeper) name.now
+        result.board result.answer }
+{
+    match read_files(alloc, shelf) {
+        Ok(tables) => run_under(alloc, tables, name, shelf, keeper, steps),
+        Err(fault) => boardless(Err(fault), keeper),
+    }
+}
+
+// Connections to the desk of the rows.
+fn serve<R: Wait, S: Shelf, K: Keeper, C: Clock, D: Door, L: Ledger>(
+    rt: &R,
+    alloc: Global,
+    port: u16,
+    connections: u32,
+    shelf: &mut S,
+    clock: &mut C,
+    door: &mut D,
+    keeper: K,
+    steps: &mut Steps<L>,
+) -> Said<K>
+    ensures serves { ServesLinks (over S.seen shelf.old shelf.new)
+        (service C.seen D.seen D.Link.seen clock.old clock.new door.old door.new)
+        (lent K.seen keeper result.keeper) port connections result.board result.answer }
+    ensures idle { result.board ≡ None → (clock.new ≡ clock.old) × (door.new ≡ door.old) }
+{
+    match read_files(alloc, shelf) {
+        Ok(tables) => serve_over(
+            rt,
+            alloc,
+            tables,
+            port,
+            connections,
+            clock,
+            door,
+            keeper,
+            steps,
+        ),
+        Err(fault) => boardless(Err(fault), keeper),
+    }
+}
+
+fn answer_with<R: Wait, S: Shelf, K: Keeper, C: Clock, D: Door, L: Ledger>(
+    rt: &R,
+    alloc: Global,
+    words: &[String],
+    shelf: &mut S,
+    clock: &mut C,
+    door: &mut D,
+    keeper: K,
+    blank: Blank,
+) -> Said<K>
+    requires name { blank.name ≡ L.name }
+    requires parts { blank.parts ≡ L.parts }
+    requires some { 0 < blank.parts }
+    ensures { Says (over S.seen shelf.old shelf.new)
+        (service C.seen D.seen D.Link.seen clock.old clock.new door.old door.new)
+        (lent K.seen keeper result.keeper) (command_of (map string_bytes words.now))
+        result.board result.answer }
+{
+    let mut steps = Steps::<L>::new(blank);
+    match command(alloc, words) {
+        Err(OutOfMemory) => boardless(Err(Fault::OutOfMemory), keeper),
+        Ok(None) => boardless(Err(Fault::Usage), keeper),
+        Ok(Some((Task::Weather, name))) => weather(alloc, name, shelf, keeper),
+        Ok(Some((Task::Desk(DeskTask::Run), name))) => run(alloc, name, shelf, keeper, &mut steps),
+        Ok(Some((Task::Desk(DeskTask::Serve { port, connections }), _))) => serve(
+            rt,
+            alloc,
+            port,
+            connections,
+            shelf,
+            clock,
+            door,
+            keeper,
+            &mut steps,
+        ),
+    }
+}
+
+/// What the program says to the words. Only what serves may wait.
 pub(crate) fn answer_to<R: Wait, S: Shelf, K: Keeper, C: Clock, D: Door>(
     rt: &R,
     alloc: Global,
@@ -50,9 +154,5 @@ pub(crate) fn answer_to<R: Wait, S: Shelf, K: Keeper, C: Clock, D: Door>(
         (lent K.seen keeper result.keeper) (command_of (map string_bytes words.now))
         result.board result.answer }
 {
-    match command(alloc, words) {
-        Err(OutOfMemory) => boardless(Err(Fault::OutOfMemory), keeper),
-        Ok(None) => boardless(Err(Fault::Usage), keeper),
-        Ok(Some((task, name))) => done(rt, alloc, task, name, shelf, clock, door, keeper),
-    }
+    answer_with::<R, S, K, C, D, Brand>(rt, alloc, words, shelf, clock, door, keeper, Blank::new(1))
 }

@@ -3,7 +3,7 @@
 
 mod commands;
 mod fault;
-mod preparing;
+mod sources;
 mod top;
 mod weather;
 mod working;

@@ -6,7 +6,6 @@ ghost use Rattle.desk_io.specs.Over.{over};
 ghost use Rattle.keeper.specs.Seen.{KeeperGoesOn};
 ghost use Rattle.commands.specs.Seen.{lent, service};
 ghost use Rattle.desk.specs.Opening.{IsLeft, TellsRowsOf};
-ghost use Rattle.desk_state.specs.Formed.{AreFormed};
 ghost use Rattle.desk_state.specs.Sound.{IsBoard};
 ghost use Rattle.desk_state.specs.State.{State};
 ghost use Rattle.desk_net.specs.Seen.{ClockGoesOn};
@@ -105,12 +104,11 @@ pub fn desk_main<R: Wait, S: Shelf, O: Sink, C: Clock + Drop, K: Keeper, D: Door
     // Whatever the status: without a board the rows are as before, and else they are kept for its state.
     ensures kept { AreKeptOver (lent K.seen keeper result.keeper) result.board }
     // The board is one: its history is legal from its opening state, and each active release bears both signatures on
-    // its very text, and fails no rule or has one alert that names exactly the rules that it fails.
+    // its very text, and fails no rule or has one alert that names exactly the rules that it fails. And each part of its
+    // state has the forms by which its rows are read again.
     ensures board { IfSome result.board (λ b. IsBoard b.opening b.state) }
-    // Over the rows of a desk that was left there is no fault of rows; and a desk that is left again has the forms by
-    // which its rows are those of a desk.
+    // Over the rows of a desk that was left there is no fault of rows.
     ensures left { (s : State) → IsLeft s → TellsRowsOf (K.seen keeper).rows s → result.status ≢ 7 }
-    ensures formed { IfSome result.board (λ b. AreFormed b.state) }
 {
     let Said {
         answer,

@@ -1,17 +1,14 @@
-ghost use Rattle.std.specs.Prelude.{◌≡◌, ◌<◌};
+ghost use Rattle.std.specs.Prelude.{◌≡◌, None};
 ghost use Rattle.commands.specs.Faults.{Gives};
-ghost use Rattle.desk.specs.Seen.{desk_at, desk_seen, DeskGoesOn};
-ghost use Rattle.desk_io.specs.Over.{over};
-ghost use Rattle.keeper.specs.Seen.{KeeperGoesOn};
 ghost use Rattle.commands.specs.Seen.{lent, service};
 ghost use Rattle.commands.specs.Weather.{weather_text};
-ghost use Rattle.commands.specs.Preparing.{HasFormedNames};
-ghost use Rattle.commands.specs.Working.{Does, EndSays, Opens, Runs, Works};
-ghost use Rattle.ops_tables.specs.Named.{AreNamed};
+ghost use Rattle.commands.specs.Working.{EndSays, Opens, Runs, Serves};
+ghost use Rattle.desk.specs.Seen.{desk_at, desk_seen, DeskGoesOn};
+ghost use Rattle.desk_io.specs.Over.{over};
 ghost use Rattle.desk_state.specs.Sound.{IsBoard};
+ghost use Rattle.keeper.specs.Seen.{KeeperGoesOn};
 
 use crate::fault::Fault;
-use crate::preparing::{Ground, Work};
 use crate::weather::text_of_weather;
 use board::Board;
 use desk::{Desk, OpenFault, open, text_from};
@@ -22,9 +19,8 @@ use ops_tables::Tables;
 use rules::Steps;
 use service::{ServeEnd, serve_door};
 use std::alloc::Global;
-use std::marker::Brand;
 use std::sync::Wait;
-use std::sync::ledger::{Blank, Ledger};
+use std::sync::ledger::Ledger;
 
 /// What was said, and what is left: the board, where a desk was opened, and the keeper.
 #[derive(Drop)]
@@ -63,8 +59,8 @@ fn left<K: Keeper>(answer: Result<Text, Fault>, desk: Desk<K>) -> Said<K>
     }
 }
 
-// What a file of reports says.
-fn read_reports(alloc: Global, file: &[u8]) -> Result<Text, Fault>
+/// What a file of reports says.
+pub(crate) fn read_reports(alloc: Global, file: &[u8]) -> Result<Text, Fault>
     ensures { Gives (λ text. text ≡ weather_text file.now) result }
 {
     Ok(Text::from_vec(text_of_weather(alloc, file)?))
@@ -81,6 +77,26 @@ fn run<K: Keeper, L: Ledger>(
     ensures desk { DeskGoesOn (desk_seen K.seen desk.old) (desk_seen K.seen desk.new) }
 {
     Ok(Text::from_vec(text_from(alloc, desk, script, steps)?))
+}
+
+/// A desk is opened over the tables and the rows of a keeper, and the script is run on it.
+pub(crate) fn run_over<K: Keeper, L: Ledger>(
+    alloc: Global,
+    tables: Tables,
+    script: &[u8],
+    keeper: K,
+    steps: &mut Steps<L>,
+) -> Said<K>
+    ensures opens { Opens tables (Runs script.now) (lent K.seen keeper result.keeper) result.board result.answer }
+    ensures keeper { KeeperGoesOn (K.seen keeper) (K.seen result.keeper) }
+{
+    match open(alloc, tables, keeper, steps) {
+        Ok(mut desk) => {
+            let answer = run(alloc, &mut desk, script, steps);
+            left(answer, desk)
+        }
+        Err(OpenFault { keeper, why }) => boardless(Err(Fault::from(why)), keeper),
+    }
 }
 
 // What serving came to: the closing text of the board, or the fault that ended it.
@@ -100,99 +116,44 @@ fn serve<R: Wait, K: Keeper, C: Clock, D: Door, L: Ledger>(
     rt: &R,
     alloc: Global,
     desk: &mut Desk<K>,
-    clock: &mut C,
-    door: &mut D,
     port: u16,
     connections: u32,
+    clock: &mut C,
+    door: &mut D,
     steps: &mut Steps<L>,
 ) -> Result<Text, Fault>
-    ensures serves { Works (Work.Door port connections)
-        (service C.seen D.seen D.Link.seen clock.old clock.new door.old door.new)
-        (over (desk_at K.seen) desk.old desk.new) result }
+    ensures serves { Serves (service C.seen D.seen D.Link.seen clock.old clock.new door.old door.new)
+        port connections (over (desk_at K.seen) desk.old desk.new) result }
     ensures desk { DeskGoesOn (desk_seen K.seen desk.old) (desk_seen K.seen desk.new) }
 {
     let end = serve_door(rt, alloc, desk, door, clock, port, connections, steps);
     answer_of_end(alloc, end, &desk.board)
 }
 
-// The work on an open desk.
-fn work_on<R: Wait, K: Keeper, C: Clock, D: Door, L: Ledger>(
-    rt: &R,
-    alloc: Global,
-    work: Work,
-    desk: &mut Desk<K>,
-    clock: &mut C,
-    door: &mut D,
-    steps: &mut Steps<L>,
-) -> Result<Text, Fault>
-    ensures works { Works work
-        (service C.seen D.seen D.Link.seen clock.old clock.new door.old door.new)
-        (over (desk_at K.seen) desk.old desk.new) result }
-    ensures desk { DeskGoesOn (desk_seen K.seen desk.old) (desk_seen K.seen desk.new) }
-{
-    match work {
-        Work::Script(script) => run(alloc, desk, script.bytes(), steps),
-        Work::Door { port, connections } => {
-            serve(rt, alloc, desk, clock, door, port, connections, steps)
-        }
-    }
-}
-
-// A desk is opened over the tables and the rows of a keeper, and the work is done on it.
-fn open_for<R: Wait, K: Keeper, C: Clock, D: Door, L: Ledger>(
+/// A desk is opened over the tables and the rows of a keeper, and connections are served on it.
+pub(crate) fn serve_over<R: Wait, K: Keeper, C: Clock, D: Door, L: Ledger>(
     rt: &R,
     alloc: Global,
     tables: Tables,
-    work: Work,
+    port: u16,
+    connections: u32,
     clock: &mut C,
     door: &mut D,
     keeper: K,
-    blank: Blank,
+    steps: &mut Steps<L>,
 ) -> Said<K>
-    requires formed { AreNamed tables }
-    requires name { blank.name ≡ L.name }
-    requires parts { blank.parts ≡ L.parts }
-    requires some { 0 < blank.parts }
-    ensures opens { Opens tables work
-        (service C.seen D.seen D.Link.seen clock.old clock.new door.old door.new)
+    ensures opens { Opens tables
+        (Serves (service C.seen D.seen D.Link.seen clock.old clock.new door.old door.new) port connections)
         (lent K.seen keeper result.keeper) result.board result.answer }
     ensures keeper { KeeperGoesOn (K.seen keeper) (K.seen result.keeper) }
+    // Where no desk was opened the clock and the door are as they were.
+    ensures idle { result.board ≡ None → (clock.new ≡ clock.old) × (door.new ≡ door.old) }
 {
-    let mut steps = Steps::<L>::new(blank);
-    match open(alloc, tables, keeper, &mut steps) {
+    match open(alloc, tables, keeper, steps) {
         Ok(mut desk) => {
-            let answer = work_on(rt, alloc, work, &mut desk, clock, door, &mut steps);
+            let answer = serve(rt, alloc, &mut desk, port, connections, clock, door, steps);
             left(answer, desk)
         }
         Err(OpenFault { keeper, why }) => boardless(Err(Fault::from(why)), keeper),
-    }
-}
-
-/// The work of a command, once all that it stands on was read.
-pub(crate) fn work<R: Wait, K: Keeper, C: Clock, D: Door>(
-    rt: &R,
-    alloc: Global,
-    ground: Ground,
-    clock: &mut C,
-    door: &mut D,
-    keeper: K,
-) -> Said<K>
-    requires { HasFormedNames ground }
-    ensures { Does ground
-        (service C.seen D.seen D.Link.seen clock.old clock.new door.old door.new)
-        (lent K.seen keeper result.keeper) result.board result.answer }
-{
-    match ground {
-        Ground::Reports(file) => boardless(read_reports(alloc, file.bytes()), keeper),
-        Ground::OnDesk { tables, work } => open_for::<R, K, C, D, Brand>(
-            rt,
-            alloc,
-            tables,
-            work,
-            clock,
-            door,
-            keeper,
-            Blank::new(1),
-        ),
     }
 }

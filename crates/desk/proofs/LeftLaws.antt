@@ -1,19 +1,15 @@
 -- Rows that a desk has left are opened again.
-use Rattle.std.proofs.Common.{◌≡◌, ◌≢◌, ℕ, List, [], ◌∷◌, map, Option, None, Some, refl, ap, sym, ◌∙◌, subst, inl, inr, ◌⊎◌, arith}
-use Rattle.std.specs.Prelude.{Result, Ok, Err, IfOk, IfErr, MatchResult, All, IsTrue}
+use Rattle.std.proofs.Common.{◌≡◌, List, [], ◌∷◌, map, Option, None, Some, refl, ap, sym, ◌∙◌, subst, inl, inr, ◌⊎◌}
+use Rattle.std.specs.Prelude.{Result, Ok, Err, IfOk, IfErr, MatchResult}
 use Rattle.std.proofs.lemmas.List.Elements.{All-from_recursion}
-use Rattle.board.specs.Prepare.{Shown, shown}
+use Rattle.board.specs.Prepare.{Shown}
 use Rattle.desk_io.specs.Rows.{Rows}
 use Rattle.desk_io.specs.declared.rows.Row.{Row}
 use Rattle.keeper.specs.Order as order
 use Rattle.kept_state.specs.Rows.{records_of}
-use Rattle.desk_state.specs.Formed.{AreFormed}
-use Rattle.ops_tables.specs.Named.{AreNamed}
 use Rattle.kept_state.proofs.RecordsAgain.{state_again}
 use Rattle.kept_state.proofs.DeskRecords.{records_formed}
 use Rattle.kept_state.proofs.Faultless.{no_bad_row, no_bad_pair}
-use Rattle.desk_state.proofs.FormLaws.{reopened_formed}
-use Rattle.kept_state.proofs.HeldForms.{state_formed}
 use Rattle.kept_state.proofs.SameRows.{desk_records, listed_as}
 use Rattle.desk_state.specs.State.{State, start}
 use Rattle.ops_tables.specs.Tables.{TableRows}
@@ -21,34 +17,18 @@ use Rattle.records.specs.Bodies.{row_of}
 use Rattle.records.specs.Checks.{IsDesk, IsFaultOf}
 use Rattle.records.specs.Faults.{fit}
 use Rattle.records.specs.Valid.{IsRecord}
-use Rattle.records.specs.declared.faults.RowWhy.{RowWhy}
 use Rattle.records.specs.declared.faults.RowsFault.TheVariants as fault
 use Rattle.records.specs.declared.record.Record.{Record}
 use Rattle.kept_state.specs.Held.{AreOfDesk, state_in}
 use Rattle.kept_state.specs.Opening.{reopened}
-use Rattle.kept_state.proofs.StateLaws.{may_reopen}
-use Rattle.desk.proofs.Opened.{of_desk}
 use Rattle.desk.specs.Opening.{IsWhy, IsOfKeeper, IsOpened, IsLeft, TellsRowsOf, under}
 use Rattle.desk.specs.declared.opening.OpenWhy.{OpenWhy}
 use Rattle.desk.specs.declared.opening.OpenWhy.TheVariants.{KeeperFault, BadRow, BadPair, OutOfMemory}
 
--- ---- the forms of what is opened
-
-has_forms : (told : Option Rows) (tables : TableRows) (b : Shown) → IsOpened told tables b → AreNamed tables → AreFormed b.state
-has_forms told tables b is names =
-    let are = of_desk is.loaded.rows is.records is.loaded.has is.loaded.order in
-    let s : State = state_in tables is.records in
-    subst (λ (x : Shown). AreFormed x.state) (sym is.shows) (reopened_formed s (may_reopen tables is.records are) (state_formed tables is.records names are))
-
-pub opened_formed : {D E : Type 0} (told : Option Rows) (tables : TableRows) (board : D → Shown) (r : Result D E) → IfOk r (λ d. IsOpened told tables (board d)) → AreNamed tables
-    → IfOk r (λ d. AreFormed (board d).state)
-opened_formed told tables board (Ok d) is names = has_forms told tables (board d) is names
-opened_formed told tables board (Err e) is names = tt
-
 -- ---- the state that is opened
 
 left_desk : (s : State) → IsLeft s → AreOfDesk (records_of s)
-left_desk s left = records_formed left.opening s left.board left.formed left.few left.room
+left_desk s left = records_formed left.opening s left.board left.few left.room
 
 none_of_desk : AreOfDesk []
 unfolding fit
@@ -72,7 +52,7 @@ opened_as tables s told b left tells is =
     by are (inl same) =
         ap (λ (x : Shown). x.state) is.shows
         ∙ ap (λ (rs : List Record). reopened (state_in tables rs)) (desk_records (records_of s) is.records are (subst (λ (rows : List Row). IsDesk rows is.records) same is.loaded.has))
-        ∙ ap (λ (t : State). reopened t) (state_again left.opening s left.board left.formed tables)
+        ∙ ap (λ (t : State). reopened t) (state_again left.opening s left.board tables)
     by are (inr none) =
         ap (λ (x : Shown). x.state) is.shows
         ∙ ap (λ (rs : List Record). reopened (state_in tables rs)) (no_records is.records (is.loaded.has.are.made ∙ none.0))

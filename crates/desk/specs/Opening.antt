@@ -12,7 +12,6 @@ use Rattle.keeper.specs.Kept.{Lists}
 use Rattle.keeper.specs.Order.{rising}
 use Rattle.keeper.specs.declared.keeping.KeepFault.{KeepFault}
 use Rattle.kept_state.specs.Rows.{AreKept}
-use Rattle.desk_state.specs.Formed.{AreFormed}
 use Rattle.desk_state.specs.Sound.{IsBoard}
 use Rattle.desk_state.specs.State.{State}
 use Rattle.keeper.specs.declared.keeping.KeepFault.TheVariants as keep
@@ -68,11 +67,10 @@ IsOfKeeper rose OutOfMemory = Unit {0}
 abbrev pub AreLoaded : Option Rows → List Record → Type 0
 AreLoaded told records = OnLoaded told (λ rows. IsDesk rows records)
 
--- The state of a board, each part of which has its forms, short of the limits on kept replies and on events.
+-- The state of a board, short of the limits on kept replies and on events.
 pub record IsLeft (s : State) : Type 0 where
   pub opening : State
   pub board : IsBoard opening s
-  pub formed : AreFormed s
   pub few : length s.kept ≤ 800_000
   pub room : s.counters.events < 999_999_999_999_999
 

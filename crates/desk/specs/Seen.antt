@@ -4,7 +4,6 @@ use Rattle.desk.specs.Keeping.{KeepsState}
 use Rattle.desk.specs.declared.settling.Desk.{Desk}
 use Rattle.desk_state.specs.State.{State}
 use Rattle.keeper.specs.Seen.{KeeperSeen, KeeperGoesOn}
-use Rattle.desk_state.specs.Formed.{AreFormed}
 
 pub record DeskSeen : Type 0 where
   -- the state in which it was opened, and the one that it is in
@@ -19,18 +18,11 @@ desk_seen seen desk = record { opening = desk.board.opening; state = desk.board.
 abbrev pub IsKept : DeskSeen → Type 0
 IsKept desk = KeepsState desk.keeper.rows desk.state
 
--- A step: how the desk was opened stays, what is kept for its state stays so, and its keeper goes on.
-pub record StepGoesOn (old new : DeskSeen) : Type 0 where
-  pub opening : new.opening ≡ old.opening
-  pub rows : IsKept old → IsKept new
-  pub keeper : KeeperGoesOn old.keeper new.keeper
-
--- A call: besides, the forms stay by which the rows are those of a desk.
+-- How the desk was opened stays, what is kept for its state stays so, and its keeper goes on.
 pub record DeskGoesOn (old new : DeskSeen) : Type 0 where
   pub opening : new.opening ≡ old.opening
   pub rows : IsKept old → IsKept new
   pub keeper : KeeperGoesOn old.keeper new.keeper
-  pub formed : AreFormed old.state → AreFormed new.state
 
 -- what is said of answers: the state, and the count of the keeper's faults
 pub record DeskAt : Type 0 where

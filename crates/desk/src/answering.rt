@@ -8,7 +8,7 @@ ghost use Rattle.desk_state.specs.Repeats.{MayAsk, IsKeptFor};
 ghost use Rattle.desk_state.specs.Step.{answer_call, tick_to};
 ghost use Rattle.desk.specs.Keeping as spec;
 ghost use Rattle.desk.specs.Keeping.{adds, AreNow, Counted, CountedOnce};
-ghost use Rattle.desk.specs.Seen.{desk_seen, StepGoesOn, DeskGoesOn};
+ghost use Rattle.desk.specs.Seen.{desk_seen, DeskGoesOn};
 ghost use Rattle.desk.specs.Settled.{IsSettled, MayHaveTicked, choice_of, Gives, AnswersCall, IsSaid, done_again};
 ghost use Rattle.desk.specs.Shown.{IsShown, CanBeSaid};
 
@@ -54,7 +54,7 @@ fn make_call<K: Keeper, L: Ledger>(
     ensures shown { IfOk result (λ r. IfSome r.reply ReplyHasMoment) }
     ensures replied { IfOk result (λ r. is_some r.reply ≡ true) }
     ensures err { OnErr result (desk.new.board.state ≡ desk.old.board.state) }
-    ensures on { StepGoesOn (desk_seen K.seen desk.old) (desk_seen K.seen desk.new) }
+    ensures on { DeskGoesOn (desk_seen K.seen desk.old) (desk_seen K.seen desk.new) }
     ensures count { IfOk result (λ r. CountedOnce (K.seen desk.old.keeper).health.faults r.fault
         (K.seen desk.new.keeper).health.faults) }
     ensures asked { IfOk result (λ r. (K.seen desk.new.keeper).commits ≡ spec.asked_if
@@ -79,7 +79,7 @@ fn make_tick<K: Keeper, L: Ledger>(
         (spec.ticked_with r.fault lane desk.old.board.state to)) }
     ensures shown { IfOk result (λ r. IfSome r.reply ReplyHasMoment) }
     ensures err { OnErr result (desk.new.board.state ≡ desk.old.board.state) }
-    ensures on { StepGoesOn (desk_seen K.seen desk.old) (desk_seen K.seen desk.new) }
+    ensures on { DeskGoesOn (desk_seen K.seen desk.old) (desk_seen K.seen desk.new) }
     ensures count { IfOk result (λ r. CountedOnce (K.seen desk.old.keeper).health.faults r.fault
         (K.seen desk.new.keeper).health.faults) }
     ensures asked { IfOk result (λ r. (K.seen desk.new.keeper).commits ≡ spec.asked_if
@@ -108,7 +108,7 @@ fn once_ticked<K: Keeper, L: Ledger>(
     ensures count { IfOk result (λ r. CountedOnce (K.seen desk.old.keeper).health.faults r.fault
         (K.seen desk.new.keeper).health.faults) }
     ensures err { OnErr result (desk.new.board.state ≡ desk.old.board.state) }
-    ensures on { StepGoesOn (desk_seen K.seen desk.old) (desk_seen K.seen desk.new) }
+    ensures on { DeskGoesOn (desk_seen K.seen desk.old) (desk_seen K.seen desk.new) }
     ensures asked { IfOk result (λ r. (K.seen desk.new.keeper).commits ≡ spec.asked_once refused lane
         desk.old.board.state call.now (K.seen desk.old.keeper).commits) }
     ensures stays { IfOk result (λ r. IfSome refused
@@ -179,7 +179,7 @@ fn answer_made<K: Keeper, L: Ledger>(
     ensures count { IfOk result (λ j. Counted (K.seen desk.old.keeper).health.faults (choice_of j ∷ [])
         (K.seen desk.new.keeper).health.faults) }
     ensures err { OnErr result (desk.new.board.state ≡ desk.old.board.state) }
-    ensures on { StepGoesOn (desk_seen K.seen desk.old) (desk_seen K.seen desk.new) }
+    ensures on { DeskGoesOn (desk_seen K.seen desk.old) (desk_seen K.seen desk.new) }
     ensures exact { IfOk result (λ j. AreNow (K.seen desk.new.keeper).health.faults (choice_of j)) }
     ensures asked { IfOk result (λ j. (K.seen desk.new.keeper).commits ≡ spec.asked_once None lane
         desk.old.board.state call.now (K.seen desk.old.keeper).commits) }
@@ -209,7 +209,7 @@ fn answer_late<K: Keeper, L: Ledger>(
     ensures count { IfOk result (λ j. Counted (K.seen desk.old.keeper).health.faults (choice_of j ∷ [])
         (K.seen desk.new.keeper).health.faults) }
     ensures err { OnErr result (MayHaveTicked lane at desk.old.board.state desk.new.board.state) }
-    ensures on { StepGoesOn (desk_seen K.seen desk.old) (desk_seen K.seen desk.new) }
+    ensures on { DeskGoesOn (desk_seen K.seen desk.old) (desk_seen K.seen desk.new) }
     ensures asked { IfOk result (λ j. (K.seen desk.new.keeper).commits ≡ spec.asked_late j.tick lane
         desk.old.board.state at call.now (K.seen desk.old.keeper).commits) }
     ensures exact { IfOk result (λ j. AreNow (K.seen desk.new.keeper).health.faults (choice_of j)) }
@@ -224,40 +224,9 @@ fn answer_late<K: Keeper, L: Ledger>(
     Ok(joined(position, notices, fault, settled))
 }
 
-// The same, without what is said of forms.
-#[tactic(auto, unfolding(crate::specs::Keeping::answer_with, crate::specs::Keeping::commits_after))]
-fn judge_at<K: Keeper, L: Ledger>(
-    alloc: Global,
-    desk: &mut Desk<K>,
-    lane: u32,
-    at: Minute,
-    call: &Call,
-    steps: &mut Steps<L>,
-) -> Result<Judged, OutOfMemory>
-    requires within { at ≤ LAST }
-    requires call { CallHasForms call.now }
-    ensures given { IfOk result (λ j. Gives
-        (spec.answer_with (choice_of j) lane desk.old.board.state at call.now) desk.new.board.state j.answered) }
-    ensures shown { IfOk result (λ j. IsShown j.answered.outcome) }
-    ensures count { IfOk result (λ j. Counted (K.seen desk.old.keeper).health.faults (choice_of j ∷ [])
-        (K.seen desk.new.keeper).health.faults) }
-    ensures err { OnErr result (MayHaveTicked lane at desk.old.board.state desk.new.board.state) }
-    ensures on { StepGoesOn (desk_seen K.seen desk.old) (desk_seen K.seen desk.new) }
-    ensures exact { IfOk result (λ j. AreNow (K.seen desk.new.keeper).health.faults (choice_of j)) }
-    ensures asked { IfOk result (λ j. (K.seen desk.new.keeper).commits ≡ spec.commits_after (choice_of j) lane
-        desk.old.board.state at call.now (K.seen desk.old.keeper).commits) }
-    ensures still { at ≤ desk.old.board.state.moment → adds desk.old.board.state
-        (answer_call desk.old.board.state lane call.now) ≡ false → desk.new.keeper ≡ desk.old.keeper }
-{
-    if desk.board.now() < at {
-        answer_late(alloc, desk, lane, at, call, steps)
-    } else {
-        answer_made(alloc, desk, lane, call, steps)
-    }
-}
-
 /// A call of a lane at a moment: the desk ticks to it first, where it is later, and keeps what each of the two changes
 /// before it is made.
+#[tactic(auto, unfolding(crate::specs::Keeping::answer_with, crate::specs::Keeping::commits_after))]
 pub(crate) fn judge<K: Keeper, L: Ledger>(
     alloc: Global,
     desk: &mut Desk<K>,
@@ -281,9 +250,11 @@ pub(crate) fn judge<K: Keeper, L: Ledger>(
     ensures still { at ≤ desk.old.board.state.moment → adds desk.old.board.state
         (answer_call desk.old.board.state lane call.now) ≡ false → desk.new.keeper ≡ desk.old.keeper }
 {
-    // what holds of every board
-    let _ = desk.board.now();
-    judge_at(alloc, desk, lane, at, call, steps)
+    if desk.board.now() < at {
+        answer_late(alloc, desk, lane, at, call, steps)
+    } else {
+        answer_made(alloc, desk, lane, call, steps)
+    }
 }
 
 /// A call of a lane at a moment, over a keeper: the desk ticks to it first, where it is later, and keeps what each of

@@ -3,7 +3,8 @@ ghost use Rattle.std.specs.List.{AllByRecursion};
 ghost use Rattle.desk_json.specs.Faults.{line_or_fault};
 ghost use Rattle.desk.specs.Run as spec;
 ghost use Rattle.desk.specs.Run.{items_of, lines_of, lane_with};
-ghost use Rattle.desk.specs.Shown.{IsItem, IsShown};
+ghost use Rattle.desk_state.specs.Repeats.{IsAskable};
+ghost use Rattle.desk.specs.Shown.{IsShown};
 
 use desk_io::{LineFeeds, OutOfMemory, Run, runs_between};
 use desk_json::{CallFault, read_line};
@@ -21,18 +22,19 @@ pub struct Lane {
 impl Model for Lane {
     ghost use Rattle.std.specs.List.{AllByRecursion};
     ghost use Rattle.desk.specs.Run.{LaneShown, lane_with};
-    ghost use Rattle.desk.specs.Shown.{IsItem, IsShown};
+    ghost use Rattle.desk_state.specs.Repeats.{IsAskable};
+    ghost use Rattle.desk.specs.Shown.{IsShown};
 
     ghost Value = { LaneShown };
 
     ghost view = { λ l. lane_with l.items.items l.outcomes.items };
 
-    ghost invariant = { λ l. AllByRecursion IsItem l.items.items × AllByRecursion IsShown l.outcomes.items };
+    ghost invariant = { λ l. AllByRecursion IsAskable l.items.items × AllByRecursion IsShown l.outcomes.items };
 }
 
 fn read_item(alloc: Global, line: &[u8]) -> Result<Item, OutOfMemory>
     ensures value { IfOk result (λ i. i ≡ spec.item_of (line_or_fault line.now)) }
-    ensures form { IfOk result IsItem }
+    ensures form { IfOk result IsAskable }
 {
     match read_line(alloc, line) {
         Ok((at, call)) => Ok(Item::Call { at, call }),
@@ -43,7 +45,7 @@ fn read_item(alloc: Global, line: &[u8]) -> Result<Item, OutOfMemory>
 
 fn items_in(alloc: Global, lines: &[Run<'_>]) -> Result<Vec<Item>, OutOfMemory>
     ensures items { IfOk result (λ v. v.items ≡ items_of lines.now) }
-    ensures form { IfOk result (λ v. AllByRecursion IsItem v.items) }
+    ensures form { IfOk result (λ v. AllByRecursion IsAskable v.items) }
 {
     let mut items = Vec::new(alloc);
     for line in lines {
@@ -76,7 +78,7 @@ impl Lane {
     /// The items.
     pub(crate) fn items(&self) -> &[Item]
         ensures items { result.now ≡ self.now.items }
-        ensures form { AllByRecursion IsItem result.now }
+        ensures form { AllByRecursion IsAskable result.now }
     {
         &self.items
     }

@@ -8,8 +8,6 @@ ghost use Rattle.keeper.specs.Seen.{KeeperGoesOn};
 ghost use Rattle.kept_state.specs.Rows.{AreKept};
 ghost use Rattle.records.specs.Bodies.{row_of};
 ghost use Rattle.records.specs.Checks.{IsDesk};
-ghost use Rattle.desk_state.specs.Formed.{AreFormed};
-ghost use Rattle.ops_tables.specs.Named.{AreNamed};
 ghost use Rattle.desk_state.specs.State.{State};
 ghost use Rattle.kept_state.specs.Held.{AreOfDesk};
 ghost use Rattle.kept_state.specs.Opening.{reopened};
@@ -251,7 +249,6 @@ pub fn open<K: Keeper, L: Ledger>(
     ensures left { (s : State) → IsLeft s → TellsRowsOf (K.seen keeper).rows s
         → MatchResult result (λ d. d.board.state ≡ reopened (under tables s))
         (λ f. IsOfKeeper (HasFailed (K.seen keeper).health (K.seen f.keeper).health) f.why) }
-    ensures formed { AreNamed tables → IfOk result (λ d. AreFormed d.board.state) }
 {
     open_desk(alloc, tables, keeper, steps)
 }

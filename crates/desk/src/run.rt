@@ -6,7 +6,8 @@ ghost use Rattle.desk.specs.Run as spec;
 ghost use Rattle.desk.specs.Run.{texts_of, IsRun};
 ghost use Rattle.desk.specs.Seen.{desk_seen, DeskGoesOn};
 ghost use Rattle.desk.specs.Settled.{AnswersItem};
-ghost use Rattle.desk.specs.Shown.{IsItem, IsShown, CanBeSaid};
+ghost use Rattle.desk_state.specs.Repeats.{IsAskable};
+ghost use Rattle.desk.specs.Shown.{IsShown, CanBeSaid};
 
 use crate::answering::{Answered, answer};
 use crate::lanes::Lane;
@@ -48,7 +49,7 @@ fn answer_item<K: Keeper, L: Ledger>(
     item: &Item,
     steps: &mut Steps<L>,
 ) -> Result<Answered, OutOfMemory>
-    requires { IsItem item.now }
+    requires { IsAskable item.now }
     ensures given { IfOk result
         (λ a. AnswersItem LANE item.now (desk_seen K.seen desk.old) (desk_seen K.seen desk.new) a) }
     ensures shown { IfOk result (λ a. IsShown a.outcome) }
@@ -74,7 +75,7 @@ fn outcomes_of<K: Keeper, L: Ledger>(
     items: &[Item],
     steps: &mut Steps<L>,
 ) -> Result<Vec<Outcome>, OutOfMemory>
-    requires { AllByRecursion IsItem items.now }
+    requires { AllByRecursion IsAskable items.now }
     ensures given { IfOk result (λ v. AreGiven LANE (K.seen desk.old.keeper).health.faults
         (K.seen desk.new.keeper).health.faults desk.old.board.state items.now desk.new.board.state v.items) }
     ensures shown { IfOk result (λ v. AllByRecursion IsShown v.items) }

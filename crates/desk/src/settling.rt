@@ -4,7 +4,7 @@ ghost use Rattle.board.specs.Prepare.{KeepsRows, installed};
 ghost use Rattle.desk_io.specs.Planned.{after};
 ghost use Rattle.keeper.specs.Seen.{KeeperGoesOn};
 ghost use Rattle.desk.specs.Keeping.{asked_if, kept_or, CountedOnce, KeptUnless};
-ghost use Rattle.desk.specs.Seen.{desk_seen, StepGoesOn};
+ghost use Rattle.desk.specs.Seen.{desk_seen, DeskGoesOn};
 ghost use Rattle.desk.specs.Settled.{stepped_by, IsSettled};
 
 use alerts::Notices;
@@ -121,7 +121,7 @@ pub(crate) fn settle<K: Keeper>(
         (kept_or r.fault desk.old.board.state (stepped_by desk.old.board.state prepared))) }
     ensures shown { IfOk result (λ r. IfSome r.reply ReplyHasMoment) }
     ensures err { OnErr result (desk.new.board.state ≡ desk.old.board.state) }
-    ensures on { StepGoesOn (desk_seen K.seen desk.old) (desk_seen K.seen desk.new) }
+    ensures on { DeskGoesOn (desk_seen K.seen desk.old) (desk_seen K.seen desk.new) }
     ensures count { IfOk result (λ r. CountedOnce (K.seen desk.old.keeper).health.faults r.fault
         (K.seen desk.new.keeper).health.faults) }
     ensures told { IfOk result (λ r. IfSome r.fault (λ n. r.reply ≡ Some (Reply.Refused (Refusal.Unkept n)))) }

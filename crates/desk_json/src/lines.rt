@@ -1,7 +1,6 @@
 ghost use Rattle.std.specs.Prelude.{◌≡◌, IfOk};
 ghost use Rattle.serde_json.specs.View.{view};
 ghost use Rattle.plan.specs.Texts.{IsMoment};
-ghost use Rattle.asks.specs.Forms.{IsCall};
 ghost use Rattle.call_json.specs.Forms.{CallHasForms};
 ghost use Rattle.desk_json.specs.Keys.{is_call_key, is_line_key};
 ghost use Rattle.desk_json.specs.Faults as spec;
@@ -94,7 +93,6 @@ pub fn read_call(alloc: Global, bytes: &[u8]) -> Result<Call, CallFault>
     ensures found { IsFound (IsCallOf bytes.now) result }
     // Texts are UTF-8 and numbers within their limits, so that what is written of the ask is read as it.
     ensures forms { IfOk result CallHasForms }
-    ensures form { IfOk result (λ c. IsCall c.ask) }
     // The JSON of a call is read as that call.
     ensures again { IsCallAgain bytes.now result }
 {
@@ -113,7 +111,6 @@ pub fn read_line(alloc: Global, line: &[u8]) -> Result<(Minute, Call), CallFault
     ensures range { IfOk result (λ p. IsMoment p.0) }
     // Texts are UTF-8 and numbers within their limits, so that what is written of the ask is read as it.
     ensures forms { IfOk result (λ p. CallHasForms p.1) }
-    ensures form { IfOk result (λ p. IsCall p.1.ask) }
     // The JSON of a moment and a call is read as these.
     ensures again { IsLineAgain line.now result }
 {

@@ -14,13 +14,14 @@ use serde_json::Value;
 use std::sync::Wait;
 
 // What may stand in a case, in each of its steps, and in what the cases of a file have in common.
-const PARTS: [&str; 13] = [
+const PARTS: [&str; 14] = [
     "tables",
     "sources",
     "words",
     "clock",
     "links",
     "fail",
+    "unmade",
     "status",
     "written",
     "left",

@@ -1,3 +1,4 @@
+use crate::fails::compare_made;
 use crate::fault::CaseFault;
 use crate::members::{check_keys, items_of};
 use crate::play::Play;
@@ -38,6 +39,17 @@ fn count(counted: Counted, came: &[u8], text: &[u8]) -> usize {
     came.split(is_line_feed)
         .filter(|line| is_counted(counted, line, text))
         .count()
+}
+
+// How many bytes of what came are shown.
+const SHOWN: usize = 1_000;
+
+// What came, or its front.
+fn front(alloc: Global, came: &[u8]) -> Result<String, OutOfMemory> {
+    let whole = came.len() <= SHOWN;
+    let text = String::from_utf8_lossy(alloc, if whole { came } else { &came[..SHOWN] })?;
+    let end = if whole { "" } else { ".." };
+    Ok(format!(in alloc; "{text:?}{end}")?)
 }
 
 // A line as it is shown; none where a text has ended.
@@ -118,7 +130,8 @@ fn compare_count(
     let line = shown(play.alloc, Some(&line))?;
     let what = format!(in play.alloc; "{what}, count of {line}")?;
     let wanted = wanted.1.to_string(play.alloc)?;
-    let came = count.to_string(play.alloc)?;
+    let came = front(play.alloc, came)?;
+    let came = format!(in play.alloc; "{count} in {came}")?;
     report.differs(play, what.as_str(), wanted.as_str(), came.as_str())
 }
 
@@ -156,6 +169,9 @@ fn compare_counted<'a>(
         None => Ok(()),
         Some(pairs) => {
             let pairs = items_of(pairs, key)?;
+            if pairs.is_empty() {
+                return Err(CaseFault::Unread(key));
+            }
             compare_counts(play, what, counted, pairs, came, report)
         }
     }
@@ -340,6 +356,21 @@ fn compare_left<'a, F: Shelf>(
     }
 }
 
+// What a play may say must come.
+const WANTED: [&str; 7] = [
+    "status",
+    "written",
+    "left",
+    "links_written",
+    "board",
+    "port",
+    "asked",
+];
+
+fn compares(play: &Play<'_>) -> bool {
+    WANTED.iter().any(|key| play.part(key).is_some())
+}
+
 /// Compares what the program came to, over the rows of lines before it, with what a play says must come.
 pub fn compare<'a, F: Shelf>(
     play: &Play<'a>,
@@ -348,6 +379,10 @@ pub fn compare<'a, F: Shelf>(
     played: &Played,
     report: &mut Report<'_>,
 ) -> Result<(), CaseFault<'a>> {
+    if !compares(play) {
+        report.says(play, "nothing is compared")?;
+    }
+    compare_made(play, played, report)?;
     compare_values(play, played, report)?;
     compare_at(play, files, "written", played.sink.written(), report)?;
     let left = lines_of(play.alloc, played.keeper.rows())?;

@@ -1,49 +1,184 @@
 use crate::fault::CaseFault;
 use crate::members::{check_keys, items_of};
 use crate::play::Play;
+use crate::playing::Played;
+use crate::report::Report;
+use desk_io::{OutOfMemory, Sink};
+use desk_net::{Clock, Link, MemoryLink};
+use keeper::Keeper;
 use serde_json::Value;
 
 const OBJECTS: [&str; 6] = ["shelf", "sink", "keeper", "clock", "door", "links"];
 
-/// Whether a value says that rows can't be loaded.
-pub fn is_load(value: &Value) -> bool {
+// The calls that must fail, and those that would fail but mustn't be made.
+const FAIL: &str = "fail";
+
+const UNMADE: &str = "unmade";
+
+fn is_load(value: &Value) -> bool {
     value.as_str() == Some("load")
 }
 
-/// The numbers of a list, in which `load` may stand beside them.
-pub fn numbers_in(
+// What is listed of an object at one of these keys.
+fn listed<'a>(
+    play: &Play<'a>,
+    key: &'static str,
+    object: &str,
+) -> Result<&'a [Value], CaseFault<'a>> {
+    let Some(objects) = play.part(key) else {
+        return Ok(&[]);
+    };
+    check_keys(objects, &OBJECTS, &[], key)?;
+    match objects.get(object) {
+        None => Ok(&[]),
+        Some(listed) => items_of(listed, key),
+    }
+}
+
+// The same of the link at a place.
+fn listed_of_link<'a>(
+    play: &Play<'a>,
+    key: &'static str,
+    place: usize,
+) -> Result<&'a [Value], CaseFault<'a>> {
+    match listed(play, key, "links")?.get(place) {
+        None => Ok(&[]),
+        Some(listed) => items_of(listed, key),
+    }
+}
+
+// Adds the numbers of a list, in which `load` may stand beside them.
+fn push_numbers(
     play: &Play<'_>,
     listed: &[Value],
     with_load: bool,
-) -> Result<Vec<u64>, CaseFault<'static>> {
-    let mut numbers = Vec::new(play.alloc);
+    numbers: &mut Vec<u64>,
+) -> Result<(), CaseFault<'static>> {
     for value in listed {
         match play.number(value) {
             Some(number) => numbers.push(number)?,
             None if with_load && is_load(value) => {}
-            None => return Err(CaseFault::Unread("fail")),
+            None => return Err(CaseFault::Unread(FAIL)),
         }
     }
-    Ok(numbers)
-}
-
-fn listed_at<'a>(fail: &'a Value, key: &str) -> Result<&'a [Value], CaseFault<'a>> {
-    check_keys(fail, &OBJECTS, &[], "fail")?;
-    match fail.get(key) {
-        None => Ok(&[]),
-        Some(listed) => items_of(listed, "fail"),
-    }
-}
-
-/// What a play says of the calls of an object that fail.
-pub fn fail_at<'a>(play: &Play<'a>, key: &str) -> Result<&'a [Value], CaseFault<'a>> {
-    match play.part("fail") {
-        None => Ok(&[]),
-        Some(fail) => listed_at(fail, key),
-    }
+    Ok(())
 }
 
 /// The numbers of the calls of an object that fail.
-pub fn failing<'a>(play: &Play<'a>, key: &str) -> Result<Vec<u64>, CaseFault<'a>> {
-    numbers_in(play, fail_at(play, key)?, key == "keeper")
+pub fn failing<'a>(play: &Play<'a>, object: &str) -> Result<Vec<u64>, CaseFault<'a>> {
+    let with_load = object == "keeper";
+    let mut numbers = Vec::new(play.alloc);
+    push_numbers(play, listed(play, FAIL, object)?, with_load, &mut numbers)?;
+    push_numbers(play, listed(play, UNMADE, object)?, with_load, &mut numbers)?;
+    Ok(numbers)
+}
+
+/// The numbers of the calls of the link at a place that fail.
+pub fn failing_of_link<'a>(play: &Play<'a>, place: usize) -> Result<Vec<u64>, CaseFault<'a>> {
+    let mut numbers = Vec::new(play.alloc);
+    push_numbers(
+        play,
+        listed_of_link(play, FAIL, place)?,
+        false,
+        &mut numbers,
+    )?;
+    push_numbers(
+        play,
+        listed_of_link(play, UNMADE, place)?,
+        false,
+        &mut numbers,
+    )?;
+    Ok(numbers)
+}
+
+/// Whether the rows can be loaded.
+pub fn loads<'a>(play: &Play<'a>) -> Result<bool, CaseFault<'a>> {
+    let fail = listed(play, FAIL, "keeper")?;
+    let unmade = listed(play, UNMADE, "keeper")?;
+    Ok(!fail.iter().any(is_load) && !unmade.iter().any(is_load))
+}
+
+// How many of the numbers are those of calls that were made.
+fn reached(numbers: &[u64], calls: u64) -> u64 {
+    numbers.iter().filter(|number| **number < calls).count() as u64
+}
+
+// Compares how many calls of an object must fail with how many did.
+fn compare_fails(
+    play: &Play<'_>,
+    object: &str,
+    wanted: usize,
+    came: u64,
+    report: &mut Report<'_>,
+) -> Result<(), OutOfMemory> {
+    if wanted as u64 == came {
+        return Ok(());
+    }
+    let what = format!(in play.alloc; "calls of {object} that fail")?;
+    let wanted = wanted.to_string(play.alloc)?;
+    let came = came.to_string(play.alloc)?;
+    report.differs(play, what.as_str(), wanted.as_str(), came.as_str())
+}
+
+fn compare_faults<'a>(
+    play: &Play<'a>,
+    object: &str,
+    faults: u64,
+    report: &mut Report<'_>,
+) -> Result<(), CaseFault<'a>> {
+    let wanted = listed(play, FAIL, object)?.len();
+    Ok(compare_fails(play, object, wanted, faults, report)?)
+}
+
+// The same of those that have other faults, too: a source isn't there, or no link is to come.
+fn compare_calls<'a>(
+    play: &Play<'a>,
+    object: &str,
+    calls: u64,
+    report: &mut Report<'_>,
+) -> Result<(), CaseFault<'a>> {
+    let numbers = failing(play, object)?;
+    compare_faults(play, object, reached(&numbers, calls), report)
+}
+
+fn faults_of(link: Option<&MemoryLink>) -> u64 {
+    match link {
+        Some(link) => link.faults(),
+        None => 0,
+    }
+}
+
+fn compare_links<'a>(
+    play: &Play<'a>,
+    links: &[MemoryLink],
+    report: &mut Report<'_>,
+) -> Result<(), CaseFault<'a>> {
+    let count = links.len().max(listed(play, FAIL, "links")?.len());
+    for place in 0..count {
+        let wanted = listed_of_link(play, FAIL, place)?.len();
+        let number = place.saturating_add(1);
+        let link = format!(in play.alloc; "link {number}")?;
+        compare_fails(
+            play,
+            link.as_str(),
+            wanted,
+            faults_of(links.get(place)),
+            report,
+        )?;
+    }
+    Ok(())
+}
+
+/// Says where a call that must fail wasn't made, and where one was that mustn't be.
+pub fn compare_made<'a>(
+    play: &Play<'a>,
+    played: &Played,
+    report: &mut Report<'_>,
+) -> Result<(), CaseFault<'a>> {
+    compare_calls(play, "shelf", played.shelf.calls(), report)?;
+    compare_faults(play, "sink", played.sink.faults(), report)?;
+    compare_faults(play, "keeper", played.keeper.faults(), report)?;
+    compare_faults(play, "clock", played.clock.faults(), report)?;
+    compare_calls(play, "door", played.door.calls(), report)?;
+    compare_links(play, played.door.ended(), report)
 }

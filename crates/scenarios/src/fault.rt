@@ -1,5 +1,5 @@
 use desk_io::{OutOfMemory, WholeFault};
-use std::alloc::{AllocError, AllocFailed};
+use std::alloc::{AllocError, AllocFailed, Global};
 
 /// Why a case can't be played.
 #[derive(Clone, Copy)]
@@ -20,6 +20,16 @@ impl<'a> CaseFault<'a> {
         match fault {
             WholeFault::OutOfMemory => CaseFault::OutOfMemory,
             WholeFault::ReadFault | WholeFault::TooLong => CaseFault::NoFile(path),
+        }
+    }
+
+    /// The fault in words.
+    pub fn shown(self, alloc: Global) -> Result<String, OutOfMemory> {
+        match self {
+            CaseFault::Unread(key) => Ok(format!(in alloc; "{key:?} can't be read")?),
+            CaseFault::NoText(name) => Ok(format!(in alloc; "there is no text {name:?}")?),
+            CaseFault::NoFile(path) => Ok(format!(in alloc; "there is no file {path:?}")?),
+            CaseFault::OutOfMemory => Err(OutOfMemory),
         }
     }
 }

@@ -1,6 +1,7 @@
 //! Plays cases through the program's call over objects in memory, and compares what comes with what the cases say must
 //! come. The words name files of cases. A line is printed for each difference, and a last one with the counts of cases;
-//! the status is 0 where nothing differs.
+//! the status is 0 where nothing differs. A case or a step that compares nothing differs, and one of which a call that
+//! must fail isn't made; and so does a file that has no case to be played, or that no file is named.
 //!
 //! A file is one JSON object of `cases` and, where it has them, of `texts` by their names and of `common`: what a case
 //! lacks it takes from there. A case has
@@ -17,6 +18,7 @@
 //! - `fail`: which calls fail, lists of numbers from 0, of `shelf`, `sink`, `keeper` (its commits, and with `"load"` its
 //!   rows can't be loaded), `clock` and `door` (its opening, and each link that it is asked for), and such a list for each
 //!   link (its reads and writes together) in the list `links`. A step counts from 0 again.
+//! - `unmade`: calls that would fail, of the same form, but mustn't be made.
 //! - what must come; what is missing isn't compared: `status`; `board`, whether one is left; `port`, where the door was
 //!   opened, or null; `asked`, how many moments the clock gave; `written`, a text; `left`, the rows that the
 //!   keeper holds at last; and `links_written`, a list of texts, of the links that were given back.
@@ -76,6 +78,17 @@ fn words_of(rt: &HostRuntime) -> Result<Vec<String>, OutOfMemory> {
     Ok(words)
 }
 
+// Says why no case of a file can be played, and counts it as one that failed.
+fn refuse(
+    alloc: Global,
+    why: &str,
+    report: &mut Report<'_>,
+    counts: &mut Counts,
+) -> Result<(), OutOfMemory> {
+    counts.failed = counts.failed.saturating_add(1);
+    report.of_file(alloc, why)
+}
+
 // Plays the cases of a file, and counts them.
 fn play_cases<R: Wait, F: Shelf>(
     rt: &R,
@@ -103,20 +116,19 @@ fn play_data<R: Wait, F: Shelf>(
     file: &Value,
     report: &mut Report<'_>,
     counts: &mut Counts,
-) -> Result<bool, OutOfMemory> {
+) -> Result<(), OutOfMemory> {
+    if let Err(fault) = check_keys(file, &["texts", "common", "cases"], &[], "the file") {
+        let why = fault.shown(alloc)?;
+        return refuse(alloc, why.as_str(), report, counts);
+    }
     match file.get("cases").and_then(Value::as_array) {
-        None => Ok(false),
-        Some(_) if check_keys(file, &["texts", "common", "cases"], &[], "file").is_err() => Ok(
-            false,
-        ),
-        Some(cases) => {
-            play_cases(rt, alloc, files, file, cases.as_slice(), report, counts)?;
-            Ok(true)
-        }
+        None => refuse(alloc, "it has no list of cases", report, counts),
+        Some(cases) if cases.is_empty() => refuse(alloc, "it has no case", report, counts),
+        Some(cases) => play_cases(rt, alloc, files, file, cases.as_slice(), report, counts),
     }
 }
 
-// Plays the cases of the file of a name, and answers whether it is a file of cases.
+// Plays the cases of the file of a name.
 fn play_file<R: Wait, F: Shelf>(
     rt: &R,
     alloc: Global,
@@ -124,15 +136,21 @@ fn play_file<R: Wait, F: Shelf>(
     name: &str,
     report: &mut Report<'_>,
     counts: &mut Counts,
-) -> Result<bool, OutOfMemory> {
+) -> Result<(), OutOfMemory> {
     let text = match read_whole(alloc, files, name) {
         Ok(text) => text,
+        Err(WholeFault::ReadFault) => return refuse(
+            alloc,
+            "no file can be read there",
+            report,
+            counts,
+        ),
+        Err(WholeFault::TooLong) => return refuse(alloc, "it is too long", report, counts),
         Err(WholeFault::OutOfMemory) => return Err(OutOfMemory),
-        Err(_) => return Ok(false),
     };
     match data_of(alloc, text.bytes())? {
         Some(file) => play_data(rt, alloc, files, &file, report, counts),
-        None => Ok(false),
+        None => refuse(alloc, "it isn't JSON", report, counts),
     }
 }
 
@@ -146,10 +164,7 @@ fn play_named<R: Wait, F: Shelf, O: Sink>(
     counts: &mut Counts,
 ) -> Result<(), OutOfMemory> {
     let mut report = Report::new(alloc, name);
-    if !play_file(rt, alloc, files, name, &mut report, counts)? {
-        report.no_cases()?;
-        counts.failed = counts.failed.saturating_add(1);
-    }
+    play_file(rt, alloc, files, name, &mut report, counts)?;
     if out.write(report.lines().as_bytes()).is_err() {
         counts.failed = counts.failed.saturating_add(1);
     }
@@ -167,6 +182,10 @@ fn play_files<R: Wait, F: Shelf, O: Sink>(
         passed: 0,
         failed: 0,
     };
+    if names.is_empty() {
+        counts.failed = 1;
+        let _ = out.write(b"no file of cases is named\n");
+    }
     for name in names {
         play_named(rt, alloc, files, out, name.as_str(), &mut counts)?;
     }

@@ -2,10 +2,10 @@ ghost use Rattle.std.specs.Prelude.{◌<◌, IfOk, IfSome};
 ghost use Rattle.std.specs.List.{All};
 ghost use Rattle.desk_net.specs.Clocks.{IsMoment};
 
-use crate::fails::{fail_at, failing, is_load, numbers_in};
+use crate::fails::{failing, failing_of_link, loads};
 use crate::fault::CaseFault;
 use crate::members::{check_keys, items_of};
-use crate::outside::{CaseClock, CaseKeeper};
+use crate::outside::{CaseClock, CaseDoor, CaseKeeper};
 use crate::play::Play;
 use crate::texts::text_of;
 use desk_io::{MemorySink, Row, Shelf};
@@ -25,8 +25,7 @@ pub fn sink_of<'a>(play: &Play<'a>) -> Result<MemorySink, CaseFault<'a>> {
 
 /// The keeper of a play over rows.
 pub fn keeper_of<'a>(play: &Play<'a>, rows: Vec<Row>) -> Result<CaseKeeper, CaseFault<'a>> {
-    let fails = fail_at(play, "keeper")?;
-    let loads = !fails.iter().any(is_load);
+    let loads = loads(play)?;
     let fail = failing(play, "keeper")?;
     if is_rising(&rows) {
         Ok(CaseKeeper::new(MemoryKeeper::new(rows, fail), loads))
@@ -102,39 +101,26 @@ fn link_of<'a, F: Shelf>(
     Ok(MemoryLink::new(play.alloc, input, cut, fail))
 }
 
-// Which calls of the link of a number fail.
-fn link_fails<'a>(
-    play: &Play<'a>,
-    fails: &'a [Value],
-    i: usize,
-) -> Result<Vec<u64>, CaseFault<'a>> {
-    match fails.get(i) {
-        None => Ok(Vec::new(play.alloc)),
-        Some(listed) => numbers_in(play, items_of(listed, "fail")?, false),
-    }
-}
-
 fn links_in<'a, F: Shelf>(
     play: &Play<'a>,
     files: &mut F,
     listed: &'a [Value],
-    fails: &'a [Value],
 ) -> Result<Vec<MemoryLink>, CaseFault<'a>> {
     let mut links = Vec::new(play.alloc);
     for (i, link) in listed.iter().enumerate() {
-        let fail = link_fails(play, fails, i)?;
+        let fail = failing_of_link(play, i)?;
         links.push(link_of(play, files, link, fail)?)?;
     }
     Ok(links)
 }
 
 /// The door of a play.
-pub fn door_of<'a, F: Shelf>(play: &Play<'a>, files: &mut F) -> Result<MemoryDoor, CaseFault<'a>> {
+pub fn door_of<'a, F: Shelf>(play: &Play<'a>, files: &mut F) -> Result<CaseDoor, CaseFault<'a>> {
     let listed = match play.part("links") {
         None => &[],
         Some(listed) => items_of(listed, "links")?,
     };
     let fail = failing(play, "door")?;
-    let links = links_in(play, files, listed, fail_at(play, "links")?)?;
-    Ok(MemoryDoor::new(play.alloc, links, fail))
+    let links = links_in(play, files, listed)?;
+    Ok(CaseDoor::new(MemoryDoor::new(play.alloc, links, fail)))
 }

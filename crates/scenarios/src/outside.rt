@@ -1,11 +1,45 @@
 ghost use Rattle.std.specs.Prelude.{None};
 ghost use Rattle.desk_io.specs.Health.{unsound};
+ghost use Rattle.desk_io.specs.InMemory.{shelf_seen};
+ghost use Rattle.desk_net.specs.InMemory.{door_seen};
 
-use desk_io::{Change, Failed, Row};
-use desk_net::{Clock, MemoryClock};
+use desk_io::{Change, Failed, MemoryShelf, OutOfMemory, Row, Shelf};
+use desk_net::{Clock, Door, MemoryClock, MemoryDoor, MemoryLink};
 use desk_time::Minute;
 use keeper::{KeepFault, Keeper, MemoryKeeper};
 use std::alloc::Global;
+
+/// A shelf in memory that counts its calls.
+#[derive(Drop)]
+pub struct CaseShelf {
+    shelf: MemoryShelf,
+    calls: u64,
+}
+
+impl CaseShelf {
+    /// The shelf, of which nothing was asked yet.
+    pub fn new(shelf: MemoryShelf) -> Self {
+        CaseShelf { shelf, calls: 0 }
+    }
+
+    /// How many pieces were asked for.
+    pub fn calls(&self) -> u64 {
+        self.calls
+    }
+}
+
+impl Shelf for CaseShelf {
+    ghost seen = { λ s. shelf_seen s.shelf };
+
+    fn next(&mut self, name: &str, place: u64, into: &mut [u8]) -> Result<usize, Failed> {
+        self.calls = self.calls.saturating_add(1);
+        self.shelf.next(name, place, into)
+    }
+
+    fn faults(&self) -> u64 {
+        self.shelf.faults()
+    }
+}
 
 /// A clock in memory that counts the moments that it gives.
 #[derive(Drop)]
@@ -49,6 +83,59 @@ impl Clock for CaseClock {
 
     fn faults(&self) -> u64 {
         self.faults
+    }
+}
+
+/// A door in memory that counts its calls.
+#[derive(Drop)]
+pub struct CaseDoor {
+    door: MemoryDoor,
+    calls: u64,
+}
+
+impl CaseDoor {
+    /// The door, of which nothing was asked yet.
+    pub fn new(door: MemoryDoor) -> Self {
+        CaseDoor { door, calls: 0 }
+    }
+
+    /// How often it was opened or asked for a link.
+    pub fn calls(&self) -> u64 {
+        self.calls
+    }
+
+    /// The port at which it was opened last.
+    pub fn port(&self) -> Option<u16> {
+        self.door.port()
+    }
+
+    /// The links that were given back, in order.
+    pub fn ended(&self) -> &[MemoryLink] {
+        self.door.ended()
+    }
+}
+
+impl Door for CaseDoor {
+    type Link = MemoryLink;
+
+    ghost seen = { λ d. door_seen d.door };
+
+    fn bind(&mut self, port: u16) -> Result<(), Failed> {
+        self.calls = self.calls.saturating_add(1);
+        self.door.bind(port)
+    }
+
+    fn accept(&mut self) -> Result<MemoryLink, Failed> {
+        self.calls = self.calls.saturating_add(1);
+        self.door.accept()
+    }
+
+    fn done(&mut self, link: MemoryLink) -> Result<(), OutOfMemory> {
+        self.door.done(link)
+    }
+
+    fn faults(&self) -> u64 {
+        self.door.faults()
     }
 }
 

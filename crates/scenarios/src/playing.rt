@@ -1,7 +1,7 @@
-use crate::outside::{CaseClock, CaseKeeper};
+use crate::outside::{CaseClock, CaseDoor, CaseKeeper, CaseShelf};
 use commands::{Ending, desk_main};
-use desk_io::{MemoryShelf, MemorySink, Shelf, Sink};
-use desk_net::{Clock, Door, MemoryDoor};
+use desk_io::{MemorySink, Shelf, Sink};
+use desk_net::{Clock, Door};
 use keeper::Keeper;
 use std::alloc::Global;
 use std::sync::Wait;
@@ -10,11 +10,11 @@ use std::sync::Wait;
 #[derive(Drop)]
 pub struct Outside {
     pub words: Vec<String>,
-    pub shelf: MemoryShelf,
+    pub shelf: CaseShelf,
     pub sink: MemorySink,
     pub clock: CaseClock,
     pub keeper: CaseKeeper,
-    pub door: MemoryDoor,
+    pub door: CaseDoor,
 }
 
 /// What the program came to: its status, whether a board is left, and what is left of the outside.
@@ -22,10 +22,11 @@ pub struct Outside {
 pub struct Played {
     pub status: u8,
     pub board: bool,
+    pub shelf: CaseShelf,
     pub sink: MemorySink,
     pub clock: CaseClock,
     pub keeper: CaseKeeper,
-    pub door: MemoryDoor,
+    pub door: CaseDoor,
 }
 
 // What a command came to: its status, whether a board is left, and the keeper and the clock that were given back.
@@ -83,6 +84,7 @@ pub fn play<R: Wait>(rt: &R, alloc: Global, outside: Outside) -> Played {
     Played {
         status,
         board,
+        shelf,
         sink,
         clock,
         keeper,

@@ -44,21 +44,22 @@ impl<'a> Report<'a> {
         self.count
     }
 
-    /// Says that the file has no cases.
-    pub fn no_cases(&mut self) -> Result<(), OutOfMemory> {
-        self.lines.push_str(self.file)?;
-        self.lines
-            .push_str(": no file of cases can be read there\n")?;
+    fn push(&mut self, alloc: Global, place: &str, what: &str) -> Result<(), OutOfMemory> {
+        let line = format!(in alloc; "{place}: {what}\n")?;
+        self.lines.push_str(line.as_str())?;
         self.count = self.count.saturating_add(1);
         Ok(())
     }
 
-    fn push(&mut self, play: &Play<'_>, what: &str) -> Result<(), OutOfMemory> {
+    /// Says something of the whole file.
+    pub fn of_file(&mut self, alloc: Global, what: &str) -> Result<(), OutOfMemory> {
+        self.push(alloc, self.file, what)
+    }
+
+    /// Says something of a play.
+    pub fn says(&mut self, play: &Play<'_>, what: &str) -> Result<(), OutOfMemory> {
         let place = place_of(self.file, play)?;
-        let line = format!(in play.alloc; "{place}: {what}\n")?;
-        self.lines.push_str(line.as_str())?;
-        self.count = self.count.saturating_add(1);
-        Ok(())
+        self.push(play.alloc, place.as_str(), what)
     }
 
     /// Says that what was wanted isn't what came.
@@ -70,17 +71,12 @@ impl<'a> Report<'a> {
         came: &str,
     ) -> Result<(), OutOfMemory> {
         let line = format!(in play.alloc; "{what}: wanted {wanted}, came {came}")?;
-        self.push(play, line.as_str())
+        self.says(play, line.as_str())
     }
 
     /// Says why a play can't be made.
     pub fn unplayed(&mut self, play: &Play<'_>, fault: CaseFault<'_>) -> Result<(), OutOfMemory> {
-        let line = match fault {
-            CaseFault::Unread(key) => format!(in play.alloc; "{key:?} can't be read")?,
-            CaseFault::NoText(name) => format!(in play.alloc; "there is no text {name:?}")?,
-            CaseFault::NoFile(path) => format!(in play.alloc; "there is no file {path:?}")?,
-            CaseFault::OutOfMemory => return Err(OutOfMemory),
-        };
-        self.push(play, line.as_str())
+        let why = fault.shown(play.alloc)?;
+        self.says(play, why.as_str())
     }
 }

@@ -1,5 +1,6 @@
 use crate::fails::failing;
 use crate::fault::CaseFault;
+use crate::outside::CaseShelf;
 use crate::play::Play;
 use crate::texts::text_of;
 use desk_io::{MemoryShelf, Shelf, Text, read_whole};
@@ -93,12 +94,10 @@ fn push_all_of<'a, F: Shelf>(
 }
 
 /// The shelf of a play. Of two sources with one name the first counts.
-pub fn shelf_of<'a, F: Shelf>(
-    play: &Play<'a>,
-    files: &mut F,
-) -> Result<MemoryShelf, CaseFault<'a>> {
+pub fn shelf_of<'a, F: Shelf>(play: &Play<'a>, files: &mut F) -> Result<CaseShelf, CaseFault<'a>> {
     let mut sources = Vec::new(play.alloc);
     push_all_of(play, files, &mut sources, "sources")?;
     push_all_of(play, files, &mut sources, "tables")?;
-    Ok(MemoryShelf::new(sources, failing(play, "shelf")?))
+    let shelf = MemoryShelf::new(sources, failing(play, "shelf")?);
+    Ok(CaseShelf::new(shelf))
 }

@@ -30,5 +30,4 @@ returns g c =
       kept = all.are_kept;
       board = all.holds;
       left = λ s is tells seven. subst (Cause _ _ _ _ _ _ _) seven cause (s, is, tells);
-      formed = all.formed;
     }

@@ -1,4 +1,3 @@
-use Rattle.desk.proofs.Asked.{may_be_made}
 use Rattle.desk.proofs.Steps.{settled_is, keeps_as, no_event, replies_to, asked_as}
 use Rattle.desk.proofs.answering.make_call.Goals as goal
 
@@ -7,9 +6,6 @@ settle-requires-clause-keeps g c = keeps_as _ _ _ _ _ c.in_ok-prepared.ensures.o
 
 pub returns-clause-settled : goal.returns-clause-settled
 returns-clause-settled g c = settled_is _ _ _ _ _ _ _ _ c.in_ok-prepared.ensures.ok c.in_ok-prepared.ensures.stepped c.settle.ensures.settled
-
-pub prepare_change-requires : goal.prepare_change-requires
-prepare_change-requires g c = may_be_made _ c.requires
 
 pub returns-clause-still : goal.returns-clause-still
 returns-clause-still g c = λ none. c.settle.ensures.still (no_event _ _ _ c.in_ok-prepared.ensures.stepped none)

@@ -1,5 +1,3 @@
-use Rattle.std.proofs.lemmas.Result.{IfOk-weaker}
-use Rattle.call_json.proofs.AskForms.{call_from_forms}
 use Rattle.desk_json.proofs.Again.{call_again}
 use Rattle.desk_json.proofs.Found.{call_finds}
 use Rattle.desk_json.proofs.Least.{call_tells}
@@ -14,9 +12,6 @@ returns-clause-unread c = call_unread c.args.bytes.now c.call_in_text.result c.c
 
 pub returns-clause-found : goal.returns-clause-found
 returns-clause-found c = call_finds c.args.bytes.now c.call_in_text.result c.call_in_text.ensures.answer
-
-pub returns-clause-form : goal.returns-clause-form
-returns-clause-form c = IfOk-weaker c.call_in_text.result _ _ (λ p is. call_from_forms p.ask is.ask) c.call_in_text.ensures.forms
 
 pub returns-clause-again : goal.returns-clause-again
 returns-clause-again c = call_again c.args.bytes.now c.call_in_text.result c.call_in_text.ensures.answer

@@ -1,5 +1,4 @@
 use Rattle.std.proofs.lemmas.Result.{IfOk-weaker}
-use Rattle.call_json.proofs.AskForms.{call_from_forms}
 use Rattle.desk_json.proofs.Again.{line_again}
 use Rattle.desk_json.proofs.Found.{line_finds}
 use Rattle.desk_json.proofs.Least.{line_tells}
@@ -20,9 +19,6 @@ returns-clause-range c = IfOk-weaker c.line_in_text.result _ _ (λ p is. is.0) c
 
 pub returns-clause-forms : goal.returns-clause-forms
 returns-clause-forms c = IfOk-weaker c.line_in_text.result _ _ (λ p is. is.1) c.line_in_text.ensures.forms
-
-pub returns-clause-form : goal.returns-clause-form
-returns-clause-form c = IfOk-weaker c.line_in_text.result _ _ (λ p is. call_from_forms p.1.ask is.1.ask) c.line_in_text.ensures.forms
 
 pub returns-clause-again : goal.returns-clause-again
 returns-clause-again c = line_again c.args.line.now c.line_in_text.result c.line_in_text.ensures.answer

@@ -1,0 +1,18 @@
+use Rattle.std.specs.Prelude.{Ok}
+use Rattle.commands.proofs.Reading.{reads_earlier}
+use Rattle.commands.proofs.commands.run.Goals as goal
+
+pub returns-in-Ok : goal.returns-in-Ok
+returns-in-Ok g c =
+    let read = c.in-Ok.ensures in
+    let under = c.run_under.ensures in
+    let seen = g.S.Shelf.seen in (
+      Ok c.in-Ok.tables,
+      read.read,
+      (
+        under.0,
+        reads_earlier (seen c.args.shelf.now) (seen c.read_files.new.shelf) (seen c.run_under.new.shelf) read.on.sources read.on.health.later (λ is. (read.on.health.sound is).0)
+            c.args.name.now under.0 under.1,
+        under.2,
+      ),
+    )
