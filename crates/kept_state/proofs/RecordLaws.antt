@@ -11,7 +11,7 @@ use Rattle.facts.specs.Reading.{read_of}
 use Rattle.facts.specs.declared.report.Read.{Read}
 use Rattle.plan.specs.declared.release.Release.{Release as ReleaseOf}
 use Rattle.desk_state.specs.State.{release_at}
-use Rattle.records.specs.Faults.{fit, agree, meta_from, is_release_of}
+use Rattle.records.specs.Faults.{agree, meta_from, is_release_of}
 use Rattle.records.specs.Kinds.{kind_of, key_of, is_kind}
 use Rattle.records.specs.declared.record.KeptAlert.{KeptAlert}
 use Rattle.records.specs.declared.record.KeptReport.{KeptReport}
