@@ -9,7 +9,7 @@ use Rattle.keeper.specs.Order as order
 use Rattle.kept_state.specs.Rows.{records_of}
 use Rattle.desk_state.specs.Formed.{AreFormed}
 use Rattle.ops_tables.specs.Named.{AreNamed}
-use Rattle.kept_state.proofs.Again.{state_again}
+use Rattle.kept_state.proofs.RecordsAgain.{state_again}
 use Rattle.kept_state.proofs.DeskRecords.{records_formed}
 use Rattle.kept_state.proofs.Faultless.{no_bad_row, no_bad_pair}
 use Rattle.desk_state.proofs.FormLaws.{reopened_formed}
