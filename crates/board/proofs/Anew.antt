@@ -14,6 +14,7 @@ use Rattle.desk_state.specs.Effects.{nothing}
 use Rattle.desk_state.specs.Events.{alert_changes, put_changes}
 use Rattle.desk_state.specs.Sound.{EffectFits}
 use Rattle.desk_state.specs.State.{State, start, judged_all}
+use Rattle.ops_tables.specs.Named.{AreNamed}
 use Rattle.ops_tables.specs.Tables.{TableRows}
 use Rattle.records.specs.Bodies.{row_of}
 use Rattle.records.specs.declared.record.Meta.{Meta as MetaOf}
@@ -82,11 +83,11 @@ kept_as s (c ∷ cs) rows may is (inl same) =
 kept_as s (c ∷ cs) rows may is (inr none) = absurd (none_changes s c cs none.1 is)
 
 -- what the judgement changes of the rows leads to those of the judged state
-pub rows_kept : (tables : TableRows) (rs : List Record) (changes : List Change) → AreOfDesk rs → changes ≡ judged_changes (state_in tables rs) (alert_changes nothing (state_in tables rs))
+pub rows_kept : (tables : TableRows) (rs : List Record) (changes : List Change) → AreNamed tables → AreOfDesk rs → changes ≡ judged_changes (state_in tables rs) (alert_changes nothing (state_in tables rs))
     → (rows : Rows) → AreSame rows (rows_of (map row_of rs)) → AreKept (changed_by changes rows) (reopened (state_in tables rs))
-rows_kept tables rs changes are is rows same =
+rows_kept tables rs changes names are is rows same =
     subst (λ (cs : List Change). AreKept (changed_by cs rows) (reopened (state_in tables rs))) (sym is)
-    (kept_as (state_in tables rs) (alert_changes nothing (state_in tables rs)) rows (may_reopen tables rs are) refl (state_kept tables rs rows are same))
+    (kept_as (state_in tables rs) (alert_changes nothing (state_in tables rs)) rows (may_reopen tables rs names are) refl (state_kept tables rs rows are same))
 
 -- ---- in code
 

@@ -2,8 +2,10 @@
 use Rattle.std.proofs.Common.{◌≡◌, ℕ, get_or, length, ◌<◌, ◌≤◌, Bool, arith, List, [], ◌∷◌, ◌++◌, Option, None, Some, IfSome, Ok, refl, ap, sym, ◌∙◌, subst, inl}
 use Rattle.alerts.specs.declared.alert.Alert.{Alert}
 use Rattle.asks.specs.declared.call.Call.{Call}
+use Rattle.asks.specs.declared.reply.Done.{Done}
 use Rattle.asks.specs.declared.reply.Reply.{Reply}
-use Rattle.asks.specs.Forms.{IsCall, ReplyHasMoment}
+use Rattle.asks.specs.Forms.{ReplyHasMoment}
+use Rattle.call_json.specs.Forms.{CallHasForms}
 use Rattle.asks.specs.declared.kept.KeptReply.{KeptReply}
 use Rattle.std.specs.Prelude.{option_to_list}
 use Rattle.desk_state.specs.declared.entry.Entry.{Entry}
@@ -13,8 +15,7 @@ use Rattle.desk_state.specs.declared.effect.Decision.TheVariants.{Do}
 use Rattle.desk_state.specs.State.{State}
 use Rattle.desk_state.specs.Events.{effected, alert_changes, notices_of, put_changes}
 use Rattle.desk_state.specs.Decide.{decide}
-use Rattle.desk_state.specs.declared.entry.What.TheVariants as what
-use Rattle.desk_state.specs.Step.{Stepped, entry, entered, kept_of, counted, after_event, answer_call, tick_to}
+use Rattle.desk_state.specs.Step.{Stepped, entered, kept_of, counted, after_event, answer_call, tick_to}
 use Rattle.desk_state.specs.Sound.{Sound, InBounds, EffectFits, DecisionFits, IsEntered, IsBoard}
 use Rattle.desk_state.proofs.Boards.{call_keeps, tick_keeps, reply_shown, tick_shown}
 use Rattle.alerts.specs.declared.notices.Notice.{Notice}
@@ -45,18 +46,18 @@ use Rattle.board.specs.declared.prepared.Event.{Event}
 use Rattle.board.specs.Prepare.{with_events, installed, IsStepped, KeepsRows, MayInstall, IsReady, Shown, shown}
 
 -- the effect of a call fits
-pub decided_fits : (s : State) (call : Call) (reply : Reply) (effect : Effect) → Ok (Do reply effect) ≡ decide s call → Sound s → InBounds s → IsCall call.ask → EffectFits s effect
-decided_fits s call reply effect is sound kept form = (subst (DecisionFits s) (sym is) (decision_fits s call sound kept form)).1
+pub decided_fits : (s : State) (call : Call) (made : Done) (effect : Effect) → Ok (Do made effect) ≡ decide s call → Sound s → InBounds s → CallHasForms call → EffectFits s effect
+decided_fits s call made effect is sound kept form = subst (DecisionFits s) (sym is) (decision_fits s call sound kept form)
 
 -- the same, of the effect of a decision
-pub effect_of : (s : State) (call : Call) (d : Decision) (reply : Reply) (effect : Effect) → d ≡ Do reply effect → Ok d ≡ decide s call → Sound s → InBounds s → IsCall call.ask
+pub effect_of : (s : State) (call : Call) (d : Decision) (made : Done) (effect : Effect) → d ≡ Do made effect → Ok d ≡ decide s call → Sound s → InBounds s → CallHasForms call
     → EffectFits s effect
-effect_of s call d reply effect is made sound kept form = decided_fits s call reply effect (sym (ap (λ (x : Decision). Ok x) is) ∙ made) sound kept form
+effect_of s call d made effect is decided sound kept form = decided_fits s call made effect (sym (ap (λ (x : Decision). Ok x) is) ∙ decided) sound kept form
 
-pub effect_may : (s : State) (call : Call) (d : Decision) (reply : Reply) (effect : Effect) → d ≡ Do reply effect → Ok d ≡ decide s call → Sound s → InBounds s → IsCall call.ask
+pub effect_may : (s : State) (call : Call) (d : Decision) (made : Done) (effect : Effect) → d ≡ Do made effect → Ok d ≡ decide s call → Sound s → InBounds s → CallHasForms call
     → DecisionAdmitsRead d → MayBeMade s effect
-effect_may s call d reply effect is made sound kept form has =
-    may_come s effect (effect_of s call d reply effect is made sound kept form) (subst DecisionAdmitsRead is has) kept
+effect_may s call d made effect is decided sound kept form has =
+    may_come s effect (effect_of s call d made effect is decided sound kept form) (subst DecisionAdmitsRead is has) kept
 
 abbrev with_alerts : State → Entry → Option KeptReply → List Alert → State
 with_alerts t e kept alerts = record t { counters = counted e.what t.counters; alerts = alerts; kept = t.kept ++ option_to_list kept; entries = t.entries ++ e ∷ [] }
@@ -84,7 +85,7 @@ ready_by opening s u c p q same is board leads may after = (
 )
 
 -- a call that is prepared may be put in place
-pub call_ready : (opening s : State) (c : Content) (p q : Prepared) (lane : ℕ) (call : Call) → q ≡ p → state_of c ≡ s → IsBoard opening s → IsCall call.ask
+pub call_ready : (opening s : State) (c : Content) (p q : Prepared) (lane : ℕ) (call : Call) → q ≡ p → state_of c ≡ s → IsBoard opening s → CallHasForms call
     → IsStepped s p (answer_call s lane call) → MayInstall c p.event → IsBoard opening (state_of c) × IsReady opening c q
 call_ready opening s c p q lane call same is board form stepped may =
     ready_by opening s (answer_call s lane call).state c p q same is board stepped.state may (call_keeps opening s (answer_call s lane call).state lane call board form refl)
@@ -94,7 +95,7 @@ pub tick_ready : (opening s : State) (c : Content) (p q : Prepared) (lane to : �
 tick_ready opening s c p q lane to same is board later within stepped may =
     ready_by opening s (tick_to s lane to).state c p q same is board stepped.state may (tick_keeps opening s (tick_to s lane to).state lane to board later within refl)
 
-pub call_reply : (opening s : State) (p : Prepared) (lane : ℕ) (call : Call) → IsBoard opening s → IsCall call.ask → IsStepped s p (answer_call s lane call) → IfSome p.reply ReplyHasMoment
+pub call_reply : (opening s : State) (p : Prepared) (lane : ℕ) (call : Call) → IsBoard opening s → CallHasForms call → IsStepped s p (answer_call s lane call) → IfSome p.reply ReplyHasMoment
 call_reply opening s p lane call board form stepped = reply_shown s lane call p.reply stepped.reply board.sound board.kept form
 
 pub tick_reply : (s : State) (p : Prepared) (lane to : ℕ) → IsStepped s p (tick_to s lane to) → IfSome p.reply ReplyHasMoment
@@ -105,7 +106,7 @@ pub later_than : (before held : Shown) (to : ℕ) → held ≡ before → before
 later_than before held to is later = subst (λ (b : Shown). b.state.moment < to) (sym is) later
 
 -- what is prepared leads to no other state than the ask may
-pub prepared_leads : (opening : State) (before held : Shown) (p : Prepared) (lane : ℕ) (call : Call) → held ≡ before → IsBoard opening held.state → IsCall call.ask → IsStepped held.state p (answer_call held.state lane call)
+pub prepared_leads : (opening : State) (before held : Shown) (p : Prepared) (lane : ℕ) (call : Call) → held ≡ before → IsBoard opening held.state → CallHasForms call → IsStepped held.state p (answer_call held.state lane call)
     → MayLeadTo lane call before.state (installed p before.state) p.reply
 prepared_leads opening before held p lane call is board form stepped =
     subst (λ (b : Shown). MayLeadTo lane call b.state (installed p b.state) p.reply) is (call_leads held.state (installed p held.state) lane call p.reply board.sound board.kept form stepped.state stepped.reply)
@@ -125,7 +126,7 @@ entry_form before held i e is all less same =
     subst (λ (x : Entry). IsEntered x.what) (sym same) (All-from_recursion (λ x. IsEntered x.what) held.state.entries all i e within)
 
 -- what is told of what is prepared are the differences of the alerts
-pub prepared_told : (opening : State) (before held : Shown) (p : Prepared) (lane : ℕ) (call : Call) → held ≡ before → IsBoard opening held.state → IsCall call.ask
+pub prepared_told : (opening : State) (before held : Shown) (p : Prepared) (lane : ℕ) (call : Call) → held ≡ before → IsBoard opening held.state → CallHasForms call
     → IsStepped held.state p (answer_call held.state lane call) → AreDifferences (takes_alert before.state call.ask) before.state (installed p before.state) p.notices
 prepared_told opening before held p lane call is board form stepped =
     subst (λ (b : Shown). AreDifferences (takes_alert b.state call.ask) b.state (installed p b.state) p.notices) is

@@ -104,6 +104,7 @@ pub(crate) fn restored<L: Ledger>(
     ensures changes { IfOk result (λ r. r.changes.items ≡ kept.judged_changes (state_in tables records.items) (alert_changes nothing (state_in tables records.items))) }
     ensures kept { IfOk result (λ r. (rows : Rows) → AreSame rows (rows_of (map row_of records.items)) → AreKept (changed_by r.changes.items rows) (reopened (state_in tables records.items))) }
 {
+    tables.are_named();
     let mut content = content_of(alloc, tables, records)?;
     match reopen(alloc, &mut content, steps) {
         Ok(changes) => Ok(Reopened { content, changes }),

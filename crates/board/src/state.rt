@@ -6,7 +6,8 @@ ghost use Rattle.desk_state.specs.Texts.{closing};
 ghost use Rattle.desk_state.specs.Allowed.{MayLeadTo, MayTickTo};
 ghost use Rattle.desk_state.specs.Told.{takes_alert, AreDifferences, takes_none};
 ghost use Rattle.desk_state.specs.Sound.{IsBoard, IsEntered};
-ghost use Rattle.asks.specs.Forms.{IsCall, ReplyHasMoment};
+ghost use Rattle.asks.specs.Forms.{ReplyHasMoment};
+ghost use Rattle.call_json.specs.Forms.{CallHasForms};
 ghost use Rattle.desk_io.specs.Rows.{Rows, rows_of, changed_by};
 ghost use Rattle.keeper.specs.Kept.{AreSame};
 ghost use Rattle.kept_state.specs.Judged.{judged_changes};
@@ -74,6 +75,7 @@ impl Board {
     pub fn new(alloc: Global, tables: Tables) -> Board
         ensures { result ≡ shown (start tables) (start tables) None }
     {
+        tables.are_named();
         let content = Content::new(alloc, tables);
         let opening = Snapshot::of(&content);
         Board {
@@ -98,6 +100,7 @@ impl Board {
         ensures changes { IfOk result (λ r. r.changes.items ≡ judged_changes (state_in tables held.items) (alert_changes nothing (state_in tables held.items))) }
         ensures rows { IfOk result (λ r. (rows : Rows) → AreSame rows (rows_of (map row_of held.items)) → AreKept (changed_by r.changes.items rows) (reopened (state_in tables held.items))) }
     {
+        tables.are_named();
         let Reopened { content, changes } = restored(alloc, tables, held, steps)?;
         let opening = Snapshot::of(&content);
         let board = Board {
@@ -118,7 +121,7 @@ impl Board {
         call: &Call,
         steps: &mut Steps<L>,
     ) -> Result<Prepared, OutOfMemory>
-        requires { IsCall call.now.ask }
+        requires { CallHasForms call.now }
         ensures stepped { IfOk result (λ p. IsStepped self.old.state p (answer_call self.old.state lane call.now)) }
         ensures shown { IfOk result (λ p. IfSome p.reply ReplyHasMoment) }
         ensures own { IfOk result (λ p. MayLeadTo lane call.now self.old.state (installed p self.old.state) p.reply) }
@@ -186,7 +189,7 @@ impl Board {
         call: &Call,
         steps: &mut Steps<L>,
     ) -> Result<Installed, OutOfMemory>
-        requires { IsCall call.now.ask }
+        requires { CallHasForms call.now }
         ensures answered { IfOk result (λ i. IsAnswered i (answer_call self.old.state lane call.now)) }
         ensures shown { IfOk result (λ i. IfSome i.reply ReplyHasMoment) }
         ensures state { OnOk result (self.new ≡ shown self.old.opening (answer_call self.old.state lane call.now).state None) }
@@ -222,7 +225,7 @@ impl Board {
 
     /// The greatest moment so far. What holds of a board holds whenever it is asked: its history is legal
     /// from the opening state; each active release has no alert and fails no rule, or one alert that names
-    /// exactly the rules that it fails; and each active revision bears both signatures.
+    /// exactly the rules that it fails; each active revision bears both signatures; and each part has its forms.
     pub fn now(&self) -> Minute
         ensures moment { result ≡ self.now.state.moment }
         ensures board { IsBoard self.now.opening self.now.state }

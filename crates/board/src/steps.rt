@@ -1,4 +1,5 @@
 ghost use Rattle.std.specs.Prelude.{◌≡◌, [], length, None, Some, IfOk, OnOk};
+ghost use Rattle.std.specs.Option.{option_map};
 ghost use Rattle.desk_state.specs.Contents.{state_of};
 ghost use Rattle.desk_state.specs.Effects.{tick};
 ghost use Rattle.desk_state.specs.Events as events;
@@ -8,7 +9,7 @@ ghost use Rattle.desk_state.specs.Step as step;
 ghost use Rattle.desk_state.specs.Step.{do_call, answer_call, tick_to};
 ghost use Rattle.desk_state.specs.Sound.{Sound, InBounds, EffectFits};
 ghost use Rattle.plan.specs.Texts.{IsMoment};
-ghost use Rattle.asks.specs.Forms.{IsCall};
+ghost use Rattle.call_json.specs.Forms.{CallHasForms};
 ghost use Rattle.board.specs.Room.{HasRoom, MayBeMade};
 ghost use Rattle.kept_state.specs.Changes as kept_rows;
 ghost use Rattle.desk_state.specs.State.{State};
@@ -54,14 +55,14 @@ fn without_key(alloc: Global, call: &Call) -> Result<Call, OutOfMemory>
     })
 }
 
-fn entry_of(alloc: Global, lane: u32, call: &Call, reply: &Reply) -> Result<Entry, OutOfMemory>
-    ensures { IfOk result (λ e. e ≡ step.entry lane (What.Asked (step.without_key call.now) reply.now)) }
+fn entry_of(alloc: Global, lane: u32, call: &Call, done: Done) -> Result<Entry, OutOfMemory>
+    ensures { IfOk result (λ e. e ≡ step.entry lane (What.Asked (step.without_key call.now) (Reply.Done done))) }
 {
     Ok(Entry {
         lane,
         what: What::Asked {
             call: without_key(alloc, call)?,
-            reply: reply.copy(alloc)?,
+            reply: Reply::Done(done),
         },
     })
 }
@@ -84,6 +85,7 @@ fn moment_after(content: &Content, effect: &Effect) -> Minute
     }
 }
 
+#[tactic(auto, using(call_json::proofs::AskForms::call_from_forms))]
 fn kept_reply(
     alloc: Global,
     content: &Content,
@@ -91,7 +93,7 @@ fn kept_reply(
     call: &Call,
     done: Done,
 ) -> Result<KeptReply, OutOfMemory>
-    requires { IsCall call.now.ask }
+    requires { CallHasForms call.now }
     ensures { IfOk result (λ k. k ≡ step.kept_reply (effected effect.now (state_of content.now)) (step.without_key call.now) done) }
 {
     Ok(KeptReply {
@@ -104,38 +106,21 @@ fn kept_reply(
     })
 }
 
-// What is kept of a call once its effect is there.
-fn kept_of(
-    alloc: Global,
-    content: &Content,
-    effect: &Effect,
-    call: &Call,
-    reply: &Reply,
-) -> Result<Option<KeptReply>, OutOfMemory>
-    requires { IsCall call.now.ask }
-    ensures { IfOk result (λ k. k ≡ step.kept_of_call (effected effect.now (state_of content.now)) (step.without_key call.now) reply.now) }
-{
-    match reply {
-        Reply::Done(done) => Ok(Some(kept_reply(alloc, content, effect, call, *done)?)),
-        Reply::Seen(_) | Reply::Refused(_) => Ok(None),
-    }
-}
-
 fn record_call(
     alloc: Global,
     content: &Content,
     lane: u32,
     call: &Call,
-    reply: &Reply,
+    done: Done,
     effect: &Effect,
 ) -> Result<Recorded, OutOfMemory>
-    requires { IsCall call.now.ask }
-    ensures entered { IfOk result (λ r. r.entered ≡ step.entry lane (What.Asked (step.without_key call.now) reply.now)) }
-    ensures kept { IfOk result (λ r. r.kept ≡ step.kept_of (effected effect.now (state_of content.now)) (What.Asked (step.without_key call.now) reply.now)) }
+    requires { CallHasForms call.now }
+    ensures entered { IfOk result (λ r. r.entered ≡ step.entry lane (What.Asked (step.without_key call.now) (Reply.Done done))) }
+    ensures kept { IfOk result (λ r. r.kept ≡ step.kept_of (effected effect.now (state_of content.now)) (What.Asked (step.without_key call.now) (Reply.Done done))) }
 {
     Ok(Recorded {
-        entered: entry_of(alloc, lane, call, reply)?,
-        kept: kept_of(alloc, content, effect, call, reply)?,
+        entered: entry_of(alloc, lane, call, done)?,
+        kept: Some(kept_reply(alloc, content, effect, call, done)?),
     })
 }
 
@@ -260,13 +245,23 @@ fn work_out<L: Ledger>(
 }
 
 // Lets go of what an event would have been.
-fn let_go(_: Option<Reply>, _: Effect, _: Recorded) {}
+fn let_go(_: Effect, _: Recorded) {}
+
+// The reply that says what was done, where an accepted call has done it; a tick has none.
+fn replied(done: Option<Done>) -> Option<Reply>
+    ensures { result ≡ option_map Reply.Done done }
+{
+    match done {
+        None => None,
+        Some(done) => Some(Reply::Done(done)),
+    }
+}
 
 // Prepares an event, of which it is made what it records.
 fn prepare_event<L: Ledger>(
     alloc: Global,
     content: &mut Content,
-    reply: Option<Reply>,
+    done: Option<Done>,
     effect: Effect,
     recorded: Recorded,
     steps: &mut Steps<L>,
@@ -277,14 +272,14 @@ fn prepare_event<L: Ledger>(
     requires may { MayBeMade (state_of content.old) effect }
     requires recorded { IsRecordedOf (state_of content.old) effect recorded }
     ensures same { state_of content.new ≡ state_of content.old }
-    ensures stepped { IfOk result (λ p. IsStepped (state_of content.old) p (step.after_event (state_of content.old) reply effect recorded.entered)) }
+    ensures stepped { IfOk result (λ p. IsStepped (state_of content.old) p (step.after_event (state_of content.old) (option_map Reply.Done done) effect recorded.entered)) }
     ensures may { IfOk result (λ p. MayInstall content.new p.event) }
     ensures rows { IfOk result (λ p. KeepsRows (state_of content.old) p) }
 {
     match work_out(alloc, content, &effect, &recorded, steps) {
-        Ok((judged, changes)) => Ok(planned(reply, effect, judged, recorded, changes)),
+        Ok((judged, changes)) => { Ok(planned(replied(done), effect, judged, recorded, changes)) }
         Err(OutOfMemory) => {
-            let_go(reply, effect, recorded);
+            let_go(effect, recorded);
             Err(OutOfMemory)
         }
     }
@@ -296,31 +291,31 @@ fn prepare_accepted<L: Ledger>(
     content: &mut Content,
     lane: u32,
     call: &Call,
-    reply: Reply,
+    done: Done,
     effect: Effect,
     steps: &mut Steps<L>,
 ) -> Result<Prepared, OutOfMemory>
     requires sound { Sound (state_of content.old) }
     requires kept { InBounds (state_of content.old) }
     requires fits { EffectFits (state_of content.old) effect }
-    requires call { IsCall call.now.ask }
+    requires call { CallHasForms call.now }
     requires may { MayBeMade (state_of content.old) effect }
     ensures same { state_of content.new ≡ state_of content.old }
-    ensures stepped { IfOk result (λ p. IsStepped (state_of content.old) p (step.accepted (state_of content.old) lane call.now reply effect)) }
+    ensures stepped { IfOk result (λ p. IsStepped (state_of content.old) p (step.accepted (state_of content.old) lane call.now done effect)) }
     ensures may { IfOk result (λ p. MayInstall content.new p.event) }
     ensures rows { IfOk result (λ p. KeepsRows (state_of content.old) p) }
 {
-    match record_call(alloc, content, lane, call, &reply, &effect) {
-        Ok(recorded) => prepare_event(alloc, content, Some(reply), effect, recorded, steps),
+    match record_call(alloc, content, lane, call, done, &effect) {
+        Ok(recorded) => prepare_event(alloc, content, Some(done), effect, recorded, steps),
         Err(OutOfMemory) => {
-            leave(reply, effect);
+            leave(effect);
             Err(OutOfMemory)
         }
     }
 }
 
-// Lets go of a reply and an effect.
-fn leave(_: Reply, _: Effect) {}
+// Lets go of an effect.
+fn leave(_: Effect) {}
 
 #[tactic(auto, unfolding(crate::specs::Prepare::installed))]
 fn prepare_entered<L: Ledger>(
@@ -328,25 +323,25 @@ fn prepare_entered<L: Ledger>(
     content: &mut Content,
     lane: u32,
     call: &Call,
-    reply: Reply,
+    done: Done,
     effect: Effect,
     steps: &mut Steps<L>,
 ) -> Result<Prepared, OutOfMemory>
     requires sound { Sound (state_of content.old) }
     requires kept { InBounds (state_of content.old) }
     requires fits { EffectFits (state_of content.old) effect }
-    requires call { IsCall call.now.ask }
+    requires call { CallHasForms call.now }
     requires may { MayBeMade (state_of content.old) effect }
     ensures same { state_of content.new ≡ state_of content.old }
-    ensures stepped { IfOk result (λ p. IsStepped (state_of content.old) p (step.enter (is_full_for (state_of content.old) call.now.ask) (state_of content.old) lane call.now reply effect)) }
+    ensures stepped { IfOk result (λ p. IsStepped (state_of content.old) p (step.enter (is_full_for (state_of content.old) call.now.ask) (state_of content.old) lane call.now done effect)) }
     ensures may { IfOk result (λ p. MayInstall content.new p.event) }
     ensures rows { IfOk result (λ p. KeepsRows (state_of content.old) p) }
 {
     if content.is_full_for(&call.ask) {
-        leave(reply, effect);
+        leave(effect);
         return Ok(stay(alloc, full_reply(content)));
     }
-    prepare_accepted(alloc, content, lane, call, reply, effect, steps)
+    prepare_accepted(alloc, content, lane, call, done, effect, steps)
 }
 
 // Prepares a call of a person who may make it, and takes all memory that it needs. What is held stays as it is.
@@ -360,15 +355,15 @@ fn prepare_call<L: Ledger>(
 ) -> Result<Prepared, OutOfMemory>
     requires sound { Sound (state_of content.old) }
     requires kept { InBounds (state_of content.old) }
-    requires call { IsCall call.now.ask }
+    requires call { CallHasForms call.now }
     ensures same { state_of content.new ≡ state_of content.old }
     ensures stepped { IfOk result (λ p. IsStepped (state_of content.old) p (do_call (state_of content.old) lane call.now)) }
     ensures may { IfOk result (λ p. MayInstall content.new p.event) }
     ensures rows { IfOk result (λ p. KeepsRows (state_of content.old) p) }
 {
     match decide(alloc, content, call, steps) {
-        Ok(Decision::Do(reply, effect)) => {
-            prepare_entered(alloc, content, lane, call, reply, effect, steps)
+        Ok(Decision::Do(done, effect)) => {
+            prepare_entered(alloc, content, lane, call, done, effect, steps)
         }
         Ok(Decision::Show(reply)) => Ok(stay(alloc, reply)),
         Err(Stop::Refused(refusal)) => Ok(stay(alloc, Reply::Refused(refusal))),
@@ -387,7 +382,7 @@ pub fn prepare_answer<L: Ledger>(
 ) -> Result<Prepared, OutOfMemory>
     requires sound { Sound (state_of content.old) }
     requires kept { InBounds (state_of content.old) }
-    requires call { IsCall call.now.ask }
+    requires call { CallHasForms call.now }
     ensures same { state_of content.new ≡ state_of content.old }
     ensures stepped { IfOk result (λ p. IsStepped (state_of content.old) p (answer_call (state_of content.old) lane call.now)) }
     ensures may { IfOk result (λ p. MayInstall content.new p.event) }

@@ -4,23 +4,23 @@ use Rattle.plan.specs.declared.release.Phase.{Phase}
 use Rattle.plan.specs.declared.release.Release.{Release}
 use Rattle.plan.specs.declared.release.Revision.{Revision}
 use Rattle.desk_state.specs.Sound.{InBounds, Fits, RevisionInBounds}
-use Rattle.release_text.specs.Valid.{HasLegs, AreNumbered}
+use Rattle.release_text.specs.Valid.{HasLegs}
 use Rattle.desk_state.specs.State.{State}
 use Rattle.desk_state.specs.Texts.{newest}
 use Rattle.decisions.specs.Newest.{IsNewest, HasNewest}
 
-newest_by : (most : ℕ) (phase : Phase) (pending active : Option Revision) → most ≤ 999_999_999_999_999 → AreNumbered most pending active
+newest_by : (most : ℕ) (phase : Phase) (pending active : Option Revision) → most ≤ 999_999_999_999_999 → IfSome pending (λ v. v.number ≤ most) → IfSome active (λ v. v.number ≤ most)
     → IfSome pending (HasLegs phase) → IfSome active (HasLegs phase) → IfSome pending RevisionInBounds → IfSome active RevisionInBounds
     → IfSome (newest pending active) (IsNewest phase)
-newest_by most phase None None few numbered one two three four = tt
-newest_by most phase None (Some w) few numbered one two three four = record { is_plan = four.is_plan; fits = two.fits; small = omega (arith, few, numbered) }
-newest_by most phase (Some v) None few numbered one two three four = record { is_plan = three.is_plan; fits = one.fits; small = omega (arith, few, numbered) }
-newest_by most phase (Some v) (Some w) few numbered one two three four = record { is_plan = three.is_plan; fits = one.fits; small = let least = numbered.1 in omega (arith, few, least) }
+newest_by most phase None None few low below one two three four = tt
+newest_by most phase None (Some w) few low below one two three four = record { is_plan = four.is_plan; fits = two.fits; small = omega (arith, few, below) }
+newest_by most phase (Some v) active few low below one two three four = record { is_plan = three.is_plan; fits = one.fits; small = omega (arith, few, low) }
 
 -- the newest revision has a plan and a small number
 pub has_newest : (s : State) (r : Release) → InBounds s → Fits s.counters.events r → HasNewest r
 has_newest s r kept fits =
-    newest_by s.counters.events r.phase r.pending r.active kept.counters.events fits.valid.numbered fits.valid.pending_legs fits.valid.active_legs fits.kept.pending fits.kept.active
+    newest_by s.counters.events r.phase r.pending r.active kept.counters.events fits.stands.within.0 fits.stands.within.1 fits.stands.valid.pending_legs fits.stands.valid.active_legs
+    fits.kept.pending fits.kept.active
 
 pub found_newest : (s : State) (o : Option Release) → InBounds s → IfSome o (Fits s.counters.events) → IfSome o HasNewest
 found_newest s None kept fits = tt

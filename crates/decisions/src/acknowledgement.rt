@@ -8,7 +8,7 @@ ghost use Rattle.decisions.specs.Reads.{DecisionAdmitsRead};
 use crate::chain::{Stop, refused_if};
 use crate::releases::{held, not_yours};
 use alerts::Alert;
-use asks::{Done, Refusal, Reply};
+use asks::{Done, Refusal};
 use desk_io::Text;
 use desk_state::{Content, Decision, Effect};
 use std::alloc::Global;
@@ -50,8 +50,5 @@ pub(crate) fn acknowledge(
     let alert = alert_of(content, release.id)?;
     not_yours(alloc, &release.holder, actor)?;
     moved(alert, version)?;
-    Ok(Decision::Do(
-        Reply::Done(Done::Release(release.id)),
-        Effect::acknowledge(release.id),
-    ))
+    Ok(Decision::Do(Done::Release(release.id), Effect::acknowledge(release.id)))
 }

@@ -11,7 +11,7 @@ ghost use Rattle.decisions.specs.Reads.{DecisionAdmitsRead};
 
 use crate::chain::{Stop, refused_if};
 use crate::releases::{held, in_phase, not_yours, out_of_phase, pending, with_pending};
-use asks::{Done, Refusal, Reply};
+use asks::{Done, Refusal};
 use desk_io::{Copied, Listed, OutOfMemory, Text};
 use desk_state::{Content, Decision, Effect, RELEASE_LIMIT};
 use ops_tables::Tables;
@@ -155,10 +155,10 @@ pub(crate) fn draft(
     let id = content.counters.next_release;
     let release = drafted(alloc, id, actor, plan)?;
     Ok(Decision::Do(
-        Reply::Done(Done::Filed {
+        Done::Filed {
             release: id,
             revision: 1,
-        }),
+        },
         Effect::file(release),
     ))
 }
@@ -180,13 +180,13 @@ pub(crate) fn prepare(
     not_yours(alloc, &release.holder, actor)?;
     let prepared = with_weather(alloc, content, release.phase, revision)?;
     let digest = revision_digest(alloc, &prepared)?;
-    let reply = Reply::Done(Done::Prepared {
+    let made = Done::Prepared {
         release: release.id,
         revision: revision.number,
         digest,
-    });
+    };
     let release = with_pending(alloc, release, prepared)?;
-    Ok(Decision::Do(reply, Effect::put(release)))
+    Ok(Decision::Do(made, Effect::put(release)))
 }
 
 /// A plan is filed as the pending revision, under the number after the newest. The active one stays.
@@ -210,12 +210,12 @@ pub(crate) fn amend(
     let newest = newest(release);
     bad_change(plan, newest, release.phase)?;
     let number = newest_number(newest, release.phase) + 1;
-    let reply = Reply::Done(Done::Filed {
+    let made = Done::Filed {
         release: release.id,
         revision: number,
-    });
+    };
     let release = with_pending(alloc, release, fresh_revision(alloc, number, plan)?)?;
-    Ok(Decision::Do(reply, Effect::put(release)))
+    Ok(Decision::Do(made, Effect::put(release)))
 }
 
 /// A release is cancelled.
@@ -234,7 +234,7 @@ pub(crate) fn cancel(
     out_of_phase(may_change(release.phase), release.phase)?;
     not_yours(alloc, &release.holder, actor)?;
     let phase = Phase::Cancelled { at: content.moment };
-    let reply = Reply::Done(Done::Release(release.id));
+    let made = Done::Release(release.id);
     let release = in_phase(alloc, release, phase)?;
-    Ok(Decision::Do(reply, Effect::put_afresh(release)))
+    Ok(Decision::Do(made, Effect::put_afresh(release)))
 }

@@ -101,7 +101,7 @@ pub(crate) fn defer(
     deferrals_full(content)?;
     let deferral = new_deferral(alloc, content, tail, item, found)?;
     Ok(Decision::Do(
-        Reply::Done(Done::Deferral(content.counters.next_deferral)),
+        Done::Deferral(content.counters.next_deferral),
         Effect::defer(deferral),
     ))
 }
@@ -112,10 +112,7 @@ pub(crate) fn clear(content: &Content, deferral: u64) -> Result<Decision, Stop>
     ensures read { IfOk result DecisionAdmitsRead }
 {
     not_open(content, deferral)?;
-    Ok(Decision::Do(
-        Reply::Done(Done::Deferral(deferral)),
-        Effect::clear(deferral),
-    ))
+    Ok(Decision::Do(Done::Deferral(deferral), Effect::clear(deferral)))
 }
 
 /// The open deferrals of an aircraft.

@@ -10,7 +10,7 @@ use crate::chain::Stop;
 use crate::people::is_captain;
 use crate::releases::{held, in_phase, not_yours, out_of_phase};
 use crate::rulings::judged;
-use asks::{Done, Reply};
+use asks::Done;
 use desk_io::{OutOfMemory, Text};
 use desk_state::{Content, Decision, Effect};
 use desk_time::Minute;
@@ -101,7 +101,7 @@ fn arrival(
     ensures value { IfOk result (λ d. d ≡ spec.arrival (spec.has_more release.now leg) release.now leg moment) }
     ensures read { IfOk result DecisionAdmitsRead }
 {
-    let reply = Reply::Done(Done::Release(release.id));
+    let made = Done::Release(release.id);
     if has_more(release, leg) {
         let phase = Phase::Stopped {
             next: leg + 1,
@@ -109,10 +109,10 @@ fn arrival(
             again: false,
         };
         let stopped = in_phase(alloc, release, phase)?;
-        Ok(Decision::Do(reply, Effect::put(stopped)))
+        Ok(Decision::Do(made, Effect::put(stopped)))
     } else {
         let completed = in_phase(alloc, release, Phase::Completed { at: moment })?;
-        Ok(Decision::Do(reply, Effect::put_afresh(completed)))
+        Ok(Decision::Do(made, Effect::put_afresh(completed)))
     }
 }
 
@@ -135,9 +135,9 @@ pub(crate) fn depart<L: Ledger>(
     let person = content.tables.actor(actor.bytes());
     not_yours(alloc, flies_by(person, release), actor)?;
     fails_now(alloc, content, release, steps)?;
-    let reply = Reply::Done(Done::Release(release.id));
+    let made = Done::Release(release.id);
     let departed = in_phase(alloc, release, Phase::Flying { leg })?;
-    Ok(Decision::Do(reply, Effect::put(departed)))
+    Ok(Decision::Do(made, Effect::put(departed)))
 }
 
 /// The leg in flight arrives. After the last leg the release is completed.

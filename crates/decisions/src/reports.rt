@@ -76,7 +76,7 @@ fn admit_new(content: &Content, received: Received) -> Result<Decision, Stop>
         text,
         read,
     };
-    Ok(Decision::Do(Reply::Done(Done::Report(id)), Effect::admit(report)))
+    Ok(Decision::Do(Done::Report(id), Effect::admit(report)))
 }
 
 fn admit_received(content: &Content, received: Received) -> Result<Decision, Stop>

@@ -8,7 +8,7 @@ ghost use Rattle.decisions.specs.Reads.{DecisionAdmitsRead};
 
 use crate::chain::{Stop, refused_if};
 use crate::releases::held;
-use asks::{Done, Refusal, Reply};
+use asks::{Done, Refusal};
 use desk_state::{Content, Decision, Effect};
 use desk_time::{Minute, three_months};
 use plan::Phase;
@@ -58,8 +58,5 @@ pub(crate) fn purge(content: &Content, id: u64) -> Result<Decision, Stop>
     let release = held(content, id)?;
     let at = ended(release.phase)?;
     too_young(content, kept_until(at))?;
-    Ok(Decision::Do(
-        Reply::Done(Done::Release(release.id)),
-        Effect::remove(release.id),
-    ))
+    Ok(Decision::Do(Done::Release(release.id), Effect::remove(release.id)))
 }

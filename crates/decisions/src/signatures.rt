@@ -9,7 +9,7 @@ ghost use Rattle.decisions.specs.Reads.{DecisionAdmitsRead};
 use crate::chain::{Stop, refused_if};
 use crate::releases::{held, not_yours, pending, with_pending};
 use crate::rulings::judged;
-use asks::{Done, Refusal, Reply};
+use asks::{Done, Refusal};
 use desk_io::{Copied, OutOfMemory, Text};
 use desk_state::{Content, Decision, Effect};
 use desk_time::Minute;
@@ -160,13 +160,13 @@ fn made_active(
     })
 }
 
-fn filed(release: &Release, revision: &Revision) -> Reply
-    ensures { result ≡ Reply.Done (Done.Filed release.now.id revision.now.number) }
+fn filed(release: &Release, revision: &Revision) -> Done
+    ensures { result ≡ Done.Filed release.now.id revision.now.number }
 {
-    Reply::Done(Done::Filed {
+    Done::Filed {
         release: release.id,
         revision: revision.number,
-    })
+    }
 }
 
 // The pending revision has another number, or its text another digest, than those that are to be signed.
@@ -202,9 +202,9 @@ pub(crate) fn sign<L: Ledger>(
     outdated(content, release, revision)?;
     fails(alloc, content, release, revision, steps)?;
     let signature = signed_by(alloc, actor, content.moment, digest)?;
-    let reply = filed(release, revision);
+    let made = filed(release, revision);
     let release = with_dispatcher(alloc, release, revision, signature)?;
-    Ok(Decision::Do(reply, Effect::put(release)))
+    Ok(Decision::Do(made, Effect::put(release)))
 }
 
 /// The captain of the pending plan signs its text after the dispatcher, and it becomes the active one.
@@ -232,7 +232,7 @@ pub(crate) fn concur<L: Ledger>(
     outdated(content, release, revision)?;
     fails(alloc, content, release, revision, steps)?;
     let signature = signed_by(alloc, actor, content.moment, digest)?;
-    let reply = filed(release, revision);
+    let made = filed(release, revision);
     let release = made_active(alloc, release, revision, signature)?;
-    Ok(Decision::Do(reply, Effect::put_afresh(release)))
+    Ok(Decision::Do(made, Effect::put_afresh(release)))
 }

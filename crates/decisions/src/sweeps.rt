@@ -12,7 +12,7 @@ ghost use Rattle.decisions.specs.Reads.{DecisionAdmitsRead};
 use crate::chain::Stop;
 use crate::floors::raise;
 use crate::retention::too_young;
-use asks::{Done, Floors, KeptReply, Reply};
+use asks::{Done, Floors, KeptReply};
 use desk_io::{Listed, OutOfMemory, copied_items};
 use desk_state::{Content, Decision, Effect};
 use desk_time::Minute;
@@ -134,7 +134,7 @@ pub(crate) fn sweep(alloc: Global, content: &Content, before: Minute) -> Result<
     let kept = count_before(before, &content.kept);
     let floors = raised(alloc, before, content)?;
     Ok(Decision::Do(
-        Reply::Done(Done::Swept { reports, kept }),
+        Done::Swept { reports, kept },
         Effect::sweep(before, attached, floors),
     ))
 }

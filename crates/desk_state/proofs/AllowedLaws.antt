@@ -330,18 +330,14 @@ admit_read : (o : Option ℕ) (s : State) (actor text : List ℕ) (read : Read) 
     → has_airport s.tables (station_of_read read) ≡ true → AskedOf s actor (ask.Admit text) (d.admit_read o s (canonical (groups_of text)) read)
 admit_read (Some id) s actor text read same e airport = same_held s.reports (canonical (groups_of text)) (minute_of_read read) id same
 admit_read None s actor text read same e airport =
-    known s actor (ask.Admit text) (d.reports_full s) _ (λ few. (
-      _,
-      refl,
-      admits (record {
-        is_new = refl;
-        received = refl;
-        canonical = refl;
-        reading = e;
-        airport = airport;
-        few = leb-false 200_000 (length s.reports) (no_more (nat_le 200_000 (length s.reports)) _ few);
-      }),
-    ))
+    known s actor (ask.Admit text) (d.reports_full s) _ (λ few. admits (record {
+      is_new = refl;
+      received = refl;
+      canonical = refl;
+      reading = e;
+      airport = airport;
+      few = leb-false 200_000 (length s.reports) (no_more (nat_le 200_000 (length s.reports)) _ few);
+    }))
 
 admit : (s : State) (actor text : List ℕ) → AskedOf s actor (ask.Admit text) (d.decide_admit s text)
 admit s actor text =
@@ -357,22 +353,18 @@ defer : (s : State) (actor tail item : List ℕ) (found : ℕ) → AskedOf s act
 defer s actor tail item found =
     given s actor (ask.Defer tail item found) (d.aircraft s tail) _ (λ kind e. known s actor (ask.Defer tail item found) (d.unlisted s kind item) _
     (λ listed. known s actor (ask.Defer tail item found) (d.found_later s found) _ (λ by_now. known s actor (ask.Defer tail item found) (d.deferrals_full s) _
-    (λ few. (
-      _,
-      refl,
-      defers (record {
-        listed = listed_by s tail item kind (some_given _ (type_of s.tables tail) kind e) (no_more (is_none (item_of s.tables kind.kind item)) _ listed);
-        by_now = let least = ltb-false s.moment found (no_more (nat_lt s.moment found) _ by_now) in omega (arith, least);
-        few = leb-false 50_000 (length s.deferrals) (no_more (nat_le 50_000 (length s.deferrals)) _ few);
-        is_new = refl;
-        aircraft = refl;
-        deferred = refl;
-        since = refl;
-      }),
-    )))))
+    (λ few. defers (record {
+      listed = listed_by s tail item kind (some_given _ (type_of s.tables tail) kind e) (no_more (is_none (item_of s.tables kind.kind item)) _ listed);
+      by_now = let least = ltb-false s.moment found (no_more (nat_lt s.moment found) _ by_now) in omega (arith, least);
+      few = leb-false 50_000 (length s.deferrals) (no_more (nat_le 50_000 (length s.deferrals)) _ few);
+      is_new = refl;
+      aircraft = refl;
+      deferred = refl;
+      since = refl;
+    })))))
 
 clear : (s : State) (actor : List ℕ) (id : ℕ) → AskedOf s actor (ask.Clear id) (d.decide_clear s id)
-clear s actor id = known s actor (ask.Clear id) (d.not_open s id) _ (λ e. (_, refl, clears (so (list_any (has_id id) s.deferrals) _ e)))
+clear s actor id = known s actor (ask.Clear id) (d.not_open s id) _ (λ e. (clears (so (list_any (has_id id) s.deferrals) _ e)))
 
 deferred : (s : State) (actor tail : List ℕ) → AskedOf s actor (ask.ViewDeferred tail) (d.decide_deferred s tail)
 deferred s actor tail = given s actor (ask.ViewDeferred tail) (d.aircraft s tail) _ (λ kind e. tt)
@@ -381,33 +373,26 @@ draft : (s : State) (actor : List ℕ) (plan : Plan) → AskedOf s actor (ask.Dr
 draft s actor plan =
     known s actor (ask.Draft plan) (d.bad_plan (plan_fault s.tables plan)) _
     (λ good. known s actor (ask.Draft plan) (d.releases_full s) _
-    (λ few. (
-      _,
-      refl,
-      drafts (record {
-        passes = good_plan (plan_fault s.tables plan) good;
-        few = leb-false 20_000 (length s.releases) (no_more (nat_le 20_000 (length s.releases)) _ few);
-        is_new = refl;
-        holder = refl;
-        phase = refl;
-        pending = (refl, refl, refl, refl, refl, refl);
-        active = refl;
-      }),
-    )))
+    (λ few. drafts (record {
+      passes = good_plan (plan_fault s.tables plan) good;
+      few = leb-false 20_000 (length s.releases) (no_more (nat_le 20_000 (length s.releases)) _ few);
+      is_new = refl;
+      holder = refl;
+      phase = refl;
+      pending = (refl, refl, refl, refl, refl, refl);
+      active = refl;
+    })))
 
-filed_as : (r n m : ℕ) → n ≡ m → Done (done.Filed r n) ≡ Done (done.Filed r m)
-filed_as r n m e = ap (λ k. Done (done.Filed r k)) e
+-- the revision that is signed is the one of the number that was asked for
+filed_as : (s : State) (actor : List ℕ) (a : Ask) (effect : Effect) (r n m : ℕ) → n ≡ m → IsEffectOf s actor a effect (done.Filed r m) → IsEffectOf s actor a effect (done.Filed r n)
+filed_as s actor a effect r n m e is = subst (λ k. IsEffectOf s actor a effect (done.Filed r k)) (sym e) is
 
 prepare : (s : State) (actor : List ℕ) (id : ℕ) → AskedOf s actor (ask.Prepare id) (d.decide_prepare s actor id)
 prepare s actor id =
     given s actor (ask.Prepare id) (d.held s id) _ (λ q e. given s actor (ask.Prepare id) (d.pending q) _ (λ v f.
     known s actor (ask.Prepare id) (d.not_yours q.holder actor) _
-    (λ own. (
-      _,
-      refl,
-      prepares (of_held (IsPreparing s actor) (release_at id s.releases) q _ (some_given _ (release_at id s.releases) q e)
-          (preparing s q v actor (some_given _ q.pending v f) (his q.holder actor own))) refl,
-    ))))
+    (λ own. prepares (of_held (IsPreparing s actor) (release_at id s.releases) q _ (some_given _ (release_at id s.releases) q e)
+    (preparing s q v actor (some_given _ q.pending v f) (his q.holder actor own))) refl)))
 
 sign : (s : State) (actor : List ℕ) (id number : ℕ) (digest : List ℕ) → AskedOf s actor (ask.Sign id number digest) (d.decide_sign s actor id number digest)
 sign s actor id number digest =
@@ -415,12 +400,8 @@ sign s actor id number digest =
     given s actor a (d.held s id) _ (λ q e. given s actor a (d.pending q) _ (λ v f. known s actor a (d.unprepared v) _ (λ ready.
     known s actor a (d.not_yours q.holder actor) _ (λ own. known s actor a (d.misnumbered v number) _ (λ named. known s actor a (d.mistaken_text v digest) _ (λ on.
     known s actor a (d.signed v.dispatcher) _ (λ fresh. known s actor a (d.outdated s q v) _ (λ latest. known s actor a (d.fails s q v) _
-    (λ passes. (
-      _,
-      filed_as q.id v.number number (numbered v number named),
-      signs (of_held (IsSigning s actor number digest) (release_at id s.releases) q _ (some_given _ (release_at id s.releases) q e)
-          (signing s q v actor number digest (some_given _ q.pending v f) (his q.holder actor own) (may_sign s q v number digest ready named on latest passes) (unsigned_is v.dispatcher fresh))),
-    ))))))))))
+    (λ passes. filed_as s actor a _ q.id v.number number (numbered v number named) (signs (of_held (IsSigning s actor number digest) (release_at id s.releases) q _ (some_given _ (release_at id s.releases) q e)
+    (signing s q v actor number digest (some_given _ q.pending v f) (his q.holder actor own) (may_sign s q v number digest ready named on latest passes) (unsigned_is v.dispatcher fresh)))))))))))))
 
 concur : (s : State) (actor : List ℕ) (id number : ℕ) (digest : List ℕ) → AskedOf s actor (ask.Concur id number digest) (d.decide_concur s actor id number digest)
 concur s actor id number digest =
@@ -428,12 +409,8 @@ concur s actor id number digest =
     given s actor a (d.held s id) _ (λ q e. given s actor a (d.pending q) _ (λ v f. known s actor a (d.unprepared v) _ (λ ready.
     known s actor a (d.unsigned v.dispatcher) _ (λ has. known s actor a (d.not_yours v.plan.captain actor) _ (λ own. known s actor a (d.misnumbered v number) _ (λ named.
     known s actor a (d.mistaken_text v digest) _ (λ on. known s actor a (d.outdated s q v) _ (λ latest. known s actor a (d.fails s q v) _
-    (λ passes. (
-      _,
-      filed_as q.id v.number number (numbered v number named),
-      concurs (of_held (IsConcurring s actor number digest) (release_at id s.releases) q _ (some_given _ (release_at id s.releases) q e)
-          (concurring s q v actor number digest (some_given _ q.pending v f) (his v.plan.captain actor own) (may_sign s q v number digest ready named on latest passes) (signed_is v.dispatcher has))),
-    ))))))))))
+    (λ passes. filed_as s actor a _ q.id v.number number (numbered v number named) (concurs (of_held (IsConcurring s actor number digest) (release_at id s.releases) q _ (some_given _ (release_at id s.releases) q e)
+    (concurring s q v actor number digest (some_given _ q.pending v f) (his v.plan.captain actor own) (may_sign s q v number digest ready named on latest passes) (signed_is v.dispatcher has)))))))))))))
 
 -- A release that may be amended has a revision: the definition asks that of soundness.
 amend : (s : State) (actor : List ℕ) (id : ℕ) (plan : Plan) → ((q : Release) → release_at id s.releases ≡ Some q → d.may_change q.phase ≡ true → newest q.pending q.active ≡ None → ⊥)
@@ -442,24 +419,16 @@ amend s actor id plan there =
     let a : Ask = ask.Amend id plan in
     given s actor a (d.held s id) _ (λ q e. known s actor a (d.out_of_phase (d.may_change q.phase) q.phase) _ (λ may. known s actor a (d.not_yours q.holder actor) _ (λ own.
     known s actor a (d.bad_plan (plan_fault s.tables plan)) _ (λ passes. known s actor a (d.bad_change plan (newest q.pending q.active) q.phase) _
-    (λ follows. (
-      _,
-      refl,
-      amends (of_held (IsAmending s actor plan (d.newest_number (newest q.pending q.active) + 1)) (release_at id s.releases) q _ (some_given _ (release_at id s.releases) q e)
-          (amending s q plan actor (there q (some_given _ (release_at id s.releases) q e) (allowed (d.may_change q.phase) q.phase may)) (his q.holder actor own)
-          (not_ended q.phase (allowed (d.may_change q.phase) q.phase may)) (good_plan (plan_fault s.tables plan) passes) follows)),
-    ))))))
+    (λ follows. amends (of_held (IsAmending s actor plan (d.newest_number (newest q.pending q.active) + 1)) (release_at id s.releases) q _ (some_given _ (release_at id s.releases) q e)
+    (amending s q plan actor (there q (some_given _ (release_at id s.releases) q e) (allowed (d.may_change q.phase) q.phase may)) (his q.holder actor own)
+    (not_ended q.phase (allowed (d.may_change q.phase) q.phase may)) (good_plan (plan_fault s.tables plan) passes) follows)))))))
 
 cancel : (s : State) (actor : List ℕ) (id : ℕ) → AskedOf s actor (ask.Cancel id) (d.decide_cancel s actor id)
 cancel s actor id =
     given s actor (ask.Cancel id) (d.held s id) _ (λ q e. known s actor (ask.Cancel id) (d.out_of_phase (d.may_change q.phase) q.phase) _
     (λ goes. known s actor (ask.Cancel id) (d.not_yours q.holder actor) _
-    (λ own. (
-      _,
-      refl,
-      cancels (of_held (IsCancelling s actor) (release_at id s.releases) q _ (some_given _ (release_at id s.releases) q e)
-          (cancelling s q actor (his q.holder actor own) (not_ended q.phase (allowed (d.may_change q.phase) q.phase goes)))),
-    ))))
+    (λ own. cancels (of_held (IsCancelling s actor) (release_at id s.releases) q _ (some_given _ (release_at id s.releases) q e)
+    (cancelling s q actor (his q.holder actor own) (not_ended q.phase (allowed (d.may_change q.phase) q.phase goes)))))))
 
 depart : (s : State) (actor : List ℕ) (id leg : ℕ) → ((q : Release) → release_at id s.releases ≡ Some q → d.may_depart q.phase leg ≡ true → failing_of (grounds_of s) q ≡ None → ⊥)
     → ((q : Release) → release_at id s.releases ≡ Some q → d.may_depart q.phase leg ≡ true → IsThere q.active)
@@ -468,18 +437,14 @@ depart s actor id leg judged there =
     let a : Ask = ask.Depart id leg in
     given s actor a (d.held s id) _ (λ q e. known s actor a (d.out_of_phase (d.may_depart q.phase leg) q.phase) _ (λ may.
     known s actor a (d.not_yours (d.flies_by (actor_of s.tables actor) q) actor) _ (λ own. known s actor a (d.fails_now s q) _
-    (λ passes. (
-      _,
-      refl,
-      departs (of_held (IsDeparting s actor leg) (release_at id s.releases) q _ (some_given _ (release_at id s.releases) q e)
-          (departing s q actor leg (flies_by (actor_of s.tables actor) actor q (there q (some_given _ (release_at id s.releases) q e) (allowed (d.may_depart q.phase leg) q.phase may)) own) (next_leg q.phase leg (allowed (d.may_depart q.phase leg) q.phase may))
-          (passes_by (failing_of (grounds_of s) q) passes (judged q (some_given _ (release_at id s.releases) q e) (allowed (d.may_depart q.phase leg) q.phase may))))),
-    )))))
+    (λ passes. departs (of_held (IsDeparting s actor leg) (release_at id s.releases) q _ (some_given _ (release_at id s.releases) q e)
+    (departing s q actor leg (flies_by (actor_of s.tables actor) actor q (there q (some_given _ (release_at id s.releases) q e) (allowed (d.may_depart q.phase leg) q.phase may)) own) (next_leg q.phase leg (allowed (d.may_depart q.phase leg) q.phase may))
+    (passes_by (failing_of (grounds_of s) q) passes (judged q (some_given _ (release_at id s.releases) q e) (allowed (d.may_depart q.phase leg) q.phase may)))))))))
 
 arrival_is : (more : Bool) (s : State) (actor : List ℕ) (id leg : ℕ) (q : Release) → release_at id s.releases ≡ Some q → FliesBy (actor_of s.tables actor) actor q → q.phase ≡ Flying leg
     → d.has_more q leg ≡ more → AskedOf s actor (ask.Arrive id leg) (Ok (d.arrival more q leg s.moment))
-arrival_is true s actor id leg q held own flying more = (_, refl, stops (of_held (IsStopping s actor leg) (release_at id s.releases) q _ held (stopping s q actor leg own flying more)))
-arrival_is false s actor id leg q held own flying more = (_, refl, completes (of_held (IsCompleting s actor leg) (release_at id s.releases) q _ held (completing s q actor leg own flying more)))
+arrival_is true s actor id leg q held own flying more = stops (of_held (IsStopping s actor leg) (release_at id s.releases) q _ held (stopping s q actor leg own flying more))
+arrival_is false s actor id leg q held own flying more = completes (of_held (IsCompleting s actor leg) (release_at id s.releases) q _ held (completing s q actor leg own flying more))
 
 arrive : (s : State) (actor : List ℕ) (id leg : ℕ) → ((q : Release) → release_at id s.releases ≡ Some q → d.may_arrive q.phase leg ≡ true → IsThere q.active)
     → AskedOf s actor (ask.Arrive id leg) (d.decide_arrive s actor id leg)
@@ -497,12 +462,8 @@ acknowledge : (s : State) (actor : List ℕ) (id version : ℕ) → AskedOf s ac
 acknowledge s actor id version =
     let k : Ask = ask.Acknowledge id version in
     given s actor k (d.held s id) _ (λ q e. given s actor k (d.alert_of s q.id) _ (λ a f. known s actor k (d.not_yours q.holder actor) _ (λ own. known s actor k (d.moved a version) _
-    (λ seen. (
-      _,
-      refl,
-      acknowledges (some_given _ (release_at id s.releases) q e)
-          (acknowledging s q actor version a (some_given _ (alert_at q.id s.alerts) a f) (his q.holder actor own) (in_version a version seen)),
-    )))))
+    (λ seen. acknowledges (some_given _ (release_at id s.releases) q e)
+    (acknowledging s q actor version a (some_given _ (alert_at q.id s.alerts) a f) (his q.holder actor own) (in_version a version seen))))))
 
 has_ended : (phase : Phase) (at : ℕ) → d.ended_at phase ≡ Some at → HasEndedAt phase at
 has_ended Drafted at e = absurd (cc)
@@ -516,20 +477,16 @@ purge : (s : State) (actor : List ℕ) (id : ℕ) → AskedOf s actor (ask.Purge
 purge s actor id =
     let a : Ask = ask.Purge id in
     given s actor a (d.held s id) _ (λ q e. given s actor a (d.ended q.phase) _ (λ at f. known s actor a (d.too_young s (d.kept_until at)) _
-    (λ passed. (
-      _,
-      refl,
-      purges (some_given _ (release_at id s.releases) q e) (record {
-        at = at;
-        ended = has_ended q.phase at (some_given _ (d.ended_at q.phase) at f);
-        passed = ltb-false s.moment (d.kept_until at) (no_more (nat_lt s.moment (d.kept_until at)) _ passed);
-      }),
-    ))))
+    (λ passed. purges (some_given _ (release_at id s.releases) q e) (record {
+      at = at;
+      ended = has_ended q.phase at (some_given _ (d.ended_at q.phase) at f);
+      passed = ltb-false s.moment (d.kept_until at) (no_more (nat_lt s.moment (d.kept_until at)) _ passed);
+    }))))
 
 sweep : (s : State) (actor : List ℕ) (before : ℕ) → AskedOf s actor (ask.Sweep before) (d.decide_sweep s before)
 sweep s actor before =
     known s actor (ask.Sweep before) (d.too_young s (before + 4320)) _
-    (λ passed. (_, refl, sweeps (record { passed = ltb-false s.moment (before + 4320) (no_more (nat_lt s.moment (before + 4320)) _ passed); attached = refl; floors = refl })))
+    (λ passed. (sweeps (record { passed = ltb-false s.moment (before + 4320) (no_more (nat_lt s.moment (before + 4320)) _ passed); attached = refl; floors = refl })))
 
 view_release : (s : State) (actor : List ℕ) (id : ℕ) → AskedOf s actor (ask.ViewRelease id) (d.decide_release s id)
 view_release s actor id = given s actor (ask.ViewRelease id) (d.held s id) _ (λ r e. tt)
@@ -638,13 +595,13 @@ passing s call (Some x) rest goes = tt
 new_is : (s : State) (call : Call) (decision : Result Decision Refusal) → IsUnused s call → AskedOf s call.actor call.ask decision → DecisionOf s call decision
 new_is s call (Err x) unused is = tt
 new_is s call (Ok (Show reply)) unused is = answer_is s call reply is
-new_is s call (Ok (Do reply effect)) unused is = (unused, is.0, is.1, is.2)
+new_is s call (Ok (Do made effect)) unused is = (unused, is)
 
 -- a view too, and it changes nothing
 view_is : (s : State) (call : Call) (decision : Result Decision Refusal) → d.is_view call.ask ≡ true → AskedOf s call.actor call.ask decision → DecisionOf s call decision
 view_is s call (Err x) view is = tt
 view_is s call (Ok (Show reply)) view is = answer_is s call reply is
-view_is s call (Ok (Do reply effect)) view is = absurd (let no = no_view s call.actor is.2 in cc)
+view_is s call (Ok (Do made effect)) view is = absurd (let no = no_view s call.actor is in cc)
 
 repeated_by : (s : State) (call : Call) (k : KeptReply) (b : Bool) → bytes_eq k.digest (ask_digest call.ask) ≡ b → kept_at call.actor call.number s.kept ≡ Some k
     → DecisionOf s call (cond b (Ok (Show (Done k.done))) (Err (NumberReused k.id)))

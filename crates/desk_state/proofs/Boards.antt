@@ -10,6 +10,7 @@ use Rattle.ops_tables.specs.Named.{AreNamed}
 use Rattle.ops_tables.specs.Tables.{TableRows, actor_of}
 use Rattle.plan.specs.declared.release.Release.{Release}
 use Rattle.asks.specs.declared.call.Call.{Call}
+use Rattle.asks.specs.declared.reply.Done.{Done as DoneType}
 use Rattle.asks.specs.declared.reply.Reply.{Reply}
 use Rattle.asks.specs.declared.reply.Refusal.{Refusal}
 use Rattle.alerts.specs.declared.alert.Alert.{Alert}
@@ -265,13 +266,13 @@ tick_board opening s lane to board later within = tick_by (is_full s) opening s 
 -- Calls.
 
 -- an accepted call stands in the history without its key, and means the same
-finish_keyless : (s : State) (lane : ℕ) (call : Call) (reply : Reply) (effect : Effect) (decision : Result Decision Refusal) → decision ≡ Ok (Do reply effect) → is_full_for s call.ask ≡ false
-    → finish s lane (without_key call) decision ≡ accepted s lane call reply effect
-finish_keyless s lane call reply effect decision is room = rw (is, room) refl
+finish_keyless : (s : State) (lane : ℕ) (call : Call) (made : DoneType) (effect : Effect) (decision : Result Decision Refusal) → decision ≡ Ok (Do made effect) → is_full_for s call.ask ≡ false
+    → finish s lane (without_key call) decision ≡ accepted s lane call made effect
+finish_keyless s lane call made effect decision is room = rw (is, room) refl
 
-changes_accepted : (s : State) (a : Ask) (reply : Reply) (effect : Effect) (decision : Result Decision Refusal) → decision ≡ Ok (Do reply effect) → is_full_for s a ≡ false
+changes_accepted : (s : State) (a : Ask) (made : DoneType) (effect : Effect) (decision : Result Decision Refusal) → decision ≡ Ok (Do made effect) → is_full_for s a ≡ false
     → changes_by s a decision ≡ true
-changes_accepted s a reply effect decision is room = rw (is, room) refl
+changes_accepted s a made effect decision is room = rw (is, room) refl
 
 new_keyless : (o : Option KeptReply) (s : State) (call : Call) → decide_new o s (without_key call) ≡ decide_new o s call
 new_keyless (Some k) s call = refl
@@ -286,36 +287,36 @@ decided_keyless : (s : State) (call : Call) → decide s (without_key call) ≡ 
 unfolding decide
 decided_keyless s call = ap (λ (rest : Result Decision Refusal). unless (not_his_role (actor_of s.tables call.actor) call.ask) rest) (numbered_keyless (is_view call.ask) s call)
 
-accepted_history : (opening s : State) (lane : ℕ) (call : Call) (reply : Reply) (effect : Effect) → decide s call ≡ Ok (Do reply effect) → is_full_for s call.ask ≡ false
-    → IsHistory opening s → IsHistory opening (accepted s lane call reply effect).state
+accepted_history : (opening s : State) (lane : ℕ) (call : Call) (made : DoneType) (effect : Effect) → decide s call ≡ Ok (Do made effect) → is_full_for s call.ask ≡ false
+    → IsHistory opening s → IsHistory opening (accepted s lane call made effect).state
 unfolding do_call changes
-accepted_history opening s lane call reply effect is room history =
-    let keyless : decide s (without_key call) ≡ Ok (Do reply effect) = decided_keyless s call ∙ is in
-    let same : do_call s lane (without_key call) ≡ accepted s lane call reply effect = finish_keyless s lane call reply effect (decide s (without_key call)) keyless room in
-    history_more opening s (accepted s lane call reply effect).state lane (what.Asked (without_key call) reply) history
-    (ap (λ p. p.reply) same, changes_accepted s call.ask reply effect (decide s (without_key call)) keyless room) (ap (λ p. p.state) same) refl
+accepted_history opening s lane call made effect is room history =
+    let keyless : decide s (without_key call) ≡ Ok (Do made effect) = decided_keyless s call ∙ is in
+    let same : do_call s lane (without_key call) ≡ accepted s lane call made effect = finish_keyless s lane call made effect (decide s (without_key call)) keyless room in
+    history_more opening s (accepted s lane call made effect).state lane (what.Asked (without_key call) (Done made)) history
+    (ap (λ p. p.reply) same, changes_accepted s call.ask made effect (decide s (without_key call)) keyless room) (ap (λ p. p.state) same) refl
 
-enter_board : (full : Bool) (opening s : State) (lane : ℕ) (call : Call) (reply : Reply) (effect : Effect) → is_full_for s call.ask ≡ full → decide s call ≡ Ok (Do reply effect)
-    → ReplyHasMoment reply × EffectFits s effect → is_person call.actor ≡ true → CallHasForms call → IsBoard opening s → IsBoard opening (enter full s lane call reply effect).state
-enter_board true opening s lane call reply effect full is fits person has board = board
-enter_board false opening s lane call reply effect full is fits person has board =
-    let event = effect_is s effect fits.1 board.sound board.kept (room_for s call.ask full) in
-    let decided : DecisionOf s call (Ok (Do reply effect)) = subst (DecisionOf s call) is (decision_is s call board.sound) in
-    let entered_as : Entry = entry lane (what.Asked (without_key call) reply) in
-    let kept = event_kept (effected effect s) entered_as event (call_from_forms call.ask has.ask, fits.0) in
+enter_board : (full : Bool) (opening s : State) (lane : ℕ) (call : Call) (made : DoneType) (effect : Effect) → is_full_for s call.ask ≡ full → decide s call ≡ Ok (Do made effect)
+    → EffectFits s effect → is_person call.actor ≡ true → CallHasForms call → IsBoard opening s → IsBoard opening (enter full s lane call made effect).state
+enter_board true opening s lane call made effect full is fits person has board = board
+enter_board false opening s lane call made effect full is fits person has board =
+    let event = effect_is s effect fits board.sound board.kept (room_for s call.ask full) in
+    let decided : DecisionOf s call (Ok (Do made effect)) = subst (DecisionOf s call) is (decision_is s call board.sound) in
+    let entered_as : Entry = entry lane (what.Asked (without_key call) (Done made)) in
+    let kept = event_kept (effected effect s) entered_as event (call_from_forms call.ask has.ask, tt) in
     record {
       tables = board.tables;
-      history = accepted_history opening s lane call reply effect is full board.history;
+      history = accepted_history opening s lane call made effect is full board.history;
       sound = event_sound (effected effect s) entered_as event (still_unused call.actor call.number effect.sweep s.kept decided.0.none);
       kept = kept;
-      formed = command_formed s lane call reply effect decided (record { formed = board.formed; sound = board.sound; bounds = board.kept }) person has kept;
+      formed = command_formed s lane call made effect decided (record { formed = board.formed; sound = board.sound; bounds = board.kept }) person has kept;
     }
 
 finish_board : (opening s : State) (lane : ℕ) (call : Call) (decision : Result Decision Refusal) → decide s call ≡ decision → DecisionFits s decision → is_person call.actor ≡ true → CallHasForms call
     → IsBoard opening s → IsBoard opening (finish s lane call decision).state
 finish_board opening s lane call (Err refusal) is fits person has board = board
 finish_board opening s lane call (Ok (Show reply)) is fits person has board = board
-finish_board opening s lane call (Ok (Do reply effect)) is fits person has board = enter_board (is_full_for s call.ask) opening s lane call reply effect refl is fits person has board
+finish_board opening s lane call (Ok (Do made effect)) is fits person has board = enter_board (is_full_for s call.ask) opening s lane call made effect refl is fits person has board
 
 do_board : (opening s : State) (lane : ℕ) (call : Call) (o : Option Refusal) → mistaken (actor_of s.tables call.actor) call.key ≡ o → IsBoard opening s → CallHasForms call
     → IsBoard opening (do_unless o s lane call).state
@@ -361,15 +362,14 @@ tick_keeps opening s t lane to board later within leads = subst (λ (u : State).
 
 -- Replies.
 
-enter_shown : (full : Bool) (s : State) (lane : ℕ) (call : Call) (reply : Reply) (effect : Effect) → ReplyHasMoment reply
-    → IfSome (enter full s lane call reply effect).reply ReplyHasMoment
-enter_shown true s lane call reply effect has = tt
-enter_shown false s lane call reply effect has = has
+enter_shown : (full : Bool) (s : State) (lane : ℕ) (call : Call) (made : DoneType) (effect : Effect) → IfSome (enter full s lane call made effect).reply ReplyHasMoment
+enter_shown true s lane call made effect = tt
+enter_shown false s lane call made effect = tt
 
 finish_shown : (s : State) (lane : ℕ) (call : Call) (decision : Result Decision Refusal) → DecisionFits s decision → IfSome (finish s lane call decision).reply ReplyHasMoment
 finish_shown s lane call (Err refusal) fits = fits
 finish_shown s lane call (Ok (Show reply)) fits = fits
-finish_shown s lane call (Ok (Do reply effect)) fits = enter_shown (is_full_for s call.ask) s lane call reply effect fits.0
+finish_shown s lane call (Ok (Do made effect)) fits = enter_shown (is_full_for s call.ask) s lane call made effect
 
 call_shown : (s : State) (lane : ℕ) (call : Call) → Sound s → InBounds s → CallHasForms call → IfSome (do_call s lane call).reply ReplyHasMoment
 unfolding do_call
@@ -396,14 +396,14 @@ answer_shown s lane call sound kept is =
 pub reply_shown : (s : State) (lane : ℕ) (call : Call) (o : Option Reply) → o ≡ (answer_call s lane call).reply → Sound s → InBounds s → CallHasForms call → IfSome o ReplyHasMoment
 reply_shown s lane call o is sound kept form = subst (λ (p : Option Reply). IfSome p ReplyHasMoment) (sym is) (answer_shown s lane call sound kept form)
 
-enter_replies : (full : Bool) (s : State) (lane : ℕ) (call : Call) (reply : Reply) (effect : Effect) → is_some (enter full s lane call reply effect).reply ≡ true
-enter_replies true s lane call reply effect = refl
-enter_replies false s lane call reply effect = refl
+enter_replies : (full : Bool) (s : State) (lane : ℕ) (call : Call) (made : DoneType) (effect : Effect) → is_some (enter full s lane call made effect).reply ≡ true
+enter_replies true s lane call made effect = refl
+enter_replies false s lane call made effect = refl
 
 finish_replies : (s : State) (lane : ℕ) (call : Call) (decision : Result Decision Refusal) → is_some (finish s lane call decision).reply ≡ true
 finish_replies s lane call (Err refusal) = refl
 finish_replies s lane call (Ok (Show reply)) = refl
-finish_replies s lane call (Ok (Do reply effect)) = enter_replies (is_full_for s call.ask) s lane call reply effect
+finish_replies s lane call (Ok (Do made effect)) = enter_replies (is_full_for s call.ask) s lane call made effect
 
 do_replies : (s : State) (lane : ℕ) (call : Call) (o : Option Refusal) → is_some (do_unless o s lane call).reply ≡ true
 unfolding do_call

@@ -516,7 +516,7 @@ pending_by s r f held goes = given s (d.pending r) f (some_stops _ r.pending tt)
 
 admit_new : (s : State) (text : List ℕ) (read : Read) → IsMoment s.moment → same_id s.reports text (minute_of_read read) ≡ None → DecisionFits s (d.admit_new s text read)
 admit_new s text read shown none = passed s (d.reports_full s) _ (if_stops (nat_le 200_000 (length s.reports)) _ tt)
-    (λ e. (tt, record { moment = tt; report = record { is_new = refl; received = shown; unlike = none; few = leb-false 200_000 (length s.reports) (not_so (nat_le 200_000 (length s.reports)) _ e) }; apart = tt; deferrals = tt; releases = tt }))
+    (λ e. record { moment = tt; report = record { is_new = refl; received = shown; unlike = none; few = leb-false 200_000 (length s.reports) (not_so (nat_le 200_000 (length s.reports)) _ e) }; apart = tt; deferrals = tt; releases = tt })
 
 admit_read : (o : Option ℕ) (s : State) (text : List ℕ) (read : Read) → IsMoment s.moment → same_id s.reports text (minute_of_read read) ≡ o → DecisionFits s (d.admit_read o s text read)
 admit_read (Some id) s text read shown same = tt
@@ -542,10 +542,10 @@ defer s tail item found kept shown =
     (λ kind e. passed s (d.unlisted s kind item) _ (if_stops _ _ tt)
     (λ f. passed s (d.found_later s found) _ (if_stops _ _ (now_shown s.moment kept.moment))
     (λ g. passed s (d.deferrals_full s) _ (if_stops _ _ tt)
-    (λ h. (tt, record { moment = tt; report = tt; apart = tt; deferrals = record { is_new = refl; found = shown; few = leb-false 50_000 (length s.deferrals) (not_so (nat_le 50_000 (length s.deferrals)) _ h) }; releases = tt })))))
+    (λ h. record { moment = tt; report = tt; apart = tt; deferrals = record { is_new = refl; found = shown; few = leb-false 50_000 (length s.deferrals) (not_so (nat_le 50_000 (length s.deferrals)) _ h) }; releases = tt }))))
 
 clear : (s : State) (id : ℕ) → DecisionFits s (d.decide_clear s id)
-clear s id = passed s (d.not_open s id) _ (if_stops _ _ tt) (λ e. (tt, record { moment = tt; report = tt; apart = tt; deferrals = tt; releases = tt }))
+clear s id = passed s (d.not_open s id) _ (if_stops _ _ tt) (λ e. record { moment = tt; report = tt; apart = tt; deferrals = tt; releases = tt })
 
 deferred : (s : State) (tail : List ℕ) → DecisionFits s (d.decide_deferred s tail)
 deferred s tail = given s (d.aircraft s tail) _ (some_stops _ (type_of s.tables tail) tt) (λ kind e. tt)
@@ -574,21 +574,18 @@ drafted_fits s actor plan form passes few = record {
 draft : (s : State) (actor : List ℕ) (plan : Plan) → IsPlan plan → DecisionFits s (d.decide_draft s actor plan)
 draft s actor plan form = passed s (d.bad_plan (plan_fault s.tables plan)) _ (plan_stops (plan_fault s.tables plan))
     (λ e. passed s (d.releases_full s) _ (if_stops (nat_le 20_000 (length s.releases)) _ tt)
-    (λ f. (
-      tt,
-      record {
-        moment = tt;
-        report = tt;
-        apart = tt;
-        deferrals = tt;
-        releases = drafted_fits s actor plan form (no_plan_fault (plan_fault s.tables plan) e) (leb-false 20_000 (length s.releases) (not_so (nat_le 20_000 (length s.releases)) _ f));
-      },
-    )))
+    (λ f. record {
+      moment = tt;
+      report = tt;
+      apart = tt;
+      deferrals = tt;
+      releases = drafted_fits s actor plan form (no_plan_fault (plan_fault s.tables plan) e) (leb-false 20_000 (length s.releases) (not_so (nat_le 20_000 (length s.releases)) _ f));
+    }))
 
 prepare : (s : State) (actor : List ℕ) (id : ℕ) → Sound s → InBounds s → DecisionFits s (d.decide_prepare s actor id)
 prepare s actor id sound kept =
     held_by s id _ sound kept (λ r held. pending_by s r _ held (λ v is.
-    passed s (d.not_yours r.holder actor) _ (if_stops _ _ tt) (λ own. (tt, put_fits s _ (prepared_fits s r v is)))))
+    passed s (d.not_yours r.holder actor) _ (if_stops _ _ tt) (λ own. put_fits s _ (prepared_fits s r v is))))
 
 sign : (s : State) (actor : List ℕ) (id number : ℕ) (digest : List ℕ) → Sound s → InBounds s → DecisionFits s (d.decide_sign s actor id number digest)
 sign s actor id number digest sound kept =
@@ -600,7 +597,7 @@ sign s actor id number digest sound kept =
     passed s (d.signed v.dispatcher) _ (signed_stops v.dispatcher) (λ f.
     passed s (d.outdated s r v) _ (newer_stops _) (λ g.
     passed s (d.fails s r v) _ (failing_stops _) (λ h.
-    (tt, put_fits s _ (signed_fits s r v (d.signed_by actor s.moment digest) kept.moment (so v.prepared _ ready) (on_text v digest on) is)))))))))))
+    put_fits s _ (signed_fits s r v (d.signed_by actor s.moment digest) kept.moment (so v.prepared _ ready) (on_text v digest on) is))))))))))
 
 concur : (s : State) (actor : List ℕ) (id number : ℕ) (digest : List ℕ) → Sound s → InBounds s → DecisionFits s (d.decide_concur s actor id number digest)
 concur s actor id number digest sound kept =
@@ -612,7 +609,7 @@ concur s actor id number digest sound kept =
     passed s (d.mistaken_text v digest) _ (if_stops _ _ tt) (λ on.
     passed s (d.outdated s r v) _ (newer_stops _) (λ g.
     passed s (d.fails s r v) _ (failing_stops _) (λ h.
-    (tt, put_afresh_fits s _ (active_fits s r v (d.signed_by actor s.moment digest) kept.moment (so v.prepared _ ready) (on_text v digest on) is (signed_once v v.dispatcher is.waits.dispatcher e))))))))))))
+    put_afresh_fits s _ (active_fits s r v (d.signed_by actor s.moment digest) kept.moment (so v.prepared _ ready) (on_text v digest on) is (signed_once v v.dispatcher is.waits.dispatcher e)))))))))))
 
 amend : (s : State) (actor : List ℕ) (id : ℕ) (plan : Plan) → Sound s → InBounds s → IsPlan plan → DecisionFits s (d.decide_amend s actor id plan)
 amend s actor id plan sound kept form =
@@ -621,23 +618,23 @@ amend s actor id plan sound kept form =
     passed s (d.not_yours r.holder actor) _ (if_stops _ _ tt) (λ own.
     passed s (d.bad_plan (plan_fault s.tables plan)) _ (plan_stops (plan_fault s.tables plan)) (λ passes.
     passed s (d.bad_change plan (newest r.pending r.active) r.phase) _ (change_stops plan (newest r.pending r.active) r.phase) (λ follows.
-    (tt, put_fits s _ (amended_fits s r plan held form (so (d.may_change r.phase) _ may) (no_plan_fault (plan_fault s.tables plan) passes) follows)))))))
+    put_fits s _ (amended_fits s r plan held form (so (d.may_change r.phase) _ may) (no_plan_fault (plan_fault s.tables plan) passes) follows))))))
 
 cancel : (s : State) (actor : List ℕ) (id : ℕ) → Sound s → InBounds s → DecisionFits s (d.decide_cancel s actor id)
 cancel s actor id sound kept =
     held_by s id _ sound kept (λ r held. passed s (d.out_of_phase (d.may_change r.phase) r.phase) _ (if_stops _ _ held.fits.kept.moment)
-    (λ e. passed s (d.not_yours r.holder actor) _ (if_stops _ _ tt) (λ own. (tt, put_afresh_fits s _ (cancelled_fits s r held kept.moment)))))
+    (λ e. passed s (d.not_yours r.holder actor) _ (if_stops _ _ tt) (λ own. put_afresh_fits s _ (cancelled_fits s r held kept.moment))))
 
 depart : (s : State) (actor : List ℕ) (id leg : ℕ) → Sound s → InBounds s → DecisionFits s (d.decide_depart s actor id leg)
 depart s actor id leg sound kept =
     held_by s id _ sound kept (λ r held. passed s (d.out_of_phase (d.may_depart r.phase leg) r.phase) _ (if_stops _ _ held.fits.kept.moment)
     (λ may. passed s (d.not_yours (d.flies_by (actor_of s.tables actor) r) actor) _ (if_stops _ _ tt) (λ own.
-    passed s (d.fails_now s r) _ (failing_any_stops _) (λ e. (tt, put_fits s _ (departed_fits s r leg held (so (d.may_depart r.phase leg) _ may)))))))
+    passed s (d.fails_now s r) _ (failing_any_stops _) (λ e. put_fits s _ (departed_fits s r leg held (so (d.may_depart r.phase leg) _ may))))))
 
 arrival_fits : (more : Bool) (s : State) (r : Release) (leg : ℕ) → IsHeld s r → d.may_arrive r.phase leg ≡ true → d.has_more r leg ≡ more → IsMoment s.moment
     → DecisionFits s (Ok (d.arrival more r leg s.moment))
-arrival_fits true s r leg held may more shown = (tt, put_fits s _ (stopped_fits s r leg held may more shown))
-arrival_fits false s r leg held may more shown = (tt, put_afresh_fits s _ (completed_fits s r held shown))
+arrival_fits true s r leg held may more shown = put_fits s _ (stopped_fits s r leg held may more shown)
+arrival_fits false s r leg held may more shown = put_afresh_fits s _ (completed_fits s r held shown)
 
 arrive : (s : State) (actor : List ℕ) (id leg : ℕ) → Sound s → InBounds s → DecisionFits s (d.decide_arrive s actor id leg)
 arrive s actor id leg sound kept =
@@ -649,7 +646,7 @@ acknowledge : (s : State) (actor : List ℕ) (id version : ℕ) → Sound s → 
 acknowledge s actor id version sound kept =
     held_by s id _ sound kept (λ r held. given s (d.alert_of s r.id) _ (some_stops _ (alert_at r.id s.alerts) tt)
     (λ a e. passed s (d.not_yours r.holder actor) _ (if_stops _ _ tt) (λ own. passed s (d.moved a version) _ (if_stops _ _ tt)
-    (λ f. (tt, record { moment = tt; report = tt; apart = tt; deferrals = tt; releases = tt })))))
+    (λ f. record { moment = tt; report = tt; apart = tt; deferrals = tt; releases = tt }))))
 
 -- a release that ended has no alert
 
@@ -712,14 +709,14 @@ purge s id sound kept =
     given s (d.ended r.phase) _ (λ x f. ended_stops r.phase x held.fits.kept.moment f)
     (λ at f. let ended : d.ended_at r.phase ≡ Some at = some_given _ (d.ended_at r.phase) at f in
     passed s (d.too_young s (d.kept_until at)) _ (if_stops _ _ (kept_shown at (ended_moment r.phase at ended held.fits.kept.moment)))
-    (λ g. (tt, removed_fits s id r at sound is ended))))
+    (λ g. removed_fits s id r at sound is ended)))
 
 sweep_shown : (before : ℕ) → IsMoment before → CanBeShown (before + 4320)
 sweep_shown before is = let low = is.0 in let high = is.1 in (omega (arith, low), omega (arith, high))
 
 sweep : (s : State) (before : ℕ) → IsMoment before → DecisionFits s (d.decide_sweep s before)
 sweep s before is =
-    passed s (d.too_young s (before + 4320)) _ (if_stops _ _ (sweep_shown before is)) (λ e. (tt, record { moment = tt; report = tt; apart = tt; deferrals = tt; releases = tt }))
+    passed s (d.too_young s (before + 4320)) _ (if_stops _ _ (sweep_shown before is)) (λ e. record { moment = tt; report = tt; apart = tt; deferrals = tt; releases = tt })
 
 view_release : (s : State) (id : ℕ) → Sound s → InBounds s → DecisionFits s (d.decide_release s id)
 view_release s id sound kept = held_by s id _ sound kept (λ r held. tt)

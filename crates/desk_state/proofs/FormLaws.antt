@@ -1,11 +1,11 @@
 -- Every step of the desk keeps the forms of what it holds.
-use Rattle.std.proofs.Common.{◌≡◌, ℕ, true, not, List, ◌++◌, append-nil, option_to_list, Option, None, Some, IfSome, Ok, refl, sym, subst}
+use Rattle.std.proofs.Common.{◌≡◌, ℕ, true, not, List, ◌++◌, append-nil, option_to_list, Option, None, Some, IfSome, Ok}
 use Rattle.std.specs.List.{AllByRecursion}
 use Rattle.asks.specs.declared.call.Call.{Call}
 use Rattle.asks.specs.declared.kept.Floor.{Floor}
 use Rattle.asks.specs.declared.kept.KeptReply.{KeptReply}
-use Rattle.asks.specs.declared.reply.Reply.{Reply}
-use Rattle.asks.specs.declared.reply.Reply.TheVariants.{Done, Seen, Refused}
+use Rattle.asks.specs.declared.reply.Done.{Done as DoneType}
+use Rattle.asks.specs.declared.reply.Reply.TheVariants.{Done}
 use Rattle.deferrals.specs.Held.{has_id}
 use Rattle.deferrals.specs.declared.items.Deferral.{Deferral}
 use Rattle.facts.specs.declared.report.Report.{Report}
@@ -19,7 +19,7 @@ use Rattle.desk_state.specs.Effects.{tick}
 use Rattle.desk_state.specs.Events.{effected, reports_after, deferrals_after, releases_after, floors_after}
 use Rattle.desk_state.specs.Sound.{InBounds}
 use Rattle.desk_state.specs.State.{State, start}
-use Rattle.desk_state.specs.Step.{entry, entered, kept_of, kept_of_call, accepted, ticked, without_key}
+use Rattle.desk_state.specs.Step.{entry, entered, kept_of, accepted, ticked, without_key}
 use Rattle.desk_state.specs.declared.effect.Decision.TheVariants.{Do}
 use Rattle.desk_state.specs.declared.effect.Effect.{Effect}
 use Rattle.desk_state.specs.declared.effect.OnDeferrals.{OnDeferrals}
@@ -35,7 +35,7 @@ use Rattle.desk_state.proofs.Parts.{filter_each, kept_each, swept_each}
 use Rattle.ops_tables.specs.Forms.{is_person}
 use Rattle.ops_tables.specs.Tables.{TableRows}
 use Rattle.plan.specs.declared.release.Release.{Release}
-use Rattle.call_json.specs.Forms.{CallHasForms, DoneHasForms, IsFloor, IsRequest, FloorsRise, IsFormed}
+use Rattle.call_json.specs.Forms.{CallHasForms, IsFloor, FloorsRise, IsFormed}
 
 -- nothing is held at the beginning
 pub start_formed : (tables : TableRows) → AreNamed tables → AreFormed (start tables)
@@ -102,21 +102,10 @@ tick_formed s lane to bounds formed =
 
 -- ---- calls
 
--- a reply that says what was done
-abbrev SaysFormed : Reply → Type 0
-SaysFormed (Done made) = DoneHasForms made
-SaysFormed (Seen text) = Unit {0}
-SaysFormed (Refused refusal) = Unit {0}
-
-reply_kept : (t : State) (call : Call) (reply : Reply) → is_person call.actor ≡ true → IsRequest call.number → SaysFormed reply → IfSome (kept_of_call t call reply) ReplyHasForms
-reply_kept t call (Done made) person low says = record { actor = person; number = low; digest = ask_digest_formed call.ask; done = says }
-reply_kept t call (Seen text) person low says = tt
-reply_kept t call (Refused refusal) person low says = tt
-
 -- what an accepted command of a person brings has its forms, and so has what is kept of it
-pub command_formed : (s : State) (lane : ℕ) (call : Call) (reply : Reply) (e : Effect) → DecisionOf s call (Ok (Do reply e)) → Stands s → is_person call.actor ≡ true → CallHasForms call
-    → InBounds (accepted s lane call reply e).state → AreFormed (accepted s lane call reply e).state
-command_formed s lane call reply e decided stands person has bounds =
-    let made = effect_formed s call.actor stands person decided.3 has.ask in
-    entered_formed (effected e s) (entry lane (what.Asked (without_key call) reply)) bounds
-    (reply_kept (effected e s) (without_key call) reply person has.number (subst SaysFormed (sym decided.2) made.1)) (effected_formed s e made.0 stands.formed)
+pub command_formed : (s : State) (lane : ℕ) (call : Call) (made : DoneType) (e : Effect) → DecisionOf s call (Ok (Do made e)) → Stands s → is_person call.actor ≡ true → CallHasForms call
+    → InBounds (accepted s lane call made e).state → AreFormed (accepted s lane call made e).state
+command_formed s lane call made e decided stands person has bounds =
+    let formed = effect_formed s call.actor stands person decided.1 has.ask in
+    entered_formed (effected e s) (entry lane (what.Asked (without_key call) (Done made))) bounds
+    (record { actor = person; number = has.number; digest = ask_digest_formed call.ask; done = formed.1 }) (effected_formed s e formed.0 stands.formed)

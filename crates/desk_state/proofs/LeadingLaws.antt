@@ -1,6 +1,5 @@
 -- A call and a tick lead to no other state than they may.
-use Rattle.std.proofs.Common.{◌≡◌, ℕ, ◌+◌, ◌++◌, append-nil, ◌∙◌, IfSome, Bool, true, false, List, Option, None, Some, Result, Ok, Err, inl, inr, refl, ap, subst, sym, cond, eqb, eq-eqb, ◌≢◌, [], ◌∷◌, arith}
-use Rattle.std.specs.Prelude.{option_to_list}
+use Rattle.std.proofs.Common.{◌≡◌, ℕ, append-nil, ◌∙◌, IfSome, Bool, true, false, List, Option, None, Some, Result, Ok, Err, inl, inr, refl, subst, sym, cond, eqb, eq-eqb, ◌≢◌, [], ◌∷◌}
 use Rattle.std.specs.Option.{option_map}
 use Rattle.std.proofs.lemmas.Bool.{ne_eqb}
 use Rattle.std.specs.Str.{bytes_eq}
@@ -29,11 +28,11 @@ use Rattle.desk_state.specs.declared.entry.What.TheVariants as what
 use Rattle.desk_state.specs.declared.entry.Entry.{Entry}
 use Rattle.desk_state.specs.declared.effect.Effect.{Effect}
 use Rattle.desk_state.specs.Effects.{tick}
-use Rattle.desk_state.specs.Events.{effected, acknowledged_if, kept_alert, kept_after}
+use Rattle.desk_state.specs.Events.{effected, acknowledged_if, kept_alert}
 use Rattle.desk_state.specs.declared.effect.Decision.{Decision}
 use Rattle.desk_state.specs.declared.effect.Decision.TheVariants.{Show, Do}
 use Rattle.desk_state.specs.State.{State, grounds_of, failing_of, alert_at, alert_for, judged, judged_all, is_full, is_full_for}
-use Rattle.desk_state.specs.Step.{entry, entered, kept_of_call, without_key, accepted, enter, finish, do_call, do_unless, answer_call, tick_unless, tick_to}
+use Rattle.desk_state.specs.Step.{entry, entered, without_key, accepted, enter, finish, do_call, do_unless, answer_call, tick_unless, tick_to}
 use Rattle.desk_state.specs.Chain.{unless}
 use Rattle.desk_state.specs.People.{may_ask, mistaken, not_his_role}
 use Rattle.desk_state.specs.Decide as d
@@ -139,37 +138,25 @@ effect_after does e s fits sound =
 entry_is : (lane : ℕ) (call : Call) (reply : Reply) → IsEntryOf lane call reply (entry lane (what.Asked (without_key call) reply))
 entry_is lane call reply = record { its_lane = refl; its_call = (record { actor = refl; key = refl; number = refl; asked = refl }, refl) }
 
-kept_is : (s : State) (lane : ℕ) (call : Call) (reply : Reply) (effect : Effect) (made : DoneType) → reply ≡ Done made → IsUnused s call
-    → IsKeptOf s (accepted s lane call reply effect).state call effect made
-kept_is s lane call reply effect made is unused =
-    record { unused = unused; kept = ap (λ (x : Reply). kept_after effect.sweep s.kept ++ option_to_list (kept_of_call (effected effect s) call x)) is }
+kept_is : (s : State) (lane : ℕ) (call : Call) (effect : Effect) (made : DoneType) → IsUnused s call → IsKeptOf s (accepted s lane call made effect).state call effect made
+kept_is s lane call effect made unused = record { unused = unused; kept = refl }
 
-accepted_leads : (s : State) (lane : ℕ) (call : Call) (reply : Reply) (effect : Effect) (made : DoneType) → EffectFits s effect → Sound s → IsPermitted s call → IsUnused s call → reply ≡ Done made
-    → IsEffectOf s call.actor call.ask effect made → MayLeadTo lane call s (accepted s lane call reply effect).state (accepted s lane call reply effect).reply
-accepted_leads s lane call reply effect made fits sound permitted unused is does =
-    let e : Entry = entry lane (what.Asked (without_key call) reply) in
-    inr (
-      permitted,
-      effect,
-      made,
-      does,
-      ap (λ (x : Reply). Some x) is,
-      e,
-      subst (λ (x : Reply). IsEntryOf lane call x e) is (entry_is lane call reply),
-      kept_is s lane call reply effect made is unused,
-      effect_after effect e s fits sound,
-    )
+accepted_leads : (s : State) (lane : ℕ) (call : Call) (effect : Effect) (made : DoneType) → EffectFits s effect → Sound s → IsPermitted s call → IsUnused s call
+    → IsEffectOf s call.actor call.ask effect made → MayLeadTo lane call s (accepted s lane call made effect).state (accepted s lane call made effect).reply
+accepted_leads s lane call effect made fits sound permitted unused does =
+    let e : Entry = entry lane (what.Asked (without_key call) (Done made)) in
+    inr (permitted, effect, made, does, refl, e, entry_is lane call (Done made), kept_is s lane call effect made unused, effect_after effect e s fits sound)
 
-enter_leads : (full : Bool) (s : State) (lane : ℕ) (call : Call) (reply : Reply) (effect : Effect) (made : DoneType) → EffectFits s effect → Sound s → IsPermitted s call → IsUnused s call → reply ≡ Done made
-    → IsEffectOf s call.actor call.ask effect made → MayLeadTo lane call s (enter full s lane call reply effect).state (enter full s lane call reply effect).reply
-enter_leads true s lane call reply effect made fits sound permitted unused is does = inl (refl, (tt, tt))
-enter_leads false s lane call reply effect made fits sound permitted unused is does = accepted_leads s lane call reply effect made fits sound permitted unused is does
+enter_leads : (full : Bool) (s : State) (lane : ℕ) (call : Call) (effect : Effect) (made : DoneType) → EffectFits s effect → Sound s → IsPermitted s call → IsUnused s call
+    → IsEffectOf s call.actor call.ask effect made → MayLeadTo lane call s (enter full s lane call made effect).state (enter full s lane call made effect).reply
+enter_leads true s lane call effect made fits sound permitted unused does = inl (refl, (tt, tt))
+enter_leads false s lane call effect made fits sound permitted unused does = accepted_leads s lane call effect made fits sound permitted unused does
 
 finish_leads : (s : State) (lane : ℕ) (call : Call) (decision : Result Decision Refusal) → DecisionFits s decision → Sound s → (Goes decision → IsPermitted s call) → DecisionOf s call decision
     → MayLeadTo lane call s (finish s lane call decision).state (finish s lane call decision).reply
 finish_leads s lane call (Err refusal) fits sound permitted is = inl (refl, (tt, tt))
 finish_leads s lane call (Ok (Show reply)) fits sound permitted is = inl (refl, (is, said_to s call reply (permitted tt)))
-finish_leads s lane call (Ok (Do reply effect)) fits sound permitted is = enter_leads (is_full_for s call.ask) s lane call reply effect is.1 fits.1 sound (permitted tt) is.0 is.2 is.3
+finish_leads s lane call (Ok (Do made effect)) fits sound permitted is = enter_leads (is_full_for s call.ask) s lane call effect made fits sound (permitted tt) is.0 is.1
 
 do_leads : (s : State) (lane : ℕ) (call : Call) (o : Option Refusal) → Sound s → InBounds s → CallHasForms call → mistaken (actor_of s.tables call.actor) call.key ≡ o
     → MayLeadTo lane call s (do_unless o s lane call).state (do_unless o s lane call).reply

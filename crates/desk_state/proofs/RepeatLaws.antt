@@ -1,6 +1,6 @@
 -- A command that comes again gets what is kept of it, and changes nothing.
-use Rattle.std.proofs.Common.{◌≡◌, ℕ, ◌<◌, ◌≤◌, Bool, true, false, eqb, eq-eqb, List, [], ◌∷◌, ◌++◌, Option, None, Some, refl, ap, sym, ◌∙◌, arith, inl, inr}
-use Rattle.std.specs.Prelude.{find, nat_lt}
+use Rattle.std.proofs.Common.{◌≡◌, ℕ, ◌<◌, ◌≤◌, Bool, true, false, eq-eqb, List, [], ◌∷◌, ◌++◌, Option, None, Some, refl, ap, sym, ◌∙◌, arith, inl, inr}
+use Rattle.std.specs.Prelude.{nat_lt}
 use Rattle.std.specs.Option.{option_or}
 use Rattle.std.specs.List.{AllByRecursion}
 use Rattle.std.specs.Str.{bytes_eq}
@@ -18,7 +18,7 @@ use Rattle.call_json.specs.Canonical.{ask_digest}
 use Rattle.desk_state.specs.Allowed.{IsEffectOf, admits, defers, clears, drafts, prepares, signs, concurs, amends, cancels, departs, stops, completes, acknowledges, purges, sweeps, MayLeadTo, MayTickTo}
 use Rattle.desk_state.specs.Decide.{decide}
 use Rattle.desk_state.specs.Events.{effected, kept_after}
-use Rattle.desk_state.specs.Lanes.{Answered, said_at, said_of, made, answer, made_by, once_ticked, answer_item, outcomes, after_items}
+use Rattle.desk_state.specs.Lanes.{Answered, said_at, said_of, answer, made_by, once_ticked, answer_item, outcomes, after_items}
 use Rattle.desk_state.specs.Repeats.{MayAsk, IsKeptFor, SweepsNothing, IsAskable, MayBeLeftOut}
 use Rattle.desk_state.specs.Requests.{is_request, kept_at}
 use Rattle.desk_state.specs.Sound.{IsBoard}

@@ -1,5 +1,5 @@
 -- Reports that are received have their forms, and so has what is attached of them.
-use Rattle.std.proofs.Common.{ℕ, ◌≤◌, Bool, true, false, cond, List, [], ◌∷◌, Option, None, Some, IfSome, IsUtf8, refl, arith}
+use Rattle.std.proofs.Common.{ℕ, ◌≤◌, Bool, true, false, cond, List, [], ◌∷◌, Option, None, Some, IfSome, IsUtf8, arith}
 use Rattle.std.specs.Prelude.{map, nat_lt}
 use Rattle.std.specs.List.{AllByRecursion}
 use Rattle.stations.specs.Station.{Station}

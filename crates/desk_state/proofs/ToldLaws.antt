@@ -13,8 +13,8 @@ use Rattle.alerts.specs.Notices.{notice_of}
 use Rattle.asks.specs.declared.call.Ask.{Ask}
 use Rattle.asks.specs.declared.call.Call.{Call}
 use Rattle.asks.specs.declared.reply.Refusal.{Refusal}
-use Rattle.asks.specs.declared.reply.Reply.{Reply}
-use Rattle.asks.specs.declared.reply.Done.{Done}
+use Rattle.asks.specs.declared.reply.Done.{Done as DoneType}
+use Rattle.asks.specs.declared.reply.Reply.TheVariants.{Done}
 use Rattle.call_json.specs.Forms.{CallHasForms}
 use Rattle.plan.specs.Texts.{IsMoment}
 use Rattle.ops_tables.specs.Tables.{actor_of}
@@ -175,7 +175,7 @@ goes_on : (s : State) (actor : List ℕ) (leg : ℕ) (o : Option Release) (r : R
 goes_on s actor leg None r held = absurd held
 goes_on s actor leg (Some q) r held = rw (one_more q.active leg held.more) refl
 
-asked_takes : (s : State) (actor : List ℕ) {a : Ask} {effect : Effect} {made : Done} → IsEffectOf s actor a effect made → (id : ℕ) → takes_of effect.on_alerts id ≡ takes_alert s a id
+asked_takes : (s : State) (actor : List ℕ) {a : Ask} {effect : Effect} {made : DoneType} → IsEffectOf s actor a effect made → (id : ℕ) → takes_of effect.on_alerts id ≡ takes_alert s a id
 asked_takes s actor (admits is) id = refl
 asked_takes s actor (defers is) id = refl
 asked_takes s actor (clears is) id = refl
@@ -212,18 +212,18 @@ told_event : (takes : ℕ → Bool) (effect : Effect) (e : Entry) (s : State) (n
     → notices ≡ told_over takes s.alerts (judged_all (effected effect s)) (effected effect s).releases → AreDifferences takes s (entered e (effected effect s)) notices
 told_event takes effect e s notices told = record { unchanged = λ same. absurd (differ effect e s same); changed = λ ne. told }
 
-enter_told : (full : Bool) (s : State) (lane : ℕ) (call : Call) (reply : Reply) (effect : Effect) (made : Done) → EffectFits s effect → Sound s → IsEffectOf s call.actor call.ask effect made
-    → AreDifferences (takes_alert s call.ask) s (enter full s lane call reply effect).state (enter full s lane call reply effect).notices
-enter_told true s lane call reply effect made fits sound is = nothing_told (takes_alert s call.ask) s
-enter_told false s lane call reply effect made fits sound is =
-    told_event (takes_alert s call.ask) effect (entry lane (what.Asked (without_key call) reply)) s (notices_of (alert_changes effect s))
+enter_told : (full : Bool) (s : State) (lane : ℕ) (call : Call) (effect : Effect) (made : DoneType) → EffectFits s effect → Sound s → IsEffectOf s call.actor call.ask effect made
+    → AreDifferences (takes_alert s call.ask) s (enter full s lane call made effect).state (enter full s lane call made effect).notices
+enter_told true s lane call effect made fits sound is = nothing_told (takes_alert s call.ask) s
+enter_told false s lane call effect made fits sound is =
+    told_event (takes_alert s call.ask) effect (entry lane (what.Asked (without_key call) (Done made))) s (notices_of (alert_changes effect s))
     (effect_told effect s (takes_alert s call.ask) fits sound (asked_takes s call.actor is))
 
 finish_told : (s : State) (lane : ℕ) (call : Call) (decision : Result Decision Refusal) → DecisionFits s decision → Sound s → DecisionOf s call decision
     → AreDifferences (takes_alert s call.ask) s (finish s lane call decision).state (finish s lane call decision).notices
 finish_told s lane call (Err refusal) fits sound is = nothing_told (takes_alert s call.ask) s
 finish_told s lane call (Ok (Show reply)) fits sound is = nothing_told (takes_alert s call.ask) s
-finish_told s lane call (Ok (Do reply effect)) fits sound is = enter_told (is_full_for s call.ask) s lane call reply effect is.1 fits.1 sound is.3
+finish_told s lane call (Ok (Do made effect)) fits sound is = enter_told (is_full_for s call.ask) s lane call effect made fits sound is.1
 
 do_told : (s : State) (lane : ℕ) (call : Call) (o : Option Refusal) → Sound s → InBounds s → CallHasForms call
     → AreDifferences (takes_alert s call.ask) s (do_unless o s lane call).state (do_unless o s lane call).notices

@@ -416,7 +416,7 @@ Stays s call (Some reply) = IsAnswer s call reply × IsSaidTo s call reply
 abbrev pub AskedOf : State → List ℕ → Ask → Result Decision Refusal → Type 0
 AskedOf s actor a (Err refusal) = Unit {0}
 AskedOf s actor a (Ok (Show reply)) = IsShownTo s a reply
-AskedOf s actor a (Ok (Do reply effect)) = (made : DoneType) × (reply ≡ Done made) × IsEffectOf s actor a effect made
+AskedOf s actor a (Ok (Do made effect)) = IsEffectOf s actor a effect made
 
 -- nothing is kept of the person's request under the number, and the number is above his floor
 pub record IsUnused (s : State) (call : Call) : Type 0 where
@@ -427,7 +427,7 @@ pub record IsUnused (s : State) (call : Call) : Type 0 where
 abbrev pub DecisionOf : State → Call → Result Decision Refusal → Type 0
 DecisionOf s call (Err refusal) = Unit {0}
 DecisionOf s call (Ok (Show reply)) = IsAnswer s call reply
-DecisionOf s call (Ok (Do reply effect)) = IsUnused s call × (made : DoneType) × (reply ≡ Done made) × IsEffectOf s call.actor call.ask effect made
+DecisionOf s call (Ok (Do made effect)) = IsUnused s call × IsEffectOf s call.actor call.ask effect made
 
 -- the same call, but for its key, which isn't kept
 pub record IsWithoutKey (call kept : Call) : Type 0 where

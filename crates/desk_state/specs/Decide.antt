@@ -320,7 +320,7 @@ completed r moment = record r { phase = Completed moment; pending = None }
 abbrev pub admit_new : State → List ℕ → Read → Result Decision Refusal
 admit_new s text read =
     unless (reports_full s)
-    (Ok (Do (Done (done.Report s.counters.next_report)) (effect.admit (record { id = s.counters.next_report; received = s.moment; text = text; read = read }))))
+    (Ok (Do (done.Report s.counters.next_report) (effect.admit (record { id = s.counters.next_report; received = s.moment; text = text; read = read }))))
 
 -- a report that is held keeps its id
 abbrev pub admit_read : Option ℕ → State → List ℕ → Read → Result Decision Refusal
@@ -336,10 +336,10 @@ abbrev pub decide_defer : State → List ℕ → List ℕ → ℕ → Result Dec
 decide_defer s tail item found =
     aircraft s tail >>- λ kind.
     unless (unlisted s kind item) (unless (found_later s found) (unless (deferrals_full s)
-    (Ok (Do (Done (done.Deferral s.counters.next_deferral)) (effect.defer (record { id = s.counters.next_deferral; tail = tail; item = item; found = found }))))))
+    (Ok (Do (done.Deferral s.counters.next_deferral) (effect.defer (record { id = s.counters.next_deferral; tail = tail; item = item; found = found }))))))
 
 abbrev pub decide_clear : State → ℕ → Result Decision Refusal
-decide_clear s id = unless (not_open s id) (Ok (Do (Done (done.Deferral id)) (effect.clear id)))
+decide_clear s id = unless (not_open s id) (Ok (Do (done.Deferral id) (effect.clear id)))
 
 -- the open deferrals of an aircraft
 abbrev pub decide_deferred : State → List ℕ → Result Decision Refusal
@@ -348,47 +348,47 @@ decide_deferred s tail = aircraft s tail >>- λ kind. Ok (Show (Seen (deferral_l
 abbrev pub decide_draft : State → List ℕ → Plan → Result Decision Refusal
 decide_draft s actor plan =
     unless (bad_plan (plan_fault s.tables plan)) (unless (releases_full s)
-    (Ok (Do (Done (done.Filed s.counters.next_release 1)) (effect.file (drafted s.counters.next_release actor plan)))))
+    (Ok (Do (done.Filed s.counters.next_release 1) (effect.file (drafted s.counters.next_release actor plan)))))
 
 abbrev pub decide_prepare : State → List ℕ → ℕ → Result Decision Refusal
 decide_prepare s actor id =
     held s id >>- λ r. pending r >>- λ v. unless (not_yours r.holder actor)
-    (Ok (Do (Done (done.Prepared r.id v.number (revision_digest (with_weather s r.phase v)))) (effect.put (prepared s r v))))
+    (Ok (Do (done.Prepared r.id v.number (revision_digest (with_weather s r.phase v))) (effect.put (prepared s r v))))
 
 abbrev pub decide_sign : State → List ℕ → ℕ → ℕ → List ℕ → Result Decision Refusal
 decide_sign s actor id number digest =
     held s id >>- λ r. pending r >>- λ v.
     unless (unprepared v) (unless (not_yours r.holder actor) (unless (misnumbered v number) (unless (mistaken_text v digest)
     (unless (signed v.dispatcher) (unless (outdated s r v) (unless (fails s r v)
-    (Ok (Do (Done (done.Filed r.id v.number)) (effect.put (with_dispatcher r v (signed_by actor s.moment digest)))))))))))
+    (Ok (Do (done.Filed r.id v.number) (effect.put (with_dispatcher r v (signed_by actor s.moment digest)))))))))))
 
 abbrev pub decide_concur : State → List ℕ → ℕ → ℕ → List ℕ → Result Decision Refusal
 decide_concur s actor id number digest =
     held s id >>- λ r. pending r >>- λ v.
     unless (unprepared v) (unless (unsigned v.dispatcher) (unless (not_yours v.plan.captain actor) (unless (misnumbered v number)
     (unless (mistaken_text v digest) (unless (outdated s r v) (unless (fails s r v)
-    (Ok (Do (Done (done.Filed r.id v.number)) (effect.put_afresh (made_active r v (signed_by actor s.moment digest)))))))))))
+    (Ok (Do (done.Filed r.id v.number) (effect.put_afresh (made_active r v (signed_by actor s.moment digest)))))))))))
 
 abbrev pub decide_amend : State → List ℕ → ℕ → Plan → Result Decision Refusal
 decide_amend s actor id plan =
     held s id >>- λ r. unless (out_of_phase (may_change r.phase) r.phase) (unless (not_yours r.holder actor)
     (unless (bad_plan (plan_fault s.tables plan)) (unless (bad_change plan (newest r.pending r.active) r.phase)
-    (Ok (Do (Done (done.Filed r.id (newest_number (newest r.pending r.active) + 1))) (effect.put (amended r plan)))))))
+    (Ok (Do (done.Filed r.id (newest_number (newest r.pending r.active) + 1)) (effect.put (amended r plan)))))))
 
 abbrev pub decide_cancel : State → List ℕ → ℕ → Result Decision Refusal
 decide_cancel s actor id =
     held s id >>- λ r. unless (out_of_phase (may_change r.phase) r.phase) (unless (not_yours r.holder actor)
-    (Ok (Do (Done (done.Release r.id)) (effect.put_afresh (cancelled r s.moment)))))
+    (Ok (Do (done.Release r.id) (effect.put_afresh (cancelled r s.moment)))))
 
 abbrev pub decide_depart : State → List ℕ → ℕ → ℕ → Result Decision Refusal
 decide_depart s actor id leg =
     held s id >>- λ r. unless (out_of_phase (may_depart r.phase leg) r.phase) (unless (not_yours (flies_by (actor_of s.tables actor) r) actor)
-    (unless (fails_now s r) (Ok (Do (Done (done.Release r.id)) (effect.put (departed r leg))))))
+    (unless (fails_now s r) (Ok (Do (done.Release r.id) (effect.put (departed r leg))))))
 
 -- after the last leg the release is completed and its alert goes
 abbrev pub arrival : Bool → Release → ℕ → ℕ → Decision
-arrival true r leg moment = Do (Done (done.Release r.id)) (effect.put (stopped r leg moment))
-arrival false r leg moment = Do (Done (done.Release r.id)) (effect.put_afresh (completed r moment))
+arrival true r leg moment = Do (done.Release r.id) (effect.put (stopped r leg moment))
+arrival false r leg moment = Do (done.Release r.id) (effect.put_afresh (completed r moment))
 
 abbrev pub decide_arrive : State → List ℕ → ℕ → ℕ → Result Decision Refusal
 decide_arrive s actor id leg =
@@ -398,12 +398,12 @@ decide_arrive s actor id leg =
 abbrev pub decide_acknowledge : State → List ℕ → ℕ → ℕ → Result Decision Refusal
 decide_acknowledge s actor id version =
     held s id >>- λ r. alert_of s r.id >>- λ a. unless (not_yours r.holder actor) (unless (moved a version)
-    (Ok (Do (Done (done.Release r.id)) (effect.acknowledge r.id))))
+    (Ok (Do (done.Release r.id) (effect.acknowledge r.id))))
 
 abbrev pub decide_purge : State → ℕ → Result Decision Refusal
 decide_purge s id =
     held s id >>- λ r. ended r.phase >>- λ at. unless (too_young s (kept_until at))
-    (Ok (Do (Done (done.Release r.id)) (effect.remove r.id)))
+    (Ok (Do (done.Release r.id) (effect.remove r.id)))
 
 abbrev pub is_attached_to : ℕ → Option Revision → Bool
 is_attached_to id None = false
@@ -425,7 +425,7 @@ reports_before s before = leaving before (attached_reports s) s.reports
 abbrev pub decide_sweep : State → ℕ → Result Decision Refusal
 decide_sweep s before =
     unless (too_young s (before + 4320))
-    (Ok (Do (Done (done.Swept (length (reports_before s before)) (length (kept_before before s.kept))))
+    (Ok (Do (done.Swept (length (reports_before s before)) (length (kept_before before s.kept)))
     (effect.sweep before (attached_reports s) (raised_by (kept_before before s.kept) s.floors))))
 
 -- the release and its texts

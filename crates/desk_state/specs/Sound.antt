@@ -213,7 +213,7 @@ pub record EffectFits (s : State) (e : Effect) : Type 0 where
 abbrev pub DecisionFits : State → Result Decision Refusal → Type 0
 DecisionFits s (Err refusal) = RefusalHasMoment refusal
 DecisionFits s (Ok (Show reply)) = ReplyHasMoment reply
-DecisionFits s (Ok (Do reply effect)) = ReplyHasMoment reply × EffectFits s effect
+DecisionFits s (Ok (Do made effect)) = EffectFits s effect
 
 -- What holds of a board at every moment: its state comes from the opening one by a history of legal steps, is sound,
 -- keeps its bounds, and each part of it has its forms, so that its rows are read again.

@@ -75,20 +75,20 @@ after_event s reply effect e = record { reply = reply; state = entered e (effect
 abbrev pub without_key : Call → Call
 without_key call = record call { key = [] }
 
-abbrev pub accepted : State → ℕ → Call → Reply → Effect → Stepped
-accepted s lane call reply effect = after_event s (Some reply) effect (entry lane (what.Asked (without_key call) reply))
+abbrev pub accepted : State → ℕ → Call → DoneType → Effect → Stepped
+accepted s lane call made effect = after_event s (Some (Done made)) effect (entry lane (what.Asked (without_key call) (Done made)))
 
 abbrev pub full_reply : State → Reply
 full_reply s = Refused (HistoryFull (length s.entries) (length s.kept) s.counters.events)
 
-abbrev pub enter : Bool → State → ℕ → Call → Reply → Effect → Stepped
-enter true s lane call reply effect = stay s (full_reply s)
-enter false s lane call reply effect = accepted s lane call reply effect
+abbrev pub enter : Bool → State → ℕ → Call → DoneType → Effect → Stepped
+enter true s lane call made effect = stay s (full_reply s)
+enter false s lane call made effect = accepted s lane call made effect
 
 abbrev pub finish : State → ℕ → Call → Result Decision Refusal → Stepped
 finish s lane call (Err refusal) = stay s (Refused refusal)
 finish s lane call (Ok (Show reply)) = stay s reply
-finish s lane call (Ok (Do reply effect)) = enter (is_full_for s call.ask) s lane call reply effect
+finish s lane call (Ok (Do made effect)) = enter (is_full_for s call.ask) s lane call made effect
 
 -- a call of a person whose name and key are right
 unfoldable pub do_call : State → ℕ → Call → Stepped
@@ -98,7 +98,7 @@ do_call s lane call = finish s lane call (decide s call)
 abbrev pub changes_by : State → Ask → Result Decision Refusal → Bool
 changes_by s a (Err refusal) = false
 changes_by s a (Ok (Show reply)) = false
-changes_by s a (Ok (Do reply effect)) = not (is_full_for s a)
+changes_by s a (Ok (Do made effect)) = not (is_full_for s a)
 
 unfoldable pub changes : State → Call → Bool
 changes s call = changes_by s call.ask (decide s call)

@@ -1,7 +1,7 @@
 ghost use Rattle.std.specs.Prelude.{◌≡◌};
 ghost use Rattle.desk_state.specs.Effects as spec;
 
-use asks::{Floors, Reply};
+use asks::{Done, Floors, Reply};
 use deferrals::Deferral;
 use desk_io::Listed;
 use desk_time::Minute;
@@ -193,6 +193,6 @@ impl Effect {
 pub enum Decision {
     /// It is answered, and changes nothing.
     Show(Reply),
-    /// It is accepted, with this reply and this effect.
-    Do(Reply, Effect),
+    /// It is accepted: what it has done, which is its reply, and its effect.
+    Do(Done, Effect),
 }

@@ -11,7 +11,7 @@ use Rattle.deferrals.specs.declared.items.Deferral.{Deferral as DeferralOf}
 use Rattle.facts.specs.Reading.{IsRead}
 use Rattle.facts.specs.declared.report.Report.{Report as ReportOf}
 use Rattle.kept_state.specs.Rows.{alert_kept, meta_of, records_of, report_kept}
-use Rattle.desk_state.specs.Sound.{InBounds, IsBoard, IsNumbered, IsOpen, IsReplied, MayStand, Sound}
+use Rattle.desk_state.specs.Sound.{IsBoard, IsNumbered, IsOpen, IsReplied, MayStand, Sound}
 use Rattle.desk_state.specs.State.{State}
 use Rattle.plan.specs.declared.release.Release.{Release as ReleaseOf}
 use Rattle.records.specs.Faults.{fit, within_limits, have_releases, agree, are_counted, lacks_meta, place_of, first_after, pair_after, is_over, is_orphan, is_bad_pair, is_ahead, meta_from, beside, ahead_of, bad, pair, ◌>>◌}
@@ -27,7 +27,7 @@ use Rattle.kept_state.proofs.Lists.{both, weaker, weaker_pairs}
 use Rattle.kept_state.proofs.Segments.{all_any, all_rise, none_if, none_paired, none_placed, room_before}
 use Rattle.kept_state.proofs.Together.{Stands, all_few, all_pairs, all_records, all_stand, has_release, ids_below}
 use Rattle.kept_state.proofs.KeptForms.{Counts, IsKeptRecord, kept_alert, kept_deferral, kept_meta, kept_release, kept_reply, kept_report}
-use Rattle.desk_state.specs.Formed.{AlertHasForms, AreFormed, DeferralHasForms, ReplyHasForms, ReportHasForms}
+use Rattle.desk_state.specs.Formed.{AlertHasForms, DeferralHasForms, ReplyHasForms, ReportHasForms}
 
 -- ---- there is a meta record
 
@@ -81,8 +81,11 @@ none_orphan s sound =
 
 -- ---- each record is valid and outruns no counter
 
-all_kept : (s : State) → Counts s → Sound s → InBounds s → AreFormed s → AllByRecursion (IsKeptRecord s) (records_of s)
-all_kept s counts sound kept formed =
+all_kept : (opening s : State) → IsBoard opening s → Counts s → AllByRecursion (IsKeptRecord s) (records_of s)
+all_kept opening s board counts =
+    let sound = board.sound in
+    let kept = board.kept in
+    let formed = board.formed in
     let next = s.counters.next_release in
     let reports = both ReportHasForms (IsNumbered s.counters.next_report) s.reports formed.reports kept.reports in
     let deferrals = both DeferralHasForms (IsOpen s.counters.next_deferral) s.deferrals formed.deferrals kept.deferrals.each in
@@ -120,20 +123,15 @@ fits rs meta limits orphans pairs ahead =
 none_before : (p : Record → Record → Bool) (rs : List Record) → AllByRecursion (λ r. AllByRecursion (λ e. p r e ≡ false) []) rs
 none_before p rs = all_any (λ r. AllByRecursion (λ e. p r e ≡ false) []) (λ r. tt) rs
 
-records_are : (s : State) → Counts s → Sound s → InBounds s → AreFormed s → length s.kept ≤ 800_000 → AreOfDesk (records_of s)
-records_are s counts sound kept formed few =
-    let rs = records_of s in
-    let each = all_kept s counts sound kept formed in
-    let read = weaker ReportHasForms IsRead (λ r is. is.read) s.reports formed.reports in
-    let two = all_pairs s sound kept read in
-    record {
-      valid = All-from_recursion IsRecord rs (weaker (IsKeptRecord s) IsRecord (λ r is. is.valid) rs each);
-      fit = fits rs (meta_there s) (none_over [] rs (all_few s kept few) (all_events s counts.room)) (none_placed (is_orphan rs) 0 rs (none_orphan s sound))
-          (none_paired is_bad_pair [] rs (none_before is_bad_pair rs) (weaker_pairs Agree (λ a b. is_bad_pair b a ≡ false) (λ a b is. is.1) rs two)) (none_ahead s each);
-      order = all_rise rs (weaker_pairs Agree (λ a b. comes_before a b ≡ true) (λ a b is. is.0) rs two);
-    }
-
 -- The records of a state of a board with room for one more event are those of a desk.
 pub records_formed : (opening s : State) → IsBoard opening s → length s.kept ≤ 800_000 → s.counters.events < 999_999_999_999_999 → AreOfDesk (records_of s)
 records_formed opening s board few room =
-    records_are s (record { counters = board.kept.counters; moment = board.kept.moment; room = room }) board.sound board.kept board.formed few
+    let rs = records_of s in
+    let each = all_kept opening s board (record { counters = board.kept.counters; moment = board.kept.moment; room = room }) in
+    let two = all_pairs s board.sound board.kept (weaker ReportHasForms IsRead (λ r is. is.read) s.reports board.formed.reports) in
+    record {
+      valid = All-from_recursion IsRecord rs (weaker (IsKeptRecord s) IsRecord (λ r is. is.valid) rs each);
+      fit = fits rs (meta_there s) (none_over [] rs (all_few s board.kept few) (all_events s room)) (none_placed (is_orphan rs) 0 rs (none_orphan s board.sound))
+          (none_paired is_bad_pair [] rs (none_before is_bad_pair rs) (weaker_pairs Agree (λ a b. is_bad_pair b a ≡ false) (λ a b is. is.1) rs two)) (none_ahead s each);
+      order = all_rise rs (weaker_pairs Agree (λ a b. comes_before a b ≡ true) (λ a b is. is.0) rs two);
+    }

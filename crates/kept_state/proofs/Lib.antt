@@ -27,6 +27,6 @@ pub mod Segments
 pub mod KeptForms
 pub mod Together
 pub mod DeskRecords
-pub mod Again
+pub mod RecordsAgain
 pub mod SameRows
 pub mod Faultless

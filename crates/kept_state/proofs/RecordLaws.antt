@@ -1,6 +1,6 @@
 -- Records in order are the records of the state that they stand for.
 use Rattle.std.proofs.Common.{◌≡◌, ℕ, ◌+◌, ◌≤◌, arith, Bool, true, false, ◌&&◌, ◌||◌, cond, eqb, List, [], ◌∷◌, ◌++◌, map, length, Option, None, Some, IfSome, Result, Ok, Err, refl, sym, ap, ◌∙◌}
-use Rattle.std.specs.Prelude.{◌==◌, nat_lt, not-falseme, IsOk}
+use Rattle.std.specs.Prelude.{◌==◌, nat_lt, is_some, IsOk}
 use Rattle.std.specs.List.{AllByRecursion, filter_map, cons_option, list_any}
 use Rattle.std.specs.Option.{option_map}
 use Rattle.std.proofs.lemmas.Bool.{and_parts, eqb-true, ltb-true, not-false}
@@ -205,11 +205,11 @@ reports_back rs m are is =
     (weaker (IsKeptReport m.next_report) (λ r. option_map report_kept (report_of r) ≡ Some r) (λ r kept. report_back r kept.valid.read) (filter_map report_in rs) (kept_reports rs m are is))
 
 -- the release of an id is there
-there_by : (r : ReleaseOf) (later : Option ReleaseOf) (b any : Bool) → (b || any) ≡ true → (any ≡ true → not-falseme later ≡ true) → not-falseme (cond b (Some r) later) ≡ true
+there_by : (r : ReleaseOf) (later : Option ReleaseOf) (b any : Bool) → (b || any) ≡ true → (any ≡ true → is_some later ≡ true) → is_some (cond b (Some r) later) ≡ true
 there_by r later true any is rest = refl
 there_by r later false any is rest = rest is
 
-is_there : (id : ℕ) (rs : List Record) → list_any (is_release_of id) rs ≡ true → not-falseme (release_at id (filter_map release_in rs)) ≡ true
+is_there : (id : ℕ) (rs : List Record) → list_any (is_release_of id) rs ≡ true → is_some (release_at id (filter_map release_in rs)) ≡ true
 is_there id [] any = absurd (cc)
 is_there id (Release r ∷ rs) any = there_by r (release_at id (filter_map release_in rs)) (eqb r.id id) (list_any (is_release_of id) rs) any (is_there id rs)
 is_there id (Meta m ∷ rs) any = is_there id rs any
@@ -218,7 +218,7 @@ is_there id (Deferral d ∷ rs) any = is_there id rs any
 is_there id (Kept k ∷ rs) any = is_there id rs any
 is_there id (Alert a ∷ rs) any = is_there id rs any
 
-alert_there : (rs : List Record) (m : MetaOf) (x : Record) → IsAmong rs m x → IfSome (alert_in x) (λ a. not-falseme (release_at a.release (filter_map release_in rs)) ≡ true)
+alert_there : (rs : List Record) (m : MetaOf) (x : Record) → IsAmong rs m x → IfSome (alert_in x) (λ a. is_some (release_at a.release (filter_map release_in rs)) ≡ true)
 alert_there rs m (Alert a) is = is_there a.release rs (not-false (list_any (is_release_of a.release) rs) is.orphan)
 alert_there rs m (Meta n) is = tt
 alert_there rs m (Report r) is = tt
@@ -226,7 +226,7 @@ alert_there rs m (Deferral d) is = tt
 alert_there rs m (Release r) is = tt
 alert_there rs m (Kept k) is = tt
 
-alert_back : (a : KeptAlert) (o : Option ReleaseOf) → not-falseme o ≡ true → option_map alert_kept (option_map (λ r. alert_with a r.holder) o) ≡ Some a
+alert_back : (a : KeptAlert) (o : Option ReleaseOf) → is_some o ≡ true → option_map alert_kept (option_map (λ r. alert_with a r.holder) o) ≡ Some a
 alert_back a None is = absurd (cc)
 alert_back a (Some r) is = refl
 
@@ -234,9 +234,9 @@ alerts_back : (rs : List Record) (m : MetaOf) → AreOfDesk rs → meta_in rs �
 alerts_back rs m are is =
     let releases = filter_map release_in rs in
     all_back (alert_of releases) alert_kept (filter_map alert_in rs)
-    (weaker (λ a. not-falseme (release_at a.release releases) ≡ true) (λ a. option_map alert_kept (alert_of releases a) ≡ Some a)
+    (weaker (λ a. is_some (release_at a.release releases) ≡ true) (λ a. option_map alert_kept (alert_of releases a) ≡ Some a)
     (λ a there. alert_back a (release_at a.release releases) there) (filter_map alert_in rs)
-    (each_mapped (IsAmong rs m) (λ a. not-falseme (release_at a.release releases) ≡ true) alert_in (alert_there rs m) rs (each_among rs m are is)))
+    (each_mapped (IsAmong rs m) (λ a. is_some (release_at a.release releases) ≡ true) alert_in (alert_there rs m) rs (each_among rs m are is)))
 
 -- the records of the state that records stand for are these
 pub records_again : (rs : List Record) (m : MetaOf) → AreOfDesk rs → meta_in rs ≡ Some m

@@ -7,4 +7,4 @@ use Rattle.board.proofs.restoring.restored.Goals as goal
 
 pub returns-in-Ok-clause-kept : goal.returns-in-Ok-clause-kept
 returns-in-Ok-clause-kept g c =
-    rows_kept c.args.tables c.args.records.items _ c.requires (c.in-Ok.ensures.changes ∙ ap (λ s. judged_changes s (alert_changes nothing s)) c.in_ok-content.ensures)
+    rows_kept c.args.tables c.args.records.items _ c.are_named.ensures c.requires (c.in-Ok.ensures.changes ∙ ap (λ s. judged_changes s (alert_changes nothing s)) c.in_ok-content.ensures)

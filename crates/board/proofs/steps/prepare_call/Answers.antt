@@ -1,6 +1,10 @@
+use Rattle.call_json.proofs.AskForms.{call_from_forms}
 use Rattle.desk_state.specs.Contents.{state_of}
 use Rattle.board.proofs.Kept.{effect_of, effect_may}
 use Rattle.board.proofs.steps.prepare_call.Goals as goal
+
+pub decide-requires-clause-call : goal.decide-requires-clause-call
+decide-requires-clause-call g c = call_from_forms _ c.requires.call.ask
 
 pub prepare_entered-requires-clause-fits : goal.prepare_entered-requires-clause-fits
 prepare_entered-requires-clause-fits g c =
