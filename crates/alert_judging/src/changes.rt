@@ -38,7 +38,8 @@ pub(crate) fn push_change(
     before: Option<&Alert>,
     after: Option<&Alert>,
 ) -> Result<(), OutOfMemory>
-    ensures { OnOk result (out.new.items ≡ out.old.items ++ change_between release (option_copied before.entry) (option_copied after.entry)) }
+    ensures { OnOk result (out.new.items ≡ out.old.items ++ change_between release (option_copied before.entry)
+        (option_copied after.entry)) }
 {
     match (before, after) {
         (None, None) => return Ok(()),

@@ -68,7 +68,8 @@ impl<'a> Prospect<'a> {
     // The report that is about to be admitted.
     #[tactic(auto, using(crate::proofs::Parts::reports_then))]
     fn fresh(&self) -> Option<&'a Report>
-        ensures { events.reports_after self.now.effect.now.report (state_of self.now.content.now).reports ≡ (state_of self.now.content.now).reports ++ option_to_list (option_copied result) }
+        ensures { events.reports_after self.now.effect.now.report (state_of self.now.content.now).reports
+            ≡ (state_of self.now.content.now).reports ++ option_to_list (option_copied result) }
     {
         self.effect.report.as_ref()
     }
@@ -109,7 +110,8 @@ impl<'a> Prospect<'a> {
     }
 
     fn push_put(&self, out: &mut Vec<&'a Release>, release: &'a Release) -> Result<(), OutOfMemory>
-        ensures { OnOk result (map (λ r. r.now) out.new.items ≡ map (λ r. r.now) out.old.items ++ events.put release.now (state_of self.now.content.now).releases) }
+        ensures { OnOk result (map (λ r. r.now) out.new.items
+            ≡ map (λ r. r.now) out.old.items ++ events.put release.now (state_of self.now.content.now).releases) }
     {
         let releases = self.content.releases.as_slice();
         match place_of(releases, release) {
@@ -123,7 +125,8 @@ impl<'a> Prospect<'a> {
     }
 
     fn push_rest(&self, out: &mut Vec<&'a Release>, id: u64) -> Result<(), OutOfMemory>
-        ensures { OnOk result (map (λ r. r.now) out.new.items ≡ map (λ r. r.now) out.old.items ++ events.without_release id (state_of self.now.content.now).releases) }
+        ensures { OnOk result (map (λ r. r.now) out.new.items
+            ≡ map (λ r. r.now) out.old.items ++ events.without_release id (state_of self.now.content.now).releases) }
     {
         let releases = self.content.releases.as_slice();
         match place_of_id(releases, id) {
@@ -193,7 +196,8 @@ impl<'a> Prospect<'a> {
         alloc: Global,
         before: Option<&Alert>,
     ) -> Result<Option<Alert>, OutOfMemory>
-        ensures { IfOk result (λ a. a ≡ spec.acknowledged_by self.now.effect.now.on_alerts (option_copied before.entry)) }
+        ensures { IfOk result (λ a. a ≡ spec.acknowledged_by self.now.effect.now.on_alerts
+            (option_copied before.entry)) }
     {
         match (self.effect.on_alerts, before) {
             (OnAlerts::Acknowledge { release }, Some(alert)) if alert.release == release => {
@@ -223,8 +227,10 @@ impl<'a> Prospect<'a> {
         before: Option<&'b Alert>,
         id: u64,
     ) -> Option<&'b Alert>
-        requires { option_copied acknowledged ≡ spec.acknowledged_by self.now.effect.now.on_alerts (option_copied before) }
-        ensures { option_copied result ≡ events.kept_alert self.now.effect.now.on_alerts id (option_copied before.entry) }
+        requires { option_copied acknowledged ≡ spec.acknowledged_by self.now.effect.now.on_alerts
+            (option_copied before) }
+        ensures { option_copied result ≡ events.kept_alert self.now.effect.now.on_alerts id
+            (option_copied before.entry) }
     {
         match acknowledged {
             Some(_) => acknowledged,
@@ -269,7 +275,8 @@ impl<'a> Prospect<'a> {
         requires release { ReleaseInBounds release.now }
         requires open { AreOpenThen self.now }
         requires version { IfSome (option_copied before) IsBounded }
-        ensures { OnOk result (out.new.items ≡ out.old.items ++ spec.changes_of self.now (option_copied before.entry) release.now) }
+        ensures { OnOk result (out.new.items ≡ out.old.items ++ spec.changes_of self.now
+            (option_copied before.entry) release.now) }
     {
         let acknowledged = self.acknowledged(alloc, before)?;
         let kept = self.kept(acknowledged.as_ref(), before, release.id);
@@ -291,7 +298,8 @@ impl<'a> Prospect<'a> {
         requires releases { AllByRecursion ReleaseInBounds (map (λ r. r.now) releases.now) }
         requires open { AreOpenThen self.now }
         requires alerts { AreBounded alerts.now }
-        ensures { OnOk result (out.new.items ≡ out.old.items ++ spec.walk self.now alerts.now (map (λ r. r.now) releases.now)) }
+        ensures { OnOk result (out.new.items ≡ out.old.items ++ spec.walk self.now alerts.now
+            (map (λ r. r.now) releases.now)) }
     {
         let mut left = alerts;
         for release in releases {

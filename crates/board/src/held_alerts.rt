@@ -10,7 +10,8 @@ use desk_state::AlertChange;
 // The place of the first alert of a release or of a later one, and whether it is of that release.
 fn place_of(alerts: &[Alert], release: u64) -> (usize, bool)
     ensures within { result.0 + (if result.1 then 1 else 0) ≤ length alerts.now }
-    ensures place { (alert : Option AnAlert) → spec.put_alert release alert alerts.now ≡ take result.0 alerts.now ++ cons_option alert (drop (result.0 + (if result.1 then 1 else 0)) alerts.now) }
+    ensures place { (alert : Option AnAlert) → spec.put_alert release alert alerts.now
+        ≡ take result.0 alerts.now ++ cons_option alert (drop (result.0 + (if result.1 then 1 else 0)) alerts.now) }
 {
     for (i, alert) in alerts.iter().enumerate() {
         if alert.release == release {

@@ -137,7 +137,8 @@ fn change(content: &mut Content, effect: Effect)
     requires deferral { HasDeferralRoom content.old effect.on_deferrals }
     requires release { HasReleaseRoom content.old effect.on_releases }
     requires may { MayBeMade (state_of content.old) effect }
-    ensures state { state_of content.new ≡ record (effected effect (state_of content.old)) { alerts = content.old.alerts.items } }
+    ensures state { state_of content.new ≡ record (effected effect (state_of content.old))
+        { alerts = content.old.alerts.items } }
     ensures alerts { content.new.alerts ≡ content.old.alerts }
     ensures entries { content.new.entries ≡ content.old.entries }
     ensures len { vec_len content.new.kept ≤ vec_len content.old.kept }

@@ -79,7 +79,8 @@ fn reopen<L: Ledger>(
 ) -> Result<Vec<Change>, OutOfMemory>
     requires { MayReopen (state_of content.old) }
     ensures state { OnOk result (state_of content.new ≡ reopened (state_of content.old)) }
-    ensures changes { IfOk result (λ v. v.items ≡ kept.judged_changes (state_of content.old) (alert_changes nothing (state_of content.old))) }
+    ensures changes { IfOk result (λ v. v.items ≡ kept.judged_changes (state_of content.old)
+        (alert_changes nothing (state_of content.old))) }
 {
     let alerts = judge_anew(alloc, content, steps)?;
     let changes = judged_changes(alloc, content, alerts.as_slice())?;
@@ -101,8 +102,10 @@ pub(crate) fn restored<L: Ledger>(
 ) -> Result<Reopened, OutOfMemory>
     requires { AreOfDesk records.items }
     ensures state { IfOk result (λ r. state_of r.content ≡ reopened (state_in tables records.items)) }
-    ensures changes { IfOk result (λ r. r.changes.items ≡ kept.judged_changes (state_in tables records.items) (alert_changes nothing (state_in tables records.items))) }
-    ensures kept { IfOk result (λ r. (rows : Rows) → AreSame rows (rows_of (map row_of records.items)) → AreKept (changed_by r.changes.items rows) (reopened (state_in tables records.items))) }
+    ensures changes { IfOk result (λ r. r.changes.items ≡ kept.judged_changes (state_in tables records.items)
+        (alert_changes nothing (state_in tables records.items))) }
+    ensures kept { IfOk result (λ r. (rows : Rows) → AreSame rows (rows_of (map row_of records.items))
+        → AreKept (changed_by r.changes.items rows) (reopened (state_in tables records.items))) }
 {
     tables.are_named();
     let mut content = content_of(alloc, tables, records)?;

@@ -95,10 +95,13 @@ impl Board {
         steps: &mut Steps<L>,
     ) -> Result<Restored, OutOfMemory>
         requires { AreOfDesk held.items }
-        ensures board { IfOk result (λ r. r.board ≡ shown (reopened (state_in tables held.items)) (reopened (state_in tables held.items)) None) }
+        ensures board { IfOk result (λ r. r.board ≡ shown (reopened (state_in tables held.items))
+            (reopened (state_in tables held.items)) None) }
         // Nothing where no alert changed.
-        ensures changes { IfOk result (λ r. r.changes.items ≡ judged_changes (state_in tables held.items) (alert_changes nothing (state_in tables held.items))) }
-        ensures rows { IfOk result (λ r. (rows : Rows) → AreSame rows (rows_of (map row_of held.items)) → AreKept (changed_by r.changes.items rows) (reopened (state_in tables held.items))) }
+        ensures changes { IfOk result (λ r. r.changes.items ≡ judged_changes (state_in tables held.items)
+            (alert_changes nothing (state_in tables held.items))) }
+        ensures rows { IfOk result (λ r. (rows : Rows) → AreSame rows (rows_of (map row_of held.items))
+            → AreKept (changed_by r.changes.items rows) (reopened (state_in tables held.items))) }
     {
         tables.are_named();
         let Reopened { content, changes } = restored(alloc, tables, held, steps)?;
@@ -125,7 +128,8 @@ impl Board {
         ensures stepped { IfOk result (λ p. IsStepped self.old.state p (answer_call self.old.state lane call.now)) }
         ensures shown { IfOk result (λ p. IfSome p.reply ReplyHasMoment) }
         ensures own { IfOk result (λ p. MayLeadTo lane call.now self.old.state (installed p self.old.state) p.reply) }
-        ensures told { IfOk result (λ p. AreDifferences (takes_alert self.old.state call.now.ask) self.old.state (installed p self.old.state) p.notices) }
+        ensures told { IfOk result (λ p. AreDifferences (takes_alert self.old.state call.now.ask) self.old.state
+            (installed p self.old.state) p.notices) }
         ensures rows { IfOk result (λ p. KeepsRows self.old.state p) }
         ensures ok { IfOk result (λ p. self.new ≡ shown self.old.opening self.old.state (Some p)) }
         ensures err { OnErr result (self.new ≡ shown self.old.opening self.old.state None) }
@@ -149,7 +153,8 @@ impl Board {
         ensures stepped { IfOk result (λ p. IsStepped self.old.state p (tick_to self.old.state lane to)) }
         ensures shown { IfOk result (λ p. IfSome p.reply ReplyHasMoment) }
         ensures own { IfOk result (λ p. MayTickTo lane to self.old.state (installed p self.old.state) p.reply) }
-        ensures told { IfOk result (λ p. AreDifferences takes_none self.old.state (installed p self.old.state) p.notices) }
+        ensures told { IfOk result (λ p. AreDifferences takes_none self.old.state
+            (installed p self.old.state) p.notices) }
         ensures rows { IfOk result (λ p. KeepsRows self.old.state p) }
         ensures ok { IfOk result (λ p. self.new ≡ shown self.old.opening self.old.state (Some p)) }
         ensures err { OnErr result (self.new ≡ shown self.old.opening self.old.state None) }
@@ -192,9 +197,12 @@ impl Board {
         requires { CallHasForms call.now }
         ensures answered { IfOk result (λ i. IsAnswered i (answer_call self.old.state lane call.now)) }
         ensures shown { IfOk result (λ i. IfSome i.reply ReplyHasMoment) }
-        ensures state { OnOk result (self.new ≡ shown self.old.opening (answer_call self.old.state lane call.now).state None) }
-        ensures own { IfOk result (λ i. MayLeadTo lane call.now self.old.state (answer_call self.old.state lane call.now).state i.reply) }
-        ensures told { IfOk result (λ i. AreDifferences (takes_alert self.old.state call.now.ask) self.old.state (answer_call self.old.state lane call.now).state i.notices) }
+        ensures state { OnOk result (self.new ≡ shown self.old.opening
+            (answer_call self.old.state lane call.now).state None) }
+        ensures own { IfOk result (λ i. MayLeadTo lane call.now self.old.state
+            (answer_call self.old.state lane call.now).state i.reply) }
+        ensures told { IfOk result (λ i. AreDifferences (takes_alert self.old.state call.now.ask) self.old.state
+            (answer_call self.old.state lane call.now).state i.notices) }
         ensures err { OnErr result (self.new ≡ shown self.old.opening self.old.state None) }
     {
         let prepared = self.prepare_change(alloc, lane, call, steps)?;
@@ -213,8 +221,10 @@ impl Board {
         requires later { self.old.state.moment < to }
         requires within { to ≤ LAST }
         ensures answered { IfOk result (λ i. IsAnswered i (tick_to self.old.state lane to)) }
-        ensures own { IfOk result (λ i. MayTickTo lane to self.old.state (tick_to self.old.state lane to).state i.reply) }
-        ensures told { IfOk result (λ i. AreDifferences takes_none self.old.state (tick_to self.old.state lane to).state i.notices) }
+        ensures own { IfOk result (λ i. MayTickTo lane to self.old.state
+            (tick_to self.old.state lane to).state i.reply) }
+        ensures told { IfOk result (λ i. AreDifferences takes_none self.old.state
+            (tick_to self.old.state lane to).state i.notices) }
         ensures shown { IfOk result (λ i. IfSome i.reply ReplyHasMoment) }
         ensures state { OnOk result (self.new ≡ shown self.old.opening (tick_to self.old.state lane to).state None) }
         ensures err { OnErr result (self.new ≡ shown self.old.opening self.old.state None) }

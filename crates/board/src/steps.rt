@@ -94,7 +94,8 @@ fn kept_reply(
     done: Done,
 ) -> Result<KeptReply, OutOfMemory>
     requires { CallHasForms call.now }
-    ensures { IfOk result (λ k. k ≡ step.kept_reply (effected effect.now (state_of content.now)) (step.without_key call.now) done) }
+    ensures { IfOk result (λ k. k ≡ step.kept_reply (effected effect.now (state_of content.now))
+        (step.without_key call.now) done) }
 {
     Ok(KeptReply {
         id: content.counters.next_kept,
@@ -115,8 +116,10 @@ fn record_call(
     effect: &Effect,
 ) -> Result<Recorded, OutOfMemory>
     requires { CallHasForms call.now }
-    ensures entered { IfOk result (λ r. r.entered ≡ step.entry lane (What.Asked (step.without_key call.now) (Reply.Done done))) }
-    ensures kept { IfOk result (λ r. r.kept ≡ step.kept_of (effected effect.now (state_of content.now)) (What.Asked (step.without_key call.now) (Reply.Done done))) }
+    ensures entered { IfOk result (λ r. r.entered ≡ step.entry lane
+        (What.Asked (step.without_key call.now) (Reply.Done done))) }
+    ensures kept { IfOk result (λ r. r.kept ≡ step.kept_of (effected effect.now (state_of content.now))
+        (What.Asked (step.without_key call.now) (Reply.Done done))) }
 {
     Ok(Recorded {
         entered: entry_of(alloc, lane, call, done)?,
@@ -148,7 +151,13 @@ fn planned(
     ensures reply { result.reply ≡ reply }
     ensures notices { result.notices ≡ judged.notices }
     ensures changes { result.changes ≡ changes }
-    ensures event { result.event ≡ Some (record { effect = effect; changes = judged.changes; entered = recorded.entered; kept = recorded.kept }) }
+    ensures event { result.event ≡ Some (record {
+      effect = effect;
+      changes = judged.changes;
+      entered =
+          recorded.entered;
+      kept = recorded.kept;
+    }) }
 {
     Prepared {
         reply,
@@ -176,7 +185,8 @@ fn rows_of(
     requires fits { EffectFits (state_of content.now) effect.now }
     requires changes { judged.now.changes.items ≡ alert_changes effect.now (state_of content.now) }
     requires recorded { IsRecordedOf (state_of content.now) effect.now recorded.now }
-    ensures { IfOk result (λ rows. rows.items ≡ kept_rows.event_changes (state_of content.now) effect.now recorded.now.entered) }
+    ensures { IfOk result (λ rows. rows.items ≡ kept_rows.event_changes
+        (state_of content.now) effect.now recorded.now.entered) }
 {
     event_changes(
         alloc,
@@ -212,7 +222,8 @@ fn judge_all<L: Ledger>(
     requires fits { EffectFits (state_of content.old) effect.now }
     ensures same { state_of content.new ≡ state_of content.old }
     ensures changes { IfOk result (λ j. j.changes.items ≡ alert_changes effect.now (state_of content.old)) }
-    ensures notices { IfOk result (λ j. j.notices ≡ events.notices_of (alert_changes effect.now (state_of content.old))) }
+    ensures notices { IfOk result (λ j. j.notices ≡ events.notices_of
+        (alert_changes effect.now (state_of content.old))) }
     ensures room { IfOk result (λ j. HasRoom content.new (length j.changes.items) effect.now) }
 {
     let changes = Prospect { content, effect }.changes(alloc, steps)?;
@@ -235,9 +246,11 @@ fn work_out<L: Ledger>(
     requires recorded { IsRecordedOf (state_of content.old) effect.now recorded.now }
     ensures same { state_of content.new ≡ state_of content.old }
     ensures changes { IfOk result (λ w. w.0.changes.items ≡ alert_changes effect.now (state_of content.old)) }
-    ensures notices { IfOk result (λ w. w.0.notices ≡ events.notices_of (alert_changes effect.now (state_of content.old))) }
+    ensures notices { IfOk result (λ w. w.0.notices ≡ events.notices_of
+        (alert_changes effect.now (state_of content.old))) }
     ensures room { IfOk result (λ w. HasRoom content.new (length w.0.changes.items) effect.now) }
-    ensures rows { IfOk result (λ w. w.1.items ≡ kept_rows.event_changes (state_of content.new) effect.now recorded.now.entered) }
+    ensures rows { IfOk result (λ w. w.1.items ≡ kept_rows.event_changes
+        (state_of content.new) effect.now recorded.now.entered) }
 {
     let judged = judge_all(alloc, content, effect, steps)?;
     let changes = rows_of(alloc, content, effect, &judged, recorded)?;
@@ -272,7 +285,8 @@ fn prepare_event<L: Ledger>(
     requires may { MayBeMade (state_of content.old) effect }
     requires recorded { IsRecordedOf (state_of content.old) effect recorded }
     ensures same { state_of content.new ≡ state_of content.old }
-    ensures stepped { IfOk result (λ p. IsStepped (state_of content.old) p (step.after_event (state_of content.old) (option_map Reply.Done done) effect recorded.entered)) }
+    ensures stepped { IfOk result (λ p. IsStepped (state_of content.old) p
+        (step.after_event (state_of content.old) (option_map Reply.Done done) effect recorded.entered)) }
     ensures may { IfOk result (λ p. MayInstall content.new p.event) }
     ensures rows { IfOk result (λ p. KeepsRows (state_of content.old) p) }
 {
@@ -301,7 +315,8 @@ fn prepare_accepted<L: Ledger>(
     requires call { CallHasForms call.now }
     requires may { MayBeMade (state_of content.old) effect }
     ensures same { state_of content.new ≡ state_of content.old }
-    ensures stepped { IfOk result (λ p. IsStepped (state_of content.old) p (step.accepted (state_of content.old) lane call.now done effect)) }
+    ensures stepped { IfOk result (λ p. IsStepped (state_of content.old) p
+        (step.accepted (state_of content.old) lane call.now done effect)) }
     ensures may { IfOk result (λ p. MayInstall content.new p.event) }
     ensures rows { IfOk result (λ p. KeepsRows (state_of content.old) p) }
 {
@@ -333,7 +348,9 @@ fn prepare_entered<L: Ledger>(
     requires call { CallHasForms call.now }
     requires may { MayBeMade (state_of content.old) effect }
     ensures same { state_of content.new ≡ state_of content.old }
-    ensures stepped { IfOk result (λ p. IsStepped (state_of content.old) p (step.enter (is_full_for (state_of content.old) call.now.ask) (state_of content.old) lane call.now done effect)) }
+    ensures stepped { IfOk result (λ p. IsStepped (state_of content.old) p
+        (step.enter (is_full_for (state_of content.old) call.now.ask)
+        (state_of content.old) lane call.now done effect)) }
     ensures may { IfOk result (λ p. MayInstall content.new p.event) }
     ensures rows { IfOk result (λ p. KeepsRows (state_of content.old) p) }
 {
@@ -357,7 +374,8 @@ fn prepare_call<L: Ledger>(
     requires kept { InBounds (state_of content.old) }
     requires call { CallHasForms call.now }
     ensures same { state_of content.new ≡ state_of content.old }
-    ensures stepped { IfOk result (λ p. IsStepped (state_of content.old) p (do_call (state_of content.old) lane call.now)) }
+    ensures stepped { IfOk result (λ p. IsStepped (state_of content.old) p
+        (do_call (state_of content.old) lane call.now)) }
     ensures may { IfOk result (λ p. MayInstall content.new p.event) }
     ensures rows { IfOk result (λ p. KeepsRows (state_of content.old) p) }
 {
@@ -384,7 +402,8 @@ pub fn prepare_answer<L: Ledger>(
     requires kept { InBounds (state_of content.old) }
     requires call { CallHasForms call.now }
     ensures same { state_of content.new ≡ state_of content.old }
-    ensures stepped { IfOk result (λ p. IsStepped (state_of content.old) p (answer_call (state_of content.old) lane call.now)) }
+    ensures stepped { IfOk result (λ p. IsStepped (state_of content.old) p
+        (answer_call (state_of content.old) lane call.now)) }
     ensures may { IfOk result (λ p. MayInstall content.new p.event) }
     ensures rows { IfOk result (λ p. KeepsRows (state_of content.old) p) }
 {
@@ -405,7 +424,8 @@ fn prepare_ticked<L: Ledger>(
     requires kept { InBounds (state_of content.old) }
     requires moment { IsMoment to }
     ensures same { state_of content.new ≡ state_of content.old }
-    ensures stepped { IfOk result (λ p. IsStepped (state_of content.old) p (step.ticked (state_of content.old) lane to)) }
+    ensures stepped { IfOk result (λ p. IsStepped (state_of content.old) p
+        (step.ticked (state_of content.old) lane to)) }
     ensures may { IfOk result (λ p. MayInstall content.new p.event) }
     ensures rows { IfOk result (λ p. KeepsRows (state_of content.old) p) }
 {

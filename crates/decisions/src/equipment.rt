@@ -74,7 +74,12 @@ fn new_deferral(
     item: &Text,
     found: Minute,
 ) -> Result<Deferral, OutOfMemory>
-    ensures { IfOk result (λ d. d ≡ record { id = (state_of content.now).counters.next_deferral; tail = tail.now; item = item.now; found = found }) }
+    ensures { IfOk result (λ d. d ≡ record {
+      id = (state_of content.now).counters.next_deferral;
+      tail = tail.now;
+      item = item.now;
+      found = found;
+    }) }
 {
     Ok(Deferral {
         id: content.counters.next_deferral,

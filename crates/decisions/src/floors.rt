@@ -10,7 +10,8 @@ use std::cmp::Ordering;
 // The place of the first floor of a person of that name or of one that comes after it, and whether it is of that name.
 fn place_of(floors: &[Floor], actor: &[u8]) -> (usize, bool)
     ensures within { result.0 + (if result.1 then 1 else 0) ≤ length floors.now }
-    ensures place { (number : ℕ) → requests.raised_to actor.now number floors.now ≡ spec.raised_at result.0 result.1 actor.now number floors.now }
+    ensures place { (number : ℕ) → requests.raised_to actor.now number floors.now
+        ≡ spec.raised_at result.0 result.1 actor.now number floors.now }
 {
     for (i, floor) in floors.iter().enumerate() {
         match actor.cmp(floor.actor.bytes()) {

@@ -81,7 +81,8 @@ fn admit_new(content: &Content, received: Received) -> Result<Decision, Stop>
 
 fn admit_received(content: &Content, received: Received) -> Result<Decision, Stop>
     requires { (id : ℕ) → IsRead (report_of id content.now.moment received) }
-    ensures value { Answers (λ d. d) result (spec.admit_read (same_id (state_of content.now).reports received.text (minute_of_read received.read)) (state_of content.now) received.text received.read) }
+    ensures value { Answers (λ d. d) result (spec.admit_read (same_id (state_of content.now).reports received.text
+        (minute_of_read received.read)) (state_of content.now) received.text received.read) }
     ensures read { IfOk result DecisionAdmitsRead }
 {
     let same = content

@@ -172,7 +172,8 @@ fn filed(release: &Release, revision: &Revision) -> Done
 // The pending revision has another number, or its text another digest, than those that are to be signed.
 fn misnamed(alloc: Global, revision: &Revision, number: u64, digest: &[u8; 32]) -> Result<(), Stop>
     requires { IsPlan revision.now.plan }
-    ensures { Passes result (in_turn (spec.misnumbered revision.now number) (spec.mistaken_text revision.now digest.now)) }
+    ensures { Passes result (in_turn (spec.misnumbered revision.now number)
+        (spec.mistaken_text revision.now digest.now)) }
 {
     misnumbered(revision, number)?;
     mistaken_text(alloc, revision, digest)

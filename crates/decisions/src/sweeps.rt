@@ -110,7 +110,8 @@ fn count_before(before: Minute, kept: &[KeptReply]) -> u64
 
 // The floors once the replies that were accepted before a moment are gone.
 fn raised(alloc: Global, before: Minute, content: &Content) -> Result<Floors, OutOfMemory>
-    ensures { IfOk result (λ floors. floors ≡ requests.raised_by (requests.kept_before before (state_of content.now).kept) (state_of content.now).floors) }
+    ensures { IfOk result (λ floors. floors ≡ requests.raised_by
+        (requests.kept_before before (state_of content.now).kept) (state_of content.now).floors) }
 {
     let mut floors = copied_items(content.floors.as_slice(), alloc)?;
     for reply in &content.kept {

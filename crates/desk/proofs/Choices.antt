@@ -198,7 +198,7 @@ made_state : (later : Bool) (lane : ℕ) (s : State) (at : ℕ) (call : Call) �
 made_state false lane s at call = refl
 made_state true lane s at call = once_state lane (tick_to s lane at).reply (tick_to s lane at) call
 
--- where nothing fails, a call is answered as the machine answers it
+-- where nothing fails, a call is answered as a lane answers it
 pub quiet_call : (lane : ℕ) (s : State) (at : ℕ) (call : Call) → IsAnswered lane s (item.Call at call) (answer_with no_choice lane s at call)
 unfolding answer_with lanes.answer
 quiet_call lane s at call = record { outcome = made_outcome (nat_lt s.moment at) lane s at call; state = made_state (nat_lt s.moment at) lane s at call }

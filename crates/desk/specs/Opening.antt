@@ -49,7 +49,7 @@ pub record OnLoaded (told : Option Rows) (P : List Row → Type 0) : Type 0 wher
   pub order : IsTrue (rising rows)
   pub has : P rows
 
--- Why no desk is opened: the keeper's count rose, or the rows that were loaded have that first fault. Want of memory is free.
+-- Why no desk is opened: the keeper has failed, or the rows that were loaded have that first fault. Want of memory is free.
 abbrev pub IsWhy : Option Rows → Type 0 → OpenWhy → Type 0
 IsWhy told rose KeeperFault = rose
 IsWhy told rose (BadRow row why) = OnLoaded told (λ rows. IsFaultOf rows (fault.BadRow row why))

@@ -24,7 +24,7 @@ pub record DeskGoesOn (old new : DeskSeen) : Type 0 where
   pub rows : IsKept old → IsKept new
   pub keeper : KeeperGoesOn old.keeper new.keeper
 
--- what is said of answers: the state, and the count of the keeper's faults
+-- of what answers are said: the state, and the count of the keeper's faults
 pub record DeskAt : Type 0 where
   pub state : State
   pub faults : ℕ

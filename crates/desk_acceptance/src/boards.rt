@@ -87,12 +87,14 @@ fn make_all<L: Ledger>(
     Ok(())
 }
 
-// An entry of the history as a letter: T for a tick, C for a call, K for the captain's call in this lane without his key.
+// An entry of the history as a letter: T for a tick, C for a call, K for the captain's call in lane 3,
+// without his key.
 fn entry_letter(entry: &Entry) -> u8 {
     match &entry.what {
         What::Tick { .. } => b'T',
         What::Asked { call, .. } => {
             let is_captains = entry.lane == 3
+                && call.number == 1
                 && call.actor.bytes() == b"C7".as_slice()
                 && call.key.bytes().is_empty();
             if is_captains { b'K' } else { b'C' }
@@ -124,7 +126,7 @@ fn is_alone(board: &Board) -> bool {
     board.release(1).is_some() && board.release(2).is_none() && board.alert(2).is_none()
 }
 
-// Plays a script, and shows what is seen then. The board is owned here alone, and has one exit.
+// Plays a script, and shows what is seen of the board then.
 fn play<L: Ledger>(
     alloc: Global,
     tables: Tables,

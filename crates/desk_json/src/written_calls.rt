@@ -1,6 +1,6 @@
 ghost use Rattle.std.specs.Prelude.{◌≡◌, IfOk};
 ghost use Rattle.serde_json.specs.View.{view};
-ghost use Rattle.call_json.specs.Forms.{CallHasForms};
+ghost use Rattle.asks.specs.Forms.{IsCall};
 ghost use Rattle.desk_json.specs.Canonical as spec;
 
 use asks::Call;
@@ -9,9 +9,8 @@ use desk_io::{OutOfMemory, Text};
 use serde_json::{Map, Value};
 use std::alloc::Global;
 
-#[tactic(auto, using(call_json::proofs::AskForms::call_from_forms))]
 fn call_value(alloc: Global, call: &Call) -> Result<Value, OutOfMemory>
-    requires { CallHasForms call.now }
+    requires { IsCall call.now.ask }
     ensures { IfOk result (λ v. view v ≡ spec.call_data call.now) }
 {
     let members = with_text(alloc, Map::new(alloc), "actor", call.actor.bytes())?;
@@ -23,7 +22,7 @@ fn call_value(alloc: Global, call: &Call) -> Result<Value, OutOfMemory>
 
 /// The text of a call as a history shows it, without the key: JSON without blanks, its keys in byte order.
 pub fn call_text(alloc: Global, call: &Call) -> Result<Text, OutOfMemory>
-    requires { CallHasForms call.now }
+    requires { IsCall call.now.ask }
     ensures { IfOk result (λ t. t ≡ spec.call_text call.now) }
 {
     let value = call_value(alloc, call)?;

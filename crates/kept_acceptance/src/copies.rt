@@ -28,7 +28,7 @@ fn is_copied<T: Copied + Debug + Drop>(alloc: Global, value: &T) -> Result<bool,
     Ok(format!(in alloc; "{value:?}")? == format!(in alloc; "{copy:?}")?)
 }
 
-// A deferral, a release and what is kept of a command; of the others the parts are copied.
+// A deferral, a release and what is kept of a command; of the others a part is copied.
 fn is_record_copied(alloc: Global, record: &Record) -> Result<bool, OutOfMemory> {
     match record {
         Record::Deferral(deferral) => is_copied(alloc, deferral),

@@ -67,7 +67,8 @@ fn push_leaving(
     sweep: &Sweep,
     reports: &Reports,
 ) -> Result<(), OutOfMemory>
-    ensures { OnOk result (changes.new.items ≡ changes.old.items ++ map (λ r. change.Remove 1 r.id) (leaving sweep.now.before sweep.now.attached reports.now.reports)) }
+    ensures { OnOk result (changes.new.items ≡ changes.old.items ++ map (λ r. change.Remove 1 r.id)
+        (leaving sweep.now.before sweep.now.attached reports.now.reports)) }
 {
     let ids = reports.leaving(alloc, sweep.before, sweep.attached.as_slice())?;
     push_removals(changes, REPORT, ids.as_slice())
@@ -157,7 +158,8 @@ fn push_kept_before(
     before: Minute,
     kept: &[KeptReply],
 ) -> Result<(), OutOfMemory>
-    ensures { OnOk result (changes.new.items ≡ changes.old.items ++ map (λ k. change.Remove 4 k.id) (kept_before before kept.now)) }
+    ensures { OnOk result (changes.new.items ≡ changes.old.items ++ map (λ k. change.Remove 4 k.id)
+        (kept_before before kept.now)) }
 {
     for reply in kept {
         if reply.at < before {
@@ -207,7 +209,8 @@ fn push_replies(
     kept: Option<&KeptReply>,
 ) -> Result<(), OutOfMemory>
     requires { WasAccepted (option_copied kept) }
-    ensures { OnOk result (changes.new.items ≡ changes.old.items ++ spec.on_replies (state_of content.now) effect.now (option_copied kept.entry)) }
+    ensures { OnOk result (changes.new.items ≡ changes.old.items ++ spec.on_replies (state_of content.now) effect.now
+        (option_copied kept.entry)) }
 {
     push_swept_replies(changes, &effect.sweep, content.kept.as_slice())?;
     push_reply(alloc, changes, kept)
@@ -249,7 +252,8 @@ fn put_meta(
 ) -> Result<Change, OutOfMemory>
     requires moment { IsMoment (moment_after effect.now.moment content.now.moment) }
     requires small { AreSmall (state_of content.now) effect.now }
-    ensures { IfOk result (λ c. c ≡ spec.put (Record.Meta (meta_of (step.entered entered.now (effected effect.now (state_of content.now)))))) }
+    ensures { IfOk result (λ c. c ≡ spec.put (Record.Meta (meta_of
+        (step.entered entered.now (effected effect.now (state_of content.now)))))) }
 {
     put(
         alloc,
@@ -267,7 +271,8 @@ fn push_parts(
     alerts: &[AlertChange],
 ) -> Result<(), OutOfMemory>
     requires { AreShown (state_of content.now) effect.now (option_copied kept) alerts.now }
-    ensures { OnOk result (changes.new.items ≡ changes.old.items ++ spec.part_changes (state_of content.now) effect.now (option_copied kept.entry) alerts.now) }
+    ensures { OnOk result (changes.new.items ≡ changes.old.items ++ spec.part_changes
+        (state_of content.now) effect.now (option_copied kept.entry) alerts.now) }
 {
     push_reports(alloc, changes, content, effect)?;
     push_deferral(alloc, changes, &effect.on_deferrals)?;
@@ -285,7 +290,9 @@ fn shown_changes(
     alerts: &[AlertChange],
 ) -> Result<Vec<Change>, OutOfMemory>
     requires { AreShown (state_of content.now) effect.now (option_copied kept) alerts.now }
-    ensures { IfOk result (λ changes. changes.items ≡ spec.put (Record.Meta (meta_of (step.entered entered.now (effected effect.now (state_of content.now))))) ∷ spec.part_changes (state_of content.now) effect.now (option_copied kept.entry) alerts.now) }
+    ensures { IfOk result (λ changes. changes.items ≡ spec.put
+        (Record.Meta (meta_of (step.entered entered.now (effected effect.now (state_of content.now))))) ∷
+        spec.part_changes (state_of content.now) effect.now (option_copied kept.entry) alerts.now) }
 {
     let mut changes = Vec::new(alloc);
     changes.push(put_meta(alloc, content, effect, entered)?)?;
@@ -309,7 +316,8 @@ pub fn event_changes(
     requires fits { EffectFits (state_of content.now) effect.now }
     requires kept { option_copied kept ≡ kept_of (effected effect.now (state_of content.now)) entered.now.what }
     requires alerts { alerts.now ≡ alert_changes effect.now (state_of content.now) }
-    ensures { IfOk result (λ changes. changes.items ≡ spec.event_changes (state_of content.now) effect.now entered.now) }
+    ensures { IfOk result (λ changes. changes.items ≡ spec.event_changes
+        (state_of content.now) effect.now entered.now) }
 {
     shown_changes(alloc, content, effect, entered, kept, alerts)
 }

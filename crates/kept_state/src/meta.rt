@@ -79,7 +79,8 @@ pub(crate) fn meta_after(
     entered: &Entry,
 ) -> Result<Meta, OutOfMemory>
     requires { AreSmall (state_of content.now) effect.now }
-    ensures { IfOk result (λ m. m ≡ spec.meta_of (step.entered entered.now (events.effected effect.now (state_of content.now)))) }
+    ensures { IfOk result (λ m. m ≡ spec.meta_of (step.entered entered.now
+        (events.effected effect.now (state_of content.now)))) }
 {
     let counters = &content.counters;
     Ok(Meta {

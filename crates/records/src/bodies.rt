@@ -18,7 +18,8 @@ use std::alloc::Global;
 
 // Some members with the number of a person more.
 fn with_floor(alloc: Global, members: Members, floor: &Floor) -> Result<Members, OutOfMemory>
-    ensures { IfOk result (λ all. members_view all.entries ≡ spec.with_floors (members_view members.entries) (floor.now ∷ [])) }
+    ensures { IfOk result (λ all. members_view all.entries ≡ spec.with_floors (members_view members.entries)
+        (floor.now ∷ [])) }
 {
     let name = String::from_utf8_lossy(alloc, floor.actor.bytes())?;
     with_count(alloc, members, name.as_str(), floor.number)

@@ -29,7 +29,8 @@ fn is_past(before: Counts, held: &Record) -> bool
 
 fn with_one(before: Counts, held: &Record) -> Counts
     requires { spec.is_past before held.now ≡ false }
-    ensures { (earlier : List Held) → before ≡ spec.counts_of earlier → result ≡ spec.counts_of (earlier ++ held.now ∷ []) }
+    ensures { (earlier : List Held) → before ≡ spec.counts_of earlier
+        → result ≡ spec.counts_of (earlier ++ held.now ∷ []) }
 {
     let mut counts = before;
     match held {

@@ -90,7 +90,9 @@ pub(crate) fn place_at(firsts: &Firsts, mark: Mark) -> Option<usize>
 
 // A mark stands at that place, and maybe at one before it.
 fn note(firsts: &mut Firsts, mark: Mark, place: usize) -> Result<(), OutOfMemory>
-    ensures { OnOk result ((q : ℕ × ℕ) → spec.place_at firsts.new.entries q ≡ (if is_at (spec.mark_cmp mark) q then Some (unwrap_or (spec.place_at firsts.old.entries q) place) else spec.place_at firsts.old.entries q)) }
+    ensures { OnOk result ((q : ℕ × ℕ) → spec.place_at firsts.new.entries q
+        ≡ (if is_at (spec.mark_cmp mark) q then Some (unwrap_or (spec.place_at firsts.old.entries q) place) else
+        spec.place_at firsts.old.entries q)) }
 {
     if place_at(firsts, mark).is_none() {
         firsts.insert(mark, place)?;
@@ -99,7 +101,9 @@ fn note(firsts: &mut Firsts, mark: Mark, place: usize) -> Result<(), OutOfMemory
 }
 
 fn note_both(firsts: &mut Firsts, marks: Marks, place: usize) -> Result<(), OutOfMemory>
-    ensures { OnOk result ((q : ℕ × ℕ) → spec.place_at firsts.new.entries q ≡ (if spec.is_marked q marks then Some (unwrap_or (spec.place_at firsts.old.entries q) place) else spec.place_at firsts.old.entries q)) }
+    ensures { OnOk result ((q : ℕ × ℕ) → spec.place_at firsts.new.entries q
+        ≡ (if spec.is_marked q marks then Some (unwrap_or (spec.place_at firsts.old.entries q) place) else
+        spec.place_at firsts.old.entries q)) }
 {
     note(firsts, marks.own, place)?;
     note(firsts, marks.other, place)

@@ -1,7 +1,8 @@
 //! Plays cases through the program's call over objects in memory, and compares what comes with what the cases say must
 //! come. The words name files of cases. A line is printed for each difference, and a last one with the counts of cases;
-//! the status is 0 where nothing differs. A case or a step that compares nothing differs, and one of which a call that
-//! must fail isn't made; and so does a file that has no case to be played, or that no file is named.
+//! the status is 0 where nothing differs. A case or a step differs, too, where it compares
+//! nothing, or where a call that must fail isn't made; and so do a file of which no case can be played, and words that
+//! name no file.
 //!
 //! A file is one JSON object of `cases` and, where it has them, of `texts` by their names and of `common`: what a case
 //! lacks it takes from there. A case has

@@ -79,7 +79,8 @@ fn push_active_head(
 
 fn push_signed(alloc: Global, out: &mut Vec<u8>, revision: &Revision) -> Result<(), OutOfMemory>
     requires { RevisionInBounds revision.now }
-    ensures { OnOk result (out.new.items ≡ out.old.items ++ (spec.active_head revision.now ++ revision_text revision.now)) }
+    ensures { OnOk result (out.new.items ≡ out.old.items ++ (spec.active_head revision.now ++ revision_text
+        revision.now)) }
 {
     let written = written_text(alloc, revision)?;
     push_active_head(out, revision, &written.digest)?;
@@ -103,7 +104,8 @@ fn push_active(
 
 fn push_head(alloc: Global, out: &mut Vec<u8>, release: &Release) -> Result<(), OutOfMemory>
     requires { HasMoment release.now.phase }
-    ensures { OnOk result (out.new.items ≡ out.old.items ++ concat (codes "RELEASE " ∷ decimal release.now.id ∷ codes " " ∷ phase_text release.now.phase ∷ codes "\n" ∷ [])) }
+    ensures { OnOk result (out.new.items ≡ out.old.items ++ concat
+        (codes "RELEASE " ∷ decimal release.now.id ∷ codes " " ∷ phase_text release.now.phase ∷ codes "\n" ∷ [])) }
 {
     let id = release.id.to_string(alloc)?;
     let phase = phase_text(alloc, release.phase)?;
