@@ -147,39 +147,45 @@ fn play<L: Ledger>(
     made.and(shown)
 }
 
-// What is seen after two texts, one after the other, over the tables of a small airline.
-fn seen_after(alloc: Global, script: &[u8], more: &[u8]) -> Result<Seen, OutOfMemory> {
+// Two texts, one after the other.
+fn joined(alloc: Global, script: &[u8], more: &[u8]) -> Result<Vec<u8>, OutOfMemory> {
     let mut whole = Vec::new(alloc);
     push_all(&mut whole, &[script, more])?;
+    Ok(whole)
+}
+
+// What is seen after a script over these tables.
+fn seen_after(alloc: Global, tables: Tables, script: &[u8]) -> Result<Seen, OutOfMemory> {
     let mut seen = Seen {
         told: Vec::new(alloc),
         entries: Vec::new(alloc),
         is_alerted: false,
         is_alone: false,
     };
-    let tables = small_tables(alloc)?;
-    play::<Brand>(alloc, tables, &whole, Blank::new(1), &mut seen)?;
+    play::<Brand>(alloc, tables, script, Blank::new(1), &mut seen)?;
     Ok(seen)
 }
 
 // A tick for each moment and a call for each line, but none for the view: 7 ticks and 9 calls.
 #[test]
 fn the_history_has_ticks_and_calls(rt: HostRuntime) -> Result<(), Fail> {
-    let seen = seen_after(rt.alloc(), AFTERNOON, b"")?;
+    let alloc = rt.alloc();
+    let tables = small_tables(alloc)?;
+    let seen = seen_after(alloc, tables, AFTERNOON)?;
     assert!(rt; seen.entries.as_slice() == b"TCCCTCCTCTKTCTTC".as_slice());
     assert!(rt; seen.is_alerted && seen.is_alone);
     Ok(())
 }
 
-// Whether this is told of alerts at each line of two texts, and an alert is open after them.
+// Whether this is told of alerts at each line of a script, and an alert is open after it.
 fn is_told(
     alloc: Global,
+    tables: Tables,
     script: &[u8],
-    more: &[u8],
     wanted: &[u8],
     is_open: bool,
 ) -> Result<bool, OutOfMemory> {
-    let seen = seen_after(alloc, script, more)?;
+    let seen = seen_after(alloc, tables, script)?;
     Ok(seen.told.as_slice() == wanted && seen.is_alerted == is_open)
 }
 
@@ -194,7 +200,9 @@ fn notices_follow_the_alert(rt: HostRuntime) -> Result<(), Fail> {
         (WATCHED, b"", b"........OC....XO..CX", false),
         (STOPPED, b"", b"..........O", true),
     ] {
-        assert!(rt; is_told(alloc, script, more, wanted, is_open)?);
+        let whole = joined(alloc, script, more)?;
+        let tables = small_tables(alloc)?;
+        assert!(rt; is_told(alloc, tables, &whole, wanted, is_open)?);
     }
     Ok(())
 }
