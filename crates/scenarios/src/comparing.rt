@@ -44,11 +44,18 @@ fn count(counted: Counted, came: &[u8], text: &[u8]) -> usize {
 // How many bytes of what came are shown.
 const SHOWN: usize = 1_000;
 
+fn front(came: &[u8]) -> &[u8] {
+    if came.len() <= SHOWN {
+        came
+    } else {
+        &came[..SHOWN]
+    }
+}
+
 // What came, or its front.
-fn front(alloc: Global, came: &[u8]) -> Result<String, OutOfMemory> {
-    let whole = came.len() <= SHOWN;
-    let text = String::from_utf8_lossy(alloc, if whole { came } else { &came[..SHOWN] })?;
-    let end = if whole { "" } else { ".." };
+fn shown_front(alloc: Global, came: &[u8]) -> Result<String, OutOfMemory> {
+    let text = String::from_utf8_lossy(alloc, front(came))?;
+    let end = if came.len() <= SHOWN { "" } else { ".." };
     Ok(format!(in alloc; "{text:?}{end}")?)
 }
 
@@ -130,7 +137,7 @@ fn compare_count(
     let line = shown(play.alloc, Some(&line))?;
     let what = format!(in play.alloc; "{what}, count of {line}")?;
     let wanted = wanted.1.to_string(play.alloc)?;
-    let came = front(play.alloc, came)?;
+    let came = shown_front(play.alloc, came)?;
     let came = format!(in play.alloc; "{count} in {came}")?;
     report.differs(play, what.as_str(), wanted.as_str(), came.as_str())
 }
