@@ -44,17 +44,17 @@ fn count(counted: Counted, came: &[u8], text: &[u8]) -> usize {
 // How many bytes of what came are shown.
 const SHOWN: usize = 1_000;
 
-fn front(came: &[u8]) -> &[u8] {
-    if came.len() <= SHOWN {
+fn front(came: &[u8], most: usize) -> &[u8] {
+    if came.len() <= most {
         came
     } else {
-        &came[..SHOWN]
+        &came[..most]
     }
 }
 
 // What came, or its front.
 fn shown_front(alloc: Global, came: &[u8]) -> Result<String, OutOfMemory> {
-    let text = String::from_utf8_lossy(alloc, front(came))?;
+    let text = String::from_utf8_lossy(alloc, front(came, SHOWN))?;
     let end = if came.len() <= SHOWN { "" } else { ".." };
     Ok(format!(in alloc; "{text:?}{end}")?)
 }
