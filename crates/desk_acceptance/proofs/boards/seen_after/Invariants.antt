@@ -1,4 +1,4 @@
-use Rattle.desk_acceptance.proofs.boards.played.Given as goal
+use Rattle.desk_acceptance.proofs.boards.seen_after.Given as goal
 
 abbrev pub ghosts-play : goal.ghosts-play
 ghosts-play a = record { name = a.blank.name; parts = a.blank.parts }
