@@ -119,7 +119,8 @@ fn push_doubles(
     requires ceiling { addend.ceiling ≤ 20_000 }
     requires vis { addend.vis ≤ 16_093_440 }
     requires within { AreWithin 40_000 32_186_880 pairs.old.items }
-    ensures value { OnOk result (pairs.new.items ≡ pairs.old.items ++ spec.doubles_with addend first.now (map (λ a. a.now) later.now)) }
+    ensures value { OnOk result (pairs.new.items ≡ pairs.old.items ++ spec.doubles_with addend first.now
+        (map (λ a. a.now) later.now)) }
     ensures within { OnOk result (AreWithin 40_000 32_186_880 pairs.new.items) }
 {
     for second in later {
@@ -140,7 +141,8 @@ fn push_all_doubles(
     requires ceiling { addend.ceiling ≤ 20_000 }
     requires vis { addend.vis ≤ 16_093_440 }
     requires within { AreWithin 40_000 32_186_880 pairs.old.items }
-    ensures value { OnOk result (pairs.new.items ≡ pairs.old.items ++ spec.doubles addend (map (λ a. a.now) usable.now)) }
+    ensures value { OnOk result (pairs.new.items ≡ pairs.old.items ++ spec.doubles addend
+        (map (λ a. a.now) usable.now)) }
     ensures within { OnOk result (AreWithin 40_000 32_186_880 pairs.new.items) }
 {
     for (i, first) in usable.iter().enumerate() {

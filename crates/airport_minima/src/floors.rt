@@ -93,7 +93,8 @@ fn floor_over(tables: &Tables, kind: &TypeRow, station: Station, lost: &Lost) ->
 /// lowest visibility, whichever is greater. It takes no memory.
 pub fn flag_floor(tables: &Tables, kind: &TypeRow, station: Station, lost: &Lost) -> Option<Pair>
     ensures value { result ≡ flag_floor tables.now kind.now station lost.now }
-    ensures lowest { MatchOption result (length (usable tables.now kind.now station lost.now) ≡ 0) (λ floor. IsFlagFloor tables.now kind.now station lost.now floor) }
+    ensures lowest { MatchOption result (length (usable tables.now kind.now station lost.now) ≡ 0)
+        (λ floor. IsFlagFloor tables.now kind.now station lost.now floor) }
 {
     floor_over(tables, kind, station, lost)
 }

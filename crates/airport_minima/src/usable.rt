@@ -47,7 +47,8 @@ pub(crate) fn usable<'a>(
     lost: &Lost,
 ) -> Result<Vec<&'a Approach>, OutOfMemory>
     requires { All FitsApproach approaches.now }
-    ensures value { IfOk result (λ v. map (λ a. a.now) v.items ≡ filter (λ a. spec.is_usable kind.now lost.now a) approaches.now) }
+    ensures value { IfOk result (λ v. map (λ a. a.now) v.items
+        ≡ filter (λ a. spec.is_usable kind.now lost.now a) approaches.now) }
     ensures within { IfOk result (λ v. All (λ a. FitsApproach a.now) v.items) }
 {
     let mut usable = Vec::new(alloc);

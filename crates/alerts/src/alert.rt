@@ -62,7 +62,8 @@ fn are_same(one: &[Finding], two: &[Finding]) -> bool
 
 // The place of a finding among findings in order, unless it is there.
 fn place_of(findings: &[Finding], finding: &Finding) -> Option<usize>
-    ensures place { MatchOption result (spec.with_finding finding.now findings.now ≡ findings.now) (λ i. spec.with_finding finding.now findings.now ≡ insert findings.now i finding.now) }
+    ensures place { MatchOption result (spec.with_finding finding.now findings.now ≡ findings.now)
+        (λ i. spec.with_finding finding.now findings.now ≡ insert findings.now i finding.now) }
     ensures bound { IfSome result (λ i. i ≤ length findings.now) }
 {
     for (i, other) in findings.iter().enumerate() {
@@ -129,7 +130,8 @@ fn changed_alert(alloc: Global, alert: &Alert, findings: &Findings) -> Result<Al
 
 fn alert_once_open(alloc: Global, alert: &Alert, findings: &Findings) -> Result<Alert, OutOfMemory>
     requires { alert.now.version < 1_000_000_000_000_000 }
-    ensures { IfOk result (λ a. a ≡ spec.alert_once_open (spec.are_same alert.now.failing findings.now) alert.now findings.now) }
+    ensures { IfOk result (λ a. a ≡ spec.alert_once_open (spec.are_same alert.now.failing findings.now) alert.now
+        findings.now) }
 {
     if are_same(alert.failing.as_slice(), findings.as_slice()) {
         alert.copy(alloc)
@@ -175,7 +177,8 @@ pub fn after(
     moment: Minute,
 ) -> Result<Option<Alert>, OutOfMemory>
     requires { IfSome (option_copied old) (λ a. a.version < 1_000_000_000_000_000) }
-    ensures value { IfOk result (λ a. a ≡ spec.alert_after (option_copied old.entry) release desk.now findings.now moment) }
+    ensures value { IfOk result (λ a. a ≡ spec.alert_after (option_copied old.entry) release desk.now findings.now
+        moment) }
     ensures follows { IfOk result (λ a. Follows (option_copied old.entry) release desk.now findings.now moment a) }
 {
     judged(alloc, old, release, desk, findings, moment)

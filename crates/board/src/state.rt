@@ -64,9 +64,11 @@ impl Model for Board {
 
     ghost Value = { Shown };
 
-    ghost view = { λ b. shown (state_of b.opening.value) (state_of b.content) (option_map (λ kept. kept.value) b.room) };
+    ghost view = { λ b. shown (state_of b.opening.value) (state_of b.content)
+        (option_map (λ kept. kept.value) b.room) };
 
-    ghost invariant = { λ b. IsBoard (state_of b.opening.value) (state_of b.content) × IfSome (option_map (λ kept. kept.value) b.room) (IsReady (state_of b.opening.value) b.content) };
+    ghost invariant = { λ b. IsBoard (state_of b.opening.value) (state_of b.content)
+        × IfSome (option_map (λ kept. kept.value) b.room) (IsReady (state_of b.opening.value) b.content) };
 }
 
 impl Board {

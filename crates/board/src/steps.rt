@@ -154,8 +154,7 @@ fn planned(
     ensures event { result.event ≡ Some (record {
       effect = effect;
       changes = judged.changes;
-      entered =
-          recorded.entered;
+      entered = recorded.entered;
       kept = recorded.kept;
     }) }
 {

@@ -56,7 +56,9 @@ fn with_item(
     found: Minute,
 ) -> Result<Members, OutOfMemory>
     requires { IsMoment found }
-    ensures { IfOk result (λ all. members_view all.entries ≡ put (codes "tail") (spec.text_data tail.now) (put (codes "item") (spec.text_data item.now) (put (codes "found") (spec.moment_data found) (members_view members.entries)))) }
+    ensures { IfOk result (λ all. members_view all.entries ≡ put (codes "tail") (spec.text_data tail.now)
+        (put (codes "item") (spec.text_data item.now) (put (codes "found") (spec.moment_data found)
+        (members_view members.entries)))) }
 {
     let members = with_moment(alloc, members, "found", found)?;
     let members = with_text(alloc, members, "item", item.bytes())?;
@@ -65,14 +67,16 @@ fn with_item(
 
 fn with_plan(alloc: Global, members: Members, plan: &Plan) -> Result<Members, OutOfMemory>
     requires { IsPlan plan.now }
-    ensures { IfOk result (λ all. members_view all.entries ≡ put (codes "plan") (spec.plan_data plan.now) (members_view members.entries)) }
+    ensures { IfOk result (λ all. members_view all.entries ≡ put (codes "plan") (spec.plan_data plan.now)
+        (members_view members.entries)) }
 {
     let value = plan_value(alloc, plan)?;
     with_value(alloc, members, "plan", value)
 }
 
 fn with_release(alloc: Global, members: Members, release: u64) -> Result<Members, OutOfMemory>
-    ensures { IfOk result (λ all. members_view all.entries ≡ put (codes "release") (spec.count release) (members_view members.entries)) }
+    ensures { IfOk result (λ all. members_view all.entries ≡ put (codes "release") (spec.count release)
+        (members_view members.entries)) }
 {
     with_count(alloc, members, "release", release)
 }
@@ -85,7 +89,8 @@ fn with_numbered(
     key: &str,
     number: u64,
 ) -> Result<Members, OutOfMemory>
-    ensures { IfOk result (λ all. members_view all.entries ≡ put key.now (spec.count number) (put (codes "release") (spec.count release) (members_view members.entries))) }
+    ensures { IfOk result (λ all. members_view all.entries ≡ put key.now (spec.count number)
+        (put (codes "release") (spec.count release) (members_view members.entries))) }
 {
     let members = with_release(alloc, members, release)?;
     with_count(alloc, members, key, number)
@@ -99,7 +104,9 @@ fn with_signed(
     revision: u64,
     digest: &[u8; 32],
 ) -> Result<Members, OutOfMemory>
-    ensures { IfOk result (λ all. members_view all.entries ≡ put (codes "digest") (digest_data digest.now) (put (codes "revision") (spec.count revision) (put (codes "release") (spec.count release) (members_view members.entries)))) }
+    ensures { IfOk result (λ all. members_view all.entries ≡ put (codes "digest") (digest_data digest.now)
+        (put (codes "revision") (spec.count revision) (put (codes "release") (spec.count release)
+        (members_view members.entries)))) }
 {
     let members = with_numbered(alloc, members, release, "revision", revision)?;
     with_digest(alloc, members, digest)
@@ -113,7 +120,8 @@ fn with_amended(
     plan: &Plan,
 ) -> Result<Members, OutOfMemory>
     requires { IsPlan plan.now }
-    ensures { IfOk result (λ all. members_view all.entries ≡ put (codes "plan") (spec.plan_data plan.now) (put (codes "release") (spec.count release) (members_view members.entries))) }
+    ensures { IfOk result (λ all. members_view all.entries ≡ put (codes "plan") (spec.plan_data plan.now)
+        (put (codes "release") (spec.count release) (members_view members.entries))) }
 {
     let members = with_release(alloc, members, release)?;
     with_plan(alloc, members, plan)

@@ -73,7 +73,8 @@ pub fn with_digest(
     members: Members,
     digest: &[u8; 32],
 ) -> Result<Members, OutOfMemory>
-    ensures { IfOk result (λ all. members_view all.entries ≡ put (codes "digest") (spec.digest_data digest.now) (members_view members.entries)) }
+    ensures { IfOk result (λ all. members_view all.entries ≡ put (codes "digest") (spec.digest_data digest.now)
+        (members_view members.entries)) }
 {
     let value = digest_value(alloc, digest)?;
     with_value(alloc, members, "digest", value)

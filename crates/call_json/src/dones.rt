@@ -21,7 +21,8 @@ fn with_revision(
     release: u64,
     revision: u64,
 ) -> Result<Members, OutOfMemory>
-    ensures { IfOk result (λ all. members_view all.entries ≡ put (codes "revision") (spec.count revision) (put (codes "release") (spec.count release) (members_view members.entries))) }
+    ensures { IfOk result (λ all. members_view all.entries ≡ put (codes "revision") (spec.count revision)
+        (put (codes "release") (spec.count release) (members_view members.entries))) }
 {
     let members = with_count(alloc, members, "release", release)?;
     with_count(alloc, members, "revision", revision)

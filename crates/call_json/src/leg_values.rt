@@ -55,7 +55,8 @@ fn takeoff_or_null(alloc: Global, takeoff: &Option<TakeoffAlternate>) -> Result<
 
 // The airports of a leg.
 fn with_airports(alloc: Global, members: Members, leg: &Leg) -> Result<Members, OutOfMemory>
-    ensures { IfOk result (λ all. members_view all.entries ≡ put (codes "to") (spec.text_data leg.now.to) (put (codes "from") (spec.text_data leg.now.from) (members_view members.entries))) }
+    ensures { IfOk result (λ all. members_view all.entries ≡ put (codes "to") (spec.text_data leg.now.to)
+        (put (codes "from") (spec.text_data leg.now.from) (members_view members.entries))) }
 {
     let members = with_text(alloc, members, "from", &leg.from.bytes())?;
     with_text(alloc, members, "to", &leg.to.bytes())
@@ -64,7 +65,9 @@ fn with_airports(alloc: Global, members: Members, leg: &Leg) -> Result<Members, 
 // The times of a leg.
 fn with_times(alloc: Global, members: Members, leg: &Leg) -> Result<Members, OutOfMemory>
     requires { HasMoments leg.now }
-    ensures { IfOk result (λ all. members_view all.entries ≡ put (codes "minutes") (spec.count leg.now.minutes) (put (codes "etd") (spec.moment_data leg.now.etd) (put (codes "eta") (spec.moment_data leg.now.eta) (members_view members.entries)))) }
+    ensures { IfOk result (λ all. members_view all.entries ≡ put (codes "minutes") (spec.count leg.now.minutes)
+        (put (codes "etd") (spec.moment_data leg.now.etd) (put (codes "eta") (spec.moment_data leg.now.eta)
+        (members_view members.entries)))) }
 {
     let members = with_moment(alloc, members, "eta", leg.eta)?;
     let members = with_moment(alloc, members, "etd", leg.etd)?;
@@ -73,7 +76,9 @@ fn with_times(alloc: Global, members: Members, leg: &Leg) -> Result<Members, Out
 
 // The fuel of a leg.
 fn with_fuel(alloc: Global, members: Members, leg: &Leg) -> Result<Members, OutOfMemory>
-    ensures { IfOk result (λ all. members_view all.entries ≡ put (codes "onboard") (spec.count leg.now.onboard) (put (codes "minimum") (spec.count leg.now.minimum) (put (codes "extra") (spec.count leg.now.extra) (put (codes "burn") (spec.count leg.now.burn) (members_view members.entries))))) }
+    ensures { IfOk result (λ all. members_view all.entries ≡ put (codes "onboard") (spec.count leg.now.onboard)
+        (put (codes "minimum") (spec.count leg.now.minimum) (put (codes "extra") (spec.count leg.now.extra)
+        (put (codes "burn") (spec.count leg.now.burn) (members_view members.entries))))) }
 {
     let members = with_count(alloc, members, "burn", leg.burn as u64)?;
     let members = with_count(alloc, members, "extra", leg.extra as u64)?;
@@ -83,7 +88,10 @@ fn with_fuel(alloc: Global, members: Members, leg: &Leg) -> Result<Members, OutO
 
 // The alternates of a leg.
 fn with_alternates(alloc: Global, members: Members, leg: &Leg) -> Result<Members, OutOfMemory>
-    ensures { IfOk result (λ all. members_view all.entries ≡ put (codes "takeoff_alternate") (spec.option_data spec.takeoff_data leg.now.takeoff_alternate) (put (codes "alternates") (spec.list_data spec.alternate_data leg.now.alternates) (members_view members.entries))) }
+    ensures { IfOk result (λ all. members_view all.entries ≡ put (codes "takeoff_alternate")
+        (spec.option_data spec.takeoff_data leg.now.takeoff_alternate)
+        (put (codes "alternates") (spec.list_data spec.alternate_data leg.now.alternates)
+        (members_view members.entries))) }
 {
     let alternates = alternates_value(alloc, leg.alternates.as_slice())?;
     let members = with_value(alloc, members, "alternates", alternates)?;

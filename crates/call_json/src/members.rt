@@ -33,7 +33,8 @@ pub fn with_count(
     key: &str,
     count: u64,
 ) -> Result<Members, OutOfMemory>
-    ensures { IfOk result (λ all. members_view all.entries ≡ put key.now (spec.count count) (members_view members.entries)) }
+    ensures { IfOk result (λ all. members_view all.entries ≡ put key.now (spec.count count)
+        (members_view members.entries)) }
 {
     with_value(alloc, members, key, count_value(count))
 }
@@ -45,7 +46,8 @@ pub fn with_name(
     key: &str,
     name: &str,
 ) -> Result<Members, OutOfMemory>
-    ensures { IfOk result (λ all. members_view all.entries ≡ put key.now (string name.now) (members_view members.entries)) }
+    ensures { IfOk result (λ all. members_view all.entries ≡ put key.now (string name.now)
+        (members_view members.entries)) }
 {
     let value = name_value(alloc, name)?;
     with_value(alloc, members, key, value)
@@ -58,7 +60,8 @@ pub fn with_text(
     key: &str,
     text: &[u8],
 ) -> Result<Members, OutOfMemory>
-    ensures { IfOk result (λ all. members_view all.entries ≡ put key.now (spec.text_data text.now) (members_view members.entries)) }
+    ensures { IfOk result (λ all. members_view all.entries ≡ put key.now (spec.text_data text.now)
+        (members_view members.entries)) }
 {
     let value = text_value(alloc, text)?;
     with_value(alloc, members, key, value)
@@ -73,7 +76,8 @@ pub fn with_moment(
 ) -> Result<Members, OutOfMemory>
     requires low { FIRST ≤ at }
     requires high { at ≤ SHOWN_LAST }
-    ensures { IfOk result (λ all. members_view all.entries ≡ put key.now (spec.moment_data at) (members_view members.entries)) }
+    ensures { IfOk result (λ all. members_view all.entries ≡ put key.now (spec.moment_data at)
+        (members_view members.entries)) }
 {
     let value = moment_value(alloc, at)?;
     with_value(alloc, members, key, value)

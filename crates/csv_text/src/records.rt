@@ -44,7 +44,8 @@ impl<'a> Records<'a> {
 
     /// The next record, none after the last one. Where memory runs out the reader stays as it was.
     pub fn next(&mut self, alloc: Global) -> Result<Option<Listed<Text>>, OutOfMemory>
-        ensures given { IfOk result (λ fields. (text : List ℕ) → (earlier : List (List (List ℕ))) → HasGiven text earlier self.old → GivesNext text earlier fields self.new) }
+        ensures given { IfOk result (λ fields. (text : List ℕ) → (earlier : List (List (List ℕ)))
+            → HasGiven text earlier self.old → GivesNext text earlier fields self.new) }
         ensures kept { OnErr result (self.new ≡ self.old) }
     {
         match read_record(alloc, self.place, self.rest) {

@@ -130,7 +130,8 @@ pub(crate) fn read_record(
     start: Place,
     text: &[u8],
 ) -> Result<Option<Taken>, OutOfMemory>
-    ensures value { IfOk result (λ taken. option_map (taken_from text.now) taken ≡ next_record default_config (state_of start) [] [] text.now) }
+    ensures value { IfOk result (λ taken. option_map (taken_from text.now) taken
+        ≡ next_record default_config (state_of start) [] [] text.now) }
     ensures within { IfOk result (λ taken. IfSome taken (λ t. t.length ≤ length text.now)) }
 {
     let mut fields = Vec::new(alloc);

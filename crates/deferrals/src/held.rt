@@ -26,7 +26,8 @@ impl Model for Deferrals {
 
     ghost view = { λ d. record { list = d.held.items; room = d.room } };
 
-    ghost invariant = { λ d. (vec_len d.held ≤ 50_000) × AreRising d.held.items × (d.room ≡ true → vec_len d.held < vec_capacity d.held) };
+    ghost invariant = { λ d. (vec_len d.held ≤ 50_000) × AreRising d.held.items
+        × (d.room ≡ true → vec_len d.held < vec_capacity d.held) };
 }
 
 fn position_of(held: &[Deferral], id: u64) -> Option<usize>

@@ -49,7 +49,8 @@ fn rows_of<'a>(
     kind: &[u8],
     deferred: &[&Deferral],
 ) -> Result<Vec<&'a MelRow>, OutOfMemory>
-    ensures value { IfOk result (λ v. map (λ row. row.now) v.items ≡ spec.rows_of tables.now kind.now (map (λ d. d.now) deferred.now)) }
+    ensures value { IfOk result (λ v. map (λ row. row.now) v.items
+        ≡ spec.rows_of tables.now kind.now (map (λ d. d.now) deferred.now)) }
     ensures count { IfOk result (λ v. length v.items ≤ length deferred.now) }
     ensures within { IfOk result (λ v. All (λ row. FitsItem row.now) v.items) }
 {
@@ -107,7 +108,8 @@ pub fn limits_on(
     tables: &Tables,
 ) -> Result<Limits, OutOfMemory>
     requires { length deferred.now ≤ DEFERRAL_LIMIT }
-    ensures value { IfOk result (λ limits. limits ≡ spec.limits_by (spec.rows_of tables.now kind.now (map (λ d. d.now) deferred.now))) }
+    ensures value { IfOk result (λ limits. limits ≡ spec.limits_by
+        (spec.rows_of tables.now kind.now (map (λ d. d.now) deferred.now))) }
     ensures within { IfOk result (λ limits. limits.extra_fuel ≤ 5_000_000_000) }
 {
     let rows = rows_of(alloc, tables, kind, deferred)?;

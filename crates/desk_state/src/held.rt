@@ -22,7 +22,8 @@ pub fn find_alert(alerts: &[Alert], id: u64) -> Option<&Alert>
 
 /// The place of the first release of the id of another: where that one comes to stand.
 pub fn place_of(releases: &[Release], other: &Release) -> Option<usize>
-    ensures place { MatchOption result (put other.now releases.now ≡ releases.now) (λ i. put other.now releases.now ≡ take i releases.now ++ other.now ∷ drop (i + 1) releases.now) }
+    ensures place { MatchOption result (put other.now releases.now ≡ releases.now)
+        (λ i. put other.now releases.now ≡ take i releases.now ++ other.now ∷ drop (i + 1) releases.now) }
     ensures within { IfSome result (λ i. i < length releases.now) }
 {
     for (i, release) in releases.iter().enumerate() {
@@ -35,7 +36,8 @@ pub fn place_of(releases: &[Release], other: &Release) -> Option<usize>
 
 /// The place of the first release of an id, which may be taken out.
 pub fn place_of_id(releases: &[Release], id: u64) -> Option<usize>
-    ensures place { MatchOption result (without_release id releases.now ≡ releases.now) (λ i. without_release id releases.now ≡ take i releases.now ++ drop (i + 1) releases.now) }
+    ensures place { MatchOption result (without_release id releases.now ≡ releases.now)
+        (λ i. without_release id releases.now ≡ take i releases.now ++ drop (i + 1) releases.now) }
     ensures within { IfSome result (λ i. i < length releases.now) }
 {
     for (i, release) in releases.iter().enumerate() {

@@ -27,7 +27,8 @@ fn is_decimal(text: &[u8]) -> bool
 
 // The number of some digits, where it isn't above the limit.
 fn number_up_to(limit: u64, digits: &[u8]) -> Option<u64>
-    ensures { result ≡ if nat_le (spec.digits_after 0 digits.now) limit then Some (spec.digits_after 0 digits.now) else None }
+    ensures { result ≡ if nat_le (spec.digits_after 0 digits.now) limit then Some
+        (spec.digits_after 0 digits.now) else None }
 {
     let mut number: u64 = 0;
     for digit in digits {

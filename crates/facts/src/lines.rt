@@ -195,7 +195,8 @@ fn push_both(
 ) -> Result<(), OutOfMemory>
     requires observation { IfSome (option_copied observation) HasMoments }
     requires forecast { IfSome (option_copied forecast) HasMoments }
-    ensures ok { OnOk result (out.new.items ≡ out.old.items ++ (spec.line_of_latest (option_copied observation.entry) ++ spec.line_of_latest (option_copied forecast.entry))) }
+    ensures ok { OnOk result (out.new.items ≡ out.old.items ++
+        (spec.line_of_latest (option_copied observation.entry) ++ spec.line_of_latest (option_copied forecast.entry))) }
     ensures err { OnErr result (BeginsWith out.new.items out.old.items) }
 {
     push_latest(out, observation)?;
@@ -230,7 +231,8 @@ fn push_lines(
     stations: &[([u8; 4], Places)],
     reports: &Reports,
 ) -> Result<(), OutOfMemory>
-    ensures ok { OnOk result (out.new.items ≡ out.old.items ++ spec.lines_for (keys_of stations.now) reports.now.reports) }
+    ensures ok { OnOk result (out.new.items ≡ out.old.items ++ spec.lines_for
+        (keys_of stations.now) reports.now.reports) }
     ensures err { OnErr result (BeginsWith out.new.items out.old.items) }
 {
     for (station, _) in stations {

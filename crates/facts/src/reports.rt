@@ -57,7 +57,9 @@ impl Model for Reports {
 
     ghost view = { λ r. record { reports = r.held.items; room = option_map (λ kept. room_for kept.value) r.room } };
 
-    ghost invariant = { λ r. (IsSome r.room → (vec_len r.held < vec_capacity r.held) × (1 ≤ r.stations.room) × (1 ≤ r.firsts.room)) × AreHeld r.held.items × IsLatestIndex r.stations.entries r.held.items × IsFirstIndex r.firsts.entries r.held.items };
+    ghost invariant = { λ r. (IsSome r.room → (vec_len r.held < vec_capacity r.held) × (1 ≤ r.stations.room)
+        × (1 ≤ r.firsts.room)) × AreHeld r.held.items × IsLatestIndex r.stations.entries r.held.items
+        × IsFirstIndex r.firsts.entries r.held.items };
 }
 
 fn is_same(report: &Report, text: &[u8], minute: Minute) -> bool
@@ -207,7 +209,8 @@ impl Reports {
     pub fn sweep(&mut self, before: Minute, keep: &[u64]) -> u64
         ensures reports { self.new ≡ with_swept before keep.now self.old }
         ensures count { result + length self.new.reports ≡ length self.old.reports }
-        ensures latest { (kind : Kind) (station : List ℕ) → latest kind station self.new.reports ≡ latest kind station self.old.reports }
+        ensures latest { (kind : Kind) (station : List ℕ) → latest kind station self.new.reports
+            ≡ latest kind station self.old.reports }
     {
         let count = self.len();
         sweep_held(&mut self.held, &self.stations, before, keep);

@@ -72,7 +72,8 @@ impl<K: Ord + Drop, V: Drop> Sorted<K, V> {
     pub fn put_reserved(&mut self, key: K, value: V)
         requires room { 1 ≤ self.old.room }
         ensures entries { self.new.entries ≡ insert_entry K.cmp self.old.entries key value }
-        ensures each { (q : K) → lookup (is_at (K.cmp q)) self.new.entries ≡ (if is_at (K.cmp q) key then Some value else lookup (is_at (K.cmp q)) self.old.entries) }
+        ensures each { (q : K) → lookup (is_at (K.cmp q)) self.new.entries
+            ≡ (if is_at (K.cmp q) key then Some value else lookup (is_at (K.cmp q)) self.old.entries) }
     {
         match self.place(&key) {
             Ok(i) => self.held[i].1 = value,
@@ -98,7 +99,9 @@ impl<K: Ord + Drop, V: Drop> Sorted<K, V> {
     /// Puts the value in place of the one at that key, where the key is there. It takes no memory.
     pub(crate) fn replace(&mut self, key: &K, value: V)
         ensures keys { keys_of self.new.entries ≡ keys_of self.old.entries }
-        ensures each { (q : K) → lookup (is_at (K.cmp q)) self.new.entries ≡ (if is_at (K.cmp q) key.now then option_map (λ _. value) (lookup (is_at (K.cmp q)) self.old.entries) else lookup (is_at (K.cmp q)) self.old.entries) }
+        ensures each { (q : K) → lookup (is_at (K.cmp q)) self.new.entries
+            ≡ (if is_at (K.cmp q) key.now then option_map (λ _. value)
+            (lookup (is_at (K.cmp q)) self.old.entries) else lookup (is_at (K.cmp q)) self.old.entries) }
     {
         if let Ok(i) = self.place(key) {
             self.held[i].1 = value;
@@ -110,7 +113,8 @@ impl<K: Ord + Drop, V: Drop> Sorted<K, V> {
     where
         V: Copy,
         ensures keys { keys_of self.new.entries ≡ keys_of self.old.entries }
-        ensures each { (q : K) → lookup (is_at (K.cmp q)) self.new.entries ≡ option_map (λ _. value) (lookup (is_at (K.cmp q)) self.old.entries) }
+        ensures each { (q : K) → lookup (is_at (K.cmp q)) self.new.entries
+            ≡ option_map (λ _. value) (lookup (is_at (K.cmp q)) self.old.entries) }
     {
         for place in 0..self.held.len() {
             self.held[place].1 = value;
@@ -133,7 +137,8 @@ impl<K: Ord + Drop, V: Drop> Sorted<K, V> {
 impl<K: Ord + Drop> Sorted<K, usize> {
     /// Takes away each entry whose value isn't below the limit. It takes no memory.
     pub(crate) fn keep_below(&mut self, limit: usize)
-        ensures { (q : K) → lookup (is_at (K.cmp q)) self.new.entries ≡ if_below limit (lookup (is_at (K.cmp q)) self.old.entries) }
+        ensures { (q : K) → lookup (is_at (K.cmp q)) self.new.entries
+            ≡ if_below limit (lookup (is_at (K.cmp q)) self.old.entries) }
     {
         let mut to = 0;
         for from in 0..self.held.len() {

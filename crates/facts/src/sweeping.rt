@@ -155,7 +155,9 @@ pub(crate) fn index_latest(stations: &mut Sorted<[u8; 4], Places>, held: &[Repor
 }
 
 fn place_firsts(firsts: &mut Sorted<(Minute, u64), usize>, held: &[Report])
-    ensures { (key : ℕ × ℕ) → lookup (is_at (key_cmp key)) firsts.new.entries ≡ option_map (λ _. unwrap_or (first_from key 0 held.now) (length held.now)) (lookup (is_at (key_cmp key)) firsts.old.entries) }
+    ensures { (key : ℕ × ℕ) → lookup (is_at (key_cmp key)) firsts.new.entries
+        ≡ option_map (λ _. unwrap_or (first_from key 0 held.now) (length held.now))
+        (lookup (is_at (key_cmp key)) firsts.old.entries) }
 {
     firsts.set_all(held.len());
     for place in (0..held.len()).rev() {
@@ -166,7 +168,8 @@ fn place_firsts(firsts: &mut Sorted<(Minute, u64), usize>, held: &[Report])
 /// Makes the place of each key that is there its first among these reports, and takes away the keys that
 /// none has. It takes no memory.
 pub(crate) fn index_firsts(firsts: &mut Sorted<(Minute, u64), usize>, held: &[Report])
-    ensures { (key : ℕ × ℕ) → lookup (is_at (key_cmp key)) firsts.new.entries ≡ option_and_then (λ _. first_from key 0 held.now) (lookup (is_at (key_cmp key)) firsts.old.entries) }
+    ensures { (key : ℕ × ℕ) → lookup (is_at (key_cmp key)) firsts.new.entries
+        ≡ option_and_then (λ _. first_from key 0 held.now) (lookup (is_at (key_cmp key)) firsts.old.entries) }
 {
     place_firsts(firsts, held);
     firsts.keep_below(held.len());

@@ -57,7 +57,8 @@ fn with_attached(
     members: Members,
     attached: &[Attached],
 ) -> Result<Members, OutOfMemory>
-    ensures { IfOk result (λ all. members_view all.entries ≡ put (codes "attached") (list_data spec.attached_data attached.now) (members_view members.entries)) }
+    ensures { IfOk result (λ all. members_view all.entries ≡ put (codes "attached")
+        (list_data spec.attached_data attached.now) (members_view members.entries)) }
 {
     let values = attached_values(alloc, attached)?;
     with_value(alloc, members, "attached", Value::Array(values))
@@ -71,7 +72,8 @@ fn with_signature(
     signature: &Option<Signature>,
 ) -> Result<Members, OutOfMemory>
     requires { spec.SignedAtMoment signature.now }
-    ensures { IfOk result (λ all. members_view all.entries ≡ put key.now (spec.signature_data signature.now) (members_view members.entries)) }
+    ensures { IfOk result (λ all. members_view all.entries ≡ put key.now (spec.signature_data signature.now)
+        (members_view members.entries)) }
 {
     let value = signature_value(alloc, signature)?;
     with_value(alloc, members, key, value)
@@ -110,7 +112,8 @@ fn with_revision(
     revision: &Option<Revision>,
 ) -> Result<Members, OutOfMemory>
     requires { IfSome revision.now spec.RevisionHasMoments }
-    ensures { IfOk result (λ all. members_view all.entries ≡ put key.now (spec.revision_data revision.now) (members_view members.entries)) }
+    ensures { IfOk result (λ all. members_view all.entries ≡ put key.now (spec.revision_data revision.now)
+        (members_view members.entries)) }
 {
     let value = revision_value(alloc, revision)?;
     with_value(alloc, members, key, value)
@@ -119,7 +122,8 @@ fn with_revision(
 // Some members with a phase more.
 fn with_phase(alloc: Global, members: Members, phase: Phase) -> Result<Members, OutOfMemory>
     requires { HasMoment phase }
-    ensures { IfOk result (λ all. members_view all.entries ≡ put (codes "phase") (text_data (phase_text phase)) (members_view members.entries)) }
+    ensures { IfOk result (λ all. members_view all.entries ≡ put (codes "phase") (text_data (phase_text phase))
+        (members_view members.entries)) }
 {
     let text = phase_text(alloc, phase)?;
     with_text(alloc, members, "phase", text.bytes())

@@ -262,7 +262,8 @@ pub fn read_metar(alloc: Global, text: &[u8], receipt: Minute) -> Result<Metar, 
     ensures value { Answers result (metar_of text.now receipt) }
     ensures range { IfOk result (λ m. (FIRST ≤ m.observed) × (m.observed ≤ LAST)) }
     ensures report { IfOk result (λ m. ReadsMetar (groups_of text.now) receipt m) }
-    ensures read { length text.now ≤ 2_048 → (m : Metar) → ReadsMetar (groups_of text.now) receipt m → Answers result (Ok m) }
+    ensures read { length text.now ≤ 2_048 → (m : Metar) → ReadsMetar (groups_of text.now) receipt m
+        → Answers result (Ok m) }
 {
     if text.len() > REPORT_LIMIT {
         return Err(ReportFault::Bad(TOO_LONG));

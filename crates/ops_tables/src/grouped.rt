@@ -84,7 +84,8 @@ impl<R: Row<N>, const N: usize> Model for Grouped<R, N> {
 
     ghost view = { λ g. map (λ row. row.value) g.rows.items };
 
-    ghost invariant = { λ g. AreGrouped N R.name R.is_same_key R.Fits R.limit g.groups (map (λ row. row.value) g.rows.items) };
+    ghost invariant = { λ g. AreGrouped N R.name R.is_same_key R.Fits R.limit g.groups
+        (map (λ row. row.value) g.rows.items) };
 }
 
 // Adds a row at the end of the group of that name.
@@ -94,7 +95,8 @@ fn add<R: Drop, const N: usize>(
     name: [u8; N],
     row: R,
 ) -> Result<(), OutOfMemory>
-    ensures { OnOk result ((s : List ℕ) → group_at groups.new s ≡ group_at groups.old s ++ cond (bytes_eq name.entry s) (row ∷ []) []) }
+    ensures { OnOk result ((s : List ℕ) → group_at groups.new s
+        ≡ group_at groups.old s ++ cond (bytes_eq name.entry s) (row ∷ []) []) }
 {
     let mut group = groups.remove(&name).unwrap_or(Vec::new(alloc));
     group.push(row)?;

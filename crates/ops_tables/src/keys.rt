@@ -68,7 +68,8 @@ impl Row<4> for AlternateRow {
 
     ghost limit = { 20_000 };
 
-    ghost same_group = { λ a b h. first_of_three (bytes_eq b.station a.station) (b.ceiling == a.ceiling) (b.vis16 == a.vis16) h };
+    ghost same_group = { λ a b h. first_of_three (bytes_eq b.station a.station) (b.ceiling == a.ceiling)
+        (b.vis16 == a.vis16) h };
 
     fn group_name(&self) -> [u8; 4] {
         self.station.bytes()

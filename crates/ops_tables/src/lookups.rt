@@ -45,7 +45,8 @@ pub(crate) fn is_used_in(rows: &Grouped<Use, 48>, kind: &[u8], s: Station) -> bo
 
 /// The miles from one airport to another.
 pub(crate) fn miles_in(rows: &Grouped<Distance, 48>, from: Station, to: Station) -> Option<u32>
-    ensures value { result ≡ option_map (λ d. d.miles) (find (λ d. is_station d.from from && is_station d.to to) rows.now) }
+    ensures value { result ≡ option_map (λ d. d.miles) (find (λ d. is_station d.from from && is_station d.to to)
+        rows.now) }
     ensures within { IfSome result (λ miles. miles ≤ 20_000) }
 {
     miles_among(

@@ -47,7 +47,8 @@ fn distance_among(rows: &[Distance], from: Station, to: Station) -> Option<&Dist
 
 /// The miles of the first distance between two airports.
 pub(crate) fn miles_among(rows: &[Distance], from: Station, to: Station) -> Option<u32>
-    ensures value { result ≡ option_map (λ d. d.miles) (find (λ d. is_station d.from from && is_station d.to to) rows.now) }
+    ensures value { result ≡ option_map (λ d. d.miles) (find (λ d. is_station d.from from && is_station d.to to)
+        rows.now) }
     ensures within { All FitsDistance rows.now → IfSome result (λ miles. miles ≤ 20_000) }
 {
     let row = distance_among(rows, from, to)?;

@@ -212,7 +212,8 @@ fn fault_of(plan: &Plan, old: &Plan, phase: Phase) -> Option<BadPlan>
 pub fn check_change(plan: &Plan, old: &Plan, phase: Phase) -> Result<(), BadPlan>
     requires few { IsPlan old.now }
     requires fits { PhaseFits phase old.now.legs }
-    ensures fault { MatchResult result (λ _. change_fault plan.now old.now phase ≡ None) (λ bad. change_fault plan.now old.now phase ≡ Some bad) }
+    ensures fault { MatchResult result (λ _. change_fault plan.now old.now phase ≡ None)
+        (λ bad. change_fault plan.now old.now phase ≡ Some bad) }
     ensures may { OnOk result (MayFollow plan.now old.now phase) }
 {
     match fault_of(plan, old, phase) {

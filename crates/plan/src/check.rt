@@ -303,7 +303,8 @@ fn fault_of(plan: &Plan, tables: &Tables) -> Option<BadPlan>
 /// order and in bounds, and that its amounts of fuel are. The first that fails is the error. It takes no memory.
 pub fn check_plan(plan: &Plan, tables: &Tables) -> Result<(), BadPlan>
     requires { IsPlan plan.now }
-    ensures { MatchResult result (λ _. plan_fault tables.now plan.now ≡ None) (λ bad. plan_fault tables.now plan.now ≡ Some bad) }
+    ensures { MatchResult result (λ _. plan_fault tables.now plan.now ≡ None)
+        (λ bad. plan_fault tables.now plan.now ≡ Some bad) }
 {
     match fault_of(plan, tables) {
         None => Ok(()),

@@ -43,7 +43,8 @@ fn stopped_text(
     again: bool,
 ) -> Result<Vec<u8>, OutOfMemory>
     requires { spec.IsMoment since }
-    ensures { IfOk result (λ v. v.items ≡ concat (codes "STOPPED " ∷ decimal next ∷ codes " " ∷ shown since ∷ spec.again_text again ∷ [])) }
+    ensures { IfOk result (λ v. v.items ≡ concat (codes "STOPPED " ∷ decimal next ∷ codes " " ∷ shown since ∷
+        spec.again_text again ∷ [])) }
 {
     let next = next.to_string(alloc)?;
     let mut out = Vec::new(alloc);

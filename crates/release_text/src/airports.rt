@@ -46,7 +46,8 @@ fn add_departure(found: &mut Vec<Station>, leg: &Leg) -> Result<(), OutOfMemory>
 }
 
 fn add_alternates(found: &mut Vec<Station>, alternates: &[Alternate]) -> Result<(), OutOfMemory>
-    ensures { OnOk result (found.new.items ≡ spec.with_stations found.old.items (spec.alternate_stations alternates.now)) }
+    ensures { OnOk result (found.new.items ≡ spec.with_stations found.old.items
+        (spec.alternate_stations alternates.now)) }
 {
     for alternate in alternates {
         add(found, alternate.station)?;

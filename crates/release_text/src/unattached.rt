@@ -98,7 +98,8 @@ fn newer_at_arrival(reports: &Reports, attached: &[Attached], leg: &Leg) -> Opti
 
 #[tactic(auto, using(crate::proofs::NewerLaws::newer_of_leg))]
 fn newer_at_both(reports: &Reports, attached: &[Attached], leg: &Leg) -> Option<u64>
-    ensures { result ≡ spec.newer_of reports.now.reports attached.now (departure_stations leg.now ++ arrival_stations leg.now) }
+    ensures { result ≡ spec.newer_of reports.now.reports attached.now
+        (departure_stations leg.now ++ arrival_stations leg.now) }
 {
     least_of(
         newer_at_departure(reports, attached, leg),

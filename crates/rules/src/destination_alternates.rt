@@ -183,7 +183,8 @@ impl<'a> Circumstances<'a> {
     #[tactic(auto, using(crate::proofs::Needs::marginal_at_one))]
     fn are_marginal(&self, leg: &Leg, at_destination: bool, at_alternates: bool) -> bool
         requires destination { at_destination ≡ spec.is_marginal_landing (case_by self.now) leg.now }
-        requires alternates { at_alternates ≡ list_all (spec.is_marginal_at (case_by self.now) leg.now) leg.now.alternates }
+        requires alternates { at_alternates ≡ list_all (spec.is_marginal_at (case_by self.now) leg.now)
+            leg.now.alternates }
         ensures { result ≡ spec.are_marginal (case_by self.now) leg.now leg.now.alternates }
     {
         lists_one(leg.alternates.as_slice()) && at_destination && at_alternates

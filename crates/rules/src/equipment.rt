@@ -155,7 +155,8 @@ impl<'a> Circumstances<'a> {
         places: &mut Listed<u64>,
         alternates: &[Alternate],
     ) -> Result<(), OutOfMemory>
-        ensures { OnOk result (places.new ≡ places.old ++ places_from (λ it. spec.is_barred (case_by self.now) it.station) 1 alternates.now) }
+        ensures { OnOk result (places.new ≡ places.old ++ places_from
+            (λ it. spec.is_barred (case_by self.now) it.station) 1 alternates.now) }
     {
         for (i, it) in alternates.iter().enumerate() {
             if self.is_barred(it.station) {

@@ -112,7 +112,8 @@ fn latest_metar<'a>(
     fresh: Option<&'a Report>,
     station: Station,
 ) -> Option<&'a Report>
-    ensures { option_copied result ≡ latest.latest_metar (held.now.reports ++ option_to_list (option_copied fresh.entry)) station }
+    ensures { option_copied result ≡ latest.latest_metar (held.now.reports ++ option_to_list
+        (option_copied fresh.entry)) station }
 {
     with_metar(held.latest_metar(station), station, fresh)
 }
@@ -124,7 +125,8 @@ fn latest_taf<'a>(
     fresh: Option<&'a Report>,
     station: Station,
 ) -> Option<&'a Report>
-    ensures { option_copied result ≡ latest.latest_taf (held.now.reports ++ option_to_list (option_copied fresh.entry)) station }
+    ensures { option_copied result ≡ latest.latest_taf (held.now.reports ++ option_to_list
+        (option_copied fresh.entry)) station }
 {
     with_taf(held.latest_taf(station), station, fresh)
 }
@@ -174,7 +176,8 @@ fn push_deferred<'a>(
     deferred: Option<&'a Deferral>,
     tail: &[u8],
 ) -> Result<(), OutOfMemory>
-    ensures { OnOk result (map (λ d. d.now) list.new.items ≡ map (λ d. d.now) list.old.items ++ opened tail.now (option_to_list (option_copied deferred.entry))) }
+    ensures { OnOk result (map (λ d. d.now) list.new.items ≡ map (λ d. d.now) list.old.items ++ opened tail.now
+        (option_to_list (option_copied deferred.entry))) }
 {
     if let Some(deferral) = deferred
         && is_of(tail, deferral)

@@ -99,7 +99,8 @@ fn findings_of_legs(
 ) -> Result<Findings, OutOfMemory>
     requires plan { IsPlan plan.now }
     requires within { IfSome (option_copied circumstances) IsWithin }
-    ensures { IfOk result (λ f. f ≡ seen.findings_in_all spec.rules_of_legs (seen.sights_from times.now (option_map case_by (option_copied circumstances.entry)) 1 plan.now.legs)) }
+    ensures { IfOk result (λ f. f ≡ seen.findings_in_all spec.rules_of_legs
+        (seen.sights_from times.now (option_map case_by (option_copied circumstances.entry)) 1 plan.now.legs)) }
 {
     let sights = sights_of_legs(alloc, times, circumstances, plan.legs.as_slice())?;
     findings_in(alloc, &RULES, &sights)
@@ -116,7 +117,9 @@ fn findings_in_case<'a>(
     requires plan { IsPlan plan.now }
     requires few { length (deferrals_of evidence) ≤ DEFERRAL_LIMIT }
     requires fits { FitsType aircraft.now }
-    ensures { IfOk result (λ f. f ≡ seen.findings_in_all spec.rules_of_legs (seen.sights_from times.now (Some (case_of (grounds_of evidence.entry) plan.now aircraft.now)) 1 plan.now.legs)) }
+    ensures { IfOk result (λ f. f ≡ seen.findings_in_all spec.rules_of_legs
+        (seen.sights_from times.now (Some (case_of (grounds_of evidence.entry) plan.now aircraft.now)) 1
+        plan.now.legs)) }
 {
     let circumstances = Circumstances::of(alloc, evidence, plan, aircraft)?;
     findings_of_legs(alloc, times, Some(&circumstances), plan)
@@ -130,7 +133,8 @@ fn findings_with_tables(
     leg: u32,
 ) -> Result<Findings, OutOfMemory>
     requires { IsPlan plan.now }
-    ensures { IfOk result (λ f. f ≡ seen.findings_in_all spec.rules_of_legs (seen.sights_from times.now None 1 plan.now.legs) ++ spec.finding Rule.No19 leg 0 ∷ []) }
+    ensures { IfOk result (λ f. f ≡ seen.findings_in_all spec.rules_of_legs
+        (seen.sights_from times.now None 1 plan.now.legs) ++ spec.finding Rule.No19 leg 0 ∷ []) }
 {
     let mut findings = findings_of_legs(alloc, times, None, plan)?;
     findings.push(Finding {
@@ -150,7 +154,9 @@ fn findings_seen(
 ) -> Result<Findings, OutOfMemory>
     requires plan { IsPlan plan.now }
     requires few { length (deferrals_of evidence) ≤ DEFERRAL_LIMIT }
-    ensures { IfOk result (λ f. f ≡ seen.findings_in_all spec.rules_of_legs (seen.sights_from times.now (spec.case_for plan.now (grounds_of evidence.entry)) 1 plan.now.legs) ++ spec.findings_of_tables plan.now (grounds_of evidence.entry)) }
+    ensures { IfOk result (λ f. f ≡ seen.findings_in_all spec.rules_of_legs
+        (seen.sights_from times.now (spec.case_for plan.now (grounds_of evidence.entry)) 1 plan.now.legs) ++
+        spec.findings_of_tables plan.now (grounds_of evidence.entry)) }
 {
     let tables = evidence.tables;
     match check_plan(plan, tables) {
@@ -229,10 +235,13 @@ pub fn judge<'a, L: Ledger>(
     steps: &mut Steps<L>,
 ) -> Result<Findings, OutOfMemory>
     requires { IsPlan plan.now }
-    ensures value { IfOk result (λ f. f ≡ findings_of plan.now phase (grounds_held tables.now facts.now.reports deferrals.now.list moment)) }
+    ensures value { IfOk result (λ f. f ≡ findings_of plan.now phase
+        (grounds_held tables.now facts.now.reports deferrals.now.list moment)) }
     ensures order { IfOk result AreInOrder }
-    ensures truth { IfOk result (AllByRecursion (IsTrueOf plan.now phase (grounds_held tables.now facts.now.reports deferrals.now.list moment))) }
-    ensures complete { IfOk result (NamesAll plan.now phase (grounds_held tables.now facts.now.reports deferrals.now.list moment)) }
+    ensures truth { IfOk result (AllByRecursion (IsTrueOf plan.now phase
+        (grounds_held tables.now facts.now.reports deferrals.now.list moment))) }
+    ensures complete { IfOk result (NamesAll plan.now phase (grounds_held tables.now facts.now.reports
+        deferrals.now.list moment)) }
     ensures steps { steps.new ≡ steps.old + 1 }
 {
     // The list says of itself that its ids rise, and that it is within its limit.

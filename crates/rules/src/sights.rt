@@ -134,7 +134,8 @@ fn seen_in(
 ) -> Result<Seen, OutOfMemory>
     requires within { IfSome (option_copied circumstances) IsWithin }
     requires moments { HasMoments leg.now }
-    ensures { IfOk result (λ s. s ≡ spec.seen_in (option_map case_by (option_copied circumstances.entry)) standing leg.now) }
+    ensures { IfOk result (λ s. s ≡ spec.seen_in (option_map case_by (option_copied circumstances.entry)) standing
+        leg.now) }
 {
     match circumstances {
         None => Ok(Seen::clear(alloc)),
@@ -151,7 +152,8 @@ fn sight_of(
 ) -> Result<Sight, OutOfMemory>
     requires within { IfSome (option_copied circumstances) IsWithin }
     requires moments { HasMoments leg.now }
-    ensures { IfOk result (λ s. s ≡ spec.sight_of times.now (option_map case_by (option_copied circumstances.entry)) number leg.now) }
+    ensures { IfOk result (λ s. s ≡ spec.sight_of times.now (option_map case_by (option_copied circumstances.entry))
+        number leg.now) }
 {
     let seen = seen_in(alloc, circumstances, standing_of(times.phase, number), leg)?;
     Ok(Sight {
@@ -171,7 +173,8 @@ pub(crate) fn sights_of_legs(
     requires within { IfSome (option_copied circumstances) IsWithin }
     requires few { length legs.now ≤ 1000 }
     requires moments { AllByRecursion HasMoments legs.now }
-    ensures value { IfOk result (λ v. v.items ≡ spec.sights_from times.now (option_map case_by (option_copied circumstances.entry)) 1 legs.now) }
+    ensures value { IfOk result (λ v. v.items ≡ spec.sights_from times.now
+        (option_map case_by (option_copied circumstances.entry)) 1 legs.now) }
     ensures count { IfOk result (λ v. length v.items ≤ 1000) }
 {
     let mut sights = Vec::new(alloc);

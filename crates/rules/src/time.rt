@@ -101,7 +101,8 @@ impl Times {
 
     /// Until when a domestic flight may stop before a leg.
     pub(crate) fn domestic_stop(&self, number: u32) -> Option<Limit>
-        ensures value { option_map last_of result ≡ spec.only_if (destination.is_domestic self.now.flight) (spec.stop_limit 60 self.now.phase number) }
+        ensures value { option_map last_of result ≡ spec.only_if (destination.is_domestic self.now.flight)
+            (spec.stop_limit 60 self.now.phase number) }
         ensures within { HasMoment self.now.phase → IfSome result (λ l. IsMoment l.since) }
     {
         if is_domestic(self.flight) {
@@ -113,7 +114,8 @@ impl Times {
 
     /// Until when a flag flight may stop before a leg.
     pub(crate) fn flag_stop(&self, number: u32) -> Option<Limit>
-        ensures value { option_map last_of result ≡ spec.only_if (destination.is_flag self.now.flight) (spec.stop_limit 360 self.now.phase number) }
+        ensures value { option_map last_of result ≡ spec.only_if (destination.is_flag self.now.flight)
+            (spec.stop_limit 360 self.now.phase number) }
         ensures within { HasMoment self.now.phase → IfSome result (λ l. IsMoment l.since) }
     {
         if is_domestic(self.flight) {
@@ -125,7 +127,8 @@ impl Times {
 
     /// Until when a leg may depart.
     pub(crate) fn departure(&self, number: u32, leg: &Leg) -> Option<Limit>
-        ensures value { option_map last_of result ≡ spec.limit_of No17 self.now.settings self.now.flight self.now.phase number leg.now }
+        ensures value { option_map last_of result ≡ spec.limit_of No17 self.now.settings self.now.flight
+            self.now.phase number leg.now }
         ensures within { HasMoments leg.now → IfSome result (λ l. IsMoment l.since) }
     {
         if self.departs_next(number) {
@@ -140,7 +143,8 @@ impl Times {
 
     /// Until when a leg in flight may arrive.
     pub(crate) fn arrival(&self, number: u32, leg: &Leg) -> Option<Limit>
-        ensures value { option_map last_of result ≡ spec.limit_of No18 self.now.settings self.now.flight self.now.phase number leg.now }
+        ensures value { option_map last_of result ≡ spec.limit_of No18 self.now.settings self.now.flight
+            self.now.phase number leg.now }
         ensures within { HasMoments leg.now → IfSome result (λ l. IsMoment l.since) }
     {
         if self.is_flying(number) {

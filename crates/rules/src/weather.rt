@@ -53,7 +53,8 @@ impl<'a> Reported<'a> {
     pub(crate) fn around(&self, minute: Minute) -> Cond
         requires hold { self.now.hold ≤ 1440 }
         requires minute { IsMoment minute }
-        ensures { result ≡ worst_cond (option_copied self.now.taf) (option_copied self.now.metar) self.now.hold (minute - 60) (minute + 60) }
+        ensures { result ≡ worst_cond (option_copied self.now.taf) (option_copied self.now.metar) self.now.hold
+            (minute - 60) (minute + 60) }
     {
         worst(self.taf, self.metar, self.hold, minute - 60, minute + 60)
     }

@@ -276,7 +276,8 @@ pub fn read_taf(alloc: Global, text: &[u8], receipt: Minute) -> Result<Taf, Repo
     ensures range { IfOk result IsInReach }
     ensures parts { IfOk result (λ taf. AreParts taf.state taf.from taf.to taf.parts) }
     ensures report { IfOk result (ReadsTaf (groups_of text.now) receipt) }
-    ensures read { length text.now ≤ 2_048 → (taf : Taf) → ReadsTaf (groups_of text.now) receipt taf → Answers result (Ok taf) }
+    ensures read { length text.now ≤ 2_048 → (taf : Taf) → ReadsTaf (groups_of text.now) receipt taf
+        → Answers result (Ok taf) }
 {
     if text.len() > REPORT_LIMIT {
         return Err(ReportFault::Bad(TOO_LONG));

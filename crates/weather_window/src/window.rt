@@ -45,7 +45,8 @@ fn forecast_at(taf: Option<&Taf>, minute: Minute) -> Cond
 }
 
 fn report_at(metar: Option<&Metar>, hold: u32, minute: Minute) -> Cond
-    ensures ceiling { result.ceiling ≡ least_of (report_values ceiling_element hold minute (option_copied metar.entry)) }
+    ensures ceiling { result.ceiling ≡ least_of (report_values ceiling_element hold minute
+        (option_copied metar.entry)) }
     ensures vis { result.vis ≡ least_of (report_values visibility hold minute (option_copied metar.entry)) }
 {
     match metar {
@@ -56,7 +57,8 @@ fn report_at(metar: Option<&Metar>, hold: u32, minute: Minute) -> Cond
 
 #[tactic(auto, using(crate::proofs::WindowLaws::value_at_law))]
 fn both_at(taf: Option<&Taf>, metar: Option<&Metar>, hold: u32, minute: Minute) -> Cond
-    ensures ceiling { result.ceiling ≡ value_at ceiling_element (option_copied taf.entry) (option_copied metar.entry) hold minute }
+    ensures ceiling { result.ceiling ≡ value_at ceiling_element (option_copied taf.entry)
+        (option_copied metar.entry) hold minute }
     ensures vis { result.vis ≡ value_at visibility (option_copied taf.entry) (option_copied metar.entry) hold minute }
 {
     let forecast = forecast_at(taf, minute);
@@ -98,7 +100,8 @@ fn counted_at<L: Ledger>(
     minute: Minute,
     steps: &mut Steps<L>,
 ) -> Cond
-    ensures ceiling { result.ceiling ≡ value_at ceiling_element (option_copied taf.entry) (option_copied metar.entry) hold minute }
+    ensures ceiling { result.ceiling ≡ value_at ceiling_element (option_copied taf.entry)
+        (option_copied metar.entry) hold minute }
     ensures vis { result.vis ≡ value_at visibility (option_copied taf.entry) (option_copied metar.entry) hold minute }
     ensures step { steps.new ≡ steps.old + 1 }
 {
@@ -116,8 +119,10 @@ fn worst_over<L: Ledger>(
 ) -> Cond
     requires order { from ≤ to }
     requires moments { to ≤ SHOWN_LAST }
-    ensures ceiling { result.ceiling ≡ worst_value ceiling_element (option_copied taf.entry) (option_copied metar.entry) hold from to }
-    ensures vis { result.vis ≡ worst_value visibility (option_copied taf.entry) (option_copied metar.entry) hold from to }
+    ensures ceiling { result.ceiling ≡ worst_value ceiling_element (option_copied taf.entry)
+        (option_copied metar.entry) hold from to }
+    ensures vis { result.vis ≡ worst_value visibility (option_copied taf.entry)
+        (option_copied metar.entry) hold from to }
     ensures some { steps.old < steps.new }
     ensures few { steps.new ≤ steps.old + (3 * part_count (option_copied taf.entry) + 5) }
 {
