@@ -7,8 +7,9 @@ use Rattle.desk_io.specs.Health.{IsSound}
 use Rattle.desk_io.specs.Over.{Over}
 use Rattle.desk_io.specs.Seen.{ShelfSeen}
 use Rattle.table_files.specs.Files.{files, name_of}
-use Rattle.table_files.specs.Whole.{Told, StopsAtMissing}
+use Rattle.table_files.specs.Whole.{ReadsTables, Told, StopsAtMissing}
 use Rattle.table_files.specs.declared.faults.TableFault.TheVariants as fault
+use Rattle.commands.specs.Complete.{IsTooLong}
 use Rattle.commands.specs.Sources.{ReadsSource, SourceFails}
 use Rattle.commands.specs.declared.fault.Fault.{Fault}
 use Rattle.commands.specs.declared.fault.Fault.TheVariants.{ReadFault, OutOfMemory, InputTooLong}
@@ -27,6 +28,12 @@ pub none_missing : (told : Told) (name : List ℕ) (rest : List (List ℕ)) → 
     → StopsAtMissing told (fault.ReadFault name) → ⊥
 none_missing told name rest all stop =
     stop.fails.1 (held_among name_of (HoldsName told) stop.earlier stop.file stop.later rest (subst (λ fs. All (HoldsName told) (map name_of fs ++ rest)) stop.order all))
+
+pub none_long : (told : Told) (name : List ℕ) (rest : List (List ℕ)) → All (λ name. IsTooLong told name → ⊥) (map name_of files ++ rest)
+    → ReadsTables told (Err (fault.TooLong name)) → ⊥
+none_long told name rest all stop =
+    held_among name_of (λ name. IsTooLong told name → ⊥) stop.earlier stop.file stop.later rest
+    (subst (λ fs. All (λ name. IsTooLong told name → ⊥) (map name_of fs ++ rest)) stop.order all) stop.fails.1
 
 abbrev between : ShelfSeen → ShelfSeen → Over ShelfSeen
 between old new = record { before = old; after = new }

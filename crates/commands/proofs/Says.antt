@@ -1,6 +1,6 @@
 -- What follows of all that is said, whatever it is.
 use Rattle.std.proofs.Common.{◌≡◌, ◌≢◌, ℕ, ◌≤◌, List, [], ◌∷◌, ◌++◌, map, Option, None, Some, ap, arith, refl, sym, subst, inl, inr}
-use Rattle.std.specs.Prelude.{◌==◌, All, IfErr, IfOk, IfSome, MatchBool, MatchResult, Result, Ok, Err}
+use Rattle.std.specs.Prelude.{◌==◌, All, IfErr, IfOk, IfSome, IsSome, MatchBool, MatchResult, Result, Ok, Err}
 use Rattle.std.specs.List.{Contains}
 use Rattle.std.proofs.lemmas.List.Elements.{All-head}
 use Rattle.board.specs.Prepare.{Shown}
@@ -10,7 +10,7 @@ use Rattle.desk.specs.declared.opening.OpenWhy.TheVariants as why
 use Rattle.desk_io.specs.Rows.{Rows}
 use Rattle.desk_io.specs.Told.{HoldsName}
 use Rattle.desk.specs.Seen.{DeskAt}
-use Rattle.desk_io.specs.Health.{IsSound}
+use Rattle.desk_io.specs.Health.{HasFailed, IsSound, RoseOrFull}
 use Rattle.desk_io.specs.Over.{Over}
 use Rattle.desk_io.specs.Seen.{ShelfSeen, SinkSeen}
 use Rattle.desk_io.proofs.HealthLaws.{stays}
@@ -19,83 +19,118 @@ use Rattle.desk_net.proofs.SeenLaws.{clock_stays}
 use Rattle.keeper.specs.Seen.{KeeperSeen, KeeperGoesOn}
 use Rattle.desk_state.specs.Sound.{IsBoard}
 use Rattle.desk_state.specs.State.{State}
+use Rattle.records.specs.declared.faults.RowsFault.TheVariants as fault
+use Rattle.service.specs.Doors.{EndsServing, Visit}
 use Rattle.service.specs.declared.doors.ServeEnd.{ServeEnd}
 use Rattle.service.specs.declared.doors.ServeEnd.TheVariants as ends
 use Rattle.ops_tables.specs.Tables.{TableRows}
 use Rattle.table_files.specs.Files.{files, name_of}
-use Rattle.table_files.specs.Whole.{StopsAtMissing}
+use Rattle.table_files.specs.Whole.{ReadsTables, RoseAt, StopsAtMissing, Told}
 use Rattle.table_files.specs.declared.faults.TableFault.{TableFault}
 use Rattle.table_files.specs.declared.faults.TableFault.TheVariants as table
 use Rattle.words.specs.declared.task.DeskTask.TheVariants.{Run, Serve}
 use Rattle.words.specs.declared.task.Task.{Task}
 use Rattle.words.specs.declared.task.Task.TheVariants.{Weather, Desk}
-use Rattle.commands.proofs.Reading.{held_last, none_missing}
+use Rattle.commands.proofs.Reading.{held_last, none_long, none_missing}
 use Rattle.commands.specs.Answers.{AreKeptOver, HasDoor, HasSources, IsDone, IsUntouched, RunsUnder, Says, Writes}
+use Rattle.commands.specs.Complete.{AreFaultless, AreGood, AreShort, IsTooLong}
 use Rattle.commands.specs.Faults.{Gives, Outcome, of_opening, of_tables, status_of_fault}
 use Rattle.commands.specs.Seen.{Lent, Service, lent as lent_over, service}
-use Rattle.commands.specs.Sources.{ReadsFiles, ReadsSource, SourceFails, TablesFail}
+use Rattle.commands.specs.Sources.{ReadsFiles, ReadsSource, SourceFails, TablesFail, sources_of}
 use Rattle.commands.specs.Weather.{weather_text}
 use Rattle.commands.specs.Working.{EndSays, Opens, Runs, Serves, desk_over}
 use Rattle.commands.specs.declared.fault.Fault.{Fault}
 use Rattle.commands.specs.declared.fault.Fault.TheVariants.{Usage, ReadFault, WriteFault, KeeperFault, BadTable, BadRow, BadPair, OutOfMemory, DoorFault, InputTooLong, ClockFault}
 
--- ---- what a fault tells of the outside
+-- ---- what a fault tells
 
--- who isn't as it should be: a sound shelf with the sources, a sound keeper, the rows of a desk that was left, a sound door with links enough,
--- a sound clock
-abbrev pub Accuses : (shelf keeper rows door clock : Type 0) → Fault → Type 0
-Accuses shelf keeper rows door clock (ReadFault name) = shelf → ⊥
-Accuses shelf keeper rows door clock WriteFault = ⊥
-Accuses shelf keeper rows door clock KeeperFault = keeper → ⊥
-Accuses shelf keeper rows door clock (BadRow row why) = rows → ⊥
-Accuses shelf keeper rows door clock (BadPair one two) = rows → ⊥
-Accuses shelf keeper rows door clock DoorFault = door → ⊥
-Accuses shelf keeper rows door clock ClockFault = clock → ⊥
-Accuses shelf keeper rows door clock other = Unit {0}
+-- what each fault tells: of the words, the tables, the sources and the rows, and of who has failed
+pub record Charges : Type 1 where
+  words : Type 0
+  tables : Type 0
+  long : Type 0
+  rows : Type 0
+  shelf : Type 0
+  keeper : Type 0
+  door : Type 0
+  clock : Type 0
+
+abbrev pub Tells : Charges → Fault → Type 0
+Tells of Usage = of.words
+Tells of (ReadFault name) = of.shelf
+Tells of WriteFault = ⊥
+Tells of KeeperFault = of.keeper
+Tells of (BadTable bad) = of.tables
+Tells of (BadRow row why) = of.rows
+Tells of (BadPair one two) = of.rows
+Tells of OutOfMemory = Unit {0}
+Tells of DoorFault = of.door
+Tells of (InputTooLong name) = of.long
+Tells of ClockFault = of.clock
+
+abbrev TellsBy : Charges → Outcome → Type 0
+TellsBy of answer = IfErr answer (Tells of)
 
 -- the rows are told, and they are those of a desk that was left
 abbrev pub AreLeft : Option Rows → Type 0
 AreLeft rows = (s : State) × IsLeft s × TellsRowsOf rows s
 
-module _ (shelf : Over ShelfSeen) (keeper rows door clock : Type 0) where
-  source_accuses : (has : Type 0) (name : List ℕ) → (has → IsSound shelf.before.health × HoldsName shelf.before.sources name) → (fault : Fault) → SourceFails shelf name fault → Accuses has keeper rows door clock fault
-  source_accuses has name gives (ReadFault file) says = λ h. says.1.1 (gives h).0 (gives h).1
-  source_accuses has name gives (InputTooLong file) says = tt
-  source_accuses has name gives OutOfMemory says = tt
-  source_accuses has name gives other says = absurd says
+-- what was read, or is to be read, can't be
+abbrev Misses : Over ShelfSeen → List (List ℕ) → Type 0
+Misses shelf names = RoseOrFull shelf.before.health.faults shelf.after.health.faults × (IsSound shelf.before.health × All (HoldsName shelf.before.sources) names → ⊥)
 
-  tables_accuse : (rest : List (List ℕ)) (stop : TableFault) → (IsSound shelf.before.health → StopsAtMissing shelf.before.sources stop)
-      → Accuses (IsSound shelf.before.health × All (HoldsName shelf.before.sources) (map name_of files ++ rest)) keeper rows door clock (of_tables stop)
-  tables_accuse rest (table.Bad bad) stops = tt
-  tables_accuse rest (table.ReadFault name) stops = λ has. none_missing shelf.before.sources name rest has.1 (stops has.0)
-  tables_accuse rest (table.TooLong name) stops = tt
-  tables_accuse rest table.OutOfMemory stops = tt
+abbrev HasLong : Told → List (List ℕ) → Type 0
+HasLong sources names = AreShort sources names → ⊥
 
-  files_accuse : (rest : List (List ℕ)) (fault : Fault) → TablesFail shelf fault
-      → Accuses (IsSound shelf.before.health × All (HoldsName shelf.before.sources) (map name_of files ++ rest)) keeper rows door clock fault
-  files_accuse rest fault bad =
-      subst (λ f. Accuses (IsSound shelf.before.health × All (HoldsName shelf.before.sources) (map name_of files ++ rest)) keeper rows door clock f) (sym bad.is) (tables_accuse rest bad.stop bad.sound)
+module _ (of : Charges) (shelf : Over ShelfSeen) (names : List (List ℕ)) (misses : Misses shelf names → of.shelf) (long : HasLong shelf.before.sources names → of.long) where
+  source_tells : (name : List ℕ) → ((P : List ℕ → Type 0) → All P names → P name) → (fault : Fault) → SourceFails shelf name fault → Tells of fault
+  source_tells name among (ReadFault file) says = misses (says.1.0, λ has. says.1.1 has.0 (among (HoldsName shelf.before.sources) has.1))
+  source_tells name among (InputTooLong file) says = long (λ short. among (λ name. IsTooLong shelf.before.sources name → ⊥) short says.1)
+  source_tells name among OutOfMemory says = tt
+  source_tells name among other says = absurd says
 
-module _ (shelf keeper rows door clock : Type 0) where
-  abbrev Acquits : Outcome → Type 0
-  Acquits answer = IfErr answer (Accuses shelf keeper rows door clock)
+  module _ (rest : List (List ℕ)) (are : names ≡ map name_of files ++ rest) (bad : (AreGood shelf.before.sources → ⊥) → of.tables) where
+    tables_tell : (stop : TableFault) → ReadsTables shelf.before.sources (Err stop) → RoseAt shelf.before.health shelf.after.health stop → (IsSound shelf.before.health → StopsAtMissing shelf.before.sources stop)
+        → Tells of (of_tables stop)
+    tables_tell (table.Bad found) reads rose stops = bad (λ good. good found reads)
+    tables_tell (table.ReadFault name) reads rose stops =
+        misses (rose, λ has. none_missing shelf.before.sources name rest (subst (All (HoldsName shelf.before.sources)) are has.1) (stops has.0))
+    tables_tell (table.TooLong name) reads rose stops =
+        long (λ short. none_long shelf.before.sources name rest (subst (All (λ name. IsTooLong shelf.before.sources name → ⊥)) are short) reads)
+    tables_tell table.OutOfMemory reads rose stops = tt
 
-  gives_accuses : (P : List ℕ → Type 0) (answer : Outcome) → Gives P answer → Acquits answer
-  gives_accuses P (Ok text) gives = tt
-  gives_accuses P (Err OutOfMemory) gives = tt
-  gives_accuses P (Err other) gives = absurd gives
+    files_tell : (fault : Fault) → TablesFail shelf fault → Tells of fault
+    files_tell fault fails = subst (Tells of) (sym fails.is) (tables_tell fails.stop fails.reads fails.rose fails.sound)
 
-  why_accuses : (told : Option Rows) (failed : Type 0) (why : OpenWhy) → (failed → keeper → ⊥) → IsWhy told failed why → (rows → IsOfKeeper failed why) → Acquits (Err (of_opening why))
-  why_accuses told failed why.KeeperFault never is left = never is
-  why_accuses told failed (why.BadRow row reason) never is left = left
-  why_accuses told failed (why.BadPair one two) never is left = left
-  why_accuses told failed why.OutOfMemory never is left = tt
+module _ (of : Charges) where
+  gives_tells : (P : List ℕ → Type 0) (answer : Outcome) → Gives P answer → TellsBy of answer
+  gives_tells P (Ok text) gives = tt
+  gives_tells P (Err OutOfMemory) gives = tt
+  gives_tells P (Err other) gives = absurd gives
 
-  end_accuses : (end : ServeEnd) (s : State) (answer : Outcome) → EndSays end s answer → (clock → end ≢ ends.ClockFault) → (door → end ≢ ends.DoorFault) → Acquits answer
-  end_accuses ends.Done s answer says steady_clock steady_door = gives_accuses _ answer says
-  end_accuses ends.DoorFault s answer says steady_clock steady_door = subst Acquits (sym says) (λ d. steady_door d refl)
-  end_accuses ends.ClockFault s answer says steady_clock steady_door = subst Acquits (sym says) (λ c. steady_clock c refl)
-  end_accuses ends.OutOfMemory s answer says steady_clock steady_door = subst Acquits (sym says) tt
+  why_tells : (told : Option Rows) (failed : Type 0) (why : OpenWhy) → (failed → of.keeper) → ((AreFaultless told → ⊥) × (AreLeft told → ⊥) → of.rows) → IsWhy told failed why
+      → (AreLeft told → IsOfKeeper failed why) → TellsBy of (Err (of_opening why))
+  why_tells told failed why.KeeperFault keeper rows is left = keeper is
+  why_tells told failed (why.BadRow row reason) keeper rows is left = rows (λ none. none (fault.BadRow row reason) (λ same. absurd (cc)) is, left)
+  why_tells told failed (why.BadPair one two) keeper rows is left = rows (λ none. none (fault.BadPair one two) (λ same. absurd (cc)) is, left)
+  why_tells told failed why.OutOfMemory keeper rows is left = tt
+
+  end_tells : (end : ServeEnd) (s : State) (answer : Outcome) → EndSays end s answer → (end ≡ ends.ClockFault → of.clock) → (end ≡ ends.DoorFault → of.door) → TellsBy of answer
+  end_tells ends.Done s answer says clock door = gives_tells _ answer says
+  end_tells ends.DoorFault s answer says clock door = subst (TellsBy of) (sym says) (door refl)
+  end_tells ends.ClockFault s answer says clock door = subst (TellsBy of) (sym says) (clock refl)
+  end_tells ends.OutOfMemory s answer says clock door = subst (TellsBy of) (sym says) tt
+
+pub is_formed : (command : Option (Task × List ℕ)) → IsSome command → command ≡ None → ⊥
+is_formed None formed is = formed
+is_formed (Some command) formed is = absurd (cc)
+
+-- why serving ended
+door_failed : {L : Type 0} (door clock : Type 0) (most : ℕ) (vs : List (Visit L)) (end : ServeEnd) → EndsServing door clock most vs end → end ≡ ends.DoorFault → door
+door_failed {L} door clock most vs end how is = (subst (EndsServing {L} door clock most vs) is how).0
+
+clock_failed : {L : Type 0} (door clock : Type 0) (most : ℕ) (vs : List (Visit L)) (end : ServeEnd) → EndsServing door clock most vs end → end ≡ ends.ClockFault → clock
+clock_failed {L} door clock most vs end how is = (subst (EndsServing {L} door clock most vs) is how).0
 
 ok_any : {P : Type 0} (answer : Outcome) → P → IfOk answer (λ text. P)
 ok_any (Ok text) holds = holds
@@ -110,18 +145,28 @@ module _ {K C D L : Type 0} (k : K → KeeperSeen) (c : C → ClockSeen) (d : D 
   abbrev serving : Service L
   serving = service c d l clock_old clock_new door_old door_new
 
-  abbrev HasNoFault : Option (Task × List ℕ) → Outcome → Type 0
-  HasNoFault command = Acquits (HasSources shelf.before command) (IsSound (k lent).health) (AreLeft (k lent).rows) (HasDoor (d door_old) command) (IsSound (c clock_old).health)
+  -- what its fault tells of a command
+  abbrev pub charges : Option (Task × List ℕ) → Charges
+  charges command = record {
+    words = command ≡ None;
+    tables = AreGood shelf.before.sources → ⊥;
+    long = HasLong shelf.before.sources (sources_of command);
+    rows = (AreFaultless (k lent).rows → ⊥) × (AreLeft (k lent).rows → ⊥);
+    shelf = Misses shelf (sources_of command);
+    keeper = HasFailed (k lent).health (k kept).health;
+    door = RoseOrFull (d door_old).health.faults (d door_new).health.faults × (HasDoor (d door_old) command → ⊥);
+    clock = HasFailed (c clock_old).health (c clock_new).health;
+  }
 
   abbrev IsStill : Type 0
   IsStill = (c clock_new).health.faults ≡ (c clock_old).health.faults
 
-  -- what goes on of the clock and the door, and who isn't told of
+  -- what goes on of the clock and the door, and what is told
   pub record Served (command : Option (Task × List ℕ)) (answer : Outcome) : Type 0 where
     pub clock : ClockGoesOn (c clock_old) (c clock_new)
     pub door : (d door_old).health.faults ≤ (d door_new).health.faults
     pub still : IfOk answer (λ text. IsStill)
-    pub accuses : HasNoFault command answer
+    pub tells : TellsBy (charges command) answer
 
   -- and of the keeper and the board
   pub record Follows (command : Option (Task × List ℕ)) (board : Option Shown) (answer : Outcome) : Type 0 where
@@ -130,28 +175,28 @@ module _ {K C D L : Type 0} (k : K → KeeperSeen) (c : C → ClockSeen) (d : D 
     pub holds : IfSome board (λ b. IsBoard b.opening b.state)
     pub served : Served command answer
 
-  idle_served : (command : Option (Task × List ℕ)) (answer : Outcome) → serving.idle → HasNoFault command answer → Served command answer
-  idle_served command answer idle accuses =
+  idle_served : (command : Option (Task × List ℕ)) (answer : Outcome) → serving.idle → TellsBy (charges command) answer → Served command answer
+  idle_served command answer idle tells =
       record {
         clock = subst (λ x. ClockGoesOn (c clock_old) (c x)) (sym idle.0) (clock_stays (c clock_old));
         door = subst (λ x. (d door_old).health.faults ≤ (d x).health.faults) (sym idle.1) (omega arith);
         still = ok_any answer (ap (λ x. (c x).health.faults) idle.0);
-        accuses = accuses;
+        tells = tells;
       }
 
-  untouched_follows : (command : Option (Task × List ℕ)) (board : Option Shown) (answer : Outcome) → IsUntouched rows_over board → serving.idle → HasNoFault command answer → Follows command board answer
-  untouched_follows command board answer is idle accuses =
+  untouched_follows : (command : Option (Task × List ℕ)) (board : Option Shown) (answer : Outcome) → IsUntouched rows_over board → serving.idle → TellsBy (charges command) answer → Follows command board answer
+  untouched_follows command board answer is idle tells =
       record {
         keeper = subst (λ x. KeeperGoesOn (k lent) (k x)) (sym is.same) (stays (k lent).health);
         are_kept = subst (λ b. AreKeptOver rows_over b) (sym is.none) (ap (λ x. (k x).rows) is.same);
         holds = subst (λ b. IfSome b (λ b. IsBoard b.opening b.state)) (sym is.none) tt;
-        served = idle_served command answer idle accuses;
+        served = idle_served command answer idle tells;
       }
 
   -- a fault is told, and nothing else comes of it
   told_follows : (command : Option (Task × List ℕ)) (board : Option Shown) (answer : Outcome) (fault : Fault) → (answer ≡ Err fault) × IsUntouched rows_over board → serving.idle
-      → HasNoFault command (Err fault) → Follows command board answer
-  told_follows command board answer fault says idle accuses = untouched_follows command board answer says.1 idle (subst (HasNoFault command) (sym says.0) accuses)
+      → Tells (charges command) fault → Follows command board answer
+  told_follows command board answer fault says idle tells = untouched_follows command board answer says.1 idle (subst (TellsBy (charges command)) (sym says.0) tells)
 
   end_still : (end : ServeEnd) (s : State) (answer : Outcome) → EndSays end s answer → (end ≡ ends.Done → IsStill) → IfOk answer (λ text. IsStill)
   end_still ends.Done s answer says still = ok_any answer (still refl)
@@ -163,35 +208,36 @@ module _ {K C D L : Type 0} (k : K → KeeperSeen) (c : C → ClockSeen) (d : D 
   opens_follow : (command : Option (Task × List ℕ)) (tables : TableRows) (Works : Over DeskAt → Outcome → Type 0) (board : Option Shown) (answer : Outcome) → KeeperGoesOn (k lent) (k kept)
       → Opens tables Works rows_over board answer → (board ≡ None → serving.idle) → ((desk : Over DeskAt) → Works desk answer → Served command answer) → Follows command board answer
   opens_follow command tables Works None answer goes un idle served =
-      let accuses = why_accuses _ _ _ _ _ _ _ un.why (λ failed. failed.1) un.is (λ rows. un.left rows.0 rows.1 rows.2) in
-      record { keeper = goes; are_kept = un.rows; holds = tt; served = idle_served command answer (idle refl) (subst (HasNoFault command) (sym un.says) accuses) }
+      let tells = why_tells (charges command) (k lent).rows _ un.why (λ failed. failed) (λ rows. rows) un.is (λ rows. un.left rows.0 rows.1 rows.2) in
+      record { keeper = goes; are_kept = un.rows; holds = tt; served = idle_served command answer (idle refl) (subst (TellsBy (charges command)) (sym un.says) tells) }
   opens_follow command tables Works (Some b) answer goes opens idle served =
       record { keeper = goes; are_kept = (tables, opens.0); holds = opens.0.holds; served = served (desk_over rows_over b) opens.1 }
 
   reports_follow : (name : List ℕ) (board : Option Shown) (answer : Outcome) (read : Result (List ℕ) Fault) → ReadsSource shelf name read
       → MatchResult read (λ file. Gives (λ text. text ≡ weather_text file) answer × IsUntouched rows_over board) (λ fault. (answer ≡ Err fault) × IsUntouched rows_over board) → serving.idle
       → Follows (Some (Weather, name)) board answer
-  reports_follow name board answer (Ok file) reads does idle = untouched_follows (Some (Weather, name)) board answer does.1 idle (gives_accuses _ _ _ _ _ _ answer does.0)
+  reports_follow name board answer (Ok file) reads does idle = untouched_follows (Some (Weather, name)) board answer does.1 idle (gives_tells (charges (Some (Weather, name))) _ answer does.0)
   reports_follow name board answer (Err fault) reads does idle =
       told_follows (Some (Weather, name)) board answer fault does idle
-      (source_accuses shelf _ _ _ _ _ name (λ has. (has.0, All-head (HoldsName shelf.before.sources) name [] has.1)) fault reads)
+      (source_tells (charges (Some (Weather, name))) shelf (name ∷ []) (λ misses. misses) (λ long. long) name (λ P all. All-head P name [] all) fault reads)
 
   script_follows : (name : List ℕ) (tables : TableRows) (board : Option Shown) (answer : Outcome) (read : Result (List ℕ) Fault) → ReadsSource shelf name read
       → MatchResult read (λ script. KeeperGoesOn (k lent) (k kept) × Opens tables (Runs script) rows_over board answer) (λ fault. (answer ≡ Err fault) × IsUntouched rows_over board) → serving.idle
       → Follows (Some (Desk Run, name)) board answer
   script_follows name tables board answer (Ok script) reads does idle =
       opens_follow (Some (Desk Run, name)) tables (Runs script) board answer does.0 does.1 (λ none. idle)
-      (λ desk ran. idle_served (Some (Desk Run, name)) answer idle (gives_accuses _ _ _ _ _ _ answer ran))
+      (λ desk ran. idle_served (Some (Desk Run, name)) answer idle (gives_tells (charges (Some (Desk Run, name))) _ answer ran))
   script_follows name tables board answer (Err fault) reads does idle =
       told_follows (Some (Desk Run, name)) board answer fault does idle
-      (source_accuses shelf _ _ _ _ _ name (λ has. (has.0, held_last (HoldsName shelf.before.sources) (map name_of files) name has.1)) fault reads)
+      (source_tells (charges (Some (Desk Run, name))) shelf (sources_of (Some (Desk Run, name))) (λ misses. misses) (λ long. long) name (λ P all. held_last P (map name_of files) name all) fault reads)
 
   run_follows : (name : List ℕ) (board : Option Shown) (answer : Outcome) (read : Result TableRows Fault) → ReadsFiles shelf read
       → MatchResult read (λ tables. RunsUnder tables shelf rows_over name board answer) (λ fault. (answer ≡ Err fault) × IsUntouched rows_over board) → serving.idle
       → Follows (Some (Desk Run, name)) board answer
   run_follows name board answer (Ok tables) reads does idle = script_follows name tables board answer does.0 does.1 does.2 idle
   run_follows name board answer (Err fault) reads does idle =
-      told_follows (Some (Desk Run, name)) board answer fault does idle (files_accuse shelf _ _ _ _ (name ∷ []) fault reads)
+      told_follows (Some (Desk Run, name)) board answer fault does idle
+      (files_tell (charges (Some (Desk Run, name))) shelf (sources_of (Some (Desk Run, name))) (λ misses. misses) (λ long. long) (name ∷ []) refl (λ bad. bad) fault reads)
 
   serve_follows : (port most : ℕ) (name : List ℕ) (board : Option Shown) (answer : Outcome) (read : Result TableRows Fault) → ReadsFiles shelf read
       → MatchResult read (λ tables. KeeperGoesOn (k lent) (k kept) × Opens tables (Serves serving port most) rows_over board answer) (λ fault. (answer ≡ Err fault) × IsUntouched rows_over board)
@@ -202,10 +248,13 @@ module _ {K C D L : Type 0} (k : K → KeeperSeen) (c : C → ClockSeen) (d : D 
         clock = serves.clock;
         door = serves.door;
         still = end_still serves.end desk.after.state answer serves.says serves.still;
-        accuses = end_accuses _ _ _ _ _ serves.end desk.after.state answer serves.says serves.steady_clock (λ has. serves.steady_door has.0 has.1);
+        tells = end_tells (charges (Some (Desk (Serve port most), name))) serves.end desk.after.state answer serves.says
+            (λ is. clock_failed _ _ most serves.served.visits serves.end serves.served.ends is)
+            (λ is. (door_failed _ _ most serves.served.visits serves.end serves.served.ends is, λ has. serves.steady_door has.0 has.1 is));
       })
   serve_follows port most name board answer (Err fault) reads does idle =
-      told_follows (Some (Desk (Serve port most), name)) board answer fault does (idle does.1.none) (files_accuse shelf _ _ _ _ [] fault reads)
+      told_follows (Some (Desk (Serve port most), name)) board answer fault does (idle does.1.none)
+      (files_tell (charges (Some (Desk (Serve port most), name))) shelf (sources_of (Some (Desk (Serve port most), name))) (λ misses. misses) (λ long. long) [] refl (λ bad. bad) fault reads)
 
   done_follows : (task : Task) (name : List ℕ) (board : Option Shown) (answer : Outcome) → IsDone shelf serving rows_over task name board answer → Follows (Some (task, name)) board answer
   done_follows Weather name board answer does = reports_follow name board answer does.0.0 does.0.1 does.0.2 does.1
@@ -213,50 +262,56 @@ module _ {K C D L : Type 0} (k : K → KeeperSeen) (c : C → ClockSeen) (d : D 
   done_follows (Desk (Serve port most)) name board answer does = serve_follows port most name board answer does.0.0 does.0.1 does.0.2 does.1
 
   pub follows : (command : Option (Task × List ℕ)) (board : Option Shown) (answer : Outcome) → Says shelf serving rows_over command board answer → Follows command board answer
-  follows command board answer (inr says) = untouched_follows command board answer says.1 says.2 (subst (HasNoFault command) (sym says.0) tt)
-  follows None board answer (inl says) = untouched_follows None board answer says.1 says.2 (subst (HasNoFault None) (sym says.0) tt)
+  follows command board answer (inr says) = untouched_follows command board answer says.1 says.2 (subst (TellsBy (charges command)) (sym says.0) tt)
+  follows None board answer (inl says) = untouched_follows None board answer says.1 says.2 (subst (TellsBy (charges None)) (sym says.0) refl)
   follows (Some command) board answer (inl does) = done_follows command.0 command.1 board answer does
 
 -- ---- the status
 
--- what a status tells: at 0 no fault of the clock was passed over, and else who isn't as it should be
-abbrev pub Cause : (still shelf sink keeper rows door clock : Type 0) → ℕ → Type 0
-Cause still shelf sink keeper rows door clock n =
-    MatchBool (n == 0) still (MatchBool (n == 3) (shelf → ⊥) (MatchBool (n == 4) (sink → ⊥) (MatchBool (n == 5) (keeper → ⊥)
-    (MatchBool (n == 7) (rows → ⊥) (MatchBool (n == 9) (door → ⊥) (MatchBool (n == 11) (clock → ⊥) (Unit {0})))))))
+-- what a status tells: at 0 no fault of the clock was passed over, and else what its fault tells, or that the sink has failed
+abbrev pub Cause : (still sink : Type 0) → Charges → ℕ → Type 0
+Cause still sink of n =
+    MatchBool (n == 0) still (MatchBool (n == 2) of.words (MatchBool (n == 3) of.shelf (MatchBool (n == 4) sink (MatchBool (n == 5) of.keeper (MatchBool (n == 6) of.tables
+    (MatchBool (n == 7) of.rows (MatchBool (n == 9) of.door (MatchBool (n == 10) of.long (MatchBool (n == 11) of.clock (Unit {0}))))))))))
 
--- the statuses over an outside that is sound
-abbrev pub Remains : ℕ → Type 0
-Remains n = Contains (0 ∷ 2 ∷ 6 ∷ 7 ∷ 8 ∷ 10 ∷ []) n
+module _ (of : Charges) (sink : Over SinkSeen) where
+  abbrev Failed : Type 0
+  Failed = HasFailed sink.before.health sink.after.health
 
-module _ (still shelf keeper rows door clock : Type 0) (sink : Over SinkSeen) where
-  module _ (P : ℕ → Type 0) (two : P 2) (three : (shelf → ⊥) → P 3) (four : (IsSound sink.before.health → ⊥) → P 4) (five : (keeper → ⊥) → P 5) (six : P 6) (seven : (rows → ⊥) → P 7) (eight : P 8)
-      (nine : (door → ⊥) → P 9) (ten : P 10) (eleven : (clock → ⊥) → P 11) where
-    by_fault : (fault : Fault) → Accuses shelf keeper rows door clock fault → P (status_of_fault fault)
-    by_fault Usage says = two
+  module _ (P : ℕ → Type 0) (two : of.words → P 2) (three : of.shelf → P 3) (four : Failed → P 4) (five : of.keeper → P 5) (six : of.tables → P 6) (seven : of.rows → P 7) (eight : P 8) (nine : of.door → P 9)
+      (ten : of.long → P 10) (eleven : of.clock → P 11) where
+    by_fault : (fault : Fault) → Tells of fault → P (status_of_fault fault)
+    by_fault Usage says = two says
     by_fault (ReadFault name) says = three says
     by_fault WriteFault says = absurd says
     by_fault KeeperFault says = five says
-    by_fault (BadTable bad) says = six
+    by_fault (BadTable bad) says = six says
     by_fault (BadRow row why) says = seven says
     by_fault (BadPair one two) says = seven says
     by_fault OutOfMemory says = eight
     by_fault DoorFault says = nine says
-    by_fault (InputTooLong name) says = ten
+    by_fault (InputTooLong name) says = ten says
     by_fault ClockFault says = eleven says
 
-    by_status : (answer : Outcome) (status : ℕ) → IfOk answer (λ text. P 0) → IfErr answer (Accuses shelf keeper rows door clock) → Writes sink answer status → P status
+    by_status : (answer : Outcome) (status : ℕ) → IfOk answer (λ text. P 0) → TellsBy of answer → Writes sink answer status → P status
     by_status (Ok text) status is says (inl (said, has, same, wrote)) = subst P (sym same) is
     by_status (Err fault) status is says (inl (said, has, same, wrote)) = subst P (sym same) (by_fault fault says)
-    by_status answer status is says (inr (inl wrote)) = subst P (sym wrote.0) (four wrote.1.1)
+    by_status answer status is says (inr (inl wrote)) = subst P (sym wrote.0) (four wrote.1)
     by_status answer status is says (inr (inr wrote)) = subst P (sym wrote.0) eight
 
-  pub status_cause : (answer : Outcome) (status : ℕ) → IfOk answer (λ text. still) → IfErr answer (Accuses shelf keeper rows door clock) → Writes sink answer status
-      → Cause still shelf (IsSound sink.before.health) keeper rows door clock status
-  status_cause = by_status (Cause still shelf (IsSound sink.before.health) keeper rows door clock) tt (λ no. no) (λ no. no) (λ no. no) tt (λ no. no) tt (λ no. no) tt (λ no. no)
+  pub status_cause : (still : Type 0) (answer : Outcome) (status : ℕ) → IfOk answer (λ text. still) → TellsBy of answer → Writes sink answer status → Cause still Failed of status
+  status_cause still = by_status (Cause still Failed of) (λ is. is) (λ is. is) (λ is. is) (λ is. is) (λ is. is) (λ is. is) tt (λ is. is) (λ is. is) (λ is. is)
 
-  pub status_remains : shelf → IsSound sink.before.health → keeper → door → clock → (answer : Outcome) (status : ℕ) → IfErr answer (Accuses shelf keeper rows door clock) → Writes sink answer status
-      → Remains status
+  -- over an outside that is sound
+  pub status_remains : (of.shelf → ⊥) → (Failed → ⊥) → (of.keeper → ⊥) → (of.door → ⊥) → (of.clock → ⊥) → (answer : Outcome) (status : ℕ) → TellsBy of answer → Writes sink answer status
+      → Contains (0 ∷ 2 ∷ 6 ∷ 7 ∷ 8 ∷ 10 ∷ []) status
   status_remains s o k d c answer status says wrote =
-      by_status Remains (1, omega arith, refl) (λ no. absurd (no s)) (λ no. absurd (no o)) (λ no. absurd (no k)) (2, omega arith, refl) (λ no. (3, omega arith, refl)) (4, omega arith, refl)
-      (λ no. absurd (no d)) (5, omega arith, refl) (λ no. absurd (no c)) answer status (ok_any answer (0, omega arith, refl)) says wrote
+      by_status (Contains (0 ∷ 2 ∷ 6 ∷ 7 ∷ 8 ∷ 10 ∷ [])) (λ is. (1, omega arith, refl)) (λ is. absurd (s is)) (λ is. absurd (o is)) (λ is. absurd (k is)) (λ is. (2, omega arith, refl))
+      (λ is. (3, omega arith, refl)) (4, omega arith, refl) (λ is. absurd (d is)) (λ is. (5, omega arith, refl)) (λ is. absurd (c is)) answer status (ok_any answer (0, omega arith, refl)) says wrote
+
+  -- where all that is read is valid, and no fault was counted
+  pub status_done : (of.words → ⊥) → (of.shelf → ⊥) → (Failed → ⊥) → (of.keeper → ⊥) → (of.tables → ⊥) → (of.rows → ⊥) → (of.door → ⊥) → (of.long → ⊥) → (of.clock → ⊥)
+      → (answer : Outcome) (status : ℕ) → TellsBy of answer → Writes sink answer status → Contains (0 ∷ 8 ∷ []) status
+  status_done w s o k t r d l c answer status says wrote =
+      by_status (Contains (0 ∷ 8 ∷ [])) (λ is. absurd (w is)) (λ is. absurd (s is)) (λ is. absurd (o is)) (λ is. absurd (k is)) (λ is. absurd (t is)) (λ is. absurd (r is)) (1, omega arith, refl)
+      (λ is. absurd (d is)) (λ is. absurd (l is)) (λ is. absurd (c is)) answer status (ok_any answer (0, omega arith, refl)) says wrote

@@ -4,3 +4,4 @@ pub mod Weather
 pub mod Sources
 pub mod Working
 pub mod Answers
+pub mod Complete

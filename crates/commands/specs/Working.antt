@@ -2,7 +2,7 @@
 use Rattle.std.specs.Prelude.{◌≡◌, ◌≢◌, ℕ, ◌≤◌, List, Option, None, Some, Err}
 use Rattle.board.specs.Prepare.{Shown}
 use Rattle.desk.specs.Keeping.{KeepsState}
-use Rattle.desk.specs.Opening.{AreLoaded, IsLeft, IsOfKeeper, IsWhy, TellsRowsOf}
+use Rattle.desk.specs.Opening.{AreLoaded, IsLeft, IsOfKeeper, IsWhy, MayHaveAsked, TellsRowsOf}
 use Rattle.desk.specs.Run.{IsRun}
 use Rattle.desk.specs.Seen.{DeskAt}
 use Rattle.desk.specs.declared.opening.OpenWhy.{OpenWhy}
@@ -59,13 +59,14 @@ pub record IsOpenOver (tables : TableRows) (keeper : Lent) (board : Shown) : Typ
   pub kept : KeepsState keeper.after.rows board.state
 
 -- No desk was opened: the keeper failed, its rows aren't those of a desk, or memory ran out. A sound keeper doesn't fail, and the rows of a
--- desk that was left are those of one. The rows are as before.
-pub record IsUnopened (keeper : Lent) (answer : Outcome) : Type 0 where
+-- desk that was left are those of one. The rows are as before, and no commit was asked for but that of opening.
+pub record IsUnopened (tables : TableRows) (keeper : Lent) (answer : Outcome) : Type 0 where
   pub why : OpenWhy
   pub says : answer ≡ Err (of_opening why)
   pub is : IsWhy keeper.before.rows (HasFailed keeper.before.health keeper.after.health) why
   pub left : (s : State) → IsLeft s → TellsRowsOf keeper.before.rows s → IsOfKeeper (HasFailed keeper.before.health keeper.after.health) why
   pub rows : keeper.after.rows ≡ keeper.before.rows
+  pub asked : MayHaveAsked keeper.before.rows tables keeper.before.commits keeper.after.commits
 
 -- a desk over what is seen of the keeper before it was opened: it was opened in that state, and is in this
 abbrev pub desk_over : Lent → Shown → Over DeskAt
@@ -76,5 +77,5 @@ desk_over keeper board = record {
 
 -- The rows are loaded, a desk is opened over them, and this work is done on it; or none is opened.
 abbrev pub Opens : TableRows → (Over DeskAt → Outcome → Type 0) → Lent → Option Shown → Outcome → Type 0
-Opens tables Works keeper None answer = IsUnopened keeper answer
+Opens tables Works keeper None answer = IsUnopened tables keeper answer
 Opens tables Works keeper (Some board) answer = IsOpenOver tables keeper board × Works (desk_over keeper board) answer

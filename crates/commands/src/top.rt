@@ -1,6 +1,7 @@
 ghost use Rattle.std.specs.Prelude.{◌≡◌, ◌≢◌, ◌≤◌, [], ◌∷◌, map, string_bytes, IfSome};
 ghost use Rattle.std.specs.List.{Contains};
 ghost use Rattle.commands.specs.Answers.{AreKeptOver, Blames, EndsProgram, HasDoor, HasSources, Says, Writes};
+ghost use Rattle.commands.specs.Complete.{HaveServed, IsValid};
 ghost use Rattle.desk_io.specs.Health.{IsSound, IsStill};
 ghost use Rattle.desk_io.specs.Over.{over};
 ghost use Rattle.keeper.specs.Seen.{KeeperGoesOn};
@@ -84,6 +85,10 @@ pub fn desk_main<R: Wait, S: Shelf, O: Sink, C: Clock + Drop, K: Keeper, D: Door
         → HasDoor (D.seen door.old) (command_of (map string_bytes words.now))
         → IsSound (O.seen out.old).health → IsSound (K.seen keeper).health → IsSound (C.seen clock).health → Contains
         (0 ∷ 2 ∷ 6 ∷ 7 ∷ 8 ∷ 10 ∷ []) result.status }
+    // Where the words form a command, all that it reads is valid, and no fault was counted, all was done, or memory ran out.
+    ensures done { IsValid (S.seen shelf.old) (K.seen keeper).rows (command_of (map string_bytes words.now)) → HaveServed
+        (over S.seen shelf.old shelf.new) (over O.seen out.old out.new) (lent K.seen keeper result.keeper)
+        (service C.seen D.seen D.Link.seen clock result.clock door.old door.new) → Contains (0 ∷ 8 ∷ []) result.status }
     ensures blames { Blames (HasSources (S.seen shelf.old) (command_of (map string_bytes words.now)))
         (IsSound (O.seen out.old).health) (IsSound (K.seen keeper).health)
         (HasDoor (D.seen door.old) (command_of (map string_bytes words.now)))

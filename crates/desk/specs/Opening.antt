@@ -1,5 +1,5 @@
 -- Which desk is opened over the rows of a keeper, or why none is.
-use Rattle.std.specs.Prelude.{◌≡◌, ◌<◌, ◌≤◌, ℕ, List, [], ◌∷◌, length, Option, None, Some, IsTrue}
+use Rattle.std.specs.Prelude.{◌≡◌, ◌⊎◌, ◌<◌, ◌≤◌, ℕ, List, [], ◌∷◌, length, Option, None, Some, IsTrue}
 use Rattle.board.specs.Prepare.{Shown, shown}
 use Rattle.desk_io.specs.Planned.{after}
 use Rattle.desk_io.specs.Rows.{Rows}
@@ -108,6 +108,10 @@ pub record AreAsked (told : Option Rows) (tables : TableRows) (before now : ℕ)
   pub records : List Record
   pub loaded : AreLoaded told records
   pub asked : now ≡ commits_to_open tables records before
+
+-- where no desk is opened: nothing was asked, or the one commit of opening
+abbrev pub MayHaveAsked : Option Rows → TableRows → ℕ → ℕ → Type 0
+MayHaveAsked told tables before now = (now ≡ before) ⊎ AreAsked told tables before now
 
 -- the board of the rows that were loaded
 pub record IsOpened (told : Option Rows) (tables : TableRows) (board : Shown) : Type 0 where

@@ -1,4 +1,4 @@
-ghost use Rattle.std.specs.Prelude.{◌≡◌, map, IfOk, IfErr, OnOk, OnErr, IsTrue, MatchResult};
+ghost use Rattle.std.specs.Prelude.{◌≡◌, ◌⊎◌, map, IfOk, IfErr, OnOk, OnErr, IsTrue, MatchResult};
 ghost use Rattle.board.specs.declared.state.Restored.{Restored as ARestored};
 ghost use Rattle.desk_io.specs.Health.{HasFailed};
 ghost use Rattle.desk_io.specs.Rows.{Rows, rows_of, changed_by};
@@ -12,7 +12,7 @@ ghost use Rattle.desk_state.specs.State.{State};
 ghost use Rattle.kept_state.specs.Held.{AreOfDesk};
 ghost use Rattle.kept_state.specs.Opening.{reopened};
 ghost use Rattle.desk.specs.Keeping.{KeepsState};
-ghost use Rattle.desk.specs.Opening.{commits_for, commits_to_open, AreAsked, of_keeper, of_rows};
+ghost use Rattle.desk.specs.Opening.{commits_for, commits_to_open, AreAsked, MayHaveAsked, of_keeper, of_rows};
 ghost use Rattle.desk.specs.Opening.{IsOfRows, IsOfKeeper, IsWhy};
 ghost use Rattle.desk.specs.Opening.{AreLoaded, board_of, IsLeft, IsOpened, TellsRowsOf, under};
 ghost use Rattle.desk.specs.declared.opening.OpenWhy.TheVariants.{OutOfMemory as OpenMemory};
@@ -169,6 +169,8 @@ fn restore<K: Keeper, L: Ledger>(
     ensures why { IfErr result (IsOfKeeper (HasFailed (K.seen keeper.old).health (K.seen keeper.new).health)) }
     ensures asked { IfOk result (λ b. (K.seen keeper.new).commits ≡ commits_to_open tables records.items
         (K.seen keeper.old).commits) }
+    ensures failed { OnErr result (((K.seen keeper.new).commits ≡ (K.seen keeper.old).commits)
+        ⊎ ((K.seen keeper.new).commits ≡ commits_to_open tables records.items (K.seen keeper.old).commits)) }
     ensures on { KeeperGoesOn (K.seen keeper.old) (K.seen keeper.new) }
 {
     let restored = Board::restore(alloc, tables, records, steps)?;
@@ -190,6 +192,8 @@ fn open_over<K: Keeper, L: Ledger>(
     ensures why { IfErr result (λ f. IsOfKeeper (HasFailed (K.seen keeper).health (K.seen f.keeper).health) f.why) }
     ensures asked { IfOk result (λ d. (K.seen d.keeper).commits ≡ commits_to_open tables records.items
         (K.seen keeper).commits) }
+    ensures failed { IfErr result (λ f. ((K.seen f.keeper).commits ≡ (K.seen keeper).commits)
+        ⊎ ((K.seen f.keeper).commits ≡ commits_to_open tables records.items (K.seen keeper).commits)) }
     ensures on { MatchResult result (λ d. KeeperGoesOn (K.seen keeper) (K.seen d.keeper))
         (λ f. KeeperGoesOn (K.seen keeper) (K.seen f.keeper)) }
 {
@@ -213,6 +217,8 @@ fn open_desk<K: Keeper, L: Ledger>(
         (HasFailed (K.seen keeper).health (K.seen f.keeper).health) f.why) }
     ensures asked { IfOk result (λ d. AreAsked (K.seen keeper).rows tables (K.seen keeper).commits
         (K.seen d.keeper).commits) }
+    ensures failed { IfErr result (λ f. MayHaveAsked (K.seen keeper).rows tables (K.seen keeper).commits
+        (K.seen f.keeper).commits) }
     ensures on { MatchResult result (λ d. KeeperGoesOn (K.seen keeper) (K.seen d.keeper))
         (λ f. KeeperGoesOn (K.seen keeper) (K.seen f.keeper)) }
 {
@@ -243,6 +249,9 @@ pub fn open<K: Keeper, L: Ledger>(
     // A commit is asked for exactly where an alert changed.
     ensures asked { IfOk result (λ d. AreAsked (K.seen keeper).rows tables (K.seen keeper).commits
         (K.seen d.keeper).commits) }
+    // Where none is opened, no more was asked for than that.
+    ensures failed { IfErr result (λ f. MayHaveAsked (K.seen keeper).rows tables (K.seen keeper).commits
+        (K.seen f.keeper).commits) }
     ensures on { MatchResult result (λ d. KeeperGoesOn (K.seen keeper) (K.seen d.keeper))
         (λ f. KeeperGoesOn (K.seen keeper) (K.seen f.keeper)) }
     // Over the rows of a desk that was left there is no fault of rows.

@@ -1,0 +1,52 @@
+-- When nothing but want of memory is in the way of a command.
+use Rattle.std.specs.Prelude.{◌≡◌, ◌≢◌, ◌<◌, ℕ, List, Option, Err, All, IsSome, length}
+use Rattle.desk.specs.Opening.{OnLoaded}
+use Rattle.desk_io.specs.Health.{Health, RoseOrFull}
+use Rattle.desk_io.specs.Over.{Over}
+use Rattle.desk_io.specs.Rows.{Rows}
+use Rattle.desk_io.specs.Seen.{ShelfSeen, SinkSeen}
+use Rattle.desk_io.specs.Told.{OnSource}
+use Rattle.records.specs.Checks.{IsFaultOf}
+use Rattle.records.specs.declared.faults.RowsFault.{RowsFault}
+use Rattle.records.specs.declared.faults.RowsFault.TheVariants as fault
+use Rattle.table_files.specs.Whole.{ReadsTables, Told}
+use Rattle.table_files.specs.declared.faults.BadTable.{BadTable}
+use Rattle.table_files.specs.declared.faults.TableFault.TheVariants as table
+use Rattle.words.specs.declared.task.Task.{Task}
+use Rattle.commands.specs.Seen.{Lent, Service}
+use Rattle.commands.specs.Sources.{sources_of}
+
+-- no table has a bad record
+abbrev pub AreGood : Told → Type 0
+AreGood sources = (bad : BadTable) → ReadsTables sources (Err (table.Bad bad)) → ⊥
+
+-- a source has more than 64 MiB
+abbrev pub IsTooLong : Told → List ℕ → Type 0
+IsTooLong sources name = OnSource sources name (λ bytes. 67_108_864 < length bytes)
+
+-- none of the sources has more than 64 MiB
+abbrev pub AreShort : Told → List (List ℕ) → Type 0
+AreShort sources names = All (λ name. IsTooLong sources name → ⊥) names
+
+-- no row that a keeper tells is bad, and no two are
+abbrev pub AreFaultless : Option Rows → Type 0
+AreFaultless told = (fault : RowsFault) → fault ≢ fault.OutOfMemory → OnLoaded told (λ rows. IsFaultOf rows fault) → ⊥
+
+-- The words form a command, and all that it reads is valid: the tables, its sources, the rows.
+pub record IsValid (shelf : ShelfSeen) (rows : Option Rows) (command : Option (Task × List ℕ)) : Type 0 where
+  pub formed : IsSome command
+  pub tables : AreGood shelf.sources
+  pub short : AreShort shelf.sources (sources_of command)
+  pub faultless : AreFaultless rows
+
+-- no fault was counted, and the count isn't at its end
+abbrev pub HasServed : Health → Health → Type 0
+HasServed before after = RoseOrFull before.faults after.faults → ⊥
+
+-- nor was one of all that is outside
+pub record HaveServed {L : Type 0} (shelf : Over ShelfSeen) (sink : Over SinkSeen) (keeper : Lent) (service : Service L) : Type 0 where
+  pub by_shelf : HasServed shelf.before.health shelf.after.health
+  pub by_sink : HasServed sink.before.health sink.after.health
+  pub by_keeper : HasServed keeper.before.health keeper.after.health
+  pub by_door : HasServed service.door.before.health service.door.after.health
+  pub by_clock : HasServed service.clock.before.health service.clock.after.health
