@@ -1,5 +1,5 @@
 -- What fails stays in order, each once, and among what ever failed.
-use Rattle.std.proofs.Common.{◌≡◌, ℕ, ◌+◌, Bool, true, false, cond, ◌||◌, List, [], ◌∷◌, Option, None, Some, IfSome, refl, sym, subst, ◌∙◌, arith}
+use Rattle.std.proofs.Common.{◌≡◌, ℕ, ◌+◌, ◌++◌, Bool, true, false, cond, ◌||◌, List, [], ◌∷◌, Option, None, Some, IfSome, refl, sym, subst, ◌∙◌, arith}
 use Rattle.std.specs.List.{AllByRecursion}
 use Rattle.std.proofs.lemmas.Bool.Decides.{nat_tests}
 use Rattle.plan.specs.declared.findings.Finding.{Finding}
@@ -130,6 +130,36 @@ keeps_all : (ever hs fs : List Finding) → AreAmong ever hs → AreAmong (with_
 keeps_all ever [] fs all = tt
 keeps_all ever (h ∷ hs) fs all = (still_among h ever fs all.0, keeps_all ever hs fs all.1)
 
+left_among : (h : Finding) (fs gs : List Finding) → is_among fs h ≡ true → is_among (fs ++ gs) h ≡ true
+left_among h [] gs e = absurd (cc)
+left_among h (f ∷ fs) gs e = or_more (is_same h f) (is_among fs h) (is_among (fs ++ gs) h) e (left_among h fs gs)
+
+right_among : (h : Finding) (fs gs : List Finding) → is_among gs h ≡ true → is_among (fs ++ gs) h ≡ true
+right_among h [] gs e = e
+right_among h (f ∷ fs) gs e = or_later (is_same h f) (is_among (fs ++ gs) h) (right_among h fs gs e)
+
+left_all : (fs gs hs : List Finding) → AreAmong fs hs → AreAmong (fs ++ gs) hs
+left_all fs gs [] all = tt
+left_all fs gs (h ∷ hs) all = (left_among h fs gs all.0, left_all fs gs hs all.1)
+
+right_all : (fs gs hs : List Finding) → AreAmong gs hs → AreAmong (fs ++ gs) hs
+right_all fs gs [] all = tt
+right_all fs gs (h ∷ hs) all = (right_among h fs gs all.0, right_all fs gs hs all.1)
+
+within_by : (whole : List Finding) (f g : Finding) (gs more : List Finding) (b c : Bool) → is_among whole f ≡ true → AreAmong whole (g ∷ gs) → AreAmong whole more
+    → AreAmong whole (cond b (f ∷ g ∷ gs) (cond c (g ∷ gs) (g ∷ more)))
+within_by whole f g gs more true c one all rest = (one, all)
+within_by whole f g gs more false true one all rest = all
+within_by whole f g gs more false false one all rest = (all.0, rest)
+
+within_one : (whole : List Finding) (f : Finding) (gs : List Finding) → is_among whole f ≡ true → AreAmong whole gs → AreAmong whole (with_finding f gs)
+within_one whole f [] one all = (one, tt)
+within_one whole f (g ∷ gs) one all = within_by whole f g gs (with_finding f gs) _ _ one all (within_one whole f gs one all.1)
+
+within_all : (whole ever fs : List Finding) → AreAmong whole ever → AreAmong whole fs → AreAmong whole (with_findings ever fs)
+within_all whole ever [] all more = all
+within_all whole ever (f ∷ fs) all more = within_all whole (with_finding f ever) fs (within_one whole f ever more.0 all) more.1
+
 not_same : (fs gs : List Finding) → are_same fs gs ≡ false → fs ≡ gs → ⊥
 not_same fs gs e is = let other : are_same fs gs ≡ true = subst (λ (hs : List Finding). are_same fs hs ≡ true) is (all_same fs) in let bad : false ≡ true = sym e ∙ other in absurd (cc)
 
@@ -142,6 +172,7 @@ stays_by true a findings e = record {
   same = λ is. refl;
   changed = λ ne. absurd (ne (same_is a.failing findings e));
   keeps = among_self a.ever;
+  gains = left_all a.ever findings a.ever (among_self a.ever);
 }
 stays_by false a findings e = record {
   release = refl;
@@ -151,6 +182,7 @@ stays_by false a findings e = record {
   same = λ is. absurd (not_same a.failing findings e is);
   changed = λ ne. (refl, refl);
   keeps = keeps_all a.ever a.ever findings (among_self a.ever);
+  gains = within_all (a.ever ++ findings) a.ever findings (left_all a.ever findings a.ever (among_self a.ever)) (right_all a.ever findings findings (among_self findings));
 }
 
 pub follows : (old : Option Alert) (release : ℕ) (desk : List ℕ) (findings : List Finding) (moment : ℕ) → Follows old release desk findings moment (alert_after old release desk findings moment)

@@ -1,5 +1,5 @@
 -- What becomes of the alert of a release by a judgement.
-use Rattle.std.specs.Prelude.{◌≡◌, ◌≢◌, ℕ, ◌+◌, false, List, [], ◌∷◌, Option, None, Some}
+use Rattle.std.specs.Prelude.{◌≡◌, ◌≢◌, ℕ, ◌+◌, ◌++◌, false, List, [], ◌∷◌, Option, None, Some}
 use Rattle.plan.specs.declared.findings.Finding.{Finding}
 use Rattle.plan.specs.Findings.{AreAmong}
 use Rattle.alerts.specs.declared.alert.Alert.{Alert}
@@ -14,8 +14,9 @@ pub record IsOpened (id moment : ℕ) (holder : List ℕ) (findings : List Findi
   pub ever : a.ever ≡ findings
   pub acknowledged : a.acknowledged ≡ false
 
--- An alert that was open and stays: it names exactly the rules that fail now, and every rule that it ever named. Where the
--- same rules fail it is as it was; where others do its version is one more, and nobody has acknowledged it.
+-- An alert that was open and stays: it names exactly the rules that fail now, keeps every rule that it ever named, and gains
+-- none but those that fail now. Where the same rules fail it is as it was; where others do its version is one more, and
+-- nobody has acknowledged it.
 pub record StaysOpen (old : Alert) (findings : List Finding) (a : Alert) : Type 0 where
   pub release : a.release ≡ old.release
   pub desk : a.desk ≡ old.desk
@@ -24,6 +25,7 @@ pub record StaysOpen (old : Alert) (findings : List Finding) (a : Alert) : Type 
   pub same : old.failing ≡ findings → a ≡ old
   pub changed : old.failing ≢ findings → (a.version ≡ old.version + 1) × (a.acknowledged ≡ false)
   pub keeps : AreAmong a.ever old.ever
+  pub gains : AreAmong (old.ever ++ findings) a.ever
 
 -- None opens where no rule fails, and one that is open stays, also where no rule fails any more.
 abbrev pub Follows : Option Alert → ℕ → List ℕ → List Finding → ℕ → Option Alert → Type 0
