@@ -4,7 +4,7 @@ use Rattle.std.specs.List.{AllByRecursion}
 use Rattle.std.proofs.lemmas.Bool.Decides.{nat_tests}
 use Rattle.plan.specs.declared.findings.Finding.{Finding}
 use Rattle.plan.specs.Findings.{is_same, is_before, is_among, AreInOrder, AreAmong}
-use Rattle.plan.specs.Texts.{IsMoment}
+use Rattle.desk_time.specs.Limits.{IsMoment}
 use Rattle.plan.proofs.Rows.{is_before_trans, is_before_other}
 use Rattle.alerts.specs.declared.alert.Alert.{Alert}
 use Rattle.alerts.specs.Follows.{StaysOpen, Follows}

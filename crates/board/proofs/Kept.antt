@@ -30,7 +30,7 @@ use Rattle.desk_state.proofs.Deciding.{decision_fits}
 use Rattle.desk_state.specs.Contents.{state_of}
 use Rattle.desk_state.specs.Effects.{tick}
 use Rattle.desk_state.specs.declared.content.Content.{Content}
-use Rattle.plan.specs.Texts.{IsMoment}
+use Rattle.desk_time.specs.Limits.{IsMoment}
 use Rattle.board.specs.declared.prepared.Prepared.{Prepared}
 use Rattle.board.specs.declared.steps.Judged.{Judged}
 use Rattle.decisions.specs.Reads.{DecisionAdmitsRead}

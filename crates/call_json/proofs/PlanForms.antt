@@ -9,7 +9,7 @@ use Rattle.serde_json.specs.Find.{get, as_null, as_number, as_u64}
 use Rattle.desk_time.specs.Moments.{minute_of}
 use Rattle.stations.specs.Station.{Station, is_station, station_of}
 use Rattle.plan.specs.Check.{HasMoments, IsPlan}
-use Rattle.plan.specs.Texts.{IsMoment}
+use Rattle.desk_time.specs.Limits.{IsMoment}
 use Rattle.plan.specs.declared.flights.Kind.{Kind}
 use Rattle.plan.specs.declared.flights.Leg.{Leg}
 use Rattle.plan.specs.declared.flights.Plan.{Plan}

@@ -1,7 +1,7 @@
 -- The open deferrals of an aircraft.
 use Rattle.std.proofs.Common.{◌≡◌, ℕ, List, sym, subst}
 use Rattle.std.specs.List.{AllByRecursion}
-use Rattle.plan.specs.Texts.{IsMoment}
+use Rattle.desk_time.specs.Limits.{IsMoment}
 use Rattle.deferrals.specs.declared.items.Deferral.{Deferral}
 use Rattle.deferrals.specs.Limits.{is_of, open_on}
 use Rattle.desk_state.specs.Sound.{IsOpen}

@@ -53,7 +53,8 @@ use Rattle.desk_state.specs.Chain.{◌>>-◌, unless, some_or, refused_if}
 use Rattle.desk_state.specs.Decide as d
 use Rattle.desk_state.specs.Decide.{decide}
 use Rattle.desk_state.specs.People.{may_ask, not_his_role}
-use Rattle.plan.specs.Texts.{HasMoment, IsMoment}
+use Rattle.plan.specs.Texts.{HasMoment}
+use Rattle.desk_time.specs.Limits.{IsMoment}
 use Rattle.desk_state.specs.Sound.{Sound, InBounds, ReleaseInBounds, RevisionInBounds, IsNew, MayStand, Fits, MayReplace, IsTaken, IsToldTo, Matches, IsAlerted, EffectFits, DecisionFits}
 use Rattle.release_text.specs.Valid.{IsPhased, IsThere, AreNumbered, Waits, MaySigned, HasLegs, IsSigned}
 use Rattle.desk_state.specs.Effects as effect

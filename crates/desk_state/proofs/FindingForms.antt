@@ -25,7 +25,8 @@ use Rattle.rules.specs.Circumstances.{Case, case_of}
 use Rattle.rules.specs.DestinationAlternates.{place_if, places_from}
 use Rattle.rules.specs.Equipment.{is_limiting, is_overdue, is_barred, is_barred_takeoff}
 use Rattle.rules.specs.Grounds.{Grounds}
-use Rattle.rules.specs.Judgement.{rules_of_legs, is_of_departure, places_of, places_at, case_unless, case_for, places_in_case, places_for, finding, findings_from, findings_by, tables_finding, findings_of_tables, findings_of}
+use Rattle.rules.specs.Judgement.{is_of_departure, places_of, places_at, case_unless, case_for, places_in_case, places_for, finding, findings_from, findings_by, tables_finding, findings_of_tables, findings_of}
+use Rattle.plan.specs.Findings.{rules_of_legs}
 use Rattle.rules.specs.Time.{is_late, late_places}
 use Rattle.rules.proofs.Rising.{each_append, each_weaker, each_of}
 use Rattle.desk_state.proofs.Parts.{filter_each}

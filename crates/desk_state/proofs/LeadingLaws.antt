@@ -8,7 +8,7 @@ use Rattle.ops_tables.specs.declared.rows.Actor.{Actor}
 use Rattle.ops_tables.specs.Tables.{actor_of}
 use Rattle.alerts.specs.declared.alert.Alert.{Alert}
 use Rattle.desk_state.specs.Sound.{Sound, InBounds, EffectFits, DecisionFits}
-use Rattle.plan.specs.Texts.{IsMoment}
+use Rattle.desk_time.specs.Limits.{IsMoment}
 use Rattle.alerts.proofs.Laws.{follows}
 use Rattle.desk_state.specs.declared.effect.OnAlerts.{OnAlerts}
 use Rattle.desk_state.specs.declared.effect.OnAlerts.TheVariants as on_alerts

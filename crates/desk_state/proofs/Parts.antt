@@ -14,7 +14,7 @@ use Rattle.asks.specs.declared.kept.KeptReply.{KeptReply}
 use Rattle.facts.specs.Same.{is_same, same_id, minute_of_report}
 use Rattle.facts.specs.Swept.{stays, swept}
 use Rattle.facts.specs.declared.report.Report.{Report}
-use Rattle.plan.specs.Texts.{IsMoment}
+use Rattle.desk_time.specs.Limits.{IsMoment}
 use Rattle.plan.specs.declared.release.Release.{Release}
 use Rattle.plan.specs.declared.release.Revision.{Revision}
 use Rattle.desk_state.specs.declared.effect.Sweep.{Sweep}

@@ -11,7 +11,7 @@ use Rattle.json.proofs.Printed.Utf8.{IsUtf8-are_ascii}
 use Rattle.serde_json.specs.Data.{Items}
 use Rattle.serde_json.specs.View.{items_of}
 use Rattle.desk_time.specs.Digits.{◌>>=◌}
-use Rattle.plan.specs.Findings.{code_of, is_before, AreInOrder}
+use Rattle.plan.specs.Findings.{code_of, is_before, AreInOrder, every_rule}
 use Rattle.plan.specs.Texts.{finding_text}
 use Rattle.plan.proofs.Rows.{is_before_trans}
 use Rattle.plan.specs.declared.findings.Rule.{Rule}
@@ -21,7 +21,7 @@ use Rattle.call_json.specs.Fields.{each_read}
 use Rattle.call_json.proofs.Again.{each_again}
 use Rattle.desk_time.specs.Numbers.{number_in}
 use Rattle.kept_releases.specs.Cuts.{leg_of, cut}
-use Rattle.kept_releases.specs.Findings.{every_rule, rule_among, rule_of, finding_at, finding_with, finding_within, finding_data, finding_in, comes_before, are_in_order, findings_of}
+use Rattle.kept_releases.specs.Findings.{rule_among, rule_of, finding_at, finding_with, finding_within, finding_data, finding_in, comes_before, are_in_order, findings_of}
 use Rattle.call_json.specs.Forms.{IsFinding, FindingWithin}
 use Rattle.desk_time.proofs.Chains.{bind_if, bind_any, under, either_known}
 use Rattle.desk_time.proofs.NumberLaws.{number_again, number_within, number_back}

@@ -8,7 +8,8 @@ use Rattle.desk_time.specs.Digits.{◌>>=◌}
 use Rattle.desk_time.specs.Moments.{shown, minute_of}
 use Rattle.desk_time.proofs.MomentLaws.{minute_again}
 use Rattle.desk_time.proofs.ReadLaws.{minute_is_shown}
-use Rattle.plan.specs.Texts.{IsMoment, phase_text, again_text}
+use Rattle.plan.specs.Texts.{phase_text, again_text}
+use Rattle.desk_time.specs.Limits.{IsMoment}
 use Rattle.plan.specs.declared.release.Phase.{Phase}
 use Rattle.plan.specs.declared.release.Phase.TheVariants.{Drafted, Ready, Flying, Stopped, Completed, Cancelled}
 use Rattle.kept_releases.specs.Cuts.{leg_of, cut}

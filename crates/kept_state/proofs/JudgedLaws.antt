@@ -6,7 +6,7 @@ use Rattle.std.proofs.lemmas.List.Elements.{All-from_recursion}
 use Rattle.desk_io.specs.Rows.{Rows, rows_of, changed_by}
 use Rattle.alerts.specs.Alerts.{IsAlert}
 use Rattle.keeper.specs.Kept.{AreSame}
-use Rattle.plan.specs.Texts.{IsMoment}
+use Rattle.desk_time.specs.Limits.{IsMoment}
 use Rattle.desk_state.specs.declared.change.AlertChange.{AlertChange}
 use Rattle.desk_state.specs.Effects.{nothing}
 use Rattle.desk_state.specs.Events.{put_changes, alert_changes}

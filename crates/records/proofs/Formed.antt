@@ -13,7 +13,7 @@ use Rattle.codes.specs.Groups.{groups_of, canonical}
 use Rattle.ops_tables.specs.Forms.{is_tail, is_item}
 use Rattle.facts.specs.Reading.{read_of}
 use Rattle.plan.specs.Findings.{AreAmong, is_among}
-use Rattle.plan.specs.Texts.{IsMoment}
+use Rattle.desk_time.specs.Limits.{IsMoment}
 use Rattle.plan.specs.declared.findings.Finding.{Finding}
 use Rattle.asks.specs.declared.kept.Floor.{Floor}
 use Rattle.call_json.specs.Forms.{IsId, DoneHasForms, IsFinding, IsRequest, IsFloor, FloorsRise}

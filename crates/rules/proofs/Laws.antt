@@ -9,7 +9,7 @@ use Rattle.std.proofs.lemmas.List.Elements.{All-contains_itself, Contains-append
 use Rattle.ops_tables.specs.declared.rows.TypeRow.{TypeRow}
 use Rattle.ops_tables.specs.Tables.{TableRows, type_of}
 use Rattle.plan.specs.Check.{has_airports, has_few_alternates, is_repeated, flight_fault, leg_fault, fault_or, first_fault, whole_fault, plan_fault}
-use Rattle.plan.specs.Findings.{AreInOrder}
+use Rattle.plan.specs.Findings.{AreInOrder, rules_of_legs}
 use Rattle.plan.specs.declared.check.BadPlan.{BadPlan}
 use Rattle.plan.specs.declared.check.PlanWhy.{PlanWhy}
 use Rattle.plan.specs.declared.check.PlanWhy.TheVariants.{NoAirport, Count, Repeated}
@@ -23,7 +23,7 @@ use Rattle.deferrals.specs.Held.{AreRising}
 use Rattle.deferrals.specs.Limits.{is_of}
 use Rattle.rules.specs.Grounds.{Grounds}
 use Rattle.rules.specs.Circumstances.{Case, case_of}
-use Rattle.rules.specs.Judgement.{rules_of_legs, case_unless, case_for, places_for, finding, findings_by, tables_finding, findings_of_tables, findings_of, IsTrueOf, NamesAll}
+use Rattle.rules.specs.Judgement.{case_unless, case_for, places_for, finding, findings_by, tables_finding, findings_of_tables, findings_of, IsTrueOf, NamesAll}
 use Rattle.rules.proofs.Rising.{each_append, each_weaker, each_of}
 use Rattle.rules.proofs.Order.{rules_in_order, RisesAt, FitsCase, in_order_then, no_place, places_for_rise}
 use Rattle.rules.proofs.Truth.{each_of_all, Says, true_rules, named}

@@ -5,8 +5,8 @@ use Rattle.csv_text.specs.Records.{AreRecordsOf, HasGiven}
 use Rattle.csv_text.specs.declared.records.Records.{Records}
 use Rattle.csv_text.proofs.Totals.{all_records}
 use Rattle.ops_tables.specs.Tables.{TableRows}
-use Rattle.table_files.specs.Filling.{Gives, Fills, Puts}
-use Rattle.table_files.specs.Reading.{Table, are_same, has_header, HasHeader, HasNoHeader, Begins, under_header, bad_header, row_after, rows_after, or_bad, rows_of, put, with_table}
+use Rattle.table_files.specs.Filling.{Gives, Fills, Places}
+use Rattle.table_files.specs.Reading.{Table, are_same, has_header, HasHeader, HasNoHeader, Begins, under_header, bad_header, row_after, rows_after, or_bad, rows_of, placed, with_table}
 use Rattle.table_files.specs.declared.faults.BadRecord.{BadRecord}
 use Rattle.table_files.specs.declared.faults.TableWhy.{TableWhy}
 
@@ -87,6 +87,6 @@ begins text header columns reader false h e =
 
 -- rows that a text gives, put in place
 pub filled_by : {R : Type 0} (same : R → R → Bool) (limit : ℕ) (table : Table R) (t : TableRows) (text : List ℕ) (read : Result (List R) BadRecord) (result : Result (Unit {0}) BadRecord) (old new : List R)
-    → Gives text (rows_of same limit table t) read → Puts read result old new → Fills text (with_table same limit table t) result (table.with_rows t new)
-filled_by same limit table t text (Ok rows) result old new g p = rw (p.0, p.1) (record { records = g.records; are_records = g.are_records; gives = ap (put (table.with_rows t)) g.gives })
-filled_by same limit table t text (Err bad) result old new g p = rw p.0 (record { records = g.records; are_records = g.are_records; gives = ap (put (table.with_rows t)) g.gives })
+    → Gives text (rows_of same limit table t) read → Places read result old new → Fills text (with_table same limit table t) result (table.with_rows t new)
+filled_by same limit table t text (Ok rows) result old new g p = rw (p.0, p.1) (record { records = g.records; are_records = g.are_records; gives = ap (placed (table.with_rows t)) g.gives })
+filled_by same limit table t text (Err bad) result old new g p = rw p.0 (record { records = g.records; are_records = g.are_records; gives = ap (placed (table.with_rows t)) g.gives })
