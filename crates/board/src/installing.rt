@@ -20,7 +20,7 @@ use facts::{Report, Reports};
 use plan::Release;
 
 // Puts a release in the place of the first of its id.
-#[tactic(auto, using(crate::proofs::Places::replaced))]
+#[tactic(auto, using(keeper::proofs::Places::replaced))]
 fn put_release(releases: &mut Vec<Release>, release: Release)
     ensures { releases.new.items ≡ events.put release releases.old.items }
 {

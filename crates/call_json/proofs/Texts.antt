@@ -24,10 +24,6 @@ use Rattle.call_json.specs.Digests.{is_small_digit, IsDigest}
 use Rattle.call_json.specs.Plans.{is_of_form, has_form}
 use Rattle.call_json.proofs.DigestLaws.{small_written}
 
--- a text that is UTF-8 is written as it is
-pub text_kept : (t : List ℕ) → IsUtf8 t → text_data t ≡ string t
-text_kept t is = ap string (utf8_lossy-IsUtf8 t is)
-
 -- ---- whatever is written is UTF-8
 
 front_by : (t : List ℕ) (n : ℕ) (whole : Bool) → is_utf8 (take (suc n) t) ≡ whole → IsUtf8 (take (valid_len_up_to t n) t)

@@ -15,11 +15,5 @@ use Rattle.call_json.proofs.Plain.{plan_plain, plan_has_text, plan_depth, done_p
 pub plan_text_again : (p : Plan) → HasForms p → option_and_then plan_of (read (compact_text (plan_data p))) ≡ Some p
 plan_text_again p is = ap (option_and_then plan_of) (read_compact (plan_data p) (plan_plain p is) (omega (arith, plan_depth p))) ∙ plan_again p is
 
-pub plan_text_utf8 : (p : Plan) → HasForms p → IsUtf8 (compact_text (plan_data p))
-plan_text_utf8 p is = utf8_compact (plan_data p) (plan_plain p is) (plan_has_text p)
-
 pub done_text_again : (d : Done) → DoneHasForms d → option_and_then done_of (read (compact_text (done_data d))) ≡ Some d
 done_text_again d is = ap (option_and_then done_of) (read_compact (done_data d) (done_plain d (kept_said d is)) (omega (arith, done_depth d))) ∙ done_again _ _ d is
-
-pub done_text_utf8 : (d : Done) → DoneHasForms d → IsUtf8 (compact_text (done_data d))
-done_text_utf8 d is = utf8_compact (done_data d) (done_plain d (kept_said d is)) (done_has_text d (kept_said d is))

@@ -21,23 +21,14 @@ use Rattle.desk_state.specs.Effects.{nothing}
 use Rattle.desk_state.specs.Events.{alert_changes}
 use Rattle.desk_state.specs.declared.change.AlertChange.{AlertChange}
 use Rattle.ops_tables.specs.Tables.{TableRows}
-
--- rows stand in order as their records do
-rise_as : (r : Record) (rs : List Record) → order.rises_from (row_of r) (map row_of rs) ≡ rises_from r rs
-unfolding row_of
-rise_as r [] = refl
-rise_as r (next ∷ rs) = ap (λ (rest : Bool). comes_before r next && rest) (rise_as next rs)
-
-rising_as : (rs : List Record) → order.rising (map row_of rs) ≡ rising rs
-rising_as [] = refl
-rising_as (r ∷ rs) = rise_as r rs
+use Rattle.kept_state.proofs.SameRows.{rise_as}
 
 -- the records of rows in order that are those of a desk
 pub of_desk : (rows : List Row) (records : List Record) → IsDesk rows records → IsTrue (order.rising rows) → AreOfDesk records
 of_desk rows records is up = record {
   valid = is.are.valid;
   fit = is.fit;
-  order = sym (rising_as records) ∙ ap order.rising is.are.made ∙ up;
+  order = sym (rise_as records) ∙ ap order.rising is.are.made ∙ up;
 }
 
 -- what restoring changed is kept for the state

@@ -37,10 +37,6 @@ only (Some old) (Some new) into (Err e) is = (ap (λ w. w.input) is, ap (λ w. w
 only None (Some new) into r is = absurd is
 only (Some old) None into r is = absurd is
 
-pub still : (told : Option Stream) → OnlyRead told told
-still None = tt
-still (Some told) = (refl, refl)
-
 pub only_on : (before now later : Option Stream) → OnlyRead before now → OnlyRead now later → OnlyRead before later
 only_on None None None a b = tt
 only_on None None (Some later) a b = absurd b

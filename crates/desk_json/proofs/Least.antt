@@ -46,9 +46,3 @@ call_tells text r is = tells of.Call call_fields text r is
 pub line_tells : (line : List ℕ) (r : Result (ℕ × Call) CallFault) → Answers (line_or_fault line) r → NamesExtra is_line_key line r
 unfolding line_or_fault
 line_tells line r is = tells of.Line line_fields line r is
-
--- So it is of the ask of a call, where its name says a kind.
-pub ask_tells : (text : List ℕ) (d ask : Data) (kind : AskKind) (k : List ℕ) → data_of text ≡ Some d → get (codes "ask") d ≡ Some ask → is_some (get k ask) ≡ true → is_key (of.Asked kind) k ≡ false
-    → IsExtraNamed k (told (ask_by (Some kind) ask))
-ask_tells text d ask kind k same found some extra =
-    told_more (of.Asked kind) (λ only. ask_of_kind kind ask) ask k (subst (λ o. IfSome o Ordered) found (found_ordered (codes "ask") d (in_order text d same))) some extra

@@ -2,7 +2,7 @@
 use Rattle.std.proofs.Common.{◌≡◌, ℕ, ◌+◌, ◌<◌, ◌&&◌, ltb, IfSome, Bool, true, false, List, Option, None, Some, Result, Ok, Err, inl, inr, refl, ap, subst, sym, not, cond, eqb, eq-eqb, ◌≢◌, ◌||◌, [], ◌∷◌, length, is_some, is_none, arith}
 use Rattle.std.specs.Prelude.{nat_le, nat_lt, find}
 use Rattle.std.specs.Option.{option_map}
-use Rattle.std.proofs.lemmas.Bool.{leb-false, ltb-true, ltb-false, eqb-true}
+use Rattle.std.proofs.lemmas.Bool.{leb-false, ltb-true, ltb-false, eqb-true, or_right, not-false}
 use Rattle.std.specs.Str.{bytes_eq}
 use Rattle.std.specs.List.{list_any}
 use Rattle.std.proofs.lemmas.Slice.Eq.{bytes_eq-Decides}
@@ -60,6 +60,7 @@ use Rattle.desk_state.specs.People.{not_his_role}
 use Rattle.desk_state.specs.Decide as d
 use Rattle.desk_state.specs.Decide.{decide}
 use Rattle.desk_state.specs.Allowed.{MaySign, GainsDispatcher, GainsCaptain, GainsWeather, BothAre, IsPreparing, IsSigning, IsReleased, IsConcurring, HasNotEnded, IsCancelling, IsNextRevision, IsAmending, HasMore, HasNoMore, has_text, IsNextLeg, IsCaptainOf, FliesAs, FliesBy, IsDeparting, IsStopping, IsCompleting, IsInVersion, IsAcknowledging, OfHeld, IsListed, IsEffectOf, admits, defers, clears, drafts, prepares, signs, concurs, amends, cancels, departs, stops, completes, acknowledges, purges, sweeps, HasEndedAt, AskedOf, IsShownTo, IsAnswer, IsUnused, DecisionOf}
+use Rattle.desk_io.proofs.Bytes.{same_bytes}
 
 given : {A : Type 0} (s : State) (actor : List ℕ) (a : Ask) (m : Result A Refusal) (f : A → Result Decision Refusal) → ((x : A) → m ≡ Ok x → AskedOf s actor a (f x)) → AskedOf s actor a (m >>- f)
 given s actor a (Err x) f goes = tt
@@ -79,15 +80,8 @@ no_more : (b : Bool) (x : Refusal) → refused_if b x ≡ None → b ≡ false
 no_more true x e = absurd (cc)
 no_more false x e = refl
 
-not_not : (b : Bool) → not b ≡ false → b ≡ true
-not_not true e = refl
-not_not false e = absurd (cc)
-
 pub so : (b : Bool) (x : Refusal) → refused_if (not b) x ≡ None → b ≡ true
-so b x e = not_not b (no_more (not b) x e)
-
-pub same_bytes : (a b : List ℕ) → bytes_eq a b ≡ true → a ≡ b
-same_bytes a b e = (bytes_eq-Decides a b).0 e
+so b x e = not-false b (no_more (not b) x e)
 
 his : (person actor : List ℕ) → d.not_yours person actor ≡ None → person ≡ actor
 his person actor e = same_bytes person actor (so (bytes_eq person actor) _ e)
@@ -298,10 +292,6 @@ read_given (Ok other) read e = cc
 
 -- a report that is found is held, with its text
 
-or_later : (a b : Bool) → b ≡ true → (a || b) ≡ true
-or_later true b e = refl
-or_later false b e = e
-
 both_parts : (a b : Bool) → a ≡ true → b ≡ true → (a && b) ≡ true
 both_parts true b e f = f
 both_parts false b e f = absurd (cc)
@@ -316,7 +306,7 @@ id_by : (text : List ℕ) (minute id : ℕ) (r : Report) (rs : List Report) (b :
 id_by text minute id r rs true same e later =
     let is : r.id ≡ id = cc in
     rw (both_parts (eqb r.id id) (bytes_eq r.text text) (eq-eqb r.id id is) (first_part (bytes_eq r.text text) (eqb (minute_of_report r) minute) same)) refl
-id_by text minute id r rs false same e later = or_later (has_text id text r) (list_any (has_text id text) rs) (later e)
+id_by text minute id r rs false same e later = or_right (has_text id text r) (list_any (has_text id text) rs) (later e)
 
 id_held : (text : List ℕ) (minute id : ℕ) (rs : List Report) → option_map (λ x. x.id) (find (is_same text minute) rs) ≡ Some id → list_any (has_text id text) rs ≡ true
 id_held text minute id [] e = absurd (cc)

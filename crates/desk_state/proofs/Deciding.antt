@@ -1,6 +1,6 @@
 -- What a call comes to fits the desk.
 use Rattle.std.specs.Str.{bytes_eq}
-use Rattle.std.proofs.lemmas.Bool.{eqb-true, eq-eqb, leb-false, leb-true, ltb-true}
+use Rattle.std.proofs.lemmas.Bool.{eqb-true, eq-eqb, leb-false, leb-true, ltb-true, and_parts, not-false}
 use Rattle.std.proofs.lemmas.Slice.Eq.{bytes_eq-Decides}
 use Rattle.std.proofs.Common.{◌≡◌, ℕ, ◌+◌, ◌/◌, ◌<◌, ◌≤◌, ◌==◌, not, ◌&&◌, Bool, true, false, cond, eqb, ltb, is_some, List, [], ◌∷◌, length, Option, None, Some, IfSome, Result, Ok, Err, refl, subst, sym, ◌∙◌, arith}
 use Rattle.std.specs.Prelude.{nat_le}
@@ -60,8 +60,10 @@ use Rattle.release_text.specs.Valid.{IsPhased, IsThere, AreNumbered, Waits, MayS
 use Rattle.desk_state.specs.Effects as effect
 use Rattle.desk_state.specs.Texts.{newest}
 use Rattle.asks.specs.Forms.{IsCall, CanBeShown, RefusalHasMoment}
-use Rattle.desk_state.proofs.Each.{found_each, each_weaker}
+use Rattle.desk_state.proofs.Each.{found_each}
 use Rattle.desk_state.proofs.Parts.{later_within}
+use Rattle.desk_io.proofs.Each.{each_weaker}
+use Rattle.desk_io.proofs.Bytes.{same_bytes}
 
 -- Chains.
 
@@ -135,15 +137,8 @@ change_stops plan (Some v) phase = plan_stops (change_fault plan v.plan phase)
 
 -- What the tests say.
 
-not_not : (b : Bool) → not b ≡ false → b ≡ true
-not_not true e = refl
-not_not false e = absurd (cc)
-
 so : (b : Bool) (x : Refusal) → refused_if (not b) x ≡ None → b ≡ true
-so b x e = not_not b (not_so (not b) x e)
-
-same_bytes : (a b : List ℕ) → bytes_eq a b ≡ true → a ≡ b
-same_bytes a b e = (bytes_eq-Decides a b).0 e
+so b x e = not-false b (not_so (not b) x e)
 
 -- the digest that was asked for is that of the text
 on_text : (v : Revision) (digest : List ℕ) → d.mistaken_text v digest ≡ None → digest ≡ revision_digest v
@@ -169,15 +164,11 @@ count_by true false legs e = absurd (cc)
 count_by true true false e = absurd (cc)
 count_by true true true e = refl
 
-both_true : (a b : Bool) → (a && b) ≡ true → (a ≡ true) × (b ≡ true)
-both_true true b e = (refl, e)
-both_true false b e = absurd (cc)
-
 has_a_leg : (tables : TableRows) (plan : Plan) → plan_fault tables plan ≡ None → 1 ≤ length plan.legs
 unfolding plan_fault
 has_a_leg tables plan e =
     leb-true 1 (length plan.legs)
-    (both_true (nat_le 1 (length plan.legs)) (nat_le (length plan.legs) 5)
+    (and_parts (nat_le 1 (length plan.legs)) (nat_le (length plan.legs) 5)
     (count_by (is_some (tail_named tables plan.tail)) (is_captain (actor_of tables plan.captain)) (has_legs plan)
     (whole_first (whole_fault tables plan) (first_fault tables 1 None plan.legs) e))).0
 

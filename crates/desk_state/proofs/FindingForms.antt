@@ -28,8 +28,9 @@ use Rattle.rules.specs.Grounds.{Grounds}
 use Rattle.rules.specs.Judgement.{is_of_departure, places_of, places_at, case_unless, case_for, places_in_case, places_for, finding, findings_from, findings_by, tables_finding, findings_of_tables, findings_of}
 use Rattle.plan.specs.Findings.{rules_of_legs}
 use Rattle.rules.specs.Time.{is_late, late_places}
-use Rattle.rules.proofs.Rising.{each_append, each_weaker, each_of}
 use Rattle.desk_state.proofs.Parts.{filter_each}
+use Rattle.desk_io.proofs.Each.{each_append, each_weaker, each_of}
+use Rattle.plan.proofs.FewAlternates.{HasFew, few_alternates}
 
 -- ---- places
 
@@ -98,32 +99,6 @@ for_formed plan phase g c rule leg fits n =
     (place_formed (is_late rule g.tables.settings plan.kind phase n leg g.moment) 0 (omega arith)) (case_formed rule c (standing phase n) leg fits)
 
 -- ---- the plan that is judged
-
--- a leg of a plan that passes its tests has at most three alternates
-abbrev HasFew : Leg → Type 0
-HasFew leg = length leg.alternates ≤ 3
-
-no_fault : (why : Option PlanWhy) (n : ℕ) (later : Option BadPlan) → fault_or why n later ≡ None → (why ≡ None) × (later ≡ None)
-no_fault None n later e = (refl, e)
-no_fault (Some why) n later e = absurd (cc)
-
-few_by : (airports few : Bool) (rest : Option PlanWhy) → cond (not airports) (Some NoAirport) (cond (not few) (Some Count) rest) ≡ None → few ≡ true
-few_by true true rest e = refl
-few_by true false rest e = absurd (cc)
-few_by false few rest e = absurd (cc)
-
-few_of : (tables : TableRows) (before : Option Leg) (leg : Leg) → leg_fault tables before leg ≡ None → HasFew leg
-few_of tables before leg e = leb-true (length leg.alternates) 3 (few_by (has_airports tables leg) (has_few_alternates leg) (cond (is_repeated leg) (Some Repeated) (flight_fault before leg)) e)
-
-few_from : (tables : TableRows) (n : ℕ) (before : Option Leg) (legs : List Leg) → first_fault tables n before legs ≡ None → AllByRecursion HasFew legs
-few_from tables n before [] e = tt
-few_from tables n before (leg ∷ legs) e =
-    let none = no_fault (leg_fault tables before leg) n (first_fault tables (n + 1) (Some leg) legs) e in
-    (few_of tables before leg none.0, few_from tables (n + 1) (Some leg) legs none.1)
-
-few_alternates : (tables : TableRows) (plan : Plan) → plan_fault tables plan ≡ None → AllByRecursion HasFew plan.legs
-unfolding plan_fault
-few_alternates tables plan e = few_from tables 1 None plan.legs (no_fault (whole_fault tables plan) 0 (first_fault tables 1 None plan.legs) e).1
 
 fits_with : (aircraft : Option TypeRow) (plan : Plan) (g : Grounds) → AllByRecursion HasFew plan.legs → HaveIds g.deferrals
     → AllByRecursion (FitsCase (option_map (case_of g plan) aircraft)) plan.legs

@@ -20,7 +20,7 @@ use Rattle.plan.specs.declared.release.Phase.{Phase}
 use Rattle.call_json.specs.Forms.{IsId, IsAttached}
 use Rattle.release_text.specs.Concerned.{concerned}
 use Rattle.release_text.specs.Weather.{where_held, latest_at, latest_of, weather_for, attached_of, attached_to}
-use Rattle.rules.proofs.Rising.{each_append}
+use Rattle.desk_io.proofs.Each.{each_append}
 
 -- A report that is received as a text in UTF-8.
 pub received_formed : (s : State) (text : List ℕ) (report : Report) → IsMoment s.moment → IsUtf8 text → IsReceived s text report → ReportHasForms report

@@ -16,9 +16,6 @@ use Rattle.facts.specs.Latest.{is_of, where_of, later, latest, IsLatestReport, I
 abbrev NoLater : Kind → Station → ℕ → Report → Type 0
 NoLater kind station minute q = IsTrue (is_of kind station q) → minute_of_report q ≤ minute
 
-abbrev NotAt : Kind → Station → ℕ → Report → Type 0
-NotAt kind station minute q = IsTrue (is_of kind station q) → minute_of_report q ≢ minute
-
 -- another report in front
 other_first : (kind : Kind) (station : Station) (r : Report) (rs : List Report) (o : Option Report)
     → is_of kind station r ≡ false → IsLatest kind station rs o → IsLatest kind station (r ∷ rs) o

@@ -7,7 +7,6 @@ use Rattle.codes.specs.Groups.{groups_of, canonical, first_of}
 use Rattle.codes.specs.declared.fault.BadReport.{BadReport}
 use Rattle.codes.proofs.CanonicalLaws.{groups_are_groups, groups_of_canonical}
 use Rattle.codes.proofs.LengthLaws.{length-canonical}
-use Rattle.codes.proofs.WordLaws.{same_bytes}
 use Rattle.facts.specs.Reading.{observes, forecasts, is_forecast, read_as, reading, read_of, ReadHasMoments}
 use Rattle.facts.specs.declared.report.Read.{Read}
 use Rattle.facts.proofs.Moments.{ok_has, HasObserved, observed_within}
@@ -17,6 +16,7 @@ use Rattle.metar.specs.declared.metar.Metar.{Metar}
 use Rattle.taf.specs.Reading as forecast
 use Rattle.taf.specs.declared.forecast.Taf.{Taf}
 use Rattle.taf.proofs.ReportLaws.{reads}
+use Rattle.desk_io.proofs.Bytes.{same_bytes}
 
 -- ---- what is read has moments
 

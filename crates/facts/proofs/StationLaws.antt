@@ -47,7 +47,7 @@ below_each e s (t ∷ ks) low all = by (slice_cmp nat_cmp s t) (below_each e s k
     by Equal rest = all
     by Greater rest = (all.0, rest)
 
-above_each : (s t : Station) (ks : List Station) → slice_cmp nat_cmp s t ≡ Less → AllByRecursion (λ y. slice_cmp nat_cmp t y ≡ Less) ks → AllByRecursion (λ y. slice_cmp nat_cmp s y ≡ Less) ks
+pub above_each : (s t : Station) (ks : List Station) → slice_cmp nat_cmp s t ≡ Less → AllByRecursion (λ y. slice_cmp nat_cmp t y ≡ Less) ks → AllByRecursion (λ y. slice_cmp nat_cmp s y ≡ Less) ks
 above_each s t [] low all = tt
 above_each s t (y ∷ ks) low all = (nat_list_cmp_total.trans s t y low all.0, above_each s t ks low all.1)
 

@@ -146,6 +146,3 @@ findings_depth fs = let all = list_depth finding_data 0 finding_depth fs in omeg
 -- the text of a valid release is read as its JSON, and that as the release
 pub row_read : (r : Release) → IsKept r → read (compact_text (release_data r)) ≡ Some (release_data r)
 row_read r is = read_compact (release_data r) (release_plain r is.formed) (let few = release_depth r in omega arith)
-
-pub row_utf8 : (r : Release) → IsKept r → IsUtf8 (compact_text (release_data r))
-row_utf8 r is = utf8_compact (release_data r) (release_plain r is.formed) (release_has_text r is.formed)

@@ -26,16 +26,15 @@ use Rattle.kept_releases.specs.Rows.{SignedAtMoment, RevisionHasMoments, Release
 use Rattle.kept_releases.specs.declared.revisions.Head.{Head}
 use Rattle.kept_releases.specs.declared.revisions.Signatures.{Signatures}
 use Rattle.kept_releases.specs.declared.releases.Revisions.{Revisions}
-use Rattle.desk_time.proofs.Chains.{bind_if, bind_any, then_if, under, either, weaker}
+use Rattle.desk_time.proofs.Chains.{bind_if, bind_any, then_if, under, either}
 use Rattle.kept_releases.proofs.KeptLaws.{valid_from_test}
 use Rattle.kept_releases.proofs.PhaseLaws.{phase_formed}
 use Rattle.call_json.proofs.DigestLaws.{digest_formed}
 use Rattle.call_json.proofs.PlanForms.{id_formed, moment_formed, each_formed, plan_formed, plan_from_forms}
+use Rattle.std.proofs.lemmas.Option.{IfSome_then}
+use Rattle.call_json.proofs.DoneForms.{digest_is}
 
 -- ---- fields
-
-pub digest_at_formed : (key : List ℕ) (d : Data) → IfSome (digest_at key d) IsDigest
-digest_at_formed key d = then_if digest_of (text_at key d) IsDigest digest_formed
 
 abbrev pub IsPerson : List ℕ → Type 0
 IsPerson t = is_person t ≡ true
@@ -63,7 +62,7 @@ signature_formed : (d : Data) → IfSome (signature_of d) IsSignature
 signature_formed d =
     bind_if (person_at (codes "actor") d) _ IsPerson IsSignature (person_at_formed (codes "actor") d) (λ actor is_actor.
     bind_if (moment_at (codes "at") d) _ IsMoment IsSignature (moment_formed (codes "at") d) (λ at is_at.
-    bind_if (digest_at (codes "digest") d) _ IsDigest IsSignature (digest_at_formed (codes "digest") d) (λ digest is_digest.
+    bind_if (digest_at (codes "digest") d) _ IsDigest IsSignature (digest_is (codes "digest") d) (λ digest is_digest.
     under (has_members 3 d) _ IsSignature (λ exact. record { actor = is_actor; at = is_at; digest = is_digest }))))
 
 abbrev MayBeSignature : Option Signature → Type 0
@@ -127,7 +126,7 @@ revisions_formed d =
 phase_at_formed : (d : Data) → IfSome (phase_at d) IsPhase
 phase_at_formed d = then_if phase_of (text_at (codes "phase") d) IsPhase phase_formed
 
-moment_of_phase : (p : Phase) → IsPhase p → HasMoment p
+pub moment_of_phase : (p : Phase) → IsPhase p → HasMoment p
 moment_of_phase Drafted is = tt
 moment_of_phase Ready is = tt
 moment_of_phase (Flying leg) is = tt
@@ -152,7 +151,7 @@ has_plans r is = record { pending = may_have_plan r.pending is.pending; active =
 
 -- each plan of what is read is one whose text can be made
 pub release_plans : (id : ℕ) (d : Data) → IfSome (release_in id d) HasPlans
-release_plans id d = weaker (release_in id d) (release_formed id d) has_plans
+release_plans id d = IfSome_then (release_in id d) (release_formed id d) has_plans
 
 -- only valid releases are read
 pub release_kept : (id : ℕ) (d : Data) → IfSome (release_of id d) IsKept

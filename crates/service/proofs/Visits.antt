@@ -20,10 +20,11 @@ use Rattle.service.specs.declared.serving.Served.{Served}
 use Rattle.service.specs.declared.serving.Served.TheVariants as served
 use Rattle.service.proofs.Joins.{joined}
 use Rattle.service.proofs.Lines.{wrote_as}
+use Rattle.std.proofs.lemmas.Bool.{or_right}
 
 -- ---- a connection seen from before
 
-same_bytes : (bytes : Option (List ℕ)) → OnBoth bytes bytes (λ b l. AreRequests b [] l)
+pub same_bytes : (bytes : Option (List ℕ)) → OnBoth bytes bytes (λ b l. AreRequests b [] l)
 same_bytes None = tt
 same_bytes (Some bytes) = refl
 
@@ -77,17 +78,13 @@ or_more : (a b c : Bool) → (b ≡ true → c ≡ true) → (a || b) ≡ true �
 or_more true b c more is = refl
 or_more false b c more is = more is
 
-or_last : (a b : Bool) → b ≡ true → (a || b) ≡ true
-or_last true b is = refl
-or_last false b is = is
-
 some_first : {L : Type 0} (vs : List (Visit L)) (v : Visit L) → list_any ended_by_clock vs ≡ true → list_any ended_by_clock (vs ++ v ∷ []) ≡ true
 some_first [] v is = absurd (cc is)
 some_first (w ∷ ws) v is = or_more (ended_by_clock w) (list_any ended_by_clock ws) (list_any ended_by_clock (ws ++ v ∷ [])) (some_first ws v) is
 
 some_last : {L : Type 0} (vs : List (Visit L)) (v : Visit L) → v.served ≡ served.ClockFault → list_any ended_by_clock (vs ++ v ∷ []) ≡ true
 some_last [] v how = ap (λ (h : Served). is_clock_fault h || false) how
-some_last (w ∷ ws) v how = or_last (ended_by_clock w) (list_any ended_by_clock (ws ++ v ∷ [])) (some_last ws v how)
+some_last (w ∷ ws) v how = or_right (ended_by_clock w) (list_any ended_by_clock (ws ++ v ∷ [])) (some_last ws v how)
 
 length_on : {L : Type 0} (vs : List (Visit L)) (v : Visit L) → length (vs ++ v ∷ []) ≡ length vs + 1
 length_on [] v = refl

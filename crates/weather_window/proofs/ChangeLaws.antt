@@ -8,11 +8,10 @@ use Rattle.codes.specs.Cond.{lesser}
 use Rattle.taf.specs.declared.forecast.Part.{Part}
 use Rattle.taf.specs.declared.forecast.Taf.{Taf}
 use Rattle.metar.specs.declared.metar.Metar.{Metar}
-use Rattle.codes.proofs.CondLaws.{lesser_assoc}
+use Rattle.codes.proofs.CondLaws.{lesser_assoc, lesser_comm}
 use Rattle.weather_window.specs.Window.{least_of}
 use Rattle.weather_window.specs.Changes.{part_changes, forecast_changes, report_changes, changes, is_between, changes_between, next_change, part_count}
 use Rattle.weather_window.specs.Running.{sooner, soonest}
-use Rattle.weather_window.proofs.LeastLaws.{lesser_comm}
 
 soonest_append : (after to : ℕ) (found : Option ℕ) (xs ys : List ℕ)
     → soonest after to found (xs ++ ys) ≡ soonest after to (soonest after to found xs) ys

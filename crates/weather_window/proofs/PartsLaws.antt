@@ -8,14 +8,14 @@ use Rattle.codes.specs.Cond.{lesser}
 use Rattle.taf.specs.declared.forecast.Part.{Part}
 use Rattle.taf.specs.declared.forecast.PartKind.{PartKind}
 use Rattle.taf.specs.declared.forecast.PartKind.TheVariants.{Base, From, Becoming, Tempo, Prob}
-use Rattle.codes.proofs.CondLaws.{lesser_assoc}
+use Rattle.codes.proofs.CondLaws.{lesser_assoc, lesser_comm}
 use Rattle.weather_window.specs.declared.parts.Role.{Role}
 use Rattle.weather_window.specs.declared.parts.Role.TheVariants.{Replaces, Lasts, Passes, Silent}
 use Rattle.weather_window.specs.declared.parts.Holding.{Holding}
 use Rattle.weather_window.specs.Values.{Element, is_becoming, is_temporary, is_within, has_replaced, has_become, is_changing, may_hold, last_named, all_named, values_in_force, part_values}
 use Rattle.weather_window.specs.Window.{least_of}
 use Rattle.weather_window.specs.Running.{role_of, and_value, held_after, least_held, only, least_at}
-use Rattle.weather_window.proofs.LeastLaws.{lesser_comm, or_else_assoc, least_of_append, least_of_option}
+use Rattle.weather_window.proofs.LeastLaws.{or_else_assoc, least_of_append, least_of_option}
 
 -- what the parts that have become last, where they name the element
 abbrev lasting_of : Element → ℕ → List Part → Option ℕ
