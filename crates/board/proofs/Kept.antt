@@ -24,13 +24,11 @@ use Rattle.std.proofs.lemmas.List.Elements.{All-from_recursion}
 use Rattle.desk_state.specs.Allowed.{MayLeadTo, MayTickTo}
 use Rattle.desk_state.specs.Told.{takes_alert, AreDifferences, takes_none}
 use Rattle.desk_state.proofs.ToldLaws.{call_told, tick_told}
-use Rattle.desk_state.proofs.LeadingLaws.{call_leads, tick_leads, tick_fits}
+use Rattle.desk_state.proofs.LeadingLaws.{call_leads, tick_leads}
 use Rattle.desk_state.proofs.Changes.{changes_lead}
 use Rattle.desk_state.proofs.Deciding.{decision_fits}
 use Rattle.desk_state.specs.Contents.{state_of}
-use Rattle.desk_state.specs.Effects.{tick}
 use Rattle.desk_state.specs.declared.content.Content.{Content}
-use Rattle.desk_time.specs.Limits.{IsMoment}
 use Rattle.board.specs.declared.prepared.Prepared.{Prepared}
 use Rattle.board.specs.declared.steps.Judged.{Judged}
 use Rattle.decisions.specs.Reads.{DecisionAdmitsRead}

@@ -1,8 +1,5 @@
 -- The text of plain data is read as that data.
-use Rattle.std.proofs.Common.{◌≡◌, ℕ, ◌≤◌, Bool, true, false, List, [], ◌∷◌, Some, option_map, option_and_then, IsUtf8, refl, sym, ap, ◌∙◌, arith, append-nil, Less, Greater, nat_cmp}
-use Rattle.std.specs.Ordering.{ordering_reverse}
-use Rattle.std.specs.Cmp.Lexicographic.{slice_cmp}
-use Rattle.std.proofs.lemmas.Cmp.{nat_list_cmp_total}
+use Rattle.std.proofs.Common.{◌≡◌, ◌≤◌, Bool, true, false, [], ◌∷◌, Some, option_map, option_and_then, IsUtf8, refl, sym, ap, ◌∙◌, arith, append-nil}
 use Rattle.std.proofs.lemmas.Fmt.{IsAscii-decimal}
 use Rattle.std.proofs.lemmas.Str.{IsUtf8-append, IsUtf8-from_ascii}
 use Rattle.json.specs.Json as json
@@ -17,7 +14,7 @@ use Rattle.serde_json.specs.Read.{read, of_json, of_items, of_members, max_depth
 use Rattle.serde_json.specs.Written.{outline, items_outline, members_outline, comma_if, compact_text, items_text, members_text, has_float, items_have_float, members_have_float}
 use Rattle.serde_json.proofs.Numbers.{number_of-decimal}
 use Rattle.serde_json.proofs.Texts.{print-outline}
-use Rattle.call_json.specs.Plain.{IsBefore, AreInOrder, IsPlain, ItemsArePlain, MembersArePlain, HasText, ItemsHaveText, MembersHaveText}
+use Rattle.call_json.specs.Plain.{AreInOrder, IsPlain, ItemsArePlain, MembersArePlain, HasText, ItemsHaveText, MembersHaveText}
 use Rattle.call_json.proofs.Joined.{joined, joined_again, joined_nothing, put_last}
 
 -- ---- what is read of the tree that is written

@@ -1,7 +1,6 @@
 -- Lists whose items are read one after another.
 use Rattle.std.proofs.Common.{◌≡◌, ℕ, suc, ◌+◌, ◌<◌, ◌≤◌, List, [], ◌∷◌, ◌++◌, length, get_or, map, drop, Option, None, Some, IfSome, refl, ap, sym, subst, append_assoc, add-one, arith, drop-cons}
-use Rattle.std.proofs.Math.Seq.{drop-length}
-use Rattle.std.proofs.lemmas.List.{append-nil, map-append}
+use Rattle.std.proofs.lemmas.List.{map-append}
 use Rattle.std.specs.List.{AllByRecursion}
 use Rattle.serde_json.specs.Data.{Data, Items, no_items, item}
 use Rattle.serde_json.specs.Events.{items_len}
@@ -10,7 +9,6 @@ use Rattle.serde_json.specs.declared.value.Value.{Value}
 use Rattle.serde_json.proofs.Views.{items_len-items_view}
 use Rattle.desk_time.specs.Digits.{◌>>=◌}
 use Rattle.call_json.specs.Fields.{each_read}
-use Rattle.desk_io.proofs.Each.{each_push}
 
 -- what was read so far, and then what is read of the rest
 abbrev pub onto : {A : Type 0} → List A → Option (List A) → Option (List A)

@@ -1,8 +1,7 @@
 -- A stretch is read exactly where each of its groups has its shape.
-use Rattle.std.proofs.Common.{◌≡◌, ℕ, ◌+◌, List, [], ◌∷◌, Option, None, Some, Ok, All, refl}
+use Rattle.std.proofs.Common.{◌≡◌, ℕ, ◌+◌, List, [], ◌∷◌, Option, None, Some, All, refl}
 use Rattle.std.proofs.lemmas.List.Elements.{All-nil, All-cons}
-use Rattle.codes.specs.Cond.{cond_of, cond_unless, first_fault, fault_or, shape_fault, named_cond}
-use Rattle.codes.specs.declared.cond.Cond.{Cond}
+use Rattle.codes.specs.Cond.{first_fault, fault_or, shape_fault}
 use Rattle.codes.specs.declared.fault.Why.{Why}
 use Rattle.codes.specs.declared.fault.BadReport.{BadReport}
 use Rattle.codes.specs.declared.fault.Form.{Form}

@@ -1,5 +1,5 @@
 -- Tests of words among groups.
-use Rattle.std.proofs.Common.{◌≡◌, ℕ, true, List, Contains, Decides, bytes_eq, refl, subst}
+use Rattle.std.proofs.Common.{ℕ, List, Contains, Decides, bytes_eq, refl, subst}
 use Rattle.std.specs.List.{list_any}
 use Rattle.std.proofs.lemmas.Slice.Eq.{bytes_eq-Decides}
 use Rattle.std.proofs.lemmas.List.Folds.{Any-from_list_any, list_any-from_Any}

@@ -1,5 +1,5 @@
 -- The key more that is told is the least of those of its object.
-use Rattle.std.proofs.Common.{◌≡◌, ℕ, true, false, List, Option, None, Some, IfSome, Result, codes, refl, sym, subst, true≢false}
+use Rattle.std.proofs.Common.{◌≡◌, ℕ, true, false, List, Option, None, Some, IfSome, Result, refl, sym, subst, true≢false}
 use Rattle.std.specs.Prelude.{is_some}
 use Rattle.serde_json.specs.Data.{Data, null, boolean, number, string, array, object}
 use Rattle.serde_json.specs.Find.{get}
@@ -9,11 +9,10 @@ use Rattle.asks.specs.declared.call.Call.{Call}
 use Rattle.desk_json.specs.declared.bad_call.CallFault.{CallFault}
 use Rattle.desk_json.specs.declared.keys.Object.{Object}
 use Rattle.desk_json.specs.declared.keys.Object.TheVariants as of
-use Rattle.desk_json.specs.declared.keys.AskKind.{AskKind}
 use Rattle.desk_json.specs.Keys.{is_key, is_line_key, is_call_key, first_extra, no_extra, only_keys, and_then}
-use Rattle.desk_json.specs.Faults.{ask_by, ask_of_kind, call_fields, line_fields, read_as, call_or_fault, line_or_fault, Answers, IsExtraNamed, NamesExtra}
+use Rattle.desk_json.specs.Faults.{call_fields, line_fields, read_as, call_or_fault, line_or_fault, Answers, IsExtraNamed, NamesExtra}
 use Rattle.desk_json.proofs.Members.{IsUpTo, first_least}
-use Rattle.desk_json.proofs.Orders.{Ordered, data_ordered, found_ordered}
+use Rattle.desk_json.proofs.Orders.{Ordered, data_ordered}
 use Rattle.desk_json.proofs.Results.{told, answered}
 
 told_first : {A : Type 0} (k : List ℕ) (more : Option (List ℕ)) (f : Unit {0} → Result A BadCall) → IsUpTo k more → IsExtraNamed k (told (and_then (no_extra more) f))

@@ -1,5 +1,5 @@
 -- A reply of good form is read again of its text.
-use Rattle.std.proofs.Common.{◌≡◌, ℕ, ◌^◌, ◌<◌, ◌≤◌, true, if◌then◌else◌, List, length, Option, None, Some, IfSome, IfOk, Result, Ok, Err, IsUtf8, refl, sym, ap, ◌∙◌, subst, arith, eq-eqb}
+use Rattle.std.proofs.Common.{◌≡◌, ℕ, ◌^◌, ◌<◌, ◌≤◌, if◌then◌else◌, List, length, Option, None, Some, IfSome, IfOk, Result, Ok, Err, IsUtf8, refl, sym, ap, ◌∙◌, subst, arith, eq-eqb}
 use Rattle.std.specs.Str.{bytes_eq}
 use Rattle.std.specs.Str.Lossy.{utf8_lossy}
 use Rattle.std.proofs.lemmas.Slice.Eq.{bytes_eq-Decides}
@@ -17,13 +17,12 @@ use Rattle.plan.specs.Texts.{finding_text, phase_text}
 use Rattle.plan.specs.declared.check.PlanWhy.{PlanWhy}
 use Rattle.plan.specs.declared.check.PlanWhy.TheVariants as plan_why
 use Rattle.plan.specs.declared.findings.Finding.{Finding}
-use Rattle.plan.specs.declared.release.Phase.{Phase}
 use Rattle.asks.specs.Forms.{CanBeShown}
 use Rattle.asks.specs.declared.reply.Reply.{Reply}
 use Rattle.asks.specs.declared.reply.Reply.TheVariants.{Done, Seen, Refused}
 use Rattle.asks.specs.declared.reply.Refusal.{Refusal}
 use Rattle.asks.specs.declared.reply.Refusal.TheVariants.{UnknownActor, WrongKey, NotYourRole, NumberReused, BadReport, DayOutOfReach, ReportsFull, UnknownTail, NoSuchDeferral, NoSuchRelease, NotYours, BadPlan, NotPending, WrongRevision, WrongText, WeatherNewer, RuleFails, WrongPhase, AlreadySigned, NoSuchAlert, AlertMoved, TooYoung, ReleasesFull, HistoryFull, NoSuchStation, Unkept, NumberSwept, UnknownItem, BadFound, DeferralsFull}
-use Rattle.call_json.specs.Forms.{IsAmount, IsSaidFinding}
+use Rattle.call_json.specs.Forms.{IsSaidFinding}
 use Rattle.call_json.specs.Fields.{data_of, up_to}
 use Rattle.call_json.specs.Plain.{IsPlain, HasText}
 use Rattle.call_json.proofs.Again.{small_again, amount_again, each_again, done_again}
@@ -32,10 +31,8 @@ use Rattle.call_json.proofs.Compact.{read_compact, utf8_compact}
 use Rattle.call_json.proofs.DigestLaws.{digest_again}
 use Rattle.call_json.proofs.Plain.{order_of, text_of, list_plain, list_has_text, list_depth, done_plain, done_has_text, done_depth, amount_plain}
 use Rattle.call_json.proofs.Texts.{written_utf8, moment_utf8, digest_utf8}
-use Rattle.kept_releases.specs.Phases.{phase_of, IsPhase}
 use Rattle.kept_releases.proofs.FindingLaws.{finding_again, finding_utf8}
-use Rattle.kept_releases.proofs.PhaseLaws.{phase_again}
-use Rattle.kept_releases.proofs.ReleaseLaws.{phase_utf8, phase_text_again}
+use Rattle.kept_releases.proofs.ReleaseLaws.{phase_text_again}
 use Rattle.desk_json.specs.Replies.{why_name, plan_why_name, finding_data, with_fields, refusal_members, refusal_data, reply_data, reply_text}
 use Rattle.desk_json.specs.ReadReplies.{why_of, plan_why_of, finding_in, reply_of, if_text, reply_in, IsWide, RefusalHasForms, ReplyHasForms, or_fault, AnswersReply, IsReplyOf, IsReplyAgain}
 use Rattle.desk_json.specs.declared.bad_call.CallFault.{CallFault}

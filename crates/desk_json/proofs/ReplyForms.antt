@@ -10,9 +10,6 @@ use Rattle.serde_json.specs.declared.value.Value.{Value}
 use Rattle.desk_time.specs.Digits.{◌>>=◌}
 use Rattle.desk_time.specs.Limits.{last_moment, last_shown, IsMoment}
 use Rattle.desk_time.specs.Moments.{minute_of, shown_of, up_to, written}
-use Rattle.plan.specs.Texts.{HasMoment}
-use Rattle.plan.specs.declared.release.Phase.{Phase}
-use Rattle.plan.specs.declared.release.Phase.TheVariants.{Drafted, Ready, Flying, Stopped, Completed, Cancelled}
 use Rattle.asks.specs.Forms.{CanBeShown, RefusalHasMoment, ReplyHasMoment}
 use Rattle.asks.specs.declared.reply.Reply.{Reply}
 use Rattle.asks.specs.declared.reply.Reply.TheVariants.{Done, Seen, Refused}

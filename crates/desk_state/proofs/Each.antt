@@ -1,10 +1,9 @@
 -- What holds of each item of a list holds after a change.
-use Rattle.std.proofs.Common.{◌≡◌, ℕ, ◌≤◌, arith, zero, suc, take, drop, Bool, true, false, cond, List, [], ◌∷◌, ◌++◌, length, Option, Some, IfSome, refl, ap}
+use Rattle.std.proofs.Common.{◌≡◌, ℕ, ◌≤◌, arith, suc, Bool, true, false, cond, List, [], ◌∷◌, length, Option, Some, IfSome, refl, ap}
 use Rattle.std.specs.Prelude.{find}
 use Rattle.std.specs.List.{AllByRecursion}
 use Rattle.plan.specs.declared.release.Release.{Release}
 use Rattle.desk_state.specs.Events.{put, without_release}
-use Rattle.desk_io.proofs.Each.{each_weaker, each_push}
 
 found_by : {A : Type 0} (P : A → Type 0) (x : A) (b : Bool) (o : Option A) → P x → IfSome o P → IfSome (cond b (Some x) o) P
 found_by P x true o here later = here

@@ -15,7 +15,6 @@ use Rattle.plan.specs.Findings.{code_of, is_before, AreInOrder, every_rule}
 use Rattle.plan.specs.Texts.{finding_text}
 use Rattle.plan.proofs.Rows.{is_before_trans, each_rule}
 use Rattle.plan.specs.declared.findings.Rule.{Rule}
-use Rattle.plan.specs.declared.findings.Rule.TheVariants.{No1, No2, No3, No4, No5, No6, No7, No8, No9, No10, No11, No12, No13, No14, No15, No16, No17, No18, No19}
 use Rattle.plan.specs.declared.findings.Finding.{Finding}
 use Rattle.call_json.specs.Fields.{each_read}
 use Rattle.call_json.proofs.Again.{each_again}

@@ -1,15 +1,13 @@
 -- Lists that are made of parts, and the tests of lists of records in words of each and of each two.
-use Rattle.std.proofs.Common.{◌≡◌, ℕ, suc, ◌+◌, ◌<◌, ◌≤◌, arith, Bool, true, false, ◌||◌, cond, List, [], ◌∷◌, ◌++◌, map, length, AllPairs, count_by, Option, None, Some, refl, ap, ◌∙◌}
+use Rattle.std.proofs.Common.{◌≡◌, ℕ, ◌+◌, ◌<◌, ◌≤◌, arith, Bool, true, false, ◌||◌, cond, List, [], ◌∷◌, ◌++◌, map, length, count_by, Option, None, Some, refl, ap, ◌∙◌}
 use Rattle.std.specs.List.{AllByRecursion, position_from, list_any}
 use Rattle.std.proofs.lemmas.Bool.{and_from, or_right}
-use Rattle.std.proofs.lemmas.List.Elements.{recursion_from_All}
 use Rattle.std.proofs.lemmas.List.Recursion.{is_count_by}
 use Rattle.records.specs.Faults.{pair_after, pair_or}
 use Rattle.records.specs.declared.record.Record.{Record}
 use Rattle.kept_state.specs.Held.{comes_before, rises_from, rising}
 use Rattle.kept_state.proofs.Lists.{Pairs, both}
 use Rattle.desk_io.proofs.Each.{each_append, each_weaker, each_push, each_of}
-use Rattle.kept_state.proofs.Loops.{pairs_from}
 
 -- ---- each
 

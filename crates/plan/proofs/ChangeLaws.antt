@@ -6,7 +6,6 @@ use Rattle.std.specs.Str.{bytes_eq}
 use Rattle.std.proofs.lemmas.Bool.{eqb-true, and_parts, not-false, or_parts}
 use Rattle.std.proofs.lemmas.List.{length-take-le}
 use Rattle.std.proofs.lemmas.Option.{slice_get_within}
-use Rattle.std.proofs.lemmas.Slice.Eq.{bytes_eq-Decides}
 use Rattle.stations.specs.Station.{Station}
 use Rattle.plan.specs.Change.{is_same_takeoff, is_same_alternate, are_same_alternates, has_same_ends, has_same_times, has_same_fuel, has_same_alternates, is_same_leg, departs_alike, first_changed, next_fault, first_or, flown_fault, is_same_kind, is_changed, flown_at, change_fault, DepartsAlike, BothDepartAlike, MayFollow}
 use Rattle.plan.specs.Phases.{in_flight, flown, PhaseFits}

@@ -1,11 +1,10 @@
 -- Floors as members of an object, in the order of their names.
-use Rattle.std.proofs.Common.{◌≡◌, ℕ, true, List, [], ◌∷◌, Some, refl, sym, ap, ◌∙◌, subst, arith, nat_cmp, Less, Greater, Ordering, is_lt}
+use Rattle.std.proofs.Common.{◌≡◌, ℕ, true, List, [], ◌∷◌, Some, refl, sym, ap, ◌∙◌, subst, arith, nat_cmp, Less, is_lt}
 use Rattle.std.specs.List.{AllByRecursion}
-use Rattle.std.specs.Ordering.{ordering_reverse}
 use Rattle.std.specs.Cmp.Lexicographic.{slice_cmp}
 use Rattle.std.proofs.lemmas.Bool.{and_parts}
 use Rattle.std.proofs.lemmas.Cmp.{nat_list_cmp_total}
-use Rattle.serde_json.specs.Data.{Data, Members, no_members, member, put, members_depth}
+use Rattle.serde_json.specs.Data.{Members, no_members, member, put, members_depth}
 use Rattle.asks.specs.declared.kept.Floor.{Floor}
 use Rattle.call_json.specs.Canonical.{count}
 use Rattle.call_json.specs.Plain.{IsBefore, AreInOrder, MembersArePlain, MembersHaveText}

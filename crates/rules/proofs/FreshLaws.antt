@@ -1,15 +1,11 @@
 -- The latest report of a list with one more at its end.
-use Rattle.std.proofs.Common.{◌≡◌, Bool, true, false, cond, List, [], ◌∷◌, ◌++◌, append-nil, option_to_list, Option, None, Some, refl, ap, sym, ◌∙◌, arith}
-use Rattle.std.specs.Prelude.{nat_lt}
-use Rattle.std.proofs.lemmas.Bool.{ltb-true, ltb-false}
+use Rattle.std.proofs.Common.{◌≡◌, Bool, true, false, cond, List, ◌++◌, append-nil, option_to_list, Option, None, Some, refl, ◌∙◌}
 use Rattle.stations.specs.Station.{Station}
 use Rattle.facts.specs.declared.report.Read.{Read}
 use Rattle.facts.specs.declared.report.Read.TheVariants as read
 use Rattle.facts.specs.declared.report.Report.{Report}
-use Rattle.facts.specs.declared.latest.Kind.{Kind}
 use Rattle.facts.specs.declared.latest.Kind.TheVariants as kind
-use Rattle.facts.specs.Same.{minute_of_report}
-use Rattle.facts.specs.Latest.{is_kind, where_of, later, latest, latest_metar, latest_taf}
+use Rattle.facts.specs.Latest.{is_kind, later, latest_metar, latest_taf}
 use Rattle.rules.specs.Evidence.{is_metar, is_taf, with_metar, with_taf}
 use Rattle.facts.proofs.IndexLaws.{latest_push, later_none}
 

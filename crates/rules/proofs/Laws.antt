@@ -1,18 +1,14 @@
 -- Findings stand in order, each once, each says the truth, and none is left out.
-use Rattle.std.proofs.Common.{◌≡◌, ℕ, ◌+◌, ◌<◌, ◌≤◌, Bool, true, false, cond, List, [], ◌∷◌, ◌++◌, length, Contains, Option, None, Some, inl, inr, append-nil, refl, sym, subst, arith}
-use Rattle.std.specs.Prelude.{not}
+use Rattle.std.proofs.Common.{◌≡◌, ℕ, ◌<◌, List, [], ◌++◌, Contains, Option, None, Some, inl, inr, append-nil, refl, sym, subst, arith}
 use Rattle.std.specs.List.{AllByRecursion}
 use Rattle.std.specs.Option.{option_map}
-use Rattle.std.proofs.lemmas.Bool.{leb-true}
 use Rattle.std.proofs.lemmas.List.Kept.{AllPairs-filter}
 use Rattle.std.proofs.lemmas.List.Elements.{All-contains_itself, Contains-append_left, Contains-append_right}
 use Rattle.ops_tables.specs.declared.rows.TypeRow.{TypeRow}
-use Rattle.ops_tables.specs.Tables.{TableRows, type_of}
-use Rattle.plan.specs.Check.{has_airports, has_few_alternates, is_repeated, flight_fault, leg_fault, fault_or, first_fault, whole_fault, plan_fault}
+use Rattle.ops_tables.specs.Tables.{type_of}
+use Rattle.plan.specs.Check.{plan_fault}
 use Rattle.plan.specs.Findings.{AreInOrder, rules_of_legs}
 use Rattle.plan.specs.declared.check.BadPlan.{BadPlan}
-use Rattle.plan.specs.declared.check.PlanWhy.{PlanWhy}
-use Rattle.plan.specs.declared.check.PlanWhy.TheVariants.{NoAirport, Count, Repeated}
 use Rattle.plan.specs.declared.flights.Plan.{Plan}
 use Rattle.plan.specs.declared.flights.Leg.{Leg}
 use Rattle.plan.specs.declared.release.Phase.{Phase}

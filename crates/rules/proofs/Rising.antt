@@ -5,7 +5,7 @@ use Rattle.std.specs.List.{AllByRecursion}
 use Rattle.deferrals.specs.declared.items.Deferral.{Deferral}
 use Rattle.deferrals.specs.Held.{AreRising}
 use Rattle.rules.specs.DestinationAlternates.{place_if, places_from}
-use Rattle.desk_io.proofs.Each.{each_append, each_weaker, each_of}
+use Rattle.desk_io.proofs.Each.{each_append, each_weaker}
 
 -- each number is below all later ones
 abbrev pub Rises : List ℕ → Type 0

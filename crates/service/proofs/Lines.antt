@@ -1,9 +1,8 @@
 -- What writes do to a link.
-use Rattle.std.proofs.Common.{◌≡◌, ℕ, List, [], ◌++◌, take, drop, Option, Some, None, Result, Ok, Err, refl, ap, sym, ◌∙◌, append-nil, append_assoc}
+use Rattle.std.proofs.Common.{ℕ, List, [], ◌++◌, take, drop, Option, Some, None, Ok, Err, refl, ap, sym, ◌∙◌, append-nil, append_assoc}
 use Rattle.std.proofs.lemmas.List.{take-append-drop}
-use Rattle.desk_io.specs.declared.faults.PutFault.{PutFault}
 use Rattle.desk_io.specs.declared.faults.PutFault.TheVariants.{Failed, OutOfMemory}
-use Rattle.desk_net.specs.Streams.{Stream, Writes, OnlyRead, unread}
+use Rattle.desk_net.specs.Streams.{Stream, Writes, OnlyRead}
 use Rattle.service.specs.Connections.{Gains, IsFrontOf}
 use Rattle.service.specs.Serving.{Wrote}
 

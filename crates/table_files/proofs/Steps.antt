@@ -5,8 +5,8 @@ use Rattle.csv_text.specs.Records.{AreRecordsOf, HasGiven}
 use Rattle.csv_text.specs.declared.records.Records.{Records}
 use Rattle.csv_text.proofs.Totals.{all_records}
 use Rattle.ops_tables.specs.Tables.{TableRows}
-use Rattle.table_files.specs.Filling.{Gives, Fills, Places}
-use Rattle.table_files.specs.Reading.{Table, are_same, has_header, HasHeader, HasNoHeader, Begins, under_header, bad_header, row_after, rows_after, or_bad, rows_of, placed, with_table}
+use Rattle.table_files.specs.Filling.{Gives}
+use Rattle.table_files.specs.Reading.{Table, are_same, HasHeader, Begins, under_header, bad_header, row_after, rows_after, or_bad}
 use Rattle.table_files.specs.declared.faults.BadRecord.{BadRecord}
 use Rattle.table_files.specs.declared.faults.TableWhy.{TableWhy}
 

@@ -12,7 +12,7 @@ use Rattle.stations.specs.Station.{is_station}
 use Rattle.codes.specs.Groups.{first_of}
 use Rattle.codes.specs.Moment.{time_of}
 use Rattle.codes.specs.Shapes.{is_digit, are_digits}
-use Rattle.codes.specs.Cond.{is_period, shape_fault, fault_or, first_fault, cond_unless, cond_of, named_cond}
+use Rattle.codes.specs.Cond.{is_period, shape_fault, first_fault, cond_unless, cond_of, named_cond}
 use Rattle.codes.specs.Period.{end_of, ends, period_of, numbered, period_due}
 use Rattle.codes.specs.declared.cond.Cond.{Cond}
 use Rattle.codes.specs.declared.fault.Why.{Why}

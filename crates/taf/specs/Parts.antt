@@ -1,5 +1,5 @@
 -- The parts of a forecast: a change word each, its period, and the groups up to the next (WMO FM 51).
-use Rattle.std.specs.Prelude.{◌≡◌, ℕ, ◌+◌, ◌≤◌, All, Bool, ◌||◌, if◌then◌else◌, List, [], ◌∷◌, ◌++◌, drop, map, Option, None, Some, is_some, Result, Ok, Err}
+use Rattle.std.specs.Prelude.{◌≡◌, ℕ, ◌+◌, All, Bool, ◌||◌, if◌then◌else◌, List, [], ◌∷◌, ◌++◌, drop, map, Option, None, Some, is_some, Result, Ok, Err}
 use Rattle.std.specs.List.{before_first}
 use Rattle.desk_time.specs.Limits.{IsMoment}
 use Rattle.codes.specs.Groups.{first_of}

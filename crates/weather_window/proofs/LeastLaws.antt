@@ -1,9 +1,9 @@
 -- Laws on the least of some values.
-use Rattle.std.proofs.Common.{◌≡◌, ℕ, List, [], ◌∷◌, ◌++◌, Option, None, Some, refl, ap, sym, ◌∙◌, arith}
+use Rattle.std.proofs.Common.{◌≡◌, ℕ, List, [], ◌∷◌, ◌++◌, Option, None, Some, refl, ap, sym, ◌∙◌}
 use Rattle.std.specs.Prelude.{option_to_list}
 use Rattle.desk_time.specs.Digits.{or_else}
 use Rattle.codes.specs.Cond.{lesser}
-use Rattle.codes.proofs.CondLaws.{lesser_assoc, lesser_comm}
+use Rattle.codes.proofs.CondLaws.{lesser_assoc}
 use Rattle.weather_window.specs.Window.{least_of}
 
 pub or_else_assoc : (a b c : Option ℕ) → or_else (or_else a b) c ≡ or_else a (or_else b c)
