@@ -6,7 +6,7 @@ use Rattle.std.proofs.lemmas.Bool.{leb-true}
 use Rattle.serde_json.specs.Data.{Data, Items, no_items, item}
 use Rattle.serde_json.specs.Events.{items_len}
 use Rattle.serde_json.specs.Find.{get, as_null, as_number, as_u64}
-use Rattle.desk_time.specs.Moments.{minute_of}
+use Rattle.desk_time.specs.Moments.{minute_of, up_to}
 use Rattle.stations.specs.Station.{Station, is_station, station_of}
 use Rattle.plan.specs.Check.{HasMoments, IsPlan}
 use Rattle.desk_time.specs.Limits.{IsMoment}
@@ -19,7 +19,7 @@ use Rattle.call_json.specs.declared.legs.Fuel.{Fuel}
 use Rattle.call_json.specs.declared.plans.Form.{Form}
 use Rattle.call_json.specs.declared.plans.Form.TheVariants.{Flight, Tail, Captain}
 use Rattle.call_json.specs.Forms.{IsAmount, IsId, IsAlternate, IsTakeoff, MayBeTakeoff, IsLeg, HasForms}
-use Rattle.call_json.specs.Fields.{text_at, up_to, number_at, amount_at, id_at, station_at, moment_at, list_at, each_read, has_members}
+use Rattle.call_json.specs.Fields.{text_at, number_at, amount_at, id_at, station_at, moment_at, list_at, each_read, has_members}
 use Rattle.call_json.specs.Legs.{alternate_of, alternates_at, takeoff_of, takeoff_in, takeoff_at, route_of, times_of, fuel_of, leg_of_parts, leg_of, legs_of, legs_at}
 use Rattle.call_json.specs.Plans.{has_form, formed, name_at, kind_at, named_plan, plan_of}
 use Rattle.desk_time.proofs.Chains.{bind_if, bind_any, then_if, under, either, both_held}

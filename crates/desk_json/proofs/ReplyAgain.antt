@@ -9,7 +9,7 @@ use Rattle.serde_json.specs.Data.{Data, depth}
 use Rattle.serde_json.specs.Read.{max_depth}
 use Rattle.serde_json.specs.Written.{compact_text}
 use Rattle.desk_time.specs.Digits.{◌>>=◌}
-use Rattle.desk_time.specs.Moments.{shown, shown_of}
+use Rattle.desk_time.specs.Moments.{shown, shown_of, up_to}
 use Rattle.desk_time.proofs.MomentLaws.{shown_again}
 use Rattle.codes.specs.declared.fault.Why.{Why}
 use Rattle.codes.specs.declared.fault.Why.TheVariants as why
@@ -23,7 +23,7 @@ use Rattle.asks.specs.declared.reply.Reply.TheVariants.{Done, Seen, Refused}
 use Rattle.asks.specs.declared.reply.Refusal.{Refusal}
 use Rattle.asks.specs.declared.reply.Refusal.TheVariants.{UnknownActor, WrongKey, NotYourRole, NumberReused, BadReport, DayOutOfReach, ReportsFull, UnknownTail, NoSuchDeferral, NoSuchRelease, NotYours, BadPlan, NotPending, WrongRevision, WrongText, WeatherNewer, RuleFails, WrongPhase, AlreadySigned, NoSuchAlert, AlertMoved, TooYoung, ReleasesFull, HistoryFull, NoSuchStation, Unkept, NumberSwept, UnknownItem, BadFound, DeferralsFull}
 use Rattle.call_json.specs.Forms.{IsSaidFinding}
-use Rattle.call_json.specs.Fields.{data_of, up_to}
+use Rattle.call_json.specs.Fields.{data_of}
 use Rattle.call_json.specs.Plain.{IsPlain, HasText}
 use Rattle.call_json.proofs.Again.{small_again, amount_again, each_again, done_again}
 use Rattle.desk_time.proofs.Chains.{bind_any, under}
@@ -33,12 +33,13 @@ use Rattle.call_json.proofs.Plain.{order_of, text_of, list_plain, list_has_text,
 use Rattle.call_json.proofs.Texts.{written_utf8, moment_utf8, digest_utf8}
 use Rattle.kept_releases.proofs.FindingLaws.{finding_again, finding_utf8}
 use Rattle.kept_releases.proofs.ReleaseLaws.{phase_text_again}
-use Rattle.desk_json.specs.Replies.{why_name, plan_why_name, finding_data, with_fields, refusal_members, refusal_data, reply_data, reply_text}
+use Rattle.desk_json.specs.Replies.{why_name, plan_why_name, with_fields, refusal_members, refusal_data, reply_data, reply_text}
 use Rattle.desk_json.specs.ReadReplies.{why_of, plan_why_of, finding_in, reply_of, if_text, reply_in, IsWide, RefusalHasForms, ReplyHasForms, or_fault, AnswersReply, IsReplyOf, IsReplyAgain}
 use Rattle.desk_json.specs.declared.bad_call.CallFault.{CallFault}
 use Rattle.desk_json.specs.declared.bad_call.CallFault.TheVariants as fault
 use Rattle.desk_json.proofs.Results.{gives}
 use Rattle.desk_io.proofs.Bytes.{equal_bytes}
+use Rattle.kept_releases.specs.Findings.{finding_data}
 
 -- ---- fields
 

@@ -51,6 +51,7 @@ use Rattle.desk_state.proofs.Deciding.{decision_fits}
 use Rattle.desk_state.proofs.FormLaws.{start_formed, tick_formed, command_formed}
 use Rattle.desk_state.proofs.NameForms.{person_formed}
 use Rattle.desk_io.proofs.Each.{each_weaker, each_push}
+use Rattle.desk_state.proofs.LeadingLaws.{tick_fits}
 
 -- an entry more keeps a history legal
 legal_more : (s : State) (es : List Entry) (t : State) (e : Entry) → Legal s es t → MayCome t e.lane e.what → Legal s (es ++ e ∷ []) (next t e.lane e.what)
@@ -233,9 +234,6 @@ event_kept t e is form = record {
 }
 
 -- Ticks.
-
-tick_fits : (s : State) (to : ℕ) → IsMoment to → EffectFits s (tick to)
-tick_fits s to shown = record { moment = shown; report = tt; apart = tt; deferrals = tt; releases = tt }
 
 tick_by : (full : Bool) (opening s : State) (lane to : ℕ) → is_full s ≡ full → IsBoard opening s → s.moment < to → to ≤ 68_374_079
     → IsBoard opening (tick_unless full s lane to).state

@@ -81,7 +81,7 @@ some_stops : {A : Type 0} (x : Refusal) (o : Option A) → RefusalHasMoment x �
 some_stops x None has y e = subst RefusalHasMoment (cc) has
 some_stops x (Some a) has y e = absurd (cc)
 
-some_given : {A : Type 0} (x : Refusal) (o : Option A) (a : A) → some_or x o ≡ Ok a → o ≡ Some a
+pub some_given : {A : Type 0} (x : Refusal) (o : Option A) (a : A) → some_or x o ≡ Ok a → o ≡ Some a
 some_given x None a e = absurd (cc)
 some_given x (Some b) a e = cc
 
@@ -90,7 +90,7 @@ if_stops true x has = has
 if_stops false x has = tt
 
 -- what isn't refused isn't so
-not_so : (b : Bool) (x : Refusal) → refused_if b x ≡ None → b ≡ false
+pub not_so : (b : Bool) (x : Refusal) → refused_if b x ≡ None → b ≡ false
 not_so true x e = absurd (cc)
 not_so false x e = refl
 
@@ -136,7 +136,7 @@ change_stops plan (Some v) phase = plan_stops (change_fault plan v.plan phase)
 
 -- What the tests say.
 
-so : (b : Bool) (x : Refusal) → refused_if (not b) x ≡ None → b ≡ true
+pub so : (b : Bool) (x : Refusal) → refused_if (not b) x ≡ None → b ≡ true
 so b x e = not-false b (not_so (not b) x e)
 
 -- the digest that was asked for is that of the text
@@ -147,7 +147,7 @@ signed_once : (v : Revision) (o : Option Signature) → MaySigned v o → d.unsi
 signed_once v None may e = absurd (cc)
 signed_once v (Some signature) may e = may.1
 
-no_plan_fault : (o : Option BadPlan) → d.bad_plan o ≡ None → o ≡ None
+pub no_plan_fault : (o : Option BadPlan) → d.bad_plan o ≡ None → o ≡ None
 no_plan_fault None e = refl
 no_plan_fault (Some bad) e = absurd (cc)
 

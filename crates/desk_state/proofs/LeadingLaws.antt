@@ -12,7 +12,7 @@ use Rattle.desk_time.specs.Limits.{IsMoment}
 use Rattle.alerts.proofs.Laws.{follows}
 use Rattle.desk_state.specs.declared.effect.OnAlerts.{OnAlerts}
 use Rattle.desk_state.specs.declared.effect.OnAlerts.TheVariants as on_alerts
-use Rattle.desk_state.proofs.Deciding.{decision_fits}
+use Rattle.desk_state.proofs.Deciding.{decision_fits, so}
 use Rattle.desk_state.proofs.Judging.{IsOf, Agrees, agrees_all, alerts_kept, found_of, judged_is}
 use Rattle.desk_state.proofs.Parts.{releases_rise}
 use Rattle.plan.specs.declared.findings.Finding.{Finding}
@@ -38,7 +38,7 @@ use Rattle.desk_state.specs.People.{may_ask, mistaken, not_his_role}
 use Rattle.desk_state.specs.Decide as d
 use Rattle.desk_state.specs.Decide.{decide}
 use Rattle.desk_state.specs.Allowed.{IsAcknowledged, IsLeft, FollowsIf, IsAlertAfter, IsEffectOf, IsUnused, DecisionOf, IsEntryOf, IsAfter, IsKeptOf, IsPermitted, IsSaidTo, MayLeadTo, MayTickTo}
-use Rattle.desk_state.proofs.AllowedLaws.{decision_is, so}
+use Rattle.desk_state.proofs.AllowedLaws.{decision_is}
 use Rattle.desk_io.proofs.Bytes.{same_bytes}
 
 -- Who may make a call.

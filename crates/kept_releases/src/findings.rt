@@ -135,8 +135,8 @@ fn finding_values(alloc: Global, findings: &[Finding]) -> Result<Vec<Value>, Out
 }
 
 /// Findings as a JSON list of their texts.
-pub fn findings_value(alloc: Global, findings: &Findings) -> Result<Value, OutOfMemory>
+pub fn findings_value(alloc: Global, findings: &[Finding]) -> Result<Value, OutOfMemory>
     ensures { IfOk result (λ v. view v ≡ spec.findings_data findings.now) }
 {
-    Ok(Value::Array(finding_values(alloc, findings.as_slice())?))
+    Ok(Value::Array(finding_values(alloc, findings)?))
 }

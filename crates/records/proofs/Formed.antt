@@ -19,7 +19,7 @@ use Rattle.asks.specs.declared.kept.Floor.{Floor}
 use Rattle.call_json.specs.Forms.{IsId, DoneHasForms, IsFinding, IsRequest, IsFloor, FloorsRise}
 use Rattle.call_json.specs.Digests.{digest_at, IsDigest}
 use Rattle.call_json.specs.Dones.{done_of}
-use Rattle.call_json.specs.Fields.{text_at, up_to, number_at, id_at, moment_at, list_at, each_read, has_members}
+use Rattle.call_json.specs.Fields.{text_at, number_at, id_at, moment_at, list_at, each_read, has_members}
 use Rattle.call_json.proofs.DoneForms.{done_formed, digest_is}
 use Rattle.desk_time.proofs.Chains.{bind_if, bind_any, then_if, under, either, both_held, mapped}
 use Rattle.call_json.proofs.PlanForms.{id_formed, moment_formed, each_formed}
@@ -36,6 +36,7 @@ use Rattle.records.specs.declared.meta_rows.Numbers.{Numbers}
 use Rattle.records.specs.declared.record.KeptReport.{KeptReport}
 use Rattle.records.specs.declared.record.Record.TheVariants.{Meta, Report, Deferral, Release, Kept, Alert}
 use Rattle.records.proofs.FloorLaws.{rising_from_test}
+use Rattle.desk_time.specs.Moments.{up_to}
 
 -- ---- fields
 
