@@ -1,5 +1,5 @@
 -- How findings and phases are written.
-use Rattle.std.specs.Prelude.{Bool, true, false, List, [], ◌∷◌, ◌++◌, codes, decimal}
+use Rattle.std.specs.Prelude.{ℕ, Bool, true, false, List, [], ◌∷◌, ◌++◌, codes, decimal}
 use Rattle.std.specs.List.{concat}
 use Rattle.desk_time.specs.Limits.{IsMoment}
 use Rattle.desk_time.specs.Moments.{shown}
