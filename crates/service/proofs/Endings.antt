@@ -21,7 +21,6 @@ use Rattle.service.specs.declared.responses.Response.{Response}
 use Rattle.service.specs.declared.serving.Served.{Served}
 use Rattle.service.specs.declared.serving.Served.TheVariants as served
 use Rattle.service.proofs.Lines.{gains_all, gains_none, wrote_front, wrote_after, wrote_as}
-use Rattle.service.proofs.Visits.{same_bytes}
 
 -- ---- the answer that ends a connection
 
@@ -54,6 +53,10 @@ without_as old new rose f wanted how is wrote = subst (λ (e : WireFault). Wrote
 
 -- ---- a connection that ends with nothing more that was answered whole
 
+pub same_both : (bytes : Option (List ℕ)) → OnBoth bytes bytes (λ b l. AreRequests b [] l)
+same_both None = tt
+same_both (Some bytes) = refl
+
 bare : (lane : ℕ) (moments : Option (List ℕ)) (link clock : Type 0) (before after : ℕ) (s : State) (bytes : Option (List ℕ)) (how : Served) (t : State) (piece : List ℕ) → before ≤ after
     → EndsConnection lane moments link clock [] bytes s how t piece → IsConnection lane moments link clock before after s bytes how t piece
 bare lane moments link clock before after s bytes how t piece later ends = record {
@@ -61,7 +64,7 @@ bare lane moments link clock before after s bytes how t piece later ends = recor
   more = [];
   left = bytes;
   piece = piece;
-  requests = same_bytes bytes;
+  requests = same_both bytes;
   timed = tt;
   going = tt;
   counted = later;

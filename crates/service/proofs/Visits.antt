@@ -11,7 +11,7 @@ use Rattle.desk_net.specs.Doors.{Links, Accepts, TakesBack, HasNext}
 use Rattle.desk_net.specs.Seen.{ClockSeen, DoorSeen, LinkSeen}
 use Rattle.desk_net.specs.Streams.{unread}
 use Rattle.desk_state.specs.State.{State}
-use Rattle.service.specs.Connections.{AreRequests, GoesOn, IsConnection, OnBoth}
+use Rattle.service.specs.Connections.{GoesOn, IsConnection}
 use Rattle.service.specs.Doors.{Visit, IsVisit, AreVisits, AreTaken, AreAtPort, HasLinks, came_of, back_of, HadMemory, IsWell, is_clock_fault, ended_by_clock, AreFewer, EndsServing, IsServing, counts_as, met_after, end_of, end_at_door}
 use Rattle.service.specs.declared.doors.Met.{Met}
 use Rattle.service.specs.declared.doors.ServeEnd.{ServeEnd}
@@ -21,16 +21,13 @@ use Rattle.service.specs.declared.serving.Served.TheVariants as served
 use Rattle.service.proofs.Joins.{joined}
 use Rattle.service.proofs.Lines.{wrote_as}
 use Rattle.std.proofs.lemmas.Bool.{or_right}
+use Rattle.service.proofs.Endings.{same_both}
 
 -- ---- a connection seen from before
 
-pub same_bytes : (bytes : Option (List ℕ)) → OnBoth bytes bytes (λ b l. AreRequests b [] l)
-same_bytes None = tt
-same_bytes (Some bytes) = refl
-
 nothing_yet : (lane : ℕ) (moments : Option (List ℕ)) (less before : ℕ) (s : State) (bytes : Option (List ℕ)) → less ≤ before → GoesOn lane moments less before s bytes bytes s []
 nothing_yet lane moments less before s bytes under =
-    record { xs = []; requests = same_bytes bytes; timed = tt; going = tt; counted = under; says = refl; state = refl }
+    record { xs = []; requests = same_both bytes; timed = tt; going = tt; counted = under; says = refl; state = refl }
 
 -- a visit, counted from before
 visit_from : {L : Type 0} (link : L → LinkSeen) (lane : ℕ) (moments : Option (List ℕ)) (failed clock : Type 0) (less before after : ℕ) (s : State) (v : Visit L) (t : State)
