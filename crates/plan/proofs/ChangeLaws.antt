@@ -7,7 +7,7 @@ use Rattle.std.proofs.lemmas.Bool.{eqb-true, and_parts, not-false, or_parts}
 use Rattle.std.proofs.lemmas.List.{length-take-le}
 use Rattle.std.proofs.lemmas.Option.{slice_get_within}
 use Rattle.stations.specs.Station.{Station}
-use Rattle.plan.specs.Change.{is_same_takeoff, is_same_alternate, are_same_alternates, has_same_ends, has_same_times, has_same_fuel, has_same_alternates, is_same_leg, departs_alike, first_changed, next_fault, first_or, flown_fault, is_same_kind, is_changed, flown_at, change_fault, DepartsAlike, BothDepartAlike, MayFollow}
+use Rattle.plan.specs.Change.{is_same_takeoff, is_same_alternate, are_same_alternates, has_same_ends, has_same_times, has_same_fuel, has_same_alternates, is_same_leg, departs_alike, first_changed, next_fault, flown_fault, is_same_kind, is_changed, flown_at, change_fault, DepartsAlike, BothDepartAlike, MayFollow}
 use Rattle.plan.specs.Phases.{in_flight, flown, PhaseFits}
 use Rattle.plan.specs.declared.check.BadPlan.{BadPlan}
 use Rattle.plan.specs.declared.check.PlanWhy.TheVariants as why
@@ -20,6 +20,7 @@ use Rattle.plan.specs.declared.flights.TakeoffAlternate.{TakeoffAlternate}
 use Rattle.plan.specs.declared.release.Phase.{Phase}
 use Rattle.plan.specs.declared.release.Phase.TheVariants.{Drafted, Ready, Flying, Stopped, Completed, Cancelled}
 use Rattle.desk_io.proofs.Bytes.{same_bytes}
+use Rattle.desk_time.specs.Digits.{or_else}
 
 abbrev takeoff : Station → ℕ → TakeoffAlternate
 takeoff station minutes = record { station = station; minutes = minutes }
@@ -100,7 +101,7 @@ flown_within (Stopped next since again) legs fits = let most = fits.1 in omega (
 flown_within (Completed at) legs fits = omega arith
 flown_within (Cancelled at) legs fits = omega arith
 
-none_of_both : (a b : Option ℕ) → first_or a b ≡ None → (a ≡ None) × (b ≡ None)
+none_of_both : (a b : Option ℕ) → or_else a b ≡ None → (a ≡ None) × (b ≡ None)
 none_of_both None b e = (refl, e)
 none_of_both (Some n) b e = absurd cc
 
