@@ -1,6 +1,5 @@
 -- The search over the six rows is the route of the path.
-use Rattle.std.proofs.Common.{◌≡◌, ℕ, suc, ◌<◌, ◌==◌, ◌++◌, List, [], ◌∷◌, Option, Some, None, cond, Bool, true, false, codes, refl, sym, ◌∙◌, get_or, arith, inl, inr, ne_eqb, nat_lt, ◌&&◌}
-use Rattle.std.proofs.Common.{ltb-true}
+use Rattle.std.proofs.Common.{◌≡◌, ℕ, suc, ◌<◌, ◌==◌, ◌++◌, List, [], ◌∷◌, Option, Some, None, cond, Bool, true, false, codes, refl, sym, ◌∙◌, get_or, arith, inl, inr, ne_eqb, nat_lt, ◌&&◌, ltb-true, ◌-◌}
 use Rattle.std.proofs.lemmas.Bool.{and_parts, cases_eq}
 use Rattle.std.proofs.lemmas.Bool.{cases_Bool}
 use Rattle.matchit.specs.Rows.{RowsOf}
@@ -8,7 +7,6 @@ use Rattle.matchit.specs.Seek.{seek, first, step, own, or_else, param_step, has_
 use Rattle.desk_http.specs.Names.{patterns}
 use Rattle.desk_http.specs.declared.router.Named.{Named}
 use Rattle.desk_http.specs.declared.router.Named.TheVariants.{ToCall, ToBoard, ToAlerts, ToRelease, ToWeather, ToDeferred}
-use Rattle.std.proofs.Common.{◌-◌}
 use Rattle.desk_http.proofs.Seeks.{param_nil, seek_nil, literal, param_end, param_slash}
 
 -- what follows a front

@@ -1,6 +1,5 @@
 -- What a call of a link that reads did to it.
-use Rattle.std.proofs.Common.{◌≡◌, ℕ, List, [], ◌++◌, length, take, drop, Option, Some, None, Result, Ok, Err, ap, sym, ◌∙◌, arith}
-use Rattle.std.specs.Prelude.{IfOk}
+use Rattle.std.proofs.Common.{◌≡◌, ℕ, List, [], ◌++◌, length, take, drop, Option, Some, None, Result, Ok, Err, ap, sym, ◌∙◌, arith, IfOk}
 use Rattle.std.proofs.lemmas.List.{take-append-drop, drop-drop, drop_all}
 use Rattle.desk_net.specs.Streams.{Stream, Reads, TakesNext, unread, OnlyRead}
 use Rattle.desk_http.specs.Requests.{Splits, AtEnd}

@@ -1,9 +1,7 @@
 -- The route of the name that the router finds is the route of the path.
-use Rattle.std.proofs.Common.{◌≡◌, ℕ, ◌==◌, ◌++◌, ◌||◌, ◌&&◌, List, [], ◌∷◌, Option, Some, None, cond, Bool, true, false, codes, refl, ap, sym, ◌∙◌, take, drop, length, Result, Ok, Err, IfOk, inl, inr, ne_eqb}
+use Rattle.std.proofs.Common.{◌≡◌, ℕ, ◌==◌, ◌++◌, ◌||◌, ◌&&◌, List, [], ◌∷◌, Option, Some, None, cond, Bool, true, false, codes, refl, ap, sym, ◌∙◌, take, drop, length, Result, Ok, Err, IfOk, inl, inr, ne_eqb, unwrap_or, option_map}
 use Rattle.std.specs.List.{list_any, list_all}
 use Rattle.std.specs.Str.{bytes_eq, is_utf8}
-use Rattle.std.specs.Prelude.{unwrap_or}
-use Rattle.std.specs.Option.{option_map}
 use Rattle.std.proofs.lemmas.Bool.{and_right, and_parts, cases_eq, eqb-true, false_from_ne_true}
 use Rattle.matchit.specs.Seek.{first, has_slash}
 use Rattle.stations.specs.Station.{is_capital, is_capital_or_digit, is_station}

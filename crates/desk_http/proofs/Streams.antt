@@ -1,6 +1,5 @@
 -- What is read of a stream, and what its bytes begin with.
-use Rattle.std.proofs.Common.{◌≡◌, ◌≢◌, ◌==◌, false, ℕ, ◌+◌, ◌-◌, ◌<◌, ◌≤◌, inl, inr, List, [], ◌∷◌, ◌++◌, length, take, drop, Option, Some, None, Result, Ok, Err, ap, sym, subst, ◌∙◌, arith, length-append, append-nil, slice_range}
-use Rattle.std.specs.Result.{MatchResult, IsErr, IsErrAnd}
+use Rattle.std.proofs.Common.{◌≡◌, ◌≢◌, ◌==◌, false, ℕ, ◌+◌, ◌-◌, ◌<◌, ◌≤◌, inl, inr, List, [], ◌∷◌, ◌++◌, length, take, drop, Option, Some, None, Result, Ok, Err, ap, sym, subst, ◌∙◌, arith, length-append, append-nil, slice_range, MatchResult, IsErr, IsErrAnd}
 use Rattle.std.proofs.lemmas.List.{append_assoc, take-append-drop, take_all, drop-append-le, drop-drop, length-take, length-take-le, nil_from_length}
 use Rattle.std.proofs.Math.Seq.{drop-append_seam}
 use Rattle.httparse.specs.Grammar.{RequestHead, print_request, HasNoRequest, NeverHasRequest}

@@ -1,6 +1,5 @@
 -- Each moment that a report writes lies from 2000 to 2099.
-use Rattle.std.proofs.Common.{◌≡◌, ℕ, ◌+◌, ◌*◌, ◌/◌, ◌-◌, Bool, true, false, cond, ◌&&◌, ◌==◌, List, [], ◌∷◌, length, Option, None, Some, IfSome, Result, Ok, Err, refl, subst}
-use Rattle.std.specs.Prelude.{IfOk, nat_le, nat_lt}
+use Rattle.std.proofs.Common.{◌≡◌, ℕ, ◌+◌, ◌*◌, ◌/◌, ◌-◌, Bool, true, false, cond, ◌&&◌, ◌==◌, List, [], ◌∷◌, length, Option, None, Some, IfSome, Result, Ok, Err, refl, subst, IfOk, nat_le, nat_lt}
 use Rattle.std.proofs.lemmas.Bool.{and_parts, leb-true}
 use Rattle.codes.specs.Cond.{is_period, stretch_of}
 use Rattle.codes.specs.Groups.{first_of}

@@ -1,6 +1,5 @@
 -- Rows of the same key stand in one group.
-use Rattle.std.proofs.Common.{◌≡◌, ◌∙◌, ap, ℕ, List, [], Bool, true, ◌&&◌}
-use Rattle.std.specs.Str.{bytes_eq}
+use Rattle.std.proofs.Common.{◌≡◌, ◌∙◌, ap, ℕ, List, [], Bool, true, ◌&&◌, bytes_eq}
 use Rattle.ops_tables.specs.Grouped.{group_name}
 use Rattle.std.proofs.lemmas.Bool.{and_parts}
 use Rattle.desk_io.proofs.Bytes.{same_bytes, equal_bytes}

@@ -1,7 +1,5 @@
 -- What a file gives is what its records say.
-use Rattle.std.proofs.Common.{◌≡◌, ◌∙◌, sym, ap, refl, subst, ℕ, ◌≤◌, length, List, [], ◌∷◌, Bool, true, false, Result, Ok, Err}
-use Rattle.std.specs.Prelude.{MatchResult, cond}
-use Rattle.std.specs.Str.{bytes_eq}
+use Rattle.std.proofs.Common.{◌≡◌, ◌∙◌, sym, ap, refl, subst, ℕ, ◌≤◌, length, List, [], ◌∷◌, Bool, true, false, Result, Ok, Err, MatchResult, cond, bytes_eq}
 use Rattle.desk_io.specs.Told.{OnSource}
 use Rattle.std.proofs.lemmas.Bool.{and_parts}
 use Rattle.std.proofs.lemmas.Slice.Eq.{bytes_eq-Decides}

@@ -1,6 +1,5 @@
 -- What one more record does to the rows that were read.
-use Rattle.std.proofs.Common.{◌≡◌, ◌∙◌, sym, ap, refl, subst, ℕ, ◌+◌, List, [], ◌∷◌, ◌++◌, append-nil, append_assoc, length, Bool, true, false, Ok, Err}
-use Rattle.std.specs.Prelude.{Result, if◌then◌else◌}
+use Rattle.std.proofs.Common.{◌≡◌, ◌∙◌, sym, ap, refl, subst, ℕ, ◌+◌, List, [], ◌∷◌, ◌++◌, append-nil, append_assoc, length, Bool, true, false, Ok, Err, Result, if◌then◌else◌}
 use Rattle.csv_text.specs.Records.{AreRecordsOf, HasGiven}
 use Rattle.csv_text.specs.declared.records.Records.{Records}
 use Rattle.csv_text.proofs.Totals.{all_records}
