@@ -5,6 +5,7 @@ ghost use Rattle.desk_state.specs.Events as events;
 ghost use Rattle.desk_state.specs.Events.{effected};
 ghost use Rattle.desk_state.specs.Sound.{InBounds};
 ghost use Rattle.desk_state.specs.Step.{counted};
+ghost use Rattle.kept_state.specs.Shown.{IsSmallRelease, IsSmall};
 ghost use Rattle.board.specs.Room.{HasRoom, HasReportRoom, HasDeferralRoom, HasReleaseRoom, HasOneMore, HasPlace, MayAdmit, MayDefer, MayBeMade};
 ghost use Rattle.board.specs.Prepare.{with_event, with_events, MayInstall};
 
@@ -18,7 +19,6 @@ use desk_state::{
 use desk_time::Minute;
 use facts::{Report, Reports};
 use plan::Release;
-use Rattle.kept_state.specs.Shown.{IsSmallRelease, IsSmall}
 
 // Puts a release in the place of the first of its id.
 #[tactic(auto, using(keeper::proofs::Places::replaced))]

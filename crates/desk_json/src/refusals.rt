@@ -9,8 +9,7 @@ ghost use Rattle.desk_json.specs.Replies as spec;
 
 use asks::Refusal;
 use call_json::{
-    Members, name_value, with_count, with_digest, with_moment, with_name, with_text,
-    with_value,
+    Members, name_value, with_count, with_digest, with_moment, with_name, with_text, with_value,
 };
 use codes::Why;
 use desk_io::OutOfMemory;
