@@ -1,5 +1,5 @@
 -- What is read of a report has moments, and its canonical text is read as it is.
-use Rattle.std.proofs.Common.{◌≡◌, ℕ, ◌≤◌, Bool, true, false, cond, List, length, Result, Ok, Err, codes, refl, ap, sym, ◌∙◌, arith, IfOk, nat_lt, le-ltb, ltb-false}
+use Rattle.std.proofs.Common.{◌≡◌, ℕ, Bool, true, false, cond, List, length, Result, Ok, Err, codes, refl, ap, sym, ◌∙◌, arith, IfOk, nat_lt, le-ltb, ltb-false}
 use Rattle.codes.specs.Answers.{too_long}
 use Rattle.codes.specs.Groups.{groups_of, canonical, first_of}
 use Rattle.codes.specs.declared.fault.BadReport.{BadReport}
