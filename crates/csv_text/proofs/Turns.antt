@@ -5,7 +5,6 @@ use Rattle.csv.specs.declared.parser.Config.{Config}
 use Rattle.csv.specs.declared.parser.State.{State}
 use Rattle.csv.specs.declared.parser.State.TheVariants as st
 use Rattle.csv.specs.declared.parser.Action.{Action}
-use Rattle.csv.specs.declared.parser.Action.TheVariants as act
 
 -- a byte within a record
 pub within : (config : Config) (from to : State) (action : Action) (fields : List (List ℕ)) (field rest : List ℕ) (b : ℕ) → (to, action) ≡ step config from b → is_end action ≡ false
