@@ -1,6 +1,5 @@
 -- The least values of approaches, taken from the front on.
-use Rattle.std.proofs.Common.{Option, Some, None}
-use Rattle.std.specs.Prelude.{min}
+use Rattle.std.proofs.Common.{Option, Some, None, min}
 use Rattle.airport_minima.specs.declared.floors.Lowest.{Lowest}
 
 -- the lesser values of two, where both are there

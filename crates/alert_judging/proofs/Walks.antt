@@ -12,13 +12,13 @@ use Rattle.desk_state.specs.declared.effect.OnAlerts.TheVariants as on_alerts
 use Rattle.desk_state.specs.State.{State, alert_at}
 use Rattle.desk_state.specs.Events.{effected, change_between, changes_from, changes_over, alert_changes, kept_alert}
 use Rattle.desk_state.specs.Sound.{AreJudgeable, InBounds, ReleaseInBounds, Rise, EffectFits}
-use Rattle.desk_state.proofs.Each.{each_weaker}
 use Rattle.desk_state.proofs.Judging.{IsOf, found_of, alerts_kept, kept_has}
 use Rattle.desk_state.proofs.Changes.{AreAbove, all_above}
 use Rattle.desk_state.proofs.Parts.{deferrals_open, releases_kept, releases_own, releases_rise}
 use Rattle.alert_judging.specs.declared.prospect.Prospect.{Prospect}
 use Rattle.desk_state.specs.Contents.{state_of}
 use Rattle.alert_judging.specs.Prospect.{AreOpenThen, IsBounded, AreBounded, prospect, acknowledged_by, left_by, judged_by, changes_of, here, past, walk}
+use Rattle.desk_io.proofs.Each.{each_weaker}
 
 pub all_bounded : (s : State) → AreJudgeable s → InBounds s → AreBounded s.alerts
 all_bounded s listed kept =

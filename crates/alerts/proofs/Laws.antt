@@ -4,12 +4,13 @@ use Rattle.std.specs.List.{AllByRecursion}
 use Rattle.std.proofs.lemmas.Bool.Decides.{nat_tests}
 use Rattle.plan.specs.declared.findings.Finding.{Finding}
 use Rattle.plan.specs.Findings.{is_same, is_before, is_among, AreInOrder, AreAmong}
-use Rattle.plan.specs.Texts.{IsMoment}
+use Rattle.desk_time.specs.Limits.{IsMoment}
 use Rattle.plan.proofs.Rows.{is_before_trans, is_before_other}
 use Rattle.alerts.specs.declared.alert.Alert.{Alert}
 use Rattle.alerts.specs.Follows.{StaysOpen, Follows}
 use Rattle.alerts.proofs.Sameness.{same_is}
 use Rattle.alerts.specs.Alerts.{are_same, IsAlert, with_finding, with_findings, alert_once_open, alert_after}
+use Rattle.std.proofs.lemmas.Bool.{or_right}
 
 abbrev AreAfter : Finding → List Finding → Type 0
 AreAfter f gs = AllByRecursion (λ g. is_before f g ≡ true) gs
@@ -41,10 +42,6 @@ in_order f (g ∷ gs) all = order_by f g gs (with_finding f gs) _ _ refl refl al
 same_self : (f : Finding) → is_same f f ≡ true
 same_self f = grind (arith, nat_tests)
 
-or_later : (a b : Bool) → b ≡ true → (a || b) ≡ true
-or_later true b e = refl
-or_later false b e = e
-
 or_more : (a b c : Bool) → (a || b) ≡ true → (b ≡ true → c ≡ true) → (a || c) ≡ true
 or_more true b c e f = refl
 or_more false b c e f = f e
@@ -52,7 +49,7 @@ or_more false b c e f = f e
 new_by : (f g : Finding) (gs more : List Finding) (b c : Bool) → is_same f g ≡ c → is_among more f ≡ true → is_among (cond b (f ∷ g ∷ gs) (cond c (g ∷ gs) (g ∷ more))) f ≡ true
 new_by f g gs more true c s rest = rw (same_self f) refl
 new_by f g gs more false true s rest = rw s refl
-new_by f g gs more false false s rest = or_later (is_same f g) (is_among more f) rest
+new_by f g gs more false false s rest = or_right (is_same f g) (is_among more f) rest
 
 new_among : (f : Finding) (gs : List Finding) → is_among (with_finding f gs) f ≡ true
 new_among f [] = rw (same_self f) refl
@@ -60,7 +57,7 @@ new_among f (g ∷ gs) = new_by f g gs (with_finding f gs) _ _ refl (new_among f
 
 old_by : (h f g : Finding) (gs more : List Finding) (b c : Bool) → is_among (g ∷ gs) h ≡ true → (is_among gs h ≡ true → is_among more h ≡ true)
     → is_among (cond b (f ∷ g ∷ gs) (cond c (g ∷ gs) (g ∷ more))) h ≡ true
-old_by h f g gs more true c e rest = or_later (is_same h f) (is_among (g ∷ gs) h) e
+old_by h f g gs more true c e rest = or_right (is_same h f) (is_among (g ∷ gs) h) e
 old_by h f g gs more false true e rest = e
 old_by h f g gs more false false e rest = or_more (is_same h g) (is_among gs h) (is_among more h) e rest
 
@@ -82,7 +79,7 @@ all_among ever (f ∷ fs) = (still_among f (with_finding f ever) fs (new_among f
 
 among_more : (f : Finding) (others fs : List Finding) → AreAmong others fs → AreAmong (f ∷ others) fs
 among_more f others [] all = tt
-among_more f others (g ∷ gs) all = (or_later (is_same g f) (is_among others g) all.0, among_more f others gs all.1)
+among_more f others (g ∷ gs) all = (or_right (is_same g f) (is_among others g) all.0, among_more f others gs all.1)
 
 among_self : (fs : List Finding) → AreAmong fs fs
 among_self [] = tt

@@ -2,7 +2,7 @@
 use Rattle.std.specs.Prelude.{ℕ, ◌+◌, ◌≤◌, Bool, ◌&&◌, true, false, if◌then◌else◌, List, [], ◌∷◌, Option, None, Some}
 use Rattle.plan.specs.declared.findings.Finding.{Finding}
 use Rattle.plan.specs.Findings.{is_same, is_before, AreInOrder, AreAmong}
-use Rattle.plan.specs.Texts.{IsMoment}
+use Rattle.desk_time.specs.Limits.{IsMoment}
 use Rattle.alerts.specs.declared.alert.Alert.{Alert}
 
 -- the same findings in the same order

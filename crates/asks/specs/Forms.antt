@@ -1,7 +1,8 @@
 -- What holds of calls that are made and of replies that are written.
 use Rattle.std.specs.Prelude.{ℕ, ◌≤◌}
 use Rattle.plan.specs.Check.{IsPlan}
-use Rattle.plan.specs.Texts.{IsMoment, HasMoment}
+use Rattle.plan.specs.Texts.{HasMoment}
+use Rattle.desk_time.specs.Limits.{IsMoment}
 use Rattle.asks.specs.declared.call.Ask.{Ask}
 use Rattle.asks.specs.declared.call.Ask.TheVariants as ask
 use Rattle.asks.specs.declared.reply.Reply.{Reply}

@@ -8,7 +8,7 @@ ghost use Rattle.desk_state.specs.State.{is_full, is_full_for};
 ghost use Rattle.desk_state.specs.Step as step;
 ghost use Rattle.desk_state.specs.Step.{do_call, answer_call, tick_to};
 ghost use Rattle.desk_state.specs.Sound.{Sound, InBounds, EffectFits};
-ghost use Rattle.plan.specs.Texts.{IsMoment};
+ghost use Rattle.desk_time.specs.Limits.{IsMoment};
 ghost use Rattle.call_json.specs.Forms.{CallHasForms};
 ghost use Rattle.board.specs.Room.{HasRoom, MayBeMade};
 ghost use Rattle.kept_state.specs.Changes as kept_rows;

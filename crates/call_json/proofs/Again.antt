@@ -6,10 +6,10 @@ use Rattle.std.proofs.lemmas.Str.{utf8_lossy-IsUtf8}
 use Rattle.serde_json.specs.Data.{Data}
 use Rattle.serde_json.specs.Events.{items_len}
 use Rattle.serde_json.specs.View.{items_of}
-use Rattle.desk_time.specs.Moments.{shown, minute_of}
+use Rattle.desk_time.specs.Moments.{shown, minute_of, up_to}
 use Rattle.desk_time.proofs.MomentLaws.{minute_again}
 use Rattle.stations.specs.Station.{Station, is_station, station_of}
-use Rattle.plan.specs.Texts.{IsMoment}
+use Rattle.desk_time.specs.Limits.{IsMoment}
 use Rattle.plan.specs.declared.flights.Kind.{Kind}
 use Rattle.plan.specs.declared.flights.Kind.TheVariants.{Domestic, Flag}
 use Rattle.plan.specs.declared.flights.Alternate.{Alternate}
@@ -19,7 +19,7 @@ use Rattle.plan.specs.declared.flights.Plan.{Plan}
 use Rattle.asks.specs.declared.reply.Done.{Done}
 use Rattle.asks.specs.declared.reply.Done.TheVariants.{Report, Deferral, Filed, Prepared, Release, Swept}
 use Rattle.call_json.specs.declared.plans.Form.{Form}
-use Rattle.call_json.specs.Fields.{each_read, up_to, short}
+use Rattle.call_json.specs.Fields.{each_read, short}
 use Rattle.call_json.specs.Legs.{alternate_of, takeoff_in, leg_of, legs_of}
 use Rattle.call_json.specs.Plans.{has_form, formed, kind_of, plan_of}
 use Rattle.call_json.specs.Dones.{done_within}

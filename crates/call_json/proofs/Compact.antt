@@ -1,8 +1,5 @@
 -- The text of plain data is read as that data.
-use Rattle.std.proofs.Common.{◌≡◌, ℕ, ◌≤◌, Bool, true, false, List, [], ◌∷◌, Some, option_map, option_and_then, IsUtf8, refl, sym, ap, ◌∙◌, arith, append-nil, Less, Greater, nat_cmp}
-use Rattle.std.specs.Ordering.{ordering_reverse}
-use Rattle.std.specs.Cmp.Lexicographic.{slice_cmp}
-use Rattle.std.proofs.lemmas.Cmp.{nat_list_cmp_total}
+use Rattle.std.proofs.Common.{◌≡◌, ◌≤◌, Bool, true, false, [], ◌∷◌, Some, option_map, option_and_then, IsUtf8, refl, sym, ap, ◌∙◌, arith, append-nil}
 use Rattle.std.proofs.lemmas.Fmt.{IsAscii-decimal}
 use Rattle.std.proofs.lemmas.Str.{IsUtf8-append, IsUtf8-from_ascii}
 use Rattle.json.specs.Json as json
@@ -17,32 +14,8 @@ use Rattle.serde_json.specs.Read.{read, of_json, of_items, of_members, max_depth
 use Rattle.serde_json.specs.Written.{outline, items_outline, members_outline, comma_if, compact_text, items_text, members_text, has_float, items_have_float, members_have_float}
 use Rattle.serde_json.proofs.Numbers.{number_of-decimal}
 use Rattle.serde_json.proofs.Texts.{print-outline}
-use Rattle.call_json.specs.Plain.{IsBefore, AreInOrder, IsPlain, ItemsArePlain, MembersArePlain, HasText, ItemsHaveText, MembersHaveText}
-
--- ---- members that are put in one after another
-
-abbrev joined : Members → Members → Members
-joined no_members more = more
-joined (member k d ms) more = member k d (joined ms more)
-
-joined_again : (a b c : Members) → joined (joined a b) c ≡ joined a (joined b c)
-joined_again no_members b c = refl
-joined_again (member k d ms) b c = ap (member k d) (joined_again ms b c)
-
-joined_nothing : (ms : Members) → joined ms no_members ≡ ms
-joined_nothing no_members = refl
-joined_nothing (member k d ms) = ap (member k d) (joined_nothing ms)
-
-before_later : (key : List ℕ) (ms : Members) (k : List ℕ) (d : Data) (more : Members) → IsBefore key (joined ms (member k d more)) → slice_cmp nat_cmp key k ≡ Less
-before_later key no_members k d more is = is.0
-before_later key (member l e ms) k d more is = before_later key ms k d more is.1
-
--- a key behind all others is put at the end
-put_last : (ms : Members) (k : List ℕ) (d : Data) (more : Members) → AreInOrder (joined ms (member k d more)) → put k d ms ≡ joined ms (member k d no_members)
-put_last no_members k d more order = refl
-put_last (member l e ms) k d more order =
-    let behind : slice_cmp nat_cmp k l ≡ Greater = nat_list_cmp_total.antisymm k l ∙ ap ordering_reverse (before_later l ms k d more order.0) in
-    rw behind (ap (member l e) (put_last ms k d more order.1))
+use Rattle.call_json.specs.Plain.{AreInOrder, IsPlain, ItemsArePlain, MembersArePlain, HasText, ItemsHaveText, MembersHaveText}
+use Rattle.call_json.proofs.Joined.{joined, joined_again, joined_nothing, put_last}
 
 -- ---- what is read of the tree that is written
 

@@ -1,5 +1,6 @@
 pub mod Puts
 pub mod Lists
+pub mod Joined
 pub mod LegCounts
 pub mod DigestLaws
 pub mod Texts

@@ -1,7 +1,6 @@
 -- Lists whose items are read one after another.
 use Rattle.std.proofs.Common.{◌≡◌, ℕ, suc, ◌+◌, ◌<◌, ◌≤◌, List, [], ◌∷◌, ◌++◌, length, get_or, map, drop, Option, None, Some, IfSome, refl, ap, sym, subst, append_assoc, add-one, arith, drop-cons}
-use Rattle.std.proofs.Math.Seq.{drop-length}
-use Rattle.std.proofs.lemmas.List.{append-nil, map-append}
+use Rattle.std.proofs.lemmas.List.{map-append}
 use Rattle.std.specs.List.{AllByRecursion}
 use Rattle.serde_json.specs.Data.{Data, Items, no_items, item}
 use Rattle.serde_json.specs.Events.{items_len}
@@ -14,10 +13,6 @@ use Rattle.call_json.specs.Fields.{each_read}
 -- what was read so far, and then what is read of the rest
 abbrev pub onto : {A : Type 0} → List A → Option (List A) → Option (List A)
 onto before rest = rest >>= λ after. Some (before ++ after)
-
-pub onto_nothing : {A : Type 0} (o : Option (List A)) → onto [] o ≡ o
-onto_nothing None = refl
-onto_nothing (Some xs) = refl
 
 onto_one : {A : Type 0} (before : List A) (x : A) (o : Option (List A)) → onto before (o >>= λ xs. Some (x ∷ xs)) ≡ onto (before ++ x ∷ []) o
 onto_one before x None = refl
@@ -33,21 +28,12 @@ pub read_on : {A : Type 0} (read_one : Data → Option A) (vs : List Value) (i :
     → onto (before ++ x ∷ []) (each_read read_one (items_view (drop (i + 1) vs))) ≡ onto before (each_read read_one (items_view (drop i vs)))
 read_on read_one vs i v before x within is found = rw (first_read read_one vs i v within is, found) (sym (onto_one before x _))
 
--- where one isn't, nothing is read of the list
-pub read_none : {A : Type 0} (read_one : Data → Option A) (vs : List Value) (i : ℕ) (v : Value) (before : List A)
-    → i < length vs → get_or vs i v ≡ v → read_one (view v) ≡ None → onto before (each_read read_one (items_view (drop i vs))) ≡ None
-read_none read_one vs i v before within is missing = rw (first_read read_one vs i v within is, missing) refl
-
--- past the last item all was read
-pub read_all : {A : Type 0} (read_one : Data → Option A) (vs : List Value) (before : List A) → onto before (each_read read_one (items_view (drop (length vs) vs))) ≡ Some before
-read_all read_one vs before = rw (drop-length vs) (ap Some (append-nil before))
-
 one_more : {A : Type 0} (o : Option A) (rest : Option (List A)) (n : ℕ) → IfSome rest (λ xs. length xs ≡ n) → IfSome (o >>= λ x. rest >>= λ xs. Some (x ∷ xs)) (λ xs. length xs ≡ suc n)
 one_more None rest n is = tt
 one_more (Some x) None n is = tt
 one_more (Some x) (Some xs) n is = ap suc is
 
-as_many : {A : Type 0} (read_one : Data → Option A) (ds : Items) → IfSome (each_read read_one ds) (λ xs. length xs ≡ items_len ds)
+pub as_many : {A : Type 0} (read_one : Data → Option A) (ds : Items) → IfSome (each_read read_one ds) (λ xs. length xs ≡ items_len ds)
 as_many read_one no_items = refl
 as_many read_one (item d ds) = one_more (read_one d) (each_read read_one ds) (items_len ds) (as_many read_one ds)
 
@@ -58,11 +44,6 @@ at_most (Some xs) n limit is few = omega arith
 -- no more is read than there are items
 pub few_read : {A : Type 0} (read_one : Data → Option A) (vs : List Value) (limit : ℕ) → length vs ≤ limit → IfSome (each_read read_one (items_view vs)) (λ xs. length xs ≤ limit)
 few_read read_one vs limit few = at_most _ (items_len (items_view vs)) limit (as_many read_one (items_view vs)) (rw (items_len-items_view vs) few)
-
--- what holds of some things and of one more holds of all
-pub all_and : {A : Type 0} (P : A → Type 0) (xs : List A) (x : A) → AllByRecursion P xs → P x → AllByRecursion P (xs ++ x ∷ [])
-all_and P [] x all here = (here, tt)
-all_and P (y ∷ ys) x all here = (all.0, all_and P ys x all.1 here)
 
 first_is : {A : Type 0} (xs : List A) (i : ℕ) (x : A) → i < length xs → get_or xs i x ≡ x → drop i xs ≡ x ∷ drop (i + 1) xs
 first_is xs i x within is = rw (add-one, drop-cons xs i x, is) refl

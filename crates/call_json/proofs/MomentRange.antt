@@ -1,16 +1,14 @@
 -- Every moment that is read lies from 2000 to 2099.
-use Rattle.std.proofs.Common.{◌≡◌, ℕ, ◌+◌, ◌*◌, ◌<◌, ◌≤◌, true, ◌&&◌, ◌==◌, List, [], ◌∷◌, Some, IfSome, pos, refl, ap, ◌∙◌, arith}
-use Rattle.std.specs.Prelude.{nat_le, nat_lt}
+use Rattle.std.proofs.Common.{◌≡◌, ℕ, ◌+◌, ◌*◌, ◌<◌, ◌≤◌, true, ◌&&◌, ◌==◌, List, [], ◌∷◌, Some, IfSome, pos, refl, ap, ◌∙◌, arith, nat_le, nat_lt}
 use Rattle.std.proofs.lemmas.Bool.{and_parts, leb-true, ltb-true}
 use Rattle.jiff_core.proofs.SignedLemmas.{signed_arith}
 use Rattle.jiff_core.specs.Calendar.{days_in_month, days_of_months}
 use Rattle.jiff_core.proofs.CalendarLemmas.{day_count-lt_year}
 use Rattle.desk_time.specs.Calendar.{days_of_years, day_number, day_at, is_date}
 use Rattle.desk_time.specs.Digits.{pair, ◌>>=◌}
-use Rattle.desk_time.specs.Limits.{last_moment}
+use Rattle.desk_time.specs.Limits.{last_moment, IsMoment}
 use Rattle.desk_time.specs.Moments.{written, up_to, minute_of, date_at, time_at, time_of}
 use Rattle.desk_time.proofs.CalendarLaws.{day_number-count}
-use Rattle.plan.specs.Texts.{IsMoment}
 use Rattle.desk_time.proofs.Chains.{bind_if, bind_any, under}
 
 last_of_1999 : day_number 1999 12 31 ≡ 10_956

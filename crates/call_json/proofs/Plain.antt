@@ -30,7 +30,7 @@ abbrev pub in_order : Members → Bool
 in_order no_members = true
 in_order (member k d ms) = comes_before k ms && in_order ms
 
-less : (o : Ordering) → is_lt o ≡ true → o ≡ Less
+pub less : (o : Ordering) → is_lt o ≡ true → o ≡ Less
 less o is = grind arith
 
 before : (key : List ℕ) (ms : Members) → comes_before key ms ≡ true → IsBefore key ms
@@ -80,7 +80,7 @@ list_depth written n few (x ∷ xs) = deeper _ _ n (few x) (list_depth written n
 
 -- ---- plans
 
-amount_plain : (n : ℕ) → IsAmount n → n < 2 ^ 64
+pub amount_plain : (n : ℕ) → IsAmount n → n < 2 ^ 64
 amount_plain n few = omega arith
 
 alternate_plain : (a : Alternate) → IsAlternate a → IsPlain (alternate_data a)

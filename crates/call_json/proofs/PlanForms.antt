@@ -1,15 +1,13 @@
 -- The fields of a plan that is read have their forms.
-use Rattle.std.proofs.Common.{◌≡◌, ℕ, suc, ◌≤◌, true, List, [], ◌∷◌, length, Option, None, Some, IfSome, codes, refl, ap, arith}
-use Rattle.std.specs.Prelude.{option_and_then, is_some, nat_le}
+use Rattle.std.proofs.Common.{◌≡◌, ℕ, ◌≤◌, true, List, [], ◌∷◌, length, Option, Some, IfSome, codes, arith, option_and_then, is_some, nat_le, leb-true}
 use Rattle.std.specs.List.{AllByRecursion}
-use Rattle.std.proofs.lemmas.Bool.{leb-true}
 use Rattle.serde_json.specs.Data.{Data, Items, no_items, item}
 use Rattle.serde_json.specs.Events.{items_len}
 use Rattle.serde_json.specs.Find.{get, as_null, as_number, as_u64}
-use Rattle.desk_time.specs.Moments.{minute_of}
+use Rattle.desk_time.specs.Moments.{minute_of, up_to}
 use Rattle.stations.specs.Station.{Station, is_station, station_of}
 use Rattle.plan.specs.Check.{HasMoments, IsPlan}
-use Rattle.plan.specs.Texts.{IsMoment}
+use Rattle.desk_time.specs.Limits.{IsMoment}
 use Rattle.plan.specs.declared.flights.Kind.{Kind}
 use Rattle.plan.specs.declared.flights.Leg.{Leg}
 use Rattle.plan.specs.declared.flights.Plan.{Plan}
@@ -19,11 +17,13 @@ use Rattle.call_json.specs.declared.legs.Fuel.{Fuel}
 use Rattle.call_json.specs.declared.plans.Form.{Form}
 use Rattle.call_json.specs.declared.plans.Form.TheVariants.{Flight, Tail, Captain}
 use Rattle.call_json.specs.Forms.{IsAmount, IsId, IsAlternate, IsTakeoff, MayBeTakeoff, IsLeg, HasForms}
-use Rattle.call_json.specs.Fields.{text_at, up_to, number_at, amount_at, id_at, station_at, moment_at, list_at, each_read, has_members}
+use Rattle.call_json.specs.Fields.{text_at, number_at, amount_at, id_at, station_at, moment_at, list_at, each_read, has_members}
 use Rattle.call_json.specs.Legs.{alternate_of, alternates_at, takeoff_of, takeoff_in, takeoff_at, route_of, times_of, fuel_of, leg_of_parts, leg_of, legs_of, legs_at}
 use Rattle.call_json.specs.Plans.{has_form, formed, name_at, kind_at, named_plan, plan_of}
-use Rattle.desk_time.proofs.Chains.{bind_if, bind_any, then_if, under, either, weaker}
+use Rattle.desk_time.proofs.Chains.{bind_if, bind_any, then_if, under, either, both_held}
 use Rattle.call_json.proofs.MomentRange.{minute_within}
+use Rattle.std.proofs.lemmas.Option.{IfSome_then}
+use Rattle.call_json.proofs.Lists.{as_many}
 
 -- ---- fields
 
@@ -55,15 +55,6 @@ pub each_formed : {A : Type 0} (P : A → Type 0) (read_one : Data → Option A)
 each_formed P read_one one no_items = tt
 each_formed P read_one one (item d ds) =
     bind_if (read_one d) _ P (AllByRecursion P) (one d) (λ x is. bind_if (each_read read_one ds) _ (AllByRecursion P) (AllByRecursion P) (each_formed P read_one one ds) (λ xs all. (is, all)))
-
-as_many : {A : Type 0} (read_one : Data → Option A) (ds : Items) → IfSome (each_read read_one ds) (λ xs. length xs ≡ items_len ds)
-as_many read_one no_items = refl
-as_many read_one (item d ds) =
-    bind_any (read_one d) _ (λ xs. length xs ≡ suc (items_len ds)) (λ x. bind_if (each_read read_one ds) _ (λ xs. length xs ≡ items_len ds) (λ xs. length xs ≡ suc (items_len ds)) (as_many read_one ds) (λ xs same. ap suc same))
-
-both : {A : Type 0} (o : Option A) (P Q : A → Type 0) → IfSome o P → IfSome o Q → IfSome o (λ x. P x × Q x)
-both None P Q one two = tt
-both (Some x) P Q one two = (one, two)
 
 -- ---- legs
 
@@ -153,10 +144,10 @@ record AreLegs (legs : List Leg) : Type 0 where
   all : AllByRecursion IsLeg legs
 
 counted : (ds : Items) (legs : List Leg) → items_len ds ≤ 1000 → (length legs ≡ items_len ds) × AllByRecursion IsLeg legs → AreLegs legs
-counted ds legs few both = record { few = omega (arith, both.0); all = both.1 }
+counted ds legs few both_held = record { few = omega (arith, both_held.0); all = both_held.1 }
 
 legs_formed : (ds : Items) → IfSome (legs_of ds) AreLegs
-legs_formed ds = under (nat_le (items_len ds) 1000) (each_read leg_of ds) AreLegs (λ is. weaker (each_read leg_of ds) (both (each_read leg_of ds) _ (AllByRecursion IsLeg) (as_many leg_of ds) (each_formed IsLeg leg_of leg_formed ds)) (λ legs. counted ds legs (leb-true (items_len ds) 1000 is)))
+legs_formed ds = under (nat_le (items_len ds) 1000) (each_read leg_of ds) AreLegs (λ is. IfSome_then (each_read leg_of ds) (both_held (each_read leg_of ds) _ (AllByRecursion IsLeg) (as_many leg_of ds) (each_formed IsLeg leg_of leg_formed ds)) (λ legs. counted ds legs (leb-true (items_len ds) 1000 is)))
 
 legs_at_formed : (d : Data) → IfSome (legs_at d) AreLegs
 legs_at_formed d = bind_any (list_at (codes "legs") d) _ AreLegs legs_formed

@@ -1,15 +1,13 @@
 -- Texts as JSON: what is UTF-8 is written as it is, and all that is written is UTF-8.
-use Rattle.std.proofs.Common.{◌≡◌, ℕ, pos, zero, suc, ◌+◌, ◌/◌, ◌%◌, ◌<◌, ◌≤◌, ◌==◌, nat_lt, Bool, true, false, if◌then◌else◌, List, [], ◌∷◌, ◌++◌, length, slice_index, take, drop, take_all, length-drop, IsUtf8, refl, ap, subst, arith, eqb-true, lt-ltb, unwrap_or, Option, None, Some}
-use Rattle.std.specs.Char.{encode_utf8}
+use Rattle.std.proofs.Common.{◌≡◌, ℕ, pos, zero, suc, ◌+◌, ◌/◌, ◌%◌, ◌<◌, ◌≤◌, ◌==◌, nat_lt, Bool, true, false, if◌then◌else◌, List, [], ◌∷◌, ◌++◌, length, slice_index, take, drop, take_all, length-drop, IsUtf8, refl, subst, arith, eqb-true, lt-ltb, unwrap_or, Option, None, Some, encode_utf8}
 use Rattle.std.specs.Int.{is_in_range}
 use Rattle.std.specs.List.{list_all}
 use Rattle.std.specs.Str.{is_utf8}
 use Rattle.std.specs.Str.Lossy.{valid_len_up_to, utf8_valid_len, second_byte_min, second_byte_max, error_len_after_two, error_len_after_one, error_len_of_some, utf8_error_len, utf8_invalid_len, after_first_chunk, replacement_bytes, utf8_lossy_within, utf8_lossy}
 use Rattle.std.proofs.lemmas.Bool.{and_parts, eqb-false, cond_both}
 use Rattle.std.proofs.lemmas.Bool.Decides.{nat_tests}
-use Rattle.std.proofs.lemmas.Str.{IsUtf8-append, IsUtf8-nil, IsUtf8-from_is_utf8, utf8_valid_len_le, utf8_lossy-IsUtf8}
+use Rattle.std.proofs.lemmas.Str.{IsUtf8-append, IsUtf8-nil, IsUtf8-from_is_utf8, utf8_valid_len_le}
 use Rattle.json.proofs.Printed.Utf8.{are_ascii, IsUtf8-are_ascii}
-use Rattle.serde_json.specs.Data.{string}
 use Rattle.jiff_core.proofs.CalendarLemmas.{days_in_month_bounds}
 use Rattle.jiff_core.proofs.SignedLemmas.{signed_arith}
 use Rattle.desk_time.specs.Calendar.{civil_of}
@@ -19,14 +17,9 @@ use Rattle.stations.specs.Station.{is_station, is_capital_or_digit}
 use Rattle.call_json.specs.declared.plans.Form.{Form}
 use Rattle.call_json.specs.declared.plans.Form.TheVariants.{Flight, Tail, Captain}
 use Rattle.hex.specs.Hex.{encode_lower}
-use Rattle.call_json.specs.Canonical.{text_data}
 use Rattle.call_json.specs.Digests.{is_small_digit, IsDigest}
 use Rattle.call_json.specs.Plans.{is_of_form, has_form}
 use Rattle.call_json.proofs.DigestLaws.{small_written}
-
--- a text that is UTF-8 is written as it is
-pub text_kept : (t : List ℕ) → IsUtf8 t → text_data t ≡ string t
-text_kept t is = ap string (utf8_lossy-IsUtf8 t is)
 
 -- ---- whatever is written is UTF-8
 

@@ -1,5 +1,5 @@
 -- The texts that are written of plans and of what was done are read as these.
-use Rattle.std.proofs.Common.{◌≡◌, Some, IsUtf8, option_and_then, ap, ◌∙◌, arith}
+use Rattle.std.proofs.Common.{◌≡◌, Some, option_and_then, ap, ◌∙◌, arith}
 use Rattle.serde_json.specs.Read.{read}
 use Rattle.serde_json.specs.Written.{compact_text}
 use Rattle.plan.specs.declared.flights.Plan.{Plan}
@@ -9,17 +9,11 @@ use Rattle.call_json.specs.Forms.{HasForms, DoneHasForms}
 use Rattle.call_json.specs.Dones.{done_of}
 use Rattle.call_json.specs.Plans.{plan_of}
 use Rattle.call_json.proofs.Again.{plan_again, done_again}
-use Rattle.call_json.proofs.Compact.{read_compact, utf8_compact}
-use Rattle.call_json.proofs.Plain.{plan_plain, plan_has_text, plan_depth, done_plain, done_has_text, done_depth, kept_said}
+use Rattle.call_json.proofs.Compact.{read_compact}
+use Rattle.call_json.proofs.Plain.{plan_plain, plan_depth, done_plain, done_depth, kept_said}
 
 pub plan_text_again : (p : Plan) → HasForms p → option_and_then plan_of (read (compact_text (plan_data p))) ≡ Some p
 plan_text_again p is = ap (option_and_then plan_of) (read_compact (plan_data p) (plan_plain p is) (omega (arith, plan_depth p))) ∙ plan_again p is
 
-pub plan_text_utf8 : (p : Plan) → HasForms p → IsUtf8 (compact_text (plan_data p))
-plan_text_utf8 p is = utf8_compact (plan_data p) (plan_plain p is) (plan_has_text p)
-
 pub done_text_again : (d : Done) → DoneHasForms d → option_and_then done_of (read (compact_text (done_data d))) ≡ Some d
 done_text_again d is = ap (option_and_then done_of) (read_compact (done_data d) (done_plain d (kept_said d is)) (omega (arith, done_depth d))) ∙ done_again _ _ d is
-
-pub done_text_utf8 : (d : Done) → DoneHasForms d → IsUtf8 (compact_text (done_data d))
-done_text_utf8 d is = utf8_compact (done_data d) (done_plain d (kept_said d is)) (done_has_text d (kept_said d is))

@@ -6,7 +6,7 @@ use Rattle.serde_json.specs.Events.{members_len}
 use Rattle.serde_json.specs.Read.{read}
 use Rattle.serde_json.specs.Find.{get, as_str, as_number, as_u64, as_array, as_object}
 use Rattle.desk_time.specs.Digits.{◌>>=◌}
-use Rattle.desk_time.specs.Moments.{minute_of}
+use Rattle.desk_time.specs.Moments.{minute_of, up_to}
 use Rattle.stations.specs.Station.{Station, station_of}
 
 -- the data of a line, where it is UTF-8 and JSON
@@ -16,9 +16,6 @@ data_of line = if utf8_valid_len line == length line then read line else None
 -- the text at a key
 abbrev pub text_at : List ℕ → Data → Option (List ℕ)
 text_at key d = option_and_then as_str (get key d)
-
-abbrev pub up_to : ℕ → ℕ → Option ℕ
-up_to limit n = if nat_le n limit then Some n else None
 
 -- the whole number at a key, at most the limit
 abbrev pub number_at : List ℕ → ℕ → Data → Option ℕ

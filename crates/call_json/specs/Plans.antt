@@ -13,9 +13,7 @@ use Rattle.call_json.specs.declared.plans.Form.{Form}
 use Rattle.call_json.specs.declared.plans.Form.TheVariants.{Flight, Tail, Captain}
 use Rattle.call_json.specs.Fields.{text_at, has_members}
 use Rattle.call_json.specs.Legs.{legs_at}
-
-abbrev pub is_small : ℕ → Bool
-is_small b = nat_le 97 b && nat_le b 122
+use Rattle.ops_tables.specs.Forms.{is_small}
 
 -- the characters of a name
 abbrev pub is_of_form : Form → ℕ → Bool

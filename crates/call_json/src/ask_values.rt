@@ -4,7 +4,7 @@ ghost use Rattle.serde_json.specs.View.{view, members_view};
 ghost use Rattle.serde_json.specs.Written.{compact_text};
 ghost use Rattle.sha2.specs.Sha256.{sha256};
 ghost use Rattle.plan.specs.Check.{IsPlan};
-ghost use Rattle.plan.specs.Texts.{IsMoment};
+ghost use Rattle.desk_time.specs.Limits.{IsMoment};
 ghost use Rattle.asks.specs.Forms.{IsCall};
 ghost use Rattle.call_json.specs.Digests.{digest_data};
 ghost use Rattle.call_json.specs.Canonical as spec;

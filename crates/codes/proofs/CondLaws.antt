@@ -18,6 +18,16 @@ lesser_assoc (Some x) None c = refl
 lesser_assoc (Some x) (Some y) None = refl
 lesser_assoc (Some x) (Some y) (Some z) = ap Some (omega arith)
 
+pub lesser_comm : (a b : Option ℕ) → lesser a b ≡ lesser b a
+lesser_comm None None = refl
+lesser_comm None (Some y) = refl
+lesser_comm (Some x) None = refl
+lesser_comm (Some x) (Some y) = ap Some (omega arith)
+
+pub lesser_none : (a : Option ℕ) → lesser a None ≡ a
+lesser_none None = refl
+lesser_none (Some x) = refl
+
 or_assoc : (a b c : Bool) → ((a || b) || c) ≡ (a || (b || c))
 or_assoc true b c = refl
 or_assoc false b c = refl

@@ -7,6 +7,7 @@ use Rattle.std.proofs.lemmas.List.Splits.{slice_split-cons_yes, slice_split-cons
 use Rattle.desk_io.specs.Runs.{blanks, is_among, has_bytes, kept, runs_between}
 use Rattle.codes.specs.Groups.{IsGroup, last_without_end_sign, spaced, joined, groups_of, canonical}
 use Rattle.codes.proofs.CanonicalLaws.{last_byte, last_byte_after, group_has_bytes, runs_are_groups, last_are_groups}
+use Rattle.stations.specs.Station.{is_station}
 
 -- the bytes of lists, and one more for each
 abbrev size : List (List ℕ) → ℕ
@@ -106,3 +107,11 @@ length-canonical text =
 -- the same, of a text that has these groups
 pub no_text_is_shorter : (gs : List (List ℕ)) (text : List ℕ) → groups_of text ≡ gs → length (canonical gs) ≤ length text
 no_text_is_shorter gs text e = rw (← e) (length-canonical text)
+
+pub station_length : (station : List ℕ) → is_station station ≡ true → length station ≡ 4
+station_length [] e = absurd cc
+station_length (a ∷ []) e = absurd cc
+station_length (a ∷ b ∷ []) e = absurd cc
+station_length (a ∷ b ∷ c ∷ []) e = absurd cc
+station_length (a ∷ b ∷ c ∷ d ∷ []) e = refl
+station_length (a ∷ b ∷ c ∷ d ∷ f ∷ rest) e = absurd cc

@@ -1,17 +1,12 @@
 -- A stretch is read exactly where each of its groups has its shape.
-use Rattle.std.proofs.Common.{◌≡◌, ℕ, ◌+◌, List, [], ◌∷◌, Option, None, Some, Ok, All, refl}
+use Rattle.std.proofs.Common.{◌≡◌, ℕ, ◌+◌, List, [], ◌∷◌, Option, None, Some, All, refl}
 use Rattle.std.proofs.lemmas.List.Elements.{All-nil, All-cons}
-use Rattle.codes.specs.Cond.{cond_of, cond_unless, first_fault, fault_or, shape_fault, named_cond}
-use Rattle.codes.specs.declared.cond.Cond.{Cond}
+use Rattle.codes.specs.Cond.{first_fault, fault_or, shape_fault}
 use Rattle.codes.specs.declared.fault.Why.{Why}
 use Rattle.codes.specs.declared.fault.BadReport.{BadReport}
 use Rattle.codes.specs.declared.fault.Form.{Form}
 
-pub record IsNamedBy (form : Form) (groups : List (List ℕ)) (cond : Cond) : Type 0 where
-  pub shaped : All (λ g. shape_fault form g ≡ None) groups
-  pub named : cond ≡ named_cond groups
-
-no_fault_or : (why : Option Why) (n : ℕ) (later : Option BadReport) → fault_or why n later ≡ None → (why ≡ None) × (later ≡ None)
+pub no_fault_or : (why : Option Why) (n : ℕ) (later : Option BadReport) → fault_or why n later ≡ None → (why ≡ None) × (later ≡ None)
 no_fault_or None n later e = (refl, e)
 no_fault_or (Some why) n later e = absurd cc
 
@@ -20,11 +15,3 @@ each_is_shaped form n [] e = All-nil (λ g. shape_fault form g ≡ None)
 each_is_shaped form n (g ∷ gs) e =
     let each = no_fault_or (shape_fault form g) n (first_fault form (n + 1) gs) e in
     All-cons (λ h. shape_fault form h ≡ None) g gs each.0 (each_is_shaped form (n + 1) gs each.1)
-
-named_unless : (form : Form) (n : ℕ) (groups : List (List ℕ)) (fault : Option BadReport) (cond : Cond) → first_fault form n groups ≡ fault → cond_unless fault groups ≡ Ok cond → IsNamedBy form groups cond
-named_unless form n groups None cond e f = record { shaped = each_is_shaped form n groups e; named = (let is = f in cc) }
-named_unless form n groups (Some bad) cond e f = absurd cc
-
-pub cond_is_named : (form : Form) (n : ℕ) (groups : List (List ℕ)) (cond : Cond) → cond_of form n groups ≡ Ok cond → IsNamedBy form groups cond
-unfolding cond_of
-cond_is_named form n groups cond e = named_unless form n groups (first_fault form n groups) cond refl e

@@ -8,8 +8,9 @@ use Rattle.codes.specs.Digits.{three}
 use Rattle.codes.specs.Shapes.{hundreds, is_cloud, layer_at, layer, vertical, no_ceiling, value_or_bad, sky_word, layer_after, sky}
 use Rattle.codes.specs.SkyTable as table
 use Rattle.codes.specs.SkyTable.{IsOpenLayer, few, scattered, IsCeiling, broken, overcast, ShowsHeight, measured, unmeasured, IsCloud, unnamed, cumulonimbus, towering, unknown, InSky, BeginsAsLayer, with_open_layer, with_ceiling, with_vertical, IsTabledSky}
-use Rattle.codes.proofs.WordLaws.{same_bytes}
 use Rattle.codes.proofs.DigitLaws.{digit_of, digit_shown, found, no_digit_below}
+use Rattle.desk_io.proofs.Bytes.{same_bytes}
+use Rattle.std.proofs.lemmas.List.{nil_from_length}
 
 -- the rows
 
@@ -50,16 +51,12 @@ in_sky_is_named _ _ table.cavok = refl
 
 -- a layer that misses its shape
 
-no_bytes : (xs : List ℕ) → length xs ≡ 0 → xs ≡ []
-no_bytes [] e = refl
-no_bytes (x ∷ xs) e = absurd (omega arith)
-
 cloud_shown : (kind : List ℕ) → is_cloud kind ≡ true → IsCloud kind
 cloud_shown kind e =
     elim (or_cases ((length kind == 0) || bytes_eq kind (codes "CB") || bytes_eq kind (codes "TCU")) (bytes_eq kind (codes "///")) e) [
       | inl named ↦ elim (or_cases ((length kind == 0) || bytes_eq kind (codes "CB")) (bytes_eq kind (codes "TCU")) named) [
         | inl short ↦ elim (or_cases (length kind == 0) (bytes_eq kind (codes "CB")) short) [
-          | inl none ↦ subst (λ k. IsCloud k) (sym (no_bytes kind (eqb-true (length kind) 0 none))) unnamed
+          | inl none ↦ subst (λ k. IsCloud k) (sym (nil_from_length kind (eqb-true (length kind) 0 none))) unnamed
           | inr same ↦ subst (λ k. IsCloud k) (sym (same_bytes kind (codes "CB") same)) cumulonimbus
         ]
         | inr same ↦ subst (λ k. IsCloud k) (sym (same_bytes kind (codes "TCU") same)) towering

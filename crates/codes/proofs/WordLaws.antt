@@ -1,11 +1,9 @@
 -- Tests of words among groups.
-use Rattle.std.proofs.Common.{◌≡◌, ℕ, true, List, Contains, Decides, bytes_eq, refl, subst}
+use Rattle.std.proofs.Common.{ℕ, List, Contains, Decides, bytes_eq, refl, subst}
 use Rattle.std.specs.List.{list_any}
 use Rattle.std.proofs.lemmas.Slice.Eq.{bytes_eq-Decides}
 use Rattle.std.proofs.lemmas.List.Folds.{Any-from_list_any, list_any-from_Any}
-
-pub same_bytes : (xs ys : List ℕ) → bytes_eq xs ys ≡ true → xs ≡ ys
-same_bytes xs ys e = (bytes_eq-Decides xs ys).0 e
+use Rattle.desk_io.proofs.Bytes.{same_bytes}
 
 -- whether a word is among some groups
 pub has_decides : (word : List ℕ) (groups : List (List ℕ)) → Decides (list_any (λ g. bytes_eq g word) groups) (Contains groups word)

@@ -5,7 +5,6 @@ use Rattle.csv.specs.declared.parser.Config.{Config}
 use Rattle.csv.specs.declared.parser.State.{State}
 use Rattle.csv.specs.declared.parser.State.TheVariants as st
 use Rattle.csv.specs.declared.parser.Action.{Action}
-use Rattle.csv.specs.declared.parser.Action.TheVariants as act
 
 -- a byte within a record
 pub within : (config : Config) (from to : State) (action : Action) (fields : List (List ℕ)) (field rest : List ℕ) (b : ℕ) → (to, action) ≡ step config from b → is_end action ≡ false
@@ -27,9 +26,3 @@ last config from fields field h = rw h refl
 pub no_more : (config : Config) (from : State) (fields : List (List ℕ)) (field : List ℕ) → ends_at_end from ≡ false → next_record config from fields field [] ≡ None
 unfolding next_record
 no_more config from fields field h = rw h refl
-
-pub none_at_hand : (action : Action) (b : ℕ) (field : List ℕ) → is_end action ≡ true → field_after action b field ≡ []
-none_at_hand act.Skip b field h = cc
-none_at_hand act.Copy b field h = cc
-none_at_hand act.EndField b field h = refl
-none_at_hand act.EndRecord b field h = refl

@@ -2,7 +2,7 @@ ghost use Rattle.std.specs.Prelude.{◌≡◌, ℕ, IfOk};
 ghost use Rattle.codes.specs.Groups.{groups_of, canonical};
 ghost use Rattle.facts.specs.Reading.{read_of, report_of, IsRead};
 ghost use Rattle.facts.specs.Same.{same_id, minute_of_read};
-ghost use Rattle.plan.specs.Texts.{IsMoment};
+ghost use Rattle.desk_time.specs.Limits.{IsMoment};
 ghost use Rattle.desk_state.specs.Contents.{state_of};
 ghost use Rattle.desk_state.specs.Decide as spec;
 ghost use Rattle.decisions.specs.Answers.{Answers, Passes};

@@ -1,6 +1,5 @@
 -- The search over the six rows is the route of the path.
-use Rattle.std.proofs.Common.{◌≡◌, ℕ, suc, ◌<◌, ◌==◌, ◌++◌, List, [], ◌∷◌, Option, Some, None, cond, Bool, true, false, codes, refl, sym, ◌∙◌, get_or, arith, inl, inr, ne_eqb, nat_lt, ◌&&◌}
-use Rattle.std.proofs.Common.{ltb-true}
+use Rattle.std.proofs.Common.{◌≡◌, ℕ, suc, ◌<◌, ◌==◌, ◌++◌, List, [], ◌∷◌, Option, Some, None, cond, Bool, true, false, codes, refl, sym, ◌∙◌, get_or, arith, inl, inr, ne_eqb, nat_lt, ◌&&◌, ltb-true, ◌-◌}
 use Rattle.std.proofs.lemmas.Bool.{and_parts, cases_eq}
 use Rattle.std.proofs.lemmas.Bool.{cases_Bool}
 use Rattle.matchit.specs.Rows.{RowsOf}
@@ -8,7 +7,6 @@ use Rattle.matchit.specs.Seek.{seek, first, step, own, or_else, param_step, has_
 use Rattle.desk_http.specs.Names.{patterns}
 use Rattle.desk_http.specs.declared.router.Named.{Named}
 use Rattle.desk_http.specs.declared.router.Named.TheVariants.{ToCall, ToBoard, ToAlerts, ToRelease, ToWeather, ToDeferred}
-use Rattle.std.proofs.Common.{◌-◌}
 use Rattle.desk_http.proofs.Seeks.{param_nil, seek_nil, literal, param_end, param_slash}
 
 -- what follows a front
@@ -113,7 +111,7 @@ tail_name path =
     or_next (whole ToCall (follows (codes "call") path)) (or_next (whole ToBoard (follows (codes "board") path)) (or_next (whole ToAlerts (follows (codes "alerts") path))
     (or_next (one_segment ToRelease (follows (codes "release/") path)) (or_next (one_segment ToWeather (follows (codes "weather/") path)) (one_segment ToDeferred (follows (codes "deferred/") path))))))
 
-next_none : (o : Option Named) → or_next o None ≡ o
+pub next_none : (o : Option Named) → or_next o None ≡ o
 next_none None = refl
 next_none (Some n) = refl
 
@@ -144,10 +142,6 @@ at_letter d q bytes = elim (cases_eq d 97) [
 after_slash : (path : List ℕ) → AreBytes path → seek 0 tails path ≡ tail_name path
 after_slash [] bytes = at_end tails
 after_slash (d ∷ q) bytes = bytes_only tails d q refl refl ∙ at_letter d q bytes.1
-
-from_slash : (p : List ℕ) → AreBytes p → (slash : Bool) → seek 0 (cond slash tails []) p ≡ cond slash (tail_name p) None
-from_slash p bytes true = after_slash p bytes
-from_slash p bytes false = seek_nil 0 p
 
 -- the search over the six rows is the route of the path
 pub first_is : (path : List ℕ) → AreBytes path → first patterns path ≡ name_at path

@@ -1,6 +1,5 @@
 -- What a call of a link that reads did to it.
-use Rattle.std.proofs.Common.{◌≡◌, ℕ, List, [], ◌++◌, length, take, drop, Option, Some, None, Result, Ok, Err, refl, ap, sym, ◌∙◌, arith}
-use Rattle.std.specs.Prelude.{IfOk}
+use Rattle.std.proofs.Common.{◌≡◌, ℕ, List, [], ◌++◌, length, take, drop, Option, Some, None, Result, Ok, Err, ap, sym, ◌∙◌, arith, IfOk}
 use Rattle.std.proofs.lemmas.List.{take-append-drop, drop-drop, drop_all}
 use Rattle.desk_net.specs.Streams.{Stream, Reads, TakesNext, unread, OnlyRead}
 use Rattle.desk_http.specs.Requests.{Splits, AtEnd}
@@ -36,10 +35,6 @@ only (Some old) (Some new) into (Ok n) is = (is.input, is.written)
 only (Some old) (Some new) into (Err e) is = (ap (λ w. w.input) is, ap (λ w. w.written) is)
 only None (Some new) into r is = absurd is
 only (Some old) None into r is = absurd is
-
-pub still : (told : Option Stream) → OnlyRead told told
-still None = tt
-still (Some told) = (refl, refl)
 
 pub only_on : (before now later : Option Stream) → OnlyRead before now → OnlyRead now later → OnlyRead before later
 only_on None None None a b = tt

@@ -1,9 +1,7 @@
 -- The route of the name that the router finds is the route of the path.
-use Rattle.std.proofs.Common.{◌≡◌, ℕ, ◌==◌, ◌++◌, ◌||◌, ◌&&◌, List, [], ◌∷◌, Option, Some, None, cond, Bool, true, false, codes, refl, ap, sym, ◌∙◌, take, drop, length, Result, Ok, Err, IfOk, inl, inr, ne_eqb}
+use Rattle.std.proofs.Common.{◌≡◌, ℕ, ◌==◌, ◌++◌, ◌||◌, ◌&&◌, List, [], ◌∷◌, Option, Some, None, cond, Bool, true, false, codes, refl, ap, sym, ◌∙◌, take, drop, length, Result, Ok, Err, IfOk, inl, inr, ne_eqb, unwrap_or, option_map}
 use Rattle.std.specs.List.{list_any, list_all}
 use Rattle.std.specs.Str.{bytes_eq, is_utf8}
-use Rattle.std.specs.Prelude.{unwrap_or}
-use Rattle.std.specs.Option.{option_map}
 use Rattle.std.proofs.lemmas.Bool.{and_right, and_parts, cases_eq, eqb-true, false_from_ne_true}
 use Rattle.matchit.specs.Seek.{first, has_slash}
 use Rattle.stations.specs.Station.{is_capital, is_capital_or_digit, is_station}
@@ -11,7 +9,7 @@ use Rattle.desk_time.specs.Numbers.{is_digit, digits_after}
 use Rattle.desk_http.specs.Digits.{has_length}
 use Rattle.desk_http.specs.Routes.{after, fixed_route, release_route, weather_route, deferred_route, route_among, route_in, route_of}
 use Rattle.desk_http.specs.Names.{patterns, rest_after, named_route}
-use Rattle.desk_http.proofs.Found.{follows, whole, one_segment, or_next, name_at, AreBytes, first_is}
+use Rattle.desk_http.proofs.Found.{follows, whole, one_segment, or_next, name_at, AreBytes, first_is, next_none}
 use Rattle.desk_http.specs.declared.router.Named.{Named}
 use Rattle.desk_http.specs.declared.router.Named.TheVariants.{ToCall, ToBoard, ToAlerts, ToRelease, ToWeather, ToDeferred}
 use Rattle.desk_http.specs.declared.routes.Routed.{Routed}
@@ -127,10 +125,6 @@ segment : (n : Named) (path id : List ℕ) (f : List ℕ → Option Routed) → 
 segment n path [] f empty none is = sym empty
 segment n path (c ∷ id) f empty none is = segment_by n path (c ∷ id) f (has_slash (c ∷ id)) refl none is
 
-unless_next : (o : Option Named) → or_next o None ≡ o
-unless_next None = refl
-unless_next (Some n) = refl
-
 rest_is : (front path id : List ℕ) → follows front path ≡ Some id → rest_after front path ≡ id
 rest_is front path id is = ap (λ o. unwrap_or o []) (after_is front path ∙ is)
 
@@ -163,13 +157,13 @@ segments path (Some id) weather deferred r w d =
     ap (λ n. named_route n path) (
     ap (λ x. or_next (one_segment ToRelease (Some id)) (or_next (one_segment ToWeather x) (one_segment ToDeferred deferred))) (sym w ∙ not_weather path id r)
     ∙ ap (λ x. or_next (one_segment ToRelease (Some id)) (one_segment ToDeferred x)) (sym d ∙ not_deferred path id r)
-    ∙ unless_next (one_segment ToRelease (Some id))
+    ∙ next_none (one_segment ToRelease (Some id))
     )
     ∙ segment ToRelease path id release_route refl no_number (ap release_route (rest_is (codes "/release/") path id r))
 segments path None (Some id) deferred r w d =
     ap (λ n. named_route n path) (
     ap (λ x. or_next (one_segment ToWeather (Some id)) (one_segment ToDeferred x)) (sym d ∙ not_deferred_too path id w)
-    ∙ unless_next (one_segment ToWeather (Some id))
+    ∙ next_none (one_segment ToWeather (Some id))
     )
     ∙ segment ToWeather path id weather_route refl no_station (ap weather_route (rest_is (codes "/weather/") path id w))
 segments path None None (Some id) r w d = segment ToDeferred path id deferred_route refl no_tail (ap deferred_route (rest_is (codes "/deferred/") path id d))

@@ -1,7 +1,6 @@
 -- What is read of a stream, and what its bytes begin with.
-use Rattle.std.proofs.Common.{◌≡◌, ◌≢◌, ◌==◌, false, ℕ, ◌+◌, ◌-◌, ◌<◌, ◌≤◌, inl, inr, List, [], ◌∷◌, ◌++◌, length, take, drop, Option, Some, None, Result, Ok, Err, refl, ap, sym, subst, ◌∙◌, arith, length-append, append-nil, slice_range}
-use Rattle.std.specs.Result.{MatchResult, IsErr, IsErrAnd}
-use Rattle.std.proofs.lemmas.List.{append_assoc, take-append-drop, take_all, drop-append-le, drop-drop, length-take, length-take-le}
+use Rattle.std.proofs.Common.{◌≡◌, ◌≢◌, ◌==◌, false, ℕ, ◌+◌, ◌-◌, ◌<◌, ◌≤◌, inl, inr, List, [], ◌∷◌, ◌++◌, length, take, drop, Option, Some, None, Result, Ok, Err, ap, sym, subst, ◌∙◌, arith, length-append, append-nil, slice_range, MatchResult, IsErr, IsErrAnd}
+use Rattle.std.proofs.lemmas.List.{append_assoc, take-append-drop, take_all, drop-append-le, drop-drop, length-take, length-take-le, nil_from_length}
 use Rattle.std.proofs.Math.Seq.{drop-append_seam}
 use Rattle.httparse.specs.Grammar.{RequestHead, print_request, HasNoRequest, NeverHasRequest}
 use Rattle.httparse.specs.Spans.{IsRequestOf, span_bytes}
@@ -46,16 +45,11 @@ read_on before now later kept grown longer (one, a, s) (two, b, t) =
 pub not_shorter : (before now : Option (List ℕ)) (kept grown : List ℕ) → HasRead before now kept grown → length kept ≤ length grown
 not_shorter before now kept grown (more, is, splits) = omega (arith, ap length is, length-append kept more)
 
--- nothing was read
-empty : (xs : List ℕ) → length xs ≡ 0 → xs ≡ []
-empty [] e = refl
-empty (x ∷ xs) e = absurd (omega (arith, e))
-
 still : (kept grown read : List ℕ) → grown ≡ kept ++ read → length grown ≡ length kept + 0 → grown ≡ kept
 still kept grown read is same =
     let long = length-append kept read in
     let all = ap length is in
-    is ∙ ap (λ x. kept ++ x) (empty read (omega (arith, long, all, same))) ∙ append-nil kept
+    is ∙ ap (λ x. kept ++ x) (nil_from_length read (omega (arith, long, all, same))) ∙ append-nil kept
 
 pub none_read : (before now : Option (List ℕ)) (kept grown : List ℕ) → HasRead before now kept grown → length grown ≡ length kept + 0 → grown ≡ kept
 none_read before now kept grown some counted = still kept grown some.0 some.1 counted

@@ -1,8 +1,10 @@
-ghost use Rattle.std.specs.Prelude.{◌≡◌};
+ghost use Rattle.std.specs.Prelude.{◌≡◌, ◌≤◌, Ok, is_ok, IfOk, OnOk, OnErr};
+ghost use Rattle.desk_io.specs.Health.{RoseOrFull};
 ghost use Rattle.desk_io.specs.declared.faults.PutFault.TheVariants.{OutOfMemory as PutMemory};
 ghost use Rattle.desk_io.specs.declared.faults.WholeFault.TheVariants.{OutOfMemory as WholeMemory, ReadFault as WholeRead};
 
 use std::alloc::{AllocError, AllocFailed};
+use std::io;
 
 /// Memory ran out. The call that answers it has changed nothing.
 #[derive(Clone, Copy, Debug, PartialEq, Eq)]
@@ -73,5 +75,22 @@ impl From<Failed> for WholeFault {
 
     fn from(_: Failed) -> Self {
         WholeFault::ReadFault
+    }
+}
+
+/// An error of the system is a counted fault, and nothing else is.
+pub fn counted<T>(answer: io::Result<T>, faults: &mut u64) -> Result<T, Failed>
+    ensures fails { is_ok result ≡ is_ok answer }
+    ensures value { IfOk result (λ x. answer ≡ Ok x) }
+    ensures later { faults.old ≤ faults.new }
+    ensures rose { OnErr result (RoseOrFull faults.old faults.new) }
+    ensures kept { OnOk result (faults.new ≡ faults.old) }
+{
+    match answer {
+        Ok(x) => Ok(x),
+        Err(_) => {
+            *faults = faults.saturating_add(1);
+            Err(Failed)
+        }
     }
 }

@@ -12,7 +12,7 @@ mod runs;
 mod text;
 mod whole;
 
-pub use faults::{Failed, OutOfMemory, PutFault, WholeFault};
+pub use faults::{Failed, OutOfMemory, PutFault, WholeFault, counted};
 pub use listed::{Copied, Listed, copied_items, copied_option};
 pub use memory::{MemoryShelf, MemorySink};
 pub use outside::{Shelf, Sink};

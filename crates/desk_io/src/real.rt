@@ -1,29 +1,12 @@
-ghost use Rattle.std.specs.Prelude.{◌≡◌, ◌≤◌, length, None, Ok, is_ok, IfOk, OnOk, OnErr};
+ghost use Rattle.std.specs.Prelude.{◌≡◌, ◌≤◌, length, None, IfOk, OnOk};
 ghost use Rattle.std.specs.Io.KnownBytes.{Appends, ReadConsumes};
-ghost use Rattle.desk_io.specs.Health.{RoseOrFull, unsound};
+ghost use Rattle.desk_io.specs.Health.{unsound};
 
-use crate::{Failed, PutFault, Shelf, Sink};
+use crate::{Failed, PutFault, Shelf, Sink, counted};
 use std::fs::File;
 use std::io;
 use std::io::{Read, Seek, SeekFrom, Write};
 use std::rt::Files;
-
-// An error of the system is a counted fault, and nothing else is.
-fn counted<T>(answer: io::Result<T>, faults: &mut u64) -> Result<T, Failed>
-    ensures fails { is_ok result ≡ is_ok answer }
-    ensures value { IfOk result (λ x. answer ≡ Ok x) }
-    ensures later { faults.old ≤ faults.new }
-    ensures rose { OnErr result (RoseOrFull faults.old faults.new) }
-    ensures kept { OnOk result (faults.new ≡ faults.old) }
-{
-    match answer {
-        Ok(x) => Ok(x),
-        Err(_) => {
-            *faults = faults.saturating_add(1);
-            Err(Failed)
-        }
-    }
-}
 
 // The longest name that is kept, in bytes.
 const NAME_LIMIT: usize = 255;

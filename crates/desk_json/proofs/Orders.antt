@@ -12,7 +12,7 @@ use Rattle.serde_json.specs.Find.{get, get_member}
 use Rattle.serde_json.specs.Read.{max_depth, read, of_json, of_items, of_members, number_of}
 use Rattle.call_json.specs.Fields.{data_of}
 use Rattle.call_json.specs.Plain.{IsBefore, AreInOrder}
-use Rattle.desk_time.proofs.Chains.{then_if, under}
+use Rattle.desk_time.proofs.Chains.{then_if, under, mapped}
 
 abbrev mutual
   pub Ordered : Data → Type 0
@@ -78,10 +78,6 @@ then_known : {A B : Type 0} (f : A → Option B) (o : Option A) (P : A → Type 
 then_known f None P Q is next = tt
 then_known f (Some x) P Q is next = next x is
 
-made : {A B : Type 0} (f : A → B) (o : Option A) (P : A → Type 0) (Q : B → Type 0) → IfSome o P → ((x : A) → P x → Q (f x)) → IfSome (option_map f o) Q
-made f None P Q is next = tt
-made f (Some x) P Q is next = next x is
-
 any_made : {A B : Type 0} (f : A → B) (o : Option A) (Q : B → Type 0) → ((x : A) → Q (f x)) → IfSome (option_map f o) Q
 any_made f None Q next = tt
 any_made f (Some x) Q next = next x
@@ -92,14 +88,14 @@ mutual
   ordered (json.boolean b) = tt
   ordered (json.number s) = any_made number (number_of s) Ordered (λ n. tt)
   ordered (json.string s) = tt
-  ordered (json.array js) = made array (of_items js) ItemsOrdered Ordered (items_ordered js) (λ ds is. is)
-  ordered (json.object ms) = made object (of_members ms no_members) AllOrdered Ordered (members_ordered ms no_members (tt, tt)) (λ all is. is)
+  ordered (json.array js) = mapped array (of_items js) ItemsOrdered Ordered (items_ordered js) (λ ds is. is)
+  ordered (json.object ms) = mapped object (of_members ms no_members) AllOrdered Ordered (members_ordered ms no_members (tt, tt)) (λ all is. is)
 
   items_ordered : (js : json.Items) → IfSome (of_items js) ItemsOrdered
   items_ordered json.no_items = tt
   items_ordered (json.item j js) =
       then_known (λ d. option_map (item d) (of_items js)) (of_json j) Ordered ItemsOrdered (ordered j)
-      (λ d is. made (item d) (of_items js) ItemsOrdered ItemsOrdered (items_ordered js) (λ ds all. (is, all)))
+      (λ d is. mapped (item d) (of_items js) ItemsOrdered ItemsOrdered (items_ordered js) (λ ds all. (is, all)))
 
   members_ordered : (ms : json.Members) (found : Members) → AllOrdered found → IfSome (of_members ms found) AllOrdered
   members_ordered json.no_members found is = is

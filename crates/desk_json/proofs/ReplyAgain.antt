@@ -1,5 +1,5 @@
 -- A reply of good form is read again of its text.
-use Rattle.std.proofs.Common.{◌≡◌, ℕ, ◌^◌, ◌<◌, ◌≤◌, true, if◌then◌else◌, List, length, Option, None, Some, IfSome, IfOk, Result, Ok, Err, IsUtf8, refl, sym, ap, ◌∙◌, subst, arith, eq-eqb}
+use Rattle.std.proofs.Common.{◌≡◌, ℕ, ◌^◌, ◌<◌, ◌≤◌, if◌then◌else◌, List, length, Option, None, Some, IfSome, IfOk, Result, Ok, Err, IsUtf8, refl, sym, ap, ◌∙◌, subst, arith, eq-eqb}
 use Rattle.std.specs.Str.{bytes_eq}
 use Rattle.std.specs.Str.Lossy.{utf8_lossy}
 use Rattle.std.proofs.lemmas.Slice.Eq.{bytes_eq-Decides}
@@ -9,7 +9,7 @@ use Rattle.serde_json.specs.Data.{Data, depth}
 use Rattle.serde_json.specs.Read.{max_depth}
 use Rattle.serde_json.specs.Written.{compact_text}
 use Rattle.desk_time.specs.Digits.{◌>>=◌}
-use Rattle.desk_time.specs.Moments.{shown, shown_of}
+use Rattle.desk_time.specs.Moments.{shown, shown_of, up_to}
 use Rattle.desk_time.proofs.MomentLaws.{shown_again}
 use Rattle.codes.specs.declared.fault.Why.{Why}
 use Rattle.codes.specs.declared.fault.Why.TheVariants as why
@@ -17,30 +17,29 @@ use Rattle.plan.specs.Texts.{finding_text, phase_text}
 use Rattle.plan.specs.declared.check.PlanWhy.{PlanWhy}
 use Rattle.plan.specs.declared.check.PlanWhy.TheVariants as plan_why
 use Rattle.plan.specs.declared.findings.Finding.{Finding}
-use Rattle.plan.specs.declared.release.Phase.{Phase}
 use Rattle.asks.specs.Forms.{CanBeShown}
 use Rattle.asks.specs.declared.reply.Reply.{Reply}
 use Rattle.asks.specs.declared.reply.Reply.TheVariants.{Done, Seen, Refused}
 use Rattle.asks.specs.declared.reply.Refusal.{Refusal}
 use Rattle.asks.specs.declared.reply.Refusal.TheVariants.{UnknownActor, WrongKey, NotYourRole, NumberReused, BadReport, DayOutOfReach, ReportsFull, UnknownTail, NoSuchDeferral, NoSuchRelease, NotYours, BadPlan, NotPending, WrongRevision, WrongText, WeatherNewer, RuleFails, WrongPhase, AlreadySigned, NoSuchAlert, AlertMoved, TooYoung, ReleasesFull, HistoryFull, NoSuchStation, Unkept, NumberSwept, UnknownItem, BadFound, DeferralsFull}
-use Rattle.call_json.specs.Forms.{IsAmount, IsSaidFinding}
-use Rattle.call_json.specs.Fields.{data_of, up_to}
+use Rattle.call_json.specs.Forms.{IsSaidFinding}
+use Rattle.call_json.specs.Fields.{data_of}
 use Rattle.call_json.specs.Plain.{IsPlain, HasText}
 use Rattle.call_json.proofs.Again.{small_again, amount_again, each_again, done_again}
 use Rattle.desk_time.proofs.Chains.{bind_any, under}
 use Rattle.call_json.proofs.Compact.{read_compact, utf8_compact}
 use Rattle.call_json.proofs.DigestLaws.{digest_again}
-use Rattle.call_json.proofs.Plain.{order_of, text_of, list_plain, list_has_text, list_depth, done_plain, done_has_text, done_depth}
+use Rattle.call_json.proofs.Plain.{order_of, text_of, list_plain, list_has_text, list_depth, done_plain, done_has_text, done_depth, amount_plain}
 use Rattle.call_json.proofs.Texts.{written_utf8, moment_utf8, digest_utf8}
-use Rattle.kept_releases.specs.Phases.{phase_of, IsPhase}
 use Rattle.kept_releases.proofs.FindingLaws.{finding_again, finding_utf8}
-use Rattle.kept_releases.proofs.PhaseLaws.{phase_again}
-use Rattle.kept_releases.proofs.ReleaseLaws.{phase_utf8}
-use Rattle.desk_json.specs.Replies.{why_name, plan_why_name, finding_data, with_fields, refusal_members, refusal_data, reply_data, reply_text}
+use Rattle.kept_releases.proofs.ReleaseLaws.{phase_text_again}
+use Rattle.desk_json.specs.Replies.{why_name, plan_why_name, with_fields, refusal_members, refusal_data, reply_data, reply_text}
 use Rattle.desk_json.specs.ReadReplies.{why_of, plan_why_of, finding_in, reply_of, if_text, reply_in, IsWide, RefusalHasForms, ReplyHasForms, or_fault, AnswersReply, IsReplyOf, IsReplyAgain}
 use Rattle.desk_json.specs.declared.bad_call.CallFault.{CallFault}
 use Rattle.desk_json.specs.declared.bad_call.CallFault.TheVariants as fault
 use Rattle.desk_json.proofs.Results.{gives}
+use Rattle.desk_io.proofs.Bytes.{equal_bytes}
+use Rattle.kept_releases.specs.Findings.{finding_data}
 
 -- ---- fields
 
@@ -94,9 +93,6 @@ wide_again n few = small_again n 18_446_744_073_709_551_615 few
 moment_again : (m : ℕ) → CanBeShown m → shown_of (utf8_lossy (shown m)) ≡ Some m
 moment_again m is = ap shown_of (utf8_lossy-IsUtf8 (shown m) (moment_utf8 m is.1)) ∙ shown_again m is.0 is.1
 
-phase_written : (p : Phase) → IsPhase p → phase_of (utf8_lossy (phase_text p)) ≡ Some p
-phase_written p is = ap phase_of (utf8_lossy-IsUtf8 (phase_text p) (phase_utf8 p is)) ∙ phase_again p is
-
 item_again : (f : Finding) → IsSaidFinding f → finding_in (finding_data f) ≡ Some f
 item_again f is = rw (utf8_lossy-IsUtf8 (finding_text f) (finding_utf8 18_446_744_073_709_551_615 f (omega arith) is)) (finding_again 18_446_744_073_709_551_615 f (omega arith) is)
 
@@ -120,7 +116,7 @@ refusal_again (WrongRevision current) is = rw (wide_again current is) refl
 refusal_again (WrongText digest) is = rw (digest_again digest is) refl
 refusal_again (WeatherNewer report) is = rw (wide_again report is) refl
 refusal_again (RuleFails findings) is = rw (each_again IsSaidFinding finding_in finding_data item_again findings is) refl
-refusal_again (WrongPhase phase) is = rw (phase_written phase is) refl
+refusal_again (WrongPhase phase) is = rw (phase_text_again phase is) refl
 refusal_again AlreadySigned is = refl
 refusal_again NoSuchAlert is = refl
 refusal_again (AlertMoved version) is = rw (wide_again version is) refl
@@ -143,9 +139,6 @@ reply_again (Refused refusal) is = refusal_again refusal is
 
 wide_plain : (n : ℕ) → IsWide n → n < 2 ^ 64
 wide_plain n few = omega arith
-
-amount_plain : (n : ℕ) → IsAmount n → n < 2 ^ 64
-amount_plain n few = omega arith
 
 small_plain : (n : ℕ) → n ≤ 255 → n < 2 ^ 64
 small_plain n few = omega arith
@@ -267,16 +260,13 @@ data_again : (d : Data) → IsPlain d → HasText d → depth d ≤ max_depth �
 data_again d plain has shallow =
     rw (utf8_valid_len-IsUtf8 (compact_text d) (utf8_compact d plain has), eq-eqb (length (compact_text d)) (length (compact_text d)) refl) (read_compact d plain shallow)
 
-same_bytes : (t : List ℕ) → bytes_eq t t ≡ true
-same_bytes t = (bytes_eq-Decides t t).1 refl
-
 its_text : (r : Reply) → ReplyHasForms r → reply_in (reply_text r) ≡ Some r
 unfolding reply_in reply_text
 its_text r is =
     let t = compact_text (reply_data r) in
     ap (λ o. o >>= λ d. reply_of d >>= λ reply. if_text t reply) (data_again (reply_data r) (reply_plain r is) (reply_has_text r is) (omega (arith, reply_depth r)))
     ∙ ap (λ o. o >>= λ reply. if_text t reply) (reply_again r is)
-    ∙ ap (λ b. if b then Some r else None) (same_bytes t)
+    ∙ ap (λ b. if b then Some r else None) (equal_bytes t)
 
 -- a reply of good form is read of its text
 pub text_again : (text : List ℕ) (r : Reply) → IsReplyOf text r → reply_in text ≡ Some r

@@ -8,11 +8,8 @@ use Rattle.serde_json.specs.Find.{get, as_str}
 use Rattle.serde_json.specs.View.{view}
 use Rattle.serde_json.specs.declared.value.Value.{Value}
 use Rattle.desk_time.specs.Digits.{◌>>=◌}
-use Rattle.desk_time.specs.Limits.{last_moment, last_shown}
+use Rattle.desk_time.specs.Limits.{last_moment, last_shown, IsMoment}
 use Rattle.desk_time.specs.Moments.{minute_of, shown_of, up_to, written}
-use Rattle.plan.specs.Texts.{HasMoment, IsMoment}
-use Rattle.plan.specs.declared.release.Phase.{Phase}
-use Rattle.plan.specs.declared.release.Phase.TheVariants.{Drafted, Ready, Flying, Stopped, Completed, Cancelled}
 use Rattle.asks.specs.Forms.{CanBeShown, RefusalHasMoment, ReplyHasMoment}
 use Rattle.asks.specs.declared.reply.Reply.{Reply}
 use Rattle.asks.specs.declared.reply.Reply.TheVariants.{Done, Seen, Refused}
@@ -23,7 +20,7 @@ use Rattle.call_json.specs.Forms.{IsAmount, SaidDoneHasForms, IsSaidFinding}
 use Rattle.call_json.specs.Digests.{digest_at, IsDigest}
 use Rattle.call_json.specs.Dones.{said_done_of}
 use Rattle.call_json.specs.Fields.{text_at, number_at, amount_at, list_at, each_read}
-use Rattle.desk_time.proofs.Chains.{bind_if, bind_any, then_if, under, either, weaker}
+use Rattle.desk_time.proofs.Chains.{bind_if, bind_any, then_if, under, either}
 use Rattle.call_json.proofs.DoneForms.{digest_is, done_formed}
 use Rattle.call_json.proofs.MomentRange.{minute_within}
 use Rattle.call_json.proofs.PlanForms.{number_formed, amount_formed, each_formed}
@@ -33,6 +30,8 @@ use Rattle.kept_releases.specs.Phases.{phase_of, IsPhase}
 use Rattle.kept_releases.proofs.FindingLaws.{finding_formed}
 use Rattle.kept_releases.proofs.PhaseLaws.{phase_formed}
 use Rattle.desk_json.specs.ReadReplies.{wide_at, shown_at, why_of, plan_why_of, plain_of, counted_of, bad_report_of, bad_plan_of, wrong_phase_of, history_full_of, fixed_of, not_yours_of, finding_in, rule_fails_of, refusal_of, done_in, seen_in, refused_in, reply_of, IsWide, RefusalHasForms, ReplyHasForms}
+use Rattle.std.proofs.lemmas.Option.{IfSome_then}
+use Rattle.kept_releases.proofs.ReleaseForms.{moment_of_phase}
 
 -- ---- fields
 
@@ -159,14 +158,6 @@ reply_formed d has =
 
 -- ---- moments
 
-phase_shown : (p : Phase) → IsPhase p → HasMoment p
-phase_shown Drafted is = tt
-phase_shown Ready is = tt
-phase_shown (Flying leg) is = tt
-phase_shown (Stopped next since again) is = is.1
-phase_shown (Completed at) is = is
-phase_shown (Cancelled at) is = is
-
 refusal_shown : (r : Refusal) → RefusalHasForms r → RefusalHasMoment r
 refusal_shown UnknownActor is = tt
 refusal_shown WrongKey is = tt
@@ -185,7 +176,7 @@ refusal_shown (WrongRevision current) is = tt
 refusal_shown (WrongText digest) is = tt
 refusal_shown (WeatherNewer report) is = tt
 refusal_shown (RuleFails findings) is = tt
-refusal_shown (WrongPhase phase) is = phase_shown phase is
+refusal_shown (WrongPhase phase) is = moment_of_phase phase is
 refusal_shown AlreadySigned is = tt
 refusal_shown NoSuchAlert is = tt
 refusal_shown (AlertMoved version) is = tt
@@ -210,4 +201,4 @@ pub value_forms : (v : Value) (read : Option Reply) → read ≡ reply_of (view 
 value_forms v read is = subst (λ (o : Option Reply). IfSome o ReplyHasForms) (sym is) (reply_formed (view v) (view_has_text v))
 
 pub value_shown : (v : Value) (read : Option Reply) → read ≡ reply_of (view v) → IfSome read ReplyHasMoment
-value_shown v read is = weaker read (value_forms v read is) reply_shown
+value_shown v read is = IfSome_then read (value_forms v read is) reply_shown

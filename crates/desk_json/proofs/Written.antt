@@ -11,7 +11,8 @@ use Rattle.asks.specs.declared.bad_call.BadCall.{BadCall}
 use Rattle.asks.specs.declared.call.Call.{Call}
 use Rattle.call_json.proofs.Whole.{list_whole, done_whole, ask_whole}
 use Rattle.desk_json.specs.Canonical.{call_data}
-use Rattle.desk_json.specs.Replies.{finding_data, refusal_data, reply_data, bad_data}
+use Rattle.desk_json.specs.Replies.{refusal_data, reply_data, bad_data}
+use Rattle.kept_releases.specs.Findings.{finding_data}
 
 finding_whole : (f : Finding) → has_float (finding_data f) ≡ false
 finding_whole f = refl

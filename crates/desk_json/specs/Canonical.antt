@@ -2,7 +2,7 @@
 use Rattle.std.specs.Prelude.{◌≡◌, ℕ, List, Some, codes, Result}
 use Rattle.serde_json.specs.Data.{Data, object, member, no_members}
 use Rattle.serde_json.specs.Written.{compact_text}
-use Rattle.plan.specs.Texts.{IsMoment}
+use Rattle.desk_time.specs.Limits.{IsMoment}
 use Rattle.asks.specs.declared.call.Call.{Call}
 use Rattle.call_json.specs.Fields.{data_of}
 use Rattle.desk_json.specs.declared.bad_call.CallFault.{CallFault}

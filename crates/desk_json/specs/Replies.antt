@@ -4,10 +4,9 @@ use Rattle.serde_json.specs.Data.{Data, object, Members, member, no_members, put
 use Rattle.serde_json.specs.Written.{compact_text}
 use Rattle.codes.specs.declared.fault.Why.{Why}
 use Rattle.codes.specs.declared.fault.Why.TheVariants as why
-use Rattle.plan.specs.Texts.{finding_text, phase_text}
+use Rattle.plan.specs.Texts.{phase_text}
 use Rattle.plan.specs.declared.check.PlanWhy.{PlanWhy}
 use Rattle.plan.specs.declared.check.PlanWhy.TheVariants as plan_why
-use Rattle.plan.specs.declared.findings.Finding.{Finding}
 use Rattle.asks.specs.declared.bad_call.BadCall.{BadCall}
 use Rattle.asks.specs.declared.bad_call.CallWhy.{CallWhy}
 use Rattle.asks.specs.declared.bad_call.CallWhy.TheVariants as call_why
@@ -17,6 +16,7 @@ use Rattle.asks.specs.declared.reply.Refusal.{Refusal}
 use Rattle.asks.specs.declared.reply.Refusal.TheVariants.{UnknownActor, WrongKey, NotYourRole, NumberReused, BadReport, DayOutOfReach, ReportsFull, UnknownTail, NoSuchDeferral, NoSuchRelease, NotYours, BadPlan, NotPending, WrongRevision, WrongText, WeatherNewer, RuleFails, WrongPhase, AlreadySigned, NoSuchAlert, AlertMoved, TooYoung, ReleasesFull, HistoryFull, NoSuchStation, Unkept, NumberSwept, UnknownItem, BadFound, DeferralsFull}
 use Rattle.call_json.specs.Digests.{digest_data}
 use Rattle.call_json.specs.Canonical.{count, text_data, moment_data, list_data, done_data}
+use Rattle.kept_releases.specs.Findings.{finding_data}
 
 -- the name of a reason
 abbrev pub why_name : Why → List ℕ
@@ -107,9 +107,6 @@ refusal_name (NumberSwept floor) = codes "NumberSwept"
 refusal_name UnknownItem = codes "UnknownItem"
 refusal_name (BadFound moment) = codes "BadFound"
 refusal_name (DeferralsFull held) = codes "DeferralsFull"
-
-abbrev pub finding_data : Finding → Data
-finding_data f = text_data (finding_text f)
 
 -- a place in a text or a plan, and what is wrong there
 abbrev pub with_reason : List ℕ → ℕ → List ℕ → Members → Members

@@ -1,6 +1,6 @@
 ghost use Rattle.std.specs.Prelude.{◌≡◌, IfOk};
 ghost use Rattle.serde_json.specs.View.{view};
-ghost use Rattle.plan.specs.Texts.{IsMoment};
+ghost use Rattle.desk_time.specs.Limits.{IsMoment};
 ghost use Rattle.call_json.specs.Forms.{CallHasForms};
 ghost use Rattle.desk_json.specs.Keys.{is_call_key, is_line_key};
 ghost use Rattle.desk_json.specs.Faults as spec;

@@ -1,19 +1,20 @@
-ghost use Rattle.std.specs.Prelude.{◌≡◌, map, codes, IfOk};
+ghost use Rattle.std.specs.Prelude.{◌≡◌, codes, IfOk};
 ghost use Rattle.serde_json.specs.Data.{put};
 ghost use Rattle.serde_json.specs.View.{view, members_view};
 ghost use Rattle.plan.specs.Texts.{HasMoment, phase_text};
 ghost use Rattle.call_json.specs.Canonical.{text_data, list_data};
 ghost use Rattle.asks.specs.Forms.{RefusalHasMoment};
+ghost use Rattle.kept_releases.specs.Findings.{finding_data};
 ghost use Rattle.desk_json.specs.Replies as spec;
 
 use asks::Refusal;
 use call_json::{
-    Members, name_value, text_value, with_count, with_digest, with_moment, with_name, with_text,
-    with_value,
+    Members, name_value, with_count, with_digest, with_moment, with_name, with_text, with_value,
 };
 use codes::Why;
 use desk_io::OutOfMemory;
-use plan::{Finding, Phase, PlanWhy, finding_text, phase_text};
+use kept_releases::findings_value;
+use plan::{Finding, Phase, PlanWhy, phase_text};
 use serde_json::{Map, Value};
 use std::alloc::Global;
 
@@ -139,36 +140,13 @@ fn with_reason(
     with_name(alloc, members, "what", what)
 }
 
-fn finding_value(alloc: Global, finding: &Finding) -> Result<Value, OutOfMemory>
-    ensures { IfOk result (λ v. view v ≡ spec.finding_data finding.now) }
-{
-    let text = finding_text(alloc, finding)?;
-    text_value(alloc, text.bytes())
-}
-
-fn finding_values(alloc: Global, findings: &[Finding]) -> Result<Vec<Value>, OutOfMemory>
-    ensures { IfOk result (λ v. map view v.items ≡ map spec.finding_data findings.now) }
-{
-    let mut values = Vec::new(alloc);
-    for finding in findings {
-        values.push(finding_value(alloc, finding)?)?;
-    }
-    Ok(values)
-}
-
-fn findings_value(alloc: Global, findings: &[Finding]) -> Result<Value, OutOfMemory>
-    ensures { IfOk result (λ v. view v ≡ list_data spec.finding_data findings.now) }
-{
-    Ok(Value::Array(finding_values(alloc, findings)?))
-}
-
 fn with_findings(
     alloc: Global,
     members: Members,
     findings: &[Finding],
 ) -> Result<Members, OutOfMemory>
     ensures { IfOk result (λ all. members_view all.entries
-        ≡ put (codes "findings") (list_data spec.finding_data findings.now) (members_view members.entries)) }
+        ≡ put (codes "findings") (list_data finding_data findings.now) (members_view members.entries)) }
 {
     let value = findings_value(alloc, findings)?;
     with_value(alloc, members, "findings", value)

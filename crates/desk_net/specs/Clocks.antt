@@ -1,11 +1,7 @@
 -- What a clock answers, and what it tells of its moments.
-use Rattle.std.specs.Prelude.{ℕ, ◌/◌, ◌≤◌, nat_le, ◌&&◌, if◌then◌else◌, List, Option, None, Some}
+use Rattle.std.specs.Prelude.{ℕ, ◌/◌, nat_le, ◌&&◌, if◌then◌else◌, List, Option, None, Some}
 use Rattle.std.specs.List.{Contains}
 use Rattle.desk_time.specs.Limits.{first_moment, last_moment}
-
--- a moment that the desk can take
-abbrev pub IsMoment : ℕ → Type 0
-IsMoment m = (first_moment ≤ m) × (m ≤ last_moment)
 
 -- it is one of the moments, where the clock tells them
 abbrev pub IsAmong : Option (List ℕ) → ℕ → Type 0

@@ -1,7 +1,6 @@
 //! The outside of the service: a clock, links and the door that they come through, in memory and in reality.
 #![tactic(auto)]
 
-mod counted;
 mod memory_clock;
 mod memory_door;
 mod memory_link;

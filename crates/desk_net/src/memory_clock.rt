@@ -2,7 +2,8 @@ ghost use Rattle.std.specs.Prelude.{◌≡◌, ◌+◌, ◌-◌, ◌<◌, min, n
 ghost use Rattle.std.specs.List.{All};
 ghost use Rattle.desk_io.specs.Health.{HasFailed, IsStill};
 ghost use Rattle.desk_io.specs.Planned.{is_planned, after};
-ghost use Rattle.desk_net.specs.Clocks.{IsMoment, IsAmong};
+ghost use Rattle.desk_net.specs.Clocks.{IsAmong};
+ghost use Rattle.desk_time.specs.Limits.{IsMoment};
 ghost use Rattle.desk_net.specs.Seen.{ClockGoesOn};
 
 use crate::Clock;

@@ -1,7 +1,8 @@
 ghost use Rattle.std.specs.Prelude.{◌≡◌, ◌<◌, ◌≤◌, Some, length, IfOk, OnOk, OnErr};
 ghost use Rattle.desk_io.specs.Health.{GoesOn, GoesOnWhere, HasCause, HasFailed, HasFailedWhere, IsStill};
 ghost use Rattle.desk_io.specs.declared.faults.PutFault.TheVariants.{Failed as PutFailed};
-ghost use Rattle.desk_net.specs.Clocks.{IsMoment, IsAmong};
+ghost use Rattle.desk_net.specs.Clocks.{IsAmong};
+ghost use Rattle.desk_time.specs.Limits.{IsMoment};
 ghost use Rattle.desk_net.specs.Doors.{Accepts, TakesBack, HasNext};
 ghost use Rattle.desk_net.specs.Seen.{ClockSeen, LinkSeen, DoorSeen, ClockGoesOn, LinkGoesOn};
 ghost use Rattle.desk_net.specs.Streams.{Reads, Writes};

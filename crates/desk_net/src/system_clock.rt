@@ -2,11 +2,10 @@ ghost use Rattle.std.specs.Prelude.{◌≡◌, None, IfOk, IfSome};
 ghost use Rattle.std.specs.Duration.{as_nanos};
 ghost use Rattle.desk_io.specs.Health.{unsound};
 ghost use Rattle.desk_net.specs.Clocks as spec;
-ghost use Rattle.desk_net.specs.Clocks.{IsMoment};
+ghost use Rattle.desk_time.specs.Limits.{IsMoment};
 
 use crate::Clock;
-use crate::counted::counted;
-use desk_io::Failed;
+use desk_io::{Failed, counted};
 use desk_time::{FIRST, LAST, Minute};
 use std::time::{Duration, SystemTime, UNIX_EPOCH};
 use std::{io, time};

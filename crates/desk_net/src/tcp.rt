@@ -3,9 +3,8 @@ ghost use Rattle.std.specs.Io.KnownBytes.{Appends, ReadConsumes};
 ghost use Rattle.desk_io.specs.Health.{GoesOn, GoesOnWhere, HasCause, HasFailed, HasFailedWhere, unsound};
 ghost use Rattle.desk_io.specs.declared.faults.PutFault.TheVariants.{Failed as PutFailed};
 
-use crate::counted::counted;
 use crate::{Door, Link};
-use desk_io::{Failed, OutOfMemory, PutFault};
+use desk_io::{Failed, OutOfMemory, PutFault, counted};
 use std::io;
 use std::io::{Read, Write};
 use std::net::{Ipv4Addr, Net, OpenListener, TcpListener};

@@ -7,7 +7,7 @@ use Rattle.desk_state.specs.Formed.{AlertHasForms}
 use Rattle.desk_state.proofs.FindingForms.{HaveIds, findings_formed}
 use Rattle.desk_state.specs.Sound.{InBounds, IsOpen, ReleaseInBounds, RevisionInBounds}
 use Rattle.desk_state.specs.State.{State, alert_at, alert_for, failing_if, failing_in, failing_of, grounds_of, judged}
-use Rattle.desk_state.proofs.Each.{each_weaker, found_each}
+use Rattle.desk_state.proofs.Each.{found_each}
 use Rattle.plan.specs.Findings.{is_before, is_same}
 use Rattle.plan.specs.Phases.{is_active}
 use Rattle.plan.specs.declared.findings.Finding.{Finding}
@@ -16,6 +16,7 @@ use Rattle.plan.specs.declared.release.Release.{Release}
 use Rattle.plan.specs.declared.release.Revision.{Revision}
 use Rattle.call_json.specs.Forms.{IsId, IsFinding}
 use Rattle.rules.specs.Grounds.{Grounds}
+use Rattle.desk_io.proofs.Each.{each_weaker}
 
 -- ---- findings that are put in their places
 

@@ -7,9 +7,9 @@ use Rattle.plan.specs.declared.release.Revision.{Revision}
 use Rattle.call_json.specs.Canonical.{ask_digest}
 use Rattle.call_json.specs.Digests.{IsDigest}
 use Rattle.release_text.specs.Revisions.{text_digest, revision_digest, revision_text}
-use Rattle.rules.proofs.Rising.{each_append}
 use Rattle.sha2.specs.Sha256.{digest_bytes, final_hash, initial_hash_256, sha256}
 use Rattle.sha2.proofs.Facts256.{length-sha256}
+use Rattle.desk_io.proofs.Each.{each_append}
 
 abbrev IsByte : ℕ → Type 0
 IsByte b = b < 256

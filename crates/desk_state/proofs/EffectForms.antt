@@ -28,7 +28,8 @@ use Rattle.desk_state.proofs.Each.{found_each}
 use Rattle.desk_state.proofs.Judging.{rise_bound}
 use Rattle.desk_state.proofs.Parts.{filter_each, filter_shorter}
 use Rattle.ops_tables.specs.Forms.{is_person}
-use Rattle.plan.specs.Texts.{IsMoment, HasMoment}
+use Rattle.plan.specs.Texts.{HasMoment}
+use Rattle.desk_time.specs.Limits.{IsMoment}
 use Rattle.plan.specs.declared.flights.Plan.{Plan}
 use Rattle.plan.specs.declared.release.Phase.{Phase}
 use Rattle.plan.specs.declared.release.Phase.TheVariants.{Drafted, Ready, Flying, Stopped, Completed, Cancelled}

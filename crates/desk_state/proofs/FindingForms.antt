@@ -1,18 +1,16 @@
 -- The legs and places of the findings of a judgement have their forms.
-use Rattle.std.proofs.Common.{◌≡◌, ℕ, ◌+◌, ◌≤◌, Bool, true, false, cond, not, ◌&&◌, List, [], ◌∷◌, ◌++◌, length, Option, None, Some, IfSome, refl, arith}
+use Rattle.std.proofs.Common.{◌≡◌, ℕ, ◌+◌, ◌≤◌, Bool, true, false, cond, ◌&&◌, List, [], ◌∷◌, ◌++◌, length, Option, None, Some, IfSome, refl, arith}
 use Rattle.std.specs.Prelude.{map, filter}
 use Rattle.std.specs.List.{AllByRecursion}
 use Rattle.std.specs.Option.{option_map}
-use Rattle.std.proofs.lemmas.Bool.{leb-true}
 use Rattle.deferrals.specs.Limits.{is_of}
 use Rattle.deferrals.specs.declared.items.Deferral.{Deferral}
 use Rattle.ops_tables.specs.Tables.{TableRows, type_of}
 use Rattle.ops_tables.specs.declared.rows.TypeRow.{TypeRow}
-use Rattle.plan.specs.Check.{has_airports, has_few_alternates, is_repeated, flight_fault, leg_fault, fault_or, first_fault, whole_fault, plan_fault}
+use Rattle.plan.specs.Check.{leg_fault, fault_or, first_fault, whole_fault, plan_fault}
 use Rattle.plan.specs.Phases.{standing}
 use Rattle.plan.specs.declared.check.BadPlan.{BadPlan}
 use Rattle.plan.specs.declared.check.PlanWhy.{PlanWhy}
-use Rattle.plan.specs.declared.check.PlanWhy.TheVariants.{NoAirport, Count, Repeated}
 use Rattle.plan.specs.declared.findings.Rule.{Rule}
 use Rattle.plan.specs.declared.findings.Rule.TheVariants.{No1, No2, No10, No11, No12, No13, No17, No18, No19}
 use Rattle.plan.specs.declared.flights.Leg.{Leg}
@@ -25,10 +23,12 @@ use Rattle.rules.specs.Circumstances.{Case, case_of}
 use Rattle.rules.specs.DestinationAlternates.{place_if, places_from}
 use Rattle.rules.specs.Equipment.{is_limiting, is_overdue, is_barred, is_barred_takeoff}
 use Rattle.rules.specs.Grounds.{Grounds}
-use Rattle.rules.specs.Judgement.{rules_of_legs, is_of_departure, places_of, places_at, case_unless, case_for, places_in_case, places_for, finding, findings_from, findings_by, tables_finding, findings_of_tables, findings_of}
+use Rattle.rules.specs.Judgement.{is_of_departure, places_of, places_at, case_unless, case_for, places_in_case, places_for, finding, findings_from, findings_by, tables_finding, findings_of_tables, findings_of}
+use Rattle.plan.specs.Findings.{rules_of_legs}
 use Rattle.rules.specs.Time.{is_late, late_places}
-use Rattle.rules.proofs.Rising.{each_append, each_weaker, each_of}
 use Rattle.desk_state.proofs.Parts.{filter_each}
+use Rattle.desk_io.proofs.Each.{each_append, each_weaker, each_of}
+use Rattle.plan.proofs.FewAlternates.{HasFew, few_alternates}
 
 -- ---- places
 
@@ -97,32 +97,6 @@ for_formed plan phase g c rule leg fits n =
     (place_formed (is_late rule g.tables.settings plan.kind phase n leg g.moment) 0 (omega arith)) (case_formed rule c (standing phase n) leg fits)
 
 -- ---- the plan that is judged
-
--- a leg of a plan that passes its tests has at most three alternates
-abbrev HasFew : Leg → Type 0
-HasFew leg = length leg.alternates ≤ 3
-
-no_fault : (why : Option PlanWhy) (n : ℕ) (later : Option BadPlan) → fault_or why n later ≡ None → (why ≡ None) × (later ≡ None)
-no_fault None n later e = (refl, e)
-no_fault (Some why) n later e = absurd (cc)
-
-few_by : (airports few : Bool) (rest : Option PlanWhy) → cond (not airports) (Some NoAirport) (cond (not few) (Some Count) rest) ≡ None → few ≡ true
-few_by true true rest e = refl
-few_by true false rest e = absurd (cc)
-few_by false few rest e = absurd (cc)
-
-few_of : (tables : TableRows) (before : Option Leg) (leg : Leg) → leg_fault tables before leg ≡ None → HasFew leg
-few_of tables before leg e = leb-true (length leg.alternates) 3 (few_by (has_airports tables leg) (has_few_alternates leg) (cond (is_repeated leg) (Some Repeated) (flight_fault before leg)) e)
-
-few_from : (tables : TableRows) (n : ℕ) (before : Option Leg) (legs : List Leg) → first_fault tables n before legs ≡ None → AllByRecursion HasFew legs
-few_from tables n before [] e = tt
-few_from tables n before (leg ∷ legs) e =
-    let none = no_fault (leg_fault tables before leg) n (first_fault tables (n + 1) (Some leg) legs) e in
-    (few_of tables before leg none.0, few_from tables (n + 1) (Some leg) legs none.1)
-
-few_alternates : (tables : TableRows) (plan : Plan) → plan_fault tables plan ≡ None → AllByRecursion HasFew plan.legs
-unfolding plan_fault
-few_alternates tables plan e = few_from tables 1 None plan.legs (no_fault (whole_fault tables plan) 0 (first_fault tables 1 None plan.legs) e).1
 
 fits_with : (aircraft : Option TypeRow) (plan : Plan) (g : Grounds) → AllByRecursion HasFew plan.legs → HaveIds g.deferrals
     → AllByRecursion (FitsCase (option_map (case_of g plan) aircraft)) plan.legs

@@ -29,13 +29,14 @@ use Rattle.desk_state.specs.declared.effect.OnReleases.TheVariants as on_release
 use Rattle.desk_state.specs.declared.effect.Sweep.{Sweep}
 use Rattle.desk_state.specs.declared.entry.Entry.{Entry}
 use Rattle.desk_state.specs.declared.entry.What.TheVariants as what
-use Rattle.desk_state.proofs.Each.{each_push, put_each, without_each}
+use Rattle.desk_state.proofs.Each.{put_each, without_each}
 use Rattle.desk_state.proofs.Judging.{alerts_have}
 use Rattle.desk_state.proofs.Parts.{filter_each, kept_each, swept_each}
 use Rattle.ops_tables.specs.Forms.{is_person}
 use Rattle.ops_tables.specs.Tables.{TableRows}
 use Rattle.plan.specs.declared.release.Release.{Release}
 use Rattle.call_json.specs.Forms.{CallHasForms, IsFloor, FloorsRise, IsFormed}
+use Rattle.desk_io.proofs.Each.{each_push}
 
 -- nothing is held at the beginning
 pub start_formed : (tables : TableRows) → AreNamed tables → AreFormed (start tables)

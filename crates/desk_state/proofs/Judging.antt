@@ -10,7 +10,7 @@ use Rattle.plan.specs.Phases.{is_active}
 use Rattle.plan.specs.declared.release.Release.{Release}
 use Rattle.plan.specs.declared.release.Revision.{Revision}
 use Rattle.plan.specs.Findings.{AreInOrder}
-use Rattle.plan.specs.Texts.{IsMoment}
+use Rattle.desk_time.specs.Limits.{IsMoment}
 use Rattle.alerts.specs.declared.alert.Alert.{Alert}
 use Rattle.alerts.specs.Alerts.{IsAlert, alert_once_open, are_same}
 use Rattle.alerts.proofs.Sameness.{same_is}

@@ -4,7 +4,6 @@ use Rattle.std.specs.Prelude.{find}
 use Rattle.std.specs.List.{AllByRecursion}
 use Rattle.std.specs.Str.{bytes_eq}
 use Rattle.std.proofs.lemmas.Bool.{and_parts}
-use Rattle.codes.proofs.WordLaws.{same_bytes}
 use Rattle.deferrals.specs.declared.items.Deferral.{Deferral}
 use Rattle.ops_tables.specs.Named.{AreNamed}
 use Rattle.desk_state.specs.Formed.{DeferralHasForms}
@@ -17,6 +16,7 @@ use Rattle.ops_tables.specs.declared.rows.Actor.{Actor}
 use Rattle.ops_tables.specs.declared.rows.MelRow.{MelRow}
 use Rattle.ops_tables.specs.declared.rows.Tail.{Tail}
 use Rattle.ops_tables.specs.declared.rows.TypeRow.{TypeRow}
+use Rattle.desk_io.proofs.Bytes.{same_bytes}
 
 -- what is found passes the test by which it was sought
 

@@ -14,7 +14,7 @@ use Rattle.asks.specs.declared.kept.KeptReply.{KeptReply}
 use Rattle.facts.specs.Same.{is_same, same_id, minute_of_report}
 use Rattle.facts.specs.Swept.{stays, swept}
 use Rattle.facts.specs.declared.report.Report.{Report}
-use Rattle.plan.specs.Texts.{IsMoment}
+use Rattle.desk_time.specs.Limits.{IsMoment}
 use Rattle.plan.specs.declared.release.Release.{Release}
 use Rattle.plan.specs.declared.release.Revision.{Revision}
 use Rattle.desk_state.specs.declared.effect.Sweep.{Sweep}
@@ -26,8 +26,9 @@ use Rattle.desk_state.specs.Events.{put, without_release, moment_after, reports_
 use Rattle.desk_state.specs.Sound.{Sound, AreJudgeable, MayStand, ReleaseInBounds, IsNumbered, IsOpen, AreOpen, MayOpen, IsNext, AreUnlike, AreSingle, IsToldTo, Rise, DeferralsFit, ReleasesFit}
 use Rattle.desk_state.specs.Requests.{is_request, kept_at}
 use Rattle.desk_state.specs.State.{State, alert_at}
-use Rattle.desk_state.proofs.Each.{each_push, each_weaker, put_each, put_length, without_each, without_shorter}
+use Rattle.desk_state.proofs.Each.{put_each, put_length, without_each, without_shorter}
 use Rattle.desk_state.proofs.Judging.{AreTold, none_next, rise_push, rise_put, rise_without}
+use Rattle.desk_io.proofs.Each.{each_weaker, each_push}
 
 pub moment_shown : (o : Option ℕ) (moment : ℕ) → IfSome o IsMoment → IsMoment moment → IsMoment (moment_after o moment)
 moment_shown None moment fits is = is

@@ -14,13 +14,13 @@ use Rattle.facts.proofs.ReadLaws.{read_moments, same_canonical, same_reading}
 use Rattle.desk_state.specs.Allowed.{IsReceived}
 use Rattle.desk_state.specs.Sound.{InBounds, IsNumbered}
 use Rattle.desk_state.specs.State.{State}
-use Rattle.plan.specs.Texts.{IsMoment}
+use Rattle.desk_time.specs.Limits.{IsMoment}
 use Rattle.plan.specs.declared.flights.Plan.{Plan}
 use Rattle.plan.specs.declared.release.Phase.{Phase}
 use Rattle.call_json.specs.Forms.{IsId, IsAttached}
 use Rattle.release_text.specs.Concerned.{concerned}
 use Rattle.release_text.specs.Weather.{where_held, latest_at, latest_of, weather_for, attached_of, attached_to}
-use Rattle.rules.proofs.Rising.{each_append}
+use Rattle.desk_io.proofs.Each.{each_append}
 
 -- A report that is received as a text in UTF-8.
 pub received_formed : (s : State) (text : List ℕ) (report : Report) → IsMoment s.moment → IsUtf8 text → IsReceived s text report → ReportHasForms report
@@ -29,7 +29,7 @@ received_formed s text report shown utf8 is = record {
     canonical = same_canonical text report.text is.canonical;
     reading = same_reading text report.text s.moment report.received report.read is.canonical is.received is.reading;
     moments = record {
-      received = let at = is.received in record { low = let low = shown.0 in omega (arith, at, low); high = let high = shown.1 in omega (arith, at, high) };
+      received = let at = is.received in let low = shown.0 in let high = shown.1 in (omega (arith, at, low), omega (arith, at, high));
       read = read_moments text s.moment report.read is.reading;
     };
   };

@@ -125,11 +125,6 @@ day_number-count y m d late low =
     let dy = day_count-day_of_year (pos y) m d low in
     omega (arith, dy, yl2)
 
-pub days_of_years-bound : (n : ℕ) → days_of_years n ≤ 366 * n
-unfolding days_of_years
-days_of_years-bound zero = omega arith
-days_of_years-bound (suc n) = let ih = days_of_years-bound n in let b = days_in_year_bounds (pos (1970 + n)) in omega (arith, ih, b.0)
-
 pub years_30 : days_of_years 30 ≡ 10_957
 unfolding days_of_years
 years_30 = refl

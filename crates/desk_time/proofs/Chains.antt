@@ -1,6 +1,7 @@
 -- What holds of the value at the end of a chain, where there is one.
 use Rattle.std.proofs.Common.{◌≡◌, Bool, true, false, if◌then◌else◌, Option, None, Some, IfSome, refl}
 use Rattle.std.specs.Prelude.{option_and_then}
+use Rattle.std.specs.Option.{option_map}
 use Rattle.desk_time.specs.Digits.{◌>>=◌}
 
 pub bind_if : {A B : Type 0} (o : Option A) (f : A → Option B) (P : A → Type 0) (Q : B → Type 0) → IfSome o P → ((x : A) → P x → IfSome (f x) Q) → IfSome (o >>= f) Q
@@ -25,9 +26,13 @@ pub either : {A : Type 0} (b : Bool) (o p : Option A) (Q : A → Type 0) → IfS
 either true o p Q one two = one
 either false o p Q one two = two
 
-pub weaker : {A : Type 0} (o : Option A) {P Q : A → Type 0} → IfSome o P → ((x : A) → P x → Q x) → IfSome o Q
-weaker None held next = tt
-weaker (Some x) held next = next x held
+pub mapped : {A B : Type 0} (f : A → B) (o : Option A) (P : A → Type 0) (Q : B → Type 0) → IfSome o P → ((x : A) → P x → Q (f x)) → IfSome (option_map f o) Q
+mapped f None P Q held next = tt
+mapped f (Some x) P Q held next = next x held
+
+pub both_held : {A : Type 0} (o : Option A) (P Q : A → Type 0) → IfSome o P → IfSome o Q → IfSome o (λ x. P x × Q x)
+both_held None P Q one two = tt
+both_held (Some x) P Q one two = (one, two)
 
 -- with what is known of the step before, and of a test
 pub bind_known : {A B : Type 0} (o : Option A) (f : A → Option B) (Q : B → Type 0) → ((x : A) → o ≡ Some x → IfSome (f x) Q) → IfSome (o >>= f) Q

@@ -1,6 +1,6 @@
 -- A text that is read is the shown text of its moment.
 use Rattle.std.proofs.Common.{◌≡◌, ℕ, ◌+◌, ◌-◌, ◌*◌, ◌/◌, ◌%◌, ◌<◌, ◌≤◌, ◌&&◌, nat_le, nat_lt, Bool, true, false, cond, pos, ◌==◌, Option, Some, None, List, [], ◌∷◌, refl, sym, ◌∙◌, ap, subst, arith}
-use Rattle.std.proofs.lemmas.Bool.{leb-true, ltb-true, eqb-true}
+use Rattle.std.proofs.lemmas.Bool.{leb-true, ltb-true, eqb-true, and_parts}
 use Rattle.jiff_core.proofs.SignedLemmas.{signed_arith}
 use Rattle.jiff_core.specs.Calendar.{days_in_month}
 use Rattle.jiff_core.specs.declared.civil.date.Date.{Date}
@@ -29,14 +29,10 @@ tested : (b : Bool) (x m : ℕ) → cond b (Some x) None ≡ Some m → (b ≡ t
 tested true x m e = (refl, ap the e)
 tested false x m e = absurd (none_is_some m e)
 
-both : (a b : Bool) → (a && b) ≡ true → (a ≡ true) × (b ≡ true)
-both true b e = (refl, e)
-both false b e = absurd (grind (arith, e))
-
 digit_is : (a x : ℕ) → digit a ≡ Some x → (a ≡ 48 + x) × (x ≤ 9)
 digit_is a x e =
     let t = tested (nat_le 48 a && nat_le a 57) (a - 48) x e in
-    let s = both (nat_le 48 a) (nat_le a 57) t.0 in
+    let s = and_parts (nat_le 48 a) (nat_le a 57) t.0 in
     let l = leb-true 48 a s.0 in
     let h = leb-true a 57 s.1 in
     let x_is = t.1 in
@@ -57,11 +53,11 @@ day_is : (y m d day : ℕ) → day_at y m d ≡ Some day → day ≤ 60_000
 unfolding day_at
 day_is y m d day e small =
     let t = tested (is_date y m d) (day_number y m d) day e in
-    let s1 = both (nat_le 2000 y && nat_le y 9999 && nat_le 1 m && nat_le m 12 && nat_le 1 d) (nat_le d (days_in_month (pos y) m)) t.0 in
-    let s2 = both (nat_le 2000 y && nat_le y 9999 && nat_le 1 m && nat_le m 12) (nat_le 1 d) s1.0 in
-    let s3 = both (nat_le 2000 y && nat_le y 9999 && nat_le 1 m) (nat_le m 12) s2.0 in
-    let s4 = both (nat_le 2000 y && nat_le y 9999) (nat_le 1 m) s3.0 in
-    let s5 = both (nat_le 2000 y) (nat_le y 9999) s4.0 in
+    let s1 = and_parts (nat_le 2000 y && nat_le y 9999 && nat_le 1 m && nat_le m 12 && nat_le 1 d) (nat_le d (days_in_month (pos y) m)) t.0 in
+    let s2 = and_parts (nat_le 2000 y && nat_le y 9999 && nat_le 1 m && nat_le m 12) (nat_le 1 d) s1.0 in
+    let s3 = and_parts (nat_le 2000 y && nat_le y 9999 && nat_le 1 m) (nat_le m 12) s2.0 in
+    let s4 = and_parts (nat_le 2000 y && nat_le y 9999) (nat_le 1 m) s3.0 in
+    let s5 = and_parts (nat_le 2000 y) (nat_le y 9999) s4.0 in
     let yl = leb-true 2000 y s5.0 in
     let yh = leb-true y 9999 s5.1 in
     let ml = leb-true 1 m s4.1 in
@@ -111,7 +107,7 @@ date_text_is a b c d e f g h day is small =
 time_of_is : (hour minute time : ℕ) → time_of hour minute ≡ Some time → (hour < 24) × (minute < 60) × (time ≡ 60 * hour + minute)
 time_of_is hour minute time e =
     let t = tested (nat_lt hour 24 && nat_lt minute 60) (60 * hour + minute) time e in
-    let s = both (nat_lt hour 24) (nat_lt minute 60) t.0 in
+    let s = and_parts (nat_lt hour 24) (nat_lt minute 60) t.0 in
     (ltb-true hour 24 s.0, ltb-true minute 60 s.1, sym t.1)
 
 pub record IsTimeText (time i j k l : ℕ) : Type 0 where
@@ -159,10 +155,10 @@ pub record AreSigns (m1 m2 m3 m4 m5 : ℕ) : Type 0 where
 
 signs_are : (m1 m2 m3 m4 m5 : ℕ) → ((m1 == 45) && (m2 == 45) && (m3 == 84) && (m4 == 58) && (m5 == 90)) ≡ true → AreSigns m1 m2 m3 m4 m5
 signs_are m1 m2 m3 m4 m5 e =
-    let s1 = both ((m1 == 45) && (m2 == 45) && (m3 == 84) && (m4 == 58)) (m5 == 90) e in
-    let s2 = both ((m1 == 45) && (m2 == 45) && (m3 == 84)) (m4 == 58) s1.0 in
-    let s3 = both ((m1 == 45) && (m2 == 45)) (m3 == 84) s2.0 in
-    let s4 = both (m1 == 45) (m2 == 45) s3.0 in
+    let s1 = and_parts ((m1 == 45) && (m2 == 45) && (m3 == 84) && (m4 == 58)) (m5 == 90) e in
+    let s2 = and_parts ((m1 == 45) && (m2 == 45) && (m3 == 84)) (m4 == 58) s1.0 in
+    let s3 = and_parts ((m1 == 45) && (m2 == 45)) (m3 == 84) s2.0 in
+    let s4 = and_parts (m1 == 45) (m2 == 45) s3.0 in
     record {
       first = eqb-true m1 45 s4.0;
       second = eqb-true m2 45 s4.1;

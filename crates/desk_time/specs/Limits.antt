@@ -1,5 +1,5 @@
 -- The first and the last of the moments, in minutes since 1970-01-01 00:00.
-use Rattle.std.specs.Prelude.{ℕ}
+use Rattle.std.specs.Prelude.{ℕ, ◌≤◌}
 
 -- 2000-01-01 00:00, the first that is read
 abbrev pub first_moment : ℕ
@@ -20,3 +20,7 @@ last_planned = 68_372_639
 -- the last that is shown
 abbrev pub last_shown : ℕ
 last_shown = 69_000_000
+
+-- a moment that is read
+abbrev pub IsMoment : ℕ → Type 0
+IsMoment at = (first_moment ≤ at) × (at ≤ last_moment)

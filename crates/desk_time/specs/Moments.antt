@@ -4,7 +4,7 @@ use Rattle.desk_time.specs.Digits.{pair, ◌>>=◌}
 use Rattle.desk_time.specs.Calendar.{Civil, civil_of, day_of_month, day_at}
 use Rattle.desk_time.specs.declared.moments.BadDay.{BadDay}
 use Rattle.desk_time.specs.declared.moments.BadDay.TheVariants.{BadTime, OutOfReach}
-use Rattle.desk_time.specs.Limits.{first_moment, last_moment, last_shown}
+use Rattle.desk_time.specs.Limits.{IsMoment, first_moment, last_moment, last_shown}
 
 -- the first of that many days with that day of the month
 abbrev pub day_named : ℕ → ℕ → ℕ → Option ℕ
@@ -32,16 +32,11 @@ pub record IsOfFive (first_day day d : ℕ) : Type 0 where
   pub within : d < first_day + 5
   pub named : day_of_month d ≡ day
 
--- a moment that is read
-pub record IsReached (at : ℕ) : Type 0 where
-  pub low : first_moment ≤ at
-  pub high : at ≤ last_moment
-
 -- What is answered for a day of the month and a time. Where the time is one, it is the moment at that time of
 -- the day of the five that is named, whichever it is, and `OutOfReach` where there is no such day or moment.
 pub record Resolves (first_day day hour minute : ℕ) (result : Result ℕ BadDay) : Type 0 where
-  pub reached : is_time day hour minute ≡ true → (d : ℕ) → IsOfFive first_day day d → IsReached (1440 * d + 60 * hour + minute) → result ≡ Ok (1440 * d + 60 * hour + minute)
-  pub beyond : is_time day hour minute ≡ true → (d : ℕ) → IsOfFive first_day day d → (IsReached (1440 * d + 60 * hour + minute) → ⊥) → result ≡ Err OutOfReach
+  pub reached : is_time day hour minute ≡ true → (d : ℕ) → IsOfFive first_day day d → IsMoment (1440 * d + 60 * hour + minute) → result ≡ Ok (1440 * d + 60 * hour + minute)
+  pub beyond : is_time day hour minute ≡ true → (d : ℕ) → IsOfFive first_day day d → (IsMoment (1440 * d + 60 * hour + minute) → ⊥) → result ≡ Err OutOfReach
   pub unnamed : is_time day hour minute ≡ true → ((d : ℕ) → IsOfFive first_day day d → ⊥) → result ≡ Err OutOfReach
   pub bad_time : (result ≡ Err BadTime) ↔ (is_time day hour minute ≡ false)
 

@@ -1,17 +1,11 @@
 -- What the indexes say of the list of reports, and what one more report makes of them.
-use Rattle.std.proofs.Common.{◌≡◌, refl, sym, ap, ◌∙◌, subst, ℕ, zero, suc, ◌+◌, ◌<◌, ◌≤◌, Bool, true, false, ◌&&◌, cond, List, [], ◌∷◌, ◌++◌, length, drop, Option, Some, None, arith, length-append}
-use Rattle.std.specs.Prelude.{◌==◌, nat_lt}
-use Rattle.std.specs.declared.cmp.Ordering.{Ordering}
-use Rattle.std.specs.declared.cmp.Ordering.TheVariants.{Less, Equal, Greater}
+use Rattle.std.proofs.Common.{◌≡◌, refl, sym, ap, ◌∙◌, subst, ℕ, zero, suc, ◌+◌, ◌<◌, Bool, true, false, ◌&&◌, cond, List, [], ◌∷◌, ◌++◌, length, drop, Option, Some, None, arith, length-append, ◌==◌, nat_lt, Ordering, Less, Equal, Greater, bytes_eq, slice_get, find, option_map, option_and_then, unwrap_or}
 use Rattle.std.specs.Ordering.{nat_cmp, is_eq, ordering_then}
 use Rattle.std.specs.Cmp.{IsTotalOrder}
 use Rattle.std.specs.Cmp.Lexicographic.{slice_cmp}
-use Rattle.std.specs.Str.{bytes_eq}
-use Rattle.std.specs.List.{slice_get, find}
-use Rattle.std.specs.Option.{option_map, option_and_then, unwrap_or}
 use Rattle.std.specs.Map.{lookup, keys_of}
 use Rattle.std.specs.BTreeMap.{insert_entry, is_at}
-use Rattle.std.proofs.lemmas.Bool.{ltb-true, ltb-false, eqb-true}
+use Rattle.std.proofs.lemmas.Bool.{ltb-true, ltb-false, eqb-true, and_parts}
 use Rattle.std.proofs.lemmas.Cmp.{nat_cmp_total, on_total, then_total, tied_itself, ranked}
 use Rattle.std.proofs.lemmas.Map.Text.{is_eq-slice_cmp}
 use Rattle.std.proofs.lemmas.Slice.Eq.{bytes_eq-Decides}
@@ -45,7 +39,7 @@ pub stands_latest : (kind : Kind) (station : List ℕ) (entries : List (Station 
 stands_latest kind station entries rs is =
     ap (option_and_then (slice_get rs)) (place_or kind (of_station entries station)) ∙ at_place kind station rs (place_in kind (of_station entries station)) (is.latest kind station)
 
-later_none : (o : Option Report) → later o None ≡ o
+pub later_none : (o : Option Report) → later o None ≡ o
 later_none None = refl
 later_none (Some a) = refl
 
@@ -65,7 +59,7 @@ later_assoc (Some a) (Some b) None = sym (later_none (later (Some a) (Some b)))
 later_assoc (Some a) (Some b) (Some c) =
     later_two a b c (nat_lt (minute_of_report b) (minute_of_report a)) (nat_lt (minute_of_report c) (minute_of_report b)) (nat_lt (minute_of_report c) (minute_of_report a)) refl refl refl
 
-latest_push : (kind : Kind) (station : Station) (rs : List Report) (r : Report) → latest kind station (rs ++ r ∷ []) ≡ later (latest kind station rs) (where_of kind station r)
+pub latest_push : (kind : Kind) (station : Station) (rs : List Report) (r : Report) → latest kind station (rs ++ r ∷ []) ≡ later (latest kind station rs) (where_of kind station r)
 latest_push kind station [] r = later_none (where_of kind station r)
 latest_push kind station (q ∷ rs) r =
     ap (later (where_of kind station q)) (latest_push kind station rs r) ∙ later_assoc (where_of kind station q) (latest kind station rs) (where_of kind station r)
@@ -214,14 +208,9 @@ first_with rs r before after first is new each key =
         ∙ ap Some (new ∙ ap (λ o. unwrap_or o (length rs)) (is (key_of r) ∙ ap (λ m. first_from m 0 rs) (sym same)))
     by false e = each key ∙ ap (λ b. cond b (Some first) (lookup (is_at (key_cmp key)) before)) e ∙ is key
 
-both_true : (a b : Bool) → a && b ≡ true → (a ≡ true) × (b ≡ true)
-both_true true true e = (refl, refl)
-both_true true false e = absurd cc
-both_true false b e = absurd cc
-
 same_key : (text : List ℕ) (minute : ℕ) (r : Report) → is_same text minute r ≡ true → is_at (key_cmp (minute, fingerprint text)) (key_of r) ≡ true
 same_key text minute r e =
-    let both = both_true (bytes_eq r.text text) (minute_of_report r == minute) e in
+    let both = and_parts (bytes_eq r.text text) (minute_of_report r == minute) e in
     let text_is = (bytes_eq-Decides r.text text).0 both.0 in
     let minute_is : minute_of_report r ≡ minute = eqb-true (minute_of_report r) minute both.1 in
     let key : (minute, fingerprint text) ≡ key_of r = λ i. (sym minute_is i, fingerprint (sym text_is i)) in
@@ -240,14 +229,6 @@ found_none text minute place (r ∷ rs) e = by (is_at (key_cmp (minute, fingerpr
         → cond (is_same text minute r) (Some r) (find (is_same text minute) rs) ≡ None
     by true f e rest = absurd cc
     by false f e rest = rw (other_key text minute r (is_same text minute r) refl f) (rest e)
-
-first_least : (key : ℕ × ℕ) (place at : ℕ) (rs : List Report) → first_from key place rs ≡ Some at → place ≤ at
-first_least key place at [] e = absurd cc
-first_least key place at (r ∷ rs) e = by (is_at (key_cmp key) (key_of r)) e (first_least key (suc place) at rs)
-  where
-    by : (b : Bool) → cond b (Some place) (first_from key (suc place) rs) ≡ Some at → (first_from key (suc place) rs ≡ Some at → suc place ≤ at) → place ≤ at
-    by true e rest = let same : place ≡ at = ap (λ o. unwrap_or o 0) e in omega arith
-    by false e rest = let more = rest e in omega arith
 
 found_some : (text : List ℕ) (minute place n : ℕ) (rs : List Report) → first_from (minute, fingerprint text) place rs ≡ Some (place + n) → find (is_same text minute) (drop n rs) ≡ find (is_same text minute) rs
 found_some text minute place zero rs e = refl

@@ -1,8 +1,6 @@
 -- The fold of a list to its latest report gives the latest of the whole list.
-use Rattle.std.proofs.Common.{◌≡◌, ◌≢◌, ℕ, ◌≤◌, Bool, true, false, cond, List, [], ◌∷◌, IsTrue, Option, None, Some, All, IfSome, refl, ap, arith}
-use Rattle.std.proofs.lemmas.Bool.{ltb-true, ltb-false}
+use Rattle.std.proofs.Common.{◌≡◌, ℕ, ◌≤◌, Bool, true, false, cond, List, [], ◌∷◌, IsTrue, Option, None, Some, All, IfSome, refl, ap, arith, ltb-true, ltb-false, nat_lt}
 use Rattle.std.proofs.lemmas.List.Elements.{All-nil, All-cons, recursion_from_All}
-use Rattle.std.specs.Prelude.{nat_lt}
 use Rattle.std.specs.List.{AllByRecursion}
 use Rattle.stations.specs.Station.{Station}
 use Rattle.facts.specs.declared.report.Report.{Report}
@@ -15,9 +13,6 @@ use Rattle.facts.specs.Latest.{is_of, where_of, later, latest, IsLatestReport, I
 -- no such report is of a later moment, and none of an equal one
 abbrev NoLater : Kind → Station → ℕ → Report → Type 0
 NoLater kind station minute q = IsTrue (is_of kind station q) → minute_of_report q ≤ minute
-
-abbrev NotAt : Kind → Station → ℕ → Report → Type 0
-NotAt kind station minute q = IsTrue (is_of kind station q) → minute_of_report q ≢ minute
 
 -- another report in front
 other_first : (kind : Kind) (station : Station) (r : Report) (rs : List Report) (o : Option Report)

@@ -1,5 +1,5 @@
 -- One pass over the reports that finds those that a sweep takes away.
-use Rattle.std.proofs.Common.{◌≡◌, refl, sym, ap, ◌∙◌, ℕ, ◌+◌, ◌<◌, Bool, true, false, cond, not, List, [], ◌∷◌, ◌++◌, append_assoc, append-nil, map, length, drop, filter, get_or}
+use Rattle.std.proofs.Common.{◌≡◌, sym, ap, ◌∙◌, ℕ, ◌+◌, ◌<◌, Bool, true, false, cond, not, List, [], ◌∷◌, ◌++◌, append_assoc, append-nil, map, length, drop, filter, get_or}
 use Rattle.std.proofs.lemmas.List.{drop_more}
 use Rattle.facts.specs.declared.report.Report.{Report}
 

@@ -1,6 +1,5 @@
 -- Each moment that a report writes lies from 2000 to 2099.
-use Rattle.std.proofs.Common.{◌≡◌, ℕ, ◌+◌, ◌*◌, ◌/◌, ◌-◌, Bool, true, false, cond, ◌&&◌, ◌==◌, List, [], ◌∷◌, length, Option, None, Some, IfSome, Result, Ok, Err, refl, subst}
-use Rattle.std.specs.Prelude.{IfOk, nat_le, nat_lt}
+use Rattle.std.proofs.Common.{◌≡◌, ℕ, ◌+◌, ◌*◌, ◌/◌, ◌-◌, Bool, true, false, cond, ◌&&◌, ◌==◌, List, [], ◌∷◌, length, Option, None, Some, IfSome, Result, Ok, Err, refl, subst, IfOk, nat_le, nat_lt}
 use Rattle.std.proofs.lemmas.Bool.{and_parts, leb-true}
 use Rattle.codes.specs.Cond.{is_period, stretch_of}
 use Rattle.codes.specs.Groups.{first_of}
@@ -13,14 +12,13 @@ use Rattle.codes.specs.declared.fault.Form.TheVariants.{Report}
 use Rattle.codes.specs.declared.fault.Why.{Why}
 use Rattle.codes.specs.declared.fault.Why.TheVariants.{NotTime, BadPeriod}
 use Rattle.desk_time.specs.Digits.{pair}
-use Rattle.desk_time.specs.Limits.{first_moment, last_moment}
+use Rattle.desk_time.specs.Limits.{first_moment, last_moment, IsMoment}
 use Rattle.desk_time.specs.Moments.{in_reach, at_time, is_time, day_named, resolved}
 use Rattle.desk_time.specs.declared.moments.BadDay.{BadDay}
 use Rattle.desk_time.specs.declared.moments.BadDay.TheVariants.{BadTime, OutOfReach}
 use Rattle.metar.specs.Reading.{is_cor, is_nil, is_speci, after_word, after_words, body_of, number_of, nil_report, with_stretch, after_time, observed_at, after_station, at_station, from_station, reading}
 use Rattle.metar.specs.declared.metar.Metar.{Metar}
 use Rattle.desk_time.proofs.Chains.{bind_any}
-use Rattle.taf.specs.Parts.{IsMoment}
 
 -- on either side of a test
 pub either_ok : {A E : Type 0} (b : Bool) (r q : Result A E) (P : A → Type 0) → IfOk r P → IfOk q P → IfOk (cond b r q) P
@@ -34,7 +32,7 @@ ok_has r x P e held = subst (λ q. IfOk q P) e held
 -- ---- the moments of groups
 
 reached_by : (at : ℕ) (b : Bool) → (nat_le first_moment at && nat_le at last_moment) ≡ b → IfOk (cond b (Ok at) (Err OutOfReach)) IsMoment
-reached_by at true e = let parts = and_parts (nat_le first_moment at) (nat_le at last_moment) e in record { low = leb-true first_moment at parts.0; high = leb-true at last_moment parts.1 }
+reached_by at true e = let parts = and_parts (nat_le first_moment at) (nat_le at last_moment) e in (leb-true first_moment at parts.0, leb-true at last_moment parts.1)
 reached_by at false e = tt
 
 reached : (at : ℕ) → IfOk (in_reach at) IsMoment

@@ -1,13 +1,10 @@
 -- What is read of a report has moments, and its canonical text is read as it is.
-use Rattle.std.proofs.Common.{◌≡◌, ℕ, ◌≤◌, Bool, true, false, cond, List, length, Result, Ok, Err, codes, refl, ap, sym, ◌∙◌, arith}
-use Rattle.std.specs.Prelude.{IfOk, nat_lt}
-use Rattle.std.proofs.lemmas.Bool.{le-ltb, ltb-false}
+use Rattle.std.proofs.Common.{◌≡◌, ℕ, Bool, true, false, cond, List, length, Result, Ok, Err, codes, refl, ap, sym, ◌∙◌, arith, IfOk, nat_lt, le-ltb, ltb-false}
 use Rattle.codes.specs.Answers.{too_long}
 use Rattle.codes.specs.Groups.{groups_of, canonical, first_of}
 use Rattle.codes.specs.declared.fault.BadReport.{BadReport}
 use Rattle.codes.proofs.CanonicalLaws.{groups_are_groups, groups_of_canonical}
 use Rattle.codes.proofs.LengthLaws.{length-canonical}
-use Rattle.codes.proofs.WordLaws.{same_bytes}
 use Rattle.facts.specs.Reading.{observes, forecasts, is_forecast, read_as, reading, read_of, ReadHasMoments}
 use Rattle.facts.specs.declared.report.Read.{Read}
 use Rattle.facts.proofs.Moments.{ok_has, HasObserved, observed_within}
@@ -17,6 +14,7 @@ use Rattle.metar.specs.declared.metar.Metar.{Metar}
 use Rattle.taf.specs.Reading as forecast
 use Rattle.taf.specs.declared.forecast.Taf.{Taf}
 use Rattle.taf.proofs.ReportLaws.{reads}
+use Rattle.desk_io.proofs.Bytes.{same_bytes}
 
 -- ---- what is read has moments
 

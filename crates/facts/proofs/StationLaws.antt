@@ -1,10 +1,7 @@
 -- The stations of reports rise and are those that have a report, and the keys of an index are these.
-use Rattle.std.proofs.Common.{◌≡◌, refl, sym, ap, ◌∙◌, subst, Bool, true, false, ◌||◌, List, [], ◌∷◌, ◌++◌}
-use Rattle.std.specs.declared.cmp.Ordering.{Ordering}
-use Rattle.std.specs.declared.cmp.Ordering.TheVariants.{Less, Equal, Greater}
+use Rattle.std.proofs.Common.{◌≡◌, refl, sym, ap, ◌∙◌, subst, Bool, true, false, ◌||◌, List, [], ◌∷◌, ◌++◌, Ordering, Less, Equal, Greater, bytes_eq}
 use Rattle.std.specs.Ordering.{nat_cmp, match_ordering, is_eq, ordering_reverse}
 use Rattle.std.specs.Cmp.Lexicographic.{slice_cmp}
-use Rattle.std.specs.Str.{bytes_eq}
 use Rattle.std.specs.List.{AllByRecursion, list_any}
 use Rattle.std.specs.List.Sorted.{IsStrictlySortedBy}
 use Rattle.std.specs.Map.{keys_of}
@@ -47,7 +44,7 @@ below_each e s (t ∷ ks) low all = by (slice_cmp nat_cmp s t) (below_each e s k
     by Equal rest = all
     by Greater rest = (all.0, rest)
 
-above_each : (s t : Station) (ks : List Station) → slice_cmp nat_cmp s t ≡ Less → AllByRecursion (λ y. slice_cmp nat_cmp t y ≡ Less) ks → AllByRecursion (λ y. slice_cmp nat_cmp s y ≡ Less) ks
+pub above_each : (s t : Station) (ks : List Station) → slice_cmp nat_cmp s t ≡ Less → AllByRecursion (λ y. slice_cmp nat_cmp t y ≡ Less) ks → AllByRecursion (λ y. slice_cmp nat_cmp s y ≡ Less) ks
 above_each s t [] low all = tt
 above_each s t (y ∷ ks) low all = (nat_list_cmp_total.trans s t y low all.0, above_each s t ks low all.1)
 

@@ -1,14 +1,10 @@
 -- What is left when old reports are swept away: each latest, and so each station.
-use Rattle.std.proofs.Common.{◌≡◌, refl, sym, ap, ◌∙◌, subst, ℕ, suc, ◌<◌, ◌≤◌, Bool, true, false, cond, ◌&&◌, ◌||◌, List, [], ◌∷◌, length, filter, Option, Some, None, arith}
-use Rattle.std.specs.Prelude.{nat_lt, is_some}
-use Rattle.std.specs.declared.cmp.Ordering.{Ordering}
-use Rattle.std.specs.declared.cmp.Ordering.TheVariants.{Less, Equal, Greater}
+use Rattle.std.proofs.Common.{◌≡◌, refl, sym, ap, ◌∙◌, subst, ℕ, suc, ◌<◌, ◌≤◌, Bool, true, false, cond, ◌&&◌, ◌||◌, List, [], ◌∷◌, length, filter, Option, Some, None, arith, nat_lt, is_some, Ordering, Less, Equal, Greater, bytes_eq}
 use Rattle.std.specs.Ordering.{nat_cmp, is_eq, ordering_reverse}
 use Rattle.std.specs.Cmp.Lexicographic.{slice_cmp}
-use Rattle.std.specs.Str.{bytes_eq}
 use Rattle.std.specs.List.{AllByRecursion, list_any}
 use Rattle.std.specs.List.Sorted.{IsStrictlySortedBy}
-use Rattle.std.proofs.lemmas.Bool.{ltb-true, ltb-false, lt-ltb, eq-eqb}
+use Rattle.std.proofs.lemmas.Bool.{ltb-true, ltb-false, lt-ltb, eq-eqb, and_parts}
 use Rattle.std.proofs.lemmas.Cmp.{nat_list_cmp_total, tied_itself}
 use Rattle.std.proofs.lemmas.List.Elements.{All-filter}
 use Rattle.std.proofs.lemmas.List.Kept.{AllPairs-filter}
@@ -27,7 +23,7 @@ use Rattle.facts.specs.Reading.{IsRead}
 use Rattle.facts.specs.Reports.{AreHeld}
 use Rattle.facts.specs.Swept.{kind_of, has_id, is_latest, is_kept, stays, swept}
 use Rattle.facts.proofs.LatestLaws.{latest_is}
-use Rattle.facts.proofs.StationLaws.{are_stations}
+use Rattle.facts.proofs.StationLaws.{are_stations, above_each}
 
 -- of a part of the list the latest is of no later moment
 
@@ -113,11 +109,6 @@ latest_part kind station p (r ∷ rs) stays =
 
 -- a latest report stays
 
-both_true : (a b : Bool) → a && b ≡ true → (a ≡ true) × (b ≡ true)
-both_true true true e = (refl, refl)
-both_true true false e = absurd cc
-both_true false b e = absurd cc
-
 kind_is : (kind : Kind) (x : Read) → is_kind kind x ≡ true → kind_of x ≡ kind
 kind_is kind.Observation (read.Metar metar) e = refl
 kind_is kind.Observation (read.Taf taf) e = absurd cc
@@ -132,7 +123,7 @@ second_true false false c e = absurd cc
 latest_stays : (before : ℕ) (keep : List ℕ) (kind : Kind) (station : Station) (rs : List Report) (q : Report) → latest kind station rs ≡ Some q → stays before keep rs q ≡ true
 latest_stays before keep kind station rs q e =
     let is = latest_is kind station rs (Some q) (sym e) in
-    let both = both_true (is_kind kind q.read) (bytes_eq (station_of_report q) station) is.alike in
+    let both = and_parts (is_kind kind q.read) (bytes_eq (station_of_report q) station) is.alike in
     let kind_same = kind_is kind q.read both.0 in
     let station_same = (bytes_eq-Decides (station_of_report q) station).0 both.1 in
     let same : latest (kind_of q.read) (station_of_report q) rs ≡ Some q = (λ i. latest (kind_same i) (station_same i) rs) ∙ e in
@@ -194,13 +185,9 @@ itself x = (bytes_eq-Decides x x).1 refl
 back : (x y : Station) (r : Ordering) → slice_cmp nat_cmp x y ≡ r → slice_cmp nat_cmp y x ≡ ordering_reverse r
 back x y r e = nat_list_cmp_total.antisymm y x ∙ ap ordering_reverse e
 
-below_rest : (x y : Station) (ys : List Station) → slice_cmp nat_cmp x y ≡ Less → AllByRecursion (λ z. slice_cmp nat_cmp y z ≡ Less) ys → AllByRecursion (λ z. slice_cmp nat_cmp x z ≡ Less) ys
-below_rest x y [] low all = tt
-below_rest x y (z ∷ zs) low all = (nat_list_cmp_total.trans x y z low all.0, below_rest x y zs low all.1)
-
 -- a station below the first isn't there
 absent : (x y : Station) (ys : List Station) → slice_cmp nat_cmp x y ≡ Less → AllByRecursion (λ z. slice_cmp nat_cmp y z ≡ Less) ys → list_any (λ t. bytes_eq t x) (y ∷ ys) ≡ false
-absent x y ys low all = rw (other y x Greater (back x y Less low) refl) (none_below x ys (below_rest x y ys low all))
+absent x y ys low all = rw (other y x Greater (back x y Less low) refl) (none_below x ys (above_each x y ys low all))
 
 here : (x : Station) (xs : List Station) → list_any (λ t. bytes_eq t x) (x ∷ xs) ≡ true
 here x xs = rw (itself x) refl

@@ -8,7 +8,8 @@ use Rattle.codes.specs.Answers.{too_long}
 use Rattle.metar.specs.Reading as observation
 use Rattle.taf.specs.declared.forecast.Taf.{Taf}
 use Rattle.taf.specs.Reading as forecast
-use Rattle.taf.specs.Parts.{IsMoment, HasMoments as PartHasMoments}
+use Rattle.taf.specs.Parts.{HasMoments as PartHasMoments}
+use Rattle.desk_time.specs.Limits.{IsMoment}
 use Rattle.facts.specs.declared.report.Read.{Read}
 use Rattle.facts.specs.declared.report.Read.TheVariants as read
 use Rattle.facts.specs.declared.report.Report.{Report}

@@ -1,7 +1,7 @@
 ghost use Rattle.std.specs.Prelude.{◌≡◌, ◌==◌, ◌<◌, ◌+◌, List, ℕ, All, Some, OnOk, OnErr, IfOk, IfSome, drop, length, map};
 ghost use Rattle.std.specs.List.{find, slice_get};
 ghost use Rattle.std.specs.Option.{option_copied, option_map, option_and_then};
-ghost use Rattle.taf.specs.Parts.{IsMoment};
+ghost use Rattle.desk_time.specs.Limits.{IsMoment};
 ghost use Rattle.facts.specs.Same.{is_same, same_id};
 ghost use Rattle.facts.specs.Reading.{HasMoments, TafHasMoments, IsRead};
 ghost use Rattle.facts.specs.Reports.{room_for, no_reports, reserved, admitted, AreHeld};

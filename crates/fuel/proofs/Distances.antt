@@ -1,6 +1,5 @@
 -- The greatest fuel is that of an alternate, and none has more.
-use Rattle.std.proofs.Common.{◌≡◌, ℕ, ◌<◌, ◌≤◌, max, nat_lt, true, false, List, [], ◌∷◌, length, map, All, Contains, refl, arith}
-use Rattle.std.proofs.lemmas.Bool.{ltb-true, ltb-false}
+use Rattle.std.proofs.Common.{◌≡◌, ℕ, ◌<◌, ◌≤◌, max, nat_lt, true, false, List, [], ◌∷◌, length, map, All, Contains, refl, arith, ltb-true, ltb-false}
 use Rattle.std.proofs.lemmas.List.Elements.{All-nil, All-cons, Contains-append_right}
 use Rattle.plan.specs.declared.flights.Alternate.{Alternate}
 use Rattle.fuel.specs.Sums.{most_fuel}

@@ -1,94 +1,37 @@
 -- The text of a finding is read as it, and lists of findings in order, each once, are read again.
-use Rattle.std.proofs.Common.{◌≡◌, ◌↔◌, ℕ, ◌^◌, ◌<◌, ◌≤◌, true, List, [], ◌∷◌, ◌++◌, map, Option, None, Some, IfSome, decimal, IsUtf8, refl, ap, sym, subst, ◌∙◌, arith}
+use Rattle.std.proofs.Common.{◌≡◌, ◌↔◌, ℕ, ◌^◌, ◌<◌, ◌≤◌, true, List, [], ◌∷◌, ◌++◌, map, Option, None, Some, IfSome, decimal, IsUtf8, refl, ap, sym, subst, ◌∙◌, arith, bytes_eq, append-nil}
 use Rattle.std.specs.List.{AllByRecursion}
-use Rattle.std.specs.Str.{bytes_eq}
 use Rattle.std.proofs.lemmas.Bool.{and_parts}
 use Rattle.std.proofs.lemmas.Fmt.{IsAscii-decimal}
-use Rattle.std.proofs.lemmas.List.{append-nil}
 use Rattle.std.proofs.lemmas.Str.{IsUtf8-append, IsUtf8-from_ascii, utf8_lossy-IsUtf8}
 use Rattle.std.proofs.lemmas.Slice.Eq.{bytes_eq-Decides}
-use Rattle.json.proofs.Printed.Utf8.{IsUtf8-are_ascii}
+use Rattle.json.proofs.Printed.Utf8.{IsUtf8-are_ascii, are_ascii}
 use Rattle.serde_json.specs.Data.{Items}
 use Rattle.serde_json.specs.View.{items_of}
 use Rattle.desk_time.specs.Digits.{◌>>=◌}
-use Rattle.plan.specs.Findings.{code_of, is_before, AreInOrder}
+use Rattle.plan.specs.Findings.{code_of, is_before, AreInOrder, every_rule}
 use Rattle.plan.specs.Texts.{finding_text}
-use Rattle.plan.proofs.Rows.{is_before_trans}
+use Rattle.plan.proofs.Rows.{is_before_trans, each_rule}
 use Rattle.plan.specs.declared.findings.Rule.{Rule}
-use Rattle.plan.specs.declared.findings.Rule.TheVariants.{No1, No2, No3, No4, No5, No6, No7, No8, No9, No10, No11, No12, No13, No14, No15, No16, No17, No18, No19}
 use Rattle.plan.specs.declared.findings.Finding.{Finding}
 use Rattle.call_json.specs.Fields.{each_read}
 use Rattle.call_json.proofs.Again.{each_again}
 use Rattle.desk_time.specs.Numbers.{number_in}
 use Rattle.kept_releases.specs.Cuts.{leg_of, cut}
-use Rattle.kept_releases.specs.Findings.{every_rule, rule_among, rule_of, finding_at, finding_with, finding_within, finding_data, finding_in, comes_before, are_in_order, findings_of}
+use Rattle.kept_releases.specs.Findings.{rule_among, rule_of, finding_at, finding_with, finding_within, finding_data, finding_in, comes_before, are_in_order, findings_of}
 use Rattle.call_json.specs.Forms.{IsFinding, FindingWithin}
 use Rattle.desk_time.proofs.Chains.{bind_if, bind_any, under, either_known}
 use Rattle.desk_time.proofs.NumberLaws.{number_again, number_within, number_back}
 use Rattle.kept_releases.proofs.CutLaws.{leg_again, decimal_free, is_free, IsCut, cut_at, cut_back}
 
 rule_again : (r : Rule) → rule_of (code_of r) ≡ Some r
-rule_again No1 = refl
-rule_again No2 = refl
-rule_again No3 = refl
-rule_again No4 = refl
-rule_again No5 = refl
-rule_again No6 = refl
-rule_again No7 = refl
-rule_again No8 = refl
-rule_again No9 = refl
-rule_again No10 = refl
-rule_again No11 = refl
-rule_again No12 = refl
-rule_again No13 = refl
-rule_again No14 = refl
-rule_again No15 = refl
-rule_again No16 = refl
-rule_again No17 = refl
-rule_again No18 = refl
-rule_again No19 = refl
+rule_again = each_rule (λ r. rule_of (code_of r)) Some refl
 
 code_free : (r : Rule) → is_free 47 (code_of r) ≡ true
-code_free No1 = refl
-code_free No2 = refl
-code_free No3 = refl
-code_free No4 = refl
-code_free No5 = refl
-code_free No6 = refl
-code_free No7 = refl
-code_free No8 = refl
-code_free No9 = refl
-code_free No10 = refl
-code_free No11 = refl
-code_free No12 = refl
-code_free No13 = refl
-code_free No14 = refl
-code_free No15 = refl
-code_free No16 = refl
-code_free No17 = refl
-code_free No18 = refl
-code_free No19 = refl
+code_free = each_rule (λ r. is_free 47 (code_of r)) (λ r. true) refl
 
 code_utf8 : (r : Rule) → IsUtf8 (code_of r)
-code_utf8 No1 = IsUtf8-are_ascii _ refl
-code_utf8 No2 = IsUtf8-are_ascii _ refl
-code_utf8 No3 = IsUtf8-are_ascii _ refl
-code_utf8 No4 = IsUtf8-are_ascii _ refl
-code_utf8 No5 = IsUtf8-are_ascii _ refl
-code_utf8 No6 = IsUtf8-are_ascii _ refl
-code_utf8 No7 = IsUtf8-are_ascii _ refl
-code_utf8 No8 = IsUtf8-are_ascii _ refl
-code_utf8 No9 = IsUtf8-are_ascii _ refl
-code_utf8 No10 = IsUtf8-are_ascii _ refl
-code_utf8 No11 = IsUtf8-are_ascii _ refl
-code_utf8 No12 = IsUtf8-are_ascii _ refl
-code_utf8 No13 = IsUtf8-are_ascii _ refl
-code_utf8 No14 = IsUtf8-are_ascii _ refl
-code_utf8 No15 = IsUtf8-are_ascii _ refl
-code_utf8 No16 = IsUtf8-are_ascii _ refl
-code_utf8 No17 = IsUtf8-are_ascii _ refl
-code_utf8 No18 = IsUtf8-are_ascii _ refl
-code_utf8 No19 = IsUtf8-are_ascii _ refl
+code_utf8 r = IsUtf8-are_ascii (code_of r) (each_rule (λ r. are_ascii (code_of r)) (λ r. true) refl r)
 
 at_again : (places : ℕ) (r : Rule) (leg place : ℕ) → leg ≤ 4_294_967_295 → place ≤ places → places < 2 ^ 64
     → finding_at places r (decimal leg, decimal place ++ []) ≡ Some (record { rule = r; leg = leg; place = place })

@@ -1,7 +1,5 @@
 -- The test of validity says whether phase, revisions and signatures agree.
-use Rattle.std.proofs.Common.{◌≡◌, ◌↔◌, ℕ, ◌≤◌, Bool, true, not, ◌&&◌, List, length, Option, None, Some, IfSome, refl, le-leb, lt-ltb}
-use Rattle.std.specs.Prelude.{is_some, nat_le}
-use Rattle.std.specs.Str.{bytes_eq}
+use Rattle.std.proofs.Common.{◌≡◌, ◌↔◌, ℕ, ◌≤◌, Bool, true, not, ◌&&◌, List, length, Option, None, Some, IfSome, refl, le-leb, lt-ltb, is_some, nat_le, bytes_eq}
 use Rattle.std.proofs.lemmas.Bool.{and_parts, and_from, leb-true, ltb-true}
 use Rattle.std.proofs.lemmas.Slice.Eq.{bytes_eq-Decides}
 use Rattle.plan.specs.Phases.{PhaseFits}

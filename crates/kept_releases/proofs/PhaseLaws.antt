@@ -1,14 +1,12 @@
 -- The text of a phase is read as it, and what is read of a phase has its form.
-use Rattle.std.proofs.Common.{◌≡◌, ◌↔◌, ℕ, ◌≤◌, Bool, true, false, List, [], ◌∷◌, ◌++◌, length, take, drop, Option, None, Some, IfSome, codes, decimal, refl, ap, sym, subst, ◌∙◌, arith}
-use Rattle.std.specs.Prelude.{nat_le}
-use Rattle.std.specs.Str.{bytes_eq}
-use Rattle.std.proofs.lemmas.List.{take-append-drop}
+use Rattle.std.proofs.Common.{◌≡◌, ◌↔◌, ℕ, ◌≤◌, Bool, true, false, List, [], ◌∷◌, ◌++◌, length, take, drop, Option, None, Some, IfSome, codes, decimal, refl, ap, sym, subst, ◌∙◌, arith, nat_le, bytes_eq, take-append-drop}
 use Rattle.std.proofs.lemmas.Slice.Eq.{bytes_eq-Decides}
 use Rattle.desk_time.specs.Digits.{◌>>=◌}
 use Rattle.desk_time.specs.Moments.{shown, minute_of}
 use Rattle.desk_time.proofs.MomentLaws.{minute_again}
 use Rattle.desk_time.proofs.ReadLaws.{minute_is_shown}
-use Rattle.plan.specs.Texts.{IsMoment, phase_text, again_text}
+use Rattle.plan.specs.Texts.{phase_text, again_text}
+use Rattle.desk_time.specs.Limits.{IsMoment}
 use Rattle.plan.specs.declared.release.Phase.{Phase}
 use Rattle.plan.specs.declared.release.Phase.TheVariants.{Drafted, Ready, Flying, Stopped, Completed, Cancelled}
 use Rattle.kept_releases.specs.Cuts.{leg_of, cut}

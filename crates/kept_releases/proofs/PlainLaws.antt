@@ -1,5 +1,5 @@
 -- What is written of a release has one text: its numbers are whole, its keys in byte order, its texts UTF-8.
-use Rattle.std.proofs.Common.{◌≡◌, ℕ, ◌^◌, ◌<◌, ◌≤◌, List, [], ◌∷◌, Option, None, Some, IfSome, IsUtf8, refl, arith}
+use Rattle.std.proofs.Common.{◌≡◌, ℕ, ◌^◌, ◌<◌, ◌≤◌, List, [], ◌∷◌, Option, None, Some, IfSome, refl, arith}
 use Rattle.serde_json.specs.Data.{depth}
 use Rattle.serde_json.specs.Read.{read}
 use Rattle.serde_json.specs.Written.{compact_text}
@@ -12,7 +12,7 @@ use Rattle.plan.specs.Texts.{finding_text, phase_text}
 use Rattle.desk_time.specs.Moments.{shown}
 use Rattle.call_json.specs.Forms.{IsId, IsAttached, IsSignature, IsRevision, IsFormed}
 use Rattle.call_json.specs.Plain.{IsPlain, HasText}
-use Rattle.call_json.proofs.Compact.{read_compact, utf8_compact}
+use Rattle.call_json.proofs.Compact.{read_compact}
 use Rattle.call_json.proofs.Plain.{order_of, text_of, list_plain, list_has_text, list_depth, plan_plain, plan_has_text, plan_depth}
 use Rattle.call_json.proofs.Texts.{written_utf8, digest_utf8}
 use Rattle.std.specs.List.{AllByRecursion}
@@ -146,6 +146,3 @@ findings_depth fs = let all = list_depth finding_data 0 finding_depth fs in omeg
 -- the text of a valid release is read as its JSON, and that as the release
 pub row_read : (r : Release) → IsKept r → read (compact_text (release_data r)) ≡ Some (release_data r)
 row_read r is = read_compact (release_data r) (release_plain r is.formed) (let few = release_depth r in omega arith)
-
-pub row_utf8 : (r : Release) → IsKept r → IsUtf8 (compact_text (release_data r))
-row_utf8 r is = utf8_compact (release_data r) (release_plain r is.formed) (release_has_text r is.formed)

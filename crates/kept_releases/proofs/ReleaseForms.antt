@@ -1,20 +1,20 @@
 -- The fields of a release that is read have their forms, and it is valid.
-use Rattle.std.proofs.Common.{◌≡◌, ℕ, true, List, Option, None, Some, IfSome, codes, refl}
-use Rattle.std.specs.Prelude.{is_some}
+use Rattle.std.proofs.Common.{◌≡◌, ℕ, true, List, Option, None, Some, IfSome, codes, refl, is_some}
 use Rattle.std.specs.List.{AllByRecursion}
 use Rattle.std.specs.Str.{is_utf8}
 use Rattle.std.proofs.lemmas.Str.{IsUtf8-from_is_utf8}
 use Rattle.serde_json.specs.Data.{Data}
 use Rattle.serde_json.specs.Find.{get, as_null}
 use Rattle.ops_tables.specs.Forms.{is_person}
-use Rattle.plan.specs.Texts.{IsMoment, HasMoment}
+use Rattle.plan.specs.Texts.{HasMoment}
+use Rattle.desk_time.specs.Limits.{IsMoment}
 use Rattle.plan.specs.declared.release.Phase.{Phase}
 use Rattle.plan.specs.declared.release.Phase.TheVariants.{Drafted, Ready, Flying, Stopped, Completed, Cancelled}
 use Rattle.plan.specs.declared.release.Release.{Release}
 use Rattle.plan.specs.declared.release.Revision.{Revision}
 use Rattle.plan.specs.declared.release.Signature.{Signature}
 use Rattle.call_json.specs.Forms.{IsId, HasForms, IsAttached, IsSignature, IsRevision, IsFormed}
-use Rattle.call_json.specs.Digests.{digest_of, digest_at, IsDigest}
+use Rattle.call_json.specs.Digests.{digest_at, IsDigest}
 use Rattle.call_json.specs.Fields.{text_at, id_at, moment_at, list_at, has_members}
 use Rattle.call_json.specs.Plans.{plan_of}
 use Rattle.kept_releases.specs.Kept.{IsKept, is_valid}
@@ -25,16 +25,14 @@ use Rattle.kept_releases.specs.Rows.{SignedAtMoment, RevisionHasMoments, Release
 use Rattle.kept_releases.specs.declared.revisions.Head.{Head}
 use Rattle.kept_releases.specs.declared.revisions.Signatures.{Signatures}
 use Rattle.kept_releases.specs.declared.releases.Revisions.{Revisions}
-use Rattle.desk_time.proofs.Chains.{bind_if, bind_any, then_if, under, either, weaker}
+use Rattle.desk_time.proofs.Chains.{bind_if, bind_any, then_if, under, either}
 use Rattle.kept_releases.proofs.KeptLaws.{valid_from_test}
 use Rattle.kept_releases.proofs.PhaseLaws.{phase_formed}
-use Rattle.call_json.proofs.DigestLaws.{digest_formed}
 use Rattle.call_json.proofs.PlanForms.{id_formed, moment_formed, each_formed, plan_formed, plan_from_forms}
+use Rattle.std.proofs.lemmas.Option.{IfSome_then}
+use Rattle.call_json.proofs.DoneForms.{digest_is}
 
 -- ---- fields
-
-pub digest_at_formed : (key : List ℕ) (d : Data) → IfSome (digest_at key d) IsDigest
-digest_at_formed key d = then_if digest_of (text_at key d) IsDigest digest_formed
 
 abbrev pub IsPerson : List ℕ → Type 0
 IsPerson t = is_person t ≡ true
@@ -62,7 +60,7 @@ signature_formed : (d : Data) → IfSome (signature_of d) IsSignature
 signature_formed d =
     bind_if (person_at (codes "actor") d) _ IsPerson IsSignature (person_at_formed (codes "actor") d) (λ actor is_actor.
     bind_if (moment_at (codes "at") d) _ IsMoment IsSignature (moment_formed (codes "at") d) (λ at is_at.
-    bind_if (digest_at (codes "digest") d) _ IsDigest IsSignature (digest_at_formed (codes "digest") d) (λ digest is_digest.
+    bind_if (digest_at (codes "digest") d) _ IsDigest IsSignature (digest_is (codes "digest") d) (λ digest is_digest.
     under (has_members 3 d) _ IsSignature (λ exact. record { actor = is_actor; at = is_at; digest = is_digest }))))
 
 abbrev MayBeSignature : Option Signature → Type 0
@@ -126,7 +124,7 @@ revisions_formed d =
 phase_at_formed : (d : Data) → IfSome (phase_at d) IsPhase
 phase_at_formed d = then_if phase_of (text_at (codes "phase") d) IsPhase phase_formed
 
-moment_of_phase : (p : Phase) → IsPhase p → HasMoment p
+pub moment_of_phase : (p : Phase) → IsPhase p → HasMoment p
 moment_of_phase Drafted is = tt
 moment_of_phase Ready is = tt
 moment_of_phase (Flying leg) is = tt
@@ -151,7 +149,7 @@ has_plans r is = record { pending = may_have_plan r.pending is.pending; active =
 
 -- each plan of what is read is one whose text can be made
 pub release_plans : (id : ℕ) (d : Data) → IfSome (release_in id d) HasPlans
-release_plans id d = weaker (release_in id d) (release_formed id d) has_plans
+release_plans id d = IfSome_then (release_in id d) (release_formed id d) has_plans
 
 -- only valid releases are read
 pub release_kept : (id : ℕ) (d : Data) → IfSome (release_of id d) IsKept

@@ -1,6 +1,5 @@
 -- The JSON of a valid release is read as it.
-use Rattle.std.proofs.Common.{◌≡◌, ℕ, ◌≤◌, Bool, true, false, List, [], ◌++◌, Option, None, Some, IfSome, IsUtf8, codes, decimal, refl, ap, ◌∙◌, arith}
-use Rattle.std.specs.Prelude.{nat_lt}
+use Rattle.std.proofs.Common.{◌≡◌, ℕ, ◌≤◌, Bool, true, false, List, [], ◌++◌, Option, None, Some, IfSome, IsUtf8, codes, decimal, refl, ap, ◌∙◌, arith, nat_lt}
 use Rattle.std.specs.List.{list_all}
 use Rattle.std.specs.Str.Lossy.{utf8_lossy}
 use Rattle.std.proofs.lemmas.Bool.{and_parts}
@@ -65,7 +64,7 @@ phase_utf8 (Cancelled at) is = IsUtf8-append (codes "CANCELLED ") (shown at) (Is
 text_again : (report : ℕ) (t : List ℕ) → IsUtf8 t → attached_with report (utf8_lossy t) ≡ Some (record { report = report; text = t })
 text_again report t is = rw (utf8_lossy-IsUtf8 t is, is_utf8-from_IsUtf8 t is) refl
 
-phase_text_again : (p : Phase) → IsPhase p → phase_of (utf8_lossy (phase_text p)) ≡ Some p
+pub phase_text_again : (p : Phase) → IsPhase p → phase_of (utf8_lossy (phase_text p)) ≡ Some p
 phase_text_again p is = ap phase_of (utf8_lossy-IsUtf8 (phase_text p) (phase_utf8 p is)) ∙ phase_again p is
 
 -- ---- revisions

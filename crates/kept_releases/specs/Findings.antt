@@ -4,18 +4,14 @@ use Rattle.std.specs.Str.{bytes_eq}
 use Rattle.serde_json.specs.Data.{Data, Items}
 use Rattle.serde_json.specs.Find.{as_str}
 use Rattle.desk_time.specs.Digits.{◌>>=◌}
-use Rattle.plan.specs.Findings.{code_of, is_before}
+use Rattle.plan.specs.Findings.{every_rule, code_of, is_before}
 use Rattle.plan.specs.Texts.{finding_text}
 use Rattle.plan.specs.declared.findings.Rule.{Rule}
-use Rattle.plan.specs.declared.findings.Rule.TheVariants.{No1, No2, No3, No4, No5, No6, No7, No8, No9, No10, No11, No12, No13, No14, No15, No16, No17, No18, No19}
 use Rattle.plan.specs.declared.findings.Finding.{Finding}
 use Rattle.call_json.specs.Canonical.{text_data, list_data}
 use Rattle.call_json.specs.Fields.{each_read}
 use Rattle.desk_time.specs.Numbers.{number_in}
 use Rattle.kept_releases.specs.Cuts.{leg_of, cut}
-
-abbrev pub every_rule : List Rule
-every_rule = No1 ∷ No2 ∷ No3 ∷ No4 ∷ No5 ∷ No6 ∷ No7 ∷ No8 ∷ No9 ∷ No10 ∷ No11 ∷ No12 ∷ No13 ∷ No14 ∷ No15 ∷ No16 ∷ No17 ∷ No18 ∷ No19 ∷ []
 
 abbrev pub rule_among : List Rule → List ℕ → Option Rule
 rule_among rules code = find (λ r. bytes_eq (code_of r) code) rules

@@ -2,7 +2,8 @@
 use Rattle.std.specs.Prelude.{Option, None, Some, IfSome, codes}
 use Rattle.serde_json.specs.Data.{Data, null, boolean, object, Members, member, no_members}
 use Rattle.plan.specs.Check.{IsPlan}
-use Rattle.plan.specs.Texts.{IsMoment, HasMoment, phase_text}
+use Rattle.plan.specs.Texts.{HasMoment, phase_text}
+use Rattle.desk_time.specs.Limits.{IsMoment}
 use Rattle.plan.specs.declared.release.Attached.{Attached}
 use Rattle.plan.specs.declared.release.Release.{Release}
 use Rattle.plan.specs.declared.release.Revision.{Revision}

@@ -10,32 +10,9 @@ use crate::cuts::{cut, leg_of};
 use call_json::text_value;
 use desk_io::OutOfMemory;
 use desk_time::read_number;
-use plan::{Finding, Findings, Rule, finding_text, is_before};
+use plan::{EVERY_RULE, Finding, Findings, Rule, finding_text, is_before};
 use serde_json::Value;
 use std::alloc::Global;
-
-/// Every rule, in their order.
-const RULES: [Rule; 19] = [
-    Rule::No1,
-    Rule::No2,
-    Rule::No3,
-    Rule::No4,
-    Rule::No5,
-    Rule::No6,
-    Rule::No7,
-    Rule::No8,
-    Rule::No9,
-    Rule::No10,
-    Rule::No11,
-    Rule::No12,
-    Rule::No13,
-    Rule::No14,
-    Rule::No15,
-    Rule::No16,
-    Rule::No17,
-    Rule::No18,
-    Rule::No19,
-];
 
 fn rule_among(rules: &[Rule], code: &[u8]) -> Option<Rule>
     ensures { result ≡ spec.rule_among rules.now code.now }
@@ -51,7 +28,7 @@ fn rule_among(rules: &[Rule], code: &[u8]) -> Option<Rule>
 fn rule_of(code: &[u8]) -> Option<Rule>
     ensures { result ≡ spec.rule_of code.now }
 {
-    rule_among(&RULES, code)
+    rule_among(&EVERY_RULE, code)
 }
 
 fn finding_at(places: u64, rule: Rule, leg: &[u8], place: &[u8]) -> Option<Finding>
@@ -158,8 +135,8 @@ fn finding_values(alloc: Global, findings: &[Finding]) -> Result<Vec<Value>, Out
 }
 
 /// Findings as a JSON list of their texts.
-pub fn findings_value(alloc: Global, findings: &Findings) -> Result<Value, OutOfMemory>
+pub fn findings_value(alloc: Global, findings: &[Finding]) -> Result<Value, OutOfMemory>
     ensures { IfOk result (λ v. view v ≡ spec.findings_data findings.now) }
 {
-    Ok(Value::Array(finding_values(alloc, findings.as_slice())?))
+    Ok(Value::Array(finding_values(alloc, findings)?))
 }

@@ -1,7 +1,8 @@
 ghost use Rattle.std.specs.Prelude.{◌≡◌, map, codes, IfOk, IfSome};
 ghost use Rattle.serde_json.specs.Data.{put};
 ghost use Rattle.serde_json.specs.View.{view, members_view};
-ghost use Rattle.plan.specs.Texts.{HasMoment, IsMoment, phase_text};
+ghost use Rattle.plan.specs.Texts.{HasMoment, phase_text};
+ghost use Rattle.desk_time.specs.Limits.{IsMoment};
 ghost use Rattle.call_json.specs.Canonical.{list_data, text_data};
 ghost use Rattle.kept_releases.specs.Rows as spec;
 

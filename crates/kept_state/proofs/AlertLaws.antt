@@ -17,9 +17,10 @@ use Rattle.records.specs.declared.record.Meta.{Meta as MetaOf}
 use Rattle.records.specs.declared.record.Record.{Record}
 use Rattle.records.specs.declared.record.Record.TheVariants.{Meta, Report, Deferral, Release, Kept, Alert}
 use Rattle.kept_state.specs.Held.{AreOfDesk, alert_in, alert_of, alert_with, meta_in, release_in}
-use Rattle.kept_state.proofs.Lists.{Pairs, each_mapped, pairs_mapped, weaker}
+use Rattle.kept_state.proofs.Lists.{Pairs, each_mapped, pairs_mapped}
 use Rattle.kept_state.proofs.Fitting.{Agree, IsAmong, all_agree, each_among}
 use Rattle.kept_state.proofs.ReleaseLaws.{Below, release_pairs, releases_rise}
+use Rattle.desk_io.proofs.Each.{each_weaker}
 
 -- ---- the alerts that are kept
 
@@ -201,13 +202,13 @@ own_step : (b : Bool) (r : ReleaseOf) (rs : List ReleaseOf) (next : ℕ) (a : Al
 unfolding Own
 own_step true r rs next a others e rise own pairs taken =
     let same = eqb-true a.release r.id e in
-    let above : AllByRecursion (λ x. r.id < x.release) others = weaker (Rises a) (λ x. r.id < x.release) (λ x less. omega (arith, same, less)) others pairs.0 in
+    let above : AllByRecursion (λ x. r.id < x.release) others = each_weaker (Rises a) (λ x. r.id < x.release) (λ x less. omega (arith, same, less)) others pairs.0 in
     let beyond : AllByRecursion (λ q. a.release < q.id) rs = rise_above a.release (r.id + 1) rs next (omega (arith, same)) rise in
     ap (λ rest. a ∷ rest) (own others pairs.1 (later_taken r rs others above taken.1) ∙ sym (skip a others rs beyond))
     ∙ ap (λ (c : Bool). cons_option (cond c (Some a) (alert_at r.id others)) (filter_map (λ q. alert_at q.id (a ∷ others)) rs)) (sym e)
 own_step false r rs next a others e rise own pairs taken =
     let less : r.id < a.release = beyond_by r rs next a e rise taken.0 in
-    let above : AllByRecursion (λ x. r.id < x.release) (a ∷ others) = (less, weaker (Rises a) (λ x. r.id < x.release) (λ x later. omega (arith, less, later)) others pairs.0) in
+    let above : AllByRecursion (λ x. r.id < x.release) (a ∷ others) = (less, each_weaker (Rises a) (λ x. r.id < x.release) (λ x later. omega (arith, less, later)) others pairs.0) in
     own (a ∷ others) pairs (later_taken r rs (a ∷ others) above taken)
     ∙ ap (λ (o : Option AlertOf). cons_option o (filter_map (λ q. alert_at q.id (a ∷ others)) rs)) (sym (none_of r.id (a ∷ others) above))
   where
@@ -232,4 +233,4 @@ pub alerts_own : (rs : List Record) (m : MetaOf) → AreOfDesk rs → meta_in rs
 unfolding Own
 alerts_own rs m are is =
     own_all 0 (filter_map release_in rs) m.next_release (releases_rise rs m are is) (alerts_in rs) (alerts_rise rs are)
-    (weaker (IsHolders (filter_map release_in rs)) (λ a. IsTaken a.release (filter_map release_in rs)) (λ a held. held.taken) (alerts_in rs) (alerts_held rs m are is))
+    (each_weaker (IsHolders (filter_map release_in rs)) (λ a. IsTaken a.release (filter_map release_in rs)) (λ a held. held.taken) (alerts_in rs) (alerts_held rs m are is))

@@ -13,14 +13,14 @@ use Rattle.desk_state.specs.Sound.{AreJudgeable, Sound, Rise}
 use Rattle.desk_state.specs.State.{State, alert_at, judged}
 use Rattle.desk_state.proofs.Judging.{IsOf, Of, found_of, judged_is}
 use Rattle.desk_state.proofs.Changes.{all_above}
-use Rattle.desk_state.proofs.Each.{each_weaker}
 use Rattle.desk_state.proofs.Parts.{judgeable}
 use Rattle.records.specs.Bodies.{row_of}
 use Rattle.records.specs.declared.record.Record.TheVariants as record_of
 use Rattle.kept_state.specs.Rows.{alert_kept}
 use Rattle.kept_state.specs.Changes.{alert_row, alert_rows}
-use Rattle.kept_state.proofs.Parts.{Body, changed_at, becomes, IsTo, all_append}
+use Rattle.kept_state.proofs.Parts.{Body, changed_at, becomes, IsTo}
 use Rattle.kept_state.proofs.Items.{exchanged, twice, not_both, above_not, Ascends, found_at, absent, none_later}
+use Rattle.desk_io.proofs.Each.{each_append, each_weaker}
 
 abbrev pub release_of : Alert → ℕ
 release_of a = a.release
@@ -135,8 +135,8 @@ between_own id (Some a) (Some b) is = by (is_same_alert a b)
 over_own : (t : State) (held : List Alert) (rs : List Release) → AllByRecursion IsOwn (changes_over t held rs)
 over_own t held [] = tt
 over_own t held (r ∷ rs) =
-    all_append IsOwn (changes_from t (alert_at r.id held) r) (changes_over t held rs)
-    (all_append IsOwn (change_between r.id (alert_at r.id held) (alert_at r.id t.alerts)) (change_between r.id (alert_at r.id t.alerts) (judged t r))
+    each_append IsOwn (changes_from t (alert_at r.id held) r) (changes_over t held rs)
+    (each_append IsOwn (change_between r.id (alert_at r.id held) (alert_at r.id t.alerts)) (change_between r.id (alert_at r.id t.alerts) (judged t r))
     (between_own r.id (alert_at r.id held) (alert_at r.id t.alerts) (found_of r.id t.alerts))
     (between_own r.id (alert_at r.id t.alerts) (judged t r) (judged_is t r)))
     (over_own t held rs)

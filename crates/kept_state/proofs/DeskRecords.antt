@@ -23,11 +23,12 @@ use Rattle.records.specs.declared.record.Record.TheVariants.{Meta, Report, Defer
 use Rattle.call_json.specs.Forms.{IsFormed}
 use Rattle.kept_state.specs.Held.{AreOfDesk, comes_before}
 use Rattle.kept_state.proofs.Fitting.{Agree, AreFew}
-use Rattle.kept_state.proofs.Lists.{both, weaker, weaker_pairs}
-use Rattle.kept_state.proofs.Segments.{all_any, all_rise, none_if, none_paired, none_placed, room_before}
+use Rattle.kept_state.proofs.Lists.{both, weaker_pairs}
+use Rattle.kept_state.proofs.Segments.{all_rise, none_if, none_paired, none_placed, room_before}
 use Rattle.kept_state.proofs.Together.{Stands, all_few, all_pairs, all_records, all_stand, has_release, ids_below}
 use Rattle.kept_state.proofs.KeptForms.{Counts, IsKeptRecord, kept_alert, kept_deferral, kept_meta, kept_release, kept_reply, kept_report}
 use Rattle.desk_state.specs.Formed.{AlertHasForms, DeferralHasForms, ReplyHasForms, ReportHasForms}
+use Rattle.desk_io.proofs.Each.{each_weaker, each_of}
 
 -- ---- there is a meta record
 
@@ -66,18 +67,18 @@ none_over earlier (r ∷ rs) few has =
 
 all_events : (s : State) → s.counters.events < 999_999_999_999_999 → AllByRecursion HasEvents (records_of s)
 all_events s room =
-    all_records HasEvents s room (all_any (λ r. Unit {0}) (λ r. tt) s.reports) (all_any (λ d. Unit {0}) (λ d. tt) s.deferrals) (all_any (λ r. Unit {0}) (λ r. tt) s.releases)
-    (all_any (λ k. Unit {0}) (λ k. tt) s.kept) (all_any (λ a. Unit {0}) (λ a. tt) s.alerts)
+    all_records HasEvents s room (each_of (λ r. Unit {0}) (λ r. tt) s.reports) (each_of (λ d. Unit {0}) (λ d. tt) s.deferrals) (each_of (λ r. Unit {0}) (λ r. tt) s.releases)
+    (each_of (λ k. Unit {0}) (λ k. tt) s.kept) (each_of (λ a. Unit {0}) (λ a. tt) s.alerts)
 
 -- ---- each alert has its release
 
 none_orphan : (s : State) → Sound s → AllByRecursion (λ r. is_orphan (records_of s) r ≡ false) (records_of s)
 none_orphan s sound =
-    all_records (λ r. is_orphan (records_of s) r ≡ false) s refl (all_any (λ (r : ReportOf). is_orphan (records_of s) (Report (report_kept r)) ≡ false) (λ r. refl) s.reports)
-    (all_any (λ (d : DeferralOf). is_orphan (records_of s) (Deferral d) ≡ false) (λ d. refl) s.deferrals)
-    (all_any (λ (r : ReleaseOf). is_orphan (records_of s) (Release r) ≡ false) (λ r. refl) s.releases)
-    (all_any (λ (k : KeptReply). is_orphan (records_of s) (Kept k) ≡ false) (λ k. refl) s.kept)
-    (weaker (Stands s.releases s.counters.next_release) (λ a. is_orphan (records_of s) (Alert (alert_kept a)) ≡ false) (λ a is. ap not (has_release s a is)) s.alerts (all_stand s sound))
+    all_records (λ r. is_orphan (records_of s) r ≡ false) s refl (each_of (λ (r : ReportOf). is_orphan (records_of s) (Report (report_kept r)) ≡ false) (λ r. refl) s.reports)
+    (each_of (λ (d : DeferralOf). is_orphan (records_of s) (Deferral d) ≡ false) (λ d. refl) s.deferrals)
+    (each_of (λ (r : ReleaseOf). is_orphan (records_of s) (Release r) ≡ false) (λ r. refl) s.releases)
+    (each_of (λ (k : KeptReply). is_orphan (records_of s) (Kept k) ≡ false) (λ k. refl) s.kept)
+    (each_weaker (Stands s.releases s.counters.next_release) (λ a. is_orphan (records_of s) (Alert (alert_kept a)) ≡ false) (λ a is. ap not (has_release s a is)) s.alerts (all_stand s sound))
 
 -- ---- each record is valid and outruns no counter
 
@@ -95,18 +96,18 @@ all_kept opening s board counts =
     let standing = both (IsAlert s.counters.events) (Stands s.releases next) s.alerts sound.alerts (all_stand s sound) in
     let alerts = both AlertHasForms (λ a. IsAlert s.counters.events a × Stands s.releases next a) s.alerts formed.alerts standing in
     all_records (IsKeptRecord s) s (kept_meta s counts formed.floors formed.rising)
-    (weaker (λ r. ReportHasForms r × IsNumbered s.counters.next_report r) (λ r. IsKeptRecord s (Report (report_kept r))) (λ r is. kept_report s r counts is.0 is.1) s.reports reports)
-    (weaker (λ d. DeferralHasForms d × IsOpen s.counters.next_deferral d) (λ d. IsKeptRecord s (Deferral d)) (λ d is. kept_deferral s d counts is.0 is.1) s.deferrals deferrals)
-    (weaker (λ r. IsFormed r × (MayStand s.counters.events r × (r.id < next))) (λ r. IsKeptRecord s (Release r)) (λ r is. kept_release s r counts is.0 is.1.0 is.1.1) s.releases releases)
-    (weaker (λ k. ReplyHasForms k × IsReplied s.counters.next_kept k) (λ k. IsKeptRecord s (Kept k)) (λ k is. kept_reply s k counts is.0 is.1) s.kept replies)
-    (weaker (λ a. AlertHasForms a × (IsAlert s.counters.events a × Stands s.releases next a)) (λ a. IsKeptRecord s (Alert (alert_kept a)))
+    (each_weaker (λ r. ReportHasForms r × IsNumbered s.counters.next_report r) (λ r. IsKeptRecord s (Report (report_kept r))) (λ r is. kept_report s r counts is.0 is.1) s.reports reports)
+    (each_weaker (λ d. DeferralHasForms d × IsOpen s.counters.next_deferral d) (λ d. IsKeptRecord s (Deferral d)) (λ d is. kept_deferral s d counts is.0 is.1) s.deferrals deferrals)
+    (each_weaker (λ r. IsFormed r × (MayStand s.counters.events r × (r.id < next))) (λ r. IsKeptRecord s (Release r)) (λ r is. kept_release s r counts is.0 is.1.0 is.1.1) s.releases releases)
+    (each_weaker (λ k. ReplyHasForms k × IsReplied s.counters.next_kept k) (λ k. IsKeptRecord s (Kept k)) (λ k is. kept_reply s k counts is.0 is.1) s.kept replies)
+    (each_weaker (λ a. AlertHasForms a × (IsAlert s.counters.events a × Stands s.releases next a)) (λ a. IsKeptRecord s (Alert (alert_kept a)))
     (λ a is. kept_alert s a counts is.0 is.1.0 is.1.1.below) s.alerts alerts)
 
 none_ahead : (s : State) → AllByRecursion (IsKeptRecord s) (records_of s) → ahead_of (records_of s) (meta_from 0 (records_of s)) ≡ None
 unfolding records_of
 none_ahead s kept =
     ap (λ o. beside o 0) (none_placed (is_ahead (meta_of s)) 0 (records_of s)
-    (weaker (IsKeptRecord s) (λ r. is_ahead (meta_of s) r ≡ false) (λ r is. is.ahead) (records_of s) kept))
+    (each_weaker (IsKeptRecord s) (λ r. is_ahead (meta_of s) r ≡ false) (λ r is. is.ahead) (records_of s) kept))
 
 -- ---- all tests are passed
 
@@ -121,16 +122,16 @@ fits rs meta limits orphans pairs ahead =
     ∙ ap (λ o. pair o) ahead
 
 none_before : (p : Record → Record → Bool) (rs : List Record) → AllByRecursion (λ r. AllByRecursion (λ e. p r e ≡ false) []) rs
-none_before p rs = all_any (λ r. AllByRecursion (λ e. p r e ≡ false) []) (λ r. tt) rs
+none_before p rs = each_of (λ r. AllByRecursion (λ e. p r e ≡ false) []) (λ r. tt) rs
 
 -- The records of a state of a board with room for one more event are those of a desk.
 pub records_formed : (opening s : State) → IsBoard opening s → length s.kept ≤ 800_000 → s.counters.events < 999_999_999_999_999 → AreOfDesk (records_of s)
 records_formed opening s board few room =
     let rs = records_of s in
     let each = all_kept opening s board (record { counters = board.kept.counters; moment = board.kept.moment; room = room }) in
-    let two = all_pairs s board.sound board.kept (weaker ReportHasForms IsRead (λ r is. is.read) s.reports board.formed.reports) in
+    let two = all_pairs s board.sound board.kept (each_weaker ReportHasForms IsRead (λ r is. is.read) s.reports board.formed.reports) in
     record {
-      valid = All-from_recursion IsRecord rs (weaker (IsKeptRecord s) IsRecord (λ r is. is.valid) rs each);
+      valid = All-from_recursion IsRecord rs (each_weaker (IsKeptRecord s) IsRecord (λ r is. is.valid) rs each);
       fit = fits rs (meta_there s) (none_over [] rs (all_few s board.kept few) (all_events s room)) (none_placed (is_orphan rs) 0 rs (none_orphan s board.sound))
           (none_paired is_bad_pair [] rs (none_before is_bad_pair rs) (weaker_pairs Agree (λ a b. is_bad_pair b a ≡ false) (λ a b is. is.1) rs two)) (none_ahead s each);
       order = all_rise rs (weaker_pairs Agree (λ a b. comes_before a b ≡ true) (λ a b is. is.0) rs two);

@@ -28,7 +28,7 @@ use Rattle.ops_tables.specs.Named.{AreNamed}
 
 report_by : (r : KeptReport) (o : Result Read BadReport) → read_of r.text r.received ≡ o → IsReport r → IfSome (report_if r o) ReportHasForms
 report_by r (Ok read) reading is = record {
-  read = record { canonical = is.canonical; reading = reading; moments = record { received = record { low = is.received.0; high = is.received.1 }; read = read_moments r.text r.received read reading } };
+  read = record { canonical = is.canonical; reading = reading; moments = record { received = is.received; read = read_moments r.text r.received read reading } };
   text = is.text;
 }
 report_by r (Err bad) reading is = tt

@@ -11,8 +11,8 @@ use Rattle.desk_io.specs.declared.rows.Row.{Row}
 use Rattle.desk_io.specs.declared.rows.Change.{Change}
 use Rattle.desk_io.specs.declared.rows.Change.TheVariants.{Remove}
 use Rattle.desk_io.specs.Rows.{is_row, rows_of}
-use Rattle.desk_state.proofs.Each.{each_weaker}
 use Rattle.kept_state.proofs.Parts.{Body, becomes, IsIn, IsTo, IsOutside, Leads, rows_outside, left_alone}
+use Rattle.desk_io.proofs.Each.{each_weaker}
 
 -- two tests that don't both hold may change their order
 pub exchanged : (s t : Bool) (one two rest : Option Body) → (t ≡ true → s ≡ false) → cond s one (cond t two rest) ≡ cond t two (cond s one rest)

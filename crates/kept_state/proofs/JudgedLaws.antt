@@ -6,13 +6,12 @@ use Rattle.std.proofs.lemmas.List.Elements.{All-from_recursion}
 use Rattle.desk_io.specs.Rows.{Rows, rows_of, changed_by}
 use Rattle.alerts.specs.Alerts.{IsAlert}
 use Rattle.keeper.specs.Kept.{AreSame}
-use Rattle.plan.specs.Texts.{IsMoment}
+use Rattle.desk_time.specs.Limits.{IsMoment}
 use Rattle.desk_state.specs.declared.change.AlertChange.{AlertChange}
 use Rattle.desk_state.specs.Effects.{nothing}
 use Rattle.desk_state.specs.Events.{put_changes, alert_changes}
 use Rattle.desk_state.specs.Sound.{AreJudgeable}
 use Rattle.desk_state.specs.State.{State}
-use Rattle.desk_state.proofs.Each.{each_weaker}
 use Rattle.records.specs.Bodies.{row_of}
 use Rattle.kept_state.specs.Rows.{state_rows}
 use Rattle.kept_state.specs.Changes.{alert_rows}
@@ -24,6 +23,7 @@ use Rattle.kept_state.proofs.AlertRows as alerts
 use Rattle.kept_state.proofs.KindLaws.{meta_leads, report_row, deferral_row, release_row, kept_row, alert_row}
 use Rattle.kept_state.proofs.Leading.{parts_of, rows_parts}
 use Rattle.kept_state.proofs.ShownLaws.{Opened, over_opened}
+use Rattle.desk_io.proofs.Each.{each_weaker}
 
 -- a state after an event by which only alerts change
 abbrev pub with_alerts : State → List AlertChange → State

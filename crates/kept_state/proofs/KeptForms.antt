@@ -12,7 +12,7 @@ use Rattle.facts.specs.declared.report.Report.{Report as ReportOf}
 use Rattle.kept_state.specs.Rows.{alert_kept, meta_of, report_kept}
 use Rattle.desk_state.specs.Sound.{AreCounters, IsNumbered, IsOpen, IsReplied, MayStand}
 use Rattle.desk_state.specs.State.{State}
-use Rattle.plan.specs.Texts.{IsMoment}
+use Rattle.desk_time.specs.Limits.{IsMoment}
 use Rattle.plan.specs.declared.release.Release.{Release as ReleaseOf}
 use Rattle.plan.specs.declared.release.Revision.{Revision}
 use Rattle.call_json.specs.Forms.{IsId, FloorsRise, IsFloor, IsFormed}
@@ -83,7 +83,7 @@ unfolding IsRecord
 kept_report s r is formed below = record {
   valid = record {
     id = id_below s is s.counters.next_report r.id is.counters.report below;
-    received = (formed.read.moments.received.low, formed.read.moments.received.high);
+    received = formed.read.moments.received;
     text = formed.text;
     canonical = formed.read.canonical;
     read = is_read (read_of r.text r.received) r.read formed.read.reading;

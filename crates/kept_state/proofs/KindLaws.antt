@@ -26,16 +26,16 @@ use Rattle.desk_state.specs.State.{State, judged_all}
 use Rattle.desk_state.specs.Step.{kept_of}
 use Rattle.desk_state.proofs.Parts.{reports_rise, kept_each}
 use Rattle.desk_state.proofs.Changes.{changes_lead}
-use Rattle.desk_state.proofs.Each.{each_weaker}
 use Rattle.records.specs.Bodies.{row_of}
 use Rattle.records.specs.declared.record.Meta.{Meta as Counters}
 use Rattle.records.specs.declared.record.Record.TheVariants.{Meta, Report, Deferral, Release, Kept, Alert}
 use Rattle.kept_state.specs.Rows.{report_kept, alert_kept}
 use Rattle.kept_state.specs.Changes.{put, report_changes, swept_reports, deferral_changes, release_changes, swept_replies, reply_changes, alert_rows, on_reports, on_replies}
-use Rattle.kept_state.proofs.Parts.{Body, becomes, becomes_append, IsTo, Leads, all_append}
+use Rattle.kept_state.proofs.Parts.{Body, becomes, becomes_append, IsTo, Leads}
 use Rattle.kept_state.proofs.Items.{twice, Ascends, ascends_from, found_at, pushed, without_found, removed, filtered, part}
 use Rattle.kept_state.proofs.ReleaseRows as release_rows
 use Rattle.kept_state.proofs.AlertRows as alert_rows_of
+use Rattle.desk_io.proofs.Each.{each_append, each_weaker}
 
 -- The rows of each kind.
 
@@ -106,7 +106,7 @@ pub reports_lead : (s : State) (effect : Effect) → EffectFits s effect → InB
 unfolding row_of
 reports_lead s effect fits bounds =
     part report_row 1 (λ r. refl) s.reports (effected effect s).reports (on_reports s effect)
-    (all_append (IsTo 1 2) (report_changes effect.report) (swept_reports effect.sweep (reports_after effect.report s.reports)) (report_only effect.report)
+    (each_append (IsTo 1 2) (report_changes effect.report) (swept_reports effect.sweep (reports_after effect.report s.reports)) (report_only effect.report)
     (swept_only effect.sweep (reports_after effect.report s.reports)))
     (λ q.
     becomes_append 1 q (report_changes effect.report) (swept_reports effect.sweep (reports_after effect.report s.reports)) (found_at report_id report_body q s.reports)
@@ -220,7 +220,7 @@ pub replies_lead : (s : State) (effect : Effect) (w : What) → InBounds s
 unfolding row_of
 replies_lead s effect w bounds =
     part kept_row 4 (λ k. refl) s.kept (kept_after effect.sweep s.kept ++ option_to_list (kept_of (effected effect s) w)) (on_replies s effect (kept_of (effected effect s) w))
-    (all_append (IsTo 4 5) (swept_replies effect.sweep s.kept) (reply_changes (kept_of (effected effect s) w)) (replies_only effect.sweep s.kept)
+    (each_append (IsTo 4 5) (swept_replies effect.sweep s.kept) (reply_changes (kept_of (effected effect s) w)) (replies_only effect.sweep s.kept)
     (reply_only (kept_of (effected effect s) w)))
     (λ q.
     becomes_append 4 q (swept_replies effect.sweep s.kept) (reply_changes (kept_of (effected effect s) w)) (found_at kept_id kept_body q s.kept)

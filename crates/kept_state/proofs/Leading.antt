@@ -70,10 +70,6 @@ module _ (s : State) (effect : Effect) (e : Entry) (fits : EffectFits s effect) 
       ∙ parts_lead.leads k q
       ∙ sym (ap (λ rows. rows_of rows k q) (rows_parts (entered e (effected effect s))))
 
-  -- from the rows of the state before
-  pub changes_lead : AreSame (changed_by (event_changes s effect e) (rows_of (state_rows s))) (rows_of (state_rows (entered e (effected effect s))))
-  changes_lead k q = becomes_is (event_changes s effect e) (rows_of (state_rows s)) k q ∙ lead_at k q
-
 module _ (rows : Rows) (s : State) (effect : Effect) (e : Entry) (fits : EffectFits s effect) (sound : Sound s) (bounds : InBounds s) where
   -- the row of the counters is put, whether one stood there or not
   put_first : (m : Counters) (k q : ℕ)

@@ -8,7 +8,7 @@ use Rattle.desk_io.specs.declared.rows.Row.{Row}
 use Rattle.desk_io.specs.declared.rows.Change.{Change}
 use Rattle.desk_io.specs.declared.rows.Change.TheVariants.{Put, Remove}
 use Rattle.desk_io.specs.Rows.{Rows, is_row, rows_of, changed, changed_by}
-use Rattle.desk_state.proofs.Each.{each_weaker}
+use Rattle.desk_io.proofs.Each.{each_append, each_weaker}
 
 abbrev pub Body : Type 0
 Body = List ℕ
@@ -78,10 +78,6 @@ pub record Leads (low high : ℕ) (xs ys : List Row) (cs : List Change) : Type 0
   pub only : AllByRecursion (IsTo low high) cs
   pub leads : (k q : ℕ) → becomes k q cs (rows_of xs k q) ≡ rows_of ys k q
 
-pub all_append : {A : Type 0} (P : A → Type 0) (xs ys : List A) → AllByRecursion P xs → AllByRecursion P ys → AllByRecursion P (xs ++ ys)
-all_append P [] ys all more = more
-all_append P (x ∷ xs) ys all more = (all.0, all_append P xs ys all.1 more)
-
 wider : (a b low high : ℕ) → low ≤ a → b ≤ high → (c : Change) → IsTo a b c → IsTo low high c
 wider a b low high from to (Put row) is = (let one = is.0 in omega (arith, one, from), let one = is.1 in omega (arith, one, to))
 wider a b low high from to (Remove k q) is = (let one = is.0 in omega (arith, one, from), let one = is.1 in omega (arith, one, to))
@@ -107,7 +103,7 @@ found_last p (x ∷ xs) ys none = pass (p x) x (find p xs) (find p ys) (find p (
 module _ (a b c : ℕ) (low : a ≤ b) (high : b ≤ c) (xs ys more others : List Row) (cs ds : List Change) (one : Leads a b xs ys cs) (two : Leads b c more others ds) where
   joined_rows : (us vs : List Row) → AllByRecursion (IsIn a b) us → AllByRecursion (IsIn b c) vs → AllByRecursion (IsIn a c) (us ++ vs)
   joined_rows us vs here there =
-      all_append (IsIn a c) us vs (each_weaker (IsIn a b) (IsIn a c) (wider_row a b a c (omega arith) high) us here)
+      each_append (IsIn a c) us vs (each_weaker (IsIn a b) (IsIn a c) (wider_row a b a c (omega arith) high) us here)
       (each_weaker (IsIn b c) (IsIn a c) (wider_row b c a c low (omega arith)) vs there)
 
   rows_first : (k q : ℕ) (us vs : List Row) → k < b → AllByRecursion (IsIn b c) vs → rows_of (us ++ vs) k q ≡ rows_of us k q
@@ -141,7 +137,7 @@ module _ (a b c : ℕ) (low : a ≤ b) (high : b ≤ c) (xs ys more others : Lis
   joined = record {
     before = joined_rows xs more one.before two.before;
     after = joined_rows ys others one.after two.after;
-    only = all_append (IsTo a c) cs ds (each_weaker (IsTo a b) (IsTo a c) (wider a b a c (omega arith) high) cs one.only)
+    only = each_append (IsTo a c) cs ds (each_weaker (IsTo a b) (IsTo a c) (wider a b a c (omega arith) high) cs one.only)
         (each_weaker (IsTo b c) (IsTo a c) (wider b c a c low (omega arith)) ds two.only);
     leads = λ k q. joined_by k q _ refl;
   }

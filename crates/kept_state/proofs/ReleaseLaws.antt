@@ -16,9 +16,11 @@ use Rattle.records.specs.declared.record.Meta.{Meta as MetaOf}
 use Rattle.records.specs.declared.record.Record.{Record}
 use Rattle.records.specs.declared.record.Record.TheVariants.{Meta, Report, Deferral, Release, Kept, Alert}
 use Rattle.kept_state.specs.Held.{AreOfDesk, meta_in, release_in}
-use Rattle.kept_state.proofs.Lists.{Pairs, each_mapped, pairs_mapped, weaker}
+use Rattle.kept_state.proofs.Lists.{Pairs, each_mapped, pairs_mapped}
 use Rattle.kept_state.proofs.Fitting.{Agree, IsAmong, all_agree, are_few, each_among}
 use Rattle.kept_state.proofs.PartLaws.{Counted, at_most}
+use Rattle.desk_io.proofs.Each.{each_weaker}
+use Rattle.std.proofs.lemmas.Option.{IfSome_then}
 
 -- ---- a release that may be kept is one that may stand
 
@@ -31,15 +33,15 @@ not_above events (Some v) late = ltb-false events v.number late
 revision_is : (v : Revision) → IsRevision v → RevisionInBounds v
 revision_is v is = record {
   is_plan = plan_from_forms v.plan is.plan;
-  dispatcher = chain.weaker v.dispatcher is.dispatcher (λ signature signed. signed.at);
-  captain = chain.weaker v.captain is.captain (λ signature signed. signed.at);
+  dispatcher = IfSome_then v.dispatcher is.dispatcher (λ signature signed. signed.at);
+  captain = IfSome_then v.captain is.captain (λ signature signed. signed.at);
 }
 
 release_is : (r : ReleaseOf) → IsKept r → ReleaseInBounds r
 release_is r is = record {
   moment = is.formed.moment;
-  pending = chain.weaker r.pending is.formed.pending revision_is;
-  active = chain.weaker r.active is.formed.active revision_is;
+  pending = IfSome_then r.pending is.formed.pending revision_is;
+  active = IfSome_then r.active is.formed.active revision_is;
 }
 
 -- a release that may stand, whose id is below a number
@@ -73,10 +75,10 @@ held_releases rs m are is = each_mapped (IsAmong rs m) (IsHeldRelease m.events m
 -- ---- all of them
 
 pub releases_valid : (rs : List Record) (m : MetaOf) → AreOfDesk rs → meta_in rs ≡ Some m → AllByRecursion (MayStand m.events) (filter_map release_in rs)
-releases_valid rs m are is = weaker (IsHeldRelease m.events m.next_release) (MayStand m.events) (λ r held. held.stands) (filter_map release_in rs) (held_releases rs m are is)
+releases_valid rs m are is = each_weaker (IsHeldRelease m.events m.next_release) (MayStand m.events) (λ r held. held.stands) (filter_map release_in rs) (held_releases rs m are is)
 
 pub releases_bounded : (rs : List Record) (m : MetaOf) → AreOfDesk rs → meta_in rs ≡ Some m → AllByRecursion ReleaseInBounds (filter_map release_in rs)
-releases_bounded rs m are is = weaker (IsHeldRelease m.events m.next_release) ReleaseInBounds (λ r held. held.bounds) (filter_map release_in rs) (held_releases rs m are is)
+releases_bounded rs m are is = each_weaker (IsHeldRelease m.events m.next_release) ReleaseInBounds (λ r held. held.bounds) (filter_map release_in rs) (held_releases rs m are is)
 
 count_release : Counted 3 release_in
 count_release (Meta m) rs = refl
@@ -113,11 +115,11 @@ rise_from : (low : ℕ) (rs : List ReleaseOf) (next : ℕ) → low ≤ next → 
 rise_from low [] next within above below pairs = within
 rise_from low (r ∷ rs) next within above below pairs =
     let less = below.0 in
-    (above.0, rise_from (r.id + 1) rs next (omega (arith, less)) (weaker (Below r) (λ q. r.id + 1 ≤ q.id) (λ q later. omega (arith, later)) rs pairs.0) below.1 pairs.1)
+    (above.0, rise_from (r.id + 1) rs next (omega (arith, less)) (each_weaker (Below r) (λ q. r.id + 1 ≤ q.id) (λ q later. omega (arith, later)) rs pairs.0) below.1 pairs.1)
 
 pub releases_rise : (rs : List Record) (m : MetaOf) → AreOfDesk rs → meta_in rs ≡ Some m → Rise 0 (filter_map release_in rs) m.next_release
 releases_rise rs m are is =
     let held = held_releases rs m are is in
     rise_from 0 (filter_map release_in rs) m.next_release (omega arith)
-    (weaker (IsHeldRelease m.events m.next_release) (λ r. 0 ≤ r.id) (λ r one. omega arith) (filter_map release_in rs) held)
-    (weaker (IsHeldRelease m.events m.next_release) (λ r. r.id < m.next_release) (λ r one. one.below) (filter_map release_in rs) held) (release_pairs rs are)
+    (each_weaker (IsHeldRelease m.events m.next_release) (λ r. 0 ≤ r.id) (λ r one. omega arith) (filter_map release_in rs) held)
+    (each_weaker (IsHeldRelease m.events m.next_release) (λ r. r.id < m.next_release) (λ r one. one.below) (filter_map release_in rs) held) (release_pairs rs are)

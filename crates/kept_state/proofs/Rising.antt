@@ -12,15 +12,15 @@ use Rattle.keeper.specs.Order.{comes_before, is_below, rises_from, rising}
 use Rattle.keeper.proofs.SortLaws.{rising_same}
 use Rattle.desk_state.specs.Sound.{Sound, InBounds}
 use Rattle.desk_state.specs.State.{State}
-use Rattle.desk_state.proofs.Each.{each_weaker}
 use Rattle.records.specs.Bodies.{row_of}
 use Rattle.kept_state.specs.Rows.{meta_of, state_rows}
-use Rattle.kept_state.proofs.Parts.{IsIn, all_append}
+use Rattle.kept_state.proofs.Parts.{IsIn}
 use Rattle.kept_state.proofs.Items.{Ascends, ascends_from, one_kind}
 use Rattle.kept_state.proofs.ReleaseRows.{rise_ascends}
 use Rattle.kept_state.proofs.AlertRows.{alerts_ascend}
 use Rattle.kept_state.proofs.KindLaws.{meta_row, report_row, deferral_row, release_row, kept_row, alert_row}
 use Rattle.kept_state.proofs.Leading.{parts_of, rows_parts}
+use Rattle.desk_io.proofs.Each.{each_append, each_weaker}
 
 -- the first row comes before the second
 abbrev Precedes : Row → Row → Type 0
@@ -53,14 +53,14 @@ record AreIn (low high : ℕ) (rows : List Row) : Type 0 where
 ordered_append : (a b c : ℕ) (xs ys : List Row) → AllByRecursion (IsIn a b) xs → AreOrdered xs → AllByRecursion (IsIn b c) ys → AreOrdered ys → AreOrdered (xs ++ ys)
 ordered_append a b c [] ys here first there later = later
 ordered_append a b c (x ∷ xs) ys here first there later = (
-  all_append (Precedes x) xs ys first.0
+  each_append (Precedes x) xs ys first.0
       (each_weaker (IsIn b c) (Precedes x) (λ y is. let one = here.0.1 in let two = is.0 in by_kind x.kind x.key y.kind y.key (omega (arith, one, two))) ys there),
   ordered_append a b c xs ys here.1 first.1 there later,
 )
 
 both : (a b c : ℕ) → a ≤ b → b ≤ c → (xs ys : List Row) → AreIn a b xs → AreIn b c ys → AreIn a c (xs ++ ys)
 both a b c low high xs ys one two = record {
-  each = all_append (IsIn a c) xs ys
+  each = each_append (IsIn a c) xs ys
       (each_weaker (IsIn a b) (IsIn a c) (λ x is. (is.0, let less = is.1 in omega (arith, less, high))) xs one.each)
       (each_weaker (IsIn b c) (IsIn a c) (λ y is. (let more = is.0 in omega (arith, more, low), is.1)) ys two.each);
   ordered = ordered_append a b c xs ys one.each one.ordered two.each two.ordered;

@@ -8,7 +8,7 @@ use Rattle.asks.specs.declared.reply.Reply.TheVariants.{Done, Seen, Refused}
 use Rattle.alerts.specs.declared.alert.Alert.{Alert}
 use Rattle.alerts.specs.Alerts.{IsAlert, alert_once_open}
 use Rattle.facts.specs.declared.report.Report.{Report}
-use Rattle.plan.specs.Texts.{IsMoment}
+use Rattle.desk_time.specs.Limits.{IsMoment}
 use Rattle.plan.specs.declared.findings.Finding.{Finding}
 use Rattle.plan.specs.declared.release.Release.{Release}
 use Rattle.plan.specs.declared.release.Revision.{Revision}
@@ -25,11 +25,11 @@ use Rattle.desk_state.specs.Events.{effected, is_same_alert, change_between, cha
 use Rattle.desk_state.specs.Sound.{Sound, InBounds, EffectFits, IsNext, DeferralsFit, ReleasesFit, ReleaseInBounds, RevisionInBounds}
 use Rattle.desk_state.specs.State.{State, grounds_of, failing_of, alert_at, alert_for, judged}
 use Rattle.desk_state.specs.Step.{kept_of}
-use Rattle.desk_state.proofs.Each.{each_weaker, found_each}
+use Rattle.desk_state.proofs.Each.{found_each}
 use Rattle.desk_state.proofs.Judging.{alerts_have}
 use Rattle.desk_state.proofs.Parts.{moment_shown}
 use Rattle.kept_state.specs.Shown.{IsSmallReport, IsSmallDeferral, IsSmallRelease, AreSmall, WasReceived, WasFound, IsShownRelease, WasAccepted, WasOpened, AreShown}
-use Rattle.kept_state.proofs.Parts.{all_append}
+use Rattle.desk_io.proofs.Each.{each_append, each_weaker}
 
 -- Numbers.
 
@@ -119,8 +119,8 @@ pub over_opened : (t : State) (held : List Alert) (rs : List Release) → IsMome
 over_opened t held [] shown all = tt
 over_opened t held (r ∷ rs) shown all =
     let found = found_each Opened (λ a. a.release == r.id) t.alerts all in
-    all_append (λ c. WasOpened c.after) (changes_from t (alert_at r.id held) r) (changes_over t held rs)
-    (all_append (λ c. WasOpened c.after) (change_between r.id (alert_at r.id held) (alert_at r.id t.alerts)) (change_between r.id (alert_at r.id t.alerts) (judged t r))
+    each_append (λ c. WasOpened c.after) (changes_from t (alert_at r.id held) r) (changes_over t held rs)
+    (each_append (λ c. WasOpened c.after) (change_between r.id (alert_at r.id held) (alert_at r.id t.alerts)) (change_between r.id (alert_at r.id t.alerts) (judged t r))
     (between_opened r.id (alert_at r.id held) (alert_at r.id t.alerts) found)
     (between_opened r.id (alert_at r.id t.alerts) (judged t r) (judged_opened (failing_of (grounds_of t) r) (alert_at r.id t.alerts) r t.moment shown found)))
     (over_opened t held rs shown all)

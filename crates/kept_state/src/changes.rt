@@ -8,7 +8,7 @@ ghost use Rattle.desk_state.specs.Requests.{kept_before};
 ghost use Rattle.desk_state.specs.Sound.{Sound, InBounds, EffectFits, AreApart};
 ghost use Rattle.desk_state.specs.Step as step;
 ghost use Rattle.desk_state.specs.Step.{kept_of};
-ghost use Rattle.plan.specs.Texts.{IsMoment};
+ghost use Rattle.desk_time.specs.Limits.{IsMoment};
 ghost use Rattle.kept_releases.specs.Rows.{ReleaseHasMoments};
 ghost use Rattle.kept_state.specs.Changes as spec;
 ghost use Rattle.kept_state.specs.Rows.{meta_of};

@@ -1,6 +1,6 @@
 ghost use Rattle.std.specs.Prelude.{◌≡◌, ◌<◌, All, IfOk};
 ghost use Rattle.desk_state.specs.Contents.{state_of};
-ghost use Rattle.plan.specs.Texts.{IsMoment};
+ghost use Rattle.desk_time.specs.Limits.{IsMoment};
 ghost use Rattle.kept_state.specs.Judged as spec;
 ghost use Rattle.kept_state.specs.Shown.{WasOpened};
 

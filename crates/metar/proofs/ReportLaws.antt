@@ -13,13 +13,15 @@ use Rattle.codes.specs.Class.{unread_count}
 use Rattle.codes.specs.declared.fault.Why.{Why}
 use Rattle.codes.specs.declared.fault.BadReport.{BadReport}
 use Rattle.codes.specs.declared.fault.Form.TheVariants.{Report}
-use Rattle.codes.proofs.WordLaws.{same_bytes, has_decides}
+use Rattle.codes.proofs.WordLaws.{has_decides}
 use Rattle.codes.proofs.ShapedLaws.{each_is_shaped}
 use Rattle.metar.specs.declared.metar.Metar.{Metar}
 use Rattle.metar.specs.declared.metar.Head.{Head}
 use Rattle.metar.specs.Reading.{is_speci, is_cor, is_nil, after, after_word, after_words, is_report_word, ends_body, body_length, body_of, has, number_of, nil_report, report_with, with_stretch, after_time, observed_at, after_station, at_station, from_station, reading}
 use Rattle.metar.specs.Report as report
 use Rattle.metar.specs.Report.{IsReportWord, unnamed, metar, speci, IsCorrection, uncorrected, corrected, EndsBody, remarks, no_change, temporary, becoming, FollowsBody, IsBodyOf, SaysBody, SaysNone, SaysAfterTime, ReadsMetar}
+use Rattle.desk_io.proofs.Bytes.{same_bytes}
+use Rattle.codes.proofs.LengthLaws.{station_length}
 
 -- the words in front
 
@@ -242,14 +244,6 @@ correction_read _ tail _ corrected e = (refl, refl)
 correction_is_no_word : (word tail : List (List ℕ)) (in_front : Bool) → IsCorrection word in_front → is_report_word (first_of tail) ≡ false → is_report_word (first_of (word ++ tail)) ≡ false
 correction_is_no_word _ tail _ uncorrected e = e
 correction_is_no_word _ tail _ corrected e = refl
-
-station_length : (station : List ℕ) → is_station station ≡ true → length station ≡ 4
-station_length [] e = absurd cc
-station_length (a ∷ []) e = absurd cc
-station_length (a ∷ b ∷ []) e = absurd cc
-station_length (a ∷ b ∷ c ∷ []) e = absurd cc
-station_length (a ∷ b ∷ c ∷ d ∷ []) e = refl
-station_length (a ∷ b ∷ c ∷ d ∷ f ∷ rest) e = absurd cc
 
 no_word : (station word : List ℕ) → is_station station ≡ true → (length word ≡ 4 → ⊥) → bytes_eq station word ≡ false
 no_word station word is other =

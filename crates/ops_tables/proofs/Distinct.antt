@@ -1,12 +1,7 @@
 -- One row more whose key is new.
-use Rattle.std.proofs.Common.{◌≡◌, sym, ap, List, [], ◌∷◌, ◌++◌, append-nil, append_assoc, Bool, true, false, ℕ, ◌<◌, ◌∙◌, refl, cond, length, arith}
-use Rattle.std.proofs.lemmas.List.{length-append}
+use Rattle.std.proofs.Common.{◌≡◌, sym, ap, List, [], ◌∷◌, ◌++◌, append-nil, append_assoc, Bool, true, false, ℕ, ◌<◌, ◌∙◌, refl, cond, length, arith, length-append, Vec, bytes_eq, BTreeMap, Global}
 use Rattle.std.proofs.lemmas.List.Elements.{All-push}
 use Rattle.std.specs.List.{list_any}
-use Rattle.std.specs.Prelude.{Vec}
-use Rattle.std.specs.Str.{bytes_eq}
-use Rattle.std.specs.BTreeMap.{BTreeMap}
-use Rattle.std.specs.declared.alloc.Global.{Global}
 use Rattle.ops_tables.specs.Grouped.{AreGrouped, group_at, rows_at}
 use Rattle.ops_tables.specs.Keys.{AreNew}
 

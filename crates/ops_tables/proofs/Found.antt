@@ -1,8 +1,5 @@
 -- Look-ups in the group of a key find what a search of all rows finds.
-use Rattle.std.proofs.Common.{◌≡◌, refl, List, [], ◌∷◌, Bool, true, false, Option, Some, None, All}
-use Rattle.std.specs.Prelude.{find, filter, is_some, IfSome}
-use Rattle.std.specs.Borrow.{Bor}
-use Rattle.std.specs.Option.{option_copied}
+use Rattle.std.proofs.Common.{◌≡◌, refl, List, [], ◌∷◌, Bool, true, false, Option, Some, None, All, find, filter, is_some, IfSome, Bor, option_copied}
 use Rattle.std.proofs.lemmas.List.Elements.{All-head, All-tail}
 
 -- a filter that keeps all that a test passes keeps the first of them

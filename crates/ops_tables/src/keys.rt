@@ -1,4 +1,9 @@
-ghost use Rattle.std.specs.Prelude.{◌≡◌};
+ghost use Rattle.std.specs.Prelude.{◌≡◌, ◌==◌, []};
+ghost use Rattle.std.specs.Str.{bytes_eq};
+ghost use Rattle.ops_tables.specs.Grouped as spec;
+ghost use Rattle.ops_tables.specs.Keys as keys;
+ghost use Rattle.ops_tables.specs.Limits as limits;
+ghost use Rattle.ops_tables.specs.SameGroup as same;
 
 use crate::grouped::{GroupName, Row, group_name};
 use crate::{
@@ -6,14 +11,11 @@ use crate::{
 };
 
 impl Row<4> for Airport {
-    ghost use Rattle.ops_tables.specs.Keys.{is_same_airport};
-    ghost use Rattle.ops_tables.specs.Limits.{FitsAirport};
-
     ghost name = { λ r. r.station };
 
-    ghost is_same_key = { is_same_airport };
+    ghost is_same_key = { keys.is_same_airport };
 
-    ghost Fits = { FitsAirport };
+    ghost Fits = { limits.FitsAirport };
 
     ghost limit = { 5_000 };
 
@@ -29,20 +31,15 @@ impl Row<4> for Airport {
 }
 
 impl Row<4> for Approach {
-    ghost use Rattle.std.specs.Str.{bytes_eq};
-    ghost use Rattle.ops_tables.specs.Keys.{is_same_approach};
-    ghost use Rattle.ops_tables.specs.Limits.{FitsApproach};
-    ghost use Rattle.ops_tables.specs.SameGroup.{first_of_two};
-
     ghost name = { λ r. r.station };
 
-    ghost is_same_key = { is_same_approach };
+    ghost is_same_key = { keys.is_same_approach };
 
-    ghost Fits = { FitsApproach };
+    ghost Fits = { limits.FitsApproach };
 
     ghost limit = { 50_000 };
 
-    ghost same_group = { λ a b h. first_of_two (bytes_eq b.station a.station) (bytes_eq b.name a.name) h };
+    ghost same_group = { λ a b h. same.first_of_two (bytes_eq b.station a.station) (bytes_eq b.name a.name) h };
 
     fn group_name(&self) -> [u8; 4] {
         self.station.bytes()
@@ -54,21 +51,15 @@ impl Row<4> for Approach {
 }
 
 impl Row<4> for AlternateRow {
-    ghost use Rattle.std.specs.Prelude.{◌==◌};
-    ghost use Rattle.std.specs.Str.{bytes_eq};
-    ghost use Rattle.ops_tables.specs.Keys.{is_same_alternate};
-    ghost use Rattle.ops_tables.specs.Limits.{FitsAlternate};
-    ghost use Rattle.ops_tables.specs.SameGroup.{first_of_three};
-
     ghost name = { λ r. r.station };
 
-    ghost is_same_key = { is_same_alternate };
+    ghost is_same_key = { keys.is_same_alternate };
 
-    ghost Fits = { FitsAlternate };
+    ghost Fits = { limits.FitsAlternate };
 
     ghost limit = { 20_000 };
 
-    ghost same_group = { λ a b h. first_of_three (bytes_eq b.station a.station) (b.ceiling == a.ceiling)
+    ghost same_group = { λ a b h. same.first_of_three (bytes_eq b.station a.station) (b.ceiling == a.ceiling)
         (b.vis16 == a.vis16) h };
 
     fn group_name(&self) -> [u8; 4] {
@@ -83,21 +74,15 @@ impl Row<4> for AlternateRow {
 }
 
 impl Row<48> for TypeRow {
-    ghost use Rattle.std.specs.Prelude.{[]};
-    ghost use Rattle.ops_tables.specs.Grouped.{group_name};
-    ghost use Rattle.ops_tables.specs.Keys.{is_same_type};
-    ghost use Rattle.ops_tables.specs.Limits.{FitsType};
-    ghost use Rattle.ops_tables.specs.SameGroup.{one_part};
+    ghost name = { λ r. spec.group_name r.kind [] [] };
 
-    ghost name = { λ r. group_name r.kind [] [] };
+    ghost is_same_key = { keys.is_same_type };
 
-    ghost is_same_key = { is_same_type };
-
-    ghost Fits = { FitsType };
+    ghost Fits = { limits.FitsType };
 
     ghost limit = { 200 };
 
-    ghost same_group = { λ a b h. one_part b.kind a.kind h };
+    ghost same_group = { λ a b h. same.one_part b.kind a.kind h };
 
     fn group_name(&self) -> GroupName {
         group_name(self.kind.bytes(), b"", b"")
@@ -109,21 +94,15 @@ impl Row<48> for TypeRow {
 }
 
 impl Row<48> for Tail {
-    ghost use Rattle.std.specs.Prelude.{[]};
-    ghost use Rattle.ops_tables.specs.Grouped.{group_name};
-    ghost use Rattle.ops_tables.specs.Keys.{is_same_tail};
-    ghost use Rattle.ops_tables.specs.Limits.{FitsTail};
-    ghost use Rattle.ops_tables.specs.SameGroup.{one_part};
+    ghost name = { λ r. spec.group_name r.tail [] [] };
 
-    ghost name = { λ r. group_name r.tail [] [] };
+    ghost is_same_key = { keys.is_same_tail };
 
-    ghost is_same_key = { is_same_tail };
-
-    ghost Fits = { FitsTail };
+    ghost Fits = { limits.FitsTail };
 
     ghost limit = { 5_000 };
 
-    ghost same_group = { λ a b h. one_part b.tail a.tail h };
+    ghost same_group = { λ a b h. same.one_part b.tail a.tail h };
 
     fn group_name(&self) -> GroupName {
         group_name(self.tail.bytes(), b"", b"")
@@ -135,21 +114,15 @@ impl Row<48> for Tail {
 }
 
 impl Row<48> for Use {
-    ghost use Rattle.std.specs.Prelude.{[]};
-    ghost use Rattle.ops_tables.specs.Grouped.{group_name};
-    ghost use Rattle.ops_tables.specs.Keys.{is_same_use};
-    ghost use Rattle.ops_tables.specs.Limits.{FitsUse};
-    ghost use Rattle.ops_tables.specs.SameGroup.{two_parts};
+    ghost name = { λ r. spec.group_name r.kind r.station [] };
 
-    ghost name = { λ r. group_name r.kind r.station [] };
+    ghost is_same_key = { keys.is_same_use };
 
-    ghost is_same_key = { is_same_use };
-
-    ghost Fits = { FitsUse };
+    ghost Fits = { limits.FitsUse };
 
     ghost limit = { 200_000 };
 
-    ghost same_group = { λ a b h. two_parts b.kind b.station a.kind a.station h };
+    ghost same_group = { λ a b h. same.two_parts b.kind b.station a.kind a.station h };
 
     fn group_name(&self) -> GroupName {
         group_name(self.kind.bytes(), &self.station.bytes(), b"")
@@ -161,21 +134,15 @@ impl Row<48> for Use {
 }
 
 impl Row<48> for Distance {
-    ghost use Rattle.std.specs.Prelude.{[]};
-    ghost use Rattle.ops_tables.specs.Grouped.{group_name};
-    ghost use Rattle.ops_tables.specs.Keys.{is_same_distance};
-    ghost use Rattle.ops_tables.specs.Limits.{FitsDistance};
-    ghost use Rattle.ops_tables.specs.SameGroup.{two_parts};
+    ghost name = { λ r. spec.group_name r.from r.to [] };
 
-    ghost name = { λ r. group_name r.from r.to [] };
+    ghost is_same_key = { keys.is_same_distance };
 
-    ghost is_same_key = { is_same_distance };
-
-    ghost Fits = { FitsDistance };
+    ghost Fits = { limits.FitsDistance };
 
     ghost limit = { 200_000 };
 
-    ghost same_group = { λ a b h. two_parts b.from b.to a.from a.to h };
+    ghost same_group = { λ a b h. same.two_parts b.from b.to a.from a.to h };
 
     fn group_name(&self) -> GroupName {
         group_name(&self.from.bytes(), &self.to.bytes(), b"")
@@ -187,20 +154,15 @@ impl Row<48> for Distance {
 }
 
 impl Row<48> for Route {
-    ghost use Rattle.std.specs.Prelude.{[]};
-    ghost use Rattle.ops_tables.specs.Grouped.{group_name};
-    ghost use Rattle.ops_tables.specs.Keys.{is_same_route};
-    ghost use Rattle.ops_tables.specs.SameGroup.{two_parts};
+    ghost name = { λ r. spec.group_name r.from r.to [] };
 
-    ghost name = { λ r. group_name r.from r.to [] };
-
-    ghost is_same_key = { is_same_route };
+    ghost is_same_key = { keys.is_same_route };
 
     ghost Fits = { λ _. Unit {0} };
 
     ghost limit = { 50_000 };
 
-    ghost same_group = { λ a b h. two_parts b.from b.to a.from a.to h };
+    ghost same_group = { λ a b h. same.two_parts b.from b.to a.from a.to h };
 
     fn group_name(&self) -> GroupName {
         group_name(&self.from.bytes(), &self.to.bytes(), b"")
@@ -212,21 +174,15 @@ impl Row<48> for Route {
 }
 
 impl Row<48> for MelRow {
-    ghost use Rattle.std.specs.Prelude.{[]};
-    ghost use Rattle.ops_tables.specs.Grouped.{group_name};
-    ghost use Rattle.ops_tables.specs.Keys.{is_same_item};
-    ghost use Rattle.ops_tables.specs.Limits.{FitsItem};
-    ghost use Rattle.ops_tables.specs.SameGroup.{two_parts};
+    ghost name = { λ r. spec.group_name r.kind r.item [] };
 
-    ghost name = { λ r. group_name r.kind r.item [] };
+    ghost is_same_key = { keys.is_same_item };
 
-    ghost is_same_key = { is_same_item };
-
-    ghost Fits = { FitsItem };
+    ghost Fits = { limits.FitsItem };
 
     ghost limit = { 50_000 };
 
-    ghost same_group = { λ a b h. two_parts b.kind b.item a.kind a.item h };
+    ghost same_group = { λ a b h. same.two_parts b.kind b.item a.kind a.item h };
 
     fn group_name(&self) -> GroupName {
         group_name(self.kind.bytes(), self.item.bytes(), b"")
@@ -238,20 +194,15 @@ impl Row<48> for MelRow {
 }
 
 impl Row<48> for ItemPair {
-    ghost use Rattle.ops_tables.specs.Grouped.{group_name};
-    ghost use Rattle.ops_tables.specs.Keys.{is_same_pair};
-    ghost use Rattle.ops_tables.specs.Limits.{FitsPair};
-    ghost use Rattle.ops_tables.specs.SameGroup.{three_parts};
+    ghost name = { λ r. spec.group_name r.kind r.item r.other };
 
-    ghost name = { λ r. group_name r.kind r.item r.other };
+    ghost is_same_key = { keys.is_same_pair };
 
-    ghost is_same_key = { is_same_pair };
-
-    ghost Fits = { FitsPair };
+    ghost Fits = { limits.FitsPair };
 
     ghost limit = { 50_000 };
 
-    ghost same_group = { λ a b h. three_parts b.kind b.item b.other a.kind a.item a.other h };
+    ghost same_group = { λ a b h. same.three_parts b.kind b.item b.other a.kind a.item a.other h };
 
     fn group_name(&self) -> GroupName {
         group_name(self.kind.bytes(), self.item.bytes(), self.other.bytes())
@@ -265,21 +216,15 @@ impl Row<48> for ItemPair {
 }
 
 impl Row<48> for Actor {
-    ghost use Rattle.std.specs.Prelude.{[]};
-    ghost use Rattle.ops_tables.specs.Grouped.{group_name};
-    ghost use Rattle.ops_tables.specs.Keys.{is_same_actor};
-    ghost use Rattle.ops_tables.specs.Limits.{FitsActor};
-    ghost use Rattle.ops_tables.specs.SameGroup.{one_part};
+    ghost name = { λ r. spec.group_name r.name [] [] };
 
-    ghost name = { λ r. group_name r.name [] [] };
+    ghost is_same_key = { keys.is_same_actor };
 
-    ghost is_same_key = { is_same_actor };
-
-    ghost Fits = { FitsActor };
+    ghost Fits = { limits.FitsActor };
 
     ghost limit = { 5_000 };
 
-    ghost same_group = { λ a b h. one_part b.name a.name h };
+    ghost same_group = { λ a b h. same.one_part b.name a.name h };
 
     fn group_name(&self) -> GroupName {
         group_name(self.name.bytes(), b"", b"")

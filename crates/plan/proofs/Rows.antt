@@ -1,33 +1,36 @@
 -- Numbers of rules, and the order of findings.
-use Rattle.std.proofs.Common.{◌≡◌, ℕ, Bool, true, false, ◌&&◌, ◌||◌, Option, None, Some, refl, ap, sym, ◌∙◌, arith}
-use Rattle.std.specs.Prelude.{nat_lt, ◌==◌}
-use Rattle.std.proofs.lemmas.Bool.{eqb-true}
+use Rattle.std.proofs.Common.{◌≡◌, ℕ, map, get_or, Bool, true, false, ◌&&◌, ◌||◌, Option, None, Some, refl, ap, sym, ◌∙◌, arith, nat_lt, ◌==◌}
+use Rattle.std.proofs.lemmas.Bool.{eqb-true, and_parts}
 use Rattle.std.proofs.lemmas.Bool.Decides.{nat_tests}
 use Rattle.plan.specs.declared.findings.Finding.{Finding}
 use Rattle.plan.specs.declared.findings.Rule.{Rule}
 use Rattle.plan.specs.declared.findings.Rule.TheVariants.{No1, No2, No3, No4, No5, No6, No7, No8, No9, No10, No11, No12, No13, No14, No15, No16, No17, No18, No19}
-use Rattle.plan.specs.Findings.{number_of, rule_of, is_same, is_before}
+use Rattle.plan.specs.Findings.{every_rule, number_of, rule_of, is_same, is_before}
+
+-- what holds of the list of all rules holds of each
+pub each_rule : {A : Type 0} (f g : Rule → A) → map f every_rule ≡ map g every_rule → (r : Rule) → f r ≡ g r
+each_rule f g same No1 = ap (λ xs. get_or xs 0 (f No1)) same
+each_rule f g same No2 = ap (λ xs. get_or xs 1 (f No2)) same
+each_rule f g same No3 = ap (λ xs. get_or xs 2 (f No3)) same
+each_rule f g same No4 = ap (λ xs. get_or xs 3 (f No4)) same
+each_rule f g same No5 = ap (λ xs. get_or xs 4 (f No5)) same
+each_rule f g same No6 = ap (λ xs. get_or xs 5 (f No6)) same
+each_rule f g same No7 = ap (λ xs. get_or xs 6 (f No7)) same
+each_rule f g same No8 = ap (λ xs. get_or xs 7 (f No8)) same
+each_rule f g same No9 = ap (λ xs. get_or xs 8 (f No9)) same
+each_rule f g same No10 = ap (λ xs. get_or xs 9 (f No10)) same
+each_rule f g same No11 = ap (λ xs. get_or xs 10 (f No11)) same
+each_rule f g same No12 = ap (λ xs. get_or xs 11 (f No12)) same
+each_rule f g same No13 = ap (λ xs. get_or xs 12 (f No13)) same
+each_rule f g same No14 = ap (λ xs. get_or xs 13 (f No14)) same
+each_rule f g same No15 = ap (λ xs. get_or xs 14 (f No15)) same
+each_rule f g same No16 = ap (λ xs. get_or xs 15 (f No16)) same
+each_rule f g same No17 = ap (λ xs. get_or xs 16 (f No17)) same
+each_rule f g same No18 = ap (λ xs. get_or xs 17 (f No18)) same
+each_rule f g same No19 = ap (λ xs. get_or xs 18 (f No19)) same
 
 pub rule_numbered : (r : Rule) → rule_of (number_of r) ≡ Some r
-rule_numbered No1 = refl
-rule_numbered No2 = refl
-rule_numbered No3 = refl
-rule_numbered No4 = refl
-rule_numbered No5 = refl
-rule_numbered No6 = refl
-rule_numbered No7 = refl
-rule_numbered No8 = refl
-rule_numbered No9 = refl
-rule_numbered No10 = refl
-rule_numbered No11 = refl
-rule_numbered No12 = refl
-rule_numbered No13 = refl
-rule_numbered No14 = refl
-rule_numbered No15 = refl
-rule_numbered No16 = refl
-rule_numbered No17 = refl
-rule_numbered No18 = refl
-rule_numbered No19 = refl
+rule_numbered = each_rule (λ r. rule_of (number_of r)) Some refl
 
 abbrev rule_in : Rule → Option Rule → Rule
 rule_in other None = other
@@ -54,18 +57,14 @@ is_before_trans f g h one two = before_trans (number_of f.rule) f.leg f.place (n
 pub is_before_other : (f g : Finding) → is_before f g ≡ false → is_same f g ≡ false → is_before g f ≡ true
 is_before_other f g one two = before_other (number_of f.rule) f.leg f.place (number_of g.rule) g.leg g.place one two
 
-and_true : (a b : Bool) → (a && b) ≡ true → (a ≡ true) × (b ≡ true)
-and_true true b e = (refl, e)
-and_true false b e = absurd (cc)
-
 abbrev the_finding : Rule → ℕ → ℕ → Finding
 the_finding r l p = record { rule = r; leg = l; place = p }
 
 -- findings that are the same are equal
 pub same_finding : (f g : Finding) → is_same f g ≡ true → f ≡ g
 same_finding f g e =
-    let rest = and_true ((number_of f.rule == number_of g.rule) && (f.leg == g.leg)) (f.place == g.place) e in
-    let both = and_true (number_of f.rule == number_of g.rule) (f.leg == g.leg) rest.0 in
+    let rest = and_parts ((number_of f.rule == number_of g.rule) && (f.leg == g.leg)) (f.place == g.place) e in
+    let both = and_parts (number_of f.rule == number_of g.rule) (f.leg == g.leg) rest.0 in
     ap (λ r. the_finding r f.leg f.place) (number_is f.rule g.rule (eqb-true (number_of f.rule) (number_of g.rule) both.0))
     ∙ ap (λ l. the_finding g.rule l f.place) (eqb-true f.leg g.leg both.1)
     ∙ ap (λ p. the_finding g.rule g.leg p) (eqb-true f.place g.place rest.1)

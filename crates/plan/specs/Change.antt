@@ -14,6 +14,7 @@ use Rattle.plan.specs.declared.flights.Leg.{Leg}
 use Rattle.plan.specs.declared.flights.Plan.{Plan}
 use Rattle.plan.specs.declared.flights.TakeoffAlternate.{TakeoffAlternate}
 use Rattle.plan.specs.declared.release.Phase.{Phase}
+use Rattle.desk_time.specs.Digits.{or_else}
 
 abbrev pub is_same_takeoff : Option TakeoffAlternate → Option TakeoffAlternate → Bool
 is_same_takeoff None None = true
@@ -68,14 +69,10 @@ abbrev pub next_fault : Option ℕ → ℕ → Option Leg → Option Leg → Opt
 next_fault in_flight n old None = Some n
 next_fault in_flight n old (Some leg) = departed_otherwise in_flight n old leg
 
-abbrev pub first_or : Option ℕ → Option ℕ → Option ℕ
-first_or None later = later
-first_or (Some n) later = Some n
-
 -- The first leg that may not be as it is: one of the flown ones that changed, or the one after them.
 abbrev pub flown_fault : Phase → List Leg → List Leg → Option ℕ
 flown_fault phase old legs =
-    first_or (first_changed 1 (take (flown phase old) old) legs) (next_fault (in_flight phase) (flown phase old + 1) (slice_get old (flown phase old)) (slice_get legs (flown phase old)))
+    or_else (first_changed 1 (take (flown phase old) old) legs) (next_fault (in_flight phase) (flown phase old + 1) (slice_get old (flown phase old)) (slice_get legs (flown phase old)))
 
 abbrev pub is_same_kind : Kind → Kind → Bool
 is_same_kind Domestic Domestic = true

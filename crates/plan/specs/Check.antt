@@ -2,8 +2,7 @@
 use Rattle.std.specs.Prelude.{ℕ, ◌+◌, ◌-◌, Bool, ◌&&◌, ◌||◌, not, true, false, ◌≤◌, nat_lt, nat_le, if◌then◌else◌, List, [], ◌∷◌, length, Option, None, Some, is_some}
 use Rattle.std.specs.List.{AllByRecursion, list_all, list_any}
 use Rattle.std.specs.Str.{bytes_eq}
-use Rattle.plan.specs.Texts.{IsMoment}
-use Rattle.desk_time.specs.Limits.{first_planned, last_planned}
+use Rattle.desk_time.specs.Limits.{IsMoment, first_planned, last_planned}
 use Rattle.stations.specs.Station.{Station}
 use Rattle.ops_tables.specs.Tables.{TableRows, tail_named, actor_of, has_airport}
 use Rattle.ops_tables.specs.declared.rows.Actor.{Actor}

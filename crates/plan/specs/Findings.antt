@@ -1,5 +1,5 @@
 -- The findings of a judgement, and their order.
-use Rattle.std.specs.Prelude.{◌≡◌, ℕ, Bool, true, ◌&&◌, ◌||◌, ◌==◌, nat_lt, if◌then◌else◌, List, [], ◌∷◌, Option, None, Some, codes}
+use Rattle.std.specs.Prelude.{◌≡◌, ℕ, Bool, true, ◌&&◌, ◌||◌, ◌==◌, nat_lt, List, [], ◌∷◌, ◌++◌, find, Option, codes}
 use Rattle.std.specs.List.{AllByRecursion, list_any}
 use Rattle.plan.specs.declared.findings.Rule.{Rule}
 use Rattle.plan.specs.declared.findings.Rule.TheVariants.{No1, No2, No3, No4, No5, No6, No7, No8, No9, No10, No11, No12, No13, No14, No15, No16, No17, No18, No19}
@@ -26,28 +26,17 @@ number_of No17 = 17
 number_of No18 = 18
 number_of No19 = 19
 
+-- the rules of legs, in their order
+abbrev pub rules_of_legs : List Rule
+rules_of_legs = No1 ∷ No2 ∷ No3 ∷ No4 ∷ No5 ∷ No6 ∷ No7 ∷ No8 ∷ No9 ∷ No10 ∷ No11 ∷ No12 ∷ No13 ∷ No14 ∷ No15 ∷ No16 ∷ No17 ∷ No18 ∷ []
+
+-- every rule: those of legs, and that of the tables
+abbrev pub every_rule : List Rule
+every_rule = rules_of_legs ++ No19 ∷ []
+
 -- the rule of a number
 abbrev pub rule_of : ℕ → Option Rule
-rule_of number =
-    if number == 1 then Some No1
-    else (if number == 2 then Some No2
-    else (if number == 3 then Some No3
-    else (if number == 4 then Some No4
-    else (if number == 5 then Some No5
-    else (if number == 6 then Some No6
-    else (if number == 7 then Some No7
-    else (if number == 8 then Some No8
-    else (if number == 9 then Some No9
-    else (if number == 10 then Some No10
-    else (if number == 11 then Some No11
-    else (if number == 12 then Some No12
-    else (if number == 13 then Some No13
-    else (if number == 14 then Some No14
-    else (if number == 15 then Some No15
-    else (if number == 16 then Some No16
-    else (if number == 17 then Some No17
-    else (if number == 18 then Some No18
-    else (if number == 19 then Some No19 else None))))))))))))))))))
+rule_of number = find (λ r. number_of r == number) every_rule
 
 -- the section of 14 CFR that a rule stands in, or a name of the desk's own
 abbrev pub code_of : Rule → List ℕ

@@ -1,6 +1,7 @@
 -- How findings and phases are written.
-use Rattle.std.specs.Prelude.{ℕ, ◌≤◌, Bool, true, false, List, [], ◌∷◌, ◌++◌, codes, decimal}
+use Rattle.std.specs.Prelude.{ℕ, Bool, true, false, List, [], ◌∷◌, ◌++◌, codes, decimal}
 use Rattle.std.specs.List.{concat}
+use Rattle.desk_time.specs.Limits.{IsMoment}
 use Rattle.desk_time.specs.Moments.{shown}
 use Rattle.plan.specs.Findings.{code_of}
 use Rattle.plan.specs.declared.findings.Finding.{Finding}
@@ -22,10 +23,6 @@ phase_text (Flying leg) = codes "FLYING " ++ decimal leg
 phase_text (Stopped next since again) = concat (codes "STOPPED " ∷ decimal next ∷ codes " " ∷ shown since ∷ again_text again ∷ [])
 phase_text (Completed at) = codes "COMPLETED " ++ shown at
 phase_text (Cancelled at) = codes "CANCELLED " ++ shown at
-
--- a moment that can be read and shown
-abbrev pub IsMoment : ℕ → Type 0
-IsMoment m = (15_778_080 ≤ m) × (m ≤ 68_374_079)
 
 abbrev pub HasMoment : Phase → Type 0
 HasMoment Drafted = Unit {0}

@@ -69,6 +69,36 @@ impl Copied for Finding {
     }
 }
 
+/// Every rule, in their order.
+pub const EVERY_RULE: [Rule; 19] = [
+    Rule::No1,
+    Rule::No2,
+    Rule::No3,
+    Rule::No4,
+    Rule::No5,
+    Rule::No6,
+    Rule::No7,
+    Rule::No8,
+    Rule::No9,
+    Rule::No10,
+    Rule::No11,
+    Rule::No12,
+    Rule::No13,
+    Rule::No14,
+    Rule::No15,
+    Rule::No16,
+    Rule::No17,
+    Rule::No18,
+    Rule::No19,
+];
+
+/// The rules of legs: every one but the last, which speaks of the tables.
+pub fn rules_of_legs() -> &'static [Rule]
+    ensures { result.now ≡ spec.rules_of_legs }
+{
+    &EVERY_RULE[..18]
+}
+
 impl Rule {
     /// Its number.
     pub fn number(self) -> u8

@@ -1,5 +1,6 @@
 ghost use Rattle.std.specs.Prelude.{◌≡◌, ◌∷◌, [], ◌++◌, codes, decimal, IfOk};
 ghost use Rattle.std.specs.List.{concat};
+ghost use Rattle.desk_time.specs.Limits.{IsMoment};
 ghost use Rattle.desk_time.specs.Moments.{shown};
 ghost use Rattle.plan.specs.Texts as spec;
 
@@ -42,7 +43,7 @@ fn stopped_text(
     since: Minute,
     again: bool,
 ) -> Result<Vec<u8>, OutOfMemory>
-    requires { spec.IsMoment since }
+    requires { IsMoment since }
     ensures { IfOk result (λ v. v.items ≡ concat (codes "STOPPED " ∷ decimal next ∷ codes " " ∷ shown since ∷
         spec.again_text again ∷ [])) }
 {
@@ -63,7 +64,7 @@ fn stopped_text(
 
 // A word and a moment.
 fn ended_text(alloc: Global, word: &[u8], at: Minute) -> Result<Vec<u8>, OutOfMemory>
-    requires { spec.IsMoment at }
+    requires { IsMoment at }
     ensures { IfOk result (λ v. v.items ≡ word.now ++ shown at) }
 {
     let mut out = Vec::from_slice(alloc, word)?;

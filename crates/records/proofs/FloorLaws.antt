@@ -1,11 +1,10 @@
 -- Floors as members of an object, in the order of their names.
-use Rattle.std.proofs.Common.{◌≡◌, ℕ, true, List, [], ◌∷◌, Some, refl, sym, ap, ◌∙◌, subst, arith, nat_cmp, Less, Greater, Ordering, is_lt}
+use Rattle.std.proofs.Common.{◌≡◌, ℕ, true, List, [], ◌∷◌, Some, refl, sym, ap, ◌∙◌, subst, arith, nat_cmp, Less, is_lt}
 use Rattle.std.specs.List.{AllByRecursion}
-use Rattle.std.specs.Ordering.{ordering_reverse}
 use Rattle.std.specs.Cmp.Lexicographic.{slice_cmp}
 use Rattle.std.proofs.lemmas.Bool.{and_parts}
 use Rattle.std.proofs.lemmas.Cmp.{nat_list_cmp_total}
-use Rattle.serde_json.specs.Data.{Data, Members, no_members, member, put, members_depth}
+use Rattle.serde_json.specs.Data.{Members, no_members, member, put, members_depth}
 use Rattle.asks.specs.declared.kept.Floor.{Floor}
 use Rattle.call_json.specs.Canonical.{count}
 use Rattle.call_json.specs.Plain.{IsBefore, AreInOrder, MembersArePlain, MembersHaveText}
@@ -16,29 +15,8 @@ use Rattle.records.specs.Reading.{floor_of, floors_in}
 use Rattle.call_json.specs.Forms.{IsFloor, FloorsRise}
 use Rattle.records.specs.Valid.{comes_before, are_rising}
 use Rattle.records.proofs.NameLaws.{person_lossy, person_known}
-
-abbrev joined : Members → Members → Members
-joined no_members more = more
-joined (member k d ms) more = member k d (joined ms more)
-
-joined_again : (a b c : Members) → joined (joined a b) c ≡ joined a (joined b c)
-joined_again no_members b c = refl
-joined_again (member k d ms) b c = ap (member k d) (joined_again ms b c)
-
-joined_nothing : (ms : Members) → joined ms no_members ≡ ms
-joined_nothing no_members = refl
-joined_nothing (member k d ms) = ap (member k d) (joined_nothing ms)
-
-before_later : (key : List ℕ) (ms : Members) (k : List ℕ) (d : Data) (more : Members) → IsBefore key (joined ms (member k d more)) → slice_cmp nat_cmp key k ≡ Less
-before_later key no_members k d more is = is.0
-before_later key (member l e ms) k d more is = before_later key ms k d more is.1
-
--- a key behind all others is put at the end
-put_last : (ms : Members) (k : List ℕ) (d : Data) (more : Members) → AreInOrder (joined ms (member k d more)) → put k d ms ≡ joined ms (member k d no_members)
-put_last no_members k d more order = refl
-put_last (member l e ms) k d more order =
-    let behind : slice_cmp nat_cmp k l ≡ Greater = nat_list_cmp_total.antisymm k l ∙ ap ordering_reverse (before_later l ms k d more order.0) in
-    rw behind (ap (member l e) (put_last ms k d more order.1))
+use Rattle.call_json.proofs.Joined.{joined, joined_again, joined_nothing, put_last}
+use Rattle.call_json.proofs.Plain.{less}
 
 -- the members one after another
 abbrev pub in_turn : List Floor → Members
@@ -95,9 +73,6 @@ next_rises name (f ∷ fs) all = ap is_lt all.0
 pub rising_tested : (fs : List Floor) → FloorsRise fs → are_rising fs ≡ true
 rising_tested [] rising = refl
 rising_tested (f ∷ fs) rising = rw (next_rises f.actor fs rising.0, rising_tested fs rising.1) refl
-
-less : (o : Ordering) → is_lt o ≡ true → o ≡ Less
-less o is = grind arith
 
 all_later : (name key : List ℕ) (fs : List Floor) → slice_cmp nat_cmp name key ≡ Less → AllByRecursion (λ (g : Floor). slice_cmp nat_cmp key g.actor ≡ Less) fs
     → AllByRecursion (λ (g : Floor). slice_cmp nat_cmp name g.actor ≡ Less) fs

@@ -13,21 +13,21 @@ use Rattle.codes.specs.Groups.{groups_of, canonical}
 use Rattle.ops_tables.specs.Forms.{is_tail, is_item}
 use Rattle.facts.specs.Reading.{read_of}
 use Rattle.plan.specs.Findings.{AreAmong, is_among}
-use Rattle.plan.specs.Texts.{IsMoment}
+use Rattle.desk_time.specs.Limits.{IsMoment}
 use Rattle.plan.specs.declared.findings.Finding.{Finding}
 use Rattle.asks.specs.declared.kept.Floor.{Floor}
 use Rattle.call_json.specs.Forms.{IsId, DoneHasForms, IsFinding, IsRequest, IsFloor, FloorsRise}
 use Rattle.call_json.specs.Digests.{digest_at, IsDigest}
 use Rattle.call_json.specs.Dones.{done_of}
-use Rattle.call_json.specs.Fields.{text_at, up_to, number_at, id_at, moment_at, list_at, each_read, has_members}
-use Rattle.call_json.proofs.DoneForms.{done_formed}
-use Rattle.desk_time.proofs.Chains.{bind_if, bind_any, then_if, under, either}
+use Rattle.call_json.specs.Fields.{text_at, number_at, id_at, moment_at, list_at, each_read, has_members}
+use Rattle.call_json.proofs.DoneForms.{done_formed, digest_is}
+use Rattle.desk_time.proofs.Chains.{bind_if, bind_any, then_if, under, either, both_held, mapped}
 use Rattle.call_json.proofs.PlanForms.{id_formed, moment_formed, each_formed}
 use Rattle.kept_releases.specs.Findings.{finding_of, finding_in, are_in_order, findings_of}
 use Rattle.kept_releases.proofs.FindingLaws.{finding_formed, order_tested}
 use Rattle.kept_releases.specs.Kept.{IsKept}
 use Rattle.kept_releases.specs.Releases.{bool_at, person, person_at, release_of}
-use Rattle.kept_releases.proofs.ReleaseForms.{IsPerson, digest_at_formed, person_formed, person_at_formed, release_kept, release_named}
+use Rattle.kept_releases.proofs.ReleaseForms.{IsPerson, person_formed, person_at_formed, release_kept, release_named}
 use Rattle.records.specs.Reading as read
 use Rattle.records.specs.Valid.{IsMeta, IsReport, IsDeferral, IsKeptReply, AreFindings, IsKeptAlert, IsRecord, are_rising, is_report, are_among}
 use Rattle.records.specs.declared.alert_rows.Opening.{Opening}
@@ -36,6 +36,7 @@ use Rattle.records.specs.declared.meta_rows.Numbers.{Numbers}
 use Rattle.records.specs.declared.record.KeptReport.{KeptReport}
 use Rattle.records.specs.declared.record.Record.TheVariants.{Meta, Report, Deferral, Release, Kept, Alert}
 use Rattle.records.proofs.FloorLaws.{rising_from_test}
+use Rattle.desk_time.specs.Moments.{up_to}
 
 -- ---- fields
 
@@ -158,7 +159,7 @@ stamp_formed : (d : Data) → IfSome (read.stamp_of d) IsStamp
 unfolding read.stamp_of
 stamp_formed d =
     bind_if (moment_at (codes "at") d) _ IsMoment IsStamp (moment_formed (codes "at") d) (λ at one.
-    bind_if (digest_at (codes "digest") d) _ IsDigest IsStamp (digest_at_formed (codes "digest") d) (λ digest two.
+    bind_if (digest_at (codes "digest") d) _ IsDigest IsStamp (digest_is (codes "digest") d) (λ digest two.
     bind_if (number_at (codes "number") 1_000_000_000_000 d) _ IsRequest IsStamp (small_formed 1_000_000_000_000 (option_and_then as_u64 (option_and_then as_number (get (codes "number") d)))) (λ number three.
     bind_if (read.done_at d) _ DoneHasForms IsStamp (done_at_formed d) (λ done four.
     under (has_members 5 d) _ IsStamp (λ exact. record { at = one; digest = two; number = three; done = four })))))
@@ -226,14 +227,6 @@ alert_formed id d few =
     }))))
 
 -- ---- records
-
-mapped : {A B : Type 0} (f : A → B) (o : Option A) (P : A → Type 0) (Q : B → Type 0) → IfSome o P → ((x : A) → P x → Q (f x)) → IfSome (option_map f o) Q
-mapped f None P Q held next = tt
-mapped f (Some x) P Q held next = next x held
-
-both_held : {A : Type 0} (o : Option A) (P Q : A → Type 0) → IfSome o P → IfSome o Q → IfSome o (λ x. P x × Q x)
-both_held None P Q one two = tt
-both_held (Some x) P Q one two = (one, two)
 
 release_formed : (id : ℕ) (d : Data) → IsId id → IfSome (option_map Release (release_of id d)) IsRecord
 unfolding IsRecord

@@ -8,7 +8,7 @@ use Rattle.std.proofs.lemmas.Str.{utf8_valid_len-IsUtf8}
 use Rattle.serde_json.specs.Written.{compact_text}
 use Rattle.desk_io.specs.declared.rows.Row.{Row}
 use Rattle.desk_time.specs.Digits.{◌>>=◌}
-use Rattle.desk_time.proofs.Chains.{bind_if, bind_any, weaker}
+use Rattle.desk_time.proofs.Chains.{bind_if, bind_any}
 use Rattle.call_json.specs.Fields.{data_of}
 use Rattle.call_json.proofs.Compact.{read_compact, utf8_compact}
 use Rattle.kept_releases.proofs.ReleaseForms.{moments_formed}
@@ -21,6 +21,7 @@ use Rattle.records.specs.declared.record.Record.TheVariants.{Meta, Report, Defer
 use Rattle.records.proofs.AgainRows.{record_again}
 use Rattle.records.proofs.Formed.{record_formed}
 use Rattle.records.proofs.PlainRows.{body_plain, body_has_text, body_depth}
+use Rattle.std.proofs.lemmas.Option.{IfSome_then}
 
 -- the moments of a valid record can be shown
 pub valid_moments : (r : Record) → IsRecord r → HasMoments r
@@ -49,7 +50,7 @@ found_valid row = bind_any (data_of row.body) (spec.record_of row.kind row.key) 
 
 -- what is found can be shown
 pub found_moments : (row : Row) (found : Option Record) → found ≡ spec.found_in row → IfSome found HasMoments
-found_moments row found is = subst (λ o. IfSome o HasMoments) (sym is) (weaker (spec.found_in row) (found_valid row) valid_moments)
+found_moments row found is = subst (λ o. IfSome o HasMoments) (sym is) (IfSome_then (spec.found_in row) (found_valid row) valid_moments)
 
 -- ---- rows that are the same
 

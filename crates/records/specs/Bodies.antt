@@ -7,7 +7,7 @@ use Rattle.asks.specs.declared.kept.Floor.{Floor}
 use Rattle.asks.specs.declared.kept.KeptReply.{KeptReply}
 use Rattle.deferrals.specs.declared.items.Deferral.{Deferral as DeferralOf}
 use Rattle.desk_io.specs.declared.rows.Row.{Row}
-use Rattle.plan.specs.Texts.{IsMoment}
+use Rattle.desk_time.specs.Limits.{IsMoment}
 use Rattle.call_json.specs.Canonical.{count, text_data, moment_data, done_data}
 use Rattle.call_json.specs.Digests.{digest_data}
 use Rattle.kept_releases.specs.Findings.{findings_data}

@@ -14,7 +14,7 @@ use Rattle.deferrals.specs.declared.items.Deferral.{Deferral as DeferralOf}
 use Rattle.desk_io.specs.declared.rows.Row.{Row}
 use Rattle.call_json.specs.Digests.{digest_at}
 use Rattle.call_json.specs.Dones.{done_of}
-use Rattle.call_json.specs.Fields.{data_of, text_at, up_to, number_at, id_at, moment_at, list_at, has_members}
+use Rattle.call_json.specs.Fields.{data_of, text_at, number_at, id_at, moment_at, list_at, has_members}
 use Rattle.kept_releases.specs.Findings.{findings_of}
 use Rattle.kept_releases.specs.Releases.{bool_at, person, person_at, release_of}
 use Rattle.records.specs.Bodies.{row_of}
@@ -29,6 +29,7 @@ use Rattle.records.specs.declared.record.Record.{Record}
 use Rattle.records.specs.declared.record.Record.TheVariants.{Meta, Report, Deferral, Release, Kept, Alert}
 use Rattle.records.specs.declared.reading.RowFault.{RowFault}
 use Rattle.records.specs.declared.reading.RowFault.TheVariants.{NotCanonical, OutOfMemory}
+use Rattle.desk_time.specs.Moments.{up_to}
 
 -- ---- the meta row
 

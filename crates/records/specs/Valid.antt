@@ -7,7 +7,7 @@ use Rattle.std.specs.Str.{bytes_eq}
 use Rattle.codes.specs.Groups.{groups_of, canonical}
 use Rattle.ops_tables.specs.Forms.{is_tail, is_item, is_person}
 use Rattle.plan.specs.Findings.{AreInOrder, AreAmong, is_among}
-use Rattle.plan.specs.Texts.{IsMoment}
+use Rattle.desk_time.specs.Limits.{IsMoment}
 use Rattle.plan.specs.declared.findings.Finding.{Finding}
 use Rattle.asks.specs.declared.kept.Floor.{Floor}
 use Rattle.asks.specs.declared.kept.KeptReply.{KeptReply}

@@ -1,5 +1,5 @@
 ghost use Rattle.std.specs.Prelude.{◌≡◌, ◌∷◌, [], IfOk};
-ghost use Rattle.plan.specs.Texts.{IsMoment};
+ghost use Rattle.desk_time.specs.Limits.{IsMoment};
 ghost use Rattle.kept_releases.specs.Rows.{ReleaseHasMoments};
 ghost use Rattle.serde_json.specs.Data.{object, no_members};
 ghost use Rattle.serde_json.specs.View.{view, members_view};
@@ -99,9 +99,9 @@ fn alert_members(alloc: Global, alert: &KeptAlert) -> Result<Members, OutOfMemor
 {
     let acknowledged = Value::Bool(alert.acknowledged);
     let members = with_value(alloc, Map::new(alloc), "acknowledged", acknowledged)?;
-    let ever = findings_value(alloc, &alert.ever)?;
+    let ever = findings_value(alloc, alert.ever.as_slice())?;
     let members = with_value(alloc, members, "ever", ever)?;
-    let failing = findings_value(alloc, &alert.failing)?;
+    let failing = findings_value(alloc, alert.failing.as_slice())?;
     let members = with_value(alloc, members, "failing", failing)?;
     let members = with_moment(alloc, members, "opened", alert.opened)?;
     with_count(alloc, members, "version", alert.version)

@@ -1,6 +1,6 @@
 ghost use Rattle.std.specs.Prelude.{◌≡◌, codes, IfOk, option_and_then};
 ghost use Rattle.std.specs.Option.{option_map};
-ghost use Rattle.plan.specs.Texts.{IsMoment};
+ghost use Rattle.desk_time.specs.Limits.{IsMoment};
 ghost use Rattle.call_json.specs.Dones.{done_of};
 ghost use Rattle.call_json.specs.Fields.{text_at};
 ghost use Rattle.kept_releases.specs.Releases.{person_at};

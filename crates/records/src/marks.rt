@@ -1,6 +1,6 @@
 ghost use Rattle.std.specs.Prelude.{◌≡◌, ◌≤◌, ◌<◌, ℕ, if◌then◌else◌, Some, map, length, unwrap_or, IfOk, OnOk};
 ghost use Rattle.std.specs.BTreeMap.{is_at};
-ghost use Rattle.plan.specs.Texts.{IsMoment};
+ghost use Rattle.desk_time.specs.Limits.{IsMoment};
 ghost use Rattle.records.specs.Faults.{minute_of};
 ghost use Rattle.records.specs.Marks as spec;
 ghost use Rattle.records.specs.Valid.{IsRecord};

@@ -14,9 +14,10 @@ use Rattle.facts.specs.Latest.{latest_metar, latest_taf, IsLatest}
 use Rattle.facts.proofs.LatestLaws.{latest_is}
 use Rattle.plan.specs.declared.release.Attached.{Attached}
 use Rattle.release_text.specs.Concerned.{AreAmong, concerned, is_among}
-use Rattle.release_text.proofs.StationLaws.{all_among, both_parts}
+use Rattle.release_text.proofs.StationLaws.{all_among}
 use Rattle.release_text.specs.Weather.{attached_of, attached_to, is_attached, latest_at, latest_of, least_new, new_id, newer_than, weather_for, where_held}
 use Rattle.release_text.specs.Laws.{AreAttached, AreLatest, IsLatestOfOne, IsNoneNewer}
+use Rattle.desk_io.proofs.Each.{each_append}
 
 none_of_two : (a b : Option ℕ) → lesser a b ≡ None → (a ≡ None) × (b ≡ None)
 none_of_two None b h = (refl, h)
@@ -97,7 +98,7 @@ at_station : (reports : List Report) (stations : List Station) (station : Statio
 at_station reports stations station one =
     subst (λ l. AllByRecursion (IsLatestOfOne reports stations) l)
     (sym (mapped (where_held (latest_metar reports station)) (where_held (latest_taf reports station))))
-    (both_parts (IsLatestOfOne reports stations) _ _
+    (each_append (IsLatestOfOne reports stations) _ _
     (of_kind kind.Observation reports stations station (latest_metar reports station) one (latest_is kind.Observation station reports (latest_metar reports station) refl))
     (of_kind kind.Forecast reports stations station (latest_taf reports station) one (latest_is kind.Forecast station reports (latest_taf reports station) refl)))
 
@@ -107,7 +108,7 @@ at_stations reports stations [] h = tt
 at_stations reports stations (s ∷ some) h =
     subst (λ l. AllByRecursion (IsLatestOfOne reports stations) l)
     (sym (mapped (latest_at reports s) (latest_of reports some)))
-    (both_parts (IsLatestOfOne reports stations) _ _ (at_station reports stations s h.0) (at_stations reports stations some h.1))
+    (each_append (IsLatestOfOne reports stations) _ _ (at_station reports stations s h.0) (at_stations reports stations some h.1))
 
 pub are_latest : (reports : List Report) (plan : Plan) (phase : Phase) → AreLatest reports plan phase (attached_to reports plan phase)
 unfolding attached_to weather_for

@@ -13,29 +13,17 @@ use Rattle.facts.specs.declared.report.Report.{Report}
 use Rattle.plan.specs.declared.release.Attached.{Attached}
 use Rattle.release_text.specs.Concerned.{arrival_stations, departure_stations, leg_stations, is_among, with_station, with_stations, stations_from, concerned}
 use Rattle.release_text.specs.Weather.{latest_at, latest_of, new_id, least_new, newer_of, newer_than, weather_for}
-
-pub lesser_none : (a : Option ℕ) → lesser a None ≡ a
-lesser_none None = refl
-lesser_none (Some x) = refl
+use Rattle.codes.proofs.CondLaws.{lesser_comm, lesser_none, lesser_assoc}
 
 pub lesser_in_turn : (a b c : Option ℕ) → lesser (lesser a b) c ≡ lesser a (lesser b c)
-lesser_in_turn None b c = refl
-lesser_in_turn (Some x) None c = refl
-lesser_in_turn (Some x) (Some y) None = refl
-lesser_in_turn (Some x) (Some y) (Some z) = ap (λ n. Some n) (omega arith)
-
-lesser_swapped : (a b : Option ℕ) → lesser a b ≡ lesser b a
-lesser_swapped None None = refl
-lesser_swapped None (Some y) = refl
-lesser_swapped (Some x) None = refl
-lesser_swapped (Some x) (Some y) = ap (λ n. Some n) (omega arith)
+lesser_in_turn a b c = sym (lesser_assoc a b c)
 
 lesser_same : (a : Option ℕ) → lesser a a ≡ a
 lesser_same None = refl
 lesser_same (Some x) = ap (λ n. Some n) (omega arith)
 
 again : (a b : Option ℕ) → lesser (lesser a b) a ≡ lesser a b
-again a b = lesser_swapped (lesser a b) a ∙ sym (lesser_in_turn a a b) ∙ ap (λ n. lesser n b) (lesser_same a)
+again a b = lesser_comm (lesser a b) a ∙ sym (lesser_in_turn a a b) ∙ ap (λ n. lesser n b) (lesser_same a)
 
 among_rest : (same rest : Bool) → same ≡ false → (same || rest) ≡ true → rest ≡ true
 among_rest true rest e h = absurd cc

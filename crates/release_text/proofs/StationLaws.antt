@@ -1,6 +1,5 @@
 -- Stations that are added in turn.
 use Rattle.std.proofs.Common.{◌≡◌, ◌<◌, ◌+◌, ℕ, List, [], ◌∷◌, ◌++◌, length, get_or, drop, Bool, true, false, cond, ◌||◌, IsTrue, refl, ap, subst, sym, ◌∙◌}
-use Rattle.std.specs.List.{AllByRecursion}
 use Rattle.std.specs.Str.{bytes_eq}
 use Rattle.std.proofs.lemmas.Slice.Eq.{bytes_eq-Decides}
 use Rattle.std.proofs.lemmas.List.{drop_more}
@@ -10,6 +9,8 @@ use Rattle.plan.specs.declared.flights.Plan.{Plan}
 use Rattle.plan.specs.declared.release.Phase.{Phase}
 use Rattle.plan.specs.Phases.{standing}
 use Rattle.release_text.specs.Concerned.{AreAmong, AreDistinct, AreOnceEach, concerned, is_among, leg_stations, stations_from, with_station, with_stations}
+use Rattle.std.proofs.lemmas.Bool.{or_parts}
+use Rattle.desk_io.proofs.Each.{each_append}
 
 -- of two lists first all of the one, and then all of the other
 pub with_more : (found more last : List Station) → with_stations found (more ++ last) ≡ with_stations (with_stations found more) last
@@ -24,11 +25,6 @@ next_leg phase n legs i leg found next within is h =
     ap (λ f. with_stations f (stations_from phase (n + 1) (drop (i + 1) legs))) h
     ∙ sym (with_more found (leg_stations (standing phase n) leg) (stations_from phase (n + 1) (drop (i + 1) legs)))
     ∙ ap (λ ls. with_stations found (stations_from phase n ls)) (sym (drop_more legs i leg within ∙ ap (λ l. l ∷ drop (i + 1) legs) (sym is)))
-
--- what holds of each of two lists holds of each of both
-pub both_parts : {X : Type 0} (P : X → Type 0) (xs ys : List X) → AllByRecursion P xs → AllByRecursion P ys → AllByRecursion P (xs ++ ys)
-both_parts P [] ys h k = k
-both_parts P (x ∷ xs) ys h k = (h.0, both_parts P xs ys h.1 k)
 
 among_here : (s : Station) (stations : List Station) → IsTrue (is_among (s ∷ stations) s)
 among_here s stations = here (bytes_eq s s) (is_among stations s) ((bytes_eq-Decides s s).1 refl)
@@ -52,16 +48,12 @@ pub all_among : (stations : List Station) → AreAmong stations stations
 all_among [] = tt
 all_among (s ∷ stations) = (among_here s stations, more_among s stations stations (all_among stations))
 
-neither : (a b : Bool) → (a || b) ≡ false → (a ≡ false) × (b ≡ false)
-neither true b h = absurd cc
-neither false b h = (refl, h)
-
 -- one more at the end, that isn't among them
 last_once : (found : List Station) (s : Station) → is_among found s ≡ false → AreDistinct found → AreDistinct (found ++ s ∷ [])
 last_once [] s new h = (tt, tt)
 last_once (f ∷ found) s new h =
-    let apart = neither (bytes_eq f s) (is_among found s) new in
-    (both_parts (λ t. bytes_eq f t ≡ false) found (s ∷ []) h.0 (apart.0, tt), last_once found s apart.1 h.1)
+    let apart = or_parts (bytes_eq f s) (is_among found s) new in
+    (each_append (λ t. bytes_eq f t ≡ false) found (s ∷ []) h.0 (apart.0, tt), last_once found s apart.1 h.1)
 
 one_once : (found : List Station) (s : Station) (among : Bool) → is_among found s ≡ among → AreDistinct found → AreDistinct (cond among found (found ++ s ∷ []))
 one_once found s true is h = h
@@ -102,7 +94,7 @@ all_added found (s ∷ more) = (kept (with_station found s) more s (added found 
 
 only_one : (every found : List Station) (s : Station) (among : Bool) → AreAmong every found → IsTrue (is_among every s) → AreAmong every (cond among found (found ++ s ∷ []))
 only_one every found s true h one = h
-only_one every found s false h one = both_parts (λ t. IsTrue (is_among every t)) found (s ∷ []) h (one, tt)
+only_one every found s false h one = each_append (λ t. IsTrue (is_among every t)) found (s ∷ []) h (one, tt)
 
 only_added : (every found more : List Station) → AreAmong every found → AreAmong every more → AreAmong every (with_stations found more)
 only_added every found [] h k = h

@@ -34,7 +34,8 @@ use Rattle.rules.specs.Weather.{is_below_landing}
 use Rattle.rules.specs.TakeoffAlternates.{needs_takeoff_alternate, is_far, is_below_there, has_low_takeoff_alternate}
 use Rattle.rules.specs.DestinationAlternates.{is_domestic, is_flag, lists_none, needs_alternate, margin, is_marginal_landing, is_marginal_at, are_marginal, lacks_second_alternate, is_free, place_if, places_from, low_alternates}
 use Rattle.rules.specs.Fuel.{is_within_states, required_fuel}
-use Rattle.rules.specs.Judgement.{rules_of_legs, is_of_departure, places_of, places_at, places_in_case, places_for, case_unless, case_for, findings_by, findings_of_tables, findings_of}
+use Rattle.rules.specs.Judgement.{is_of_departure, places_of, places_at, places_in_case, places_for, case_unless, case_for, findings_by, findings_of_tables, findings_of}
+use Rattle.plan.specs.Findings.{rules_of_legs}
 use Rattle.rules.specs.Time.{late_places}
 use Rattle.rules.specs.Frame.{SameLatest, with_reports}
 

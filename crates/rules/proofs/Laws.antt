@@ -1,18 +1,14 @@
 -- Findings stand in order, each once, each says the truth, and none is left out.
-use Rattle.std.proofs.Common.{◌≡◌, ℕ, ◌+◌, ◌<◌, ◌≤◌, Bool, true, false, cond, List, [], ◌∷◌, ◌++◌, length, Contains, Option, None, Some, inl, inr, append-nil, refl, sym, subst, arith}
-use Rattle.std.specs.Prelude.{not}
+use Rattle.std.proofs.Common.{◌≡◌, ℕ, ◌<◌, List, [], ◌++◌, Contains, Option, None, Some, inl, inr, append-nil, refl, sym, subst, arith}
 use Rattle.std.specs.List.{AllByRecursion}
 use Rattle.std.specs.Option.{option_map}
-use Rattle.std.proofs.lemmas.Bool.{leb-true}
 use Rattle.std.proofs.lemmas.List.Kept.{AllPairs-filter}
 use Rattle.std.proofs.lemmas.List.Elements.{All-contains_itself, Contains-append_left, Contains-append_right}
 use Rattle.ops_tables.specs.declared.rows.TypeRow.{TypeRow}
-use Rattle.ops_tables.specs.Tables.{TableRows, type_of}
-use Rattle.plan.specs.Check.{has_airports, has_few_alternates, is_repeated, flight_fault, leg_fault, fault_or, first_fault, whole_fault, plan_fault}
-use Rattle.plan.specs.Findings.{AreInOrder}
+use Rattle.ops_tables.specs.Tables.{type_of}
+use Rattle.plan.specs.Check.{plan_fault}
+use Rattle.plan.specs.Findings.{AreInOrder, rules_of_legs}
 use Rattle.plan.specs.declared.check.BadPlan.{BadPlan}
-use Rattle.plan.specs.declared.check.PlanWhy.{PlanWhy}
-use Rattle.plan.specs.declared.check.PlanWhy.TheVariants.{NoAirport, Count, Repeated}
 use Rattle.plan.specs.declared.flights.Plan.{Plan}
 use Rattle.plan.specs.declared.flights.Leg.{Leg}
 use Rattle.plan.specs.declared.release.Phase.{Phase}
@@ -23,36 +19,11 @@ use Rattle.deferrals.specs.Held.{AreRising}
 use Rattle.deferrals.specs.Limits.{is_of}
 use Rattle.rules.specs.Grounds.{Grounds}
 use Rattle.rules.specs.Circumstances.{Case, case_of}
-use Rattle.rules.specs.Judgement.{rules_of_legs, case_unless, case_for, places_for, finding, findings_by, tables_finding, findings_of_tables, findings_of, IsTrueOf, NamesAll}
-use Rattle.rules.proofs.Rising.{each_append, each_weaker, each_of}
+use Rattle.rules.specs.Judgement.{case_unless, case_for, places_for, finding, findings_by, tables_finding, findings_of_tables, findings_of, IsTrueOf, NamesAll}
 use Rattle.rules.proofs.Order.{rules_in_order, RisesAt, FitsCase, in_order_then, no_place, places_for_rise}
 use Rattle.rules.proofs.Truth.{each_of_all, Says, true_rules, named}
-
--- a leg of a plan that passes its tests has at most three alternates
-abbrev HasFew : Leg → Type 0
-HasFew leg = length leg.alternates ≤ 3
-
-no_fault : (why : Option PlanWhy) (n : ℕ) (later : Option BadPlan) → fault_or why n later ≡ None → (why ≡ None) × (later ≡ None)
-no_fault None n later e = (refl, e)
-no_fault (Some why) n later e = absurd (cc)
-
-few_by : (airports few : Bool) (rest : Option PlanWhy) → cond (not airports) (Some NoAirport) (cond (not few) (Some Count) rest) ≡ None → few ≡ true
-few_by true true rest e = refl
-few_by true false rest e = absurd (cc)
-few_by false few rest e = absurd (cc)
-
-few_of : (tables : TableRows) (before : Option Leg) (leg : Leg) → leg_fault tables before leg ≡ None → HasFew leg
-few_of tables before leg e = leb-true (length leg.alternates) 3 (few_by (has_airports tables leg) (has_few_alternates leg) (cond (is_repeated leg) (Some Repeated) (flight_fault before leg)) e)
-
-few_from : (tables : TableRows) (n : ℕ) (before : Option Leg) (legs : List Leg) → first_fault tables n before legs ≡ None → AllByRecursion HasFew legs
-few_from tables n before [] e = tt
-few_from tables n before (leg ∷ legs) e =
-    let none = no_fault (leg_fault tables before leg) n (first_fault tables (n + 1) (Some leg) legs) e in
-    (few_of tables before leg none.0, few_from tables (n + 1) (Some leg) legs none.1)
-
-few_alternates : (tables : TableRows) (plan : Plan) → plan_fault tables plan ≡ None → AllByRecursion HasFew plan.legs
-unfolding plan_fault
-few_alternates tables plan e = few_from tables 1 None plan.legs (no_fault (whole_fault tables plan) 0 (first_fault tables 1 None plan.legs) e).1
+use Rattle.desk_io.proofs.Each.{each_append, each_weaker, each_of}
+use Rattle.plan.proofs.FewAlternates.{HasFew, few_alternates}
 
 -- a plan that has a case passes its tests, so that its legs have few alternates, and ids of deferrals rise in the case
 fits_with : (aircraft : Option TypeRow) (plan : Plan) (g : Grounds) → AllByRecursion HasFew plan.legs → AreRising g.deferrals → AllByRecursion (FitsCase (option_map (case_of g plan) aircraft)) plan.legs

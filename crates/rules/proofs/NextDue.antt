@@ -15,6 +15,7 @@ use Rattle.rules.specs.Time.{limit_of, is_past}
 use Rattle.rules.specs.Due.{rules_of_time, due_after, leg_due, legs_due, next_due, Begins, IsNextDue}
 use Rattle.rules.specs.Sights.{due_by, first_due}
 use Rattle.rules.specs.declared.time.Times.{Times}
+use Rattle.codes.proofs.CondLaws.{lesser_none}
 
 -- the least number after a moment for which something holds, or none
 abbrev IsLeast : (ℕ → Type 0) → ℕ → Option ℕ → Type 0
@@ -212,11 +213,6 @@ pub next_due_is : (plan : Plan) (phase : Phase) (settings : Settings) (moment : 
 unfolding next_due
 next_due_is plan phase settings moment =
     is_next plan phase settings moment (legs_due settings plan phase moment 1 plan.legs) (legs_are_least settings plan phase moment 1 plan.legs)
-
--- what is found leg by leg is what is next due
-lesser_none : (a : Option ℕ) → lesser a None ≡ a
-lesser_none None = refl
-lesser_none (Some x) = refl
 
 due_legs : (settings : Settings) (plan : Plan) (phase : Phase) (moment n : ℕ) (legs : List Leg)
     → first_due (record { settings = settings; flight = plan.kind; phase = phase; moment = moment }) n legs ≡ legs_due settings plan phase moment n legs

@@ -3,7 +3,7 @@ use Rattle.std.proofs.Common.{◌≡◌, ℕ, ◌+◌, ◌<◌, ◌≤◌, ◌==
 use Rattle.std.specs.Prelude.{map, filter, nat_lt}
 use Rattle.std.specs.List.{AllByRecursion, list_all}
 use Rattle.std.proofs.lemmas.Bool.Decides.{nat_tests}
-use Rattle.std.proofs.lemmas.Bool.{ltb-true}
+use Rattle.std.proofs.lemmas.Bool.{ltb-true, and_parts}
 use Rattle.std.proofs.lemmas.List.Kept.{AllPairs-filter}
 use Rattle.plan.specs.Phases.{standing}
 use Rattle.plan.specs.declared.flights.Leg.{Leg}
@@ -21,7 +21,8 @@ use Rattle.rules.specs.Circumstances.{Case}
 use Rattle.rules.specs.DestinationAlternates.{place_if}
 use Rattle.rules.specs.Equipment.{is_limiting, is_overdue, is_barred, is_barred_takeoff}
 use Rattle.rules.specs.Judgement.{is_of_departure, places_of, places_at, places_in_case, places_for, finding, findings_from, findings_by}
-use Rattle.rules.proofs.Rising.{each_append, each_weaker, Rises, place_rises, places_rise, all_places_rise, ids_rise}
+use Rattle.rules.proofs.Rising.{Rises, place_rises, places_rise, all_places_rise, ids_rise}
+use Rattle.desk_io.proofs.Each.{each_append, each_weaker}
 
 by_rule : (a b : ℕ) (rest : Bool) → a < b → (nat_lt a b || rest) ≡ true
 by_rule a b rest less = grind (arith, nat_tests, less)
@@ -93,10 +94,6 @@ abbrev pub rules_rise : List Rule → Bool
 rules_rise [] = true
 rules_rise (rule ∷ rules) = is_below rule rules && rules_rise rules
 
-both : (a b : Bool) → (a && b) ≡ true → (a ≡ true) × (b ≡ true)
-both true b e = (refl, e)
-both false b e = absurd (cc)
-
 abbrev IsAbove : Rule → Finding → Type 0
 IsAbove rule g = number_of rule < number_of g.rule
 
@@ -109,7 +106,7 @@ above_rule places rule other legs less =
 above_rules : (places : Rule → ℕ → Leg → List ℕ) (rule : Rule) (rules : List Rule) (legs : List Leg) → is_below rule rules ≡ true → AllByRecursion (IsAbove rule) (findings_by places rules legs)
 above_rules places rule [] legs below = tt
 above_rules places rule (other ∷ rules) legs below =
-    let parts = both (nat_lt (number_of rule) (number_of other)) (is_below rule rules) below in
+    let parts = and_parts (nat_lt (number_of rule) (number_of other)) (is_below rule rules) below in
     each_append (IsAbove rule) (findings_from places other 1 legs) (findings_by places rules legs)
     (above_rule places rule other legs parts.0) (above_rules places rule rules legs parts.1)
 
@@ -123,7 +120,7 @@ pub rules_in_order : (places : Rule → ℕ → Leg → List ℕ) (rules : List 
     → AreInOrder (findings_by places rules legs)
 rules_in_order places [] legs rise rises = tt
 rules_in_order places (rule ∷ rules) legs rise rises =
-    let parts = both (is_below rule rules) (rules_rise rules) rise in
+    let parts = and_parts (is_below rule rules) (rules_rise rules) rise in
     in_order_append (findings_from places rule 1 legs) (findings_by places rules legs)
     (rule_in_order places rule 1 legs (rises rule))
     (rules_in_order places rules legs parts.1 rises)
@@ -148,7 +145,7 @@ are_below rules last = list_all (λ r. nat_lt (number_of r) (number_of last)) ru
 rules_below : (places : Rule → ℕ → Leg → List ℕ) (rules : List Rule) (last : Rule) (legs : List Leg) → are_below rules last ≡ true → AllByRecursion (IsBelow last) (findings_by places rules legs)
 rules_below places [] last legs below = tt
 rules_below places (rule ∷ rules) last legs below =
-    let parts = both (nat_lt (number_of rule) (number_of last)) (are_below rules last) below in
+    let parts = and_parts (nat_lt (number_of rule) (number_of last)) (are_below rules last) below in
     each_append (IsBelow last) (findings_from places rule 1 legs) (findings_by places rules legs)
     (rule_below places rule last legs parts.0) (rules_below places rules last legs parts.1)
 

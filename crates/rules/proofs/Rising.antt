@@ -5,19 +5,7 @@ use Rattle.std.specs.List.{AllByRecursion}
 use Rattle.deferrals.specs.declared.items.Deferral.{Deferral}
 use Rattle.deferrals.specs.Held.{AreRising}
 use Rattle.rules.specs.DestinationAlternates.{place_if, places_from}
-
-pub each_append : {A : Type 0} (P : A → Type 0) (xs ys : List A) → AllByRecursion P xs → AllByRecursion P ys → AllByRecursion P (xs ++ ys)
-each_append P [] ys one two = two
-each_append P (x ∷ xs) ys one two = (one.0, each_append P xs ys one.1 two)
-
-pub each_weaker : {A : Type 0} (P Q : A → Type 0) → ((x : A) → P x → Q x) → (xs : List A) → AllByRecursion P xs → AllByRecursion Q xs
-each_weaker P Q f [] all = tt
-each_weaker P Q f (x ∷ xs) all = (f x all.0, each_weaker P Q f xs all.1)
-
--- what holds whatever the item is
-pub each_of : {A : Type 0} (P : A → Type 0) → ((x : A) → P x) → (xs : List A) → AllByRecursion P xs
-each_of P f [] = tt
-each_of P f (x ∷ xs) = (f x, each_of P f xs)
+use Rattle.desk_io.proofs.Each.{each_append, each_weaker}
 
 -- each number is below all later ones
 abbrev pub Rises : List ℕ → Type 0

@@ -11,7 +11,8 @@ use Rattle.plan.specs.declared.findings.Rule.{Rule}
 use Rattle.plan.specs.declared.findings.Rule.TheVariants.{No1, No2, No3, No17, No18}
 use Rattle.rules.specs.Grounds.{Grounds}
 use Rattle.rules.specs.Circumstances.{Case}
-use Rattle.rules.specs.Judgement.{rules_of_legs, places_at, places_in_case, places_for, case_for, finding, findings_from, findings_by, findings_of_tables, findings_of}
+use Rattle.rules.specs.Judgement.{places_at, places_in_case, places_for, case_for, finding, findings_from, findings_by, findings_of_tables, findings_of}
+use Rattle.plan.specs.Findings.{rules_of_legs}
 use Rattle.rules.specs.Sights.{seen_at, seen_in, times_of, sight_of, sights_from, places_in, findings_in, findings_in_all}
 use Rattle.rules.specs.declared.time.Late.{Late}
 use Rattle.rules.specs.declared.time.Times.{Times}

@@ -8,8 +8,9 @@ use Rattle.plan.specs.declared.flights.Leg.{Leg}
 use Rattle.plan.specs.declared.findings.Finding.{Finding}
 use Rattle.plan.specs.declared.findings.Rule.{Rule}
 use Rattle.plan.specs.declared.findings.Rule.TheVariants.{No1, No2, No3, No4, No5, No6, No7, No8, No9, No10, No11, No12, No13, No14, No15, No16, No17, No18, No19}
-use Rattle.rules.specs.Judgement.{rules_of_legs, finding, findings_from, findings_by, leg_numbered, FailsAt}
-use Rattle.rules.proofs.Rising.{each_append, each_weaker}
+use Rattle.rules.specs.Judgement.{finding, findings_from, findings_by, leg_numbered, FailsAt}
+use Rattle.plan.specs.Findings.{rules_of_legs}
+use Rattle.desk_io.proofs.Each.{each_append, each_weaker}
 
 pub each_of_all : {A : Type 0} (P : A → Type 0) (xs : List A) → All P xs → AllByRecursion P xs
 each_of_all P [] all = tt

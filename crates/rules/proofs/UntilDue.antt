@@ -20,7 +20,8 @@ use Rattle.plan.specs.declared.release.Standing.TheVariants.{Ahead, InFlight, Fl
 use Rattle.rules.specs.Grounds.{Grounds}
 use Rattle.rules.specs.Circumstances.{case_of}
 use Rattle.rules.specs.DestinationAlternates.{place_if}
-use Rattle.rules.specs.Judgement.{rules_of_legs, is_of_departure, places_of, places_at, places_in_case, places_for, case_unless, case_for, finding, findings_from, findings_by, findings_of_tables, findings_of, leg_numbered}
+use Rattle.rules.specs.Judgement.{is_of_departure, places_of, places_at, places_in_case, places_for, case_unless, case_for, finding, findings_from, findings_by, findings_of_tables, findings_of, leg_numbered}
+use Rattle.plan.specs.Findings.{rules_of_legs}
 use Rattle.rules.specs.Time.{limit_of, is_past, is_late, late_places}
 use Rattle.rules.specs.Due.{Begins, IsNextDue, IsBeforeDue, at_moment, StaysUntil, Stays}
 

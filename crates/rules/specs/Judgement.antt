@@ -11,6 +11,7 @@ use Rattle.plan.specs.declared.flights.Leg.{Leg}
 use Rattle.plan.specs.declared.release.Phase.{Phase}
 use Rattle.plan.specs.declared.release.Standing.{Standing}
 use Rattle.plan.specs.declared.release.Standing.TheVariants.{Ahead, InFlight, Flown}
+use Rattle.plan.specs.Findings.{rules_of_legs}
 use Rattle.plan.specs.declared.findings.Finding.{Finding}
 use Rattle.plan.specs.declared.findings.Rule.{Rule}
 use Rattle.plan.specs.declared.findings.Rule.TheVariants.{No1, No2, No3, No4, No5, No6, No7, No8, No9, No10, No11, No12, No13, No14, No15, No16, No17, No18, No19}
@@ -22,10 +23,6 @@ use Rattle.rules.specs.DestinationAlternates.{place_if, lacks_domestic_alternate
 use Rattle.rules.specs.Equipment.{limiting, overdue, barred}
 use Rattle.rules.specs.Fuel.{is_short_domestic, is_short_flag, is_underfilled}
 use Rattle.rules.specs.Time.{late_places}
-
--- the rules of legs, in their order
-abbrev pub rules_of_legs : List Rule
-rules_of_legs = No1 ∷ No2 ∷ No3 ∷ No4 ∷ No5 ∷ No6 ∷ No7 ∷ No8 ∷ No9 ∷ No10 ∷ No11 ∷ No12 ∷ No13 ∷ No14 ∷ No15 ∷ No16 ∷ No17 ∷ No18 ∷ []
 
 -- whether a rule speaks only of legs that haven't departed
 abbrev pub is_of_departure : Rule → Bool

@@ -3,7 +3,7 @@ ghost use Rattle.std.specs.List.{AllByRecursion};
 ghost use Rattle.std.specs.Option.{option_copied, option_map};
 ghost use Rattle.ops_tables.specs.Limits.{FitsType};
 ghost use Rattle.plan.specs.Check.{IsPlan};
-ghost use Rattle.plan.specs.Findings.{AreInOrder};
+ghost use Rattle.plan.specs.Findings.{AreInOrder, rules_of_legs};
 ghost use Rattle.deferrals.specs.Held.{AreRising};
 ghost use Rattle.rules.specs.Grounds.{deferrals_of, grounds_of, grounds_held};
 ghost use Rattle.rules.specs.Circumstances.{case_of};
@@ -21,32 +21,10 @@ use desk_io::{Listed, OutOfMemory};
 use desk_time::Minute;
 use facts::Reports;
 use ops_tables::{Tables, TypeRow};
-use plan::{Finding, Findings, Phase, Plan, Rule, check_plan};
+use plan::{Finding, Findings, Phase, Plan, Rule, check_plan, rules_of_legs};
 use std::alloc::Global;
 use std::sync::ledger::Ledger;
 use weather_window::Steps;
-
-/// The rules of legs, in their order.
-const RULES: [Rule; 18] = [
-    Rule::No1,
-    Rule::No2,
-    Rule::No3,
-    Rule::No4,
-    Rule::No5,
-    Rule::No6,
-    Rule::No7,
-    Rule::No8,
-    Rule::No9,
-    Rule::No10,
-    Rule::No11,
-    Rule::No12,
-    Rule::No13,
-    Rule::No14,
-    Rule::No15,
-    Rule::No16,
-    Rule::No17,
-    Rule::No18,
-];
 
 // Adds a finding of a rule and a leg for each place.
 fn push_places(
@@ -99,11 +77,11 @@ fn findings_of_legs(
 ) -> Result<Findings, OutOfMemory>
     requires plan { IsPlan plan.now }
     requires within { IfSome (option_copied circumstances) IsWithin }
-    ensures { IfOk result (λ f. f ≡ seen.findings_in_all spec.rules_of_legs
+    ensures { IfOk result (λ f. f ≡ seen.findings_in_all rules_of_legs
         (seen.sights_from times.now (option_map case_by (option_copied circumstances.entry)) 1 plan.now.legs)) }
 {
     let sights = sights_of_legs(alloc, times, circumstances, plan.legs.as_slice())?;
-    findings_in(alloc, &RULES, &sights)
+    findings_in(alloc, rules_of_legs(), &sights)
 }
 
 // The findings of a plan that passes its tests, whose aircraft is of that type.
@@ -117,7 +95,7 @@ fn findings_in_case<'a>(
     requires plan { IsPlan plan.now }
     requires few { length (deferrals_of evidence) ≤ DEFERRAL_LIMIT }
     requires fits { FitsType aircraft.now }
-    ensures { IfOk result (λ f. f ≡ seen.findings_in_all spec.rules_of_legs
+    ensures { IfOk result (λ f. f ≡ seen.findings_in_all rules_of_legs
         (seen.sights_from times.now (Some (case_of (grounds_of evidence.entry) plan.now aircraft.now)) 1
         plan.now.legs)) }
 {
@@ -133,7 +111,7 @@ fn findings_with_tables(
     leg: u32,
 ) -> Result<Findings, OutOfMemory>
     requires { IsPlan plan.now }
-    ensures { IfOk result (λ f. f ≡ seen.findings_in_all spec.rules_of_legs
+    ensures { IfOk result (λ f. f ≡ seen.findings_in_all rules_of_legs
         (seen.sights_from times.now None 1 plan.now.legs) ++ spec.finding Rule.No19 leg 0 ∷ []) }
 {
     let mut findings = findings_of_legs(alloc, times, None, plan)?;
@@ -154,7 +132,7 @@ fn findings_seen(
 ) -> Result<Findings, OutOfMemory>
     requires plan { IsPlan plan.now }
     requires few { length (deferrals_of evidence) ≤ DEFERRAL_LIMIT }
-    ensures { IfOk result (λ f. f ≡ seen.findings_in_all spec.rules_of_legs
+    ensures { IfOk result (λ f. f ≡ seen.findings_in_all rules_of_legs
         (seen.sights_from times.now (spec.case_for plan.now (grounds_of evidence.entry)) 1 plan.now.legs) ++
         spec.findings_of_tables plan.now (grounds_of evidence.entry)) }
 {

@@ -1,7 +1,8 @@
 ghost use Rattle.std.specs.Prelude.{◌≡◌, IfSome};
 ghost use Rattle.std.specs.Option.{option_map};
 ghost use Rattle.plan.specs.Check.{HasMoments};
-ghost use Rattle.plan.specs.Texts.{IsMoment, HasMoment};
+ghost use Rattle.plan.specs.Texts.{HasMoment};
+ghost use Rattle.desk_time.specs.Limits.{IsMoment};
 ghost use Rattle.plan.specs.declared.findings.Rule.TheVariants.{No17, No18};
 ghost use Rattle.rules.specs.DestinationAlternates as destination;
 ghost use Rattle.rules.specs.Time as spec;

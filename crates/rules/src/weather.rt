@@ -1,7 +1,7 @@
 ghost use Rattle.std.specs.Prelude.{◌≡◌, ◌≤◌, ◌+◌, ◌-◌, IfOk};
 ghost use Rattle.std.specs.Option.{option_copied};
 ghost use Rattle.stations.specs.Pair.{AreWithin};
-ghost use Rattle.plan.specs.Texts.{IsMoment};
+ghost use Rattle.desk_time.specs.Limits.{IsMoment};
 ghost use Rattle.weather_window.specs.Window.{cond_at, worst_cond};
 ghost use Rattle.rules.specs.Grounds.{grounds_of};
 ghost use Rattle.rules.specs.Circumstances as spec;

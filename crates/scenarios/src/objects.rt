@@ -1,6 +1,6 @@
 ghost use Rattle.std.specs.Prelude.{◌<◌, IfOk, IfSome};
 ghost use Rattle.std.specs.List.{All};
-ghost use Rattle.desk_net.specs.Clocks.{IsMoment};
+ghost use Rattle.desk_time.specs.Limits.{IsMoment};
 
 use crate::fails::{failing, failing_of_link, loads};
 use crate::fault::CaseFault;

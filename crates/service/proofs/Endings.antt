@@ -53,7 +53,7 @@ without_as old new rose f wanted how is wrote = subst (λ (e : WireFault). Wrote
 
 -- ---- a connection that ends with nothing more that was answered whole
 
-same_both : (bytes : Option (List ℕ)) → OnBoth bytes bytes (λ b l. AreRequests b [] l)
+pub same_both : (bytes : Option (List ℕ)) → OnBoth bytes bytes (λ b l. AreRequests b [] l)
 same_both None = tt
 same_both (Some bytes) = refl
 

@@ -1,11 +1,11 @@
 -- What a request names has its form.
-use Rattle.std.proofs.Common.{suc, ◌≡◌, ℕ, ◌+◌, ◌*◌, ◌-◌, ◌^◌, ◌≤◌, nat_le, ◌==◌, Bool, true, false, not, ◌&&◌, if◌then◌else◌, List, [], ◌∷◌, codes, length, take, drop, get_or, length-drop, Option, Some, None, IfSome, Result, Ok, Err, refl, ap, sym, subst, ◌∙◌, arith}
+use Rattle.std.proofs.Common.{suc, ◌≡◌, ℕ, ◌+◌, ◌*◌, ◌-◌, ◌^◌, ◌≤◌, nat_le, ◌==◌, Bool, true, false, not, if◌then◌else◌, List, [], ◌∷◌, codes, length, take, drop, get_or, length-drop, Option, Some, None, IfSome, Result, Ok, Err, refl, ap, sym, subst, ◌∙◌, arith}
 use Rattle.std.specs.Prelude.{IfOk}
 use Rattle.std.specs.List.{list_all, list_any}
 use Rattle.std.specs.Option.{option_map}
 use Rattle.std.specs.Str.{bytes_eq, is_utf8, IsUtf8}
 use Rattle.std.proofs.Math.Nat.{pow-le-pow_right}
-use Rattle.std.proofs.lemmas.Bool.{leb-true}
+use Rattle.std.proofs.lemmas.Bool.{leb-true, and_parts}
 use Rattle.std.proofs.lemmas.Grind.{pow_more}
 use Rattle.std.proofs.lemmas.List.{get_or-take}
 use Rattle.std.proofs.lemmas.Result.{IfOk-weaker}
@@ -25,15 +25,11 @@ use Rattle.service.specs.Forms.{RouteHasForms}
 use Rattle.service.specs.Requested.{is_short, short_or_empty, requested_on, requested_by, asked_by}
 use Rattle.service.specs.declared.requested.Requested.TheVariants as requested
 
-both_true : (a b : Bool) → a && b ≡ true → (a ≡ true) × (b ≡ true)
-both_true true b is = (refl, is)
-both_true false b is = absurd (cc)
-
 -- ---- a name or a key
 
 short_by : (t : List ℕ) (b : Bool) → is_short t ≡ b → IsShort (if b then t else [])
 short_by t true is =
-    let both = both_true (is_utf8 t) (nat_le (length t) 64) is in
+    let both = and_parts (is_utf8 t) (nat_le (length t) 64) is in
     record { text = IsUtf8-from_is_utf8 t both.0; few = leb-true (length t) 64 both.1 }
 short_by t false is = record { text = IsUtf8-nil; few = omega arith }
 
@@ -51,16 +47,16 @@ short_short t u is = subst IsShort (sym is) (short_or t)
 digits_small : (i n : ℕ) (ds : List ℕ) → n + 1 ≤ 10 ^ i → list_all is_digit ds ≡ true → digits_after n ds + 1 ≤ 10 ^ (i + length ds)
 digits_small i n [] few all = let same : i + 0 ≡ i = omega arith in subst (λ k. n + 1 ≤ 10 ^ k) (sym same) few
 digits_small i n (d ∷ ds) few all =
-    let both = both_true (is_digit d) (list_all is_digit ds) all in
-    let small = leb-true d 57 (both_true (nat_le 48 d) (nat_le d 57) both.0).1 in
+    let both = and_parts (is_digit d) (list_all is_digit ds) all in
+    let small = leb-true d 57 (and_parts (nat_le 48 d) (nat_le d 57) both.0).1 in
     let more : (10 * n + (d - 48)) + 1 ≤ 10 ^ (i + 1) = omega (arith, few, small, pow_more 10 i) in
     let same : (i + 1) + length ds ≡ i + suc (length ds) = omega arith in
     subst (λ k. digits_after (10 * n + (d - 48)) ds + 1 ≤ 10 ^ k) same (digits_small (i + 1) (10 * n + (d - 48)) ds more both.1)
 
 number_by : (b : Bool) (text : List ℕ) → are_digits 10 text ≡ b → IfSome (if b then Some (digits_after 0 text) else None) IsId
 number_by true text is =
-    let both = both_true (has_length 10 text) (list_all is_digit text) is in
-    let few = leb-true (length text) 10 (both_true (nat_le 1 (length text)) (nat_le (length text) 10) both.0).1 in
+    let both = and_parts (has_length 10 text) (list_all is_digit text) is in
+    let few = leb-true (length text) 10 (and_parts (nat_le 1 (length text)) (nat_le (length text) 10) both.0).1 in
     let small = digits_small 0 0 text (omega arith) both.1 in
     let most : 10 ^ (0 + length text) ≤ 10 ^ 10 = pow-le-pow_right {n = 10} (omega arith) {i = 0 + length text} {j = 10} (omega (arith, few)) in
     omega (arith, small, most)
@@ -86,8 +82,8 @@ weather_forms name = weather_by (is_station name) name refl
 
 tail_by : (b : Bool) (tail : List ℕ) → is_tail tail ≡ b → (1 ≤ length tail → IsUtf8 tail) → IfSome (if b then Some (Deferred tail) else None) RouteHasForms
 tail_by true tail is text =
-    let both = both_true (has_length 8 tail) (not (list_any (λ b. b == 47) tail)) is in
-    let lengths = both_true (nat_le 1 (length tail)) (nat_le (length tail) 8) both.0 in
+    let both = and_parts (has_length 8 tail) (not (list_any (λ b. b == 47) tail)) is in
+    let lengths = and_parts (nat_le 1 (length tail)) (nat_le (length tail) 8) both.0 in
     let few = leb-true (length tail) 8 lengths.1 in
     record { text = text (leb-true 1 (length tail) lengths.0); few = omega (arith, few) }
 tail_by false tail is text = tt

@@ -11,7 +11,7 @@ use Rattle.desk_net.specs.Doors.{Links, Accepts, TakesBack, HasNext}
 use Rattle.desk_net.specs.Seen.{ClockSeen, DoorSeen, LinkSeen}
 use Rattle.desk_net.specs.Streams.{unread}
 use Rattle.desk_state.specs.State.{State}
-use Rattle.service.specs.Connections.{AreRequests, GoesOn, IsConnection, OnBoth}
+use Rattle.service.specs.Connections.{GoesOn, IsConnection}
 use Rattle.service.specs.Doors.{Visit, IsVisit, AreVisits, AreTaken, AreAtPort, HasLinks, came_of, back_of, HadMemory, IsWell, is_clock_fault, ended_by_clock, AreFewer, EndsServing, IsServing, counts_as, met_after, end_of, end_at_door}
 use Rattle.service.specs.declared.doors.Met.{Met}
 use Rattle.service.specs.declared.doors.ServeEnd.{ServeEnd}
@@ -20,16 +20,14 @@ use Rattle.service.specs.declared.serving.Served.{Served}
 use Rattle.service.specs.declared.serving.Served.TheVariants as served
 use Rattle.service.proofs.Joins.{joined}
 use Rattle.service.proofs.Lines.{wrote_as}
+use Rattle.std.proofs.lemmas.Bool.{or_right}
+use Rattle.service.proofs.Endings.{same_both}
 
 -- ---- a connection seen from before
 
-same_bytes : (bytes : Option (List ℕ)) → OnBoth bytes bytes (λ b l. AreRequests b [] l)
-same_bytes None = tt
-same_bytes (Some bytes) = refl
-
 nothing_yet : (lane : ℕ) (moments : Option (List ℕ)) (less before : ℕ) (s : State) (bytes : Option (List ℕ)) → less ≤ before → GoesOn lane moments less before s bytes bytes s []
 nothing_yet lane moments less before s bytes under =
-    record { xs = []; requests = same_bytes bytes; timed = tt; going = tt; counted = under; says = refl; state = refl }
+    record { xs = []; requests = same_both bytes; timed = tt; going = tt; counted = under; says = refl; state = refl }
 
 -- a visit, counted from before
 visit_from : {L : Type 0} (link : L → LinkSeen) (lane : ℕ) (moments : Option (List ℕ)) (failed clock : Type 0) (less before after : ℕ) (s : State) (v : Visit L) (t : State)
@@ -77,17 +75,13 @@ or_more : (a b c : Bool) → (b ≡ true → c ≡ true) → (a || b) ≡ true �
 or_more true b c more is = refl
 or_more false b c more is = more is
 
-or_last : (a b : Bool) → b ≡ true → (a || b) ≡ true
-or_last true b is = refl
-or_last false b is = is
-
 some_first : {L : Type 0} (vs : List (Visit L)) (v : Visit L) → list_any ended_by_clock vs ≡ true → list_any ended_by_clock (vs ++ v ∷ []) ≡ true
 some_first [] v is = absurd (cc is)
 some_first (w ∷ ws) v is = or_more (ended_by_clock w) (list_any ended_by_clock ws) (list_any ended_by_clock (ws ++ v ∷ [])) (some_first ws v) is
 
 some_last : {L : Type 0} (vs : List (Visit L)) (v : Visit L) → v.served ≡ served.ClockFault → list_any ended_by_clock (vs ++ v ∷ []) ≡ true
 some_last [] v how = ap (λ (h : Served). is_clock_fault h || false) how
-some_last (w ∷ ws) v how = or_last (ended_by_clock w) (list_any ended_by_clock (ws ++ v ∷ [])) (some_last ws v how)
+some_last (w ∷ ws) v how = or_right (ended_by_clock w) (list_any ended_by_clock (ws ++ v ∷ [])) (some_last ws v how)
 
 length_on : {L : Type 0} (vs : List (Visit L)) (v : Visit L) → length (vs ++ v ∷ []) ≡ length vs + 1
 length_on [] v = refl

@@ -5,7 +5,8 @@ use Rattle.desk.specs.Seen.{DeskAt}
 use Rattle.desk.specs.Settled.{MayHaveTicked}
 use Rattle.desk_io.specs.Health.{HasFailed}
 use Rattle.desk_io.specs.Over.{Over}
-use Rattle.desk_net.specs.Clocks.{IsMoment, IsAmong}
+use Rattle.desk_net.specs.Clocks.{IsAmong}
+use Rattle.desk_time.specs.Limits.{IsMoment}
 use Rattle.desk_net.specs.Seen.{ClockSeen}
 use Rattle.desk_state.specs.State.{State}
 use Rattle.service.specs.Exchanges.{exchanged, bytes_of}

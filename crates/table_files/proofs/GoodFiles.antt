@@ -1,7 +1,5 @@
 -- What a file gives is what its records say.
-use Rattle.std.proofs.Common.{◌≡◌, ◌∙◌, sym, ap, refl, subst, ℕ, ◌≤◌, length, List, [], ◌∷◌, Bool, true, false, Result, Ok, Err}
-use Rattle.std.specs.Prelude.{MatchResult, cond}
-use Rattle.std.specs.Str.{bytes_eq}
+use Rattle.std.proofs.Common.{◌≡◌, ◌∙◌, sym, ap, refl, subst, ℕ, ◌≤◌, length, List, [], ◌∷◌, Bool, true, false, Result, Ok, Err, MatchResult, cond, bytes_eq}
 use Rattle.desk_io.specs.Told.{OnSource}
 use Rattle.std.proofs.lemmas.Bool.{and_parts}
 use Rattle.std.proofs.lemmas.Slice.Eq.{bytes_eq-Decides}
@@ -10,7 +8,7 @@ use Rattle.ops_tables.specs.Keys.{is_same_airport, is_same_approach, is_same_alt
 use Rattle.table_files.specs.Files.{airports, approaches, alternates, types, tails, uses, distances, routes, mel, pairs, actors, name_of, with_file}
 use Rattle.table_files.specs.Filling.{Gives}
 use Rattle.table_files.specs.Good.{AreRowsOf, IsFirstBad, AreSettings, IsFirstBadSetting, UnderHeader, IsBadUnder, no_header, under_header as bad_below, Exactly, SaysTable, SaysSettings, SaysFile}
-use Rattle.table_files.specs.Reading.{Table, are_same, under_header, bad_header, rows_after, put, with_table}
+use Rattle.table_files.specs.Reading.{Table, are_same, under_header, bad_header, rows_after, placed, with_table}
 use Rattle.table_files.specs.Settings.{settings, settings_columns, settings_from, values_after}
 use Rattle.table_files.specs.Whole.{Told, FileGives}
 use Rattle.table_files.specs.declared.faults.BadRecord.{BadRecord}
@@ -86,17 +84,17 @@ module _ {A : Type 0} (columns : List (List ℕ)) (read : List (List (List ℕ))
   one_bad records bad (no_header none is) = unheaded records none ∙ ap Err (sym is)
   one_bad records bad (bad_below u) = ap (under_header columns read) u.order ∙ headed u.below ∙ if_bad_one u.below bad u.holds
 
-  put_in : (with_rows : A → TableRows) (records : List (List (List ℕ))) (made : Result A BadRecord) → Comes records made
-      → MatchResult (put with_rows made) (λ after. (rows : A) × UnderHeader columns (λ below. IsGood below rows) records × (with_rows rows ≡ after)) (IsBadUnder columns IsBad records)
-  put_in with_rows records (Ok rows) is = (rows, is, refl)
-  put_in with_rows records (Err bad) is = is
+  placed_in : (with_rows : A → TableRows) (records : List (List (List ℕ))) (made : Result A BadRecord) → Comes records made
+      → MatchResult (placed with_rows made) (λ after. (rows : A) × UnderHeader columns (λ below. IsGood below rows) records × (with_rows rows ≡ after)) (IsBadUnder columns IsBad records)
+  placed_in with_rows records (Ok rows) is = (rows, is, refl)
+  placed_in with_rows records (Err bad) is = is
 
   pub says : (with_rows : A → TableRows) (records : List (List (List ℕ)))
-      → Exactly (λ after. (rows : A) × UnderHeader columns (λ below. IsGood below rows) records × (with_rows rows ≡ after)) (IsBadUnder columns IsBad records) (put with_rows (under_header columns read records))
+      → Exactly (λ after. (rows : A) × UnderHeader columns (λ below. IsGood below rows) records × (with_rows rows ≡ after)) (IsBadUnder columns IsBad records) (placed with_rows (under_header columns read records))
   says with_rows records =
       exactly (λ after. (rows : A) × UnderHeader columns (λ below. IsGood below rows) records × (with_rows rows ≡ after)) (IsBadUnder columns IsBad records)
-      (put with_rows (under_header columns read records)) (put_in with_rows records (under_header columns read records) (come_all records))
-      (λ after g. ap (put with_rows) (all_good records g.0 g.1) ∙ ap Ok g.2) (λ bad b. ap (put with_rows) (one_bad records bad b))
+      (placed with_rows (under_header columns read records)) (placed_in with_rows records (under_header columns read records) (come_all records))
+      (λ after g. ap (placed with_rows) (all_good records g.0 g.1) ∙ ap Ok g.2) (λ bad b. ap (placed with_rows) (one_bad records bad b))
 
 table_says : {R : Type 0} (same : R → R → Bool) (limit : ℕ) (table : Table R) (before : TableRows) (records : List (List (List ℕ))) → SaysTable same limit table before records (with_table same limit table before records)
 table_says same limit table before records =

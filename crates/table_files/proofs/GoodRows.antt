@@ -1,6 +1,5 @@
 -- The rows that a table gives are those of its records, and the record that it names is the first bad one.
-use Rattle.std.proofs.Common.{◌≡◌, ◌∙◌, sym, ap, refl, subst, ℕ, ◌+◌, ◌<◌, ◌≤◌, List, [], ◌∷◌, ◌++◌, append-nil, append_assoc, length, map, Bool, true, false, Option, Some, None, Result, Ok, Err, All, AllPairs, arith}
-use Rattle.std.specs.Prelude.{MatchResult, nat_le, get_or, cond}
+use Rattle.std.proofs.Common.{◌≡◌, ◌∙◌, sym, ap, refl, subst, ℕ, ◌+◌, ◌<◌, ◌≤◌, List, [], ◌∷◌, ◌++◌, append-nil, append_assoc, length, map, Bool, true, false, Option, Some, None, Result, Ok, Err, All, AllPairs, arith, MatchResult, nat_le, get_or, cond}
 use Rattle.std.specs.List.{list_any}
 use Rattle.std.proofs.Math.Seq.{get_or-append_seam}
 use Rattle.std.proofs.lemmas.Bool.Decides.{nat_tests}
@@ -34,28 +33,28 @@ module _ {R : Type 0} (same : R → R → Bool) (limit : ℕ) (table : Table R) 
     fresh : All (λ earlier. same row earlier ≡ false) rows
     linked : table.is_linked t row ≡ true
 
-  abbrev Judged : List R → List (List ℕ) → Result R TableWhy → Type 0
-  Judged rows fields result = MatchResult result (IsNext rows fields) (IsBadAfter same limit table t rows fields)
+  abbrev IsTested : List R → List (List ℕ) → Result R TableWhy → Type 0
+  IsTested rows fields result = MatchResult result (IsNext rows fields) (IsBadAfter same limit table t rows fields)
 
-  judged_link : (rows : List R) (fields : List (List ℕ)) (row : R) → length rows < limit → table.row_of fields ≡ Some row → list_any (same row) rows ≡ false
-      → (b : Bool) → table.is_linked t row ≡ b → Judged rows fields (linked_row table t row)
-  judged_link rows fields row room gives fresh true h = subst (λ b. Judged rows fields (cond b (Ok row) (Err why.Unlinked))) (sym h) (record { room = room; gives = gives; fresh = none_passes (same row) rows fresh; linked = h })
-  judged_link rows fields row room gives fresh false h = subst (λ b. Judged rows fields (cond b (Ok row) (Err why.Unlinked))) (sym h) (row, room, gives, none_passes (same row) rows fresh, h)
+  tested_link : (rows : List R) (fields : List (List ℕ)) (row : R) → length rows < limit → table.row_of fields ≡ Some row → list_any (same row) rows ≡ false
+      → (b : Bool) → table.is_linked t row ≡ b → IsTested rows fields (linked_row table t row)
+  tested_link rows fields row room gives fresh true h = subst (λ b. IsTested rows fields (cond b (Ok row) (Err why.Unlinked))) (sym h) (record { room = room; gives = gives; fresh = none_passes (same row) rows fresh; linked = h })
+  tested_link rows fields row room gives fresh false h = subst (λ b. IsTested rows fields (cond b (Ok row) (Err why.Unlinked))) (sym h) (row, room, gives, none_passes (same row) rows fresh, h)
 
-  judged_key : (rows : List R) (fields : List (List ℕ)) (row : R) → length rows < limit → table.row_of fields ≡ Some row → (b : Bool) → list_any (same row) rows ≡ b → Judged rows fields (new_row same table t rows (Some row))
-  judged_key rows fields row room gives true h = subst (λ b. Judged rows fields (cond b (Err why.Doubled) (linked_row table t row))) (sym h) (row, room, gives, Any-from_list_any (same row) rows h)
-  judged_key rows fields row room gives false h = subst (λ b. Judged rows fields (cond b (Err why.Doubled) (linked_row table t row))) (sym h) (judged_link rows fields row room gives h (table.is_linked t row) refl)
+  tested_key : (rows : List R) (fields : List (List ℕ)) (row : R) → length rows < limit → table.row_of fields ≡ Some row → (b : Bool) → list_any (same row) rows ≡ b → IsTested rows fields (new_row same table t rows (Some row))
+  tested_key rows fields row room gives true h = subst (λ b. IsTested rows fields (cond b (Err why.Doubled) (linked_row table t row))) (sym h) (row, room, gives, Any-from_list_any (same row) rows h)
+  tested_key rows fields row room gives false h = subst (λ b. IsTested rows fields (cond b (Err why.Doubled) (linked_row table t row))) (sym h) (tested_link rows fields row room gives h (table.is_linked t row) refl)
 
-  judged_form : (rows : List R) (fields : List (List ℕ)) → length rows < limit → (o : Option R) → table.row_of fields ≡ o → Judged rows fields (new_row same table t rows o)
-  judged_form rows fields room None h = (room, h)
-  judged_form rows fields room (Some row) h = judged_key rows fields row room h (list_any (same row) rows) refl
+  tested_form : (rows : List R) (fields : List (List ℕ)) → length rows < limit → (o : Option R) → table.row_of fields ≡ o → IsTested rows fields (new_row same table t rows o)
+  tested_form rows fields room None h = (room, h)
+  tested_form rows fields room (Some row) h = tested_key rows fields row room h (list_any (same row) rows) refl
 
-  judged_room : (rows : List R) (fields : List (List ℕ)) → (b : Bool) → nat_le limit (length rows) ≡ b → Judged rows fields (row_after same limit table t rows fields)
-  judged_room rows fields true h = subst (λ b. Judged rows fields (cond b (Err why.OverLimit) (new_row same table t rows (table.row_of fields)))) (sym h) (grind (arith, nat_tests, h))
-  judged_room rows fields false h = subst (λ b. Judged rows fields (cond b (Err why.OverLimit) (new_row same table t rows (table.row_of fields)))) (sym h) (judged_form rows fields (grind (arith, nat_tests, h)) (table.row_of fields) refl)
+  tested_room : (rows : List R) (fields : List (List ℕ)) → (b : Bool) → nat_le limit (length rows) ≡ b → IsTested rows fields (row_after same limit table t rows fields)
+  tested_room rows fields true h = subst (λ b. IsTested rows fields (cond b (Err why.OverLimit) (new_row same table t rows (table.row_of fields)))) (sym h) (grind (arith, nat_tests, h))
+  tested_room rows fields false h = subst (λ b. IsTested rows fields (cond b (Err why.OverLimit) (new_row same table t rows (table.row_of fields)))) (sym h) (tested_form rows fields (grind (arith, nat_tests, h)) (table.row_of fields) refl)
 
-  judged : (rows : List R) (fields : List (List ℕ)) → Judged rows fields (row_after same limit table t rows fields)
-  judged rows fields = judged_room rows fields (nat_le limit (length rows)) refl
+  tested : (rows : List R) (fields : List (List ℕ)) → IsTested rows fields (row_after same limit table t rows fields)
+  tested rows fields = tested_room rows fields (nat_le limit (length rows)) refl
 
   has_room : (rows : List R) → length rows < limit → nat_le limit (length rows) ≡ false
   has_room rows room = grind (arith, nat_tests, room)
@@ -86,9 +85,9 @@ module _ {R : Type 0} (same : R → R → Bool) (limit : ℕ) (table : Table R) 
   sound : (rest read : List (List (List ℕ))) (rows : List R) → AreRowsOf same limit table t read rows → Comes (read ++ rest) (rows_after same limit table t rows rest)
   sound [] read rows good = subst (λ rs. AreRowsOf same limit table t rs rows) (sym (append-nil read)) good
   sound (fields ∷ others) read rows good =
-      by (row_after same limit table t rows fields) refl (judged rows fields) (λ row n. sound others (read ++ fields ∷ []) (rows ++ row ∷ []) (one_more read rows fields row good n))
+      by (row_after same limit table t rows fields) refl (tested rows fields) (λ row n. sound others (read ++ fields ∷ []) (rows ++ row ∷ []) (one_more read rows fields row good n))
     where
-      by : (o : Result R TableWhy) → row_after same limit table t rows fields ≡ o → Judged rows fields o
+      by : (o : Result R TableWhy) → row_after same limit table t rows fields ≡ o → IsTested rows fields o
           → ((row : R) → IsNext rows fields row → Comes ((read ++ fields ∷ []) ++ others) (rows_after same limit table t (rows ++ row ∷ []) others))
           → Comes (read ++ fields ∷ others) (rows_after same limit table t rows (fields ∷ others))
       by (Err reason) h j more = subst (Comes (read ++ fields ∷ others)) (sym (bad_row same limit table t rows reason fields others h)) (record {

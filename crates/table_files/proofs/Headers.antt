@@ -1,7 +1,5 @@
 -- A header with another number of columns.
-use Rattle.std.proofs.Common.{◌≡◌, ◌≢◌, refl, ap, ℕ, suc, List, [], ◌∷◌, Bool, true, false, ◌&&◌, length, Bor}
-use Rattle.std.specs.Prelude.{map}
-use Rattle.std.specs.Str.{bytes_eq}
+use Rattle.std.proofs.Common.{◌≡◌, ◌≢◌, refl, ap, ℕ, suc, List, [], ◌∷◌, Bool, true, false, ◌&&◌, length, Bor, map, bytes_eq}
 use Rattle.table_files.specs.Reading.{are_same}
 
 and_false : (a b : Bool) → b ≡ false → (a && b) ≡ false

@@ -1,6 +1,5 @@
 -- Tables that were read from all files name what stands in them.
-use Rattle.std.proofs.Common.{◌≡◌, ◌∙◌, sym, ap, refl, subst, ℕ, List, Bool, Ok, All}
-use Rattle.std.specs.Prelude.{IsTrue, ◌&&◌}
+use Rattle.std.proofs.Common.{◌≡◌, ◌∙◌, sym, ap, refl, subst, ℕ, List, Bool, Ok, All, IsTrue, ◌&&◌}
 use Rattle.ops_tables.specs.Tables.{TableRows, has_airport, has_type, has_item}
 use Rattle.ops_tables.specs.Keys.{is_same_airport, is_same_approach, is_same_alternate, is_same_type, is_same_tail, is_same_use, is_same_distance, is_same_route, is_same_item, is_same_pair, is_same_actor}
 use Rattle.ops_tables.specs.Limits.{FitsSettings}

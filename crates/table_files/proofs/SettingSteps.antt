@@ -1,6 +1,5 @@
 -- What one more record does to the values that were read.
-use Rattle.std.proofs.Common.{◌≡◌, ◌∙◌, sym, ap, refl, subst, ℕ, ◌+◌, ◌≤◌, List, [], ◌∷◌, ◌++◌, append_assoc, length, arith, Option, Some, None, Err}
-use Rattle.std.specs.Prelude.{Result}
+use Rattle.std.proofs.Common.{◌≡◌, ◌∙◌, sym, ap, refl, subst, ℕ, ◌+◌, ◌≤◌, List, [], ◌∷◌, ◌++◌, append_assoc, length, arith, Option, Some, None, Err, Result}
 use Rattle.csv_text.specs.Records.{AreRecordsOf, HasGiven}
 use Rattle.csv_text.specs.declared.records.Records.{Records}
 use Rattle.csv_text.proofs.Totals.{all_records}

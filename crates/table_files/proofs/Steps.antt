@@ -1,12 +1,11 @@
 -- What one more record does to the rows that were read.
-use Rattle.std.proofs.Common.{◌≡◌, ◌∙◌, sym, ap, refl, subst, ℕ, ◌+◌, List, [], ◌∷◌, ◌++◌, append-nil, append_assoc, length, Bool, true, false, Ok, Err}
-use Rattle.std.specs.Prelude.{Result, if◌then◌else◌}
+use Rattle.std.proofs.Common.{◌≡◌, ◌∙◌, sym, ap, refl, subst, ℕ, ◌+◌, List, [], ◌∷◌, ◌++◌, append-nil, append_assoc, length, Bool, true, false, Ok, Err, Result, if◌then◌else◌}
 use Rattle.csv_text.specs.Records.{AreRecordsOf, HasGiven}
 use Rattle.csv_text.specs.declared.records.Records.{Records}
 use Rattle.csv_text.proofs.Totals.{all_records}
 use Rattle.ops_tables.specs.Tables.{TableRows}
-use Rattle.table_files.specs.Filling.{Gives, Fills, Puts}
-use Rattle.table_files.specs.Reading.{Table, are_same, has_header, HasHeader, HasNoHeader, Begins, under_header, bad_header, row_after, rows_after, or_bad, rows_of, put, with_table}
+use Rattle.table_files.specs.Filling.{Gives}
+use Rattle.table_files.specs.Reading.{Table, are_same, HasHeader, Begins, under_header, bad_header, row_after, rows_after, or_bad}
 use Rattle.table_files.specs.declared.faults.BadRecord.{BadRecord}
 use Rattle.table_files.specs.declared.faults.TableWhy.{TableWhy}
 
@@ -71,22 +70,9 @@ with_header {A} text columns read reader made h ends = record {
   gives = ap (λ b. if b then read ends.0 else bad_header {A = A}) h.is_same ∙ ends.2;
 }
 
-refused : {A : Type 0} (columns : List (List ℕ)) (read : List (List (List ℕ)) → Result A BadRecord) (records : List (List (List ℕ))) → has_header columns records ≡ false → under_header columns read records ≡ bad_header
-refused columns read [] e = refl
-refused columns read (header ∷ records) e = rw e refl
-
-pub without_header : {A : Type 0} (text : List ℕ) (columns : List (List ℕ)) (read : List (List (List ℕ)) → Result A BadRecord) → HasNoHeader text columns → Gives text (under_header columns read) bad_header
-without_header text columns read none = record { records = none.records; are_records = none.are_records; gives = refused columns read none.records none.none }
-
 -- the first record of a text is a header, or all its records have none
 pub begins : (text : List ℕ) (header columns : List (List ℕ)) (reader : Records) (b : Bool) → HasGiven text (header ∷ []) reader → b ≡ are_same header columns → Begins text columns b reader
 begins text header columns reader true h e = record { header = header; is_same = sym e; given = h }
 begins text header columns reader false h e =
     let rest = all_records text (header ∷ []) reader h in
     record { records = header ∷ rest.0; are_records = rest.1; none = sym e }
-
--- rows that a text gives, put in place
-pub filled_by : {R : Type 0} (same : R → R → Bool) (limit : ℕ) (table : Table R) (t : TableRows) (text : List ℕ) (read : Result (List R) BadRecord) (result : Result (Unit {0}) BadRecord) (old new : List R)
-    → Gives text (rows_of same limit table t) read → Puts read result old new → Fills text (with_table same limit table t) result (table.with_rows t new)
-filled_by same limit table t text (Ok rows) result old new g p = rw (p.0, p.1) (record { records = g.records; are_records = g.are_records; gives = ap (put (table.with_rows t)) g.gives })
-filled_by same limit table t text (Err bad) result old new g p = rw p.0 (record { records = g.records; are_records = g.are_records; gives = ap (put (table.with_rows t)) g.gives })

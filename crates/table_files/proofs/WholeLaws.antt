@@ -1,6 +1,5 @@
 -- Reading one file after another.
-use Rattle.std.proofs.Common.{◌≡◌, ◌<◌, ◌≤◌, ◌∙◌, sym, refl, ap, subst, ℕ, zero, suc, ◌+◌, List, [], ◌∷◌, ◌++◌, take, drop, get_or, length, arith, add-one}
-use Rattle.std.specs.Prelude.{Ok}
+use Rattle.std.proofs.Common.{◌≡◌, ◌<◌, ◌≤◌, ◌∙◌, sym, refl, ap, subst, ℕ, zero, suc, ◌+◌, List, [], ◌∷◌, ◌++◌, take, drop, get_or, length, arith, add-one, Ok}
 use Rattle.desk_io.specs.Seen.{ShelfSeen, ShelfGoesOn}
 use Rattle.desk_io.specs.Told.{HoldsName}
 use Rattle.desk_io.proofs.HealthLaws.{goes_on_where}

@@ -3,7 +3,7 @@ use Rattle.std.specs.Prelude.{ℕ, true, ◌&&◌, List, [], ◌∷◌, Result, 
 use Rattle.ops_tables.specs.Tables.{TableRows, has_airport, has_type, has_item}
 use Rattle.ops_tables.specs.Keys.{is_same_airport, is_same_approach, is_same_alternate, is_same_type, is_same_tail, is_same_use, is_same_distance, is_same_route, is_same_item, is_same_pair, is_same_actor}
 use Rattle.table_files.specs.Records.{airport_row, approach_row, alternate_row, type_row, tail_row, use_row, distance_row, route_row, item_row, pair_row, actor_row}
-use Rattle.table_files.specs.Reading.{Table, with_table, put}
+use Rattle.table_files.specs.Reading.{Table, with_table, placed}
 use Rattle.table_files.specs.Settings.{settings_of}
 use Rattle.ops_tables.specs.declared.rows.Airport.{Airport}
 use Rattle.ops_tables.specs.declared.rows.Approach.{Approach}
@@ -128,7 +128,7 @@ actors = record {
 
 -- the tables with one more read, whose records are these, or its first bad record
 abbrev pub with_file : File → TableRows → List (List (List ℕ)) → Result TableRows BadRecord
-with_file file.Settings t = λ records. put (λ settings. record t { settings = settings }) (settings_of records)
+with_file file.Settings t = λ records. placed (λ settings. record t { settings = settings }) (settings_of records)
 with_file file.Airports t = with_table is_same_airport 5000 airports t
 with_file file.Approaches t = with_table is_same_approach 50000 approaches t
 with_file file.Alternates t = with_table is_same_alternate 20000 alternates t

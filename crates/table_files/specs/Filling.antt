@@ -15,5 +15,5 @@ abbrev pub Fills : {A : Type 0} → List ℕ → (List (List (List ℕ)) → Res
 Fills text read made tables = MatchResult made (λ _. Gives text read (Ok tables)) (λ bad. Gives text read (Err bad))
 
 -- the rows that were read take the place of others, where no record is bad
-abbrev pub Puts : {A : Type 0} → Result A BadRecord → Result (Unit {0}) BadRecord → A → A → Type 0
-Puts read result old new = MatchResult read (λ rows. (result ≡ Ok tt) × (new ≡ rows)) (λ bad. (result ≡ Err bad) × (new ≡ old))
+abbrev pub Places : {A : Type 0} → Result A BadRecord → Result (Unit {0}) BadRecord → A → A → Type 0
+Places read result old new = MatchResult read (λ rows. (result ≡ Ok tt) × (new ≡ rows)) (λ bad. (result ≡ Err bad) × (new ≡ old))

@@ -60,13 +60,14 @@ under_header columns read (header ∷ records) = if are_same header columns then
 abbrev pub rows_of : {R : Type 0} → (R → R → Bool) → ℕ → Table R → TableRows → List (List (List ℕ)) → Result (List R) BadRecord
 rows_of is_same_key limit table tables records = under_header table.columns (rows_after is_same_key limit table tables []) records
 
-abbrev pub put : {A : Type 0} → (A → TableRows) → Result A BadRecord → Result TableRows BadRecord
-put tables_with (Ok rows) = Ok (tables_with rows)
-put tables_with (Err bad) = Err bad
+-- the tables with the rows that were read, or the record that is bad
+abbrev pub placed : {A : Type 0} → (A → TableRows) → Result A BadRecord → Result TableRows BadRecord
+placed tables_with (Ok rows) = Ok (tables_with rows)
+placed tables_with (Err bad) = Err bad
 
 -- the tables with one more read, whose records are these
 abbrev pub with_table : {R : Type 0} → (R → R → Bool) → ℕ → Table R → TableRows → List (List (List ℕ)) → Result TableRows BadRecord
-with_table is_same_key limit table tables records = put (table.with_rows tables) (rows_of is_same_key limit table tables records)
+with_table is_same_key limit table tables records = placed (table.with_rows tables) (rows_of is_same_key limit table tables records)
 
 -- whether the first of some records is a header with these columns
 abbrev pub has_header : List (List ℕ) → List (List (List ℕ)) → Bool

@@ -2,7 +2,7 @@ ghost use Rattle.std.specs.Prelude.{◌≡◌, ◌≤◌, IfOk, OnOk};
 ghost use Rattle.ops_tables.specs.Limits.{FitsSettings};
 ghost use Rattle.ops_tables.specs.Shown.{shown};
 ghost use Rattle.table_files.specs.Files.{with_file, no_rows};
-ghost use Rattle.table_files.specs.Filling.{Fills, Puts};
+ghost use Rattle.table_files.specs.Filling.{Fills, Places};
 ghost use Rattle.table_files.specs.declared.files.File.TheVariants as file;
 
 use crate::faults::BadRecord;
@@ -45,12 +45,12 @@ pub(crate) fn unread(alloc: Global) -> Loading
 }
 
 // Puts the rows of a table in place, where no record is bad.
-fn put<R: Row<N>, const N: usize>(
+fn place_rows<R: Row<N>, const N: usize>(
     rows: &mut Grouped<R, N>,
     read: Result<Grouped<R, N>, BadRecord>,
 ) -> Result<(), BadRecord>
     requires { N ≤ 48 }
-    ensures { Puts read result rows.old rows.new }
+    ensures { Places read result rows.old rows.new }
 {
     match read {
         Ok(more) => {
@@ -93,47 +93,47 @@ pub(crate) fn fill(
         File::Settings => fill_settings(alloc, text, loaded),
         File::Airports => {
             let read = read_rows(alloc, text, loaded)?;
-            Ok(put(&mut loaded.airports, read))
+            Ok(place_rows(&mut loaded.airports, read))
         }
         File::Approaches => {
             let read = read_rows(alloc, text, loaded)?;
-            Ok(put(&mut loaded.approaches, read))
+            Ok(place_rows(&mut loaded.approaches, read))
         }
         File::Alternates => {
             let read = read_rows(alloc, text, loaded)?;
-            Ok(put(&mut loaded.alternates, read))
+            Ok(place_rows(&mut loaded.alternates, read))
         }
         File::Types => {
             let read = read_rows(alloc, text, loaded)?;
-            Ok(put(&mut loaded.types, read))
+            Ok(place_rows(&mut loaded.types, read))
         }
         File::Tails => {
             let read = read_rows(alloc, text, loaded)?;
-            Ok(put(&mut loaded.tails, read))
+            Ok(place_rows(&mut loaded.tails, read))
         }
         File::Uses => {
             let read = read_rows(alloc, text, loaded)?;
-            Ok(put(&mut loaded.uses, read))
+            Ok(place_rows(&mut loaded.uses, read))
         }
         File::Distances => {
             let read = read_rows(alloc, text, loaded)?;
-            Ok(put(&mut loaded.distances, read))
+            Ok(place_rows(&mut loaded.distances, read))
         }
         File::Routes => {
             let read = read_rows(alloc, text, loaded)?;
-            Ok(put(&mut loaded.routes, read))
+            Ok(place_rows(&mut loaded.routes, read))
         }
         File::Mel => {
             let read = read_rows(alloc, text, loaded)?;
-            Ok(put(&mut loaded.mel, read))
+            Ok(place_rows(&mut loaded.mel, read))
         }
         File::Pairs => {
             let read = read_rows(alloc, text, loaded)?;
-            Ok(put(&mut loaded.pairs, read))
+            Ok(place_rows(&mut loaded.pairs, read))
         }
         File::Actors => {
             let read = read_rows(alloc, text, loaded)?;
-            Ok(put(&mut loaded.actors, read))
+            Ok(place_rows(&mut loaded.actors, read))
         }
     }
 }

@@ -1,4 +1,5 @@
-ghost use Rattle.std.specs.Prelude.{◌≡◌};
+ghost use Rattle.std.specs.Prelude.{◌≡◌, refl};
+ghost use Rattle.table_files.specs.Files as files;
 
 use crate::reading::{FileRow, Layout};
 use crate::records::{
@@ -13,10 +14,7 @@ use ops_tables::{
 use std::alloc::Global;
 
 impl FileRow<4> for Airport {
-    ghost use Rattle.std.specs.Prelude.{refl};
-    ghost use Rattle.table_files.specs.Files.{airports};
-
-    ghost table = { airports };
+    ghost table = { files.airports };
 
     ghost bounded = { refl };
 
@@ -37,10 +35,7 @@ impl FileRow<4> for Airport {
 }
 
 impl FileRow<4> for Approach {
-    ghost use Rattle.std.specs.Prelude.{refl};
-    ghost use Rattle.table_files.specs.Files.{approaches};
-
-    ghost table = { approaches };
+    ghost table = { files.approaches };
 
     ghost bounded = { refl };
 
@@ -69,10 +64,7 @@ impl FileRow<4> for Approach {
 }
 
 impl FileRow<4> for AlternateRow {
-    ghost use Rattle.std.specs.Prelude.{refl};
-    ghost use Rattle.table_files.specs.Files.{alternates};
-
-    ghost table = { alternates };
+    ghost table = { files.alternates };
 
     ghost bounded = { refl };
 
@@ -93,10 +85,7 @@ impl FileRow<4> for AlternateRow {
 }
 
 impl FileRow<48> for TypeRow {
-    ghost use Rattle.std.specs.Prelude.{refl};
-    ghost use Rattle.table_files.specs.Files.{types};
-
-    ghost table = { types };
+    ghost table = { files.types };
 
     ghost bounded = { refl };
 
@@ -124,10 +113,7 @@ impl FileRow<48> for TypeRow {
 }
 
 impl FileRow<48> for Tail {
-    ghost use Rattle.std.specs.Prelude.{refl};
-    ghost use Rattle.table_files.specs.Files.{tails};
-
-    ghost table = { tails };
+    ghost table = { files.tails };
 
     ghost bounded = { refl };
 
@@ -148,10 +134,7 @@ impl FileRow<48> for Tail {
 }
 
 impl FileRow<48> for Use {
-    ghost use Rattle.std.specs.Prelude.{refl};
-    ghost use Rattle.table_files.specs.Files.{uses};
-
-    ghost table = { uses };
+    ghost table = { files.uses };
 
     ghost bounded = { refl };
 
@@ -172,10 +155,7 @@ impl FileRow<48> for Use {
 }
 
 impl FileRow<48> for Distance {
-    ghost use Rattle.std.specs.Prelude.{refl};
-    ghost use Rattle.table_files.specs.Files.{distances};
-
-    ghost table = { distances };
+    ghost table = { files.distances };
 
     ghost bounded = { refl };
 
@@ -196,10 +176,7 @@ impl FileRow<48> for Distance {
 }
 
 impl FileRow<48> for Route {
-    ghost use Rattle.std.specs.Prelude.{refl};
-    ghost use Rattle.table_files.specs.Files.{routes};
-
-    ghost table = { routes };
+    ghost table = { files.routes };
 
     ghost bounded = { refl };
 
@@ -220,10 +197,7 @@ impl FileRow<48> for Route {
 }
 
 impl FileRow<48> for MelRow {
-    ghost use Rattle.std.specs.Prelude.{refl};
-    ghost use Rattle.table_files.specs.Files.{mel};
-
-    ghost table = { mel };
+    ghost table = { files.mel };
 
     ghost bounded = { refl };
 
@@ -253,10 +227,7 @@ impl FileRow<48> for MelRow {
 }
 
 impl FileRow<48> for ItemPair {
-    ghost use Rattle.std.specs.Prelude.{refl};
-    ghost use Rattle.table_files.specs.Files.{pairs};
-
-    ghost table = { pairs };
+    ghost table = { files.pairs };
 
     ghost bounded = { refl };
 
@@ -279,10 +250,7 @@ impl FileRow<48> for ItemPair {
 }
 
 impl FileRow<48> for Actor {
-    ghost use Rattle.std.specs.Prelude.{refl};
-    ghost use Rattle.table_files.specs.Files.{actors};
-
-    ghost table = { actors };
+    ghost table = { files.actors };
 
     ghost bounded = { refl };
 

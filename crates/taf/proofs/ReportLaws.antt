@@ -7,12 +7,12 @@ use Rattle.std.proofs.lemmas.List.Elements.{All-nil, All-cons, All-head, All-tai
 use Rattle.std.proofs.lemmas.Bool.Decides.{same_from_decides}
 use Rattle.std.proofs.Math.Seq.{take-append_seam, drop-append_seam}
 use Rattle.codes.specs.Answers.{Answers}
-use Rattle.codes.proofs.WordLaws.{same_bytes, has_decides}
+use Rattle.codes.proofs.WordLaws.{has_decides}
 use Rattle.stations.specs.Station.{is_station}
 use Rattle.codes.specs.Groups.{first_of}
 use Rattle.codes.specs.Moment.{time_of}
 use Rattle.codes.specs.Shapes.{is_digit, are_digits}
-use Rattle.codes.specs.Cond.{is_period, shape_fault, fault_or, first_fault, cond_unless, cond_of, named_cond}
+use Rattle.codes.specs.Cond.{is_period, shape_fault, first_fault, cond_unless, cond_of, named_cond}
 use Rattle.codes.specs.Period.{end_of, ends, period_of, numbered, period_due}
 use Rattle.codes.specs.declared.cond.Cond.{Cond}
 use Rattle.codes.specs.declared.fault.Why.{Why}
@@ -34,6 +34,9 @@ use Rattle.taf.specs.Reading.{station_or_not, head_of, are_amended, are_correcte
 use Rattle.taf.specs.Forecast as report
 use Rattle.taf.specs.Forecast.{IsModifier, EndsStretch, SaysPart, SaysChanges, SaysParts, SaysNone, SaysAfterTime, ReadsTaf}
 use Rattle.taf.proofs.ForecastLaws.{steps, inner, part_is, made, if_answered}
+use Rattle.desk_io.proofs.Bytes.{same_bytes}
+use Rattle.codes.proofs.ShapedLaws.{no_fault_or}
+use Rattle.codes.proofs.LengthLaws.{station_length}
 
 other_length : (group word : List ℕ) → (length group ≡ length word → ⊥) → bytes_eq group word ≡ false
 other_length group word other = false_from_ne_true (bytes_eq group word) (λ e. other (ap length (same_bytes group word e)))
@@ -130,10 +133,6 @@ goes_on [] = All-nil (λ h. EndsStretch h → ⊥)
 goes_on (g ∷ gs) = goes_step (ends_stretch g) g gs refl (goes_on gs)
 
 -- the condition of a part
-
-no_fault_or : (why : Option Why) (n : ℕ) (later : Option BadReport) → fault_or why n later ≡ None → (why ≡ None) × (later ≡ None)
-no_fault_or None n later e = (refl, e)
-no_fault_or (Some why) n later e = absurd cc
 
 shaped : (n : ℕ) (groups : List (List ℕ)) → first_fault Forecast n groups ≡ None → All (λ g. shape_fault Forecast g ≡ None) groups
 shaped n [] e = All-nil (λ g. shape_fault Forecast g ≡ None)
@@ -636,14 +635,6 @@ words_counted : (words tail : List (List ℕ)) → All IsModifier words → modi
 words_counted [] tail all none = none
 words_counted (g ∷ gs) tail all none =
     rw (is_modifier_word g (All-head IsModifier g gs all)) (ap (λ n. 1 + n) (words_counted gs tail (All-tail IsModifier g gs all) none) ∙ one_more (length gs))
-
-station_length : (station : List ℕ) → is_station station ≡ true → length station ≡ 4
-station_length [] e = absurd cc
-station_length (a ∷ []) e = absurd cc
-station_length (a ∷ b ∷ []) e = absurd cc
-station_length (a ∷ b ∷ c ∷ []) e = absurd cc
-station_length (a ∷ b ∷ c ∷ d ∷ []) e = refl
-station_length (a ∷ b ∷ c ∷ d ∷ f ∷ rest) e = absurd cc
 
 no_modifier : (station : List ℕ) (rest : List (List ℕ)) → is_station station ≡ true → modifier_count (station ∷ rest) ≡ 0
 no_modifier station rest is =

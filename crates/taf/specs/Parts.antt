@@ -1,7 +1,7 @@
 -- The parts of a forecast: a change word each, its period, and the groups up to the next (WMO FM 51).
-use Rattle.std.specs.Prelude.{◌≡◌, ℕ, ◌+◌, ◌≤◌, All, Bool, ◌||◌, if◌then◌else◌, List, [], ◌∷◌, ◌++◌, drop, map, Option, None, Some, is_some, Result, Ok, Err}
+use Rattle.std.specs.Prelude.{◌≡◌, ℕ, ◌+◌, All, Bool, ◌||◌, if◌then◌else◌, List, [], ◌∷◌, ◌++◌, drop, map, Option, None, Some, is_some, Result, Ok, Err}
 use Rattle.std.specs.List.{before_first}
-use Rattle.desk_time.specs.Limits.{first_moment, last_moment}
+use Rattle.desk_time.specs.Limits.{IsMoment}
 use Rattle.codes.specs.Groups.{first_of}
 use Rattle.codes.specs.Cond.{cond_of}
 use Rattle.codes.specs.Period.{end_of, numbered, period_due}
@@ -91,11 +91,6 @@ abbrev pub and_change : List Part → Option Change → ℕ → List (List ℕ) 
 and_change parts None n after first_day until = Ok parts
 and_change parts (Some change) n after first_day until =
     part_at change n after first_day until >>= λ part. Ok (parts ++ part ∷ [])
-
--- a moment that is read
-pub record IsMoment (at : ℕ) : Type 0 where
-  pub low : first_moment ≤ at
-  pub high : at ≤ last_moment
 
 pub record HasMoments (part : Part) : Type 0 where
   pub from : IsMoment part.from

@@ -15,7 +15,8 @@ use Rattle.taf.specs.declared.forecast.TafState.{TafState}
 use Rattle.taf.specs.declared.forecast.TafState.TheVariants.{Normal, Nil, Cancelled}
 use Rattle.taf.specs.declared.reader.Head.{Head}
 use Rattle.taf.specs.Words.{is_amended, is_corrected, is_modifier, is_nil, is_cancelled}
-use Rattle.taf.specs.Parts.{◌>>=◌, part_of, parts_of, IsMoment, HasMoments, HasBase}
+use Rattle.taf.specs.Parts.{◌>>=◌, part_of, parts_of, HasMoments, HasBase}
+use Rattle.desk_time.specs.Limits.{IsMoment}
 
 abbrev pub station_or_not : ℕ → Option Station → Result Station BadReport
 station_or_not n None = Err (record { group = n; why = NotStation })

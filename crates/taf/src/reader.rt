@@ -2,7 +2,8 @@ ghost use Rattle.std.specs.Prelude.{◌≡◌, ◌≤◌, ◌<◌, ◌+◌, ◌-
 ghost use Rattle.codes.specs.Groups.{groups_of};
 ghost use Rattle.codes.specs.Groups.{first_of as first_group};
 ghost use Rattle.codes.specs.Answers.{Answers};
-ghost use Rattle.taf.specs.Parts.{IsMoment, HasMoments};
+ghost use Rattle.taf.specs.Parts.{HasMoments};
+ghost use Rattle.desk_time.specs.Limits.{IsMoment};
 ghost use Rattle.taf.specs.Forecast.{ReadsTaf};
 ghost use Rattle.taf.specs.Reading as spec;
 ghost use Rattle.taf.specs.Reading.{reading, taf_of, IsInReach, AreParts};

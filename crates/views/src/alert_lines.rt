@@ -1,7 +1,7 @@
 ghost use Rattle.std.specs.Prelude.{◌≡◌, ◌++◌, IfOk, OnOk};
 ghost use Rattle.std.specs.List.{AllByRecursion};
 ghost use Rattle.desk_state.specs.Texts as spec;
-ghost use Rattle.plan.specs.Texts.{IsMoment};
+ghost use Rattle.desk_time.specs.Limits.{IsMoment};
 ghost use Rattle.alerts.specs.Alerts.{IsAlert};
 
 use crate::findings::{findings_text, mark_text};

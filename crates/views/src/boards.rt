@@ -4,7 +4,8 @@ ghost use Rattle.std.specs.Option.{option_copied};
 ghost use Rattle.desk_state.specs.Texts as spec;
 ghost use Rattle.desk_state.specs.Contents.{state_of};
 ghost use Rattle.desk_state.specs.Sound.{ReleaseInBounds, InBounds};
-ghost use Rattle.plan.specs.Texts.{IsMoment, HasMoment};
+ghost use Rattle.plan.specs.Texts.{HasMoment};
+ghost use Rattle.desk_time.specs.Limits.{IsMoment};
 
 use crate::findings::{findings_text, mark_text};
 use alerts::Alert;

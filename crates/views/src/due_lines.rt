@@ -3,7 +3,7 @@ ghost use Rattle.std.specs.List.{AllByRecursion};
 ghost use Rattle.std.specs.Option.{option_copied};
 ghost use Rattle.ops_tables.specs.Limits.{FitsItem};
 ghost use Rattle.desk_state.specs.Texts as spec;
-ghost use Rattle.plan.specs.Texts.{IsMoment};
+ghost use Rattle.desk_time.specs.Limits.{IsMoment};
 
 use deferrals::{Deferral, due};
 use desk_io::{OutOfMemory, Text, push_all};

@@ -2,7 +2,8 @@ ghost use Rattle.std.specs.Prelude.{◌≡◌, ◌++◌, ◌∷◌, [], true, So
 ghost use Rattle.std.specs.List.{concat};
 ghost use Rattle.desk_state.specs.Texts as spec;
 ghost use Rattle.desk_state.specs.Sound.{ReleaseInBounds, RevisionInBounds};
-ghost use Rattle.plan.specs.Texts.{IsMoment, HasMoment, phase_text};
+ghost use Rattle.plan.specs.Texts.{HasMoment, phase_text};
+ghost use Rattle.desk_time.specs.Limits.{IsMoment};
 ghost use Rattle.release_text.specs.Revisions.{revision_text, revision_digest};
 
 use desk_io::{OutOfMemory, Text, push_all};

@@ -1,6 +1,5 @@
 -- Laws on the points of change.
-use Rattle.std.proofs.Common.{◌≡◌, ◌⊎◌, inl, inr, ℕ, suc, ◌+◌, ◌*◌, ◌≤◌, ◌<◌, Bool, true, false, cond, nat_le, List, [], ◌∷◌, ◌++◌, length, Option, None, Some, refl, ap, sym, subst, ◌∙◌, arith}
-use Rattle.std.specs.Prelude.{filter}
+use Rattle.std.proofs.Common.{◌≡◌, ◌⊎◌, inl, inr, ℕ, suc, ◌+◌, ◌*◌, ◌≤◌, ◌<◌, Bool, true, false, cond, nat_le, List, [], ◌∷◌, ◌++◌, length, Option, None, Some, refl, ap, sym, subst, ◌∙◌, arith, filter}
 use Rattle.std.specs.List.{AllByRecursion}
 use Rattle.std.proofs.lemmas.Bool.Decides.{nat_tests}
 use Rattle.std.proofs.lemmas.List.Sums.{length-filter, count_by-le-length}
@@ -8,11 +7,10 @@ use Rattle.codes.specs.Cond.{lesser}
 use Rattle.taf.specs.declared.forecast.Part.{Part}
 use Rattle.taf.specs.declared.forecast.Taf.{Taf}
 use Rattle.metar.specs.declared.metar.Metar.{Metar}
-use Rattle.codes.proofs.CondLaws.{lesser_assoc}
+use Rattle.codes.proofs.CondLaws.{lesser_assoc, lesser_comm}
 use Rattle.weather_window.specs.Window.{least_of}
 use Rattle.weather_window.specs.Changes.{part_changes, forecast_changes, report_changes, changes, is_between, changes_between, next_change, part_count}
 use Rattle.weather_window.specs.Running.{sooner, soonest}
-use Rattle.weather_window.proofs.LeastLaws.{lesser_comm}
 
 soonest_append : (after to : ℕ) (found : Option ℕ) (xs ys : List ℕ)
     → soonest after to found (xs ++ ys) ≡ soonest after to (soonest after to found xs) ys

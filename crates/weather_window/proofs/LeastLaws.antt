@@ -1,16 +1,9 @@
 -- Laws on the least of some values.
-use Rattle.std.proofs.Common.{◌≡◌, ℕ, List, [], ◌∷◌, ◌++◌, Option, None, Some, refl, ap, sym, ◌∙◌, arith}
-use Rattle.std.specs.Prelude.{option_to_list}
+use Rattle.std.proofs.Common.{◌≡◌, ℕ, List, [], ◌∷◌, ◌++◌, Option, None, Some, refl, ap, sym, ◌∙◌, option_to_list}
 use Rattle.desk_time.specs.Digits.{or_else}
 use Rattle.codes.specs.Cond.{lesser}
 use Rattle.codes.proofs.CondLaws.{lesser_assoc}
 use Rattle.weather_window.specs.Window.{least_of}
-
-pub lesser_comm : (a b : Option ℕ) → lesser a b ≡ lesser b a
-lesser_comm None None = refl
-lesser_comm None (Some y) = refl
-lesser_comm (Some x) None = refl
-lesser_comm (Some x) (Some y) = ap Some (omega arith)
 
 pub or_else_assoc : (a b c : Option ℕ) → or_else (or_else a b) c ≡ or_else a (or_else b c)
 or_else_assoc None b c = refl

@@ -1,6 +1,5 @@
 -- Laws on one pass over the parts of a forecast.
-use Rattle.std.proofs.Common.{◌≡◌, ℕ, Bool, true, false, cond, ◌&&◌, ◌||◌, nat_le, nat_lt, List, [], ◌∷◌, ◌++◌, Option, None, Some, refl, ap, sym, ◌∙◌, arith}
-use Rattle.std.specs.Prelude.{filter, option_to_list}
+use Rattle.std.proofs.Common.{◌≡◌, ℕ, Bool, true, false, cond, ◌&&◌, ◌||◌, nat_le, nat_lt, List, [], ◌∷◌, ◌++◌, Option, None, Some, refl, ap, sym, ◌∙◌, arith, filter, option_to_list}
 use Rattle.std.specs.List.{list_any, cons_option}
 use Rattle.std.proofs.lemmas.Bool.Decides.{nat_tests}
 use Rattle.desk_time.specs.Digits.{or_else}
@@ -8,14 +7,14 @@ use Rattle.codes.specs.Cond.{lesser}
 use Rattle.taf.specs.declared.forecast.Part.{Part}
 use Rattle.taf.specs.declared.forecast.PartKind.{PartKind}
 use Rattle.taf.specs.declared.forecast.PartKind.TheVariants.{Base, From, Becoming, Tempo, Prob}
-use Rattle.codes.proofs.CondLaws.{lesser_assoc}
+use Rattle.codes.proofs.CondLaws.{lesser_assoc, lesser_comm}
 use Rattle.weather_window.specs.declared.parts.Role.{Role}
 use Rattle.weather_window.specs.declared.parts.Role.TheVariants.{Replaces, Lasts, Passes, Silent}
 use Rattle.weather_window.specs.declared.parts.Holding.{Holding}
 use Rattle.weather_window.specs.Values.{Element, is_becoming, is_temporary, is_within, has_replaced, has_become, is_changing, may_hold, last_named, all_named, values_in_force, part_values}
 use Rattle.weather_window.specs.Window.{least_of}
 use Rattle.weather_window.specs.Running.{role_of, and_value, held_after, least_held, only, least_at}
-use Rattle.weather_window.proofs.LeastLaws.{lesser_comm, or_else_assoc, least_of_append, least_of_option}
+use Rattle.weather_window.proofs.LeastLaws.{or_else_assoc, least_of_append, least_of_option}
 
 -- what the parts that have become last, where they name the element
 abbrev lasting_of : Element → ℕ → List Part → Option ℕ

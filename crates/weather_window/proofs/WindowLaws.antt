@@ -1,6 +1,5 @@
 -- Laws on the values of both, and on one pass over the points of change.
-use Rattle.std.proofs.Common.{◌≡◌, ℕ, zero, suc, ◌+◌, ◌-◌, ◌≤◌, ◌<◌, cond, List, [], ◌∷◌, map, Option, None, Some, refl, ap, sym, ◌∙◌, arith}
-use Rattle.std.specs.Prelude.{is_none, filter_map}
+use Rattle.std.proofs.Common.{◌≡◌, ℕ, zero, suc, ◌+◌, ◌-◌, ◌≤◌, ◌<◌, cond, List, [], ◌∷◌, map, Option, None, Some, refl, ap, sym, ◌∙◌, arith, is_none, filter_map}
 use Rattle.std.specs.List.{list_any}
 use Rattle.codes.specs.Cond.{lesser}
 use Rattle.taf.specs.declared.forecast.Taf.{Taf}

@@ -1,5 +1,4 @@
-use Rattle.std.proofs.Common.{◌≡◌, ◌≤◌, drop}
-use Rattle.std.specs.Prelude.{filter, IfSome}
+use Rattle.std.proofs.Common.{◌≡◌, ◌≤◌, drop, filter, IfSome}
 use Rattle.airport_minima.specs.Minima.{is_usable}
 use Rattle.airport_minima.specs.Floor.{lowest_of}
 use Rattle.airport_minima.proofs.LowestLaws.{lesser_of}

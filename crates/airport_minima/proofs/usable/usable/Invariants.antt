@@ -1,5 +1,4 @@
-use Rattle.std.proofs.Common.{◌≡◌, ◌++◌, drop}
-use Rattle.std.specs.Prelude.{map, filter, All}
+use Rattle.std.proofs.Common.{◌≡◌, ◌++◌, drop, map, filter, All}
 use Rattle.ops_tables.specs.Limits.{FitsApproach}
 use Rattle.airport_minima.specs.Minima.{is_usable}
 use Rattle.airport_minima.proofs.usable.usable.Given as goal

@@ -1,8 +1,9 @@
 use Rattle.std.proofs.Common.{◌∙◌, sym}
 use Rattle.plan.specs.Check.{HasMoments}
 use Rattle.call_json.specs.Legs.{leg_of}
-use Rattle.call_json.proofs.Lists.{read_on, all_and}
+use Rattle.call_json.proofs.Lists.{read_on}
 use Rattle.call_json.proofs.legs.legs_in.Goals as goal
+use Rattle.desk_io.proofs.Each.{each_push}
 
 pub loop-item-preserved : goal.loop-item-preserved
 loop-item-preserved c =
@@ -11,5 +12,5 @@ loop-item-preserved c =
     let here = rw c.in-Some.is at c.in_ok-leg.ensures.moments in
     rw c.in_ok-push-in-Some.ensures.ok (record {
       read = more ∙ c.loop-item.invariant.read;
-      moments = all_and HasMoments c.loop-item.legs c.in-Some.leg c.loop-item.invariant.moments here;
+      moments = each_push HasMoments c.loop-item.legs c.in-Some.leg c.loop-item.invariant.moments here;
     })

@@ -1,6 +1,4 @@
-use Rattle.std.proofs.Common.{◌≡◌, ◌≤◌, ◌+◌, ◌*◌, drop}
-use Rattle.std.specs.Prelude.{map}
-use Rattle.std.specs.List.{sum}
+use Rattle.std.proofs.Common.{◌≡◌, ◌≤◌, ◌+◌, ◌*◌, drop, map, sum}
 use Rattle.deferrals.proofs.limits.extra_fuel.Given as goal
 
 abbrev pub invariant-loop-row : goal.invariant-loop-row

@@ -1,7 +1,6 @@
-use Rattle.std.proofs.Common.{◌∙◌, ◌+◌, ap, sym, List, [], ◌∷◌, ◌++◌, drop}
+use Rattle.std.proofs.Common.{◌∙◌, ◌+◌, ap, sym, List, [], ◌∷◌, ◌++◌, drop, map}
 use Rattle.ops_tables.specs.declared.rows.MelRow.{MelRow}
 use Rattle.deferrals.specs.Limits.{once, capabilities_of}
-use Rattle.std.specs.Prelude.{map}
 use Rattle.deferrals.proofs.Once.{filter_true, lost_new, lost_again, lost_step}
 use Rattle.deferrals.proofs.limits.lost_by.Goals.{then-loses_more+in_ok-copy+in_ok-push, else-loses_more}
 use Rattle.deferrals.proofs.limits.lost_by.Goals as goal

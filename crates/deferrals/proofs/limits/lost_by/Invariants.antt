@@ -1,5 +1,4 @@
-use Rattle.std.proofs.Common.{◌≡◌, ◌++◌, drop}
-use Rattle.std.specs.Prelude.{map, filter, not}
+use Rattle.std.proofs.Common.{◌≡◌, ◌++◌, drop, map, filter, not}
 use Rattle.ops_tables.specs.Names.{has_name}
 use Rattle.deferrals.specs.Limits.{once, capabilities_of}
 use Rattle.deferrals.proofs.limits.lost_by.Given as goal

@@ -1,5 +1,4 @@
-use Rattle.std.proofs.Common.{◌≡◌, ◌≤◌, ◌++◌, length, drop}
-use Rattle.std.specs.Prelude.{map, All}
+use Rattle.std.proofs.Common.{◌≡◌, ◌≤◌, ◌++◌, length, drop, map, All}
 use Rattle.ops_tables.specs.Limits.{FitsItem}
 use Rattle.deferrals.specs.Limits.{rows_of}
 use Rattle.deferrals.proofs.limits.rows_of.Given as goal

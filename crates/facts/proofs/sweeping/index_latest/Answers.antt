@@ -1,5 +1,4 @@
-use Rattle.std.proofs.Common.{◌∙◌, refl, arith}
-use Rattle.std.proofs.lemmas.List.{take_all}
+use Rattle.std.proofs.Common.{◌∙◌, refl, arith, take_all}
 use Rattle.facts.proofs.ReindexLaws.{none_indexed, more_indexed, all_indexed}
 use Rattle.facts.proofs.sweeping.index_latest.Goals as goal
 

@@ -1,5 +1,4 @@
-use Rattle.std.proofs.Common.{◌≡◌, drop}
-use Rattle.std.specs.Prelude.{max}
+use Rattle.std.proofs.Common.{◌≡◌, drop, max}
 use Rattle.fuel.specs.Sums.{most_fuel}
 use Rattle.fuel.proofs.sums.most_fuel.Given as goal
 

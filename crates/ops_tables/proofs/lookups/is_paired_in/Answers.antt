@@ -1,8 +1,6 @@
-use Rattle.std.proofs.Common.{◌∙◌, ap}
-use Rattle.std.specs.Prelude.{◌&&◌, true}
+use Rattle.std.proofs.Common.{◌∙◌, ap, ◌&&◌, true, bytes_eq}
 use Rattle.std.specs.List.{list_any}
 use Rattle.std.proofs.lemmas.Map.Views.{any-filter_same}
-use Rattle.std.specs.Str.{bytes_eq}
 use Rattle.ops_tables.specs.Grouped.{group_name}
 use Rattle.ops_tables.specs.SameGroup.{three_parts}
 use Rattle.ops_tables.proofs.lookups.is_paired_in.Goals as goal

@@ -1,6 +1,4 @@
-use Rattle.std.proofs.Common.{◌∙◌, ap, []}
-use Rattle.std.specs.Prelude.{find}
-use Rattle.std.specs.Str.{bytes_eq}
+use Rattle.std.proofs.Common.{◌∙◌, ap, [], find, bytes_eq}
 use Rattle.ops_tables.specs.Grouped.{group_name}
 use Rattle.ops_tables.proofs.Found.{find-filter}
 use Rattle.ops_tables.specs.SameGroup.{one_part}

@@ -1,5 +1,4 @@
-use Rattle.std.proofs.Common.{◌≡◌, ◌+◌, None, drop}
-use Rattle.std.specs.Option.{option_copied}
+use Rattle.std.proofs.Common.{◌≡◌, ◌+◌, None, drop, option_copied}
 use Rattle.plan.specs.Check.{first_fault}
 use Rattle.plan.proofs.check.first_fault.Given as goal
 

@@ -1,7 +1,7 @@
 use Rattle.std.proofs.Common.{ap, ◌∙◌}
 use Rattle.std.specs.Option.{option_copied, option_map}
 use Rattle.std.proofs.lemmas.Result.{IfOk-weaker}
-use Rattle.rules.specs.Judgement.{rules_of_legs}
+use Rattle.plan.specs.Findings.{rules_of_legs}
 use Rattle.rules.specs.Sights.{case_by, sights_from, findings_in_all}
 use Rattle.rules.proofs.judgement.findings_of_legs.Goals as goal
 

@@ -1,5 +1,4 @@
-use Rattle.std.proofs.Common.{◌≡◌, take}
-use Rattle.std.specs.Prelude.{map}
+use Rattle.std.proofs.Common.{◌≡◌, take, map}
 use Rattle.table_files.proofs.fields.texts.Given as goal
 
 abbrev pub invariant-loop-name : goal.invariant-loop-name

@@ -1,5 +1,4 @@
-use Rattle.std.proofs.Common.{◌∙◌, ap, [], Some}
-use Rattle.std.specs.Prelude.{map}
+use Rattle.std.proofs.Common.{◌∙◌, ap, [], Some, map}
 use Rattle.csv_text.specs.Records.{GivesNext}
 use Rattle.table_files.specs.Reading.{are_same}
 use Rattle.table_files.proofs.Steps.{begins}

@@ -1,5 +1,4 @@
-use Rattle.std.proofs.Common.{◌≡◌, drop}
-use Rattle.std.specs.Prelude.{map}
+use Rattle.std.proofs.Common.{◌≡◌, drop, map}
 use Rattle.table_files.specs.Reading.{are_same}
 use Rattle.table_files.proofs.reading.is_header.Given as goal
 

@@ -1,5 +1,4 @@
-use Rattle.std.proofs.Common.{◌≡◌, ◌∙◌, ◌+◌, ◌<◌, sym, ap, refl, [], ◌∷◌, ◌++◌, Ok, Err, Some, arith, length}
-use Rattle.std.proofs.lemmas.List.{length-append}
+use Rattle.std.proofs.Common.{◌≡◌, ◌∙◌, ◌+◌, ◌<◌, sym, ap, refl, [], ◌∷◌, ◌++◌, Ok, Err, Some, arith, length, length-append}
 use Rattle.csv_text.specs.Records.{AreRecordsOf, GivesNext}
 use Rattle.ops_tables.specs.Shown.{shown}
 use Rattle.table_files.specs.Reading.{row_after, rows_after}

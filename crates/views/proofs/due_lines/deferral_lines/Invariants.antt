@@ -1,7 +1,7 @@
 use Rattle.std.proofs.Common.{◌≡◌, ◌++◌, drop}
 use Rattle.std.specs.Prelude.{map}
 use Rattle.std.specs.List.{AllByRecursion}
-use Rattle.plan.specs.Texts.{IsMoment}
+use Rattle.desk_time.specs.Limits.{IsMoment}
 use Rattle.desk_state.specs.Texts.{deferral_lines}
 use Rattle.views.proofs.due_lines.deferral_lines.Given as goal
 

@@ -1,5 +1,4 @@
-use Rattle.std.proofs.Common.{arith}
-use Rattle.std.specs.Option.{option_copied}
+use Rattle.std.proofs.Common.{arith, option_copied}
 use Rattle.weather_window.specs.Values.{ceiling, visibility}
 use Rattle.weather_window.specs.Window.{worst_value}
 use Rattle.weather_window.proofs.ChangeLaws.{change_visits, change_count}

@@ -1,5 +1,4 @@
-use Rattle.std.proofs.Common.{◌≤◌, ◌<◌, ◌+◌, ◌*◌, length}
-use Rattle.std.specs.Option.{option_copied}
+use Rattle.std.proofs.Common.{◌≤◌, ◌<◌, ◌+◌, ◌*◌, length, option_copied}
 use Rattle.weather_window.specs.Values.{ceiling, visibility}
 use Rattle.weather_window.specs.Window.{value_at, worst_value}
 use Rattle.weather_window.specs.Changes.{changes_between, part_count}

@@ -1,7 +1,6 @@
-use Rattle.std.proofs.Common.{◌∙◌, sym, ap, subst, length, arith}
+use Rattle.std.proofs.Common.{◌∙◌, sym, ap, subst, length, arith, option_and_then}
 use Rattle.std.specs.Map.{lookup}
 use Rattle.std.specs.BTreeMap.{is_at}
-use Rattle.std.specs.Option.{option_and_then}
 use Rattle.facts.specs.Reports.{AreHeld}
 use Rattle.facts.specs.Latest.{latest}
 use Rattle.facts.specs.Lines.{stations_of}

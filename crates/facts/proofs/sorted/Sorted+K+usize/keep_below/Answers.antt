@@ -1,5 +1,4 @@
-use Rattle.std.proofs.Common.{◌∙◌, ap, arith}
-use Rattle.std.proofs.lemmas.Bool.{lt-ltb, le-ltb}
+use Rattle.std.proofs.Common.{◌∙◌, ap, arith, lt-ltb, le-ltb}
 use Rattle.std.proofs.lemmas.List.Filters.{FiltersInPlace-more_swap, FiltersInPlace-more_no, FiltersInPlace-all}
 use Rattle.facts.proofs.SortedEdits.{sorted_filtered, values_below}
 use Rattle.facts.proofs.sorted.Sorted+K+usize.keep_below.Goals as goal

@@ -1,6 +1,4 @@
-use Rattle.std.proofs.Common.{◌∙◌, List}
-use Rattle.std.specs.Prelude.{map}
-use Rattle.std.specs.Str.{bytes_eq}
+use Rattle.std.proofs.Common.{◌∙◌, List, map, bytes_eq}
 use Rattle.std.specs.declared.snapshot.Snapshot.{Snapshot}
 use Rattle.std.proofs.lemmas.List.Elements.{All-filter, All-same}
 use Rattle.ops_tables.specs.Grouped.{rows_at}

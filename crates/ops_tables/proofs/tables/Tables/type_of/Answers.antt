@@ -1,6 +1,4 @@
-use Rattle.std.proofs.Common.{◌≡◌, ◌∙◌, ap, sym, None}
-use Rattle.std.specs.Prelude.{find, is_some, IsTrue, IfSome}
-use Rattle.std.specs.Str.{bytes_eq}
+use Rattle.std.proofs.Common.{◌≡◌, ◌∙◌, ap, sym, None, find, is_some, IsTrue, IfSome, bytes_eq}
 use Rattle.ops_tables.specs.Shown.{shown}
 use Rattle.ops_tables.specs.Tables.{tail_named, has_type}
 use Rattle.ops_tables.specs.declared.rows.Tail.{Tail}
