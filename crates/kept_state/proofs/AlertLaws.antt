@@ -28,17 +28,17 @@ record IsOpen (events : ℕ) (a : KeptAlert) : Type 0 where
   pub valid : IsKeptAlert a
   pub version : a.version ≤ events
 
-alert_among : (rs : List Record) (m : MetaOf) (x : Record) → IsAmong rs m x → IfSome (alert_in x) (IsOpen m.events)
+alert_among : (rs : List Record) (m : MetaOf) (x : Record) → IsAmong rs m x → IfSome (alert_in x) (IsOpen m.counters.events)
 unfolding IsRecord
-alert_among rs m (Alert a) is = record { valid = is.valid; version = ltb-false m.events a.version is.ahead }
+alert_among rs m (Alert a) is = record { valid = is.valid; version = ltb-false m.counters.events a.version is.ahead }
 alert_among rs m (Meta n) is = tt
 alert_among rs m (Report r) is = tt
 alert_among rs m (Deferral d) is = tt
 alert_among rs m (Release r) is = tt
 alert_among rs m (Kept k) is = tt
 
-open_alerts : (rs : List Record) (m : MetaOf) → AreOfDesk rs → meta_in rs ≡ Some m → AllByRecursion (IsOpen m.events) (filter_map alert_in rs)
-open_alerts rs m are is = each_mapped (IsAmong rs m) (IsOpen m.events) alert_in (alert_among rs m) rs (each_among rs m are is)
+open_alerts : (rs : List Record) (m : MetaOf) → AreOfDesk rs → meta_in rs ≡ Some m → AllByRecursion (IsOpen m.counters.events) (filter_map alert_in rs)
+open_alerts rs m are is = each_mapped (IsAmong rs m) (IsOpen m.counters.events) alert_in (alert_among rs m) rs (each_among rs m are is)
 
 abbrev Earlier : KeptAlert → KeptAlert → Type 0
 Earlier a b = a.release < b.release
@@ -105,13 +105,13 @@ rises_are releases a b less = rises_by a b (release_at a.release releases) (rele
 abbrev pub alerts_in : List Record → List AlertOf
 alerts_in rs = filter_map (alert_of (filter_map release_in rs)) (filter_map alert_in rs)
 
-pub alerts_are : (rs : List Record) (m : MetaOf) → AreOfDesk rs → meta_in rs ≡ Some m → AllByRecursion (IsAlert m.events) (alerts_in rs)
+pub alerts_are : (rs : List Record) (m : MetaOf) → AreOfDesk rs → meta_in rs ≡ Some m → AllByRecursion (IsAlert m.counters.events) (alerts_in rs)
 alerts_are rs m are is =
-    each_mapped (IsOpen m.events) (IsAlert m.events) (alert_of (filter_map release_in rs)) (alert_is (filter_map release_in rs) m.events) (filter_map alert_in rs) (open_alerts rs m are is)
+    each_mapped (IsOpen m.counters.events) (IsAlert m.counters.events) (alert_of (filter_map release_in rs)) (alert_is (filter_map release_in rs) m.counters.events) (filter_map alert_in rs) (open_alerts rs m are is)
 
 alerts_held : (rs : List Record) (m : MetaOf) → AreOfDesk rs → meta_in rs ≡ Some m → AllByRecursion (IsHolders (filter_map release_in rs)) (alerts_in rs)
 alerts_held rs m are is =
-    each_mapped (IsOpen m.events) (IsHolders (filter_map release_in rs)) (alert_of (filter_map release_in rs)) (holders_are (filter_map release_in rs) m.events) (filter_map alert_in rs)
+    each_mapped (IsOpen m.counters.events) (IsHolders (filter_map release_in rs)) (alert_of (filter_map release_in rs)) (holders_are (filter_map release_in rs) m.counters.events) (filter_map alert_in rs)
     (open_alerts rs m are is)
 
 alerts_rise : (rs : List Record) → AreOfDesk rs → Pairs Rises (alerts_in rs)
@@ -231,5 +231,5 @@ own_all low (r ∷ rs) next rise (a ∷ others) pairs taken = own_step (eqb a.re
 pub alerts_own : (rs : List Record) (m : MetaOf) → AreOfDesk rs → meta_in rs ≡ Some m → alerts_in rs ≡ filter_map (λ r. alert_at r.id (alerts_in rs)) (filter_map release_in rs)
 unfolding Own
 alerts_own rs m are is =
-    own_all 0 (filter_map release_in rs) m.next_release (releases_rise rs m are is) (alerts_in rs) (alerts_rise rs are)
+    own_all 0 (filter_map release_in rs) m.counters.next_release (releases_rise rs m are is) (alerts_in rs) (alerts_rise rs are)
     (weaker (IsHolders (filter_map release_in rs)) (λ a. IsTaken a.release (filter_map release_in rs)) (λ a held. held.taken) (alerts_in rs) (alerts_held rs m are is))

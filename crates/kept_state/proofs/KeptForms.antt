@@ -44,16 +44,18 @@ meta_valid s is floors rising =
     let room = is.room in
     record {
       moment = is.moment;
-      events = omega (arith, room);
-      next_report = let few = is.counters.report in omega (arith, room, few);
-      next_deferral = let few = is.counters.deferral in omega (arith, room, few);
-      next_release = let few = is.counters.release in omega (arith, room, few);
-      next_kept = let few = is.counters.accepted in omega (arith, room, few);
+      counters = record {
+        events = omega (arith, room);
+        next_report = let few = is.counters.report in omega (arith, room, few);
+        next_deferral = let few = is.counters.deferral in omega (arith, room, few);
+        next_release = let few = is.counters.release in omega (arith, room, few);
+        next_kept = let few = is.counters.accepted in omega (arith, room, few);
+      };
       floors = floors;
       rising = rising;
     }
 
-none_outruns : (s : State) → Counts s → outruns (meta_of s) ≡ false
+none_outruns : (s : State) → Counts s → outruns s.counters ≡ false
 none_outruns s is =
     let c = s.counters in
     let most = c.events + 1 in
@@ -68,7 +70,7 @@ none_outruns s is =
 -- a valid record that outruns no counter
 pub record IsKeptRecord (s : State) (r : Record) : Type 0 where
   pub valid : IsRecord r
-  pub ahead : is_ahead (meta_of s) r ≡ false
+  pub ahead : is_ahead s.counters r ≡ false
 
 pub kept_meta : (s : State) → Counts s → AllByRecursion IsFloor s.floors → FloorsRise s.floors → IsKeptRecord s (Meta (meta_of s))
 unfolding IsRecord

@@ -13,7 +13,7 @@ use Rattle.desk_state.specs.Sound.{Sound, InBounds, EffectFits}
 use Rattle.desk_state.specs.State.{State, start}
 use Rattle.desk_state.specs.Step.{entered, kept_of}
 use Rattle.records.specs.Bodies.{row_of}
-use Rattle.records.specs.declared.record.Meta.{Meta as Counters}
+use Rattle.records.specs.declared.record.Meta.{Meta as MetaOf}
 use Rattle.records.specs.declared.record.Record.{Record}
 use Rattle.records.specs.declared.record.Record.TheVariants.{Meta, Report, Deferral, Release, Kept, Alert}
 use Rattle.kept_state.specs.Rows.{meta_of, report_kept, alert_kept, records_of, state_rows, AreKept}
@@ -76,7 +76,7 @@ module _ (s : State) (effect : Effect) (e : Entry) (fits : EffectFits s effect) 
 
 module _ (rows : Rows) (s : State) (effect : Effect) (e : Entry) (fits : EffectFits s effect) (sound : Sound s) (bounds : InBounds s) where
   -- the row of the counters is put, whether one stood there or not
-  put_first : (m : Counters) (k q : ℕ)
+  put_first : (m : MetaOf) (k q : ℕ)
       → cond (is_row k q (meta_row m)) (Some (meta_row m).body) None ≡ cond (is_row k q (meta_row m)) (Some (meta_row m).body) (rows_of (state_rows (start s.tables)) k q)
   unfolding state_rows records_of row_of
   put_first m k q = by (eqb 0 k && eqb 0 q) (Some (meta_row m).body) (meta_row (meta_of (start s.tables)))

@@ -19,7 +19,7 @@ use Rattle.records.specs.declared.record.KeptReport.{KeptReport}
 use Rattle.records.specs.declared.record.Meta.{Meta as MetaOf}
 use Rattle.records.specs.declared.record.Record.{Record}
 use Rattle.records.specs.declared.record.Record.TheVariants.{Meta, Report, Deferral, Release, Kept, Alert}
-use Rattle.kept_state.specs.Held.{alert_in, alert_of, alert_with, counters_of, deferral_in, release_in, reply_in, report_if, report_in, report_of, state_in}
+use Rattle.kept_state.specs.Held.{alert_in, alert_of, alert_with, deferral_in, release_in, reply_in, report_if, report_in, report_of, state_in}
 use Rattle.kept_state.specs.Rows.{alert_kept, report_kept}
 use Rattle.kept_state.proofs.Lists.{both, each_mapped}
 use Rattle.kept_state.proofs.AlertLaws.{found_self, rise_pairs}
@@ -79,7 +79,7 @@ module _ (m : MetaOf) (reports : List KeptReport) (deferrals : List DeferralOf) 
   listed_state tables = record {
     tables = tables;
     moment = m.moment;
-    counters = counters_of m;
+    counters = m.counters;
     reports = filter_map report_of reports;
     deferrals = deferrals;
     releases = releases;

@@ -251,7 +251,7 @@ fn put_meta(
     entered: &Entry,
 ) -> Result<Change, OutOfMemory>
     requires moment { IsMoment (moment_after effect.now.moment content.now.moment) }
-    requires small { AreSmall (state_of content.now) effect.now }
+    requires small { AreSmall content.now.counters effect.now }
     ensures { IfOk result (λ c. c ≡ spec.put (Record.Meta (meta_of
         (step.entered entered.now (effected effect.now (state_of content.now)))))) }
 {

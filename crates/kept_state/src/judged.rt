@@ -7,7 +7,7 @@ ghost use Rattle.kept_state.specs.Shown.{WasOpened};
 use crate::changes::push_alerts;
 use crate::held::put;
 use desk_io::{Change, Copied, OutOfMemory};
-use desk_state::{AlertChange, Content};
+use desk_state::{AlertChange, Content, Counters};
 use records::{Meta, Record};
 use std::alloc::Global;
 
@@ -15,14 +15,12 @@ fn meta_after_event(alloc: Global, content: &Content) -> Result<Meta, OutOfMemor
     requires { content.now.counters.events < 999_999_999_999_999 }
     ensures { IfOk result (λ m. m ≡ spec.after_event (state_of content.now)) }
 {
-    let counters = &content.counters;
     Ok(Meta {
         moment: content.moment,
-        events: counters.events + 1,
-        next_report: counters.next_report,
-        next_deferral: counters.next_deferral,
-        next_release: counters.next_release,
-        next_kept: counters.next_kept,
+        counters: Counters {
+            events: content.counters.events + 1,
+            ..content.counters
+        },
         floors: content.floors.copy(alloc)?,
     })
 }

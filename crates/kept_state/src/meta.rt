@@ -7,7 +7,7 @@ ghost use Rattle.kept_state.specs.Shown.{IsSmall, IsSmallReport, IsSmallDeferral
 
 use asks::Floors;
 use desk_io::{Copied, OutOfMemory};
-use desk_state::{Content, Effect, Entry, OnDeferrals, OnReleases, Sweep, What};
+use desk_state::{Content, Counters, Effect, Entry, OnDeferrals, OnReleases, Sweep, What};
 use desk_time::Minute;
 use facts::Report;
 use records::Meta;
@@ -71,6 +71,19 @@ fn floors_after<'a>(sweep: &'a Option<Sweep>, floors: &'a Floors) -> &'a Floors
     }
 }
 
+fn counters_after(counters: &Counters, effect: &Effect, entered: &Entry) -> Counters
+    requires { AreSmall counters.now effect.now }
+    ensures { result ≡ step.counted entered.now.what (events.counters_after effect.now counters.now) }
+{
+    Counters {
+        events: counters.events + 1,
+        next_report: next_report(&effect.report, counters.next_report),
+        next_deferral: next_deferral(&effect.on_deferrals, counters.next_deferral),
+        next_release: next_release(&effect.on_releases, counters.next_release),
+        next_kept: next_kept(&entered.what, counters.next_kept),
+    }
+}
+
 /// The moment, the counters and the floors after an event.
 pub(crate) fn meta_after(
     alloc: Global,
@@ -78,18 +91,13 @@ pub(crate) fn meta_after(
     effect: &Effect,
     entered: &Entry,
 ) -> Result<Meta, OutOfMemory>
-    requires { AreSmall (state_of content.now) effect.now }
+    requires { AreSmall content.now.counters effect.now }
     ensures { IfOk result (λ m. m ≡ spec.meta_of (step.entered entered.now
         (events.effected effect.now (state_of content.now)))) }
 {
-    let counters = &content.counters;
     Ok(Meta {
         moment: moment_after(effect.moment, content.moment),
-        events: counters.events + 1,
-        next_report: next_report(&effect.report, counters.next_report),
-        next_deferral: next_deferral(&effect.on_deferrals, counters.next_deferral),
-        next_release: next_release(&effect.on_releases, counters.next_release),
-        next_kept: next_kept(&entered.what, counters.next_kept),
+        counters: counters_after(&content.counters, effect, entered),
         floors: floors_after(&effect.sweep, &content.floors).copy(alloc)?,
     })
 }

@@ -46,13 +46,13 @@ fn meta_members(alloc: Global, meta: &Meta) -> Result<Members, OutOfMemory>
     requires { IsMoment meta.now.moment }
     ensures { IfOk result (λ all. members_view all.entries ≡ spec.meta_members meta.now) }
 {
-    let members = with_count(alloc, Map::new(alloc), "events", meta.events)?;
+    let members = with_count(alloc, Map::new(alloc), "events", meta.counters.events)?;
     let floors = floors_value(alloc, &meta.floors)?;
     let members = with_value(alloc, members, "floors", floors)?;
-    let members = with_count(alloc, members, "next_deferral", meta.next_deferral)?;
-    let members = with_count(alloc, members, "next_kept", meta.next_kept)?;
-    let members = with_count(alloc, members, "next_release", meta.next_release)?;
-    let members = with_count(alloc, members, "next_report", meta.next_report)?;
+    let members = with_count(alloc, members, "next_deferral", meta.counters.next_deferral)?;
+    let members = with_count(alloc, members, "next_kept", meta.counters.next_kept)?;
+    let members = with_count(alloc, members, "next_release", meta.counters.next_release)?;
+    let members = with_count(alloc, members, "next_report", meta.counters.next_report)?;
     let members = with_moment(alloc, members, "now", meta.moment)?;
     with_count(alloc, members, "version", 1)
 }
