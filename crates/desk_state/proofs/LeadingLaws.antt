@@ -37,7 +37,7 @@ use Rattle.desk_state.specs.Chain.{unless}
 use Rattle.desk_state.specs.People.{may_ask, mistaken, not_his_role}
 use Rattle.desk_state.specs.Decide as d
 use Rattle.desk_state.specs.Decide.{decide}
-use Rattle.desk_state.specs.Allowed.{IsAcknowledged, IsLeft, FollowsIf, IsAlertAfter, IsEffectOf, IsUnused, DecisionOf, IsEntryOf, IsAfter, IsKeptOf, IsPermitted, IsSaidTo, MayLeadTo, MayTickTo}
+use Rattle.desk_state.specs.Allowed.{IsAcknowledged, LeavesAlert, FollowsIf, IsAlertAfter, IsEffectOf, IsUnused, DecisionOf, IsEntryOf, IsAfter, IsKeptOf, IsPermitted, IsSaidTo, MayLeadTo, MayTickTo}
 use Rattle.desk_state.proofs.AllowedLaws.{decision_is, so, same_bytes}
 
 -- Who may make a call.
@@ -92,7 +92,7 @@ option_left seen id (Some a) is = seen_left seen id a is
 take_left : (id gone : ℕ) (o : Option Alert) → (id ≡ gone → cond (eqb id gone) None o ≡ None) × (id ≢ gone → cond (eqb id gone) None o ≡ o)
 take_left id gone o = (λ e. rw (eq-eqb id gone e) refl, λ ne. rw (ne_eqb id gone ne) refl)
 
-is_left : (on : OnAlerts) (id : ℕ) (o : Option Alert) → IfSome o (IsOf id) → IsLeft on id o (kept_alert on id o)
+is_left : (on : OnAlerts) (id : ℕ) (o : Option Alert) → IfSome o (IsOf id) → LeavesAlert on id o (kept_alert on id o)
 is_left on_alerts.Nothing id o is = refl
 is_left (on_alerts.Take gone) id o is = take_left id gone o
 is_left (on_alerts.Acknowledge seen) id o is = option_left seen id o is

@@ -49,11 +49,11 @@ swapped false false = refl
 abbrev pub Counted : {B : Type 0} → ℕ → (Record → Option B) → Type 0
 Counted kind f = (r : Record) (rs : List Record) → length (filter_map f (r ∷ rs)) ≡ cond (is_kind kind r) (1 + length (filter_map f rs)) (length (filter_map f rs))
 
-how_many : {B : Type 0} (kind : ℕ) (f : Record → Option B) → Counted kind f → (rs : List Record) → length (filter_map f rs) ≡ count_by (is_kind kind) rs
-how_many kind f counted rs = is_count_by (λ xs. length (filter_map f xs)) (is_kind kind) refl counted rs
+as_many : {B : Type 0} (kind : ℕ) (f : Record → Option B) → Counted kind f → (rs : List Record) → length (filter_map f rs) ≡ count_by (is_kind kind) rs
+as_many kind f counted rs = is_count_by (λ xs. length (filter_map f xs)) (is_kind kind) refl counted rs
 
 pub at_most : {B : Type 0} (kind : ℕ) (f : Record → Option B) → Counted kind f → (rs : List Record) (most : ℕ) → count_by (is_kind kind) rs ≤ most → length (filter_map f rs) ≤ most
-at_most kind f counted rs most few = let same = how_many kind f counted rs in omega (arith, same, few)
+at_most kind f counted rs most few = let same = as_many kind f counted rs in omega (arith, same, few)
 
 count_report : Counted 1 report_in
 count_report (Meta m) rs = refl

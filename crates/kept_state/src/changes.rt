@@ -14,7 +14,7 @@ ghost use Rattle.kept_state.specs.Changes as spec;
 ghost use Rattle.kept_state.specs.Rows.{meta_of};
 ghost use Rattle.kept_state.specs.Shown.{AreSmall, WasReceived, WasFound, IsShownRelease, WasAccepted, WasOpened, AreShown};
 
-use crate::held::{alert_kept, put, report_kept};
+use crate::held::{alert_kept, put_row, report_kept};
 use crate::meta::meta_after;
 use alerts::Alert;
 use asks::KeptReply;
@@ -56,7 +56,7 @@ fn push_report(
 {
     if let Some(report) = report {
         let held = Record::Report(report_kept(alloc, report)?);
-        changes.push(put(alloc, held)?)?;
+        changes.push(put_row(alloc, held)?)?;
     }
     Ok(())
 }
@@ -115,7 +115,7 @@ fn push_deferral(
         OnDeferrals::Nothing => {}
         OnDeferrals::Open(deferral) => {
             let held = Record::Deferral(deferral.copy(alloc)?);
-            changes.push(put(alloc, held)?)?;
+            changes.push(put_row(alloc, held)?)?;
         }
         OnDeferrals::Clear { deferral } => changes.push(Change::Remove {
             kind: DEFERRAL,
@@ -127,9 +127,9 @@ fn push_deferral(
 
 fn put_release(alloc: Global, release: &Release) -> Result<Change, OutOfMemory>
     requires { ReleaseHasMoments release.now }
-    ensures { IfOk result (λ c. c ≡ spec.put (Record.Release release.now)) }
+    ensures { IfOk result (λ c. c ≡ spec.put_row (Record.Release release.now)) }
 {
-    put(alloc, Record::Release(release.copy(alloc)?))
+    put_row(alloc, Record::Release(release.copy(alloc)?))
 }
 
 fn push_release(
@@ -195,7 +195,7 @@ fn push_reply(
 {
     if let Some(kept) = kept {
         let held = Record::Kept(kept.copy(alloc)?);
-        changes.push(put(alloc, held)?)?;
+        changes.push(put_row(alloc, held)?)?;
     }
     Ok(())
 }
@@ -221,7 +221,7 @@ fn alert_change(alloc: Global, release: u64, alert: &Option<Alert>) -> Result<Ch
     ensures { IfOk result (λ c. c ≡ spec.alert_row release alert.now) }
 {
     match alert {
-        Some(alert) => put(alloc, Record::Alert(alert_kept(alloc, alert)?)),
+        Some(alert) => put_row(alloc, Record::Alert(alert_kept(alloc, alert)?)),
         None => Ok(Change::Remove {
             kind: ALERT,
             key: release,
@@ -252,10 +252,10 @@ fn put_meta(
 ) -> Result<Change, OutOfMemory>
     requires moment { IsMoment (moment_after effect.now.moment content.now.moment) }
     requires small { AreSmall content.now.counters effect.now }
-    ensures { IfOk result (λ c. c ≡ spec.put (Record.Meta (meta_of
+    ensures { IfOk result (λ c. c ≡ spec.put_row (Record.Meta (meta_of
         (step.entered entered.now (effected effect.now (state_of content.now)))))) }
 {
-    put(
+    put_row(
         alloc,
         Record::Meta(meta_after(alloc, content, effect, entered)?),
     )
@@ -290,7 +290,7 @@ fn shown_changes(
     alerts: &[AlertChange],
 ) -> Result<Vec<Change>, OutOfMemory>
     requires { AreShown (state_of content.now) effect.now (option_copied kept) alerts.now }
-    ensures { IfOk result (λ changes. changes.items ≡ spec.put
+    ensures { IfOk result (λ changes. changes.items ≡ spec.put_row
         (Record.Meta (meta_of (step.entered entered.now (effected effect.now (state_of content.now))))) ∷
         spec.part_changes (state_of content.now) effect.now (option_copied kept.entry) alerts.now) }
 {

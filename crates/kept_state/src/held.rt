@@ -35,9 +35,9 @@ pub(crate) fn alert_kept(alloc: Global, alert: &Alert) -> Result<KeptAlert, OutO
 }
 
 /// The row of a record stands there.
-pub(crate) fn put(alloc: Global, held: Record) -> Result<Change, OutOfMemory>
+pub(crate) fn put_row(alloc: Global, held: Record) -> Result<Change, OutOfMemory>
     requires { HasMoments held }
-    ensures { IfOk result (λ c. c ≡ changes.put held) }
+    ensures { IfOk result (λ c. c ≡ changes.put_row held) }
 {
     Ok(Change::Put(row_of(alloc, &held)?))
 }

@@ -5,7 +5,7 @@ ghost use Rattle.kept_state.specs.Judged as spec;
 ghost use Rattle.kept_state.specs.Shown.{WasOpened};
 
 use crate::changes::push_alerts;
-use crate::held::put;
+use crate::held::put_row;
 use desk_io::{Change, Copied, OutOfMemory};
 use desk_state::{AlertChange, Content, Counters};
 use records::{Meta, Record};
@@ -13,7 +13,7 @@ use std::alloc::Global;
 
 fn meta_after_event(alloc: Global, content: &Content) -> Result<Meta, OutOfMemory>
     requires { content.now.counters.events < 999_999_999_999_999 }
-    ensures { IfOk result (λ m. m ≡ spec.after_event (state_of content.now)) }
+    ensures { IfOk result (λ m. m ≡ spec.meta_after_event (state_of content.now)) }
 {
     Ok(Meta {
         moment: content.moment,
@@ -40,7 +40,7 @@ pub fn judged_changes(
 {
     let mut changes = Vec::new(alloc);
     if !alerts.is_empty() {
-        changes.push(put(alloc, Record::Meta(meta_after_event(alloc, content)?))?)?;
+        changes.push(put_row(alloc, Record::Meta(meta_after_event(alloc, content)?))?)?;
         push_alerts(alloc, &mut changes, alerts)?;
     }
     Ok(changes)
