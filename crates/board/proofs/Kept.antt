@@ -27,6 +27,7 @@ use Rattle.desk_state.proofs.ToldLaws.{call_told, tick_told}
 use Rattle.desk_state.proofs.LeadingLaws.{call_leads, tick_leads}
 use Rattle.desk_state.proofs.Changes.{changes_lead}
 use Rattle.desk_state.proofs.Deciding.{decision_fits}
+use Rattle.desk_state.proofs.Parts.{tick_fits}
 use Rattle.desk_state.specs.Contents.{state_of}
 use Rattle.desk_state.specs.Effects.{tick}
 use Rattle.desk_state.specs.declared.content.Content.{Content}
@@ -160,9 +161,6 @@ install_shows before opening s t room p is leads =
 
 pub room_is : (before : Shown) (opening s : State) (room : Option Prepared) (p : Prepared) → shown opening s room ≡ before → before.room ≡ Some p → room ≡ Some p
 room_is before opening s room p is has = ap (λ (b : Shown). b.room) is ∙ has
-
-tick_fits : (s : State) (to : ℕ) → IsMoment to → EffectFits s (tick to)
-tick_fits s to shown = record { moment = shown; report = tt; apart = tt; deferrals = tt; releases = tt }
 
 -- a tick fits, and may be made
 pub tick_fits_as : (s : State) (to : ℕ) (effect : Effect) → effect ≡ tick to → IsMoment to → EffectFits s effect

@@ -22,8 +22,9 @@ use Rattle.desk_state.specs.declared.effect.OnDeferrals.{OnDeferrals}
 use Rattle.desk_state.specs.declared.effect.OnDeferrals.TheVariants as on_deferrals
 use Rattle.desk_state.specs.declared.effect.OnReleases.{OnReleases}
 use Rattle.desk_state.specs.declared.effect.OnReleases.TheVariants as on_releases
+use Rattle.desk_state.specs.Effects.{tick}
 use Rattle.desk_state.specs.Events.{put_release, without_release, moment_after, reports_after, reports_swept, is_since, kept_after, deferrals_after, releases_after, next_report, next_deferral, next_release}
-use Rattle.desk_state.specs.Sound.{Sound, AreJudgeable, MayStand, ReleaseInBounds, IsNumbered, IsOpen, AreOpen, MayOpen, IsNext, AreUnlike, AreSingle, IsToldTo, Rise, DeferralsFit, ReleasesFit}
+use Rattle.desk_state.specs.Sound.{Sound, AreJudgeable, MayStand, ReleaseInBounds, IsNumbered, IsOpen, AreOpen, MayOpen, IsNext, AreUnlike, AreSingle, IsToldTo, Rise, DeferralsFit, ReleasesFit, EffectFits}
 use Rattle.desk_state.specs.Requests.{is_request, kept_at}
 use Rattle.desk_state.specs.State.{State, alert_at}
 use Rattle.desk_state.proofs.Each.{each_push, each_weaker, put_each, put_length, without_each, without_shorter}
@@ -32,6 +33,9 @@ use Rattle.desk_state.proofs.Judging.{AreTold, none_next, rise_push, rise_put, r
 pub moment_shown : (o : Option ℕ) (moment : ℕ) → IfSome o IsMoment → IsMoment moment → IsMoment (moment_after o moment)
 moment_shown None moment fits is = is
 moment_shown (Some to) moment fits is = fits
+
+pub tick_fits : (s : State) (to : ℕ) → IsMoment to → EffectFits s (tick to)
+tick_fits s to shown = record { moment = shown; report = tt; apart = tt; deferrals = tt; releases = tt }
 
 -- Reports.
 
