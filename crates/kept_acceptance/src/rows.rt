@@ -191,7 +191,7 @@ fn says(record: &Record) -> bool {
 fn is_row_of(alloc: Global, row: &Row, record: &Record) -> Result<bool, OutOfMemory>
     requires { HasMoments record.now }
 {
-    let again = row_of(alloc, record)?;
+    let again = row_of(alloc, &record.lent())?;
     Ok(again.kind == row.kind && again.key == row.key && again.body.bytes() == row.body.bytes())
 }
 

@@ -1,17 +1,16 @@
-ghost use Rattle.std.specs.Prelude.{◌≡◌, IfOk};
+ghost use Rattle.std.specs.Prelude.{◌≡◌};
 ghost use Rattle.desk_state.specs.Contents.{state_of};
 ghost use Rattle.desk_state.specs.Events as events;
 ghost use Rattle.desk_state.specs.Step as step;
+ghost use Rattle.records.specs.Lent.{lent};
 ghost use Rattle.kept_state.specs.Rows as spec;
 ghost use Rattle.kept_state.specs.Shown.{IsSmall, IsSmallReport, IsSmallDeferral, IsSmallRelease, AreSmall};
 
 use asks::Floors;
-use desk_io::{Copied, OutOfMemory};
 use desk_state::{Content, Counters, Effect, Entry, OnDeferrals, OnReleases, Sweep, What};
 use desk_time::Minute;
 use facts::Report;
-use records::Meta;
-use std::alloc::Global;
+use records::{MetaRef, Record, RecordRef};
 
 fn moment_after(to: Option<Minute>, moment: Minute) -> Minute
     ensures { result ≡ events.moment_after to moment }
@@ -85,19 +84,18 @@ fn counters_after(counters: &Counters, effect: &Effect, entered: &Entry) -> Coun
 }
 
 /// The moment, the counters and the floors after an event.
-pub(crate) fn meta_after(
-    alloc: Global,
-    content: &Content,
-    effect: &Effect,
+pub(crate) fn meta_after<'a>(
+    content: &'a Content,
+    effect: &'a Effect,
     entered: &Entry,
-) -> Result<Meta, OutOfMemory>
+) -> RecordRef<'a>
     requires { AreSmall content.now.counters effect.now }
-    ensures { IfOk result (λ m. m ≡ spec.meta_of (step.entered entered.now
+    ensures { lent result ≡ Record.Meta (spec.meta_of (step.entered entered.now
         (events.effected effect.now (state_of content.now)))) }
 {
-    Ok(Meta {
+    RecordRef::Meta(MetaRef {
         moment: moment_after(effect.moment, content.moment),
         counters: counters_after(&content.counters, effect, entered),
-        floors: floors_after(&effect.sweep, &content.floors).copy(alloc)?,
+        floors: floors_after(&effect.sweep, &content.floors),
     })
 }
