@@ -9,7 +9,7 @@ use Rattle.alerts.specs.Alerts.{IsAlert}
 use Rattle.plan.specs.declared.release.Release.{Release as ReleaseOf}
 use Rattle.desk_state.specs.Sound.{IsTaken, IsToldTo, Rise}
 use Rattle.desk_state.specs.State.{release_at, alert_at}
-use Rattle.desk_state.proofs.Each.{found_each}
+use Rattle.desk_state.proofs.Each.{found_each, each_weaker}
 use Rattle.desk_state.proofs.Judging.{IsOf, found_of}
 use Rattle.records.specs.Valid.{IsRecord, IsKeptAlert}
 use Rattle.records.specs.declared.record.KeptAlert.{KeptAlert}
@@ -17,18 +17,18 @@ use Rattle.records.specs.declared.record.Meta.{Meta as MetaOf}
 use Rattle.records.specs.declared.record.Record.{Record}
 use Rattle.records.specs.declared.record.Record.TheVariants.{Meta, Report, Deferral, Release, Kept, Alert}
 use Rattle.kept_state.specs.Held.{AreOfDesk, alert_in, alert_of, alert_with, meta_in, release_in}
-use Rattle.kept_state.proofs.Lists.{Pairs, each_mapped, pairs_mapped, weaker}
+use Rattle.kept_state.proofs.Lists.{Pairs, each_mapped, pairs_mapped}
 use Rattle.kept_state.proofs.Fitting.{Agree, IsAmong, all_agree, each_among}
 use Rattle.kept_state.proofs.ReleaseLaws.{Below, release_pairs, releases_rise}
 
 -- ---- the alerts that are kept
 
 -- a valid alert of a version that is no greater than a number
-record IsOpen (events : ℕ) (a : KeptAlert) : Type 0 where
+record IsOpenAlert (events : ℕ) (a : KeptAlert) : Type 0 where
   pub valid : IsKeptAlert a
   pub version : a.version ≤ events
 
-alert_among : (rs : List Record) (m : MetaOf) (x : Record) → IsAmong rs m x → IfSome (alert_in x) (IsOpen m.counters.events)
+alert_among : (rs : List Record) (m : MetaOf) (x : Record) → IsAmong rs m x → IfSome (alert_in x) (IsOpenAlert m.counters.events)
 unfolding IsRecord
 alert_among rs m (Alert a) is = record { valid = is.valid; version = ltb-false m.counters.events a.version is.ahead }
 alert_among rs m (Meta n) is = tt
@@ -37,8 +37,8 @@ alert_among rs m (Deferral d) is = tt
 alert_among rs m (Release r) is = tt
 alert_among rs m (Kept k) is = tt
 
-open_alerts : (rs : List Record) (m : MetaOf) → AreOfDesk rs → meta_in rs ≡ Some m → AllByRecursion (IsOpen m.counters.events) (filter_map alert_in rs)
-open_alerts rs m are is = each_mapped (IsAmong rs m) (IsOpen m.counters.events) alert_in (alert_among rs m) rs (each_among rs m are is)
+open_alerts : (rs : List Record) (m : MetaOf) → AreOfDesk rs → meta_in rs ≡ Some m → AllByRecursion (IsOpenAlert m.counters.events) (filter_map alert_in rs)
+open_alerts rs m are is = each_mapped (IsAmong rs m) (IsOpenAlert m.counters.events) alert_in (alert_among rs m) rs (each_among rs m are is)
 
 abbrev Earlier : KeptAlert → KeptAlert → Type 0
 Earlier a b = a.release < b.release
@@ -66,28 +66,28 @@ record IsHolders (releases : List ReleaseOf) (a : AlertOf) : Type 0 where
   pub taken : IsTaken a.release releases
   pub told : IfSome (release_at a.release releases) (λ r. a.desk ≡ r.holder)
 
-found_by : (id : ℕ) (q : ReleaseOf) (b : Bool) (later : Option ReleaseOf) (any : Bool) (r : ReleaseOf) → eqb q.id id ≡ b → cond b (Some q) later ≡ Some r → (later ≡ Some r → any ≡ true) → (b || any) ≡ true
-found_by id q true later any r e found rest = refl
-found_by id q false later any r e found rest = rest found
+taken_by : (b any : Bool) (q r : ReleaseOf) (later : Option ReleaseOf) → cond b (Some q) later ≡ Some r → (later ≡ Some r → any ≡ true) → (b || any) ≡ true
+taken_by true any q r later found rest = refl
+taken_by false any q r later found rest = rest found
 
 -- what is found is there
-found_taken : (id : ℕ) (rs : List ReleaseOf) (r : ReleaseOf) → release_at id rs ≡ Some r → IsTaken id rs
+pub found_taken : (id : ℕ) (rs : List ReleaseOf) (r : ReleaseOf) → release_at id rs ≡ Some r → IsTaken id rs
 found_taken id [] r found = absurd (cc)
-found_taken id (q ∷ qs) r found = found_by id q (eqb q.id id) (release_at id qs) (list_any (λ x. x.id == id) qs) r refl found (found_taken id qs r)
+found_taken id (q ∷ qs) r found = taken_by (eqb q.id id) (list_any (λ x. x.id == id) qs) q r (release_at id qs) found (found_taken id qs r)
 
 holders_by : (releases : List ReleaseOf) (a : KeptAlert) (o : Option ReleaseOf) → release_at a.release releases ≡ o → IfSome (option_map (λ r. alert_with a r.holder) o) (IsHolders releases)
 holders_by releases a None is = tt
 holders_by releases a (Some r) is = record { taken = found_taken a.release releases r is; told = rw is refl }
 
-holders_are : (releases : List ReleaseOf) (events : ℕ) (a : KeptAlert) → IsOpen events a → IfSome (alert_of releases a) (IsHolders releases)
+holders_are : (releases : List ReleaseOf) (events : ℕ) (a : KeptAlert) → IsOpenAlert events a → IfSome (alert_of releases a) (IsHolders releases)
 holders_are releases events a is = holders_by releases a (release_at a.release releases) refl
 
-alert_by : (events : ℕ) (a : KeptAlert) (o : Option ReleaseOf) → IsOpen events a → IfSome (option_map (λ r. alert_with a r.holder) o) (IsAlert events)
+alert_by : (events : ℕ) (a : KeptAlert) (o : Option ReleaseOf) → IsOpenAlert events a → IfSome (option_map (λ r. alert_with a r.holder) o) (IsAlert events)
 alert_by events a None is = tt
 alert_by events a (Some r) is =
     record { moment = is.valid.opened; first = is.valid.first; version = is.version; failing = is.valid.failing.order; ever = is.valid.ever.order; among = is.valid.among }
 
-alert_is : (releases : List ReleaseOf) (events : ℕ) (a : KeptAlert) → IsOpen events a → IfSome (alert_of releases a) (IsAlert events)
+alert_is : (releases : List ReleaseOf) (events : ℕ) (a : KeptAlert) → IsOpenAlert events a → IfSome (alert_of releases a) (IsAlert events)
 alert_is releases events a is = alert_by events a (release_at a.release releases) is
 
 abbrev pub Rises : AlertOf → AlertOf → Type 0
@@ -107,11 +107,11 @@ alerts_in rs = filter_map (alert_of (filter_map release_in rs)) (filter_map aler
 
 pub alerts_are : (rs : List Record) (m : MetaOf) → AreOfDesk rs → meta_in rs ≡ Some m → AllByRecursion (IsAlert m.counters.events) (alerts_in rs)
 alerts_are rs m are is =
-    each_mapped (IsOpen m.counters.events) (IsAlert m.counters.events) (alert_of (filter_map release_in rs)) (alert_is (filter_map release_in rs) m.counters.events) (filter_map alert_in rs) (open_alerts rs m are is)
+    each_mapped (IsOpenAlert m.counters.events) (IsAlert m.counters.events) (alert_of (filter_map release_in rs)) (alert_is (filter_map release_in rs) m.counters.events) (filter_map alert_in rs) (open_alerts rs m are is)
 
 alerts_held : (rs : List Record) (m : MetaOf) → AreOfDesk rs → meta_in rs ≡ Some m → AllByRecursion (IsHolders (filter_map release_in rs)) (alerts_in rs)
 alerts_held rs m are is =
-    each_mapped (IsOpen m.counters.events) (IsHolders (filter_map release_in rs)) (alert_of (filter_map release_in rs)) (holders_are (filter_map release_in rs) m.counters.events) (filter_map alert_in rs)
+    each_mapped (IsOpenAlert m.counters.events) (IsHolders (filter_map release_in rs)) (alert_of (filter_map release_in rs)) (holders_are (filter_map release_in rs) m.counters.events) (filter_map alert_in rs)
     (open_alerts rs m are is)
 
 alerts_rise : (rs : List Record) → AreOfDesk rs → Pairs Rises (alerts_in rs)
@@ -201,13 +201,13 @@ own_step : (b : Bool) (r : ReleaseOf) (rs : List ReleaseOf) (next : ℕ) (a : Al
 unfolding Own
 own_step true r rs next a others e rise own pairs taken =
     let same = eqb-true a.release r.id e in
-    let above : AllByRecursion (λ x. r.id < x.release) others = weaker (Rises a) (λ x. r.id < x.release) (λ x less. omega (arith, same, less)) others pairs.0 in
+    let above : AllByRecursion (λ x. r.id < x.release) others = each_weaker (Rises a) (λ x. r.id < x.release) (λ x less. omega (arith, same, less)) others pairs.0 in
     let beyond : AllByRecursion (λ q. a.release < q.id) rs = rise_above a.release (r.id + 1) rs next (omega (arith, same)) rise in
     ap (λ rest. a ∷ rest) (own others pairs.1 (later_taken r rs others above taken.1) ∙ sym (skip a others rs beyond))
     ∙ ap (λ (c : Bool). cons_option (cond c (Some a) (alert_at r.id others)) (filter_map (λ q. alert_at q.id (a ∷ others)) rs)) (sym e)
 own_step false r rs next a others e rise own pairs taken =
     let less : r.id < a.release = beyond_by r rs next a e rise taken.0 in
-    let above : AllByRecursion (λ x. r.id < x.release) (a ∷ others) = (less, weaker (Rises a) (λ x. r.id < x.release) (λ x later. omega (arith, less, later)) others pairs.0) in
+    let above : AllByRecursion (λ x. r.id < x.release) (a ∷ others) = (less, each_weaker (Rises a) (λ x. r.id < x.release) (λ x later. omega (arith, less, later)) others pairs.0) in
     own (a ∷ others) pairs (later_taken r rs (a ∷ others) above taken)
     ∙ ap (λ (o : Option AlertOf). cons_option o (filter_map (λ q. alert_at q.id (a ∷ others)) rs)) (sym (none_of r.id (a ∷ others) above))
   where
@@ -232,4 +232,4 @@ pub alerts_own : (rs : List Record) (m : MetaOf) → AreOfDesk rs → meta_in rs
 unfolding Own
 alerts_own rs m are is =
     own_all 0 (filter_map release_in rs) m.counters.next_release (releases_rise rs m are is) (alerts_in rs) (alerts_rise rs are)
-    (weaker (IsHolders (filter_map release_in rs)) (λ a. IsTaken a.release (filter_map release_in rs)) (λ a held. held.taken) (alerts_in rs) (alerts_held rs m are is))
+    (each_weaker (IsHolders (filter_map release_in rs)) (λ a. IsTaken a.release (filter_map release_in rs)) (λ a held. held.taken) (alerts_in rs) (alerts_held rs m are is))

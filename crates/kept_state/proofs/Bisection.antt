@@ -7,9 +7,10 @@ use Rattle.std.proofs.lemmas.Bool.{ltb-true, ltb-false, lt-ltb, ne_eqb}
 use Rattle.plan.specs.declared.release.Release.{Release}
 use Rattle.desk_state.specs.State.{release_at}
 use Rattle.kept_state.specs.Held.{if_of}
-use Rattle.kept_state.proofs.Lists.{Pairs, weaker}
+use Rattle.kept_state.proofs.Lists.{Pairs}
 use Rattle.kept_state.proofs.Loops.{pairs_from}
 use Rattle.kept_state.proofs.ReleaseLaws.{Below}
+use Rattle.desk_state.proofs.Each.{each_weaker}
 
 abbrev pub is_below : ℕ → Release → Bool
 is_below id r = nat_lt r.id id
@@ -29,7 +30,7 @@ none_above id (r ∷ rs) above = let less = above.0 in let ne : r.id ≡ id → 
 
 found_first : (id : ℕ) (r : Release) (rs : List Release) (b : Bool) → eqb r.id id ≡ b → id ≤ r.id → AllByRecursion (Below r) rs → cond b (Some r) (release_at id rs) ≡ cond b (Some r) None
 found_first id r rs true e least above = refl
-found_first id r rs false e least above = none_above id rs (weaker (Below r) (λ q. id < q.id) (λ q later. omega (arith, later, least)) rs above)
+found_first id r rs false e least above = none_above id rs (each_weaker (Below r) (λ q. id < q.id) (λ q later. omega (arith, later, least)) rs above)
 
 found_from : (id : ℕ) (rs : List Release) (i : ℕ) → Pairs Below rs → AllWithin (λ r. is_below id r ≡ true) rs 0 i → AllWithin (λ r. is_below id r ≡ false) rs i (length rs)
     → release_at id rs ≡ if_of id (slice_get rs i)

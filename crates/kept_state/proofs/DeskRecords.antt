@@ -23,11 +23,12 @@ use Rattle.records.specs.declared.record.Record.TheVariants.{Meta, Report, Defer
 use Rattle.call_json.specs.Forms.{IsFormed}
 use Rattle.kept_state.specs.Held.{AreOfDesk, comes_before}
 use Rattle.kept_state.proofs.Fitting.{Agree, AreFew}
-use Rattle.kept_state.proofs.Lists.{both, weaker, weaker_pairs}
+use Rattle.kept_state.proofs.Lists.{both, weaker_pairs}
 use Rattle.kept_state.proofs.Segments.{all_any, all_rise, none_if, none_paired, none_placed, room_before}
 use Rattle.kept_state.proofs.Together.{Stands, all_few, all_pairs, all_records, all_stand, has_release, ids_below}
 use Rattle.kept_state.proofs.KeptForms.{Counts, IsKeptRecord, kept_alert, kept_deferral, kept_meta, kept_release, kept_reply, kept_report}
 use Rattle.desk_state.specs.Formed.{AlertHasForms, DeferralHasForms, ReplyHasForms, ReportHasForms}
+use Rattle.desk_state.proofs.Each.{each_weaker}
 
 -- ---- there is a meta record
 
@@ -77,7 +78,7 @@ none_orphan s sound =
     (all_any (λ (d : DeferralOf). is_orphan (records_of s) (Deferral d) ≡ false) (λ d. refl) s.deferrals)
     (all_any (λ (r : ReleaseOf). is_orphan (records_of s) (Release r) ≡ false) (λ r. refl) s.releases)
     (all_any (λ (k : KeptReply). is_orphan (records_of s) (Kept k) ≡ false) (λ k. refl) s.kept)
-    (weaker (Stands s.releases s.counters.next_release) (λ a. is_orphan (records_of s) (Alert (alert_kept a)) ≡ false) (λ a is. ap not (has_release s a is)) s.alerts (all_stand s sound))
+    (each_weaker (Stands s.releases s.counters.next_release) (λ a. is_orphan (records_of s) (Alert (alert_kept a)) ≡ false) (λ a is. ap not (has_release s a is)) s.alerts (all_stand s sound))
 
 -- ---- each record is valid and outruns no counter
 
@@ -95,18 +96,18 @@ all_kept opening s board counts =
     let standing = both (IsAlert s.counters.events) (Stands s.releases next) s.alerts sound.alerts (all_stand s sound) in
     let alerts = both AlertHasForms (λ a. IsAlert s.counters.events a × Stands s.releases next a) s.alerts formed.alerts standing in
     all_records (IsKeptRecord s) s (kept_meta s counts formed.floors formed.rising)
-    (weaker (λ r. ReportHasForms r × IsNumbered s.counters.next_report r) (λ r. IsKeptRecord s (Report (report_kept r))) (λ r is. kept_report s r counts is.0 is.1) s.reports reports)
-    (weaker (λ d. DeferralHasForms d × IsOpen s.counters.next_deferral d) (λ d. IsKeptRecord s (Deferral d)) (λ d is. kept_deferral s d counts is.0 is.1) s.deferrals deferrals)
-    (weaker (λ r. IsFormed r × (MayStand s.counters.events r × (r.id < next))) (λ r. IsKeptRecord s (Release r)) (λ r is. kept_release s r counts is.0 is.1.0 is.1.1) s.releases releases)
-    (weaker (λ k. ReplyHasForms k × IsReplied s.counters.next_kept k) (λ k. IsKeptRecord s (Kept k)) (λ k is. kept_reply s k counts is.0 is.1) s.kept replies)
-    (weaker (λ a. AlertHasForms a × (IsAlert s.counters.events a × Stands s.releases next a)) (λ a. IsKeptRecord s (Alert (alert_kept a)))
+    (each_weaker (λ r. ReportHasForms r × IsNumbered s.counters.next_report r) (λ r. IsKeptRecord s (Report (report_kept r))) (λ r is. kept_report s r counts is.0 is.1) s.reports reports)
+    (each_weaker (λ d. DeferralHasForms d × IsOpen s.counters.next_deferral d) (λ d. IsKeptRecord s (Deferral d)) (λ d is. kept_deferral s d counts is.0 is.1) s.deferrals deferrals)
+    (each_weaker (λ r. IsFormed r × (MayStand s.counters.events r × (r.id < next))) (λ r. IsKeptRecord s (Release r)) (λ r is. kept_release s r counts is.0 is.1.0 is.1.1) s.releases releases)
+    (each_weaker (λ k. ReplyHasForms k × IsReplied s.counters.next_kept k) (λ k. IsKeptRecord s (Kept k)) (λ k is. kept_reply s k counts is.0 is.1) s.kept replies)
+    (each_weaker (λ a. AlertHasForms a × (IsAlert s.counters.events a × Stands s.releases next a)) (λ a. IsKeptRecord s (Alert (alert_kept a)))
     (λ a is. kept_alert s a counts is.0 is.1.0 is.1.1.below) s.alerts alerts)
 
 none_ahead : (s : State) → AllByRecursion (IsKeptRecord s) (records_of s) → ahead_of (records_of s) (meta_from 0 (records_of s)) ≡ None
 unfolding records_of
 none_ahead s kept =
     ap (λ o. beside o 0) (none_placed (is_ahead s.counters) 0 (records_of s)
-    (weaker (IsKeptRecord s) (λ r. is_ahead s.counters r ≡ false) (λ r is. is.ahead) (records_of s) kept))
+    (each_weaker (IsKeptRecord s) (λ r. is_ahead s.counters r ≡ false) (λ r is. is.ahead) (records_of s) kept))
 
 -- ---- all tests are passed
 
@@ -128,9 +129,9 @@ pub records_formed : (opening s : State) → IsBoard opening s → length s.kept
 records_formed opening s board few room =
     let rs = records_of s in
     let each = all_kept opening s board (record { counters = board.kept.counters; moment = board.kept.moment; room = room }) in
-    let two = all_pairs s board.sound board.kept (weaker ReportHasForms IsRead (λ r is. is.read) s.reports board.formed.reports) in
+    let two = all_pairs s board.sound board.kept (each_weaker ReportHasForms IsRead (λ r is. is.read) s.reports board.formed.reports) in
     record {
-      valid = All-from_recursion IsRecord rs (weaker (IsKeptRecord s) IsRecord (λ r is. is.valid) rs each);
+      valid = All-from_recursion IsRecord rs (each_weaker (IsKeptRecord s) IsRecord (λ r is. is.valid) rs each);
       fit = fits rs (meta_there s) (none_over [] rs (all_few s board.kept few) (all_events s room)) (none_placed (is_orphan rs) 0 rs (none_orphan s board.sound))
           (none_paired is_bad_pair [] rs (none_before is_bad_pair rs) (weaker_pairs Agree (λ a b. is_bad_pair b a ≡ false) (λ a b is. is.1) rs two)) (none_ahead s each);
       order = all_rise rs (weaker_pairs Agree (λ a b. comes_before a b ≡ true) (λ a b is. is.0) rs two);

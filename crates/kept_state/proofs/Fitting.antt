@@ -16,7 +16,8 @@ use Rattle.records.specs.declared.record.Meta.{Meta as MetaOf}
 use Rattle.records.specs.declared.record.Record.{Record}
 use Rattle.records.specs.declared.record.Record.TheVariants.{Meta, Report, Deferral, Release, Kept, Alert}
 use Rattle.kept_state.specs.Held.{AreOfDesk, comes_before, rises_from, rising, meta_in}
-use Rattle.kept_state.proofs.Lists.{Pairs, weaker, both, both_pairs}
+use Rattle.kept_state.proofs.Lists.{Pairs, both, both_pairs}
+use Rattle.desk_state.proofs.Each.{each_weaker}
 
 -- ---- tests that are passed
 
@@ -113,7 +114,7 @@ is_among rs m r is = record { valid = is.0.0; ahead = is.0.1; orphan = is.1.0; r
 pub each_among : (rs : List Record) (m : MetaOf) → AreOfDesk rs → meta_in rs ≡ Some m → AllByRecursion (IsAmong rs m) rs
 each_among rs m are is =
     let passed = passes rs are.fit in
-    weaker (λ r. (IsRecord r × (is_ahead m.counters r ≡ false)) × ((is_orphan rs r ≡ false) × HasRoom r)) (IsAmong rs m) (is_among rs m) rs
+    each_weaker (λ r. (IsRecord r × (is_ahead m.counters r ≡ false)) × ((is_orphan rs r ≡ false) × HasRoom r)) (IsAmong rs m) (is_among rs m) rs
     (both (λ r. IsRecord r × (is_ahead m.counters r ≡ false)) (λ r. (is_orphan rs r ≡ false) × HasRoom r) rs
     (both IsRecord (λ r. is_ahead m.counters r ≡ false) rs (recursion_from_All IsRecord rs are.valid) (none_from (is_ahead m.counters) 0 rs (none_ahead rs (meta_from 0 rs) m is passed.ahead)))
     (both (λ r. is_orphan rs r ≡ false) HasRoom rs (none_from (is_orphan rs) 0 rs passed.orphans) (all_room [] rs passed.limits)))
@@ -148,8 +149,8 @@ none_after p earlier [] none = (tt, tt)
 none_after p earlier (r ∷ rs) none =
     let parts = none_or (place_of (p r) earlier) (length earlier) (pair_after p (earlier ++ r ∷ []) rs) none in
     let more = none_after p (earlier ++ r ∷ []) rs parts.1 in (
-      (none_from (p r) 0 earlier parts.0, weaker (λ q. AllByRecursion (λ e. p q e ≡ false) (earlier ++ r ∷ [])) (λ q. AllByRecursion (λ e. p q e ≡ false) earlier) (λ q all. (parted (λ e. p q e ≡ false) earlier r all).0) rs more.0),
-      (weaker (λ q. AllByRecursion (λ e. p q e ≡ false) (earlier ++ r ∷ [])) (λ q. p q r ≡ false) (λ q all. (parted (λ e. p q e ≡ false) earlier r all).1) rs more.0, more.1),
+      (none_from (p r) 0 earlier parts.0, each_weaker (λ q. AllByRecursion (λ e. p q e ≡ false) (earlier ++ r ∷ [])) (λ q. AllByRecursion (λ e. p q e ≡ false) earlier) (λ q all. (parted (λ e. p q e ≡ false) earlier r all).0) rs more.0),
+      (each_weaker (λ q. AllByRecursion (λ e. p q e ≡ false) (earlier ++ r ∷ [])) (λ q. p q r ≡ false) (λ q all. (parted (λ e. p q e ≡ false) earlier r all).1) rs more.0, more.1),
     )
 
 before_trans : (a b c d e f : ℕ) → (nat_lt a c || ((a == c) && nat_lt b d)) ≡ true → (nat_lt c e || ((c == e) && nat_lt d f)) ≡ true → (nat_lt a e || ((a == e) && nat_lt b f)) ≡ true
@@ -164,7 +165,7 @@ all_later r [] up = (tt, tt)
 all_later r (q ∷ qs) up =
     let parts = and_parts (comes_before r q) (rises_from q qs) up in
     let more = all_later q qs parts.1 in
-    ((parts.0, weaker (Before q) (Before r) (λ x later. before_trans (kind_of r) (key_of r) (kind_of q) (key_of q) (kind_of x) (key_of x) parts.0 later) qs more.0), more)
+    ((parts.0, each_weaker (Before q) (Before r) (λ x later. before_trans (kind_of r) (key_of r) (kind_of q) (key_of q) (kind_of x) (key_of x) parts.0 later) qs more.0), more)
 
 in_order : (rs : List Record) → rising rs ≡ true → Pairs Before rs
 in_order [] up = tt

@@ -3,6 +3,7 @@ use Rattle.std.proofs.Common.{ℕ, ◌+◌, ◌≤◌, arith, List, [], ◌∷�
 use Rattle.std.specs.List.{AllByRecursion, AllPairs, filter_map, cons_option}
 use Rattle.std.proofs.lemmas.List.Kept.{AllPairs-cons}
 use Rattle.std.proofs.lemmas.List.Elements.{All-from_recursion}
+use Rattle.desk_state.proofs.Each.{each_weaker}
 
 -- R of each element and each later one
 abbrev pub Pairs : {A : Type 0} → (A → A → Type 0) → List A → Type 0
@@ -46,13 +47,9 @@ pub no_longer : {A B : Type 0} (f : A → Option B) (xs : List A) → length (fi
 no_longer f [] = omega arith
 no_longer f (x ∷ xs) = let more = one_at_most (f x) (filter_map f xs) (length xs) (no_longer f xs) in omega (arith, more)
 
-pub weaker : {A : Type 0} (P Q : A → Type 0) → ((x : A) → P x → Q x) → (xs : List A) → AllByRecursion P xs → AllByRecursion Q xs
-weaker P Q is [] all = tt
-weaker P Q is (x ∷ xs) all = (is x all.0, weaker P Q is xs all.1)
-
 pub weaker_pairs : {A : Type 0} (R S : A → A → Type 0) → ((x y : A) → R x y → S x y) → (xs : List A) → Pairs R xs → Pairs S xs
 weaker_pairs R S is [] pairs = tt
-weaker_pairs R S is (x ∷ xs) pairs = (weaker (R x) (S x) (is x) xs pairs.0, weaker_pairs R S is xs pairs.1)
+weaker_pairs R S is (x ∷ xs) pairs = (each_weaker (R x) (S x) (is x) xs pairs.0, weaker_pairs R S is xs pairs.1)
 
 pub both : {A : Type 0} (P Q : A → Type 0) (xs : List A) → AllByRecursion P xs → AllByRecursion Q xs → AllByRecursion (λ x. P x × Q x) xs
 both P Q [] one two = tt

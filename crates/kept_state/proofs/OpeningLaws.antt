@@ -15,8 +15,8 @@ use Rattle.desk_state.proofs.Changes.{changes_lead_by}
 use Rattle.desk_state.proofs.Judging.{all_own, are_alerted, are_alerts}
 use Rattle.desk_state.proofs.Parts.{more_valid}
 use Rattle.kept_state.specs.Opening.{MayReopen, counters_with, events_with, reopened}
-use Rattle.kept_state.proofs.Lists.{weaker}
 use Rattle.kept_state.proofs.ReopenedForms.{reopened_formed}
+use Rattle.desk_state.proofs.Each.{each_weaker}
 
 -- the changes of the alerts lead to those of the judgement
 pub changes_lead : (s : State) → AreJudgeable s → put_changes (alert_changes nothing s) s.alerts ≡ judged_all s
@@ -34,7 +34,7 @@ still_counters (change ∷ changes) c are room = record {
 
 still_valid : (changes : List AlertChange) (events : ℕ) (rs : List Release) → AllByRecursion (MayStand events) rs → AllByRecursion (MayStand (events_with changes events)) rs
 still_valid [] events rs all = all
-still_valid (change ∷ changes) events rs all = weaker (MayStand events) (MayStand (events + 1)) (λ r is. more_valid events r is) rs all
+still_valid (change ∷ changes) events rs all = each_weaker (MayStand events) (MayStand (events + 1)) (λ r is. more_valid events r is) rs all
 
 -- where no alert changes, they are those that were held
 judged_alerts : (changes : List AlertChange) (events : ℕ) (held judged : List Alert) → put_changes changes held ≡ judged → AllByRecursion (IsAlert events) held → AllByRecursion (IsAlert (events + 1)) judged

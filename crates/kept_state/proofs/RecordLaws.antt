@@ -20,11 +20,12 @@ use Rattle.records.specs.declared.record.Record.{Record}
 use Rattle.records.specs.declared.record.Record.TheVariants.{Meta, Report, Deferral, Release, Kept, Alert}
 use Rattle.kept_state.specs.Held.{AreOfDesk, alert_in, alert_of, alert_with, deferral_in, meta_in, release_in, reply_in, report_if, report_in, report_of}
 use Rattle.kept_state.specs.Rows.{alert_kept, report_kept}
-use Rattle.kept_state.proofs.Lists.{Pairs, each_mapped, weaker}
+use Rattle.kept_state.proofs.Lists.{Pairs, each_mapped}
 use Rattle.kept_state.proofs.Fitting.{Agree, IsAmong, all_agree, each_among, has_one}
 use Rattle.kept_state.proofs.PartLaws.{IsKeptReport, kept_reports, reports_in}
 use Rattle.kept_state.proofs.AlertLaws.{alerts_in}
 use Rattle.kept_state.proofs.SavedLaws.{listed}
+use Rattle.desk_state.proofs.Each.{each_weaker}
 
 -- ---- records in order, kind after kind
 
@@ -107,15 +108,15 @@ module _ (rs : List Record) where
 
   first_release : (r : ReleaseOf) → From 3 rs → rs ≡ parts_of rs → Release r ∷ rs ≡ parts_of (Release r ∷ rs)
   first_release r from is =
-      let no = none_below 2 report_in no_report rs (weaker (λ x. 3 ≤ kind_of x) (λ x. 2 ≤ kind_of x) (λ x more. omega (arith, more)) rs from) in
+      let no = none_below 2 report_in no_report rs (each_weaker (λ x. 3 ≤ kind_of x) (λ x. 2 ≤ kind_of x) (λ x more. omega (arith, more)) rs from) in
       let none = none_below 3 deferral_in no_deferral rs from in
       ap (λ xs. Release r ∷ xs) (is ∙ ap (λ xs. parts xs deferrals releases replies alerts) no ∙ ap (λ xs. parts [] xs releases replies alerts) none)
       ∙ sym (ap (λ xs. parts xs deferrals (r ∷ releases) replies alerts) no ∙ ap (λ xs. parts [] xs (r ∷ releases) replies alerts) none)
 
   first_reply : (k : KeptReply) → From 4 rs → rs ≡ parts_of rs → Kept k ∷ rs ≡ parts_of (Kept k ∷ rs)
   first_reply k from is =
-      let no = none_below 2 report_in no_report rs (weaker (λ x. 4 ≤ kind_of x) (λ x. 2 ≤ kind_of x) (λ x more. omega (arith, more)) rs from) in
-      let none = none_below 3 deferral_in no_deferral rs (weaker (λ x. 4 ≤ kind_of x) (λ x. 3 ≤ kind_of x) (λ x more. omega (arith, more)) rs from) in
+      let no = none_below 2 report_in no_report rs (each_weaker (λ x. 4 ≤ kind_of x) (λ x. 2 ≤ kind_of x) (λ x more. omega (arith, more)) rs from) in
+      let none = none_below 3 deferral_in no_deferral rs (each_weaker (λ x. 4 ≤ kind_of x) (λ x. 3 ≤ kind_of x) (λ x more. omega (arith, more)) rs from) in
       let nil = none_below 4 release_in no_release rs from in
       ap (λ xs. Kept k ∷ xs)
       (is ∙ ap (λ xs. parts xs deferrals releases replies alerts) no ∙ ap (λ xs. parts [] xs releases replies alerts) none ∙ ap (λ xs. parts [] [] xs replies alerts) nil)
@@ -123,9 +124,9 @@ module _ (rs : List Record) where
 
   first_alert : (a : KeptAlert) → From 5 rs → rs ≡ parts_of rs → Alert a ∷ rs ≡ parts_of (Alert a ∷ rs)
   first_alert a from is =
-      let no = none_below 2 report_in no_report rs (weaker (λ x. 5 ≤ kind_of x) (λ x. 2 ≤ kind_of x) (λ x more. omega (arith, more)) rs from) in
-      let none = none_below 3 deferral_in no_deferral rs (weaker (λ x. 5 ≤ kind_of x) (λ x. 3 ≤ kind_of x) (λ x more. omega (arith, more)) rs from) in
-      let nil = none_below 4 release_in no_release rs (weaker (λ x. 5 ≤ kind_of x) (λ x. 4 ≤ kind_of x) (λ x more. omega (arith, more)) rs from) in
+      let no = none_below 2 report_in no_report rs (each_weaker (λ x. 5 ≤ kind_of x) (λ x. 2 ≤ kind_of x) (λ x more. omega (arith, more)) rs from) in
+      let none = none_below 3 deferral_in no_deferral rs (each_weaker (λ x. 5 ≤ kind_of x) (λ x. 3 ≤ kind_of x) (λ x more. omega (arith, more)) rs from) in
+      let nil = none_below 4 release_in no_release rs (each_weaker (λ x. 5 ≤ kind_of x) (λ x. 4 ≤ kind_of x) (λ x more. omega (arith, more)) rs from) in
       let nought = none_below 5 reply_in no_reply rs from in
       ap (λ xs. Alert a ∷ xs)
       (is ∙ ap (λ xs. parts xs deferrals releases replies alerts) no ∙ ap (λ xs. parts [] xs releases replies alerts) none ∙ ap (λ xs. parts [] [] xs replies alerts) nil
@@ -138,10 +139,10 @@ all_parts : (rs : List Record) → Pairs Agree rs → From 1 rs → rs ≡ parts
 all_parts [] pairs from = refl
 all_parts (Meta m ∷ rs) pairs from = absurd (let no = from.0 in omega (arith, no))
 all_parts (Report r ∷ rs) pairs from = ap (λ xs. Report r ∷ xs) (all_parts rs pairs.1 from.1)
-all_parts (Deferral d ∷ rs) pairs from = first_deferral rs d (weaker (Agree (Deferral d)) (λ x. 2 ≤ kind_of x) (kinds_rise (Deferral d)) rs pairs.0) (all_parts rs pairs.1 from.1)
-all_parts (Release r ∷ rs) pairs from = first_release rs r (weaker (Agree (Release r)) (λ x. 3 ≤ kind_of x) (kinds_rise (Release r)) rs pairs.0) (all_parts rs pairs.1 from.1)
-all_parts (Kept k ∷ rs) pairs from = first_reply rs k (weaker (Agree (Kept k)) (λ x. 4 ≤ kind_of x) (kinds_rise (Kept k)) rs pairs.0) (all_parts rs pairs.1 from.1)
-all_parts (Alert a ∷ rs) pairs from = first_alert rs a (weaker (Agree (Alert a)) (λ x. 5 ≤ kind_of x) (kinds_rise (Alert a)) rs pairs.0) (all_parts rs pairs.1 from.1)
+all_parts (Deferral d ∷ rs) pairs from = first_deferral rs d (each_weaker (Agree (Deferral d)) (λ x. 2 ≤ kind_of x) (kinds_rise (Deferral d)) rs pairs.0) (all_parts rs pairs.1 from.1)
+all_parts (Release r ∷ rs) pairs from = first_release rs r (each_weaker (Agree (Release r)) (λ x. 3 ≤ kind_of x) (kinds_rise (Release r)) rs pairs.0) (all_parts rs pairs.1 from.1)
+all_parts (Kept k ∷ rs) pairs from = first_reply rs k (each_weaker (Agree (Kept k)) (λ x. 4 ≤ kind_of x) (kinds_rise (Kept k)) rs pairs.0) (all_parts rs pairs.1 from.1)
+all_parts (Alert a ∷ rs) pairs from = first_alert rs a (each_weaker (Agree (Alert a)) (λ x. 5 ≤ kind_of x) (kinds_rise (Alert a)) rs pairs.0) (all_parts rs pairs.1 from.1)
 
 -- ---- the meta record is the first
 
@@ -164,7 +165,7 @@ none_found place (Alert a ∷ rs) from = none_found (place + 1) rs from.1
 
 -- where another record is the first, there is none
 none_first : (r : Record) (rs : List Record) → 1 ≤ kind_of r → Pairs Agree (r ∷ rs) → From 1 (r ∷ rs)
-none_first r rs least pairs = (least, weaker (Agree r) (λ x. 1 ≤ kind_of x) (λ x agree. let more = kinds_rise r x agree in omega (arith, least, more)) rs pairs.0)
+none_first r rs least pairs = (least, each_weaker (Agree r) (λ x. 1 ≤ kind_of x) (λ x agree. let more = kinds_rise r x agree in omega (arith, least, more)) rs pairs.0)
 
 not_found : (m : MetaOf) (o : Option (ℕ × MetaOf)) → o ≡ None → option_map (λ found. found.1) o ≡ Some m → ⊥
 not_found m None none is = absurd (cc)
@@ -174,7 +175,7 @@ meta_first : (rs : List Record) (m : MetaOf) → Pairs Agree rs → meta_in rs �
 meta_first [] m pairs is = absurd (cc)
 meta_first (Meta n ∷ rs) m pairs is =
     let same : n ≡ m = cc in
-    ap (λ (x : MetaOf). Meta x ∷ rs) same ∙ ap (λ xs. Meta m ∷ xs) (all_parts rs pairs.1 (weaker (Agree (Meta n)) (λ x. 1 ≤ kind_of x) (above_meta n) rs pairs.0))
+    ap (λ (x : MetaOf). Meta x ∷ rs) same ∙ ap (λ xs. Meta m ∷ xs) (all_parts rs pairs.1 (each_weaker (Agree (Meta n)) (λ x. 1 ≤ kind_of x) (above_meta n) rs pairs.0))
 meta_first (Report r ∷ rs) m pairs is = absurd (not_found m (meta_from 0 (Report r ∷ rs)) (none_found 0 (Report r ∷ rs) (none_first (Report r) rs (omega arith) pairs)) is)
 meta_first (Deferral d ∷ rs) m pairs is = absurd (not_found m (meta_from 0 (Deferral d ∷ rs)) (none_found 0 (Deferral d ∷ rs) (none_first (Deferral d) rs (omega arith) pairs)) is)
 meta_first (Release r ∷ rs) m pairs is = absurd (not_found m (meta_from 0 (Release r ∷ rs)) (none_found 0 (Release r ∷ rs) (none_first (Release r) rs (omega arith) pairs)) is)
@@ -202,7 +203,7 @@ report_back r is = read_back r (read_of r.text r.received) is
 reports_back : (rs : List Record) (m : MetaOf) → AreOfDesk rs → meta_in rs ≡ Some m → map report_kept (reports_in rs) ≡ filter_map report_in rs
 reports_back rs m are is =
     all_back report_of report_kept (filter_map report_in rs)
-    (weaker (IsKeptReport m.counters.next_report) (λ r. option_map report_kept (report_of r) ≡ Some r) (λ r kept. report_back r kept.valid.read) (filter_map report_in rs) (kept_reports rs m are is))
+    (each_weaker (IsKeptReport m.counters.next_report) (λ r. option_map report_kept (report_of r) ≡ Some r) (λ r kept. report_back r kept.valid.read) (filter_map report_in rs) (kept_reports rs m are is))
 
 -- the release of an id is there
 there_by : (r : ReleaseOf) (later : Option ReleaseOf) (b any : Bool) → (b || any) ≡ true → (any ≡ true → is_some later ≡ true) → is_some (cond b (Some r) later) ≡ true
@@ -234,7 +235,7 @@ alerts_back : (rs : List Record) (m : MetaOf) → AreOfDesk rs → meta_in rs �
 alerts_back rs m are is =
     let releases = filter_map release_in rs in
     all_back (alert_of releases) alert_kept (filter_map alert_in rs)
-    (weaker (λ a. is_some (release_at a.release releases) ≡ true) (λ a. option_map alert_kept (alert_of releases a) ≡ Some a)
+    (each_weaker (λ a. is_some (release_at a.release releases) ≡ true) (λ a. option_map alert_kept (alert_of releases a) ≡ Some a)
     (λ a there. alert_back a (release_at a.release releases) there) (filter_map alert_in rs)
     (each_mapped (IsAmong rs m) (λ a. is_some (release_at a.release releases) ≡ true) alert_in (alert_there rs m) rs (each_among rs m are is)))
 

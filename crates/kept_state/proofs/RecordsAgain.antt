@@ -11,9 +11,9 @@ use Rattle.ops_tables.specs.Tables.{TableRows}
 use Rattle.records.specs.declared.record.Record.{Record}
 use Rattle.records.specs.declared.record.Record.TheVariants.{Meta, Report, Deferral, Release, Kept, Alert}
 use Rattle.kept_state.specs.Held.{alert_of, state_in}
-use Rattle.kept_state.proofs.Lists.{weaker}
 use Rattle.kept_state.proofs.SavedLaws.{alerts_again, listed, reports_again, state_listed}
 use Rattle.desk_state.specs.Formed.{ReportHasForms}
+use Rattle.desk_state.proofs.Each.{each_weaker}
 
 map_twice : {A B C : Type 0} (f : A → B) (g : B → C) (xs : List A) → map (λ x. g (f x)) xs ≡ map g (map f xs)
 map_twice f g [] = refl
@@ -35,8 +35,8 @@ state_with s tables reports alerts = record s { tables = tables; reports = repor
 -- The records of a state stand for it under any tables, but for its history.
 pub state_again : (opening s : State) → IsBoard opening s → (tables : TableRows) → state_in tables (records_of s) ≡ record s { tables = tables; entries = [] }
 state_again opening s board tables =
-    let read = weaker ReportHasForms IsRead (λ r is. is.read) s.reports board.formed.reports in
-    let told = weaker (IsAlerted (grounds_of s) s.alerts) (λ r. IsToldTo r.holder (alert_at r.id s.alerts)) (λ r is. is.1) s.releases board.sound.alerted in
+    let read = each_weaker ReportHasForms IsRead (λ r is. is.read) s.reports board.formed.reports in
+    let told = each_weaker (IsAlerted (grounds_of s) s.alerts) (λ r. IsToldTo r.holder (alert_at r.id s.alerts)) (λ r is. is.1) s.releases board.sound.alerted in
     ap (λ rs. state_in tables rs) (records_listed s)
     ∙ state_listed (meta_of s) (map report_kept s.reports) s.deferrals s.releases s.kept (map alert_kept s.alerts) tables
     ∙ ap (λ (xs : List ReportOf). state_with s tables xs (filter_map (alert_of s.releases) (map alert_kept s.alerts))) (reports_again s.reports read)

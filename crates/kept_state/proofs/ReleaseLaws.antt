@@ -16,9 +16,10 @@ use Rattle.records.specs.declared.record.Meta.{Meta as MetaOf}
 use Rattle.records.specs.declared.record.Record.{Record}
 use Rattle.records.specs.declared.record.Record.TheVariants.{Meta, Report, Deferral, Release, Kept, Alert}
 use Rattle.kept_state.specs.Held.{AreOfDesk, meta_in, release_in}
-use Rattle.kept_state.proofs.Lists.{Pairs, each_mapped, pairs_mapped, weaker}
+use Rattle.kept_state.proofs.Lists.{Pairs, each_mapped, pairs_mapped}
 use Rattle.kept_state.proofs.Fitting.{Agree, IsAmong, all_agree, are_few, each_among}
 use Rattle.kept_state.proofs.PartLaws.{Counted, at_most}
+use Rattle.desk_state.proofs.Each.{each_weaker}
 
 -- ---- a release that may be kept is one that may stand
 
@@ -73,10 +74,10 @@ held_releases rs m are is = each_mapped (IsAmong rs m) (IsHeldRelease m.counters
 -- ---- all of them
 
 pub releases_valid : (rs : List Record) (m : MetaOf) → AreOfDesk rs → meta_in rs ≡ Some m → AllByRecursion (MayStand m.counters.events) (filter_map release_in rs)
-releases_valid rs m are is = weaker (IsHeldRelease m.counters.events m.counters.next_release) (MayStand m.counters.events) (λ r held. held.stands) (filter_map release_in rs) (held_releases rs m are is)
+releases_valid rs m are is = each_weaker (IsHeldRelease m.counters.events m.counters.next_release) (MayStand m.counters.events) (λ r held. held.stands) (filter_map release_in rs) (held_releases rs m are is)
 
 pub releases_bounded : (rs : List Record) (m : MetaOf) → AreOfDesk rs → meta_in rs ≡ Some m → AllByRecursion ReleaseInBounds (filter_map release_in rs)
-releases_bounded rs m are is = weaker (IsHeldRelease m.counters.events m.counters.next_release) ReleaseInBounds (λ r held. held.bounds) (filter_map release_in rs) (held_releases rs m are is)
+releases_bounded rs m are is = each_weaker (IsHeldRelease m.counters.events m.counters.next_release) ReleaseInBounds (λ r held. held.bounds) (filter_map release_in rs) (held_releases rs m are is)
 
 count_release : Counted 3 release_in
 count_release (Meta m) rs = refl
@@ -113,11 +114,11 @@ rise_from : (low : ℕ) (rs : List ReleaseOf) (next : ℕ) → low ≤ next → 
 rise_from low [] next within above below pairs = within
 rise_from low (r ∷ rs) next within above below pairs =
     let less = below.0 in
-    (above.0, rise_from (r.id + 1) rs next (omega (arith, less)) (weaker (Below r) (λ q. r.id + 1 ≤ q.id) (λ q later. omega (arith, later)) rs pairs.0) below.1 pairs.1)
+    (above.0, rise_from (r.id + 1) rs next (omega (arith, less)) (each_weaker (Below r) (λ q. r.id + 1 ≤ q.id) (λ q later. omega (arith, later)) rs pairs.0) below.1 pairs.1)
 
 pub releases_rise : (rs : List Record) (m : MetaOf) → AreOfDesk rs → meta_in rs ≡ Some m → Rise 0 (filter_map release_in rs) m.counters.next_release
 releases_rise rs m are is =
     let held = held_releases rs m are is in
     rise_from 0 (filter_map release_in rs) m.counters.next_release (omega arith)
-    (weaker (IsHeldRelease m.counters.events m.counters.next_release) (λ r. 0 ≤ r.id) (λ r one. omega arith) (filter_map release_in rs) held)
-    (weaker (IsHeldRelease m.counters.events m.counters.next_release) (λ r. r.id < m.counters.next_release) (λ r one. one.below) (filter_map release_in rs) held) (release_pairs rs are)
+    (each_weaker (IsHeldRelease m.counters.events m.counters.next_release) (λ r. 0 ≤ r.id) (λ r one. omega arith) (filter_map release_in rs) held)
+    (each_weaker (IsHeldRelease m.counters.events m.counters.next_release) (λ r. r.id < m.counters.next_release) (λ r one. one.below) (filter_map release_in rs) held) (release_pairs rs are)

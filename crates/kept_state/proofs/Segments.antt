@@ -1,20 +1,16 @@
 -- Lists that are made of parts, and the tests of lists of records in words of each and of each two.
-use Rattle.std.proofs.Common.{◌≡◌, ℕ, suc, ◌+◌, ◌<◌, ◌≤◌, arith, Bool, true, false, ◌||◌, cond, List, [], ◌∷◌, ◌++◌, map, length, AllPairs, count_by, Option, None, Some, refl, ap, ◌∙◌}
+use Rattle.std.proofs.Common.{◌≡◌, ℕ, ◌+◌, ◌<◌, ◌≤◌, arith, Bool, true, false, ◌||◌, cond, List, [], ◌∷◌, ◌++◌, map, length, count_by, Option, None, Some, refl, ap, ◌∙◌}
 use Rattle.std.specs.List.{AllByRecursion, position_from, list_any}
 use Rattle.std.proofs.lemmas.Bool.{and_from, or_right}
-use Rattle.std.proofs.lemmas.List.Elements.{recursion_from_All}
 use Rattle.std.proofs.lemmas.List.Recursion.{is_count_by}
-use Rattle.desk_state.proofs.Each.{each_push}
+use Rattle.desk_state.proofs.Each.{each_push, each_weaker}
 use Rattle.records.specs.Faults.{pair_after, pair_or}
 use Rattle.records.specs.declared.record.Record.{Record}
 use Rattle.kept_state.specs.Held.{comes_before, rises_from, rising}
-use Rattle.kept_state.proofs.Lists.{Pairs, both, weaker}
+use Rattle.kept_state.proofs.Lists.{Pairs, both}
+use Rattle.kept_state.proofs.Parts.{all_append}
 
 -- ---- each
-
-pub all_joined : {A : Type 0} (P : A → Type 0) (xs ys : List A) → AllByRecursion P xs → AllByRecursion P ys → AllByRecursion P (xs ++ ys)
-all_joined P [] ys one two = two
-all_joined P (x ∷ xs) ys one two = (one.0, all_joined P xs ys one.1 two)
 
 pub all_made : {A B : Type 0} (P : B → Type 0) (f : A → B) (xs : List A) → AllByRecursion (λ x. P (f x)) xs → AllByRecursion P (map f xs)
 all_made P f [] all = tt
@@ -32,7 +28,7 @@ Across R xs ys = AllByRecursion (λ x. AllByRecursion (R x) ys) xs
 
 pub pairs_joined : {A : Type 0} (R : A → A → Type 0) (xs ys : List A) → Pairs R xs → Pairs R ys → Across R xs ys → Pairs R (xs ++ ys)
 pairs_joined R [] ys one two across = two
-pairs_joined R (x ∷ xs) ys one two across = (all_joined (R x) xs ys one.0 across.0, pairs_joined R xs ys one.1 two across.1)
+pairs_joined R (x ∷ xs) ys one two across = (all_append (R x) xs ys one.0 across.0, pairs_joined R xs ys one.1 two across.1)
 
 pub pairs_made : {A B : Type 0} (R : B → B → Type 0) (f : A → B) (xs : List A) → Pairs (λ x y. R (f x) (f y)) xs → Pairs R (map f xs)
 pairs_made R f [] pairs = tt
@@ -50,14 +46,7 @@ across_any R f g is xs ys = across_made R f g xs ys (all_any (λ x. AllByRecursi
 pub with_each : {A : Type 0} (P : A → Type 0) (R : A → A → Type 0) (xs : List A) → AllByRecursion P xs → Pairs R xs → Pairs (λ x y. P x × P y × R x y) xs
 with_each P R [] all pairs = tt
 with_each P R (x ∷ xs) all pairs =
-    (weaker (λ y. P y × R x y) (λ y. P x × P y × R x y) (λ y is. (all.0, is.0, is.1)) xs (both P (R x) xs all.1 pairs.0), with_each P R xs all.1 pairs.1)
-
-pub pairs_from : {A : Type 0} (R : A → A → Type 0) (xs : List A) → AllPairs R xs → Pairs R xs
-pairs_from R [] all = tt
-pairs_from R (x ∷ xs) all = (
-  recursion_from_All (R x) xs (λ j d within. all 0 (suc j) d (omega arith) (omega (arith, within))),
-  pairs_from R xs (λ i j d before within. all (suc i) (suc j) d (omega (arith, before)) (omega (arith, within))),
-)
+    (each_weaker (λ y. P y × R x y) (λ y. P x × P y × R x y) (λ y is. (all.0, is.0, is.1)) xs (both P (R x) xs all.1 pairs.0), with_each P R xs all.1 pairs.1)
 
 -- ---- some
 
@@ -133,7 +122,7 @@ none_paired p earlier [] before pairs = refl
 none_paired p earlier (r ∷ rs) before pairs =
     ap (λ o. pair_or o (length earlier) (pair_after p (earlier ++ r ∷ []) rs)) (none_placed (p r) 0 earlier before.0)
     ∙ none_paired p (earlier ++ r ∷ []) rs
-    (weaker (λ q. AllByRecursion (λ e. p q e ≡ false) earlier × (p q r ≡ false)) (λ q. AllByRecursion (λ e. p q e ≡ false) (earlier ++ r ∷ []))
+    (each_weaker (λ q. AllByRecursion (λ e. p q e ≡ false) earlier × (p q r ≡ false)) (λ q. AllByRecursion (λ e. p q e ≡ false) (earlier ++ r ∷ []))
     (λ q is. each_push (λ e. p q e ≡ false) earlier r is.0 is.1) rs (both (λ q. AllByRecursion (λ e. p q e ≡ false) earlier) (λ q. p q r ≡ false) rs before.1 pairs.0))
     pairs.1
 

@@ -1,5 +1,5 @@
 -- What holds of each two records of a state, and how many there are of each kind.
-use Rattle.std.proofs.Common.{◌≡◌, ℕ, ◌+◌, ◌<◌, ◌≤◌, arith, Bool, true, false, ◌&&◌, ◌||◌, not, cond, eqb, List, [], ◌∷◌, ◌++◌, map, length, bytes_eq, count_by, Option, None, Some, IfSome, refl, sym, ap, ◌∙◌, subst}
+use Rattle.std.proofs.Common.{◌≡◌, ℕ, ◌+◌, ◌<◌, ◌≤◌, arith, Bool, true, false, ◌&&◌, ◌||◌, not, eqb, List, [], ◌∷◌, ◌++◌, map, length, bytes_eq, count_by, Option, None, Some, IfSome, refl, sym, ap, ◌∙◌, subst}
 use Rattle.std.specs.Prelude.{◌==◌, nat_lt}
 use Rattle.std.specs.List.{AllByRecursion, list_any}
 use Rattle.std.proofs.lemmas.Bool.{eqb-true, lt-ltb, ne_eqb, or_from}
@@ -21,12 +21,15 @@ use Rattle.records.specs.Faults.{is_release_of, is_same_report, is_same_request,
 use Rattle.records.specs.Kinds.{is_kind}
 use Rattle.records.specs.declared.record.Record.{Record}
 use Rattle.records.specs.declared.record.Record.TheVariants.{Meta, Report, Deferral, Release, Kept, Alert}
-use Rattle.kept_state.proofs.AlertLaws.{Rises, found_self, rise_pairs}
+use Rattle.kept_state.proofs.AlertLaws.{Rises, found_self, found_taken, rise_pairs}
 use Rattle.kept_state.proofs.Fitting.{Agree, AreFew}
-use Rattle.kept_state.proofs.Lists.{Pairs, both, both_pairs, each_mapped, pairs_mapped, weaker, weaker_pairs}
+use Rattle.kept_state.proofs.Lists.{Pairs, both, both_pairs, each_mapped, pairs_mapped, weaker_pairs}
+use Rattle.kept_state.proofs.Loops.{pairs_from}
+use Rattle.kept_state.proofs.Parts.{all_append}
 use Rattle.kept_state.proofs.PartLaws.{Other, Unlike, swapped, turned}
 use Rattle.kept_state.proofs.ReleaseLaws.{Below}
-use Rattle.kept_state.proofs.Segments.{Across, across_any, across_made, all_joined, all_made, any_back, any_front, any_made, how_many, counted_all, counted_is, counted_joined, counted_none, pairs_from, pairs_joined, pairs_made, with_each}
+use Rattle.kept_state.proofs.Segments.{Across, across_any, across_made, all_made, any_back, any_front, any_made, how_many, counted_all, counted_is, counted_joined, counted_none, pairs_joined, pairs_made, with_each}
+use Rattle.desk_state.proofs.Each.{each_weaker}
 
 -- ---- releases by their ids
 
@@ -37,14 +40,6 @@ rise_within low (r ∷ rs) next rise = let here = rise.0 in let more = rise_with
 pub ids_below : (low : ℕ) (rs : List ReleaseOf) (next : ℕ) → Rise low rs next → AllByRecursion (λ r. r.id < next) rs
 ids_below low [] next rise = tt
 ids_below low (r ∷ rs) next rise = (let more = rise_within (r.id + 1) rs next rise.1 in omega (arith, more), ids_below (r.id + 1) rs next rise.1)
-
-taken_by : (b any : Bool) (q r : ReleaseOf) (later : Option ReleaseOf) → cond b (Some q) later ≡ Some r → (later ≡ Some r → any ≡ true) → (b || any) ≡ true
-taken_by true any q r later found rest = refl
-taken_by false any q r later found rest = rest found
-
-found_taken : (id : ℕ) (rs : List ReleaseOf) (r : ReleaseOf) → release_at id rs ≡ Some r → list_any (λ q. q.id == id) rs ≡ true
-found_taken id [] r found = absurd (cc)
-found_taken id (q ∷ qs) r found = taken_by (eqb q.id id) (list_any (λ x. x.id == id) qs) q r (release_at id qs) found (found_taken id qs r)
 
 -- ---- each alert is that of an active release
 
@@ -172,8 +167,8 @@ none_idle : (s : State) → Sound s → AllByRecursion (λ r. AllByRecursion (λ
 none_idle s sound =
     let next = s.counters.next_release in
     let stand = all_stand s sound in
-    weaker (λ r. release_at r.id s.releases ≡ Some r) (λ r. AllByRecursion (λ a. Agree (Release r) (Alert (alert_kept a))) s.alerts)
-    (λ r found. weaker (Stands s.releases next) (λ a. Agree (Release r) (Alert (alert_kept a)))
+    each_weaker (λ r. release_at r.id s.releases ≡ Some r) (λ r. AllByRecursion (λ a. Agree (Release r) (Alert (alert_kept a))) s.alerts)
+    (λ r found. each_weaker (Stands s.releases next) (λ a. Agree (Release r) (Alert (alert_kept a)))
     (λ a is. (refl, idle_by s.releases r is.release a (eqb r.id a.release) refl found is.found is.active)) s.alerts stand) s.releases
     (found_self s.releases (rise_pairs 0 s.releases next sound.ids))
 
@@ -192,7 +187,7 @@ all_pairs s sound kept read =
     let four = map Release s.releases in
     let five = map Kept s.kept in
     let six = map alert s.alerts in
-    let joined = λ (xs ys zs : List Record) (front : Across Agree xs zs) (back : Across Agree ys zs). all_joined (λ x. AllByRecursion (Agree x) zs) xs ys front back in
+    let joined = λ (xs ys zs : List Record) (front : Across Agree xs zs) (back : Across Agree ys zs). all_append (λ x. AllByRecursion (Agree x) zs) xs ys front back in
     let first = pairs_joined Agree one two (tt, tt) (report_pairs s sound kept read) (across_any Agree Meta report (λ x y. (refl, refl)) metas s.reports) in
     let second = pairs_joined Agree (one ++ two) three first (deferral_pairs s kept)
     (joined one two three (across_any Agree Meta Deferral (λ x y. (refl, refl)) metas s.deferrals) (across_any Agree report Deferral (λ x y. (refl, refl)) s.reports s.deferrals)) in
@@ -225,11 +220,11 @@ all_records P s meta reports deferrals releases replies alerts =
     let three = map Deferral s.deferrals in
     let four = map Release s.releases in
     let five = map Kept s.kept in
-    all_joined P (one ++ two ++ three ++ four ++ five) (map (λ a. Alert (alert_kept a)) s.alerts)
-    (all_joined P (one ++ two ++ three ++ four) five
-    (all_joined P (one ++ two ++ three) four
-    (all_joined P (one ++ two) three
-    (all_joined P one two (meta, tt) (all_made P (λ r. Report (report_kept r)) s.reports reports))
+    all_append P (one ++ two ++ three ++ four ++ five) (map (λ a. Alert (alert_kept a)) s.alerts)
+    (all_append P (one ++ two ++ three ++ four) five
+    (all_append P (one ++ two ++ three) four
+    (all_append P (one ++ two) three
+    (all_append P one two (meta, tt) (all_made P (λ r. Report (report_kept r)) s.reports reports))
     (all_made P Deferral s.deferrals deferrals))
     (all_made P Release s.releases releases))
     (all_made P Kept s.kept replies))
