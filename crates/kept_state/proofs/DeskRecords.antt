@@ -10,7 +10,7 @@ use Rattle.asks.specs.declared.kept.KeptReply.{KeptReply}
 use Rattle.deferrals.specs.declared.items.Deferral.{Deferral as DeferralOf}
 use Rattle.facts.specs.Reading.{IsRead}
 use Rattle.facts.specs.declared.report.Report.{Report as ReportOf}
-use Rattle.kept_state.specs.Rows.{alert_kept, records_of, report_kept}
+use Rattle.kept_state.specs.Rows.{alert_kept, meta_of, records_of, report_kept}
 use Rattle.desk_state.specs.Sound.{IsBoard, IsNumbered, IsOpen, IsReplied, MayStand, Sound}
 use Rattle.desk_state.specs.State.{State}
 use Rattle.plan.specs.declared.release.Release.{Release as ReleaseOf}
@@ -82,7 +82,7 @@ none_orphan s sound =
 
 -- ---- each record is valid and outruns no counter
 
-all_kept : (opening s : State) → IsBoard opening s → Counts s → AllByRecursion (IsKeptRecord s) (records_of s)
+all_kept : (opening s : State) → IsBoard opening s → Counts (meta_of s) → AllByRecursion (IsKeptRecord s) (records_of s)
 all_kept opening s board counts =
     let sound = board.sound in
     let kept = board.kept in

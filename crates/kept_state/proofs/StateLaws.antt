@@ -23,17 +23,12 @@ use Rattle.kept_state.proofs.ReleaseLaws.{releases_bounded, releases_few, releas
 use Rattle.kept_state.proofs.AlertLaws.{alerts_are, alerts_own, alerts_told}
 use Rattle.kept_state.proofs.HeldForms.{counted_formed}
 use Rattle.kept_state.proofs.OpeningLaws.{reopened_board}
+use Rattle.kept_state.proofs.KeptForms.{Counts}
 
 -- ---- the meta record
 
 few_events : (m : MetaOf) → HasRoom (Meta m) → m.counters.events < 999_999_999_999_999
 few_events m room = leb-false 999_999_999_999_999 m.counters.events room.1
-
--- what a meta record counts
-record Counts (m : MetaOf) : Type 0 where
-  pub moment : IsMoment m.moment
-  pub room : m.counters.events < 999_999_999_999_999
-  pub counters : AreCounters m.counters
 
 counters_are : (c : Counters) → c.events < 999_999_999_999_999 → outruns c ≡ false → AreCounters c
 counters_are c room within =
