@@ -20,10 +20,6 @@ among_one : (id : ℕ) (o : Option Revision) → is_among (ids_of o) id ≡ is_a
 among_one id None = refl
 among_one id (Some v) = among_map id v.attached
 
-or_three : (a b c : Bool) → (a || b || c) ≡ ((a || b) || c)
-or_three true b c = refl
-or_three false b c = refl
-
 sorted_among : (ids sorted : List ℕ) (id : ℕ) → IsPermutation ids sorted → is_among sorted id ≡ is_among ids id
 sorted_among ids sorted id moved = sym (list_any-IsPermutation (λ held. held == id) ids sorted moved)
 

@@ -40,10 +40,6 @@ pub rise_lower : (less low : ℕ) (ns : List ℕ) (high : ℕ) → less ≤ low 
 rise_lower less low [] high under rise = omega (arith, under, rise)
 rise_lower less low (n ∷ ns) high under rise = (let first = rise.0 in omega (arith, under, first), rise.1)
 
-pub rise_higher : (low : ℕ) (ns : List ℕ) (high more : ℕ) → high ≤ more → Rise low ns high → Rise low ns more
-rise_higher low [] high more under rise = omega (arith, under, rise)
-rise_higher low (n ∷ ns) high more under rise = (rise.0, rise_higher n ns high more under rise.1)
-
 rise_on : (low : ℕ) (ns ms : List ℕ) (middle high : ℕ) → Rise low ns middle → Rise middle ms high → Rise low (ns ++ ms) high
 rise_on low [] ms middle high one two = rise_lower low middle ms high one two
 rise_on low (n ∷ ns) ms middle high one two = (one.0, rise_on n ns ms middle high one.1 two)
@@ -141,10 +137,6 @@ shown_on (x ∷ made) o all is = (all.0, shown_on made o all.1 is)
 
 pub shown_next : (made more : List Outcome) (o p : Outcome) → more ≡ made ++ o ∷ [] → o ≡ p → AllByRecursion IsShown made → IsShown p → AllByRecursion IsShown more
 shown_next made more o p pushed same all is = subst (AllByRecursion IsShown) (sym pushed) (shown_on made o all (subst IsShown (sym same) is))
-
--- before the first item
-pub none_given : (lane before : ℕ) (s : State) (items : List Item) → AreGivenSoFar lane before before s items s items []
-none_given lane before s items = record { choices = []; counted = omega arith; outcomes = λ later. refl; state = λ later. refl }
 
 -- after the last item
 pub all_given : (lane before after : ℕ) (s : State) (items : List Item) (t : State) (left : List Item) (made : List Outcome) → left ≡ [] → AreGivenSoFar lane before after s items t left made

@@ -1,5 +1,5 @@
 -- The key more that is told is the least of those of its object.
-use Rattle.std.proofs.Common.{◌≡◌, ℕ, true, false, List, Option, None, Some, IfSome, Result, codes, refl, sym, subst, true≢false}
+use Rattle.std.proofs.Common.{◌≡◌, ℕ, true, false, List, Option, None, Some, IfSome, Result, refl, sym, subst, true≢false}
 use Rattle.std.specs.Prelude.{is_some}
 use Rattle.serde_json.specs.Data.{Data, null, boolean, number, string, array, object}
 use Rattle.serde_json.specs.Find.{get}
@@ -9,11 +9,10 @@ use Rattle.asks.specs.declared.call.Call.{Call}
 use Rattle.desk_json.specs.declared.bad_call.CallFault.{CallFault}
 use Rattle.desk_json.specs.declared.keys.Object.{Object}
 use Rattle.desk_json.specs.declared.keys.Object.TheVariants as of
-use Rattle.desk_json.specs.declared.keys.AskKind.{AskKind}
 use Rattle.desk_json.specs.Keys.{is_key, is_line_key, is_call_key, first_extra, no_extra, only_keys, and_then}
-use Rattle.desk_json.specs.Faults.{ask_by, ask_of_kind, call_fields, line_fields, read_as, call_or_fault, line_or_fault, Answers, IsExtraNamed, NamesExtra}
+use Rattle.desk_json.specs.Faults.{call_fields, line_fields, read_as, call_or_fault, line_or_fault, Answers, IsExtraNamed, NamesExtra}
 use Rattle.desk_json.proofs.Members.{IsUpTo, first_least}
-use Rattle.desk_json.proofs.Orders.{Ordered, data_ordered, found_ordered}
+use Rattle.desk_json.proofs.Orders.{Ordered, data_ordered}
 use Rattle.desk_json.proofs.Results.{told, answered}
 
 told_first : {A : Type 0} (k : List ℕ) (more : Option (List ℕ)) (f : Unit {0} → Result A BadCall) → IsUpTo k more → IsExtraNamed k (told (and_then (no_extra more) f))
@@ -46,9 +45,3 @@ call_tells text r is = tells of.Call call_fields text r is
 pub line_tells : (line : List ℕ) (r : Result (ℕ × Call) CallFault) → Answers (line_or_fault line) r → NamesExtra is_line_key line r
 unfolding line_or_fault
 line_tells line r is = tells of.Line line_fields line r is
-
--- So it is of the ask of a call, where its name says a kind.
-pub ask_tells : (text : List ℕ) (d ask : Data) (kind : AskKind) (k : List ℕ) → data_of text ≡ Some d → get (codes "ask") d ≡ Some ask → is_some (get k ask) ≡ true → is_key (of.Asked kind) k ≡ false
-    → IsExtraNamed k (told (ask_by (Some kind) ask))
-ask_tells text d ask kind k same found some extra =
-    told_more (of.Asked kind) (λ only. ask_of_kind kind ask) ask k (subst (λ o. IfSome o Ordered) found (found_ordered (codes "ask") d (in_order text d same))) some extra

@@ -2,6 +2,7 @@
 use Rattle.std.proofs.Common.{◌≡◌, ℕ, ◌+◌, ◌<◌, ◌≤◌, Bool, true, false, cond, eqb, ltb, List, [], ◌∷◌, ◌++◌, Option, None, Some, IfSome, refl, ap, sym, ◌∙◌, subst, arith, eq-eqb}
 use Rattle.std.proofs.lemmas.Bool.{and_parts, ne_eqb, eqb-true, lt-ltb}
 use Rattle.std.proofs.lemmas.Bool.Decides.{nat_tests}
+use Rattle.std.proofs.lemmas.List.{append_assoc}
 use Rattle.std.specs.Option.{option_map}
 use Rattle.std.specs.List.{AllByRecursion, filter_map, cons_option}
 use Rattle.plan.specs.declared.findings.Finding.{Finding}
@@ -136,14 +137,6 @@ join [] ys None = refl
 join [] ys (Some a) = refl
 join (x ∷ xs) ys o = ap (λ rest. x ∷ rest) (join xs ys o)
 
-append_three : {A : Type 0} (xs ys zs : List A) → (xs ++ ys) ++ zs ≡ xs ++ (ys ++ zs)
-append_three [] ys zs = refl
-append_three (x ∷ xs) ys zs = ap (λ rest. x ∷ rest) (append_three xs ys zs)
-
-abbrev next_low : ℕ → List Release → ℕ
-next_low low [] = low
-next_low low (r ∷ rs) = r.id
-
 -- release by release
 over : (t : State) (alerts xs : List Alert) (low : ℕ) (rs : List Release) (next : ℕ) → ((id : ℕ) → IsStep (alert_at id alerts) (alert_at id t.alerts)) → Rise low rs next → AreBelow low xs
     → put_changes (changes_over t alerts rs) (xs ++ filter_map (λ r. alert_at r.id alerts) rs) ≡ xs ++ filter_map (judged t) rs
@@ -156,7 +149,7 @@ over t alerts xs low (r ∷ rs) next step rise below =
     let less = rise.0 in
     let under : AreBelow r.id xs = below_more low r.id xs (omega (arith, less)) below in
     let above : AreAbove r.id later = all_above (λ q. alert_at q.id alerts) (r.id + 1) rs next (λ q. found_of q.id alerts) r.id (omega arith) rise.1 in
-    ap (λ cs. put_changes cs (xs ++ cons_option before later)) (append_three (change_between r.id before kept) (change_between r.id kept (judged t r)) more)
+    ap (λ cs. put_changes cs (xs ++ cons_option before later)) (append_assoc (change_between r.id before kept) (change_between r.id kept (judged t r)) more)
     ∙ between r.id before kept xs later (change_between r.id kept (judged t r) ++ more) under above (found_of r.id alerts) (step r.id)
     ∙ between r.id kept (judged t r) xs later more under above (found_of r.id t.alerts) (judged_step (failing_of (grounds_of t) r) kept r t.moment)
     ∙ ap (λ rest. put_changes more rest) (join xs later (judged t r))
@@ -174,21 +167,3 @@ pub changes_lead : (effect : Effect) (s : State) → EffectFits s effect → Sou
 changes_lead effect s fits sound = changes_lead_by effect s fits (judgeable s sound)
 
 -- One pass over the releases and the alerts in their order.
-
--- the alert at the front, where it is of that release
-abbrev pub here : ℕ → List Alert → Option Alert
-here id [] = None
-here id (a ∷ rest) = cond (eqb a.release id) (Some a) None
-
--- the alerts but for that one
-abbrev pub past : ℕ → List Alert → List Alert
-past id [] = []
-past id (a ∷ rest) = cond (eqb a.release id) rest (a ∷ rest)
-
-here_is : (id : ℕ) (o : Option Alert) (ys : List Alert) → IfSome o (IsOf id) → AreAbove id ys → (here id (cons_option o ys) ≡ o) × (past id (cons_option o ys) ≡ ys)
-here_is id (Some a) ys is above = rw (eq-eqb a.release id is) (refl, refl)
-here_is id None [] is above = (refl, refl)
-here_is id None (a ∷ ys) is above =
-    let less = above.0 in
-    let ne : a.release ≡ id → ⊥ = λ e. absurd (omega (arith, e, less)) in
-    rw (ne_eqb a.release id ne) (refl, refl)

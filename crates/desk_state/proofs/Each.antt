@@ -1,5 +1,5 @@
 -- What holds of each item of a list holds after a change.
-use Rattle.std.proofs.Common.{◌≡◌, ℕ, ◌≤◌, arith, zero, suc, take, drop, Bool, true, false, cond, List, [], ◌∷◌, ◌++◌, length, Option, Some, IfSome, refl, ap}
+use Rattle.std.proofs.Common.{◌≡◌, ℕ, ◌≤◌, arith, suc, Bool, true, false, cond, List, [], ◌∷◌, ◌++◌, length, Option, Some, IfSome, refl, ap}
 use Rattle.std.specs.Prelude.{find}
 use Rattle.std.specs.List.{AllByRecursion}
 use Rattle.plan.specs.declared.release.Release.{Release}
@@ -37,16 +37,6 @@ length_by q r qs more false e = ap suc e
 pub put_length : (r : Release) (rs : List Release) → length (put_release r rs) ≡ length rs
 put_length r [] = refl
 put_length r (q ∷ qs) = length_by q r qs (put_release r qs) _ (put_length r qs)
-
-pub each_take : {A : Type 0} (P : A → Type 0) (i : ℕ) (xs : List A) → AllByRecursion P xs → AllByRecursion P (take i xs)
-each_take P zero xs all = tt
-each_take P (suc i) [] all = tt
-each_take P (suc i) (x ∷ xs) all = (all.0, each_take P i xs all.1)
-
-pub each_drop : {A : Type 0} (P : A → Type 0) (i : ℕ) (xs : List A) → AllByRecursion P xs → AllByRecursion P (drop i xs)
-each_drop P zero xs all = all
-each_drop P (suc i) [] all = tt
-each_drop P (suc i) (x ∷ xs) all = each_drop P i xs all.1
 
 without_by : (P : Release → Type 0) (q : Release) (qs more : List Release) (b : Bool) → P q → AllByRecursion P qs → AllByRecursion P more → AllByRecursion P (cond b qs (q ∷ more))
 without_by P q qs more true here all rest = all

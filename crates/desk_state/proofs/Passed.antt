@@ -1,5 +1,5 @@
 -- What holds where the tests of a call are passed.
-use Rattle.std.proofs.Common.{◌≡◌, ℕ, not, Bool, true, false, List, Option, None, Some, Ok, refl, cc}
+use Rattle.std.proofs.Common.{◌≡◌, ℕ, not, Bool, true, false, List, Option, None, Some, Ok, refl}
 use Rattle.std.specs.Str.{bytes_eq}
 use Rattle.std.proofs.lemmas.Slice.Eq.{bytes_eq-Decides}
 use Rattle.asks.specs.declared.reply.Refusal.{Refusal}

@@ -20,7 +20,6 @@ pub mod HeldForms
 pub mod ReopenedForms
 pub mod OpeningLaws
 pub mod StateLaws
-pub mod RowLaws
 pub mod SavedLaws
 pub mod RecordLaws
 pub mod Segments

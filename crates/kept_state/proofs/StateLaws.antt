@@ -4,7 +4,6 @@ use Rattle.std.specs.Prelude.{nat_lt}
 use Rattle.std.proofs.lemmas.Bool.{ltb-false, leb-false, or_parts}
 use Rattle.ops_tables.specs.Named.{AreNamed}
 use Rattle.ops_tables.specs.Tables.{TableRows}
-use Rattle.plan.specs.Texts.{IsMoment}
 use Rattle.desk_state.specs.Sound.{AreCounters, AreJudgeable, InBounds, IsBoard}
 use Rattle.desk_state.specs.State.{start}
 use Rattle.desk_state.proofs.Boards.{start_board}
@@ -113,12 +112,3 @@ may_reopen tables rs names are = reopens_by tables rs (meta_in rs) names are ref
 -- once it is judged it is that of a board
 pub held_board : (tables : TableRows) (rs : List Record) → AreNamed tables → AreOfDesk rs → IsBoard (reopened (state_in tables rs)) (reopened (state_in tables rs))
 held_board tables rs names are = reopened_board (state_in tables rs) (may_reopen tables rs names are)
-
-tables_by : (tables : TableRows) (rs : List Record) (o : Option MetaOf) → (state_by tables o rs).tables ≡ tables
-tables_by tables rs None = refl
-tables_by tables rs (Some m) = refl
-
--- the tables are those under which the desk is opened
-pub same_tables : (tables : TableRows) (rs : List Record) → (state_in tables rs).tables ≡ tables
-unfolding state_in
-same_tables tables rs = tables_by tables rs (meta_in rs)

@@ -3,7 +3,7 @@ use Rattle.std.proofs.Common.{◌≡◌, ℕ, zero, suc, ◌+◌, ◌<◌, All, 
 use Rattle.std.specs.List.{slice_get}
 use Rattle.std.specs.Option.{option_map}
 use Rattle.std.specs.Result.{MatchResult, IsErr, IsErrAnd}
-use Rattle.std.proofs.lemmas.List.{take_more, map-append, length-map}
+use Rattle.std.proofs.lemmas.List.{take_more, map-append}
 use Rattle.std.proofs.lemmas.List.Elements.{All-push}
 use Rattle.desk_io.specs.declared.rows.Row.{Row}
 use Rattle.desk_time.specs.Digits.{◌>>=◌}
@@ -125,9 +125,6 @@ goes_on rows records made i row r are within is read more = record {
   valid = subst (All IsRecord) (sym more) (All-push IsRecord records r are.valid read.valid);
   made = ap (map row_of) more ∙ map-append row_of records (r ∷ []) ∙ ap (λ xs. xs ++ row_of r ∷ []) are.made ∙ ap (λ x. take i rows ++ x ∷ []) (read.has ∙ is) ∙ sym (take_more rows i row within);
 }
-
-pub same_length : (rows : List Row) (records : List Record) → AreRowsOf rows records → length rows ≡ length records
-same_length rows records are = sym (ap length are.made) ∙ length-map records row_of
 
 -- a fault that is passed on
 pub passed_on : {T : Type 0} (r : Result T RowsFault) (fault : RowsFault) (P : T → Type 0) (Q : RowsFault → Type 0) → IsErr r → IsErrAnd r (λ e. e ≡ fault) → Q fault → MatchResult r P Q

@@ -1,9 +1,7 @@
 -- Records that make a bad pair share a mark, and an index that is made mark by mark.
-use Rattle.std.proofs.Common.{◌≡◌, refl, sym, ap, ◌∙◌, subst, ℕ, zero, suc, ◌+◌, ◌<◌, ◌≤◌, Bool, true, false, not, ◌&&◌, ◌||◌, cond, List, [], ◌∷◌, ◌++◌, length, take, get_or, map, Option, Some, None, arith}
+use Rattle.std.proofs.Common.{◌≡◌, refl, sym, ap, ◌∙◌, subst, ℕ, zero, suc, ◌+◌, ◌<◌, ◌≤◌, Bool, true, false, not, ◌||◌, cond, List, [], ◌∷◌, ◌++◌, length, take, get_or, map, Some, arith}
 use Rattle.std.specs.Prelude.{◌==◌}
-use Rattle.std.specs.declared.cmp.Ordering.{Ordering}
-use Rattle.std.specs.declared.cmp.Ordering.TheVariants.{Less, Equal, Greater}
-use Rattle.std.specs.Ordering.{nat_cmp, is_eq, ordering_then}
+use Rattle.std.specs.Ordering.{is_eq}
 use Rattle.std.specs.Cmp.{IsTotalOrder}
 use Rattle.std.specs.Str.{bytes_eq}
 use Rattle.std.specs.List.{list_any, position_from}
@@ -11,7 +9,7 @@ use Rattle.std.specs.Option.{unwrap_or}
 use Rattle.std.specs.BTreeMap.{is_at}
 use Rattle.std.proofs.lemmas.Bool.{and_parts, eqb-true, not-true, or_left, or_right}
 use Rattle.std.proofs.lemmas.List.{take_more, length-take-le}
-use Rattle.std.proofs.lemmas.Cmp.{nat_cmp_total, on_total, then_total, tied_itself, ranked}
+use Rattle.std.proofs.lemmas.Cmp.{nat_cmp_total, on_total, then_total, tied_itself}
 use Rattle.std.proofs.lemmas.Slice.Eq.{bytes_eq-Decides}
 use Rattle.plan.specs.Phases.{is_active}
 use Rattle.records.specs.Kinds.{kind_of, key_of}
@@ -31,12 +29,6 @@ itself m = ap is_eq (tied_itself mark_total m)
 
 same_mark : (m k : ℕ × ℕ) → m ≡ k → is_at (mark_cmp m) k ≡ true
 same_mark m k e = subst (λ x. is_at (mark_cmp m) x ≡ true) e (itself m)
-
-two_numbers : (a b c d : ℕ) → a ≡ c → b ≡ d → is_at (mark_cmp (a, b)) (c, d) ≡ true
-two_numbers a b c d e f = same_mark (a, b) (c, d) (λ i. (e i, f i))
-
-numbers_same : (a b c d : ℕ) → (a == c) && (b == d) ≡ true → is_at (mark_cmp (a, b)) (c, d) ≡ true
-numbers_same a b c d e = let both = and_parts (a == c) (b == d) e in two_numbers a b c d (eqb-true a c both.0) (eqb-true b d both.1)
 
 -- what two say that are at odds has one mark
 odds : (r e : Record) → are_at_odds r e ≡ true → other_mark e ≡ other_mark r
@@ -108,45 +100,6 @@ no_release_before entries rs id start place index is =
     neither (λ e. is_marked (3, id) (marks_of e)) (λ e. is_marked (3, id) (marks_of e)) (is_release_of id) (take start rs) (release_marked id) clear clear
 
 -- ---- an index is made
-
-tied_numbers : (x y : ℕ) (o : Ordering) → o ≡ nat_cmp x y → is_eq o ≡ true → x ≡ y
-tied_numbers x y Less e h = absurd cc
-tied_numbers x y Equal e h = ranked x y Equal e
-tied_numbers x y Greater e h = absurd cc
-
-tied_first : (a b : Ordering) → is_eq (ordering_then a b) ≡ true → (is_eq a ≡ true) × (is_eq b ≡ true)
-tied_first Less b h = absurd cc
-tied_first Equal b h = (refl, h)
-tied_first Greater b h = absurd cc
-
-tied_marks : (x y : ℕ × ℕ) → is_at (mark_cmp x) y ≡ true → x ≡ y
-tied_marks x y h =
-    let both = tied_first (nat_cmp x.0 y.0) (nat_cmp x.1 y.1) h in
-    λ i. (tied_numbers x.0 y.0 (nat_cmp x.0 y.0) refl both.0 i, tied_numbers x.1 y.1 (nat_cmp x.1 y.1) refl both.1 i)
-
--- a mark that stood nowhere is put at a place
-pub noted : (mark : ℕ × ℕ) (place : ℕ) (before after : ℕ × ℕ → Option ℕ) → before mark ≡ None → ((q : ℕ × ℕ) → after q ≡ cond (is_at (mark_cmp mark) q) (Some place) (before q))
-    → (q : ℕ × ℕ) → after q ≡ cond (is_at (mark_cmp mark) q) (Some (unwrap_or (before q) place)) (before q)
-noted mark place before after none each q = by (is_at (mark_cmp mark) q) refl (each q)
-  where
-    by : (b : Bool) → is_at (mark_cmp mark) q ≡ b → after q ≡ cond b (Some place) (before q) → after q ≡ cond b (Some (unwrap_or (before q) place)) (before q)
-    by true e is = is ∙ ap (λ o. Some (unwrap_or o place)) (sym none ∙ ap before (tied_marks mark q e))
-    by false e is = is
-
--- a mark that stands somewhere stays there
-pub stays : (mark : ℕ × ℕ) (place at : ℕ) (before : ℕ × ℕ → Option ℕ) → before mark ≡ Some at → (q : ℕ × ℕ) → before q ≡ cond (is_at (mark_cmp mark) q) (Some (unwrap_or (before q) place)) (before q)
-stays mark place at before some q = by (is_at (mark_cmp mark) q) refl
-  where
-    by : (b : Bool) → is_at (mark_cmp mark) q ≡ b → before q ≡ cond b (Some (unwrap_or (before q) place)) (before q)
-    by true e = let there : before q ≡ Some at = ap before (sym (tied_marks mark q e)) ∙ some in rw there refl
-    by false e = refl
-
--- two marks in turn
-pub both_noted : (a b : Bool) (old one two : Option ℕ) (place : ℕ) → one ≡ cond a (Some (unwrap_or old place)) old → two ≡ cond b (Some (unwrap_or one place)) one → two ≡ cond (a || b) (Some (unwrap_or old place)) old
-both_noted true true old one two place e f = f ∙ ap (λ o. Some (unwrap_or o place)) e
-both_noted true false old one two place e f = f ∙ e
-both_noted false true old one two place e f = f ∙ ap (λ o. Some (unwrap_or o place)) e
-both_noted false false old one two place e f = f ∙ e
 
 -- one more record's marks
 pub indexed : (before after : List ((ℕ × ℕ) × ℕ)) (ms : List Marks) (m : Marks) (place : ℕ) → IsIndex before ms → place ≡ length ms

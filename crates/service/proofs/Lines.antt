@@ -1,9 +1,8 @@
 -- What writes do to a link.
-use Rattle.std.proofs.Common.{◌≡◌, ℕ, List, [], ◌++◌, take, drop, Option, Some, None, Result, Ok, Err, refl, ap, sym, ◌∙◌, append-nil, append_assoc}
+use Rattle.std.proofs.Common.{ℕ, List, [], ◌++◌, take, drop, Option, Some, None, Ok, Err, refl, ap, sym, ◌∙◌, append-nil, append_assoc}
 use Rattle.std.proofs.lemmas.List.{take-append-drop}
-use Rattle.desk_io.specs.declared.faults.PutFault.{PutFault}
 use Rattle.desk_io.specs.declared.faults.PutFault.TheVariants.{Failed, OutOfMemory}
-use Rattle.desk_net.specs.Streams.{Stream, Writes, OnlyRead, unread}
+use Rattle.desk_net.specs.Streams.{Stream, Writes, OnlyRead}
 use Rattle.service.specs.Connections.{Gains, IsFrontOf}
 use Rattle.service.specs.Serving.{Wrote}
 
@@ -24,13 +23,6 @@ gains_none T None None bytes is = tt
 gains_none T (Some old) (Some new) bytes is = (is.input, is.puts ∙ sym (append-nil old.written))
 gains_none T None (Some new) bytes is = absurd is
 gains_none T (Some old) None bytes is = absurd is
-
--- a write leaves what is unread
-pub leaves_unread : {T : Type 0} (old new : Option Stream) (bytes : List ℕ) (r : Result T PutFault) → Writes old new bytes r → unread new ≡ unread old
-leaves_unread None None bytes r is = refl
-leaves_unread (Some old) (Some new) bytes r is = ap (λ n. Some (drop n new.input)) is.taken ∙ ap (λ input. Some (drop old.taken input)) is.input
-leaves_unread None (Some new) bytes r is = absurd is
-leaves_unread (Some old) None bytes r is = absurd is
 
 pub gains_still : (line : Option Stream) → Gains line line []
 gains_still None = tt
