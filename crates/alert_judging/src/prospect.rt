@@ -111,7 +111,8 @@ impl<'a> Prospect<'a> {
 
     fn push_put(&self, out: &mut Vec<&'a Release>, release: &'a Release) -> Result<(), OutOfMemory>
         ensures { OnOk result (map (λ r. r.now) out.new.items
-            ≡ map (λ r. r.now) out.old.items ++ events.put release.now (state_of self.now.content.now).releases) }
+            ≡ map (λ r. r.now) out.old.items
+            ++ events.put_release release.now (state_of self.now.content.now).releases) }
     {
         let releases = self.content.releases.as_slice();
         match place_of(releases, release) {

@@ -54,15 +54,15 @@ pub record MayAdmit (held : List Report) (r : Report) : Type 0 where
   pub read : IsRead r
   pub small : IsSmall r.id
 
--- a deferral that may be opened: its id is above all others, and there are fewer than 50,000
-pub record MayOpen (held : List Deferral) (d : Deferral) : Type 0 where
+-- a deferral that may be added: its id is above all others, and there are fewer than 50,000
+pub record MayAdd (held : List Deferral) (d : Deferral) : Type 0 where
   pub newest : IsNewest d.id held
   pub few : length held < 50_000
   pub small : IsSmall d.id
 
 abbrev pub MayDefer : List Deferral → OnDeferrals → Type 0
 MayDefer held on_deferrals.Nothing = Unit {0}
-MayDefer held (on_deferrals.Open d) = MayOpen held d
+MayDefer held (on_deferrals.Open d) = MayAdd held d
 MayDefer held (on_deferrals.Clear id) = Unit {0}
 
 -- an effect that may be made

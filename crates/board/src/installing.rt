@@ -23,7 +23,7 @@ use plan::Release;
 // Puts a release in the place of the first of its id.
 #[tactic(auto, using(keeper::proofs::Places::replaced))]
 fn put_release(releases: &mut Vec<Release>, release: Release)
-    ensures { releases.new.items ≡ events.put release releases.old.items }
+    ensures { releases.new.items ≡ events.put_release release releases.old.items }
 {
     if let Some(i) = place_of(releases.as_slice(), &release) {
         releases[i] = release;

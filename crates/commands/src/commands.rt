@@ -6,7 +6,7 @@ ghost use Rattle.words.specs.Words.{command_of};
 
 use crate::fault::Fault;
 use crate::sources::{read_files, read_source};
-use crate::working::{Said, boardless, read_reports, run_over, serve_over};
+use crate::working::{Ended, boardless, read_reports, run_over, serve_over};
 use desk::leave;
 use desk_io::{OutOfMemory, Shelf};
 use desk_net::{Clock, Door};
@@ -20,7 +20,7 @@ use std::sync::ledger::{Blank, Ledger};
 use words::{DeskTask, Task, command};
 
 // The reports of a file.
-fn weather<S: Shelf, K: Keeper>(alloc: Global, name: &str, shelf: &mut S, keeper: K) -> Said<K>
+fn weather<S: Shelf, K: Keeper>(alloc: Global, name: &str, shelf: &mut S, keeper: K) -> Ended<K>
     ensures { SaysReports (over S.seen shelf.old shelf.new) (lent K.seen keeper result.keeper) name.now
         result.board result.answer }
 {
@@ -38,7 +38,7 @@ fn run_under<S: Shelf, K: Keeper, L: Ledger>(
     shelf: &mut S,
     keeper: K,
     steps: &mut Steps<L>,
-) -> Said<K>
+) -> Ended<K>
     ensures { RunsUnder tables (over S.seen shelf.old shelf.new) (lent K.seen keeper result.keeper) name.now
         result.board result.answer }
 {
@@ -58,7 +58,7 @@ fn run<S: Shelf, K: Keeper, L: Ledger>(
     shelf: &mut S,
     keeper: K,
     steps: &mut Steps<L>,
-) -> Said<K>
+) -> Ended<K>
     ensures { RunsScript (over S.seen shelf.old shelf.new) (lent K.seen keeper result.keeper) name.now
         result.board result.answer }
 {
@@ -79,7 +79,7 @@ fn serve<R: Wait, S: Shelf, K: Keeper, C: Clock, D: Door, L: Ledger>(
     door: &mut D,
     keeper: K,
     steps: &mut Steps<L>,
-) -> Said<K>
+) -> Ended<K>
     ensures serves { ServesLinks (over S.seen shelf.old shelf.new)
         (service C.seen D.seen D.Link.seen clock.old clock.new door.old door.new)
         (lent K.seen keeper result.keeper) port connections result.board result.answer }
@@ -110,7 +110,7 @@ fn answer_with<R: Wait, S: Shelf, K: Keeper, C: Clock, D: Door, L: Ledger>(
     door: &mut D,
     keeper: K,
     blank: Blank,
-) -> Said<K>
+) -> Ended<K>
     requires name { blank.name ≡ L.name }
     requires parts { blank.parts ≡ L.parts }
     requires some { 0 < blank.parts }
@@ -148,7 +148,7 @@ pub(crate) fn answer_to<R: Wait, S: Shelf, K: Keeper, C: Clock, D: Door>(
     clock: &mut C,
     door: &mut D,
     keeper: K,
-) -> Said<K>
+) -> Ended<K>
     ensures { Says (over S.seen shelf.old shelf.new)
         (service C.seen D.seen D.Link.seen clock.old clock.new door.old door.new)
         (lent K.seen keeper result.keeper) (command_of (map string_bytes words.now))

@@ -14,7 +14,7 @@ ghost use Rattle.words.specs.Words.{command_of};
 
 use crate::commands::answer_to;
 use crate::fault::{Fault, tell};
-use crate::working::Said;
+use crate::working::Ended;
 use board::Board;
 use desk_io::{PutFault, Shelf, Sink, Text};
 use desk_net::{Clock, Door};
@@ -116,7 +116,7 @@ pub fn desk_main<R: Wait, S: Shelf, O: Sink, C: Clock + Drop, K: Keeper, D: Door
     // Over the rows of a desk that was left there is no fault of rows.
     ensures left { (s : State) → IsLeft s → TellsRowsOf (K.seen keeper).rows s → result.status ≢ 7 }
 {
-    let Said {
+    let Ended {
         answer,
         board,
         keeper,

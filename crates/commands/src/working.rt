@@ -24,19 +24,19 @@ use std::sync::ledger::Ledger;
 
 /// What was said, and what is left: the board, where a desk was opened, and the keeper.
 #[derive(Drop)]
-pub(crate) struct Said<K> {
+pub(crate) struct Ended<K> {
     pub answer: Result<Text, Fault>,
     pub board: Option<Board>,
     pub keeper: K,
 }
 
 /// No desk was opened.
-pub(crate) fn boardless<K: Keeper>(answer: Result<Text, Fault>, keeper: K) -> Said<K>
+pub(crate) fn boardless<K: Keeper>(answer: Result<Text, Fault>, keeper: K) -> Ended<K>
     ensures answer { result.answer ≡ answer }
     ensures none { result.board ≡ None }
     ensures keeper { result.keeper ≡ keeper }
 {
-    Said {
+    Ended {
         answer,
         board: None,
         keeper,
@@ -44,7 +44,7 @@ pub(crate) fn boardless<K: Keeper>(answer: Result<Text, Fault>, keeper: K) -> Sa
 }
 
 // What is left of a desk: its board, of which holds what holds of every board, and its keeper.
-fn left<K: Keeper>(answer: Result<Text, Fault>, desk: Desk<K>) -> Said<K>
+fn left<K: Keeper>(answer: Result<Text, Fault>, desk: Desk<K>) -> Ended<K>
     ensures answer { result.answer ≡ answer }
     ensures board { result.board ≡ Some desk.board }
     ensures holds { IsBoard desk.board.opening desk.board.state }
@@ -52,7 +52,7 @@ fn left<K: Keeper>(answer: Result<Text, Fault>, desk: Desk<K>) -> Said<K>
 {
     let Desk { board, keeper } = desk;
     let _ = board.now();
-    Said {
+    Ended {
         answer,
         board: Some(board),
         keeper,
@@ -86,7 +86,7 @@ pub(crate) fn run_over<K: Keeper, L: Ledger>(
     script: &[u8],
     keeper: K,
     steps: &mut Steps<L>,
-) -> Said<K>
+) -> Ended<K>
     ensures opens { Opens tables (Runs script.now) (lent K.seen keeper result.keeper) result.board result.answer }
     ensures keeper { KeeperGoesOn (K.seen keeper) (K.seen result.keeper) }
 {
@@ -141,7 +141,7 @@ pub(crate) fn serve_over<R: Wait, K: Keeper, C: Clock, D: Door, L: Ledger>(
     door: &mut D,
     keeper: K,
     steps: &mut Steps<L>,
-) -> Said<K>
+) -> Ended<K>
     ensures opens { Opens tables
         (Serves (service C.seen D.seen D.Link.seen clock.old clock.new door.old door.new) port connections)
         (lent K.seen keeper result.keeper) result.board result.answer }

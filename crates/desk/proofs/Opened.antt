@@ -12,7 +12,8 @@ use Rattle.desk_state.specs.State.{State}
 use Rattle.records.specs.Bodies.{row_of}
 use Rattle.records.specs.Checks.{IsDesk}
 use Rattle.records.specs.declared.record.Record.{Record}
-use Rattle.kept_state.specs.Held.{rising, AreOfDesk, state_in}
+use Rattle.kept_state.specs.Held.{AreOfDesk, state_in}
+use Rattle.kept_state.proofs.SameRows.{rise_as}
 use Rattle.desk.proofs.Steps.{same_kept, still_keeps}
 use Rattle.desk.specs.Keeping.{KeepsState}
 use Rattle.desk.specs.Opening.{AreLoaded, AreAsked, commits_for, commits_where, commits_to_open}
@@ -21,7 +22,6 @@ use Rattle.desk_state.specs.Effects.{nothing}
 use Rattle.desk_state.specs.Events.{alert_changes}
 use Rattle.desk_state.specs.declared.change.AlertChange.{AlertChange}
 use Rattle.ops_tables.specs.Tables.{TableRows}
-use Rattle.kept_state.proofs.SameRows.{rise_as}
 
 -- the records of rows in order that are those of a desk
 pub of_desk : (rows : List Row) (records : List Record) → IsDesk rows records → IsTrue (order.rising rows) → AreOfDesk records

@@ -13,7 +13,7 @@ use Rattle.desk_state.specs.declared.lanes.Said.TheVariants as said
 use Rattle.desk.specs.Keeping.{Choice, Given, IsGiven, GivenBetween, answer_with, item_with, commits_after, commits_after_item}
 use Rattle.desk.specs.Seen.{DeskSeen}
 use Rattle.desk.specs.declared.answering.Answered.{Answered}
-use Rattle.desk.specs.declared.answering.Judged.{Judged}
+use Rattle.desk.specs.declared.answering.AnsweredWith.{AnsweredWith}
 use Rattle.desk.specs.declared.settling.Settled.{Settled}
 
 -- the step that is prepared
@@ -27,7 +27,7 @@ pub record IsSettled (r : Settled) (s : State) (t : Stepped) : Type 0 where
   pub notices : r.notices ≡ t.notices
 
 -- the counts of faults of an item
-abbrev pub choice_of : Judged → Choice
+abbrev pub choice_of : AnsweredWith → Choice
 choice_of j = record { tick = j.tick; call = j.call }
 
 -- a state where memory ran out: as before, or after the tick that came first

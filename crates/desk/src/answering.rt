@@ -35,7 +35,7 @@ pub struct Answered {
 
 /// What a call is answered, and the keeper's counts of faults where its tick or itself wasn't kept.
 #[derive(Drop)]
-pub(crate) struct Judged {
+pub(crate) struct AnsweredWith {
     pub answered: Answered,
     pub tick: Option<u64>,
     pub call: Option<u64>,
@@ -134,7 +134,7 @@ fn said_of(reply: Option<Reply>) -> Said
 }
 
 // What a call is answered of which the tick and the call itself are settled.
-fn joined(position: u64, ticked: Notices, tick: Option<u64>, settled: Settled) -> Judged
+fn joined(position: u64, ticked: Notices, tick: Option<u64>, settled: Settled) -> AnsweredWith
     requires replied { is_some settled.reply ≡ true }
     requires shown { IfSome settled.reply ReplyHasMoment }
     ensures position { result.answered.outcome.position ≡ position }
@@ -150,7 +150,7 @@ fn joined(position: u64, ticked: Notices, tick: Option<u64>, settled: Settled) -
         notices,
         fault,
     } = settled;
-    Judged {
+    AnsweredWith {
         answered: Answered {
             outcome: Outcome {
                 position,
@@ -170,7 +170,7 @@ fn answer_made<K: Keeper, L: Ledger>(
     lane: u32,
     call: &Call,
     steps: &mut Steps<L>,
-) -> Result<Judged, OutOfMemory>
+) -> Result<AnsweredWith, OutOfMemory>
     requires { CallHasForms call.now }
     ensures given { IfOk result (λ j. Gives
         (spec.given [] desk.old.board.state (spec.made_with j.call lane desk.old.board.state call.now))
@@ -198,7 +198,7 @@ fn answer_late<K: Keeper, L: Ledger>(
     at: Minute,
     call: &Call,
     steps: &mut Steps<L>,
-) -> Result<Judged, OutOfMemory>
+) -> Result<AnsweredWith, OutOfMemory>
     requires after { desk.old.board.state.moment < at }
     requires within { at ≤ LAST }
     requires call { CallHasForms call.now }
@@ -227,14 +227,14 @@ fn answer_late<K: Keeper, L: Ledger>(
 /// A call of a lane at a moment: the desk ticks to it first, where it is later, and keeps what each of the two changes
 /// before it is made.
 #[tactic(auto, unfolding(crate::specs::Keeping::answer_with, crate::specs::Keeping::commits_after))]
-pub(crate) fn judge<K: Keeper, L: Ledger>(
+pub(crate) fn answer_with<K: Keeper, L: Ledger>(
     alloc: Global,
     desk: &mut Desk<K>,
     lane: u32,
     at: Minute,
     call: &Call,
     steps: &mut Steps<L>,
-) -> Result<Judged, OutOfMemory>
+) -> Result<AnsweredWith, OutOfMemory>
     requires within { at ≤ LAST }
     requires call { CallHasForms call.now }
     ensures given { IfOk result (λ j. Gives
@@ -293,6 +293,6 @@ pub fn answer<K: Keeper, L: Ledger>(
     ensures still { moment ≤ desk.old.board.state.moment → adds desk.old.board.state
         (answer_call desk.old.board.state lane call.now) ≡ false → desk.new.keeper ≡ desk.old.keeper }
 {
-    let judged = judge(alloc, desk, lane, moment, call, steps)?;
+    let judged = answer_with(alloc, desk, lane, moment, call, steps)?;
     Ok(judged.answered)
 }

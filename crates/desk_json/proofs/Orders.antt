@@ -8,7 +8,7 @@ use Rattle.std.proofs.lemmas.Cmp.{nat_list_cmp_total}
 use Rattle.json.specs.Json as json
 use Rattle.json.specs.Lex.{tokens}
 use Rattle.serde_json.specs.Data.{Data, null, boolean, number, string, array, object, Items, no_items, item, Members, no_members, member, put}
-use Rattle.serde_json.specs.Find.{get, get_member}
+use Rattle.serde_json.specs.Find.{get_member}
 use Rattle.serde_json.specs.Read.{max_depth, read, of_json, of_items, of_members, number_of}
 use Rattle.call_json.specs.Fields.{data_of}
 use Rattle.call_json.specs.Plain.{IsBefore, AreInOrder}
@@ -119,12 +119,3 @@ member_ordered key no_members all = tt
 member_ordered key (member k d ms) all =
     let rest = member_ordered key ms all.1 in
     found_by (slice_cmp nat_cmp key k) (get_member key ms) (Some d) (get_member key ms) rest all.0 rest
-
--- the value at a key of what is so
-pub found_ordered : (key : List ℕ) (d : Data) → Ordered d → IfSome (get key d) Ordered
-found_ordered key null is = tt
-found_ordered key (boolean b) is = tt
-found_ordered key (number n) is = tt
-found_ordered key (string t) is = tt
-found_ordered key (array ds) is = tt
-found_ordered key (object ms) is = member_ordered key ms is.1

@@ -2,7 +2,7 @@
 use Rattle.std.proofs.Common.{◌≡◌, ℕ, ◌+◌, ◌<◌, ◌&&◌, ltb, IfSome, Bool, true, false, List, Option, None, Some, Result, Ok, Err, inl, inr, refl, ap, subst, sym, cond, eqb, eq-eqb, ◌≢◌, ◌||◌, [], ◌∷◌, length, is_some, is_none, arith}
 use Rattle.std.specs.Prelude.{nat_le, nat_lt, find}
 use Rattle.std.specs.Option.{option_map}
-use Rattle.std.proofs.lemmas.Bool.{leb-false, ltb-true, ltb-false, eqb-true, or_right}
+use Rattle.std.proofs.lemmas.Bool.{leb-false, ltb-true, ltb-false, eqb-true, or_right, and_parts}
 use Rattle.std.specs.Str.{bytes_eq}
 use Rattle.std.specs.List.{list_any}
 use Rattle.codes.specs.Groups.{groups_of, canonical}
@@ -24,6 +24,7 @@ use Rattle.release_text.specs.Revisions.{revision_digest}
 use Rattle.release_text.specs.Weather.{newer_than}
 use Rattle.rules.specs.Grounds.{Grounds}
 use Rattle.desk_state.proofs.Each.{found_each}
+use Rattle.desk_state.proofs.Passed.{some_given, not_so, so, same_bytes, no_plan_fault}
 use Rattle.desk_state.specs.Sound.{Sound, MayStand}
 use Rattle.release_text.specs.Valid.{IsPhased, IsThere}
 use Rattle.alerts.proofs.Laws.{follows}
@@ -59,7 +60,6 @@ use Rattle.desk_state.specs.Decide as d
 use Rattle.desk_state.specs.Decide.{decide}
 use Rattle.desk_state.specs.Allowed.{MaySign, GainsDispatcher, GainsCaptain, GainsWeather, BothAre, IsPreparing, IsSigning, IsReleased, IsConcurring, HasNotEnded, IsCancelling, IsNextRevision, IsAmending, HasMore, HasNoMore, has_text, IsNextLeg, IsCaptainOf, FliesAs, FliesBy, IsDeparting, IsStopping, IsCompleting, IsInVersion, IsAcknowledging, OfHeld, IsListed, IsEffectOf, admits, defers, clears, drafts, prepares, signs, concurs, amends, cancels, departs, stops, completes, acknowledges, purges, sweeps, HasEndedAt, AskedOf, IsShownTo, IsAnswer, IsUnused, DecisionOf}
 use Rattle.desk_io.proofs.Bytes.{same_bytes}
-use Rattle.desk_state.proofs.Deciding.{some_given, not_so, no_plan_fault, so}
 
 given : {A : Type 0} (s : State) (actor : List ℕ) (a : Ask) (m : Result A Refusal) (f : A → Result Decision Refusal) → ((x : A) → m ≡ Ok x → AskedOf s actor a (f x)) → AskedOf s actor a (m >>- f)
 given s actor a (Err x) f goes = tt
@@ -279,16 +279,12 @@ both_parts : (a b : Bool) → a ≡ true → b ≡ true → (a && b) ≡ true
 both_parts true b e f = f
 both_parts false b e f = absurd (cc)
 
-first_part : (a b : Bool) → (a && b) ≡ true → a ≡ true
-first_part true b e = refl
-first_part false b e = absurd (cc)
-
 id_by : (text : List ℕ) (minute id : ℕ) (r : Report) (rs : List Report) (b : Bool) → is_same text minute r ≡ b
     → option_map (λ x. x.id) (cond b (Some r) (find (is_same text minute) rs)) ≡ Some id
     → (option_map (λ x. x.id) (find (is_same text minute) rs) ≡ Some id → list_any (has_text id text) rs ≡ true) → (has_text id text r || list_any (has_text id text) rs) ≡ true
 id_by text minute id r rs true same e later =
     let is : r.id ≡ id = cc in
-    rw (both_parts (eqb r.id id) (bytes_eq r.text text) (eq-eqb r.id id is) (first_part (bytes_eq r.text text) (eqb (minute_of_report r) minute) same)) refl
+    rw (both_parts (eqb r.id id) (bytes_eq r.text text) (eq-eqb r.id id is) (and_parts (bytes_eq r.text text) (eqb (minute_of_report r) minute) same).0) refl
 id_by text minute id r rs false same e later = or_right (has_text id text r) (list_any (has_text id text) rs) (later e)
 
 id_held : (text : List ℕ) (minute id : ℕ) (rs : List Report) → option_map (λ x. x.id) (find (is_same text minute) rs) ≡ Some id → list_any (has_text id text) rs ≡ true

@@ -46,12 +46,11 @@ use Rattle.call_json.proofs.AskForms.{call_from_forms}
 use Rattle.desk_state.proofs.Judging.{AreTold, alerts_have, all_own, are_alerted, are_alerts, told_kept}
 use Rattle.desk_state.proofs.AllowedLaws.{decision_is}
 use Rattle.desk_state.specs.Allowed.{DecisionOf}
-use Rattle.desk_state.proofs.Parts.{judgeable, moment_shown, none_found, reports_unlike, reports_numbered, reports_rise, reports_few, swept_each, swept_unlike, swept_rise, swept_fewer, kept_each, kept_single, kept_rise, kept_fewer, still_unused, report_next, deferrals_open, deferral_next, releases_rise, releases_valid, releases_kept, releases_held, releases_told, release_next}
+use Rattle.desk_state.proofs.Parts.{tick_fits, judgeable, moment_shown, none_found, reports_unlike, reports_numbered, reports_rise, reports_few, swept_each, swept_unlike, swept_rise, swept_fewer, kept_each, kept_single, kept_rise, kept_fewer, still_unused, report_next, deferrals_open, deferral_next, releases_rise, releases_valid, releases_kept, releases_held, releases_told, release_next}
 use Rattle.desk_state.proofs.Deciding.{decision_fits}
 use Rattle.desk_state.proofs.FormLaws.{start_formed, tick_formed, command_formed}
 use Rattle.desk_state.proofs.NameForms.{person_formed}
 use Rattle.desk_io.proofs.Each.{each_weaker, each_push}
-use Rattle.desk_state.proofs.LeadingLaws.{tick_fits}
 
 -- an entry more keeps a history legal
 legal_more : (s : State) (es : List Entry) (t : State) (e : Entry) → Legal s es t → MayCome t e.lane e.what → Legal s (es ++ e ∷ []) (next t e.lane e.what)

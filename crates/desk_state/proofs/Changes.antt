@@ -2,6 +2,7 @@
 use Rattle.std.proofs.Common.{◌≡◌, ℕ, ◌+◌, ◌<◌, ◌≤◌, Bool, true, false, cond, eqb, ltb, List, [], ◌∷◌, ◌++◌, Option, None, Some, IfSome, refl, ap, sym, ◌∙◌, subst, arith, eq-eqb}
 use Rattle.std.proofs.lemmas.Bool.{ne_eqb, eqb-true, lt-ltb, and_parts}
 use Rattle.std.proofs.lemmas.Bool.Decides.{nat_tests}
+use Rattle.std.proofs.lemmas.List.{append_assoc}
 use Rattle.std.specs.Option.{option_map}
 use Rattle.std.specs.List.{AllByRecursion, filter_map, cons_option}
 use Rattle.plan.specs.declared.findings.Finding.{Finding}
@@ -136,10 +137,6 @@ join [] ys None = refl
 join [] ys (Some a) = refl
 join (x ∷ xs) ys o = ap (λ rest. x ∷ rest) (join xs ys o)
 
-append_three : {A : Type 0} (xs ys zs : List A) → (xs ++ ys) ++ zs ≡ xs ++ (ys ++ zs)
-append_three [] ys zs = refl
-append_three (x ∷ xs) ys zs = ap (λ rest. x ∷ rest) (append_three xs ys zs)
-
 -- release by release
 over : (t : State) (alerts xs : List Alert) (low : ℕ) (rs : List Release) (next : ℕ) → ((id : ℕ) → IsStep (alert_at id alerts) (alert_at id t.alerts)) → Rise low rs next → AreBelow low xs
     → put_changes (changes_over t alerts rs) (xs ++ filter_map (λ r. alert_at r.id alerts) rs) ≡ xs ++ filter_map (judged t) rs
@@ -152,7 +149,7 @@ over t alerts xs low (r ∷ rs) next step rise below =
     let less = rise.0 in
     let under : AreBelow r.id xs = below_more low r.id xs (omega (arith, less)) below in
     let above : AreAbove r.id later = all_above (λ q. alert_at q.id alerts) (r.id + 1) rs next (λ q. found_of q.id alerts) r.id (omega arith) rise.1 in
-    ap (λ cs. put_changes cs (xs ++ cons_option before later)) (append_three (change_between r.id before kept) (change_between r.id kept (judged t r)) more)
+    ap (λ cs. put_changes cs (xs ++ cons_option before later)) (append_assoc (change_between r.id before kept) (change_between r.id kept (judged t r)) more)
     ∙ between r.id before kept xs later (change_between r.id kept (judged t r) ++ more) under above (found_of r.id alerts) (step r.id)
     ∙ between r.id kept (judged t r) xs later more under above (found_of r.id t.alerts) (judged_step (failing_of (grounds_of t) r) kept r t.moment)
     ∙ ap (λ rest. put_changes more rest) (join xs later (judged t r))

@@ -63,6 +63,7 @@ use Rattle.desk_state.proofs.Each.{found_each}
 use Rattle.desk_state.proofs.Parts.{later_within}
 use Rattle.desk_io.proofs.Each.{each_weaker}
 use Rattle.desk_io.proofs.Bytes.{same_bytes}
+use Rattle.desk_state.proofs.Passed.{some_given, not_so, so, same_bytes, no_plan_fault}
 
 -- Chains.
 
@@ -81,18 +82,9 @@ some_stops : {A : Type 0} (x : Refusal) (o : Option A) → RefusalHasMoment x �
 some_stops x None has y e = subst RefusalHasMoment (cc) has
 some_stops x (Some a) has y e = absurd (cc)
 
-pub some_given : {A : Type 0} (x : Refusal) (o : Option A) (a : A) → some_or x o ≡ Ok a → o ≡ Some a
-some_given x None a e = absurd (cc)
-some_given x (Some b) a e = cc
-
 if_stops : (b : Bool) (x : Refusal) → RefusalHasMoment x → IfSome (refused_if b x) RefusalHasMoment
 if_stops true x has = has
 if_stops false x has = tt
-
--- what isn't refused isn't so
-pub not_so : (b : Bool) (x : Refusal) → refused_if b x ≡ None → b ≡ false
-not_so true x e = absurd (cc)
-not_so false x e = refl
 
 -- The tests.
 
@@ -136,9 +128,6 @@ change_stops plan (Some v) phase = plan_stops (change_fault plan v.plan phase)
 
 -- What the tests say.
 
-pub so : (b : Bool) (x : Refusal) → refused_if (not b) x ≡ None → b ≡ true
-so b x e = not-false b (not_so (not b) x e)
-
 -- the digest that was asked for is that of the text
 on_text : (v : Revision) (digest : List ℕ) → d.mistaken_text v digest ≡ None → digest ≡ revision_digest v
 on_text v digest e = sym (same_bytes (revision_digest v) digest (so (bytes_eq (revision_digest v) digest) _ e))
@@ -146,10 +135,6 @@ on_text v digest e = sym (same_bytes (revision_digest v) digest (so (bytes_eq (r
 signed_once : (v : Revision) (o : Option Signature) → MaySigned v o → d.unsigned o ≡ None → IsSigned v o
 signed_once v None may e = absurd (cc)
 signed_once v (Some signature) may e = may.1
-
-pub no_plan_fault : (o : Option BadPlan) → d.bad_plan o ≡ None → o ≡ None
-no_plan_fault None e = refl
-no_plan_fault (Some bad) e = absurd (cc)
 
 -- a plan that passes its tests has a leg
 

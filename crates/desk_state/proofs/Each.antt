@@ -3,7 +3,7 @@ use Rattle.std.proofs.Common.{◌≡◌, ℕ, ◌≤◌, arith, suc, Bool, true,
 use Rattle.std.specs.Prelude.{find}
 use Rattle.std.specs.List.{AllByRecursion}
 use Rattle.plan.specs.declared.release.Release.{Release}
-use Rattle.desk_state.specs.Events.{put, without_release}
+use Rattle.desk_state.specs.Events.{put_release, without_release}
 
 found_by : {A : Type 0} (P : A → Type 0) (x : A) (b : Bool) (o : Option A) → P x → IfSome o P → IfSome (cond b (Some x) o) P
 found_by P x true o here later = here
@@ -18,17 +18,17 @@ put_by : (P : Release → Type 0) (q r : Release) (qs more : List Release) (b : 
 put_by P q r qs more true old here rest later = (here, rest)
 put_by P q r qs more false old here rest later = (old, later)
 
-pub put_each : (P : Release → Type 0) (r : Release) (rs : List Release) → AllByRecursion P rs → P r → AllByRecursion P (put r rs)
+pub put_each : (P : Release → Type 0) (r : Release) (rs : List Release) → AllByRecursion P rs → P r → AllByRecursion P (put_release r rs)
 put_each P r [] all here = tt
-put_each P r (q ∷ qs) all here = put_by P q r qs (put r qs) _ all.0 here all.1 (put_each P r qs all.1 here)
+put_each P r (q ∷ qs) all here = put_by P q r qs (put_release r qs) _ all.0 here all.1 (put_each P r qs all.1 here)
 
 length_by : (q r : Release) (qs more : List Release) (b : Bool) → length more ≡ length qs → length (cond b (r ∷ qs) (q ∷ more)) ≡ suc (length qs)
 length_by q r qs more true e = refl
 length_by q r qs more false e = ap suc e
 
-pub put_length : (r : Release) (rs : List Release) → length (put r rs) ≡ length rs
+pub put_length : (r : Release) (rs : List Release) → length (put_release r rs) ≡ length rs
 put_length r [] = refl
-put_length r (q ∷ qs) = length_by q r qs (put r qs) _ (put_length r qs)
+put_length r (q ∷ qs) = length_by q r qs (put_release r qs) _ (put_length r qs)
 
 without_by : (P : Release → Type 0) (q : Release) (qs more : List Release) (b : Bool) → P q → AllByRecursion P qs → AllByRecursion P more → AllByRecursion P (cond b qs (q ∷ more))
 without_by P q qs more true here all rest = all

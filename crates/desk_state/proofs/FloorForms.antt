@@ -40,10 +40,10 @@ raised_formed (k ∷ ks) fs kept all =
 -- ---- their order
 
 -- a name that comes before that of a floor
-abbrev IsBelow : List ℕ → Floor → Type 0
+abbrev pub IsBelow : List ℕ → Floor → Type 0
 IsBelow name g = slice_cmp nat_cmp name g.actor ≡ Less
 
-all_later : (name key : List ℕ) (fs : List Floor) → slice_cmp nat_cmp name key ≡ Less → AllByRecursion (IsBelow key) fs → AllByRecursion (IsBelow name) fs
+pub all_later : (name key : List ℕ) (fs : List Floor) → slice_cmp nat_cmp name key ≡ Less → AllByRecursion (IsBelow key) fs → AllByRecursion (IsBelow name) fs
 all_later name key [] below all = tt
 all_later name key (f ∷ fs) below all = (nat_list_cmp_total.trans name key f.actor below all.0, all_later name key fs below all.1)
 

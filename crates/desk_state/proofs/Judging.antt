@@ -21,7 +21,7 @@ use Rattle.rules.proofs.Laws.{findings_in_order}
 use Rattle.desk_state.specs.State.{State, grounds_of, failing_if, failing_in, failing_of, alert_at, alert_for, judged, judged_all}
 use Rattle.desk_state.specs.declared.effect.OnAlerts.{OnAlerts}
 use Rattle.desk_state.specs.declared.effect.OnAlerts.TheVariants as on_alerts
-use Rattle.desk_state.specs.Events.{put, without_alert, acknowledged_if, alerts_after, kept_alert, without_release}
+use Rattle.desk_state.specs.Events.{put_release, without_alert, acknowledged_if, alerts_after, kept_alert, without_release}
 use Rattle.desk_state.specs.Sound.{Matches, IsToldTo, IsAlerted, Rise}
 use Rattle.desk_state.proofs.Each.{found_each}
 
@@ -234,9 +234,9 @@ rise_put_by low q r qs more next true e less rest later =
     let same = eqb-true q.id r.id e in (omega (arith, same, less), subst (λ (id : ℕ). Rise (id + 1) qs next) same rest)
 rise_put_by low q r qs more next false e less rest later = (less, later)
 
-pub rise_put : (low : ℕ) (r : Release) (rs : List Release) (next : ℕ) → Rise low rs next → Rise low (put r rs) next
+pub rise_put : (low : ℕ) (r : Release) (rs : List Release) (next : ℕ) → Rise low rs next → Rise low (put_release r rs) next
 rise_put low r [] next rise = rise
-rise_put low r (q ∷ qs) next rise = rise_put_by low q r qs (put r qs) next _ refl rise.0 rise.1 (rise_put (q.id + 1) r qs next rise.1)
+rise_put low r (q ∷ qs) next rise = rise_put_by low q r qs (put_release r qs) next _ refl rise.0 rise.1 (rise_put (q.id + 1) r qs next rise.1)
 
 rise_without_by : (low : ℕ) (q : Release) (qs more : List Release) (next : ℕ) (b : Bool) → low ≤ q.id → Rise (q.id + 1) qs next → Rise (q.id + 1) more next → Rise low (cond b qs (q ∷ more)) next
 rise_without_by low q qs more next true less rest later = rise_lower low (q.id + 1) qs next (omega (arith, less)) rest

@@ -1,6 +1,7 @@
 pub mod Each
 pub mod Judging
 pub mod Parts
+pub mod Passed
 pub mod Deciding
 pub mod Boards
 pub mod Changes

@@ -22,8 +22,9 @@ use Rattle.desk_state.specs.declared.effect.OnDeferrals.{OnDeferrals}
 use Rattle.desk_state.specs.declared.effect.OnDeferrals.TheVariants as on_deferrals
 use Rattle.desk_state.specs.declared.effect.OnReleases.{OnReleases}
 use Rattle.desk_state.specs.declared.effect.OnReleases.TheVariants as on_releases
-use Rattle.desk_state.specs.Events.{put, without_release, moment_after, reports_after, reports_swept, is_since, kept_after, deferrals_after, releases_after, next_report, next_deferral, next_release}
-use Rattle.desk_state.specs.Sound.{Sound, AreJudgeable, MayStand, ReleaseInBounds, IsNumbered, IsOpen, AreOpen, MayOpen, IsNext, AreUnlike, AreSingle, IsToldTo, Rise, DeferralsFit, ReleasesFit}
+use Rattle.desk_state.specs.Effects.{tick}
+use Rattle.desk_state.specs.Events.{put_release, without_release, moment_after, reports_after, reports_swept, is_since, kept_after, deferrals_after, releases_after, next_report, next_deferral, next_release}
+use Rattle.desk_state.specs.Sound.{Sound, AreJudgeable, MayStand, ReleaseInBounds, IsNumbered, IsOpen, AreOpen, MayOpen, IsNext, AreUnlike, AreSingle, IsToldTo, Rise, DeferralsFit, ReleasesFit, EffectFits}
 use Rattle.desk_state.specs.Requests.{is_request, kept_at}
 use Rattle.desk_state.specs.State.{State, alert_at}
 use Rattle.desk_state.proofs.Each.{put_each, put_length, without_each, without_shorter}
@@ -33,6 +34,9 @@ use Rattle.desk_io.proofs.Each.{each_weaker, each_push}
 pub moment_shown : (o : Option ℕ) (moment : ℕ) → IfSome o IsMoment → IsMoment moment → IsMoment (moment_after o moment)
 moment_shown None moment fits is = is
 moment_shown (Some to) moment fits is = fits
+
+pub tick_fits : (s : State) (to : ℕ) → IsMoment to → EffectFits s (tick to)
+tick_fits s to shown = record { moment = shown; report = tt; apart = tt; deferrals = tt; releases = tt }
 
 -- Reports.
 
@@ -262,9 +266,9 @@ put_own_by : (alerts : List Alert) (q r : Release) (b : Bool) (qs more : List Re
 put_own_by alerts q r true qs more e same = ap (λ id. cons_option (alert_at id alerts) (filter_map (λ x. alert_at x.id alerts) qs)) (sym (eqb-true q.id r.id e))
 put_own_by alerts q r false qs more e same = ap (λ rest. cons_option (alert_at q.id alerts) rest) same
 
-put_own : (alerts : List Alert) (r : Release) (rs : List Release) → filter_map (λ x. alert_at x.id alerts) (put r rs) ≡ filter_map (λ x. alert_at x.id alerts) rs
+put_own : (alerts : List Alert) (r : Release) (rs : List Release) → filter_map (λ x. alert_at x.id alerts) (put_release r rs) ≡ filter_map (λ x. alert_at x.id alerts) rs
 put_own alerts r [] = refl
-put_own alerts r (q ∷ qs) = put_own_by alerts q r _ qs (put r qs) refl (put_own alerts r qs)
+put_own alerts r (q ∷ qs) = put_own_by alerts q r _ qs (put_release r qs) refl (put_own alerts r qs)
 
 none_more : (alerts : List Alert) (r : Release) → alert_at r.id alerts ≡ None → filter_map (λ x. alert_at x.id alerts) (r ∷ []) ≡ []
 none_more alerts r none = rw none refl

@@ -451,10 +451,10 @@ IsAcknowledged None left = left ≡ None
 IsAcknowledged (Some a) left = left ≡ Some (record a { acknowledged = true })
 
 -- what an event leaves of the alert of a release: it takes it away, it acknowledges it, or it leaves it as it was
-abbrev pub IsLeft : OnAlerts → ℕ → Option Alert → Option Alert → Type 0
-IsLeft on_alerts.Nothing id before left = left ≡ before
-IsLeft (on_alerts.Take gone) id before left = (id ≡ gone → left ≡ None) × (id ≢ gone → left ≡ before)
-IsLeft (on_alerts.Acknowledge seen) id before left = (id ≡ seen → IsAcknowledged before left) × (id ≢ seen → left ≡ before)
+abbrev pub LeavesAlert : OnAlerts → ℕ → Option Alert → Option Alert → Type 0
+LeavesAlert on_alerts.Nothing id before left = left ≡ before
+LeavesAlert (on_alerts.Take gone) id before left = (id ≡ gone → left ≡ None) × (id ≢ gone → left ≡ before)
+LeavesAlert (on_alerts.Acknowledge seen) id before left = (id ≡ seen → IsAcknowledged before left) × (id ≢ seen → left ≡ before)
 
 -- a release that isn't active has no alert; the alert of one that is follows from what its event left, by the rules that fail
 abbrev pub FollowsIf : Option (List Finding) → Option Alert → Release → ℕ → Option Alert → Type 0
@@ -464,7 +464,7 @@ FollowsIf (Some findings) left r moment after = Follows left r.id r.holder findi
 -- the alert of a release after an event
 pub record IsAlertAfter (effect : Effect) (s t : State) (r : Release) : Type 0 where
   pub left : Option Alert
-  pub is_left : IsLeft effect.on_alerts r.id (alert_at r.id s.alerts) left
+  pub is_left : LeavesAlert effect.on_alerts r.id (alert_at r.id s.alerts) left
   pub follows : FollowsIf (failing_of (grounds_of t) r) left r t.moment (alert_at r.id t.alerts)
 
 -- what an event leaves of each part: only that changes which its effect names

@@ -58,9 +58,9 @@ deferrals_after (deferrals.Open d) list = list ++ d ∷ []
 deferrals_after (deferrals.Clear id) list = without id list
 
 -- a release in the place of the first of its id
-abbrev pub put : Release → List Release → List Release
-put r [] = []
-put r (q ∷ qs) = if q.id == r.id then r ∷ qs else q ∷ put r qs
+abbrev pub put_release : Release → List Release → List Release
+put_release r [] = []
+put_release r (q ∷ qs) = if q.id == r.id then r ∷ qs else q ∷ put_release r qs
 
 -- the releases but for the first of an id
 abbrev pub without_release : ℕ → List Release → List Release
@@ -70,7 +70,7 @@ without_release id (q ∷ qs) = if q.id == id then qs else q ∷ without_release
 abbrev pub releases_after : OnReleases → List Release → List Release
 releases_after releases.Nothing list = list
 releases_after (releases.File r) list = list ++ r ∷ []
-releases_after (releases.Put r) list = put r list
+releases_after (releases.Put r) list = put_release r list
 releases_after (releases.Remove id) list = without_release id list
 
 -- the alerts but for those of a release

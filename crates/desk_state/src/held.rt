@@ -1,6 +1,6 @@
 ghost use Rattle.std.specs.Prelude.{◌≡◌, ◌+◌, ◌++◌, ◌<◌, ◌∷◌, take, drop, length, IfSome, MatchOption};
 ghost use Rattle.std.specs.Option.{option_copied};
-ghost use Rattle.desk_state.specs.Events.{put, without_release};
+ghost use Rattle.desk_state.specs.Events.{put_release, without_release};
 ghost use Rattle.desk_state.specs.State.{release_at, alert_at};
 
 use alerts::Alert;
@@ -22,8 +22,8 @@ pub fn find_alert(alerts: &[Alert], id: u64) -> Option<&Alert>
 
 /// The place of the first release of the id of another: where that one comes to stand.
 pub fn place_of(releases: &[Release], other: &Release) -> Option<usize>
-    ensures place { MatchOption result (put other.now releases.now ≡ releases.now)
-        (λ i. put other.now releases.now ≡ take i releases.now ++ other.now ∷ drop (i + 1) releases.now) }
+    ensures place { MatchOption result (put_release other.now releases.now ≡ releases.now)
+        (λ i. put_release other.now releases.now ≡ take i releases.now ++ other.now ∷ drop (i + 1) releases.now) }
     ensures within { IfSome result (λ i. i < length releases.now) }
 {
     for (i, release) in releases.iter().enumerate() {

@@ -10,21 +10,21 @@ const NINE: &str =
 
 // What is said of rows: that they fit, or which is bad and why, or which doesn't fit which.
 #[derive(Clone, Copy, Debug, PartialEq, Eq)]
-enum Said {
+enum Checked {
     Fit,
     Bad(u8, u64, RowWhy),
     Pair(u8, u64, u8, u64),
 }
 
 // What is said of those counters and then of some rows.
-fn answer(alloc: Global, lines: &str) -> Result<Said, OutOfMemory> {
+fn answer(alloc: Global, lines: &str) -> Result<Checked, OutOfMemory> {
     let mut rows = rows_in(alloc, NINE)?;
     rows.append(&mut rows_in(alloc, lines)?)?;
     match check_rows(alloc, &rows) {
-        Ok(_) => Ok(Said::Fit),
-        Err(RowsFault::BadRow { row, why }) => Ok(Said::Bad(row.kind, row.key, why)),
+        Ok(_) => Ok(Checked::Fit),
+        Err(RowsFault::BadRow { row, why }) => Ok(Checked::Bad(row.kind, row.key, why)),
         Err(RowsFault::BadPair { one, two }) => {
-            Ok(Said::Pair(one.kind, one.key, two.kind, two.key))
+            Ok(Checked::Pair(one.kind, one.key, two.kind, two.key))
         }
         Err(RowsFault::OutOfMemory) => Err(OutOfMemory),
     }
@@ -38,20 +38,20 @@ fn the_first_fault_of_rows_that_no_keeper_gives(rt: HostRuntime) -> Result<(), F
             r#"2 1 {"found":"2025-03-10T14:20Z","item":"34-1","tail":"N801DK"}
 2 1 {"found":"2025-03-10T14:20Z","item":"34-1","tail":"N901DK"}
 "#,
-            Said::Pair(2, 1, 2, 1),
+            Checked::Pair(2, 1, 2, 1),
         ),
         (
             r#"2 1 {"found":"2025-03-10T14:20Z","item":"34-1","tail":"N801DK"}
 2 1 {"found":"2025-03-10T14:20Z","item":"34-1","tail":"N801DK"}
 5 3 {"acknowledged":true,"ever":["121.625/1/1"],"failing":[],"opened":"2025-04-01T12:50Z","version":6}
 "#,
-            Said::Bad(5, 3, RowWhy::Orphan),
+            Checked::Bad(5, 3, RowWhy::Orphan),
         ),
         (
             r#"5 3 {"acknowledged":true,"ever":["121.625/1/1"],"failing":[],"opened":"2025-04-01T12:50Z","version":6}
 3 3 {"active":null,"holder":"D2","pending":null,"phase":"CANCELLED 2025-04-01T00:24Z"}
 "#,
-            Said::Pair(3, 3, 5, 3),
+            Checked::Pair(3, 3, 5, 3),
         ),
     ] {
         assert!(rt; answer(rt.alloc(), lines)? == wanted, "{wanted:?}");

@@ -47,11 +47,11 @@ fn begins(digest: &[u8; 32], front: [u8; 4]) -> bool {
 
 fn is_meta(meta: &Meta) -> bool {
     is_at(b"2025-03-23T06:15Z", meta.moment)
-        && meta.events == 319
-        && meta.next_report == 61
-        && meta.next_deferral == 6
-        && meta.next_release == 28
-        && meta.next_kept == 181
+        && meta.counters.events == 319
+        && meta.counters.next_report == 61
+        && meta.counters.next_deferral == 6
+        && meta.counters.next_release == 28
+        && meta.counters.next_kept == 181
         && has_floors(meta)
 }
 
@@ -191,7 +191,7 @@ fn says(record: &Record) -> bool {
 fn is_row_of(alloc: Global, row: &Row, record: &Record) -> Result<bool, OutOfMemory>
     requires { HasMoments record.now }
 {
-    let again = row_of(alloc, record)?;
+    let again = row_of(alloc, &record.lent())?;
     Ok(again.kind == row.kind && again.key == row.key && again.body.bytes() == row.body.bytes())
 }
 

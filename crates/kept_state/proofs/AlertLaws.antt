@@ -9,7 +9,7 @@ use Rattle.alerts.specs.Alerts.{IsAlert}
 use Rattle.plan.specs.declared.release.Release.{Release as ReleaseOf}
 use Rattle.desk_state.specs.Sound.{IsTaken, IsToldTo, Rise}
 use Rattle.desk_state.specs.State.{release_at, alert_at}
-use Rattle.desk_state.proofs.Each.{found_each}
+use Rattle.desk_state.proofs.Each.{found_each, each_weaker}
 use Rattle.desk_state.proofs.Judging.{IsOf, found_of}
 use Rattle.records.specs.Valid.{IsRecord, IsKeptAlert}
 use Rattle.records.specs.declared.record.KeptAlert.{KeptAlert}
@@ -25,21 +25,21 @@ use Rattle.desk_io.proofs.Each.{each_weaker}
 -- ---- the alerts that are kept
 
 -- a valid alert of a version that is no greater than a number
-record IsOpen (events : ℕ) (a : KeptAlert) : Type 0 where
+record IsOpenAlert (events : ℕ) (a : KeptAlert) : Type 0 where
   pub valid : IsKeptAlert a
   pub version : a.version ≤ events
 
-alert_among : (rs : List Record) (m : MetaOf) (x : Record) → IsAmong rs m x → IfSome (alert_in x) (IsOpen m.events)
+alert_among : (rs : List Record) (m : MetaOf) (x : Record) → IsAmong rs m x → IfSome (alert_in x) (IsOpenAlert m.counters.events)
 unfolding IsRecord
-alert_among rs m (Alert a) is = record { valid = is.valid; version = ltb-false m.events a.version is.ahead }
+alert_among rs m (Alert a) is = record { valid = is.valid; version = ltb-false m.counters.events a.version is.ahead }
 alert_among rs m (Meta n) is = tt
 alert_among rs m (Report r) is = tt
 alert_among rs m (Deferral d) is = tt
 alert_among rs m (Release r) is = tt
 alert_among rs m (Kept k) is = tt
 
-open_alerts : (rs : List Record) (m : MetaOf) → AreOfDesk rs → meta_in rs ≡ Some m → AllByRecursion (IsOpen m.events) (filter_map alert_in rs)
-open_alerts rs m are is = each_mapped (IsAmong rs m) (IsOpen m.events) alert_in (alert_among rs m) rs (each_among rs m are is)
+open_alerts : (rs : List Record) (m : MetaOf) → AreOfDesk rs → meta_in rs ≡ Some m → AllByRecursion (IsOpenAlert m.counters.events) (filter_map alert_in rs)
+open_alerts rs m are is = each_mapped (IsAmong rs m) (IsOpenAlert m.counters.events) alert_in (alert_among rs m) rs (each_among rs m are is)
 
 abbrev Earlier : KeptAlert → KeptAlert → Type 0
 Earlier a b = a.release < b.release
@@ -67,28 +67,28 @@ record IsHolders (releases : List ReleaseOf) (a : AlertOf) : Type 0 where
   pub taken : IsTaken a.release releases
   pub told : IfSome (release_at a.release releases) (λ r. a.desk ≡ r.holder)
 
-found_by : (id : ℕ) (q : ReleaseOf) (b : Bool) (later : Option ReleaseOf) (any : Bool) (r : ReleaseOf) → eqb q.id id ≡ b → cond b (Some q) later ≡ Some r → (later ≡ Some r → any ≡ true) → (b || any) ≡ true
-found_by id q true later any r e found rest = refl
-found_by id q false later any r e found rest = rest found
+taken_by : (b any : Bool) (q r : ReleaseOf) (later : Option ReleaseOf) → cond b (Some q) later ≡ Some r → (later ≡ Some r → any ≡ true) → (b || any) ≡ true
+taken_by true any q r later found rest = refl
+taken_by false any q r later found rest = rest found
 
 -- what is found is there
-found_taken : (id : ℕ) (rs : List ReleaseOf) (r : ReleaseOf) → release_at id rs ≡ Some r → IsTaken id rs
+pub found_taken : (id : ℕ) (rs : List ReleaseOf) (r : ReleaseOf) → release_at id rs ≡ Some r → IsTaken id rs
 found_taken id [] r found = absurd (cc)
-found_taken id (q ∷ qs) r found = found_by id q (eqb q.id id) (release_at id qs) (list_any (λ x. x.id == id) qs) r refl found (found_taken id qs r)
+found_taken id (q ∷ qs) r found = taken_by (eqb q.id id) (list_any (λ x. x.id == id) qs) q r (release_at id qs) found (found_taken id qs r)
 
 holders_by : (releases : List ReleaseOf) (a : KeptAlert) (o : Option ReleaseOf) → release_at a.release releases ≡ o → IfSome (option_map (λ r. alert_with a r.holder) o) (IsHolders releases)
 holders_by releases a None is = tt
 holders_by releases a (Some r) is = record { taken = found_taken a.release releases r is; told = rw is refl }
 
-holders_are : (releases : List ReleaseOf) (events : ℕ) (a : KeptAlert) → IsOpen events a → IfSome (alert_of releases a) (IsHolders releases)
+holders_are : (releases : List ReleaseOf) (events : ℕ) (a : KeptAlert) → IsOpenAlert events a → IfSome (alert_of releases a) (IsHolders releases)
 holders_are releases events a is = holders_by releases a (release_at a.release releases) refl
 
-alert_by : (events : ℕ) (a : KeptAlert) (o : Option ReleaseOf) → IsOpen events a → IfSome (option_map (λ r. alert_with a r.holder) o) (IsAlert events)
+alert_by : (events : ℕ) (a : KeptAlert) (o : Option ReleaseOf) → IsOpenAlert events a → IfSome (option_map (λ r. alert_with a r.holder) o) (IsAlert events)
 alert_by events a None is = tt
 alert_by events a (Some r) is =
     record { moment = is.valid.opened; first = is.valid.first; version = is.version; failing = is.valid.failing.order; ever = is.valid.ever.order; among = is.valid.among }
 
-alert_is : (releases : List ReleaseOf) (events : ℕ) (a : KeptAlert) → IsOpen events a → IfSome (alert_of releases a) (IsAlert events)
+alert_is : (releases : List ReleaseOf) (events : ℕ) (a : KeptAlert) → IsOpenAlert events a → IfSome (alert_of releases a) (IsAlert events)
 alert_is releases events a is = alert_by events a (release_at a.release releases) is
 
 abbrev pub Rises : AlertOf → AlertOf → Type 0
@@ -106,13 +106,13 @@ rises_are releases a b less = rises_by a b (release_at a.release releases) (rele
 abbrev pub alerts_in : List Record → List AlertOf
 alerts_in rs = filter_map (alert_of (filter_map release_in rs)) (filter_map alert_in rs)
 
-pub alerts_are : (rs : List Record) (m : MetaOf) → AreOfDesk rs → meta_in rs ≡ Some m → AllByRecursion (IsAlert m.events) (alerts_in rs)
+pub alerts_are : (rs : List Record) (m : MetaOf) → AreOfDesk rs → meta_in rs ≡ Some m → AllByRecursion (IsAlert m.counters.events) (alerts_in rs)
 alerts_are rs m are is =
-    each_mapped (IsOpen m.events) (IsAlert m.events) (alert_of (filter_map release_in rs)) (alert_is (filter_map release_in rs) m.events) (filter_map alert_in rs) (open_alerts rs m are is)
+    each_mapped (IsOpenAlert m.counters.events) (IsAlert m.counters.events) (alert_of (filter_map release_in rs)) (alert_is (filter_map release_in rs) m.counters.events) (filter_map alert_in rs) (open_alerts rs m are is)
 
 alerts_held : (rs : List Record) (m : MetaOf) → AreOfDesk rs → meta_in rs ≡ Some m → AllByRecursion (IsHolders (filter_map release_in rs)) (alerts_in rs)
 alerts_held rs m are is =
-    each_mapped (IsOpen m.events) (IsHolders (filter_map release_in rs)) (alert_of (filter_map release_in rs)) (holders_are (filter_map release_in rs) m.events) (filter_map alert_in rs)
+    each_mapped (IsOpenAlert m.counters.events) (IsHolders (filter_map release_in rs)) (alert_of (filter_map release_in rs)) (holders_are (filter_map release_in rs) m.counters.events) (filter_map alert_in rs)
     (open_alerts rs m are is)
 
 alerts_rise : (rs : List Record) → AreOfDesk rs → Pairs Rises (alerts_in rs)
@@ -232,5 +232,5 @@ own_all low (r ∷ rs) next rise (a ∷ others) pairs taken = own_step (eqb a.re
 pub alerts_own : (rs : List Record) (m : MetaOf) → AreOfDesk rs → meta_in rs ≡ Some m → alerts_in rs ≡ filter_map (λ r. alert_at r.id (alerts_in rs)) (filter_map release_in rs)
 unfolding Own
 alerts_own rs m are is =
-    own_all 0 (filter_map release_in rs) m.next_release (releases_rise rs m are is) (alerts_in rs) (alerts_rise rs are)
+    own_all 0 (filter_map release_in rs) m.counters.next_release (releases_rise rs m are is) (alerts_in rs) (alerts_rise rs are)
     (each_weaker (IsHolders (filter_map release_in rs)) (λ a. IsTaken a.release (filter_map release_in rs)) (λ a held. held.taken) (alerts_in rs) (alerts_held rs m are is))

@@ -29,6 +29,7 @@ use Rattle.kept_state.proofs.Together.{Stands, all_few, all_pairs, all_records, 
 use Rattle.kept_state.proofs.KeptForms.{Counts, IsKeptRecord, kept_alert, kept_deferral, kept_meta, kept_release, kept_reply, kept_report}
 use Rattle.desk_state.specs.Formed.{AlertHasForms, DeferralHasForms, ReplyHasForms, ReportHasForms}
 use Rattle.desk_io.proofs.Each.{each_weaker, each_of}
+use Rattle.desk_state.proofs.Each.{each_weaker}
 
 -- ---- there is a meta record
 
@@ -44,7 +45,7 @@ meta_there s = meta_by (length (records_of s) == 0) (list_any (is_kind 0) (recor
 -- ---- there are not too many of a kind
 
 abbrev HasEvents : Record → Type 0
-HasEvents (Meta m) = m.events < 999_999_999_999_999
+HasEvents (Meta m) = m.counters.events < 999_999_999_999_999
 HasEvents (Report r) = Unit {0}
 HasEvents (Deferral d) = Unit {0}
 HasEvents (Release r) = Unit {0}
@@ -52,7 +53,7 @@ HasEvents (Kept k) = Unit {0}
 HasEvents (Alert a) = Unit {0}
 
 not_over : (earlier : List Record) (r : Record) (rest : List Record) → AreFew (earlier ++ r ∷ rest) → HasEvents r → is_over earlier r ≡ false
-not_over earlier (Meta m) rest few has = lt-leb 999_999_999_999_999 m.events has
+not_over earlier (Meta m) rest few has = lt-leb 999_999_999_999_999 m.counters.events has
 not_over earlier (Report r) rest few has = lt-leb 200_000 _ (room_before (is_kind 1) earlier (Report r) rest 200_000 refl few.reports)
 not_over earlier (Deferral d) rest few has = lt-leb 50_000 _ (room_before (is_kind 2) earlier (Deferral d) rest 50_000 refl few.deferrals)
 not_over earlier (Release r) rest few has = lt-leb 20_000 _ (room_before (is_kind 3) earlier (Release r) rest 20_000 refl few.releases)
@@ -82,7 +83,7 @@ none_orphan s sound =
 
 -- ---- each record is valid and outruns no counter
 
-all_kept : (opening s : State) → IsBoard opening s → Counts s → AllByRecursion (IsKeptRecord s) (records_of s)
+all_kept : (opening s : State) → IsBoard opening s → Counts (meta_of s) → AllByRecursion (IsKeptRecord s) (records_of s)
 all_kept opening s board counts =
     let sound = board.sound in
     let kept = board.kept in
@@ -106,8 +107,8 @@ all_kept opening s board counts =
 none_ahead : (s : State) → AllByRecursion (IsKeptRecord s) (records_of s) → ahead_of (records_of s) (meta_from 0 (records_of s)) ≡ None
 unfolding records_of
 none_ahead s kept =
-    ap (λ o. beside o 0) (none_placed (is_ahead (meta_of s)) 0 (records_of s)
-    (each_weaker (IsKeptRecord s) (λ r. is_ahead (meta_of s) r ≡ false) (λ r is. is.ahead) (records_of s) kept))
+    ap (λ o. beside o 0) (none_placed (is_ahead s.counters) 0 (records_of s)
+    (each_weaker (IsKeptRecord s) (λ r. is_ahead s.counters r ≡ false) (λ r is. is.ahead) (records_of s) kept))
 
 -- ---- all tests are passed
 

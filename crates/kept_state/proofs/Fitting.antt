@@ -18,6 +18,7 @@ use Rattle.records.specs.declared.record.Record.TheVariants.{Meta, Report, Defer
 use Rattle.kept_state.specs.Held.{AreOfDesk, comes_before, rises_from, rising, meta_in}
 use Rattle.kept_state.proofs.Lists.{Pairs, both, both_pairs}
 use Rattle.desk_io.proofs.Each.{each_weaker}
+use Rattle.desk_state.proofs.Each.{each_weaker}
 
 -- ---- tests that are passed
 
@@ -81,11 +82,11 @@ no_place : (o : Option ℕ) (place : ℕ) → beside o place ≡ None → o ≡ 
 no_place None place none = refl
 no_place (Some one) place none = absurd (cc)
 
-none_ahead : (rs : List Record) (found : Option (ℕ × MetaOf)) (m : MetaOf) → option_map (λ f. f.1) found ≡ Some m → ahead_of rs found ≡ None → place_of (is_ahead m) rs ≡ None
+none_ahead : (rs : List Record) (found : Option (ℕ × MetaOf)) (m : MetaOf) → option_map (λ f. f.1) found ≡ Some m → ahead_of rs found ≡ None → place_of (is_ahead m.counters) rs ≡ None
 none_ahead rs None m is none = absurd (cc)
 none_ahead rs (Some (place, other)) m is none =
     let same : other ≡ m = cc in
-    subst (λ n. place_of (is_ahead n) rs ≡ None) same (no_place (place_of (is_ahead other) rs) place none)
+    subst (λ (n : MetaOf). place_of (is_ahead n.counters) rs ≡ None) same (no_place (place_of (is_ahead other.counters) rs) place none)
 
 -- there is room for it after some records
 abbrev pub HasRoom : Record → Type 0
@@ -104,19 +105,19 @@ all_room earlier (r ∷ rs) none =
 -- what holds of each record of some that fit, where they have that meta record
 pub record IsAmong (rs : List Record) (m : MetaOf) (r : Record) : Type 0 where
   pub valid : IsRecord r
-  pub ahead : is_ahead m r ≡ false
+  pub ahead : is_ahead m.counters r ≡ false
   pub orphan : is_orphan rs r ≡ false
   pub room : HasRoom r
 
-is_among : (rs : List Record) (m : MetaOf) (r : Record) → (IsRecord r × (is_ahead m r ≡ false)) × ((is_orphan rs r ≡ false) × HasRoom r) → IsAmong rs m r
+is_among : (rs : List Record) (m : MetaOf) (r : Record) → (IsRecord r × (is_ahead m.counters r ≡ false)) × ((is_orphan rs r ≡ false) × HasRoom r) → IsAmong rs m r
 is_among rs m r is = record { valid = is.0.0; ahead = is.0.1; orphan = is.1.0; room = is.1.1 }
 
 pub each_among : (rs : List Record) (m : MetaOf) → AreOfDesk rs → meta_in rs ≡ Some m → AllByRecursion (IsAmong rs m) rs
 each_among rs m are is =
     let passed = passes rs are.fit in
-    each_weaker (λ r. (IsRecord r × (is_ahead m r ≡ false)) × ((is_orphan rs r ≡ false) × HasRoom r)) (IsAmong rs m) (is_among rs m) rs
-    (both (λ r. IsRecord r × (is_ahead m r ≡ false)) (λ r. (is_orphan rs r ≡ false) × HasRoom r) rs
-    (both IsRecord (λ r. is_ahead m r ≡ false) rs (recursion_from_All IsRecord rs are.valid) (none_from (is_ahead m) 0 rs (none_ahead rs (meta_from 0 rs) m is passed.ahead)))
+    each_weaker (λ r. (IsRecord r × (is_ahead m.counters r ≡ false)) × ((is_orphan rs r ≡ false) × HasRoom r)) (IsAmong rs m) (is_among rs m) rs
+    (both (λ r. IsRecord r × (is_ahead m.counters r ≡ false)) (λ r. (is_orphan rs r ≡ false) × HasRoom r) rs
+    (both IsRecord (λ r. is_ahead m.counters r ≡ false) rs (recursion_from_All IsRecord rs are.valid) (none_from (is_ahead m.counters) 0 rs (none_ahead rs (meta_from 0 rs) m is passed.ahead)))
     (both (λ r. is_orphan rs r ≡ false) HasRoom rs (none_from (is_orphan rs) 0 rs passed.orphans) (all_room [] rs passed.limits)))
 
 -- what holds of each holds of the first meta record

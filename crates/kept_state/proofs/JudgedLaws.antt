@@ -15,7 +15,7 @@ use Rattle.desk_state.specs.State.{State}
 use Rattle.records.specs.Bodies.{row_of}
 use Rattle.kept_state.specs.Rows.{state_rows}
 use Rattle.kept_state.specs.Changes.{alert_rows}
-use Rattle.kept_state.specs.Judged.{after_event, judged_changes}
+use Rattle.kept_state.specs.Judged.{meta_after_event, judged_changes}
 use Rattle.kept_state.specs.Shown.{WasOpened}
 use Rattle.kept_state.proofs.Parts.{becomes, becomes_is, Leads, joined}
 use Rattle.kept_state.proofs.Items.{part}
@@ -43,7 +43,7 @@ module _ (s : State) (c : AlertChange) (cs : List AlertChange) (own : AllByRecur
       (joined 0 4 5 (lit≤ tt) (lit≤ tt) _ _ _ _ _ _
       (joined 0 3 4 (lit≤ tt) (lit≤ tt) _ _ _ _ _ _
       (joined 0 2 3 (lit≤ tt) (lit≤ tt) _ _ _ _ _ _
-      (joined 0 1 2 (lit≤ tt) (lit≤ tt) _ _ _ _ _ _ (meta_leads _ (after_event s)) (part report_row 1 (λ r. refl) s.reports s.reports [] tt (λ q. refl)))
+      (joined 0 1 2 (lit≤ tt) (lit≤ tt) _ _ _ _ _ _ (meta_leads _ (meta_after_event s)) (part report_row 1 (λ r. refl) s.reports s.reports [] tt (λ q. refl)))
       (part deferral_row 2 (λ d. refl) s.deferrals s.deferrals [] tt (λ q. refl)))
       (part release_row 3 (λ r. refl) s.releases s.releases [] tt (λ q. refl)))
       (part kept_row 4 (λ k. refl) s.kept s.kept [] tt (λ q. refl)))

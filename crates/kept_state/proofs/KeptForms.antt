@@ -18,6 +18,7 @@ use Rattle.plan.specs.declared.release.Revision.{Revision}
 use Rattle.call_json.specs.Forms.{IsId, FloorsRise, IsFloor, IsFormed}
 use Rattle.records.specs.Faults.{is_ahead, is_late, outruns}
 use Rattle.records.specs.Valid.{IsMeta, IsRecord}
+use Rattle.records.specs.declared.record.Meta.{Meta as MetaOf}
 use Rattle.records.specs.declared.record.Record.{Record}
 use Rattle.records.specs.declared.record.Record.TheVariants.{Meta, Report, Deferral, Release, Kept, Alert}
 use Rattle.desk_state.specs.Formed.{AlertHasForms, DeferralHasForms, ReplyHasForms, ReportHasForms}
@@ -30,30 +31,32 @@ not_late most (Some v) is = le-ltb most v.number is
 
 -- ---- the counters
 
--- what holds of the counters of a state that may be kept
-pub record Counts (s : State) : Type 0 where
-  pub counters : AreCounters s.counters
-  pub moment : IsMoment s.moment
-  pub room : s.counters.events < 999_999_999_999_999
+-- what holds of a moment and of counters that are kept
+pub record Counts (m : MetaOf) : Type 0 where
+  pub counters : AreCounters m.counters
+  pub moment : IsMoment m.moment
+  pub room : m.counters.events < 999_999_999_999_999
 
-pub id_below : (s : State) → Counts s → (next id : ℕ) → next ≤ s.counters.events + 1 → id < next → IsId id
+pub id_below : (s : State) → Counts (meta_of s) → (next id : ℕ) → next ≤ s.counters.events + 1 → id < next → IsId id
 id_below s is next id few below = let room = is.room in omega (arith, few, below, room)
 
-meta_valid : (s : State) → Counts s → AllByRecursion IsFloor s.floors → FloorsRise s.floors → IsMeta (meta_of s)
+meta_valid : (s : State) → Counts (meta_of s) → AllByRecursion IsFloor s.floors → FloorsRise s.floors → IsMeta (meta_of s)
 meta_valid s is floors rising =
     let room = is.room in
     record {
       moment = is.moment;
-      events = omega (arith, room);
-      next_report = let few = is.counters.report in omega (arith, room, few);
-      next_deferral = let few = is.counters.deferral in omega (arith, room, few);
-      next_release = let few = is.counters.release in omega (arith, room, few);
-      next_kept = let few = is.counters.accepted in omega (arith, room, few);
+      counters = record {
+        events = omega (arith, room);
+        next_report = let few = is.counters.report in omega (arith, room, few);
+        next_deferral = let few = is.counters.deferral in omega (arith, room, few);
+        next_release = let few = is.counters.release in omega (arith, room, few);
+        next_kept = let few = is.counters.accepted in omega (arith, room, few);
+      };
       floors = floors;
       rising = rising;
     }
 
-none_outruns : (s : State) → Counts s → outruns (meta_of s) ≡ false
+none_outruns : (s : State) → Counts (meta_of s) → outruns s.counters ≡ false
 none_outruns s is =
     let c = s.counters in
     let most = c.events + 1 in
@@ -68,9 +71,9 @@ none_outruns s is =
 -- a valid record that outruns no counter
 pub record IsKeptRecord (s : State) (r : Record) : Type 0 where
   pub valid : IsRecord r
-  pub ahead : is_ahead (meta_of s) r ≡ false
+  pub ahead : is_ahead s.counters r ≡ false
 
-pub kept_meta : (s : State) → Counts s → AllByRecursion IsFloor s.floors → FloorsRise s.floors → IsKeptRecord s (Meta (meta_of s))
+pub kept_meta : (s : State) → Counts (meta_of s) → AllByRecursion IsFloor s.floors → FloorsRise s.floors → IsKeptRecord s (Meta (meta_of s))
 unfolding IsRecord
 kept_meta s is floors rising = record { valid = meta_valid s is floors rising; ahead = none_outruns s is }
 
@@ -78,7 +81,7 @@ is_read : {A E : Type 0} (o : Result A E) (x : A) → o ≡ Ok x → IsOk o
 is_read (Ok y) x is = refl
 is_read (Err e) x is = absurd (cc)
 
-pub kept_report : (s : State) (r : ReportOf) → Counts s → ReportHasForms r → IsNumbered s.counters.next_report r → IsKeptRecord s (Report (report_kept r))
+pub kept_report : (s : State) (r : ReportOf) → Counts (meta_of s) → ReportHasForms r → IsNumbered s.counters.next_report r → IsKeptRecord s (Report (report_kept r))
 unfolding IsRecord
 kept_report s r is formed below = record {
   valid = record {
@@ -91,14 +94,14 @@ kept_report s r is formed below = record {
   ahead = lt-leb s.counters.next_report r.id below;
 }
 
-pub kept_deferral : (s : State) (d : DeferralOf) → Counts s → DeferralHasForms d → IsOpen s.counters.next_deferral d → IsKeptRecord s (Deferral d)
+pub kept_deferral : (s : State) (d : DeferralOf) → Counts (meta_of s) → DeferralHasForms d → IsOpen s.counters.next_deferral d → IsKeptRecord s (Deferral d)
 unfolding IsRecord
 kept_deferral s d is formed open_now = record {
   valid = record { id = id_below s is s.counters.next_deferral d.id is.counters.deferral open_now.0; tail = formed.tail; item = formed.item; found = open_now.1 };
   ahead = lt-leb s.counters.next_deferral d.id open_now.0;
 }
 
-pub kept_release : (s : State) (r : ReleaseOf) → Counts s → IsFormed r → MayStand s.counters.events r → r.id < s.counters.next_release → IsKeptRecord s (Release r)
+pub kept_release : (s : State) (r : ReleaseOf) → Counts (meta_of s) → IsFormed r → MayStand s.counters.events r → r.id < s.counters.next_release → IsKeptRecord s (Release r)
 unfolding IsRecord
 kept_release s r is formed stands below = record {
   valid = (id_below s is s.counters.next_release r.id is.counters.release below, record { formed = formed; valid = stands.valid });
@@ -109,7 +112,7 @@ kept_release s r is formed stands below = record {
       (not_late s.counters.events r.active stands.within.1);
 }
 
-pub kept_reply : (s : State) (k : KeptReply) → Counts s → ReplyHasForms k → IsReplied s.counters.next_kept k → IsKeptRecord s (Kept k)
+pub kept_reply : (s : State) (k : KeptReply) → Counts (meta_of s) → ReplyHasForms k → IsReplied s.counters.next_kept k → IsKeptRecord s (Kept k)
 unfolding IsRecord
 kept_reply s k is formed replied = record {
   valid = record {
@@ -123,7 +126,7 @@ kept_reply s k is formed replied = record {
   ahead = lt-leb s.counters.next_kept k.id replied.0;
 }
 
-pub kept_alert : (s : State) (a : AlertOf) → Counts s → AlertHasForms a → IsAlert s.counters.events a → a.release < s.counters.next_release → IsKeptRecord s (Alert (alert_kept a))
+pub kept_alert : (s : State) (a : AlertOf) → Counts (meta_of s) → AlertHasForms a → IsAlert s.counters.events a → a.release < s.counters.next_release → IsKeptRecord s (Alert (alert_kept a))
 unfolding IsRecord
 kept_alert s a is formed alert below = record {
   valid = record {

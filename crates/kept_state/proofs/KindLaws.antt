@@ -27,10 +27,10 @@ use Rattle.desk_state.specs.Step.{kept_of}
 use Rattle.desk_state.proofs.Parts.{reports_rise, kept_each}
 use Rattle.desk_state.proofs.Changes.{changes_lead}
 use Rattle.records.specs.Bodies.{row_of}
-use Rattle.records.specs.declared.record.Meta.{Meta as Counters}
+use Rattle.records.specs.declared.record.Meta.{Meta as MetaOf}
 use Rattle.records.specs.declared.record.Record.TheVariants.{Meta, Report, Deferral, Release, Kept, Alert}
 use Rattle.kept_state.specs.Rows.{report_kept, alert_kept}
-use Rattle.kept_state.specs.Changes.{put, report_changes, swept_reports, deferral_changes, release_changes, swept_replies, reply_changes, alert_rows, on_reports, on_replies}
+use Rattle.kept_state.specs.Changes.{report_changes, swept_reports, deferral_changes, release_changes, swept_replies, reply_changes, alert_rows, on_reports, on_replies, put_row}
 use Rattle.kept_state.proofs.Parts.{Body, becomes, becomes_append, IsTo, Leads}
 use Rattle.kept_state.proofs.Items.{twice, Ascends, ascends_from, found_at, pushed, without_found, removed, filtered, part}
 use Rattle.kept_state.proofs.ReleaseRows as release_rows
@@ -39,7 +39,7 @@ use Rattle.desk_io.proofs.Each.{each_append, each_weaker}
 
 -- The rows of each kind.
 
-abbrev pub meta_row : Counters → Row
+abbrev pub meta_row : MetaOf → Row
 meta_row m = row_of (Meta m)
 
 abbrev pub report_row : ReportOf → Row
@@ -58,10 +58,10 @@ abbrev pub alert_row : AlertOf → Row
 alert_row a = row_of (Alert (alert_kept a))
 
 -- the row of the counters is put
-pub meta_leads : (m fresh : Counters) → Leads 0 1 (meta_row m ∷ []) (meta_row fresh ∷ []) (put (Meta fresh) ∷ [])
+pub meta_leads : (m fresh : MetaOf) → Leads 0 1 (meta_row m ∷ []) (meta_row fresh ∷ []) (put_row (Meta fresh) ∷ [])
 unfolding row_of
 meta_leads m fresh =
-    part meta_row 0 (λ c. refl) (m ∷ []) (fresh ∷ []) (put (Meta fresh) ∷ []) ((lit≤ tt, lit< tt), tt)
+    part meta_row 0 (λ c. refl) (m ∷ []) (fresh ∷ []) (put_row (Meta fresh) ∷ []) ((lit≤ tt, lit< tt), tt)
     (λ q. twice (eqb 0 q) (Some (meta_row fresh).body) (Some (meta_row m).body) None)
 
 -- Reports.

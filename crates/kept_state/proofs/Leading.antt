@@ -13,11 +13,11 @@ use Rattle.desk_state.specs.Sound.{Sound, InBounds, EffectFits}
 use Rattle.desk_state.specs.State.{State, start}
 use Rattle.desk_state.specs.Step.{entered, kept_of}
 use Rattle.records.specs.Bodies.{row_of}
-use Rattle.records.specs.declared.record.Meta.{Meta as Counters}
+use Rattle.records.specs.declared.record.Meta.{Meta as MetaOf}
 use Rattle.records.specs.declared.record.Record.{Record}
 use Rattle.records.specs.declared.record.Record.TheVariants.{Meta, Report, Deferral, Release, Kept, Alert}
 use Rattle.kept_state.specs.Rows.{meta_of, report_kept, alert_kept, records_of, state_rows, AreKept}
-use Rattle.kept_state.specs.Changes.{put, part_changes, event_changes}
+use Rattle.kept_state.specs.Changes.{put_row, part_changes, event_changes}
 use Rattle.kept_state.proofs.Parts.{Body, becomes, becomes_is, Leads, joined}
 use Rattle.kept_state.proofs.KindLaws.{meta_row, report_row, deferral_row, release_row, kept_row, alert_row, meta_leads, reports_lead, deferrals_lead, releases_lead, replies_lead, alerts_lead}
 
@@ -51,7 +51,7 @@ rows_parts s =
 
 module _ (s : State) (effect : Effect) (e : Entry) (fits : EffectFits s effect) (sound : Sound s) (bounds : InBounds s) where
   parts_lead : Leads 0 6 (parts_of s) (parts_of (entered e (effected effect s)))
-      (put (Meta (meta_of (entered e (effected effect s)))) ∷ part_changes s effect (kept_of (effected effect s) e.what) (alert_changes effect s))
+      (put_row (Meta (meta_of (entered e (effected effect s)))) ∷ part_changes s effect (kept_of (effected effect s) e.what) (alert_changes effect s))
   parts_lead =
       joined 0 5 6 (lit≤ tt) (lit≤ tt) _ _ _ _ _ _
       (joined 0 4 5 (lit≤ tt) (lit≤ tt) _ _ _ _ _ _
@@ -72,7 +72,7 @@ module _ (s : State) (effect : Effect) (e : Entry) (fits : EffectFits s effect) 
 
 module _ (rows : Rows) (s : State) (effect : Effect) (e : Entry) (fits : EffectFits s effect) (sound : Sound s) (bounds : InBounds s) where
   -- the row of the counters is put, whether one stood there or not
-  put_first : (m : Counters) (k q : ℕ)
+  put_first : (m : MetaOf) (k q : ℕ)
       → cond (is_row k q (meta_row m)) (Some (meta_row m).body) None ≡ cond (is_row k q (meta_row m)) (Some (meta_row m).body) (rows_of (state_rows (start s.tables)) k q)
   unfolding state_rows records_of row_of
   put_first m k q = by (eqb 0 k && eqb 0 q) (Some (meta_row m).body) (meta_row (meta_of (start s.tables)))

@@ -17,14 +17,15 @@ use Rattle.desk_state.proofs.Parts.{more_valid}
 use Rattle.kept_state.specs.Opening.{MayReopen, counters_with, events_with, reopened}
 use Rattle.kept_state.proofs.ReopenedForms.{reopened_formed}
 use Rattle.desk_io.proofs.Each.{each_weaker}
+use Rattle.desk_state.proofs.Each.{each_weaker}
 
 -- the changes of the alerts lead to those of the judgement
 pub changes_lead : (s : State) → AreJudgeable s → put_changes (alert_changes nothing s) s.alerts ≡ judged_all s
 changes_lead s judgeable = changes_lead_by nothing s (record { moment = tt; report = tt; apart = tt; deferrals = tt; releases = tt }) judgeable
 
-counted : (changes : List AlertChange) (c : Counters) → AreCounters c → c.events < 999_999_999_999_999 → AreCounters (counters_with changes c)
-counted [] c are room = are
-counted (change ∷ changes) c are room = record {
+still_counters : (changes : List AlertChange) (c : Counters) → AreCounters c → c.events < 999_999_999_999_999 → AreCounters (counters_with changes c)
+still_counters [] c are room = are
+still_counters (change ∷ changes) c are room = record {
   events = omega (arith, room);
   report = let n = are.report in omega (arith, n);
   deferral = let n = are.deferral in omega (arith, n);
@@ -59,7 +60,7 @@ bounds : (s : State) → MayReopen s → InBounds (reopened s)
 unfolding reopened
 bounds s may = record {
   moment = may.bounds.moment;
-  counters = counted (alert_changes nothing s) s.counters may.bounds.counters may.room;
+  counters = still_counters (alert_changes nothing s) s.counters may.bounds.counters may.room;
   reports = may.bounds.reports;
   admitted = may.bounds.admitted;
   few = may.bounds.few;

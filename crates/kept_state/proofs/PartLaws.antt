@@ -49,11 +49,11 @@ swapped false false = refl
 abbrev pub Counted : {B : Type 0} → ℕ → (Record → Option B) → Type 0
 Counted kind f = (r : Record) (rs : List Record) → length (filter_map f (r ∷ rs)) ≡ cond (is_kind kind r) (1 + length (filter_map f rs)) (length (filter_map f rs))
 
-how_many : {B : Type 0} (kind : ℕ) (f : Record → Option B) → Counted kind f → (rs : List Record) → length (filter_map f rs) ≡ count_by (is_kind kind) rs
-how_many kind f counted rs = is_count_by (λ xs. length (filter_map f xs)) (is_kind kind) refl counted rs
+as_many : {B : Type 0} (kind : ℕ) (f : Record → Option B) → Counted kind f → (rs : List Record) → length (filter_map f rs) ≡ count_by (is_kind kind) rs
+as_many kind f counted rs = is_count_by (λ xs. length (filter_map f xs)) (is_kind kind) refl counted rs
 
 pub at_most : {B : Type 0} (kind : ℕ) (f : Record → Option B) → Counted kind f → (rs : List Record) (most : ℕ) → count_by (is_kind kind) rs ≤ most → length (filter_map f rs) ≤ most
-at_most kind f counted rs most few = let same = how_many kind f counted rs in omega (arith, same, few)
+at_most kind f counted rs most few = let same = as_many kind f counted rs in omega (arith, same, few)
 
 count_report : Counted 1 report_in
 count_report (Meta m) rs = refl
@@ -86,17 +86,17 @@ pub record IsKeptReport (next : ℕ) (r : KeptReport) : Type 0 where
   pub valid : IsReport r
   pub below : r.id < next
 
-report_among : (rs : List Record) (m : MetaOf) (x : Record) → IsAmong rs m x → IfSome (report_in x) (IsKeptReport m.next_report)
+report_among : (rs : List Record) (m : MetaOf) (x : Record) → IsAmong rs m x → IfSome (report_in x) (IsKeptReport m.counters.next_report)
 unfolding IsRecord
-report_among rs m (Report r) is = record { valid = is.valid; below = leb-false m.next_report r.id is.ahead }
+report_among rs m (Report r) is = record { valid = is.valid; below = leb-false m.counters.next_report r.id is.ahead }
 report_among rs m (Meta n) is = tt
 report_among rs m (Deferral d) is = tt
 report_among rs m (Release r) is = tt
 report_among rs m (Kept k) is = tt
 report_among rs m (Alert a) is = tt
 
-pub kept_reports : (rs : List Record) (m : MetaOf) → AreOfDesk rs → meta_in rs ≡ Some m → AllByRecursion (IsKeptReport m.next_report) (filter_map report_in rs)
-kept_reports rs m are is = each_mapped (IsAmong rs m) (IsKeptReport m.next_report) report_in (report_among rs m) rs (each_among rs m are is)
+pub kept_reports : (rs : List Record) (m : MetaOf) → AreOfDesk rs → meta_in rs ≡ Some m → AllByRecursion (IsKeptReport m.counters.next_report) (filter_map report_in rs)
+kept_reports rs m are is = each_mapped (IsAmong rs m) (IsKeptReport m.counters.next_report) report_in (report_among rs m) rs (each_among rs m are is)
 
 -- the ids rise, and they aren't the same
 abbrev pub AreApart : KeptReport → KeptReport → Type 0
@@ -151,8 +151,8 @@ reports_in rs = filter_map report_of (filter_map report_in rs)
 unlike_pairs : (rs : List Record) → AreOfDesk rs → Pairs Unlike (reports_in rs)
 unlike_pairs rs are = pairs_mapped AreApart Unlike report_of again_unlike (filter_map report_in rs) (kept_apart rs are)
 
-pub reports_numbered : (rs : List Record) (m : MetaOf) → AreOfDesk rs → meta_in rs ≡ Some m → AllByRecursion (IsNumbered m.next_report) (reports_in rs)
-reports_numbered rs m are is = each_mapped (IsKeptReport m.next_report) (IsNumbered m.next_report) report_of (again_numbered m.next_report) (filter_map report_in rs) (kept_reports rs m are is)
+pub reports_numbered : (rs : List Record) (m : MetaOf) → AreOfDesk rs → meta_in rs ≡ Some m → AllByRecursion (IsNumbered m.counters.next_report) (reports_in rs)
+reports_numbered rs m are is = each_mapped (IsKeptReport m.counters.next_report) (IsNumbered m.counters.next_report) report_of (again_numbered m.counters.next_report) (filter_map report_in rs) (kept_reports rs m are is)
 
 pub reports_rise : (rs : List Record) → AreOfDesk rs → AllPairs (λ a b. a.id < b.id) (reports_in rs)
 reports_rise rs are = all_pairs (λ a b. a.id < b.id) (reports_in rs) (weaker_pairs Unlike (λ a b. a.id < b.id) (λ a b is. is.0) (reports_in rs) (unlike_pairs rs are))
@@ -170,9 +170,9 @@ reports_few rs are =
 
 -- ---- deferrals
 
-deferral_among : (rs : List Record) (m : MetaOf) (x : Record) → IsAmong rs m x → IfSome (deferral_in x) (IsOpen m.next_deferral)
+deferral_among : (rs : List Record) (m : MetaOf) (x : Record) → IsAmong rs m x → IfSome (deferral_in x) (IsOpen m.counters.next_deferral)
 unfolding IsRecord
-deferral_among rs m (Deferral d) is = (leb-false m.next_deferral d.id is.ahead, is.valid.found)
+deferral_among rs m (Deferral d) is = (leb-false m.counters.next_deferral d.id is.ahead, is.valid.found)
 deferral_among rs m (Meta n) is = tt
 deferral_among rs m (Report r) is = tt
 deferral_among rs m (Release r) is = tt
@@ -201,18 +201,18 @@ deferral_pairs rs are = pairs_mapped Agree Rises deferral_in deferrals_apart rs 
 pub deferrals_few : (rs : List Record) → AreOfDesk rs → length (filter_map deferral_in rs) ≤ 50_000
 deferrals_few rs are = at_most 2 deferral_in count_deferral rs 50_000 (are_few rs are).deferrals
 
-pub deferrals_open : (rs : List Record) (m : MetaOf) → AreOfDesk rs → meta_in rs ≡ Some m → AreOpen m.next_deferral (filter_map deferral_in rs)
+pub deferrals_open : (rs : List Record) (m : MetaOf) → AreOfDesk rs → meta_in rs ≡ Some m → AreOpen m.counters.next_deferral (filter_map deferral_in rs)
 deferrals_open rs m are is = record {
-  each = each_mapped (IsAmong rs m) (IsOpen m.next_deferral) deferral_in (deferral_among rs m) rs (each_among rs m are is);
+  each = each_mapped (IsAmong rs m) (IsOpen m.counters.next_deferral) deferral_in (deferral_among rs m) rs (each_among rs m are is);
   rising = all_pairs (λ a b. a.id < b.id) (filter_map deferral_in rs) (deferral_pairs rs are);
   few = deferrals_few rs are;
 }
 
 -- ---- replies
 
-reply_among : (rs : List Record) (m : MetaOf) (x : Record) → IsAmong rs m x → IfSome (reply_in x) (IsReplied m.next_kept)
+reply_among : (rs : List Record) (m : MetaOf) (x : Record) → IsAmong rs m x → IfSome (reply_in x) (IsReplied m.counters.next_kept)
 unfolding IsRecord
-reply_among rs m (Kept k) is = (leb-false m.next_kept k.id is.ahead, is.valid.at)
+reply_among rs m (Kept k) is = (leb-false m.counters.next_kept k.id is.ahead, is.valid.at)
 reply_among rs m (Meta n) is = tt
 reply_among rs m (Report r) is = tt
 reply_among rs m (Deferral d) is = tt
@@ -241,8 +241,8 @@ replies_apart (Alert a) y agree = tt
 other_pairs : (rs : List Record) → AreOfDesk rs → Pairs Other (filter_map reply_in rs)
 other_pairs rs are = pairs_mapped Agree Other reply_in replies_apart rs (all_agree rs are)
 
-pub replies_numbered : (rs : List Record) (m : MetaOf) → AreOfDesk rs → meta_in rs ≡ Some m → AllByRecursion (IsReplied m.next_kept) (filter_map reply_in rs)
-replies_numbered rs m are is = each_mapped (IsAmong rs m) (IsReplied m.next_kept) reply_in (reply_among rs m) rs (each_among rs m are is)
+pub replies_numbered : (rs : List Record) (m : MetaOf) → AreOfDesk rs → meta_in rs ≡ Some m → AllByRecursion (IsReplied m.counters.next_kept) (filter_map reply_in rs)
+replies_numbered rs m are is = each_mapped (IsAmong rs m) (IsReplied m.counters.next_kept) reply_in (reply_among rs m) rs (each_among rs m are is)
 
 pub replies_rise : (rs : List Record) → AreOfDesk rs → AllPairs (λ a b. a.id < b.id) (filter_map reply_in rs)
 replies_rise rs are = all_pairs (λ a b. a.id < b.id) (filter_map reply_in rs) (weaker_pairs Other (λ a b. a.id < b.id) (λ a b is. is.0) (filter_map reply_in rs) (other_pairs rs are))

@@ -26,6 +26,7 @@ use Rattle.kept_state.proofs.PartLaws.{IsKeptReport, kept_reports, reports_in}
 use Rattle.kept_state.proofs.AlertLaws.{alerts_in}
 use Rattle.kept_state.proofs.SavedLaws.{listed}
 use Rattle.desk_io.proofs.Each.{each_weaker}
+use Rattle.desk_state.proofs.Each.{each_weaker}
 
 -- ---- records in order, kind after kind
 
@@ -203,7 +204,7 @@ report_back r is = read_back r (read_of r.text r.received) is
 reports_back : (rs : List Record) (m : MetaOf) → AreOfDesk rs → meta_in rs ≡ Some m → map report_kept (reports_in rs) ≡ filter_map report_in rs
 reports_back rs m are is =
     all_back report_of report_kept (filter_map report_in rs)
-    (each_weaker (IsKeptReport m.next_report) (λ r. option_map report_kept (report_of r) ≡ Some r) (λ r kept. report_back r kept.valid.read) (filter_map report_in rs) (kept_reports rs m are is))
+    (each_weaker (IsKeptReport m.counters.next_report) (λ r. option_map report_kept (report_of r) ≡ Some r) (λ r kept. report_back r kept.valid.read) (filter_map report_in rs) (kept_reports rs m are is))
 
 -- the release of an id is there
 there_by : (r : ReleaseOf) (later : Option ReleaseOf) (b any : Bool) → (b || any) ≡ true → (any ≡ true → is_some later ≡ true) → is_some (cond b (Some r) later) ≡ true

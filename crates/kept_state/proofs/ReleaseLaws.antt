@@ -21,6 +21,7 @@ use Rattle.kept_state.proofs.Fitting.{Agree, IsAmong, all_agree, are_few, each_a
 use Rattle.kept_state.proofs.PartLaws.{Counted, at_most}
 use Rattle.desk_io.proofs.Each.{each_weaker}
 use Rattle.std.proofs.lemmas.Option.{IfSome_then}
+use Rattle.desk_state.proofs.Each.{each_weaker}
 
 -- ---- a release that may be kept is one that may stand
 
@@ -50,17 +51,17 @@ record IsHeldRelease (events next : ℕ) (r : ReleaseOf) : Type 0 where
   pub bounds : ReleaseInBounds r
   pub below : r.id < next
 
-held_release : (m : MetaOf) (r : ReleaseOf) → IsKept r → (nat_le m.next_release r.id || is_late m.events r.pending || is_late m.events r.active) ≡ false → IsHeldRelease m.events m.next_release r
+held_release : (m : MetaOf) (r : ReleaseOf) → IsKept r → (nat_le m.counters.next_release r.id || is_late m.counters.events r.pending || is_late m.counters.events r.active) ≡ false → IsHeldRelease m.counters.events m.counters.next_release r
 held_release m r is ahead =
-    let last = or_parts (nat_le m.next_release r.id || is_late m.events r.pending) (is_late m.events r.active) ahead in
-    let first = or_parts (nat_le m.next_release r.id) (is_late m.events r.pending) last.0 in
+    let last = or_parts (nat_le m.counters.next_release r.id || is_late m.counters.events r.pending) (is_late m.counters.events r.active) ahead in
+    let first = or_parts (nat_le m.counters.next_release r.id) (is_late m.counters.events r.pending) last.0 in
     record {
-      stands = record { valid = is.valid; within = (not_above m.events r.pending first.1, not_above m.events r.active last.1) };
+      stands = record { valid = is.valid; within = (not_above m.counters.events r.pending first.1, not_above m.counters.events r.active last.1) };
       bounds = release_is r is;
-      below = leb-false m.next_release r.id first.0;
+      below = leb-false m.counters.next_release r.id first.0;
     }
 
-release_among : (rs : List Record) (m : MetaOf) (x : Record) → IsAmong rs m x → IfSome (release_in x) (IsHeldRelease m.events m.next_release)
+release_among : (rs : List Record) (m : MetaOf) (x : Record) → IsAmong rs m x → IfSome (release_in x) (IsHeldRelease m.counters.events m.counters.next_release)
 unfolding IsRecord
 release_among rs m (Release r) is = held_release m r is.valid.1 is.ahead
 release_among rs m (Meta n) is = tt
@@ -69,16 +70,16 @@ release_among rs m (Deferral d) is = tt
 release_among rs m (Kept k) is = tt
 release_among rs m (Alert a) is = tt
 
-held_releases : (rs : List Record) (m : MetaOf) → AreOfDesk rs → meta_in rs ≡ Some m → AllByRecursion (IsHeldRelease m.events m.next_release) (filter_map release_in rs)
-held_releases rs m are is = each_mapped (IsAmong rs m) (IsHeldRelease m.events m.next_release) release_in (release_among rs m) rs (each_among rs m are is)
+held_releases : (rs : List Record) (m : MetaOf) → AreOfDesk rs → meta_in rs ≡ Some m → AllByRecursion (IsHeldRelease m.counters.events m.counters.next_release) (filter_map release_in rs)
+held_releases rs m are is = each_mapped (IsAmong rs m) (IsHeldRelease m.counters.events m.counters.next_release) release_in (release_among rs m) rs (each_among rs m are is)
 
 -- ---- all of them
 
-pub releases_valid : (rs : List Record) (m : MetaOf) → AreOfDesk rs → meta_in rs ≡ Some m → AllByRecursion (MayStand m.events) (filter_map release_in rs)
-releases_valid rs m are is = each_weaker (IsHeldRelease m.events m.next_release) (MayStand m.events) (λ r held. held.stands) (filter_map release_in rs) (held_releases rs m are is)
+pub releases_valid : (rs : List Record) (m : MetaOf) → AreOfDesk rs → meta_in rs ≡ Some m → AllByRecursion (MayStand m.counters.events) (filter_map release_in rs)
+releases_valid rs m are is = each_weaker (IsHeldRelease m.counters.events m.counters.next_release) (MayStand m.counters.events) (λ r held. held.stands) (filter_map release_in rs) (held_releases rs m are is)
 
 pub releases_bounded : (rs : List Record) (m : MetaOf) → AreOfDesk rs → meta_in rs ≡ Some m → AllByRecursion ReleaseInBounds (filter_map release_in rs)
-releases_bounded rs m are is = each_weaker (IsHeldRelease m.events m.next_release) ReleaseInBounds (λ r held. held.bounds) (filter_map release_in rs) (held_releases rs m are is)
+releases_bounded rs m are is = each_weaker (IsHeldRelease m.counters.events m.counters.next_release) ReleaseInBounds (λ r held. held.bounds) (filter_map release_in rs) (held_releases rs m are is)
 
 count_release : Counted 3 release_in
 count_release (Meta m) rs = refl
@@ -117,9 +118,9 @@ rise_from low (r ∷ rs) next within above below pairs =
     let less = below.0 in
     (above.0, rise_from (r.id + 1) rs next (omega (arith, less)) (each_weaker (Below r) (λ q. r.id + 1 ≤ q.id) (λ q later. omega (arith, later)) rs pairs.0) below.1 pairs.1)
 
-pub releases_rise : (rs : List Record) (m : MetaOf) → AreOfDesk rs → meta_in rs ≡ Some m → Rise 0 (filter_map release_in rs) m.next_release
+pub releases_rise : (rs : List Record) (m : MetaOf) → AreOfDesk rs → meta_in rs ≡ Some m → Rise 0 (filter_map release_in rs) m.counters.next_release
 releases_rise rs m are is =
     let held = held_releases rs m are is in
-    rise_from 0 (filter_map release_in rs) m.next_release (omega arith)
-    (each_weaker (IsHeldRelease m.events m.next_release) (λ r. 0 ≤ r.id) (λ r one. omega arith) (filter_map release_in rs) held)
-    (each_weaker (IsHeldRelease m.events m.next_release) (λ r. r.id < m.next_release) (λ r one. one.below) (filter_map release_in rs) held) (release_pairs rs are)
+    rise_from 0 (filter_map release_in rs) m.counters.next_release (omega arith)
+    (each_weaker (IsHeldRelease m.counters.events m.counters.next_release) (λ r. 0 ≤ r.id) (λ r one. omega arith) (filter_map release_in rs) held)
+    (each_weaker (IsHeldRelease m.counters.events m.counters.next_release) (λ r. r.id < m.counters.next_release) (λ r one. one.below) (filter_map release_in rs) held) (release_pairs rs are)

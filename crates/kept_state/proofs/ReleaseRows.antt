@@ -3,7 +3,7 @@ use Rattle.std.proofs.Common.{◌≡◌, ℕ, ◌+◌, ◌<◌, ◌≤◌, Bool,
 use Rattle.std.specs.List.{AllByRecursion, list_any}
 use Rattle.std.proofs.lemmas.Bool.{eqb-true}
 use Rattle.plan.specs.declared.release.Release.{Release}
-use Rattle.desk_state.specs.Events.{put, without_release}
+use Rattle.desk_state.specs.Events.{put_release, without_release}
 use Rattle.desk_state.specs.Sound.{Rise, IsTaken}
 use Rattle.kept_state.proofs.Parts.{Body}
 use Rattle.kept_state.proofs.Items.{exchanged, twice, not_both, Ascends, found_at, absent, none_later}
@@ -39,13 +39,13 @@ rise_below low next (r ∷ rs) rise = (least r.id rs rise.1, rise_below (r.id + 
 module _ (body : Release → Body) where
   -- a release in the place of one that is held
   pub put_found : (r : Release) (rs : List Release) → IsTaken r.id rs → (q : ℕ)
-      → cond (eqb r.id q) (Some (body r)) (found_at id_of body q rs) ≡ found_at id_of body q (put r rs)
+      → cond (eqb r.id q) (Some (body r)) (found_at id_of body q rs) ≡ found_at id_of body q (put_release r rs)
   put_found r [] taken q = absurd (cc)
   put_found r (x ∷ rs) taken q = by (eqb x.id r.id) refl taken (λ rest. put_found r rs rest q)
     where
       by : (u : Bool) → eqb x.id r.id ≡ u → (u || list_any (λ y. eqb y.id r.id) rs) ≡ true
-          → (IsTaken r.id rs → cond (eqb r.id q) (Some (body r)) (found_at id_of body q rs) ≡ found_at id_of body q (put r rs))
-          → cond (eqb r.id q) (Some (body r)) (cond (eqb x.id q) (Some (body x)) (found_at id_of body q rs)) ≡ found_at id_of body q (cond u (r ∷ rs) (x ∷ put r rs))
+          → (IsTaken r.id rs → cond (eqb r.id q) (Some (body r)) (found_at id_of body q rs) ≡ found_at id_of body q (put_release r rs))
+          → cond (eqb r.id q) (Some (body r)) (cond (eqb x.id q) (Some (body x)) (found_at id_of body q rs)) ≡ found_at id_of body q (cond u (r ∷ rs) (x ∷ put_release r rs))
       by true e held later =
           ap (λ (n : ℕ). cond (eqb r.id q) (Some (body r)) (cond (eqb n q) (Some (body x)) (found_at id_of body q rs))) (eqb-true x.id r.id e)
           ∙ twice (eqb r.id q) (Some (body r)) (Some (body x)) (found_at id_of body q rs)

@@ -19,7 +19,7 @@ use Rattle.records.specs.declared.record.KeptReport.{KeptReport}
 use Rattle.records.specs.declared.record.Meta.{Meta as MetaOf}
 use Rattle.records.specs.declared.record.Record.{Record}
 use Rattle.records.specs.declared.record.Record.TheVariants.{Meta, Report, Deferral, Release, Kept, Alert}
-use Rattle.kept_state.specs.Held.{alert_in, alert_of, alert_with, counters_of, deferral_in, release_in, reply_in, report_if, report_in, report_of, state_in}
+use Rattle.kept_state.specs.Held.{alert_in, alert_of, alert_with, deferral_in, release_in, reply_in, report_if, report_in, report_of, state_in}
 use Rattle.kept_state.specs.Rows.{alert_kept, report_kept}
 use Rattle.kept_state.proofs.Lists.{both, each_mapped}
 use Rattle.kept_state.proofs.AlertLaws.{found_self, rise_pairs}
@@ -79,7 +79,7 @@ module _ (m : MetaOf) (reports : List KeptReport) (deferrals : List DeferralOf) 
   listed_state tables = record {
     tables = tables;
     moment = m.moment;
-    counters = counters_of m;
+    counters = m.counters;
     reports = filter_map report_of reports;
     deferrals = deferrals;
     releases = releases;
@@ -109,27 +109,27 @@ reports_again [] all = refl
 reports_again (r ∷ rs) all = ap (λ o. cons_option o (filter_map report_of (map report_kept rs))) (read_again r all.0) ∙ ap (λ rest. r ∷ rest) (reports_again rs all.1)
 
 -- a release that is held, to whose holder the alert is told
-record IsHolders (releases : List ReleaseOf) (a : AlertOf) : Type 0 where
+record IsToHolder (releases : List ReleaseOf) (a : AlertOf) : Type 0 where
   pub release : ReleaseOf
   pub found : release_at a.release releases ≡ Some release
   pub told : a.desk ≡ release.holder
 
-told_again : (releases : List ReleaseOf) (a : AlertOf) → IsHolders releases a → alert_of releases (alert_kept a) ≡ Some a
+told_again : (releases : List ReleaseOf) (a : AlertOf) → IsToHolder releases a → alert_of releases (alert_kept a) ≡ Some a
 told_again releases a is = rw is.found (ap (λ desk. Some (alert_with (alert_kept a) desk)) (sym is.told))
 
-all_told : (releases : List ReleaseOf) (alerts : List AlertOf) → AllByRecursion (IsHolders releases) alerts → filter_map (alert_of releases) (map alert_kept alerts) ≡ alerts
+all_told : (releases : List ReleaseOf) (alerts : List AlertOf) → AllByRecursion (IsToHolder releases) alerts → filter_map (alert_of releases) (map alert_kept alerts) ≡ alerts
 all_told releases [] all = refl
 all_told releases (a ∷ rest) all = ap (λ o. cons_option o (filter_map (alert_of releases) (map alert_kept rest))) (told_again releases a all.0) ∙ ap (λ more. a ∷ more) (all_told releases rest all.1)
 
-holders_by : (releases : List ReleaseOf) (r : ReleaseOf) (o : Option AlertOf) → release_at r.id releases ≡ Some r → IsToldTo r.holder o → IfSome o (IsOf r.id) → IfSome o (IsHolders releases)
-holders_by releases r None found told of = tt
-holders_by releases r (Some a) found told of = record { release = r; found = ap (λ id. release_at id releases) of ∙ found; told = told }
+to_holder_by : (releases : List ReleaseOf) (r : ReleaseOf) (o : Option AlertOf) → release_at r.id releases ≡ Some r → IsToldTo r.holder o → IfSome o (IsOf r.id) → IfSome o (IsToHolder releases)
+to_holder_by releases r None found told of = tt
+to_holder_by releases r (Some a) found told of = record { release = r; found = ap (λ id. release_at id releases) of ∙ found; told = told }
 
 -- alerts that are those of the releases, and are told to their holders, are told again as they were
 pub alerts_again : (alerts : List AlertOf) (releases : List ReleaseOf) (next : ℕ) → Rise 0 releases next → alerts ≡ filter_map (λ r. alert_at r.id alerts) releases
     → AllByRecursion (λ r. IsToldTo r.holder (alert_at r.id alerts)) releases → filter_map (alert_of releases) (map alert_kept alerts) ≡ alerts
 alerts_again alerts releases next rise own told =
     let each = both (λ r. release_at r.id releases ≡ Some r) (λ r. IsToldTo r.holder (alert_at r.id alerts)) releases (found_self releases (rise_pairs 0 releases next rise)) told in
-    let held = each_mapped (λ r. (release_at r.id releases ≡ Some r) × IsToldTo r.holder (alert_at r.id alerts)) (IsHolders releases) (λ r. alert_at r.id alerts)
-    (λ r is. holders_by releases r (alert_at r.id alerts) is.0 is.1 (found_of r.id alerts)) releases each in
-    all_told releases alerts (subst (λ (xs : List AlertOf). AllByRecursion (IsHolders releases) xs) (sym own) held)
+    let held = each_mapped (λ r. (release_at r.id releases ≡ Some r) × IsToldTo r.holder (alert_at r.id alerts)) (IsToHolder releases) (λ r. alert_at r.id alerts)
+    (λ r is. to_holder_by releases r (alert_at r.id alerts) is.0 is.1 (found_of r.id alerts)) releases each in
+    all_told releases alerts (subst (λ (xs : List AlertOf). AllByRecursion (IsToHolder releases) xs) (sym own) held)

@@ -64,31 +64,31 @@ any_made p f (x ∷ xs) any = some_later (p (f x)) (list_any (λ y. p (f y)) xs)
 -- ---- how many
 
 -- how many meet a test, by recursion
-abbrev pub counted : {A : Type 0} → (A → Bool) → List A → ℕ
-counted p [] = 0
-counted p (x ∷ xs) = cond (p x) (1 + counted p xs) (counted p xs)
+abbrev pub how_many : {A : Type 0} → (A → Bool) → List A → ℕ
+how_many p [] = 0
+how_many p (x ∷ xs) = cond (p x) (1 + how_many p xs) (how_many p xs)
 
-pub counted_is : {A : Type 0} (p : A → Bool) (xs : List A) → counted p xs ≡ count_by p xs
-counted_is p xs = is_count_by (counted p) p refl (λ y ys. refl) xs
+pub counted_is : {A : Type 0} (p : A → Bool) (xs : List A) → how_many p xs ≡ count_by p xs
+counted_is p xs = is_count_by (how_many p) p refl (λ y ys. refl) xs
 
 counted_by : (b : Bool) (n k all : ℕ) → all ≡ n + k → cond b (1 + all) all ≡ cond b (1 + n) n + k
 counted_by true n k all is = omega (arith, is)
 counted_by false n k all is = is
 
-pub counted_joined : {A : Type 0} (p : A → Bool) (xs ys : List A) → counted p (xs ++ ys) ≡ counted p xs + counted p ys
+pub counted_joined : {A : Type 0} (p : A → Bool) (xs ys : List A) → how_many p (xs ++ ys) ≡ how_many p xs + how_many p ys
 counted_joined p [] ys = omega arith
-counted_joined p (x ∷ xs) ys = counted_by (p x) (counted p xs) (counted p ys) (counted p (xs ++ ys)) (counted_joined p xs ys)
+counted_joined p (x ∷ xs) ys = counted_by (p x) (how_many p xs) (how_many p ys) (how_many p (xs ++ ys)) (counted_joined p xs ys)
 
-pub counted_all : {A B : Type 0} (p : B → Bool) (f : A → B) → ((x : A) → p (f x) ≡ true) → (xs : List A) → counted p (map f xs) ≡ length xs
+pub counted_all : {A B : Type 0} (p : B → Bool) (f : A → B) → ((x : A) → p (f x) ≡ true) → (xs : List A) → how_many p (map f xs) ≡ length xs
 counted_all p f is [] = refl
 counted_all p f is (x ∷ xs) =
     let rest = counted_all p f is xs in
-    let more : 1 + counted p (map f xs) ≡ length (x ∷ xs) = omega (arith, rest) in
-    ap (λ b. cond b (1 + counted p (map f xs)) (counted p (map f xs))) (is x) ∙ more
+    let more : 1 + how_many p (map f xs) ≡ length (x ∷ xs) = omega (arith, rest) in
+    ap (λ b. cond b (1 + how_many p (map f xs)) (how_many p (map f xs))) (is x) ∙ more
 
-pub counted_none : {A B : Type 0} (p : B → Bool) (f : A → B) → ((x : A) → p (f x) ≡ false) → (xs : List A) → counted p (map f xs) ≡ 0
+pub counted_none : {A B : Type 0} (p : B → Bool) (f : A → B) → ((x : A) → p (f x) ≡ false) → (xs : List A) → how_many p (map f xs) ≡ 0
 counted_none p f is [] = refl
-counted_none p f is (x ∷ xs) = ap (λ b. cond b (1 + counted p (map f xs)) (counted p (map f xs))) (is x) ∙ counted_none p f is xs
+counted_none p f is (x ∷ xs) = ap (λ b. cond b (1 + how_many p (map f xs)) (how_many p (map f xs))) (is x) ∙ counted_none p f is xs
 
 -- one more after some is at most so many, so the ones before are fewer
 pub room_before : {A : Type 0} (p : A → Bool) (earlier : List A) (x : A) (rest : List A) (most : ℕ) → p x ≡ true → count_by p (earlier ++ x ∷ rest) ≤ most → count_by p earlier < most
@@ -96,7 +96,7 @@ room_before p earlier x rest most is few =
     let whole = counted_is p (earlier ++ x ∷ rest) in
     let front = counted_is p earlier in
     let sum = counted_joined p earlier (x ∷ rest) in
-    let one : counted p (x ∷ rest) ≡ 1 + counted p rest = ap (λ b. cond b (1 + counted p rest) (counted p rest)) is in
+    let one : how_many p (x ∷ rest) ≡ 1 + how_many p rest = ap (λ b. cond b (1 + how_many p rest) (how_many p rest)) is in
     omega (arith, few, whole, front, sum, one)
 
 -- ---- places

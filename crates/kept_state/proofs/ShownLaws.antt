@@ -48,7 +48,7 @@ small_release s (on_releases.File r) fits bounds = let is = fits.numbered in let
 small_release s (on_releases.Put r) fits bounds = tt
 small_release s (on_releases.Remove id) fits bounds = tt
 
-are_small : (s : State) (effect : Effect) → EffectFits s effect → InBounds s → AreSmall s effect
+pub are_small : (s : State) (effect : Effect) → EffectFits s effect → InBounds s → AreSmall s.counters effect
 are_small s effect fits bounds = record {
   events = let most = bounds.counters.events in omega (arith, most);
   accepted = let one = bounds.counters.accepted in let most = bounds.counters.events in omega (arith, one, most);

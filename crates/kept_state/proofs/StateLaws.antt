@@ -12,9 +12,10 @@ use Rattle.desk_state.proofs.Parts.{judgeable}
 use Rattle.records.specs.Faults.{outruns}
 use Rattle.records.specs.Valid.{IsRecord}
 use Rattle.records.specs.declared.record.Meta.{Meta as MetaOf}
+use Rattle.desk_state.specs.declared.counters.Counters.{Counters}
 use Rattle.records.specs.declared.record.Record.{Record}
 use Rattle.records.specs.declared.record.Record.TheVariants.{Meta}
-use Rattle.kept_state.specs.Held.{AreOfDesk, counters_of, meta_in, state_by, state_in, state_with}
+use Rattle.kept_state.specs.Held.{AreOfDesk, meta_in, state_by, state_in, state_with}
 use Rattle.kept_state.specs.Opening.{MayReopen, reopened}
 use Rattle.kept_state.proofs.Fitting.{HasRoom, IsAmong, meta_among}
 use Rattle.kept_state.proofs.PartLaws.{deferrals_open, replies_few, replies_numbered, replies_rise, replies_single, reports_few, reports_numbered, reports_rise, reports_unlike}
@@ -22,34 +23,30 @@ use Rattle.kept_state.proofs.ReleaseLaws.{releases_bounded, releases_few, releas
 use Rattle.kept_state.proofs.AlertLaws.{alerts_are, alerts_own, alerts_told}
 use Rattle.kept_state.proofs.HeldForms.{counted_formed}
 use Rattle.kept_state.proofs.OpeningLaws.{reopened_board}
+use Rattle.kept_state.proofs.KeptForms.{Counts}
 
 -- ---- the meta record
 
-few_events : (m : MetaOf) → HasRoom (Meta m) → m.events < 999_999_999_999_999
-few_events m room = leb-false 999_999_999_999_999 m.events room.1
+few_events : (m : MetaOf) → HasRoom (Meta m) → m.counters.events < 999_999_999_999_999
+few_events m room = leb-false 999_999_999_999_999 m.counters.events room.1
 
--- what a meta record counts
-record Counts (m : MetaOf) : Type 0 where
-  pub moment : IsMoment m.moment
-  pub room : m.events < 999_999_999_999_999
-  pub counters : AreCounters (counters_of m)
-
-counters_are : (m : MetaOf) → m.events < 999_999_999_999_999 → outruns m ≡ false → AreCounters (counters_of m)
-counters_are m room within =
-    let kept = or_parts (nat_lt (m.events + 1) m.next_report || nat_lt (m.events + 1) m.next_deferral || nat_lt (m.events + 1) m.next_release) (nat_lt (m.events + 1) m.next_kept) within in
-    let release = or_parts (nat_lt (m.events + 1) m.next_report || nat_lt (m.events + 1) m.next_deferral) (nat_lt (m.events + 1) m.next_release) kept.0 in
-    let deferral = or_parts (nat_lt (m.events + 1) m.next_report) (nat_lt (m.events + 1) m.next_deferral) release.0 in
+counters_are : (c : Counters) → c.events < 999_999_999_999_999 → outruns c ≡ false → AreCounters c
+counters_are c room within =
+    let most = c.events + 1 in
+    let kept = or_parts (nat_lt most c.next_report || nat_lt most c.next_deferral || nat_lt most c.next_release) (nat_lt most c.next_kept) within in
+    let release = or_parts (nat_lt most c.next_report || nat_lt most c.next_deferral) (nat_lt most c.next_release) kept.0 in
+    let deferral = or_parts (nat_lt most c.next_report) (nat_lt most c.next_deferral) release.0 in
     record {
       events = omega (arith, room);
-      report = ltb-false (m.events + 1) m.next_report deferral.0;
-      deferral = ltb-false (m.events + 1) m.next_deferral deferral.1;
-      release = ltb-false (m.events + 1) m.next_release release.1;
-      accepted = ltb-false (m.events + 1) m.next_kept kept.1;
+      report = ltb-false most c.next_report deferral.0;
+      deferral = ltb-false most c.next_deferral deferral.1;
+      release = ltb-false most c.next_release release.1;
+      accepted = ltb-false most c.next_kept kept.1;
     }
 
 counts : (rs : List Record) (m : MetaOf) → IsAmong rs m (Meta m) → Counts m
 unfolding IsRecord
-counts rs m is = let room = few_events m is.room in record { moment = is.valid.moment; room = room; counters = counters_are m room is.ahead }
+counts rs m is = let room = few_events m is.room in record { moment = is.valid.moment; room = room; counters = counters_are m.counters room is.ahead }
 
 -- ---- the state
 

@@ -1,5 +1,5 @@
 -- What holds of each two records of a state, and how many there are of each kind.
-use Rattle.std.proofs.Common.{◌≡◌, ℕ, ◌+◌, ◌<◌, ◌≤◌, arith, Bool, true, false, ◌&&◌, ◌||◌, not, cond, eqb, List, [], ◌∷◌, ◌++◌, map, length, bytes_eq, count_by, Option, None, Some, IfSome, refl, sym, ap, ◌∙◌, subst}
+use Rattle.std.proofs.Common.{◌≡◌, ℕ, ◌+◌, ◌<◌, ◌≤◌, arith, Bool, true, false, ◌&&◌, ◌||◌, not, eqb, List, [], ◌∷◌, ◌++◌, map, length, bytes_eq, count_by, Option, None, Some, IfSome, refl, sym, ap, ◌∙◌, subst}
 use Rattle.std.specs.Prelude.{◌==◌, nat_lt}
 use Rattle.std.specs.List.{AllByRecursion, list_any}
 use Rattle.std.proofs.lemmas.Bool.{eqb-true, lt-ltb, ne_eqb, or_from}
@@ -21,14 +21,16 @@ use Rattle.records.specs.Faults.{is_release_of, is_same_report, is_same_request,
 use Rattle.records.specs.Kinds.{is_kind}
 use Rattle.records.specs.declared.record.Record.{Record}
 use Rattle.records.specs.declared.record.Record.TheVariants.{Meta, Report, Deferral, Release, Kept, Alert}
-use Rattle.kept_state.proofs.AlertLaws.{Rises, found_self, rise_pairs}
+use Rattle.kept_state.proofs.AlertLaws.{Rises, found_self, found_taken, rise_pairs}
 use Rattle.kept_state.proofs.Fitting.{Agree, AreFew}
 use Rattle.kept_state.proofs.Lists.{Pairs, both, both_pairs, each_mapped, pairs_mapped, weaker_pairs}
+use Rattle.kept_state.proofs.Loops.{pairs_from}
 use Rattle.kept_state.proofs.PartLaws.{Other, Unlike, swapped, turned}
 use Rattle.kept_state.proofs.ReleaseLaws.{Below}
-use Rattle.kept_state.proofs.Segments.{Across, across_any, across_made, all_made, any_back, any_front, any_made, counted, counted_all, counted_is, counted_joined, counted_none, pairs_joined, pairs_made, with_each}
+use Rattle.kept_state.proofs.Segments.{Across, across_any, across_made, all_made, any_back, any_front, any_made, counted_all, counted_is, counted_joined, counted_none, pairs_joined, pairs_made, with_each, how_many}
 use Rattle.desk_io.proofs.Each.{each_append, each_weaker}
 use Rattle.kept_state.proofs.Loops.{pairs_from}
+use Rattle.desk_state.proofs.Each.{each_weaker}
 
 -- ---- releases by their ids
 
@@ -39,14 +41,6 @@ rise_within low (r ∷ rs) next rise = let here = rise.0 in let more = rise_with
 pub ids_below : (low : ℕ) (rs : List ReleaseOf) (next : ℕ) → Rise low rs next → AllByRecursion (λ r. r.id < next) rs
 ids_below low [] next rise = tt
 ids_below low (r ∷ rs) next rise = (let more = rise_within (r.id + 1) rs next rise.1 in omega (arith, more), ids_below (r.id + 1) rs next rise.1)
-
-taken_by : (b any : Bool) (q r : ReleaseOf) (later : Option ReleaseOf) → cond b (Some q) later ≡ Some r → (later ≡ Some r → any ≡ true) → (b || any) ≡ true
-taken_by true any q r later found rest = refl
-taken_by false any q r later found rest = rest found
-
-found_taken : (id : ℕ) (rs : List ReleaseOf) (r : ReleaseOf) → release_at id rs ≡ Some r → list_any (λ q. q.id == id) rs ≡ true
-found_taken id [] r found = absurd (cc)
-found_taken id (q ∷ qs) r found = taken_by (eqb q.id id) (list_any (λ x. x.id == id) qs) q r (release_at id qs) found (found_taken id qs r)
 
 -- ---- each alert is that of an active release
 
@@ -240,7 +234,7 @@ all_records P s meta reports deferrals releases replies alerts =
 -- ---- how many there are of each kind
 
 counted_parts : (p : Record → Bool) (one two three four five six : List Record)
-    → counted p (one ++ two ++ three ++ four ++ five ++ six) ≡ counted p one + counted p two + counted p three + counted p four + counted p five + counted p six
+    → how_many p (one ++ two ++ three ++ four ++ five ++ six) ≡ how_many p one + how_many p two + how_many p three + how_many p four + how_many p five + how_many p six
 counted_parts p one two three four five six =
     let a = counted_joined p (one ++ two ++ three ++ four ++ five) six in
     let b = counted_joined p (one ++ two ++ three ++ four) five in
@@ -251,16 +245,16 @@ counted_parts p one two three four five six =
 
 -- how many of a kind there are among records, by how many there are of it in each part
 few_by : (p : Record → Bool) (one two three four five six : List Record) (a b c d e f most : ℕ)
-    → counted p one ≡ a → counted p two ≡ b → counted p three ≡ c → counted p four ≡ d → counted p five ≡ e → counted p six ≡ f
+    → how_many p one ≡ a → how_many p two ≡ b → how_many p three ≡ c → how_many p four ≡ d → how_many p five ≡ e → how_many p six ≡ f
     → a + b + c + d + e + f ≤ most → count_by p (one ++ two ++ three ++ four ++ five ++ six) ≤ most
 few_by p one two three four five six a b c d e f most is_a is_b is_c is_d is_e is_f few =
     let whole = counted_is p (one ++ two ++ three ++ four ++ five ++ six) in
     let parts = counted_parts p one two three four five six in
     omega (arith, whole, parts, is_a, is_b, is_c, is_d, is_e, is_f, few)
 
-few_of : (kind : ℕ) (s : State) (b c d e most : ℕ) → counted (is_kind kind) (Meta (meta_of s) ∷ []) ≡ 0 → counted (is_kind kind) (map (λ r. Report (report_kept r)) s.reports) ≡ b
-    → counted (is_kind kind) (map Deferral s.deferrals) ≡ c → counted (is_kind kind) (map Release s.releases) ≡ d → counted (is_kind kind) (map Kept s.kept) ≡ e
-    → counted (is_kind kind) (map (λ a. Alert (alert_kept a)) s.alerts) ≡ 0 → b + c + d + e ≤ most → count_by (is_kind kind) (records_of s) ≤ most
+few_of : (kind : ℕ) (s : State) (b c d e most : ℕ) → how_many (is_kind kind) (Meta (meta_of s) ∷ []) ≡ 0 → how_many (is_kind kind) (map (λ r. Report (report_kept r)) s.reports) ≡ b
+    → how_many (is_kind kind) (map Deferral s.deferrals) ≡ c → how_many (is_kind kind) (map Release s.releases) ≡ d → how_many (is_kind kind) (map Kept s.kept) ≡ e
+    → how_many (is_kind kind) (map (λ a. Alert (alert_kept a)) s.alerts) ≡ 0 → b + c + d + e ≤ most → count_by (is_kind kind) (records_of s) ≤ most
 unfolding records_of
 few_of kind s b c d e most none is_b is_c is_d is_e last few =
     few_by (is_kind kind) (Meta (meta_of s) ∷ []) (map (λ r. Report (report_kept r)) s.reports) (map Deferral s.deferrals) (map Release s.releases) (map Kept s.kept)

@@ -24,12 +24,12 @@ use Rattle.records.specs.declared.record.Record.TheVariants.{Meta, Report, Defer
 use Rattle.kept_state.specs.Rows.{meta_of, report_kept, alert_kept}
 
 -- the row of a record stands there
-abbrev pub put : Record → Change
-put r = Put (row_of r)
+abbrev pub put_row : Record → Change
+put_row r = Put (row_of r)
 
 abbrev pub report_changes : Option ReportOf → List Change
 report_changes None = []
-report_changes (Some r) = put (Report (report_kept r)) ∷ []
+report_changes (Some r) = put_row (Report (report_kept r)) ∷ []
 
 -- the rows of swept reports go
 abbrev pub swept_reports : Option Sweep → List ReportOf → List Change
@@ -38,13 +38,13 @@ swept_reports (Some w) reports = map (λ r. Remove 1 r.id) (leaving w.before w.a
 
 abbrev pub deferral_changes : OnDeferrals → List Change
 deferral_changes on_deferrals.Nothing = []
-deferral_changes (on_deferrals.Open d) = put (Deferral d) ∷ []
+deferral_changes (on_deferrals.Open d) = put_row (Deferral d) ∷ []
 deferral_changes (on_deferrals.Clear id) = Remove 2 id ∷ []
 
 abbrev pub release_changes : OnReleases → List Change
 release_changes on_releases.Nothing = []
-release_changes (on_releases.File r) = put (Release r) ∷ []
-release_changes (on_releases.Put r) = put (Release r) ∷ []
+release_changes (on_releases.File r) = put_row (Release r) ∷ []
+release_changes (on_releases.Put r) = put_row (Release r) ∷ []
 release_changes (on_releases.Remove id) = Remove 3 id ∷ []
 
 -- the rows of swept replies go
@@ -54,11 +54,11 @@ swept_replies (Some w) kept = map (λ k. Remove 4 k.id) (kept_before w.before ke
 
 abbrev pub reply_changes : Option KeptReply → List Change
 reply_changes None = []
-reply_changes (Some k) = put (Kept k) ∷ []
+reply_changes (Some k) = put_row (Kept k) ∷ []
 
 abbrev pub alert_row : ℕ → Option AlertOf → Change
 alert_row id None = Remove 5 id
-alert_row id (Some a) = put (Alert (alert_kept a))
+alert_row id (Some a) = put_row (Alert (alert_kept a))
 
 -- What becomes of the alerts: each change of one in its turn.
 abbrev pub alert_rows : List AlertChange → List Change
@@ -80,4 +80,4 @@ part_changes s effect kept alerts =
 -- The changes of the rows by an event: the row of the counters is always put.
 unfoldable pub event_changes : State → Effect → Entry → List Change
 event_changes s effect e =
-    put (Meta (meta_of (entered e (effected effect s)))) ∷ part_changes s effect (kept_of (effected effect s) e.what) (alert_changes effect s)
+    put_row (Meta (meta_of (entered e (effected effect s)))) ∷ part_changes s effect (kept_of (effected effect s) e.what) (alert_changes effect s)

@@ -12,7 +12,6 @@ use Rattle.facts.specs.declared.report.Read.{Read}
 use Rattle.facts.specs.declared.report.Report.{Report as ReportOf}
 use Rattle.alerts.specs.declared.alert.Alert.{Alert as AlertOf}
 use Rattle.desk_state.specs.State.{State, start, release_at}
-use Rattle.desk_state.specs.declared.counters.Counters.{Counters}
 use Rattle.records.specs.Faults.{fit, meta_from}
 use Rattle.records.specs.Kinds.{kind_of, key_of}
 use Rattle.records.specs.Valid.{IsRecord}
@@ -115,16 +114,12 @@ alert_with a desk = record { release = a.release; desk = desk; version = a.versi
 abbrev pub alert_of : List ReleaseOf → KeptAlert → Option AlertOf
 alert_of releases a = option_map (λ r. alert_with a r.holder) (release_at a.release releases)
 
-abbrev pub counters_of : MetaOf → Counters
-counters_of m =
-    record { events = m.events; next_report = m.next_report; next_deferral = m.next_deferral; next_release = m.next_release; next_kept = m.next_kept }
-
 -- the reports, deferrals, releases, replies and alerts of records, with what a meta record counts; no history
 abbrev pub state_with : TableRows → MetaOf → List Record → State
 state_with tables m records = record {
   tables = tables;
   moment = m.moment;
-  counters = counters_of m;
+  counters = m.counters;
   reports = filter_map report_of (filter_map report_in records);
   deferrals = filter_map deferral_in records;
   releases = filter_map release_in records;

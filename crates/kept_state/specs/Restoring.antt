@@ -5,7 +5,7 @@ use Rattle.ops_tables.specs.Tables.{TableRows}
 use Rattle.desk_state.specs.State.{State, start}
 use Rattle.records.specs.Valid.{IsReport}
 use Rattle.records.specs.declared.record.Meta.{Meta as MetaOf}
-use Rattle.kept_state.specs.Held.{alert_of, counters_of, report_of}
+use Rattle.kept_state.specs.Held.{alert_of, report_of}
 use Rattle.kept_state.specs.Parting.{Kinds}
 use Rattle.kept_state.specs.declared.restoring.Held.{Held}
 
@@ -31,7 +31,7 @@ state_by_held tables None h = start tables
 state_by_held tables (Some m) h = record {
   tables = tables;
   moment = m.moment;
-  counters = counters_of m;
+  counters = m.counters;
   reports = h.reports.reports;
   deferrals = h.deferrals.list;
   releases = h.releases.items;

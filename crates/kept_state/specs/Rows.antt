@@ -9,21 +9,13 @@ use Rattle.desk_state.specs.State.{State, start}
 use Rattle.records.specs.Bodies.{row_of}
 use Rattle.records.specs.declared.record.KeptAlert.{KeptAlert}
 use Rattle.records.specs.declared.record.KeptReport.{KeptReport}
-use Rattle.records.specs.declared.record.Meta.{Meta as Counters}
+use Rattle.records.specs.declared.record.Meta.{Meta as MetaOf}
 use Rattle.records.specs.declared.record.Record.{Record}
 use Rattle.records.specs.declared.record.Record.TheVariants.{Meta, Report, Deferral, Release, Kept, Alert}
 
 -- the moment, the counters and the floors
-abbrev pub meta_of : State → Counters
-meta_of s = record {
-  moment = s.moment;
-  events = s.counters.events;
-  next_report = s.counters.next_report;
-  next_deferral = s.counters.next_deferral;
-  next_release = s.counters.next_release;
-  next_kept = s.counters.next_kept;
-  floors = s.floors;
-}
+abbrev pub meta_of : State → MetaOf
+meta_of s = record { moment = s.moment; counters = s.counters; floors = s.floors }
 
 -- what is kept of a report: its reading isn't, since it is read again from its text
 abbrev pub report_kept : ReportOf → KeptReport

@@ -6,6 +6,7 @@ use Rattle.facts.specs.declared.report.Report.{Report}
 use Rattle.desk_time.specs.Limits.{IsMoment}
 use Rattle.kept_releases.specs.Rows.{ReleaseHasMoments}
 use Rattle.desk_state.specs.declared.change.AlertChange.{AlertChange}
+use Rattle.desk_state.specs.declared.counters.Counters.{Counters}
 use Rattle.desk_state.specs.declared.effect.Effect.{Effect}
 use Rattle.desk_state.specs.declared.effect.OnDeferrals.{OnDeferrals}
 use Rattle.desk_state.specs.declared.effect.OnDeferrals.TheVariants as on_deferrals
@@ -54,9 +55,9 @@ abbrev pub WasOpened : Option Alert → Type 0
 WasOpened alert = IfSome alert (λ a. IsMoment a.opened)
 
 -- numbers after which there are others
-pub record AreSmall (s : State) (effect : Effect) : Type 0 where
-  pub events : IsSmall s.counters.events
-  pub accepted : IsSmall s.counters.next_kept
+pub record AreSmall (c : Counters) (effect : Effect) : Type 0 where
+  pub events : IsSmall c.events
+  pub accepted : IsSmall c.next_kept
   pub report : IsSmallReport effect.report
   pub deferral : IsSmallDeferral effect.on_deferrals
   pub release : IsSmallRelease effect.on_releases
@@ -64,7 +65,7 @@ pub record AreSmall (s : State) (effect : Effect) : Type 0 where
 -- what an event changes can be put into rows
 pub record AreShown (s : State) (effect : Effect) (kept : Option KeptReply) (alerts : List AlertChange) : Type 0 where
   pub moment : IsMoment (moment_after effect.moment s.moment)
-  pub small : AreSmall s effect
+  pub small : AreSmall s.counters effect
   pub received : WasReceived effect.report
   pub apart : AreApart effect.report effect.sweep
   pub found : WasFound effect.on_deferrals

@@ -14,16 +14,16 @@ ghost use Rattle.kept_state.specs.Changes as spec;
 ghost use Rattle.kept_state.specs.Rows.{meta_of};
 ghost use Rattle.kept_state.specs.Shown.{AreSmall, WasReceived, WasFound, IsShownRelease, WasAccepted, WasOpened, AreShown};
 
-use crate::held::{alert_kept, put, report_kept};
+use crate::held::{alert_lent, put_row, report_lent};
 use crate::meta::meta_after;
 use alerts::Alert;
 use asks::KeptReply;
-use desk_io::{Change, Copied, OutOfMemory};
+use desk_io::{Change, OutOfMemory};
 use desk_state::{AlertChange, Content, Effect, Entry, OnDeferrals, OnReleases, Sweep};
 use desk_time::Minute;
 use facts::{Report, Reports};
 use plan::Release;
-use records::Record;
+use records::{Record, RecordRef};
 use std::alloc::Global;
 
 // The kinds of rows that may go.
@@ -55,8 +55,7 @@ fn push_report(
     ensures { OnOk result (changes.new.items ≡ changes.old.items ++ spec.report_changes report.now) }
 {
     if let Some(report) = report {
-        let held = Record::Report(report_kept(alloc, report)?);
-        changes.push(put(alloc, held)?)?;
+        changes.push(put_row(alloc, &report_lent(report))?)?;
     }
     Ok(())
 }
@@ -114,8 +113,7 @@ fn push_deferral(
     match on {
         OnDeferrals::Nothing => {}
         OnDeferrals::Open(deferral) => {
-            let held = Record::Deferral(deferral.copy(alloc)?);
-            changes.push(put(alloc, held)?)?;
+            changes.push(put_row(alloc, &RecordRef::Deferral(deferral))?)?;
         }
         OnDeferrals::Clear { deferral } => changes.push(Change::Remove {
             kind: DEFERRAL,
@@ -127,9 +125,9 @@ fn push_deferral(
 
 fn put_release(alloc: Global, release: &Release) -> Result<Change, OutOfMemory>
     requires { ReleaseHasMoments release.now }
-    ensures { IfOk result (λ c. c ≡ spec.put (Record.Release release.now)) }
+    ensures { IfOk result (λ c. c ≡ spec.put_row (Record.Release release.now)) }
 {
-    put(alloc, Record::Release(release.copy(alloc)?))
+    put_row(alloc, &RecordRef::Release(release))
 }
 
 fn push_release(
@@ -194,8 +192,7 @@ fn push_reply(
     ensures { OnOk result (changes.new.items ≡ changes.old.items ++ spec.reply_changes (option_copied kept.entry)) }
 {
     if let Some(kept) = kept {
-        let held = Record::Kept(kept.copy(alloc)?);
-        changes.push(put(alloc, held)?)?;
+        changes.push(put_row(alloc, &RecordRef::Kept(kept))?)?;
     }
     Ok(())
 }
@@ -221,7 +218,7 @@ fn alert_change(alloc: Global, release: u64, alert: &Option<Alert>) -> Result<Ch
     ensures { IfOk result (λ c. c ≡ spec.alert_row release alert.now) }
 {
     match alert {
-        Some(alert) => put(alloc, Record::Alert(alert_kept(alloc, alert)?)),
+        Some(alert) => put_row(alloc, &alert_lent(alert)),
         None => Ok(Change::Remove {
             kind: ALERT,
             key: release,
@@ -251,14 +248,11 @@ fn put_meta(
     entered: &Entry,
 ) -> Result<Change, OutOfMemory>
     requires moment { IsMoment (moment_after effect.now.moment content.now.moment) }
-    requires small { AreSmall (state_of content.now) effect.now }
-    ensures { IfOk result (λ c. c ≡ spec.put (Record.Meta (meta_of
+    requires small { AreSmall content.now.counters effect.now }
+    ensures { IfOk result (λ c. c ≡ spec.put_row (Record.Meta (meta_of
         (step.entered entered.now (effected effect.now (state_of content.now)))))) }
 {
-    put(
-        alloc,
-        Record::Meta(meta_after(alloc, content, effect, entered)?),
-    )
+    put_row(alloc, &meta_after(content, effect, entered))
 }
 
 #[tactic(auto, using(crate::proofs::Pushed::five_pushed))]
@@ -290,7 +284,7 @@ fn shown_changes(
     alerts: &[AlertChange],
 ) -> Result<Vec<Change>, OutOfMemory>
     requires { AreShown (state_of content.now) effect.now (option_copied kept) alerts.now }
-    ensures { IfOk result (λ changes. changes.items ≡ spec.put
+    ensures { IfOk result (λ changes. changes.items ≡ spec.put_row
         (Record.Meta (meta_of (step.entered entered.now (effected effect.now (state_of content.now))))) ∷
         spec.part_changes (state_of content.now) effect.now (option_copied kept.entry) alerts.now) }
 {

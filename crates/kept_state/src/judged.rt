@@ -1,29 +1,28 @@
 ghost use Rattle.std.specs.Prelude.{◌≡◌, ◌<◌, All, IfOk};
 ghost use Rattle.desk_state.specs.Contents.{state_of};
 ghost use Rattle.desk_time.specs.Limits.{IsMoment};
+ghost use Rattle.records.specs.Lent.{lent};
 ghost use Rattle.kept_state.specs.Judged as spec;
 ghost use Rattle.kept_state.specs.Shown.{WasOpened};
 
 use crate::changes::push_alerts;
-use crate::held::put;
-use desk_io::{Change, Copied, OutOfMemory};
-use desk_state::{AlertChange, Content};
-use records::{Meta, Record};
+use crate::held::put_row;
+use desk_io::{Change, OutOfMemory};
+use desk_state::{AlertChange, Content, Counters};
+use records::{MetaRef, Record, RecordRef};
 use std::alloc::Global;
 
-fn meta_after_event(alloc: Global, content: &Content) -> Result<Meta, OutOfMemory>
+fn meta_after_event(content: &Content) -> RecordRef<'_>
     requires { content.now.counters.events < 999_999_999_999_999 }
-    ensures { IfOk result (λ m. m ≡ spec.after_event (state_of content.now)) }
+    ensures { lent result ≡ Record.Meta (spec.meta_after_event (state_of content.now)) }
 {
-    let counters = &content.counters;
-    Ok(Meta {
+    RecordRef::Meta(MetaRef {
         moment: content.moment,
-        events: counters.events + 1,
-        next_report: counters.next_report,
-        next_deferral: counters.next_deferral,
-        next_release: counters.next_release,
-        next_kept: counters.next_kept,
-        floors: content.floors.copy(alloc)?,
+        counters: Counters {
+            events: content.counters.events + 1,
+            ..content.counters
+        },
+        floors: &content.floors,
     })
 }
 
@@ -42,7 +41,7 @@ pub fn judged_changes(
 {
     let mut changes = Vec::new(alloc);
     if !alerts.is_empty() {
-        changes.push(put(alloc, Record::Meta(meta_after_event(alloc, content)?))?)?;
+        changes.push(put_row(alloc, &meta_after_event(content))?)?;
         push_alerts(alloc, &mut changes, alerts)?;
     }
     Ok(changes)

@@ -1,17 +1,16 @@
-ghost use Rattle.std.specs.Prelude.{◌≡◌, IfOk};
+ghost use Rattle.std.specs.Prelude.{◌≡◌};
 ghost use Rattle.desk_state.specs.Contents.{state_of};
 ghost use Rattle.desk_state.specs.Events as events;
 ghost use Rattle.desk_state.specs.Step as step;
+ghost use Rattle.records.specs.Lent.{lent};
 ghost use Rattle.kept_state.specs.Rows as spec;
 ghost use Rattle.kept_state.specs.Shown.{IsSmall, IsSmallReport, IsSmallDeferral, IsSmallRelease, AreSmall};
 
 use asks::Floors;
-use desk_io::{Copied, OutOfMemory};
-use desk_state::{Content, Effect, Entry, OnDeferrals, OnReleases, Sweep, What};
+use desk_state::{Content, Counters, Effect, Entry, OnDeferrals, OnReleases, Sweep, What};
 use desk_time::Minute;
 use facts::Report;
-use records::Meta;
-use std::alloc::Global;
+use records::{MetaRef, Record, RecordRef};
 
 fn moment_after(to: Option<Minute>, moment: Minute) -> Minute
     ensures { result ≡ events.moment_after to moment }
@@ -71,25 +70,32 @@ fn floors_after<'a>(sweep: &'a Option<Sweep>, floors: &'a Floors) -> &'a Floors
     }
 }
 
-/// The moment, the counters and the floors after an event.
-pub(crate) fn meta_after(
-    alloc: Global,
-    content: &Content,
-    effect: &Effect,
-    entered: &Entry,
-) -> Result<Meta, OutOfMemory>
-    requires { AreSmall (state_of content.now) effect.now }
-    ensures { IfOk result (λ m. m ≡ spec.meta_of (step.entered entered.now
-        (events.effected effect.now (state_of content.now)))) }
+fn counters_after(counters: &Counters, effect: &Effect, entered: &Entry) -> Counters
+    requires { AreSmall counters.now effect.now }
+    ensures { result ≡ step.counted entered.now.what (events.counters_after effect.now counters.now) }
 {
-    let counters = &content.counters;
-    Ok(Meta {
-        moment: moment_after(effect.moment, content.moment),
+    Counters {
         events: counters.events + 1,
         next_report: next_report(&effect.report, counters.next_report),
         next_deferral: next_deferral(&effect.on_deferrals, counters.next_deferral),
         next_release: next_release(&effect.on_releases, counters.next_release),
         next_kept: next_kept(&entered.what, counters.next_kept),
-        floors: floors_after(&effect.sweep, &content.floors).copy(alloc)?,
+    }
+}
+
+/// The moment, the counters and the floors after an event.
+pub(crate) fn meta_after<'a>(
+    content: &'a Content,
+    effect: &'a Effect,
+    entered: &Entry,
+) -> RecordRef<'a>
+    requires { AreSmall content.now.counters effect.now }
+    ensures { lent result ≡ Record.Meta (spec.meta_of (step.entered entered.now
+        (events.effected effect.now (state_of content.now)))) }
+{
+    RecordRef::Meta(MetaRef {
+        moment: moment_after(effect.moment, content.moment),
+        counters: counters_after(&content.counters, effect, entered),
+        floors: floors_after(&effect.sweep, &content.floors),
     })
 }

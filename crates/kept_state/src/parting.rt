@@ -41,7 +41,7 @@ fn put_meta(held: &mut Option<Meta>, meta: Meta)
     }
 }
 
-fn put(parts: &mut Parts, found: Record) -> Result<(), OutOfMemory>
+fn add_record(parts: &mut Parts, found: Record) -> Result<(), OutOfMemory>
     ensures { OnOk result (spec.kinds_of parts.new ≡ spec.with_record found (spec.kinds_of parts.old)) }
 {
     match found {
@@ -61,7 +61,7 @@ pub(crate) fn parts_of(alloc: Global, records: Vec<Record>) -> Result<Parts, Out
 {
     let mut parts = no_parts(alloc);
     for found in records {
-        put(&mut parts, found)?;
+        add_record(&mut parts, found)?;
     }
     Ok(parts)
 }

@@ -1,6 +1,6 @@
 ghost use Rattle.std.specs.Prelude.{◌≡◌, IfOk};
 ghost use Rattle.desk_state.specs.Contents.{state_of};
-ghost use Rattle.kept_state.specs.Held.{AreOfDesk, counters_of, state_in};
+ghost use Rattle.kept_state.specs.Held.{AreOfDesk, state_in};
 ghost use Rattle.kept_state.specs.Parting.{kinds_of, no_kinds, with_records};
 ghost use Rattle.kept_state.specs.Restoring as spec;
 
@@ -12,7 +12,7 @@ use alerts::Alert;
 use asks::KeptReply;
 use deferrals::Deferrals;
 use desk_io::OutOfMemory;
-use desk_state::{Content, Counters};
+use desk_state::Content;
 use facts::Reports;
 use ops_tables::Tables;
 use plan::Release;
@@ -62,18 +62,6 @@ fn held_in(alloc: Global, records: Vec<Record>) -> Result<Held, OutOfMemory>
     held_of(alloc, parts_of(alloc, records)?)
 }
 
-fn counters_of(meta: &Meta) -> Counters
-    ensures { result ≡ counters_of meta.now }
-{
-    Counters {
-        events: meta.events,
-        next_report: meta.next_report,
-        next_deferral: meta.next_deferral,
-        next_release: meta.next_release,
-        next_kept: meta.next_kept,
-    }
-}
-
 fn content_with(alloc: Global, tables: Tables, held: Held) -> Content
     ensures { state_of result ≡ spec.state_held tables held }
 {
@@ -90,7 +78,7 @@ fn content_with(alloc: Global, tables: Tables, held: Held) -> Content
         Some(meta) => Content {
             tables,
             moment: meta.moment,
-            counters: counters_of(&meta),
+            counters: meta.counters,
             reports,
             deferrals,
             releases,

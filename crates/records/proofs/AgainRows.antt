@@ -48,15 +48,15 @@ version_again version first = rw (le-leb 1 version first) refl
 -- ---- records
 
 in_again : (r : Record) → IsRecord r → spec.record_in (kind_of r) (key_of r) (body_data r) ≡ Some r
-unfolding body_data IsRecord spec.floors_at spec.numbers_at spec.stamp_of spec.opening_of
+unfolding body_data IsRecord spec.floors_at spec.counters_at spec.stamp_of spec.opening_of
 in_again (Meta m) is =
     rw (
       moment_again m.moment is.moment,
-      id_again m.events is.events,
-      id_again m.next_report is.next_report,
-      id_again m.next_deferral is.next_deferral,
-      id_again m.next_release is.next_release,
-      id_again m.next_kept is.next_kept,
+      id_again m.counters.events is.counters.events,
+      id_again m.counters.next_report is.counters.next_report,
+      id_again m.counters.next_deferral is.counters.next_deferral,
+      id_again m.counters.next_release is.counters.next_release,
+      id_again m.counters.next_kept is.counters.next_kept,
       floors_read m.floors is.floors is.rising,
     ) refl
 in_again (Report r) is = rw (moment_again r.received is.received, text_lossy r.text is.text, is_utf8-from_IsUtf8 r.text is.text, report_passes r is) refl

@@ -13,6 +13,7 @@ use Rattle.kept_releases.proofs.ReleaseLaws.{person_utf8}
 use Rattle.records.specs.Bodies.{with_floors}
 use Rattle.records.specs.Reading.{floor_of, floors_in}
 use Rattle.call_json.specs.Forms.{IsFloor, FloorsRise}
+use Rattle.desk_state.proofs.FloorForms.{all_later}
 use Rattle.records.specs.Valid.{comes_before, are_rising}
 use Rattle.records.proofs.NameLaws.{person_lossy, person_known}
 use Rattle.call_json.proofs.Joined.{joined, joined_again, joined_nothing, put_last}
@@ -73,11 +74,6 @@ next_rises name (f ∷ fs) all = ap is_lt all.0
 pub rising_tested : (fs : List Floor) → FloorsRise fs → are_rising fs ≡ true
 rising_tested [] rising = refl
 rising_tested (f ∷ fs) rising = rw (next_rises f.actor fs rising.0, rising_tested fs rising.1) refl
-
-all_later : (name key : List ℕ) (fs : List Floor) → slice_cmp nat_cmp name key ≡ Less → AllByRecursion (λ (g : Floor). slice_cmp nat_cmp key g.actor ≡ Less) fs
-    → AllByRecursion (λ (g : Floor). slice_cmp nat_cmp name g.actor ≡ Less) fs
-all_later name key [] below all = tt
-all_later name key (f ∷ fs) below all = (nat_list_cmp_total.trans name key f.actor below all.0, all_later name key fs below all.1)
 
 first_before : (name : List ℕ) (fs : List Floor) → comes_before name fs ≡ true → FloorsRise fs → AllByRecursion (λ (g : Floor). slice_cmp nat_cmp name g.actor ≡ Less) fs
 first_before name [] is rising = tt

@@ -29,10 +29,9 @@ use Rattle.kept_releases.specs.Kept.{IsKept}
 use Rattle.kept_releases.specs.Releases.{bool_at, person, person_at, release_of}
 use Rattle.kept_releases.proofs.ReleaseForms.{IsPerson, person_formed, person_at_formed, release_kept, release_named}
 use Rattle.records.specs.Reading as read
-use Rattle.records.specs.Valid.{IsMeta, IsReport, IsDeferral, IsKeptReply, AreFindings, IsKeptAlert, IsRecord, are_rising, is_report, are_among}
+use Rattle.records.specs.Valid.{AreIds, IsMeta, IsReport, IsDeferral, IsKeptReply, AreFindings, IsKeptAlert, IsRecord, are_rising, is_report, are_among}
 use Rattle.records.specs.declared.alert_rows.Opening.{Opening}
 use Rattle.records.specs.declared.kept_rows.Stamp.{Stamp}
-use Rattle.records.specs.declared.meta_rows.Numbers.{Numbers}
 use Rattle.records.specs.declared.record.KeptReport.{KeptReport}
 use Rattle.records.specs.declared.record.Record.TheVariants.{Meta, Report, Deferral, Release, Kept, Alert}
 use Rattle.records.proofs.FloorLaws.{rising_from_test}
@@ -82,36 +81,25 @@ floors_at_formed : (d : Data) → IfSome (read.floors_at d) AreFloors
 unfolding read.floors_at
 floors_at_formed d = then_if read.floors_of (get (codes "floors") d) AreFloors floors_of_formed
 
-record AreNumbers (n : Numbers) : Type 0 where
-  events : IsId n.events
-  next_report : IsId n.next_report
-  next_deferral : IsId n.next_deferral
-  next_release : IsId n.next_release
-  next_kept : IsId n.next_kept
-
-numbers_formed : (d : Data) → IfSome (read.numbers_at d) AreNumbers
-unfolding read.numbers_at
-numbers_formed d =
-    bind_if (id_at (codes "events") d) _ IsId AreNumbers (id_formed (codes "events") d) (λ events one.
-    bind_if (id_at (codes "next_report") d) _ IsId AreNumbers (id_formed (codes "next_report") d) (λ next_report two.
-    bind_if (id_at (codes "next_deferral") d) _ IsId AreNumbers (id_formed (codes "next_deferral") d) (λ next_deferral three.
-    bind_if (id_at (codes "next_release") d) _ IsId AreNumbers (id_formed (codes "next_release") d) (λ next_release four.
-    bind_if (id_at (codes "next_kept") d) _ IsId AreNumbers (id_formed (codes "next_kept") d) (λ next_kept five.
+counters_formed : (d : Data) → IfSome (read.counters_at d) AreIds
+unfolding read.counters_at
+counters_formed d =
+    bind_if (id_at (codes "events") d) _ IsId AreIds (id_formed (codes "events") d) (λ events one.
+    bind_if (id_at (codes "next_report") d) _ IsId AreIds (id_formed (codes "next_report") d) (λ next_report two.
+    bind_if (id_at (codes "next_deferral") d) _ IsId AreIds (id_formed (codes "next_deferral") d) (λ next_deferral three.
+    bind_if (id_at (codes "next_release") d) _ IsId AreIds (id_formed (codes "next_release") d) (λ next_release four.
+    bind_if (id_at (codes "next_kept") d) _ IsId AreIds (id_formed (codes "next_kept") d) (λ next_kept five.
     record { events = one; next_report = two; next_deferral = three; next_release = four; next_kept = five })))))
 
 meta_formed : (key : ℕ) (d : Data) → IfSome (read.meta_in key d) IsMeta
 meta_formed key d =
     under (key == 0) (read.meta_of d) IsMeta (λ nought.
     bind_if (moment_at (codes "now") d) _ IsMoment IsMeta (moment_formed (codes "now") d) (λ moment at.
-    bind_if (read.numbers_at d) _ AreNumbers IsMeta (numbers_formed d) (λ n are.
+    bind_if (read.counters_at d) _ AreIds IsMeta (counters_formed d) (λ counters are.
     bind_if (read.floors_at d) _ AreFloors IsMeta (floors_at_formed d) (λ floors good.
     under (read.is_meta d) _ IsMeta (λ is. record {
       moment = at;
-      events = are.events;
-      next_report = are.next_report;
-      next_deferral = are.next_deferral;
-      next_release = are.next_release;
-      next_kept = are.next_kept;
+      counters = are;
       floors = good.forms;
       rising = good.rising;
     })))))

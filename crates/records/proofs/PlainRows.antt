@@ -35,10 +35,10 @@ unfolding body_data IsRecord
 body_plain (Meta m) is = (
   order_of (meta_members m) refl,
   (
-    id_plain m.events is.events,
+    id_plain m.counters.events is.counters.events,
     (
       floors_plain m.floors is.floors is.rising,
-      (id_plain m.next_deferral is.next_deferral, (id_plain m.next_kept is.next_kept, (id_plain m.next_release is.next_release, (id_plain m.next_report is.next_report, (tt, ((omega arith), tt)))))),
+      (id_plain m.counters.next_deferral is.counters.next_deferral, (id_plain m.counters.next_kept is.counters.next_kept, (id_plain m.counters.next_release is.counters.next_release, (id_plain m.counters.next_report is.counters.next_report, (tt, ((omega arith), tt)))))),
     ),
   ),
 )

@@ -15,7 +15,7 @@ use Rattle.kept_releases.specs.Rows.{release_data, ReleaseHasMoments}
 use Rattle.records.specs.Kinds.{kind_of, key_of}
 use Rattle.records.specs.declared.record.KeptAlert.{KeptAlert}
 use Rattle.records.specs.declared.record.KeptReport.{KeptReport}
-use Rattle.records.specs.declared.record.Meta.{Meta as Counters}
+use Rattle.records.specs.declared.record.Meta.{Meta as MetaOf}
 use Rattle.records.specs.declared.record.Record.{Record}
 use Rattle.records.specs.declared.record.Record.TheVariants.{Meta, Report, Deferral, Release, Kept, Alert}
 
@@ -28,14 +28,14 @@ with_floors ms (f ∷ fs) = with_floors (put (utf8_lossy f.actor) (count f.numbe
 unfoldable pub floors_data : List Floor → Data
 floors_data floors = object (with_floors no_members floors)
 
-abbrev pub meta_members : Counters → Members
+abbrev pub meta_members : MetaOf → Members
 meta_members m =
-    member (codes "events") (count m.events)
+    member (codes "events") (count m.counters.events)
     (member (codes "floors") (floors_data m.floors)
-    (member (codes "next_deferral") (count m.next_deferral)
-    (member (codes "next_kept") (count m.next_kept)
-    (member (codes "next_release") (count m.next_release)
-    (member (codes "next_report") (count m.next_report)
+    (member (codes "next_deferral") (count m.counters.next_deferral)
+    (member (codes "next_kept") (count m.counters.next_kept)
+    (member (codes "next_release") (count m.counters.next_release)
+    (member (codes "next_report") (count m.counters.next_report)
     (member (codes "now") (moment_data m.moment)
     (member (codes "version") (count 1) no_members)))))))
 

@@ -18,7 +18,8 @@ use Rattle.records.specs.declared.faults.RowWhy.TheVariants.{NoMeta, Orphan, Ove
 use Rattle.records.specs.declared.limits.Counts.{Counts}
 use Rattle.records.specs.declared.record.KeptAlert.{KeptAlert}
 use Rattle.records.specs.declared.record.KeptReport.{KeptReport}
-use Rattle.records.specs.declared.record.Meta.{Meta as Counters}
+use Rattle.desk_state.specs.declared.counters.Counters.{Counters}
+use Rattle.records.specs.declared.record.Meta.{Meta as MetaOf}
 use Rattle.records.specs.declared.record.Record.{Record}
 use Rattle.records.specs.declared.record.Record.TheVariants.{Meta, Report, Deferral, Release, Kept, Alert}
 
@@ -60,7 +61,7 @@ counts_of rs = record {
 
 -- one more is too many after so many, or it counts too many events
 abbrev pub is_past : Counts → Record → Bool
-is_past before (Meta m) = nat_le 999_999_999_999_999 m.events
+is_past before (Meta m) = nat_le 999_999_999_999_999 m.counters.events
 is_past before (Report r) = nat_le 200_000 before.reports
 is_past before (Deferral d) = nat_le 50_000 before.deferrals
 is_past before (Release r) = nat_le 20_000 before.releases
@@ -125,18 +126,20 @@ is_late events (Some v) = nat_lt events v.number
 
 -- a next number that more events would have needed
 abbrev pub outruns : Counters → Bool
-outruns m = nat_lt (m.events + 1) m.next_report || nat_lt (m.events + 1) m.next_deferral || nat_lt (m.events + 1) m.next_release || nat_lt (m.events + 1) m.next_kept
+outruns c =
+    nat_lt (c.events + 1) c.next_report || nat_lt (c.events + 1) c.next_deferral || nat_lt (c.events + 1) c.next_release
+    || nat_lt (c.events + 1) c.next_kept
 
 abbrev pub is_ahead : Counters → Record → Bool
-is_ahead m (Meta own) = outruns own
-is_ahead m (Report r) = nat_le m.next_report r.id
-is_ahead m (Deferral d) = nat_le m.next_deferral d.id
-is_ahead m (Release r) = nat_le m.next_release r.id || is_late m.events r.pending || is_late m.events r.active
-is_ahead m (Kept k) = nat_le m.next_kept k.id
-is_ahead m (Alert a) = nat_lt m.events a.version
+is_ahead c (Meta m) = outruns m.counters
+is_ahead c (Report r) = nat_le c.next_report r.id
+is_ahead c (Deferral d) = nat_le c.next_deferral d.id
+is_ahead c (Release r) = nat_le c.next_release r.id || is_late c.events r.pending || is_late c.events r.active
+is_ahead c (Kept k) = nat_le c.next_kept k.id
+is_ahead c (Alert a) = nat_lt c.events a.version
 
 -- the first meta row, and its place
-abbrev pub meta_from : ℕ → List Record → Option (ℕ × Counters)
+abbrev pub meta_from : ℕ → List Record → Option (ℕ × MetaOf)
 meta_from place [] = None
 meta_from place (Meta m ∷ rs) = Some (place, m)
 meta_from place (Report r ∷ rs) = meta_from (place + 1) rs
@@ -149,9 +152,9 @@ abbrev pub beside : Option ℕ → ℕ → Option (ℕ × ℕ)
 beside None two = None
 beside (Some one) two = Some (one, two)
 
-abbrev pub ahead_of : List Record → Option (ℕ × Counters) → Option (ℕ × ℕ)
+abbrev pub ahead_of : List Record → Option (ℕ × MetaOf) → Option (ℕ × ℕ)
 ahead_of rs None = None
-ahead_of rs (Some m) = beside (place_of (is_ahead m.1) rs) m.0
+ahead_of rs (Some m) = beside (place_of (is_ahead m.1.counters) rs) m.0
 
 -- ---- all of them, in their order
 

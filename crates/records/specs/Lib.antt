@@ -5,3 +5,4 @@ pub mod Reading
 pub mod Faults
 pub mod Marks
 pub mod Checks
+pub mod Lent

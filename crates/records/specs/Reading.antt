@@ -19,12 +19,12 @@ use Rattle.kept_releases.specs.Findings.{findings_of}
 use Rattle.kept_releases.specs.Releases.{bool_at, person, person_at, release_of}
 use Rattle.records.specs.Bodies.{row_of}
 use Rattle.records.specs.Valid.{IsRecord, are_rising, is_report, are_among}
-use Rattle.records.specs.declared.meta_rows.Numbers.{Numbers}
 use Rattle.records.specs.declared.alert_rows.Opening.{Opening}
 use Rattle.records.specs.declared.kept_rows.Stamp.{Stamp}
 use Rattle.records.specs.declared.record.KeptAlert.{KeptAlert}
 use Rattle.records.specs.declared.record.KeptReport.{KeptReport}
-use Rattle.records.specs.declared.record.Meta.{Meta as Counters}
+use Rattle.desk_state.specs.declared.counters.Counters.{Counters}
+use Rattle.records.specs.declared.record.Meta.{Meta as MetaOf}
 use Rattle.records.specs.declared.record.Record.{Record}
 use Rattle.records.specs.declared.record.Record.TheVariants.{Meta, Report, Deferral, Release, Kept, Alert}
 use Rattle.records.specs.declared.reading.RowFault.{RowFault}
@@ -53,25 +53,14 @@ floors_of d = as_object d >>= λ ms. floors_in ms >>= λ floors. in_order floors
 unfoldable pub floors_at : Data → Option (List Floor)
 floors_at d = option_and_then floors_of (get (codes "floors") d)
 
-unfoldable pub numbers_at : Data → Option Numbers
-numbers_at d =
+unfoldable pub counters_at : Data → Option Counters
+counters_at d =
     id_at (codes "events") d >>= λ events.
     id_at (codes "next_report") d >>= λ next_report.
     id_at (codes "next_deferral") d >>= λ next_deferral.
     id_at (codes "next_release") d >>= λ next_release.
     id_at (codes "next_kept") d >>= λ next_kept.
     Some (record { events = events; next_report = next_report; next_deferral = next_deferral; next_release = next_release; next_kept = next_kept })
-
-abbrev pub meta_with : ℕ → Numbers → List Floor → Counters
-meta_with moment c floors = record {
-  moment = moment;
-  events = c.events;
-  next_report = c.next_report;
-  next_deferral = c.next_deferral;
-  next_release = c.next_release;
-  next_kept = c.next_kept;
-  floors = floors;
-}
 
 abbrev pub is_one : Option ℕ → Bool
 is_one None = false
@@ -81,12 +70,12 @@ is_one (Some version) = version == 1
 abbrev pub is_meta : Data → Bool
 is_meta d = has_members 8 d && is_one (id_at (codes "version") d)
 
-abbrev pub meta_of : Data → Option Counters
+abbrev pub meta_of : Data → Option MetaOf
 meta_of d =
-    moment_at (codes "now") d >>= λ moment. numbers_at d >>= λ c. floors_at d >>= λ floors.
-    if is_meta d then Some (meta_with moment c floors) else None
+    moment_at (codes "now") d >>= λ moment. counters_at d >>= λ counters. floors_at d >>= λ floors.
+    if is_meta d then Some (record { moment = moment; counters = counters; floors = floors }) else None
 
-abbrev pub meta_in : ℕ → Data → Option Counters
+abbrev pub meta_in : ℕ → Data → Option MetaOf
 meta_in key d = if key == 0 then meta_of d else None
 
 -- ---- reports and deferrals

@@ -18,18 +18,23 @@ use Rattle.call_json.specs.Digests.{IsDigest}
 use Rattle.kept_releases.specs.Kept.{IsKept}
 use Rattle.records.specs.declared.record.KeptAlert.{KeptAlert}
 use Rattle.records.specs.declared.record.KeptReport.{KeptReport}
-use Rattle.records.specs.declared.record.Meta.{Meta as Counters}
+use Rattle.desk_state.specs.declared.counters.Counters.{Counters}
+use Rattle.records.specs.declared.record.Meta.{Meta as MetaOf}
 use Rattle.records.specs.declared.record.Record.{Record}
 use Rattle.records.specs.declared.record.Record.TheVariants.{Meta, Report, Deferral, Release, Kept, Alert}
 
--- counters of at most 10^15, and floors of persons
-pub record IsMeta (m : Counters) : Type 0 where
+-- numbers of at most 10^15
+pub record AreIds (c : Counters) : Type 0 where
+  pub events : IsId c.events
+  pub next_report : IsId c.next_report
+  pub next_deferral : IsId c.next_deferral
+  pub next_release : IsId c.next_release
+  pub next_kept : IsId c.next_kept
+
+-- counters, and floors of persons
+pub record IsMeta (m : MetaOf) : Type 0 where
   pub moment : IsMoment m.moment
-  pub events : IsId m.events
-  pub next_report : IsId m.next_report
-  pub next_deferral : IsId m.next_deferral
-  pub next_release : IsId m.next_release
-  pub next_kept : IsId m.next_kept
+  pub counters : AreIds m.counters
   pub floors : AllByRecursion IsFloor m.floors
   pub rising : FloorsRise m.floors
 

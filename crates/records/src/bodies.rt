@@ -5,9 +5,10 @@ ghost use Rattle.serde_json.specs.Data.{object, no_members};
 ghost use Rattle.serde_json.specs.View.{view, members_view};
 ghost use Rattle.serde_json.specs.Written.{compact_text};
 ghost use Rattle.records.specs.Bodies as spec;
+ghost use Rattle.records.specs.Lent.{alert_lent, lent, meta_lent, report_lent};
 
 use crate::kinds::{key_of, kind_of};
-use crate::record::{KeptAlert, KeptReport, Meta, Record};
+use crate::lent::{AlertRef, MetaRef, RecordRef, ReportRef};
 use asks::{Floor, Floors, KeptReply};
 use call_json::{Members, done_value, with_count, with_digest, with_moment, with_text, with_value};
 use deferrals::Deferral;
@@ -42,24 +43,24 @@ fn floors_value(alloc: Global, floors: &Floors) -> Result<Value, OutOfMemory>
     Ok(Value::Object(floor_members(alloc, floors.as_slice())?))
 }
 
-fn meta_members(alloc: Global, meta: &Meta) -> Result<Members, OutOfMemory>
+fn meta_members(alloc: Global, meta: &MetaRef<'_>) -> Result<Members, OutOfMemory>
     requires { IsMoment meta.now.moment }
-    ensures { IfOk result (λ all. members_view all.entries ≡ spec.meta_members meta.now) }
+    ensures { IfOk result (λ all. members_view all.entries ≡ spec.meta_members (meta_lent meta.now)) }
 {
-    let members = with_count(alloc, Map::new(alloc), "events", meta.events)?;
-    let floors = floors_value(alloc, &meta.floors)?;
+    let members = with_count(alloc, Map::new(alloc), "events", meta.counters.events)?;
+    let floors = floors_value(alloc, meta.floors)?;
     let members = with_value(alloc, members, "floors", floors)?;
-    let members = with_count(alloc, members, "next_deferral", meta.next_deferral)?;
-    let members = with_count(alloc, members, "next_kept", meta.next_kept)?;
-    let members = with_count(alloc, members, "next_release", meta.next_release)?;
-    let members = with_count(alloc, members, "next_report", meta.next_report)?;
+    let members = with_count(alloc, members, "next_deferral", meta.counters.next_deferral)?;
+    let members = with_count(alloc, members, "next_kept", meta.counters.next_kept)?;
+    let members = with_count(alloc, members, "next_release", meta.counters.next_release)?;
+    let members = with_count(alloc, members, "next_report", meta.counters.next_report)?;
     let members = with_moment(alloc, members, "now", meta.moment)?;
     with_count(alloc, members, "version", 1)
 }
 
-fn report_members(alloc: Global, report: &KeptReport) -> Result<Members, OutOfMemory>
+fn report_members(alloc: Global, report: &ReportRef<'_>) -> Result<Members, OutOfMemory>
     requires { IsMoment report.now.received }
-    ensures { IfOk result (λ all. members_view all.entries ≡ spec.report_members report.now) }
+    ensures { IfOk result (λ all. members_view all.entries ≡ spec.report_members (report_lent report.now)) }
 {
     let members = with_moment(alloc, Map::new(alloc), "received", report.received)?;
     with_text(alloc, members, "text", report.text.bytes())
@@ -93,9 +94,9 @@ fn kept_members(alloc: Global, kept: &KeptReply) -> Result<Members, OutOfMemory>
     with_value(alloc, members, "reply", reply)
 }
 
-fn alert_members(alloc: Global, alert: &KeptAlert) -> Result<Members, OutOfMemory>
+fn alert_members(alloc: Global, alert: &AlertRef<'_>) -> Result<Members, OutOfMemory>
     requires { IsMoment alert.now.opened }
-    ensures { IfOk result (λ all. members_view all.entries ≡ spec.alert_members alert.now) }
+    ensures { IfOk result (λ all. members_view all.entries ≡ spec.alert_members (alert_lent alert.now)) }
 {
     let acknowledged = Value::Bool(alert.acknowledged);
     let members = with_value(alloc, Map::new(alloc), "acknowledged", acknowledged)?;
@@ -108,24 +109,24 @@ fn alert_members(alloc: Global, alert: &KeptAlert) -> Result<Members, OutOfMemor
 }
 
 #[tactic(auto, unfolding(crate::specs::Bodies::body_data))]
-fn body_value(alloc: Global, held: &Record) -> Result<Value, OutOfMemory>
-    requires { spec.HasMoments held.now }
-    ensures { IfOk result (λ v. view v ≡ spec.body_data held.now) }
+fn body_value(alloc: Global, held: &RecordRef<'_>) -> Result<Value, OutOfMemory>
+    requires { spec.HasMoments (lent held.now) }
+    ensures { IfOk result (λ v. view v ≡ spec.body_data (lent held.now)) }
 {
     match held {
-        Record::Meta(meta) => Ok(Value::Object(meta_members(alloc, meta)?)),
-        Record::Report(report) => Ok(Value::Object(report_members(alloc, report)?)),
-        Record::Deferral(deferral) => Ok(Value::Object(deferral_members(alloc, deferral)?)),
-        Record::Release(release) => release_value(alloc, release),
-        Record::Kept(kept) => Ok(Value::Object(kept_members(alloc, kept)?)),
-        Record::Alert(alert) => Ok(Value::Object(alert_members(alloc, alert)?)),
+        RecordRef::Meta(meta) => Ok(Value::Object(meta_members(alloc, meta)?)),
+        RecordRef::Report(report) => Ok(Value::Object(report_members(alloc, report)?)),
+        RecordRef::Deferral(deferral) => Ok(Value::Object(deferral_members(alloc, deferral)?)),
+        RecordRef::Release(release) => release_value(alloc, release),
+        RecordRef::Kept(kept) => Ok(Value::Object(kept_members(alloc, kept)?)),
+        RecordRef::Alert(alert) => Ok(Value::Object(alert_members(alloc, alert)?)),
     }
 }
 
 #[tactic(auto, using(crate::proofs::Whole::body_is_whole))]
-fn body_text(alloc: Global, held: &Record) -> Result<Text, OutOfMemory>
-    requires { spec.HasMoments held.now }
-    ensures { IfOk result (λ t. t ≡ compact_text (spec.body_data held.now)) }
+fn body_text(alloc: Global, held: &RecordRef<'_>) -> Result<Text, OutOfMemory>
+    requires { spec.HasMoments (lent held.now) }
+    ensures { IfOk result (λ t. t ≡ compact_text (spec.body_data (lent held.now))) }
 {
     let value = body_value(alloc, held)?;
     Ok(Text::from_vec(value.to_vec(alloc)?))
@@ -133,9 +134,9 @@ fn body_text(alloc: Global, held: &Record) -> Result<Text, OutOfMemory>
 
 /// The row of a record.
 #[tactic(auto, unfolding(crate::specs::Bodies::row_of))]
-pub fn row_of(alloc: Global, held: &Record) -> Result<Row, OutOfMemory>
-    requires { spec.HasMoments held.now }
-    ensures { IfOk result (λ row. row ≡ spec.row_of held.now) }
+pub fn row_of(alloc: Global, held: &RecordRef<'_>) -> Result<Row, OutOfMemory>
+    requires { spec.HasMoments (lent held.now) }
+    ensures { IfOk result (λ row. row ≡ spec.row_of (lent held.now)) }
 {
     Ok(Row {
         kind: kind_of(held),

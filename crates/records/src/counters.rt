@@ -3,6 +3,7 @@ ghost use Rattle.std.specs.Option.{option_map, option_copied};
 ghost use Rattle.records.specs.Faults as spec;
 
 use crate::record::{Meta, Record};
+use desk_state::Counters;
 use plan::Revision;
 
 fn is_late(events: u64, revision: Option<&Revision>) -> bool
@@ -14,39 +15,39 @@ fn is_late(events: u64, revision: Option<&Revision>) -> bool
     }
 }
 
-fn outruns(meta: &Meta) -> bool
-    ensures { result ≡ spec.outruns meta.now }
+fn outruns(counters: &Counters) -> bool
+    ensures { result ≡ spec.outruns counters.now }
 {
-    let bound = meta.events.saturating_add(1);
-    bound < meta.next_report
-        || bound < meta.next_deferral
-        || bound < meta.next_release
-        || bound < meta.next_kept
+    let bound = counters.events.saturating_add(1);
+    bound < counters.next_report
+        || bound < counters.next_deferral
+        || bound < counters.next_release
+        || bound < counters.next_kept
 }
 
-fn is_ahead(meta: &Meta, held: &Record) -> bool
-    ensures { result ≡ spec.is_ahead meta.now held.now }
+fn is_ahead(counters: &Counters, held: &Record) -> bool
+    ensures { result ≡ spec.is_ahead counters.now held.now }
 {
     match held {
-        Record::Meta(own) => outruns(own),
-        Record::Report(report) => meta.next_report <= report.id,
-        Record::Deferral(deferral) => meta.next_deferral <= deferral.id,
+        Record::Meta(meta) => outruns(&meta.counters),
+        Record::Report(report) => counters.next_report <= report.id,
+        Record::Deferral(deferral) => counters.next_deferral <= deferral.id,
         Record::Release(release) => {
-            meta.next_release <= release.id
-                || is_late(meta.events, release.pending.as_ref())
-                || is_late(meta.events, release.active.as_ref())
+            counters.next_release <= release.id
+                || is_late(counters.events, release.pending.as_ref())
+                || is_late(counters.events, release.active.as_ref())
         }
-        Record::Kept(kept) => meta.next_kept <= kept.id,
-        Record::Alert(alert) => meta.events < alert.version,
+        Record::Kept(kept) => counters.next_kept <= kept.id,
+        Record::Alert(alert) => counters.events < alert.version,
     }
 }
 
-fn first_ahead(meta: &Meta, records: &[Record]) -> Option<usize>
-    ensures value { result ≡ spec.place_of (spec.is_ahead meta.now) records.now }
+fn first_ahead(counters: &Counters, records: &[Record]) -> Option<usize>
+    ensures value { result ≡ spec.place_of (spec.is_ahead counters.now) records.now }
     ensures bound { IfSome result (λ place. place < length records.now) }
 {
     for (place, record) in records.iter().enumerate() {
-        if is_ahead(meta, record) {
+        if is_ahead(counters, record) {
             return Some(place);
         }
     }
@@ -71,6 +72,6 @@ pub(crate) fn ahead_of(records: &[Record]) -> Option<(usize, usize)>
     ensures bound { IfSome result (λ places. (places.0 < length records.now) × (places.1 < length records.now)) }
 {
     let (two, meta) = first_meta(records)?;
-    let one = first_ahead(meta, records)?;
+    let one = first_ahead(&meta.counters, records)?;
     Some((one, two))
 }

@@ -1,33 +1,34 @@
 ghost use Rattle.std.specs.Prelude.{◌≡◌, ◌≤◌};
 ghost use Rattle.records.specs.Kinds as spec;
+ghost use Rattle.records.specs.Lent.{lent};
 
-use crate::record::Record;
+use crate::lent::RecordRef;
 
 /// The kind of a record's row.
-pub(crate) fn kind_of(held: &Record) -> u8
-    ensures value { result ≡ spec.kind_of held.now }
+pub(crate) fn kind_of(held: &RecordRef<'_>) -> u8
+    ensures value { result ≡ spec.kind_of (lent held.now) }
     ensures bound { result ≤ 5 }
 {
     match held {
-        Record::Meta(_) => 0,
-        Record::Report(_) => 1,
-        Record::Deferral(_) => 2,
-        Record::Release(_) => 3,
-        Record::Kept(_) => 4,
-        Record::Alert(_) => 5,
+        RecordRef::Meta(_) => 0,
+        RecordRef::Report(_) => 1,
+        RecordRef::Deferral(_) => 2,
+        RecordRef::Release(_) => 3,
+        RecordRef::Kept(_) => 4,
+        RecordRef::Alert(_) => 5,
     }
 }
 
 /// The key of a record's row.
-pub(crate) fn key_of(held: &Record) -> u64
-    ensures { result ≡ spec.key_of held.now }
+pub(crate) fn key_of(held: &RecordRef<'_>) -> u64
+    ensures { result ≡ spec.key_of (lent held.now) }
 {
     match held {
-        Record::Meta(_) => 0,
-        Record::Report(report) => report.id,
-        Record::Deferral(deferral) => deferral.id,
-        Record::Release(release) => release.id,
-        Record::Kept(kept) => kept.id,
-        Record::Alert(alert) => alert.release,
+        RecordRef::Meta(_) => 0,
+        RecordRef::Report(report) => report.id,
+        RecordRef::Deferral(deferral) => deferral.id,
+        RecordRef::Release(release) => release.id,
+        RecordRef::Kept(kept) => kept.id,
+        RecordRef::Alert(alert) => alert.release,
     }
 }

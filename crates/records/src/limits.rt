@@ -18,7 +18,7 @@ fn is_past(before: Counts, held: &Record) -> bool
     ensures { result ≡ spec.is_past before held.now }
 {
     match held {
-        Record::Meta(meta) => meta.events >= 999_999_999_999_999,
+        Record::Meta(meta) => meta.counters.events >= 999_999_999_999_999,
         Record::Report(_) => before.reports >= 200_000,
         Record::Deferral(_) => before.deferrals >= 50_000,
         Record::Release(_) => before.releases >= 20_000,

@@ -33,7 +33,8 @@ pub(crate) struct Marks {
 fn own_mark(held: &Record) -> Mark
     ensures { result ≡ spec.own_mark held.now }
 {
-    (u64::from(kind_of(held)), key_of(held))
+    let held = held.lent();
+    (u64::from(kind_of(&held)), key_of(&held))
 }
 
 // When a report was observed or issued.

@@ -10,19 +10,9 @@ use crate::record::Meta;
 use asks::{Floor, Floors};
 use call_json::{Members, has_members, id_at, moment_at};
 use desk_io::{OutOfMemory, Text};
-use desk_time::Minute;
+use desk_state::Counters;
 use serde_json::Value;
 use std::alloc::Global;
-
-// The counters of the meta row.
-#[derive(Clone, Copy)]
-struct Numbers {
-    events: u64,
-    next_report: u64,
-    next_deferral: u64,
-    next_release: u64,
-    next_kept: u64,
-}
 
 fn request_in(value: &Value) -> Option<u64>
     ensures { result ≡ spec.request_in (view value.now) }
@@ -104,16 +94,16 @@ fn floors_at(alloc: Global, value: &Value) -> Result<Option<Floors>, OutOfMemory
     }
 }
 
-#[tactic(auto, unfolding(crate::specs::Reading::numbers_at))]
-fn numbers_at(value: &Value) -> Option<Numbers>
-    ensures { result ≡ spec.numbers_at (view value.now) }
+#[tactic(auto, unfolding(crate::specs::Reading::counters_at))]
+fn counters_at(value: &Value) -> Option<Counters>
+    ensures { result ≡ spec.counters_at (view value.now) }
 {
     let events = id_at("events", value)?;
     let next_report = id_at("next_report", value)?;
     let next_deferral = id_at("next_deferral", value)?;
     let next_release = id_at("next_release", value)?;
     let next_kept = id_at("next_kept", value)?;
-    Some(Numbers {
+    Some(Counters {
         events,
         next_report,
         next_deferral,
@@ -131,21 +121,7 @@ fn is_meta(value: &Value) -> bool
     }
 }
 
-fn meta_with(moment: Minute, numbers: Numbers, floors: Floors) -> Meta
-    ensures { result ≡ spec.meta_with moment numbers floors }
-{
-    Meta {
-        moment,
-        events: numbers.events,
-        next_report: numbers.next_report,
-        next_deferral: numbers.next_deferral,
-        next_release: numbers.next_release,
-        next_kept: numbers.next_kept,
-        floors,
-    }
-}
-
-/// The counters that the JSON of a meta row under that key says.
+/// The moment, the counters and the floors that the JSON of a meta row under that key says.
 pub(crate) fn meta_in(alloc: Global, key: u64, value: &Value) -> Result<Option<Meta>, OutOfMemory>
     ensures { IfOk result (λ meta. meta ≡ spec.meta_in key (view value.now)) }
 {
@@ -155,11 +131,15 @@ pub(crate) fn meta_in(alloc: Global, key: u64, value: &Value) -> Result<Option<M
     let Some(moment) = moment_at("now", value) else {
         return Ok(None);
     };
-    let Some(numbers) = numbers_at(value) else {
+    let Some(counters) = counters_at(value) else {
         return Ok(None);
     };
     match floors_at(alloc, value)? {
-        Some(floors) if is_meta(value) => Ok(Some(meta_with(moment, numbers, floors))),
+        Some(floors) if is_meta(value) => Ok(Some(Meta {
+            moment,
+            counters,
+            floors,
+        })),
         _ => Ok(None),
     }
 }

@@ -14,7 +14,8 @@ use plan::{Release, is_active};
 fn is_same_row(one: &Record, two: &Record) -> bool
     ensures { result ≡ spec.is_same_row one.now two.now }
 {
-    kind_of(one) == kind_of(two) && key_of(one) == key_of(two)
+    let (one, two) = (one.lent(), two.lent());
+    kind_of(&one) == kind_of(&two) && key_of(&one) == key_of(&two)
 }
 
 // Whether two reports, which were observed or issued at these minutes, have the same text and minute.

@@ -152,7 +152,7 @@ fn if_has(alloc: Global, row: &Row, found: Record) -> Result<Option<Record>, Out
     requires { HasMoments found }
     ensures { IfOk result (λ r. r ≡ spec.if_has row.now found) }
 {
-    if is_same_row(&row_of(alloc, &found)?, row) {
+    if is_same_row(&row_of(alloc, &found.lent())?, row) {
         Ok(Some(found))
     } else {
         Ok(None)

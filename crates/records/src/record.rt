@@ -1,6 +1,7 @@
 use asks::{Floors, KeptReply};
 use deferrals::Deferral;
 use desk_io::Text;
+use desk_state::Counters;
 use desk_time::Minute;
 use plan::{Findings, Release};
 
@@ -21,21 +22,12 @@ pub enum Record {
     Alert(KeptAlert),
 }
 
-/// The moment and the counters of the desk.
+/// The moment, the counters and the floors of the desk.
 #[derive(Debug, Drop)]
 pub struct Meta {
     /// The moment of the last event.
     pub moment: Minute,
-    /// How many events there have been.
-    pub events: u64,
-    /// The number that the next report gets.
-    pub next_report: u64,
-    /// The number that the next deferral gets.
-    pub next_deferral: u64,
-    /// The number that the next release gets.
-    pub next_release: u64,
-    /// The number under which the next reply is kept.
-    pub next_kept: u64,
+    pub counters: Counters,
     /// The persons some of whose replies are kept no more, in byte order.
     pub floors: Floors,
 }
