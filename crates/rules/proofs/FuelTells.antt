@@ -1,5 +1,5 @@
 -- What the tests of the rules on fuel tell of a leg (14 CFR 121.639, 121.645).
-use Rattle.std.proofs.Common.{◌≡◌, ℕ, ◌+◌, ◌*◌, ◌/◌, ◌<◌, ◌≤◌, max, Bool, true, false, not, ◌&&◌, ◌||◌, if◌then◌else◌, List, [], ◌∷◌, refl, ap, sym, ◌∙◌, arith}
+use Rattle.std.proofs.Common.{◌≡◌, ℕ, ◌+◌, ◌*◌, ◌/◌, ◌≤◌, Bool, true, false, not, ◌&&◌, ◌||◌, if◌then◌else◌, List, [], ◌∷◌, refl, sym, ◌∙◌, arith}
 use Rattle.std.specs.Prelude.{nat_lt}
 use Rattle.std.specs.List.{All}
 use Rattle.std.proofs.lemmas.List.Elements.{All-nil, All-cons, All-head, All-tail, All-weaker}
@@ -9,13 +9,13 @@ use Rattle.plan.specs.declared.flights.Leg.{Leg}
 use Rattle.plan.specs.declared.flights.Alternate.{Alternate}
 use Rattle.fuel.specs.declared.sums.Basis.{Basis}
 use Rattle.fuel.specs.declared.sums.Basis.TheVariants as basis
-use Rattle.fuel.specs.Sums.{most_fuel, alternate_fuel, fuel_for, tenth_for, required}
+use Rattle.fuel.specs.Sums.{most_fuel, alternate_fuel, required}
 use Rattle.rules.specs.Circumstances.{Case}
 use Rattle.rules.specs.DestinationAlternates.{is_domestic, is_flag, lists_none, needs_alternate, is_free}
-use Rattle.rules.specs.Fuel.{is_within_states, does_without, basis_of, counts_alternate, required_fuel, is_short_domestic, is_short_flag}
+use Rattle.rules.specs.Fuel.{is_within_states, counts_alternate, is_short_domestic, is_short_flag}
 use Rattle.rules.specs.Regulation.{NeedsAlternate, IsWithinMinimum, HasCruiseReserve, HasHoldingReserve, GoesWithout, HasFlagFuel}
-use Rattle.rules.proofs.Tells.{Tells, tells_same, tells_and, tells_true, tells_unless, tells_not_less}
-use Rattle.rules.proofs.SectionTells.{domestic_tells, flag_tells, lists_none_tells, needed_tells}
+use Rattle.rules.proofs.Tells.{Tells, tells_same, tells_and, tells_true, tells_not_less}
+use Rattle.rules.proofs.SectionTells.{lists_none_tells, needed_tells}
 
 -- with the greatest fuel to an alternate, and so with that to each
 each_within : (rest minimum : ℕ) (listed : List Alternate) → rest + most_fuel listed ≤ minimum → All (λ it. rest + it.fuel ≤ minimum) listed

@@ -1,8 +1,7 @@
 -- Findings are silent of a rule and a leg exactly where the leg does as the section asks.
-use Rattle.std.proofs.Common.{◌≡◌, ◌↔◌, ◌⊎◌, inl, inr, ℕ, zero, suc, ◌+◌, ◌<◌, Bool, true, false, not, ◌&&◌, if◌then◌else◌, List, [], ◌∷◌, ◌++◌, length, get_or, Contains, Option, None, Some, append-nil, refl, ap, sym, subst, ◌∙◌, arith}
-use Rattle.std.specs.Prelude.{map, filter, nat_lt}
+use Rattle.std.proofs.Common.{◌≡◌, ◌↔◌, inl, inr, ℕ, zero, suc, ◌+◌, ◌<◌, Bool, true, false, not, ◌&&◌, if◌then◌else◌, List, [], ◌∷◌, ◌++◌, length, get_or, Contains, Option, None, Some, append-nil, refl, ap, sym, subst, ◌∙◌, arith}
+use Rattle.std.specs.Prelude.{map, filter}
 use Rattle.std.specs.List.{All, AllByRecursion}
-use Rattle.std.specs.Option.{option_map}
 use Rattle.std.proofs.lemmas.List.Elements.{All-nil, All-cons, All-head, All-tail}
 use Rattle.stations.specs.Station.{Station}
 use Rattle.ops_tables.specs.declared.rows.TypeRow.{TypeRow}
@@ -14,7 +13,6 @@ use Rattle.plan.specs.declared.flights.Plan.{Plan}
 use Rattle.plan.specs.declared.flights.Leg.{Leg}
 use Rattle.plan.specs.declared.flights.Alternate.{Alternate}
 use Rattle.plan.specs.declared.flights.TakeoffAlternate.{TakeoffAlternate}
-use Rattle.plan.specs.declared.findings.Finding.{Finding}
 use Rattle.plan.specs.declared.findings.Rule.{Rule}
 use Rattle.plan.specs.declared.findings.Rule.TheVariants.{No1, No2, No3, No4, No5, No6, No7, No8, No9, No10, No11, No12, No13, No14, No15, No16, No17, No18, No19}
 use Rattle.plan.specs.declared.release.Phase.{Phase}
@@ -28,12 +26,12 @@ use Rattle.rules.specs.TakeoffAlternates.{lacks_takeoff_alternate, has_far_takeo
 use Rattle.rules.specs.Weather.{is_below_landing}
 use Rattle.rules.specs.Equipment.{is_limiting, is_overdue, is_barred, is_barred_takeoff, barred}
 use Rattle.rules.specs.Fuel.{is_short_domestic, is_short_flag, is_underfilled}
-use Rattle.rules.specs.Time.{is_late, late_places}
+use Rattle.rules.specs.Time.{is_late}
 use Rattle.rules.specs.Judgement.{is_of_departure, places_of, places_at, places_in_case, places_for, case_for, finding, findings_of, findings_of_tables, tables_finding, leg_numbered, FailsAt, Fails, IsTrueOf}
 use Rattle.rules.specs.Regulation.{IsSilent, AllowsAlternate, IsAllowed, ArrivesBeforeRepair, MayUseAirports, FollowsTime, FollowsSections, FollowsDeparture, IsJudged, FollowRegulation}
 use Rattle.rules.proofs.Laws.{findings_are_true, findings_name_all}
 use Rattle.rules.proofs.Order.{no_place}
-use Rattle.rules.proofs.Tells.{Tells, told_not, refuted, tells_same, tells_not_less}
+use Rattle.rules.proofs.Tells.{Tells, told_not, refuted, tells_not_less}
 use Rattle.rules.proofs.SectionTells as section
 use Rattle.rules.proofs.FuelTells.{domestic_fuel_tells, flag_fuel_tells}
 

@@ -1,15 +1,14 @@
 -- What the tests of the rules tell of a leg, in the words of their sections.
-use Rattle.std.proofs.Common.{◌≡◌, ◌⊎◌, inl, inr, ℕ, zero, suc, ◌+◌, ◌*◌, ◌-◌, ◌/◌, ◌<◌, ◌≤◌, ◌==◌, Bool, true, false, not, ◌&&◌, ◌||◌, if◌then◌else◌, List, [], ◌∷◌, length, Option, None, Some, refl, ap, sym, subst, ◌∙◌, eq-eqb, arith}
-use Rattle.std.specs.Prelude.{nat_le, nat_lt, is_none, Any}
+use Rattle.std.proofs.Common.{◌≡◌, ℕ, ◌+◌, ◌*◌, ◌-◌, ◌/◌, ◌<◌, ◌≤◌, ◌==◌, Bool, true, false, not, ◌&&◌, ◌||◌, if◌then◌else◌, List, [], ◌∷◌, length, Option, None, Some, refl, ap, sym, subst, ◌∙◌, eq-eqb, arith}
+use Rattle.std.specs.Prelude.{nat_le, nat_lt, is_none}
 use Rattle.std.specs.List.{All, list_any}
 use Rattle.std.proofs.lemmas.Bool.{eqb-true, leb-true, leb-false}
-use Rattle.std.proofs.lemmas.List.Elements.{All-nil, All-cons, All-head, All-tail, All-weaker}
 use Rattle.stations.specs.Station.{Station}
 use Rattle.stations.specs.declared.pair.Pair.{Pair}
 use Rattle.stations.specs.Pair.{raised}
 use Rattle.codes.specs.Minima.{is_met, meets}
 use Rattle.ops_tables.specs.declared.rows.MelRow.{MelRow}
-use Rattle.ops_tables.specs.Tables.{miles_of, route_free, item_of, are_paired, may_use}
+use Rattle.ops_tables.specs.Tables.{miles_of, route_free, item_of, are_paired}
 use Rattle.plan.specs.declared.flights.Kind.{Kind}
 use Rattle.plan.specs.declared.flights.Kind.TheVariants.{Domestic, Flag}
 use Rattle.plan.specs.declared.flights.Leg.{Leg}
@@ -17,13 +16,12 @@ use Rattle.plan.specs.declared.flights.Alternate.{Alternate}
 use Rattle.plan.specs.declared.flights.TakeoffAlternate.{TakeoffAlternate}
 use Rattle.plan.specs.declared.release.Phase.{Phase}
 use Rattle.plan.specs.declared.release.Phase.TheVariants.{Drafted, Ready, Flying, Stopped, Completed, Cancelled}
-use Rattle.alternates.specs.Needs.{needs_takeoff, range, in_range, domestic_floor, misses, is_long, needs_destination, is_marginal}
+use Rattle.alternates.specs.Needs.{needs_takeoff, range, in_range, misses, is_long, needs_destination, is_marginal}
 use Rattle.airport_minima.specs.Floor.{flag_floor}
-use Rattle.deferrals.specs.Due.{due, days_allowed, LeavesDays}
+use Rattle.deferrals.specs.Due.{days_allowed}
 use Rattle.deferrals.specs.declared.items.Deferral.{Deferral}
 use Rattle.deferrals.proofs.DueLaws.{allowed_are_left, left_are_allowed}
-use Rattle.rules.specs.Grounds.{Grounds}
-use Rattle.rules.specs.Circumstances.{Case, weather_at, worst_weather, landing_at, alternate_at, is_below_alternate}
+use Rattle.rules.specs.Circumstances.{Case, weather_at, landing_at, alternate_at, is_below_alternate}
 use Rattle.rules.specs.Weather.{is_below_landing}
 use Rattle.rules.specs.TakeoffAlternates.{needs_takeoff_alternate, lacks_takeoff_alternate, is_far, has_far_takeoff_alternate, is_below_there, has_low_takeoff_alternate}
 use Rattle.rules.specs.DestinationAlternates.{is_domestic, is_flag, lists_none, arrival_weather, needs_alternate, lacks_domestic_alternate, margin, is_marginal_landing, is_marginal_at, are_marginal, lacks_second_alternate, is_free, lacks_flag_alternate}

@@ -1,6 +1,6 @@
 -- What the sections of 14 CFR 121 ask of a leg, in their own words, and that a rule names no leg that does as its section
 -- asks, and each other one.
-use Rattle.std.specs.Prelude.{◌≡◌, ◌↔◌, ◌⊎◌, ℕ, ◌+◌, ◌*◌, ◌/◌, ◌<◌, ◌≤◌, Bool, true, false, List, [], ◌∷◌, length, Option, None, Some, Any, Contains}
+use Rattle.std.specs.Prelude.{◌≡◌, ◌↔◌, ◌⊎◌, ℕ, ◌+◌, ◌*◌, ◌/◌, ◌<◌, ◌≤◌, Bool, true, false, List, [], ◌∷◌, length, None, Some, Any, Contains}
 use Rattle.std.specs.List.{All}
 use Rattle.stations.specs.Station.{Station}
 use Rattle.stations.specs.declared.pair.Pair.{Pair}
