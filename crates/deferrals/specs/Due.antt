@@ -1,5 +1,5 @@
 -- When a deferred item has to be repaired (14 CFR 121.628).
-use Rattle.std.specs.Prelude.{ℕ, ◌+◌, ◌*◌, ◌/◌}
+use Rattle.std.specs.Prelude.{ℕ, ◌+◌, ◌*◌, ◌/◌, ◌<◌, ◌≤◌}
 use Rattle.ops_tables.specs.declared.rows.MelRow.{MelRow}
 use Rattle.ops_tables.specs.declared.rows.Category.{Category}
 use Rattle.ops_tables.specs.declared.rows.Category.TheVariants.{A, B, C, D}
@@ -14,3 +14,18 @@ days_allowed D days = 120
 -- the start of the day after the last allowed one; days count from the day after the item was found
 abbrev pub due : MelRow → ℕ → ℕ
 due row found = 1440 * (found / 1440 + 1 + days_allowed row.category row.days)
+
+-- the days that a category leaves for the repair, beside those that the row of the item states
+pub data LeavesDays : Category → ℕ → ℕ → Type 0 where
+  as_stated : {days : ℕ} → LeavesDays A days days
+  three : {stated : ℕ} → LeavesDays B stated 3
+  ten : {stated : ℕ} → LeavesDays C stated 10
+  hundred_and_twenty : {stated : ℕ} → LeavesDays D stated 120
+
+-- A moment ends the time for the repair: each minute before it falls on the day on which the item was found or on one
+-- of the days that the category leaves after it, and no later one does.
+pub record EndsRepair (row : MelRow) (found moment : ℕ) : Type 0 where
+  pub days : ℕ
+  pub leaves : LeavesDays row.category row.days days
+  pub in_time : (minute : ℕ) → minute < moment → minute / 1440 ≤ found / 1440 + days
+  pub too_late : (minute : ℕ) → moment ≤ minute → found / 1440 + days < minute / 1440

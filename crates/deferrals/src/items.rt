@@ -1,5 +1,6 @@
 ghost use Rattle.std.specs.Prelude.{◌≡◌, ◌≤◌, ◌<◌, ◌^◌};
 ghost use Rattle.deferrals.specs.Due as spec;
+ghost use Rattle.deferrals.specs.Due.{EndsRepair};
 
 use desk_io::{Copied, OutOfMemory, Text};
 use desk_time::{LAST, Minute, SHOWN_LAST};
@@ -45,9 +46,11 @@ fn days_allowed(row: &MelRow) -> u64
 
 /// When a deferred item has to be repaired: the start of the day after the last allowed one, where
 /// the days of its category are counted from the day after it was found. It takes no memory.
+#[tactic(auto, using(crate::proofs::DueLaws::due_ends_repair))]
 pub fn due(row: &MelRow, found: Minute) -> Minute
     requires { found ≤ LAST }
     ensures value { result ≡ spec.due row.now found }
+    ensures days { EndsRepair row.now found result }
     ensures later { found < result }
     ensures shown { row.now.days ≤ 365 → result ≤ SHOWN_LAST }
 {

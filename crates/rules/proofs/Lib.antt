@@ -10,3 +10,8 @@ pub mod Rising
 pub mod Order
 pub mod Truth
 pub mod Laws
+pub mod Tells
+pub mod WeatherTells
+pub mod SectionTells
+pub mod FuelTells
+pub mod RegulationLaws

@@ -11,3 +11,4 @@ pub mod Judgement
 pub mod Due
 pub mod Sights
 pub mod Frame
+pub mod Regulation

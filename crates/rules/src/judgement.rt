@@ -11,6 +11,7 @@ ghost use Rattle.rules.specs.Sights as seen;
 ghost use Rattle.rules.specs.Sights.{case_by, IsWithin};
 ghost use Rattle.rules.specs.Judgement as spec;
 ghost use Rattle.rules.specs.Judgement.{findings_of, IsTrueOf, NamesAll};
+ghost use Rattle.rules.specs.Regulation.{FollowRegulation};
 
 use crate::circumstances::Circumstances;
 use crate::evidence::Evidence;
@@ -175,7 +176,7 @@ fn findings(
 
 /// The rules that a plan fails in a phase, by what is held and what is about to change of it, as `judge` finds
 /// them. It counts one step.
-#[tactic(auto, using(crate::proofs::Laws::findings_in_order, crate::proofs::Laws::findings_are_true))]
+#[tactic(auto, using(crate::proofs::Laws::findings_in_order, crate::proofs::Laws::findings_are_true, crate::proofs::RegulationLaws::findings_follow_regulation))]
 pub fn judge_by<L: Ledger>(
     alloc: Global,
     plan: &Plan,
@@ -190,6 +191,7 @@ pub fn judge_by<L: Ledger>(
     ensures order { IfOk result AreInOrder }
     ensures truth { IfOk result (AllByRecursion (IsTrueOf plan.now phase (grounds_of evidence.entry))) }
     ensures complete { IfOk result (NamesAll plan.now phase (grounds_of evidence.entry)) }
+    ensures regulation { IfOk result (FollowRegulation plan.now phase (grounds_of evidence.entry)) }
     ensures steps { steps.new ≡ steps.old + 1 }
 {
     steps.tick();
@@ -219,6 +221,8 @@ pub fn judge<'a, L: Ledger>(
     ensures truth { IfOk result (AllByRecursion (IsTrueOf plan.now phase
         (grounds_held tables.now facts.now.reports deferrals.now.list moment))) }
     ensures complete { IfOk result (NamesAll plan.now phase (grounds_held tables.now facts.now.reports
+        deferrals.now.list moment)) }
+    ensures regulation { IfOk result (FollowRegulation plan.now phase (grounds_held tables.now facts.now.reports
         deferrals.now.list moment)) }
     ensures steps { steps.new ≡ steps.old + 1 }
 {

@@ -26,7 +26,7 @@ abbrev pub worst_after : Option ℕ → List (Option ℕ) → Option ℕ
 worst_after value [] = value
 worst_after value (next ∷ later) = worst_after (worse value next) later
 
-minutes_step : (m to : ℕ) → m ≤ to → minutes m to ≡ m ∷ minutes (m + 1) to
+pub minutes_step : (m to : ℕ) → m ≤ to → minutes m to ≡ m ∷ minutes (m + 1) to
 minutes_step m to small =
     let one_more : to + 1 - m ≡ suc (to - m) = omega arith in
     let left : to + 1 - (m + 1) ≡ to - m = omega arith in
@@ -42,13 +42,13 @@ worst_step : (f : ℕ → Option ℕ) (value : Option ℕ) (m to : ℕ) → m �
     → worst_after value (map f (minutes m to)) ≡ worst_after (worse value (f m)) (map f (minutes (m + 1) to))
 worst_step f value m to small = ap (λ ms. worst_after value (map f ms)) (minutes_step m to small)
 
-worse_first : (x y : Option ℕ) (ys : List (Option ℕ)) → worst_of (worse x y ∷ ys) ≡ worst_of (x ∷ y ∷ ys)
+pub worse_first : (x y : Option ℕ) (ys : List (Option ℕ)) → worst_of (worse x y ∷ ys) ≡ worst_of (x ∷ y ∷ ys)
 worse_first None y ys = refl
 worse_first (Some a) None ys = refl
 worse_first (Some a) (Some b) ys =
     ap (λ v. cond (list_any is_none ys) None v) (sym (lesser_assoc (Some a) (Some b) (least_of (filter_map (λ value. value) ys))))
 
-worst_alone : (x : Option ℕ) → x ≡ worst_of (x ∷ [])
+pub worst_alone : (x : Option ℕ) → x ≡ worst_of (x ∷ [])
 worst_alone None = refl
 worst_alone (Some a) = refl
 
