@@ -2,5 +2,5 @@ mod StationLaws
 mod NewerLaws
 mod AirportLaws
 mod AttachedLaws
-mod Pieces
-mod TextLaws
+pub mod Pieces
+pub mod TextLaws
