@@ -13,3 +13,4 @@ pub mod MomentRange
 pub mod PlanForms
 pub mod AskForms
 pub mod ValueTexts
+pub mod Printable
