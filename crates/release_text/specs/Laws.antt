@@ -28,7 +28,8 @@ pub data IsAirportOf : Standing → Leg → Station → Type 0 where
   departure : {leg : Leg} → IsAirportOf Ahead leg leg.from
   takeoff : {leg : Leg} {t : TakeoffAlternate} → leg.takeoff_alternate ≡ Some t → IsAirportOf Ahead leg t.station
   destination : {s : Standing} {leg : Leg} → s ≢ Flown → IsAirportOf s leg leg.to
-  alternate : {s : Standing} {leg : Leg} {a : Alternate} → s ≢ Flown → StandsIn leg.alternates a → IsAirportOf s leg a.station
+  alternate : {s : Standing} {leg : Leg} {a : Alternate} → s ≢ Flown → StandsIn leg.alternates a
+      → IsAirportOf s leg a.station
 
 -- an airport of one of the legs, as each stands
 pub record IsConcerned (plan : Plan) (phase : Phase) (station : Station) : Type 0 where
@@ -57,7 +58,8 @@ pub record IsCovered (reports : List Report) (attached : List Attached) (station
 
 -- the latest reports of each airport of each of the legs are attached
 unfoldable pub AreCovered : List Report → Plan → Phase → List Attached → Type 0
-AreCovered reports plan phase attached = (station : Station) → IsConcerned plan phase station → (kind : Kind) → IsCovered reports attached station kind
+AreCovered reports plan phase attached =
+    (station : Station) → IsConcerned plan phase station → (kind : Kind) → IsCovered reports attached station kind
 
 -- each of some reports is attached
 abbrev pub AreAttached : List Attached → List Report → Type 0

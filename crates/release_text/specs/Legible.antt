@@ -1,4 +1,4 @@
--- That the text of a release tells what is released: whoever signs it signs this plan and no other (14 CFR 121.663, 121.687).
+-- That the text of a release tells what is released: who signs it signs this plan and no other (14 CFR 121.663).
 use Rattle.std.specs.Prelude.{◌≡◌, ◌<◌, ◌==◌, ℕ, ◌^◌, Bool, not, true, List, Option, None, Some}
 use Rattle.std.specs.List.{AllByRecursion, list_all}
 use Rattle.plan.specs.Texts.{IsMoment}
