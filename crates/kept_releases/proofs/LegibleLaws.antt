@@ -38,16 +38,31 @@ alternates (a ∷ ns) is =
 
 legs : (ls : List Leg) → AllByRecursion IsLeg ls → AllByRecursion IsLegibleLeg ls
 legs [] is = tt
-legs (l ∷ ls) is = (record {
-  from = word l.from (station_printable l.from is.0.from); to = word l.to (station_printable l.to is.0.to); etd = is.0.etd; eta = is.0.eta;
-  minutes = amount l.minutes is.0.minutes; burn = amount l.burn is.0.burn; extra = amount l.extra is.0.extra;
-  minimum = amount l.minimum is.0.minimum; onboard = amount l.onboard is.0.onboard;
-  takeoff = takeoff l.takeoff_alternate is.0.takeoff; alternates = alternates l.alternates is.0.alternates;
-}, legs ls is.1)
+legs (l ∷ ls) is = (
+  record {
+    from = word l.from (station_printable l.from is.0.from);
+    to = word l.to (station_printable l.to is.0.to);
+    etd = is.0.etd;
+    eta = is.0.eta;
+    minutes = amount l.minutes is.0.minutes;
+    burn = amount l.burn is.0.burn;
+    extra = amount l.extra is.0.extra;
+    minimum = amount l.minimum is.0.minimum;
+    onboard = amount l.onboard is.0.onboard;
+    takeoff = takeoff l.takeoff_alternate is.0.takeoff;
+    alternates = alternates l.alternates is.0.alternates;
+  },
+  legs ls is.1,
+)
 
 -- the plan and the number of each revision that is held or kept
 pub legible : (v : Revision) → IsRevision v → IsLegible v.plan × IsNumber v.number
-legible v is = let names = names_printable v.plan is.plan in (record {
-  flight = word v.plan.flight names.0; tail = word v.plan.tail names.1;
-  captain = word v.plan.captain names.2; legs = legs v.plan.legs is.plan.legs;
-}, (let few = is.number in omega (arith, few)))
+legible v is = let names = names_printable v.plan is.plan in (
+  record {
+    flight = word v.plan.flight names.0;
+    tail = word v.plan.tail names.1;
+    captain = word v.plan.captain names.2;
+    legs = legs v.plan.legs is.plan.legs;
+  },
+  (let few = is.number in omega (arith, few)),
+)
