@@ -14,3 +14,4 @@ pub mod MomentRange
 pub mod PlanForms
 pub mod AskForms
 pub mod ValueTexts
+pub mod Printable

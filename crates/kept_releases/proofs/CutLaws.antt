@@ -1,23 +1,18 @@
 -- The number of a leg is read as it is written, and a text is cut at its first sign.
-use Rattle.std.proofs.Common.{◌≡◌, ℕ, suc, ◌+◌, ◌-◌, ◌^◌, ◌<◌, ◌≤◌, Bool, true, false, not, ◌==◌, List, [], ◌∷◌, ◌++◌, length, take, drop, get_or, Some, IfSome, decimal, refl, sym, ap, ◌∙◌, arith, length-append, add-one, eq-eqb, lt-ltb}
-use Rattle.std.specs.List.{list_all, position, position_or_len}
+use Rattle.std.proofs.Common.{◌≡◌, ℕ, suc, ◌+◌, ◌≤◌, true, not, ◌==◌, List, [], ◌∷◌, ◌++◌, length, take, drop, get_or, Some, IfSome, decimal, refl, sym, ap, ◌∙◌, arith, length-append, add-one, eq-eqb, lt-ltb}
+use Rattle.std.specs.List.{position, position_or_len}
 use Rattle.std.proofs.lemmas.Bool.{and_parts, eqb-true}
-use Rattle.std.proofs.lemmas.Bool.Decides.{nat_tests}
-use Rattle.std.proofs.lemmas.Fmt.{digits_decimal}
 use Rattle.std.proofs.lemmas.List.{take_at, take-append-drop, drop_more}
 use Rattle.std.proofs.lemmas.List.Quantifiers.{position-Some}
 use Rattle.desk_time.proofs.Chains.{bind_known}
-use Rattle.desk_time.specs.Numbers.{is_digit}
-use Rattle.desk_time.proofs.NumberLaws.{number_again, own}
+use Rattle.desk_time.proofs.NumberLaws.{number_again}
+use Rattle.release_text.specs.Legible.{is_free}
 use Rattle.kept_releases.specs.Cuts.{leg_of, cut}
 
 pub leg_again : (n : ℕ) → n ≤ 4_294_967_295 → leg_of (decimal n) ≡ Some n
 leg_again n few = number_again 4_294_967_295 n few (omega arith)
 
 -- ---- texts that are cut
-
-abbrev pub is_free : ℕ → List ℕ → Bool
-is_free sign text = list_all (λ b. not (b == sign)) text
 
 front : (sign : ℕ) (text rest : List ℕ) → is_free sign text ≡ true → position_or_len (λ b. b == sign) (text ++ sign ∷ rest) ≡ length text
 front sign [] rest free = rw (eq-eqb sign sign refl) refl
@@ -46,16 +41,3 @@ cut_here sign text at is =
 -- the two parts of a text are put together with the sign between them
 pub cut_back : (sign : ℕ) (text : List ℕ) → IfSome (cut sign text) (IsCut sign text)
 cut_back sign text = bind_known (position (λ b. b == sign) text) (λ at. Some (take at text, drop (at + 1) text)) (IsCut sign text) (λ at is. cut_here sign text at is)
-
--- digits have no sign among them
-apart : (d sign : ℕ) → is_digit d ≡ true → is_digit sign ≡ false → not (d == sign) ≡ true
-apart d sign one other = grind (arith, nat_tests, one, other)
-
-digits_free : (sign : ℕ) (ds : List ℕ) → is_digit sign ≡ false → list_all is_digit ds ≡ true → is_free sign ds ≡ true
-digits_free sign [] other all = refl
-digits_free sign (d ∷ ds) other all =
-    let parts = and_parts (is_digit d) (list_all is_digit ds) all in
-    rw (apart d sign parts.0 other) (digits_free sign ds other parts.1)
-
-pub decimal_free : (sign n : ℕ) → is_digit sign ≡ false → n < 2 ^ 64 → is_free sign (decimal n) ≡ true
-decimal_free sign n other small = digits_free sign (decimal n) other (digits_decimal own n small)

@@ -22,7 +22,9 @@ use Rattle.kept_releases.specs.Findings.{rule_among, rule_of, finding_at, findin
 use Rattle.call_json.specs.Forms.{IsFinding, FindingWithin}
 use Rattle.desk_time.proofs.Chains.{bind_if, bind_any, under, either_known}
 use Rattle.desk_time.proofs.NumberLaws.{number_again, number_within, number_back}
-use Rattle.kept_releases.proofs.CutLaws.{leg_again, decimal_free, is_free, IsCut, cut_at, cut_back}
+use Rattle.kept_releases.proofs.CutLaws.{leg_again, IsCut, cut_at, cut_back}
+use Rattle.release_text.specs.Legible.{is_free}
+use Rattle.release_text.proofs.Pieces.{decimal_free}
 
 rule_again : (r : Rule) → rule_of (code_of r) ≡ Some r
 rule_again = each_rule (λ r. rule_of (code_of r)) Some refl

@@ -5,3 +5,4 @@ pub mod KeptLaws
 pub mod ReleaseForms
 pub mod ReleaseLaws
 pub mod PlainLaws
+pub mod LegibleLaws

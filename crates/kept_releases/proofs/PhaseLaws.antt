@@ -13,7 +13,8 @@ use Rattle.kept_releases.specs.Cuts.{leg_of, cut}
 use Rattle.kept_releases.specs.Phases.{ready_of, flying_of, again_of, stopped_since, stopped_before, stopped_with, stopped_of, completed_of, cancelled_of, phase_with, phase_in, phase_of, IsPhase}
 use Rattle.desk_time.proofs.Chains.{bind_if, bind_any, under, either, either_known}
 use Rattle.desk_time.proofs.NumberLaws.{number_within, number_back}
-use Rattle.kept_releases.proofs.CutLaws.{leg_again, decimal_free, IsCut, cut_at, cut_back}
+use Rattle.kept_releases.proofs.CutLaws.{leg_again, IsCut, cut_at, cut_back}
+use Rattle.release_text.proofs.Pieces.{decimal_free}
 use Rattle.call_json.proofs.MomentRange.{minute_within}
 
 -- a word and what stands after it

@@ -1,3 +1,6 @@
 mod StationLaws
 mod NewerLaws
+mod AirportLaws
 mod AttachedLaws
+pub mod Pieces
+pub mod TextLaws

@@ -2,5 +2,6 @@ pub mod Concerned
 pub mod Weather
 pub mod Laws
 pub mod Text
+pub mod Legible
 pub mod Revisions
 pub mod Valid

@@ -2,7 +2,7 @@ ghost use Rattle.std.specs.Prelude.{◌≡◌, ◌++◌, None, map, IfOk, OnOk};
 ghost use Rattle.std.specs.Option.{option_copied};
 ghost use Rattle.plan.specs.Check.{IsPlan};
 ghost use Rattle.release_text.specs.Weather as spec;
-ghost use Rattle.release_text.specs.Laws.{AreLatest};
+ghost use Rattle.release_text.specs.Laws.{AreCovered, AreLatest};
 
 use crate::airports::concerned;
 use desk_io::{Copied, Listed, OutOfMemory};
@@ -85,6 +85,7 @@ pub fn attach(
 ) -> Result<AttachedList, OutOfMemory>
     requires { IsPlan plan.now }
     ensures value { IfOk result (λ list. list ≡ spec.attached_to reports.now.reports plan.now phase) }
+    ensures covered { IfOk result (λ list. AreCovered reports.now.reports plan.now phase list) }
     ensures latest { IfOk result (λ list. AreLatest reports.now.reports plan.now phase list) }
     ensures newest { IfOk result (λ list. spec.newer_than reports.now.reports plan.now phase list ≡ None) }
 {

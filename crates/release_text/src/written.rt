@@ -2,6 +2,7 @@ ghost use Rattle.std.specs.Prelude.{◌≡◌, ◌≤◌, ◌++◌, length, IfOk
 ghost use Rattle.std.specs.List.{AllByRecursion};
 ghost use Rattle.plan.specs.Check.{HasMoments, IsPlan};
 ghost use Rattle.release_text.specs.Text as spec;
+ghost use Rattle.release_text.specs.Legible.{Tells};
 
 use desk_io::{OutOfMemory, Text, push_all};
 use desk_time::show;
@@ -291,10 +292,7 @@ fn push_text(
     push_all(out, &[b"END\n"])
 }
 
-/// The text of a release in a revision (14 CFR 121.687): the flight and the rules under which it is flown, the
-/// aircraft and its pilot in command; for each leg its airports, its moments, its alternates and its fuel, in
-/// pounds; and the reports that are attached. Every line ends in a line feed.
-pub fn text_of(
+fn text_in_turn(
     alloc: Global,
     plan: &Plan,
     revision: u64,
@@ -306,4 +304,20 @@ pub fn text_of(
     let mut out = Vec::new(alloc);
     push_text(alloc, &mut out, plan, revision, attached.as_slice())?;
     Ok(Text::from_vec(out))
+}
+
+/// The text of a release in a revision (14 CFR 121.687): the flight and the rules under which it is flown, the
+/// aircraft and its pilot in command; for each leg its airports, its moments, its alternates and its fuel, in
+/// pounds; and the reports that are attached. Every line ends in a line feed. No other release has this text.
+pub fn text_of(
+    alloc: Global,
+    plan: &Plan,
+    revision: u64,
+    attached: &AttachedList,
+) -> Result<Text, OutOfMemory>
+    requires { IsPlan plan.now }
+    ensures value { IfOk result (λ t. t ≡ spec.release_text plan.now revision attached.now) }
+    ensures tells { IfOk result (λ t. Tells t plan.now revision attached.now) }
+{
+    text_in_turn(alloc, plan, revision, attached)
 }
