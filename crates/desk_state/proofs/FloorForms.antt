@@ -43,7 +43,7 @@ raised_formed (k ∷ ks) fs kept all =
 abbrev IsBelow : List ℕ → Floor → Type 0
 IsBelow name g = slice_cmp nat_cmp name g.actor ≡ Less
 
-all_later : (name key : List ℕ) (fs : List Floor) → slice_cmp nat_cmp name key ≡ Less → AllByRecursion (IsBelow key) fs → AllByRecursion (IsBelow name) fs
+pub all_later : (name key : List ℕ) (fs : List Floor) → slice_cmp nat_cmp name key ≡ Less → AllByRecursion (IsBelow key) fs → AllByRecursion (IsBelow name) fs
 all_later name key [] below all = tt
 all_later name key (f ∷ fs) below all = (nat_list_cmp_total.trans name key f.actor below all.0, all_later name key fs below all.1)
 
@@ -56,7 +56,7 @@ here_rises Less actor number f rest raised e below rising above more = ((e, all_
 here_rises Equal actor number f rest raised e below rising above more = (below, rising)
 here_rises Greater actor number f rest raised e below rising above more = (above refl, more)
 
-raised_rises : (actor : List ℕ) (number : ℕ) (fs : List Floor) → FloorsRise fs → FloorsRise (raised_to actor number fs)
+pub raised_rises : (actor : List ℕ) (number : ℕ) (fs : List Floor) → FloorsRise fs → FloorsRise (raised_to actor number fs)
 raised_rises actor number [] rising = (tt, tt)
 raised_rises actor number (f ∷ fs) rising =
     here_rises (slice_cmp nat_cmp actor f.actor) actor number f fs (raised_to actor number fs) refl rising.0 rising.1

@@ -2,6 +2,9 @@ pub mod Each
 pub mod Judging
 pub mod Parts
 pub mod Deciding
+pub mod Found
+pub mod FloorLaws
+pub mod OnceLaws
 pub mod Boards
 pub mod Changes
 pub mod AllowedLaws

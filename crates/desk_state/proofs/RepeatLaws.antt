@@ -1,12 +1,8 @@
 -- A command that comes again gets what is kept of it, and changes nothing.
-use Rattle.std.proofs.Common.{◌≡◌, ℕ, ◌<◌, ◌≤◌, Bool, true, false, eq-eqb, List, [], ◌∷◌, ◌++◌, Option, None, Some, refl, ap, sym, ◌∙◌, arith, inl, inr}
+use Rattle.std.proofs.Common.{◌≡◌, ℕ, ◌<◌, ◌≤◌, Bool, true, false, List, [], ◌∷◌, ◌++◌, Option, None, Some, refl, ap, sym, ◌∙◌, arith, inl, inr}
 use Rattle.std.specs.Prelude.{nat_lt}
-use Rattle.std.specs.Option.{option_or}
 use Rattle.std.specs.List.{AllByRecursion}
-use Rattle.std.specs.Str.{bytes_eq}
 use Rattle.std.proofs.lemmas.Bool.{le-ltb, ltb-true}
-use Rattle.std.proofs.lemmas.List.Folds.{find-append}
-use Rattle.std.proofs.lemmas.Slice.Eq.{bytes_eq-Decides}
 use Rattle.asks.specs.declared.call.Ask.{Ask}
 use Rattle.asks.specs.declared.call.Call.{Call}
 use Rattle.asks.specs.declared.kept.KeptReply.{KeptReply}
@@ -20,7 +16,7 @@ use Rattle.desk_state.specs.Decide.{decide}
 use Rattle.desk_state.specs.Events.{effected, kept_after}
 use Rattle.desk_state.specs.Lanes.{Answered, said_at, said_of, answer, made_by, once_ticked, answer_item, outcomes, after_items}
 use Rattle.desk_state.specs.Repeats.{MayAsk, IsKeptFor, SweepsNothing, IsAskable, MayBeLeftOut}
-use Rattle.desk_state.specs.Requests.{is_request, kept_at}
+use Rattle.desk_state.specs.Requests.{kept_at}
 use Rattle.desk_state.specs.Sound.{IsBoard}
 use Rattle.desk_state.specs.State.{State, is_sweep}
 use Rattle.desk_state.specs.Step.{Stepped, kept_reply, stay, do_call, answer_call, tick_to}
@@ -30,10 +26,8 @@ use Rattle.desk_state.specs.declared.lanes.Item.TheVariants as item
 use Rattle.desk_state.specs.declared.lanes.Said.TheVariants as said
 use Rattle.desk_state.proofs.LeadingLaws.{call_leads, tick_leads}
 use Rattle.desk_state.proofs.Boards.{call_keeps, tick_keeps}
+use Rattle.desk_state.proofs.Found.{new_found, same_bytes, still_found}
 use Rattle.desk_state.proofs.Parts.{still_unused}
-
-same_bytes : (a b : List ℕ) → a ≡ b → bytes_eq a b ≡ true
-same_bytes a b e = (bytes_eq-Decides a b).1 e
 
 -- ---- the command itself
 
@@ -61,20 +55,6 @@ no_sweep s actor (completes is) e = refl
 no_sweep s actor (acknowledges is has) e = refl
 no_sweep s actor (sweeps is) e = absurd (cc)
 no_sweep s actor (purges is has) e = refl
-
-or_first : (k : KeptReply) (o p : Option KeptReply) → o ≡ Some k → option_or o p ≡ Some k
-or_first k None p e = absurd (cc)
-or_first k (Some x) p e = e
-
--- what is found is found where more is added
-still_found : (actor : List ℕ) (number : ℕ) (ks more : List KeptReply) (k : KeptReply) → kept_at actor number ks ≡ Some k → kept_at actor number (ks ++ more) ≡ Some k
-still_found actor number ks more k is = find-append (is_request actor number) ks more ∙ or_first k (kept_at actor number ks) (kept_at actor number more) is
-
-new_found : (actor : List ℕ) (number : ℕ) (ks : List KeptReply) (k : KeptReply) → kept_at actor number ks ≡ None → k.actor ≡ actor → k.number ≡ number → kept_at actor number (ks ++ k ∷ []) ≡ Some k
-new_found actor number ks k none its_actor its_number =
-    find-append (is_request actor number) ks (k ∷ [])
-    ∙ ap (λ o. option_or o (kept_at actor number (k ∷ []))) none
-    ∙ rw (eq-eqb k.number number its_number, same_bytes k.actor actor its_actor) refl
 
 -- What an accepted command has done is kept with its reply.
 pub accepted_kept : (s t : State) (lane : ℕ) (call : Call) (reply : Option Reply) → MayLeadTo lane call s t reply → (t ≡ s → ⊥)

@@ -1,4 +1,4 @@
-use Rattle.board.proofs.Kept.{applied_leads, installed_told}
+use Rattle.board.proofs.Kept.{applied_leads, applied_uses, installed_told}
 use Rattle.board.proofs.state.Board.apply.Goals as goal
 
 pub returns-clause-own : goal.returns-clause-own
@@ -6,3 +6,6 @@ returns-clause-own g c = applied_leads _ _ _ _ _ _ _ c.in_ok-prepared.ensures.st
 
 pub returns-clause-told : goal.returns-clause-told
 returns-clause-told g c = installed_told _ _ _ _ _ _ c.in_ok-prepared.ensures.stepped.state c.install.ensures.notices c.in_ok-prepared.ensures.told
+
+pub returns-clause-used : goal.returns-clause-used
+returns-clause-used g c = applied_uses _ _ _ c.in_ok-prepared.ensures.stepped.state c.in_ok-prepared.ensures.used
