@@ -102,10 +102,10 @@ or_false : (a b : Bool) → (a || b) ≡ false → (a ≡ false) × (b ≡ false
 or_false true b e = absurd (cc)
 or_false false b e = (refl, e)
 
-few_entries : (s : State) → is_full s ≡ false → length s.entries < 400_000
+pub few_entries : (s : State) → is_full s ≡ false → length s.entries < 400_000
 few_entries s room = leb-false 400_000 (length s.entries) (or_false (nat_le 400_000 (length s.entries)) (nat_le 999_999_999_999_000 s.counters.events) room).0
 
-few_events : (s : State) → is_full s ≡ false → s.counters.events < 999_999_999_999_000
+pub few_events : (s : State) → is_full s ≡ false → s.counters.events < 999_999_999_999_000
 few_events s room = leb-false 999_999_999_999_000 s.counters.events (or_false (nat_le 400_000 (length s.entries)) (nat_le 999_999_999_999_000 s.counters.events) room).1
 
 -- where a command may come, an event may

@@ -47,6 +47,15 @@ pub all_none : {A : Type 0} (p : A → Bool) (xs : List A) → AllByRecursion (�
 all_none p [] all = refl
 all_none p (x ∷ xs) all = let here = all.0 in rw here (all_none p xs all.1)
 
+found_any_by : {A : Type 0} (p : A → Bool) (x y : A) (rest : List A) (b : Bool) → p y ≡ b → (find p rest ≡ Some x → list_any p rest ≡ true) → cond b (Some y) (find p rest) ≡ Some x
+    → list_any p (y ∷ rest) ≡ true
+found_any_by p x y rest true here later e = rw here refl
+found_any_by p x y rest false here later e = rw here (later e)
+
+pub found_any : {A : Type 0} (p : A → Bool) (xs : List A) (x : A) → find p xs ≡ Some x → list_any p xs ≡ true
+found_any p [] x e = absurd (cc)
+found_any p (y ∷ ys) x e = found_any_by p x y ys (p y) refl (λ later. found_any p ys x later) e
+
 or_more : (a b c : Bool) → (b ≡ true → c ≡ true) → (a || b) ≡ true → (a || c) ≡ true
 or_more true b c more e = refl
 or_more false b c more e = more e
@@ -101,13 +110,16 @@ first_unlike actor number x ks true is some unlike = absurd (both (all_none (is_
 pub same_bytes : (a b : List ℕ) → a ≡ b → bytes_eq a b ≡ true
 same_bytes a b e = (bytes_eq-Decides a b).1 e
 
-or_first : (k : KeptReply) (o p : Option KeptReply) → o ≡ Some k → option_or o p ≡ Some k
-or_first k None p e = absurd (cc)
-or_first k (Some x) p e = e
+or_first : {A : Type 0} (x : A) (o p : Option A) → o ≡ Some x → option_or o p ≡ Some x
+or_first x None p e = absurd (cc)
+or_first x (Some y) p e = e
 
 -- what is found is found where more is added
+pub found_more : {A : Type 0} (p : A → Bool) (xs more : List A) (x : A) → find p xs ≡ Some x → find p (xs ++ more) ≡ Some x
+found_more p xs more x is = find-append p xs more ∙ or_first x (find p xs) (find p more) is
+
 pub still_found : (actor : List ℕ) (number : ℕ) (ks more : List KeptReply) (k : KeptReply) → kept_at actor number ks ≡ Some k → kept_at actor number (ks ++ more) ≡ Some k
-still_found actor number ks more k is = find-append (is_request actor number) ks more ∙ or_first k (kept_at actor number ks) (kept_at actor number more) is
+still_found actor number ks more k is = found_more (is_request actor number) ks more k is
 
 pub new_found : (actor : List ℕ) (number : ℕ) (ks : List KeptReply) (k : KeptReply) → kept_at actor number ks ≡ None → k.actor ≡ actor → k.number ≡ number → kept_at actor number (ks ++ k ∷ []) ≡ Some k
 new_found actor number ks k none its_actor its_number =

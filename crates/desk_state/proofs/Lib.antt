@@ -11,6 +11,7 @@ pub mod AllowedLaws
 pub mod LeadingLaws
 pub mod ToldLaws
 pub mod RepeatLaws
+pub mod SweepLaws
 pub mod FindingForms
 pub mod AlertForms
 pub mod FloorForms

@@ -19,13 +19,14 @@ use Rattle.desk_state.specs.declared.entry.What.{What}
 use Rattle.desk_state.specs.declared.entry.What.TheVariants as what
 use Rattle.desk_state.specs.declared.effect.Effect.{Effect}
 use Rattle.desk_state.specs.declared.effect.Sweep.{Sweep}
-use Rattle.desk_state.specs.Allowed.{IsEffectOf, admits, defers, clears, drafts, prepares, signs, concurs, amends, cancels, departs, stops, completes, acknowledges, purges, sweeps, IsUnused, MayLeadTo, MayTickTo}
+use Rattle.desk_state.specs.Allowed.{IsEffectOf, IsSweeping, IsUnused, MayLeadTo, MayTickTo}
 use Rattle.desk_state.specs.Events.{effected, is_since, kept_after, floors_after}
 use Rattle.desk_state.specs.Once.{IsCovered, IsUsed, IfAsked, AreDistinct, AreOnce, IsSwept, KeepsUsed}
 use Rattle.desk_state.specs.Requests.{is_request, kept_at, floor_at, raised_by, kept_before}
 use Rattle.desk_state.specs.Sound.{AreSingle}
 use Rattle.desk_state.specs.State.{State}
 use Rattle.desk_state.specs.Step.{entry, entered, kept_reply, accepted, ticked, without_key}
+use Rattle.desk_state.proofs.AllowedLaws.{sweep_of}
 use Rattle.desk_state.proofs.Each.{each_push, each_weaker, found_each}
 use Rattle.desk_state.proofs.FloorLaws.{all_covered, still_covered, whence}
 use Rattle.desk_state.proofs.Found.{if_found, clash, found_passes, found_filter, none_all, all_none, any_filter, pairs_later, pairs_first, asked_by, other_unlike, first_unlike, new_found, still_found}
@@ -62,25 +63,14 @@ swept_none before actor number (x ∷ ks) single some =
 
 -- how far a sweep raises floors
 abbrev SweepRaises : List KeptReply → List Floor → Option Sweep → Type 0
-SweepRaises ks fs None = Unit {0}
-SweepRaises ks fs (Some w) = w.floors ≡ raised_by (kept_before w.before ks) fs
+SweepRaises ks fs o = IfSome o (λ w. w.floors ≡ raised_by (kept_before w.before ks) fs)
+
+raises_by : (s : State) (o : Option Sweep) → IfSome o (λ w. IsSweeping s w.before w.attached w.floors) → SweepRaises s.kept s.floors o
+raises_by s None is = tt
+raises_by s (Some w) is = is.floors
 
 sweep_raises : (s : State) (actor : List ℕ) {a : Ask} {does : Effect} {made : DoneType} → IsEffectOf s actor a does made → SweepRaises s.kept s.floors does.sweep
-sweep_raises s actor (admits is) = tt
-sweep_raises s actor (defers is) = tt
-sweep_raises s actor (clears is) = tt
-sweep_raises s actor (drafts is) = tt
-sweep_raises s actor (prepares is pending) = tt
-sweep_raises s actor (signs is) = tt
-sweep_raises s actor (concurs is) = tt
-sweep_raises s actor (amends is) = tt
-sweep_raises s actor (cancels is) = tt
-sweep_raises s actor (departs is) = tt
-sweep_raises s actor (stops is) = tt
-sweep_raises s actor (completes is) = tt
-sweep_raises s actor (acknowledges is has) = tt
-sweep_raises s actor (sweeps is) = is.floors
-sweep_raises s actor (purges is has) = tt
+sweep_raises s actor {does = does} is = raises_by s does.sweep (sweep_of s actor is)
 
 goes_covered : (w : Sweep) (ks : List KeptReply) (fs : List Floor) (actor : List ℕ) (number : ℕ) (k : KeptReply) → FloorsRise fs → w.floors ≡ raised_by (kept_before w.before ks) fs
     → is_since w.before k ≡ false → kept_at actor number ks ≡ Some k → IsCovered (floor_at actor w.floors) number
