@@ -6,7 +6,9 @@ ghost use Rattle.desk_state.specs.Texts.{closing};
 ghost use Rattle.desk_state.specs.Allowed.{MayLeadTo, MayTickTo};
 ghost use Rattle.desk_state.specs.Told.{takes_alert, AreDifferences, takes_none};
 ghost use Rattle.desk_state.specs.Once.{KeepsUsed};
+ghost use Rattle.desk_state.specs.Repeats.{AcceptedOnce};
 ghost use Rattle.desk_state.specs.Sound.{IsBoard, IsEntered};
+ghost use Rattle.desk_state.specs.Sweeps.{SweepsWell};
 ghost use Rattle.asks.specs.Forms.{ReplyHasMoment};
 ghost use Rattle.call_json.specs.Forms.{CallHasForms};
 ghost use Rattle.desk_io.specs.Rows.{Rows, rows_of, changed_by};
@@ -132,6 +134,8 @@ impl Board {
         ensures shown { IfOk result (λ p. IfSome p.reply ReplyHasMoment) }
         ensures own { IfOk result (λ p. MayLeadTo lane call.now self.old.state (installed p self.old.state) p.reply) }
         ensures used { IfOk result (λ p. KeepsUsed self.old.state (installed p self.old.state)) }
+        ensures again { IfOk result (λ p. AcceptedOnce self.old.state (installed p self.old.state) call.now) }
+        ensures sweeps { IfOk result (λ p. SweepsWell self.old.state (installed p self.old.state) call.now p.reply) }
         ensures told { IfOk result (λ p. AreDifferences (takes_alert self.old.state call.now.ask) self.old.state
             (installed p self.old.state) p.notices) }
         ensures rows { IfOk result (λ p. KeepsRows self.old.state p) }
@@ -207,6 +211,10 @@ impl Board {
         ensures own { IfOk result (λ i. MayLeadTo lane call.now self.old.state
             (answer_call self.old.state lane call.now).state i.reply) }
         ensures used { OnOk result (KeepsUsed self.old.state (answer_call self.old.state lane call.now).state) }
+        ensures again { OnOk result (AcceptedOnce self.old.state
+            (answer_call self.old.state lane call.now).state call.now) }
+        ensures sweeps { IfOk result (λ i. SweepsWell self.old.state
+            (answer_call self.old.state lane call.now).state call.now i.reply) }
         ensures told { IfOk result (λ i. AreDifferences (takes_alert self.old.state call.now.ask) self.old.state
             (answer_call self.old.state lane call.now).state i.notices) }
         ensures err { OnErr result (self.new ≡ shown self.old.opening self.old.state None) }

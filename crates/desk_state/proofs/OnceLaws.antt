@@ -25,7 +25,7 @@ use Rattle.desk_state.specs.Once.{IsCovered, IsUsed, IfAsked, AreDistinct, AreOn
 use Rattle.desk_state.specs.Requests.{is_request, kept_at, floor_at, raised_by, kept_before}
 use Rattle.desk_state.specs.Sound.{AreSingle}
 use Rattle.desk_state.specs.State.{State}
-use Rattle.desk_state.specs.Step.{entry, entered, kept_reply, accepted, ticked, without_key}
+use Rattle.desk_state.specs.Step.{entry, kept_reply, accepted, ticked, without_key}
 use Rattle.desk_state.proofs.AllowedLaws.{sweep_of}
 use Rattle.desk_state.proofs.Each.{each_push, each_weaker, found_each}
 use Rattle.desk_state.proofs.FloorLaws.{all_covered, still_covered, whence}

@@ -169,8 +169,7 @@ permitted_asks s call is command =
 
 -- once it was accepted it may come again
 pub accepted_again : (opening s t : State) (lane : ℕ) (call : Call) (reply : Option Reply) → IsBoard opening t → MayLeadTo lane call s t reply → AcceptedOnce s t call
-accepted_again opening s t lane call reply board (inl same) changes = absurd (changes same.0)
-accepted_again opening s t lane call reply board (inr leads) changes =
-    let kept = accepted_kept s t lane call reply (inr leads) changes in
+accepted_again opening s t lane call reply board (inl same) = record { again = λ changes. absurd (changes same.0) }
+accepted_again opening s t lane call reply board (inr leads) =
     let may : MayAsk t call = may_ask_as s t call leads.8.tables (permitted_asks s call leads.0 (no_view s call.actor leads.3)) in
-    (kept.0, kept.1, comes_again opening t call kept.0 board may kept.1)
+    record { again = λ changes. let kept = accepted_kept s t lane call reply (inr leads) changes in (kept.0, kept.1, comes_again opening t call kept.0 board may kept.1) }

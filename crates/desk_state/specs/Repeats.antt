@@ -51,6 +51,6 @@ abbrev pub MayComeAgain : State → Call → KeptReply → Type 0
 MayComeAgain s call k = (lane : ℕ) (before after : List Item) (at : ℕ) → AllByRecursion IsAskable before → AllByRecursion SweepsNothing before
     → at ≤ (after_items lane s before).moment → MayBeLeftOut lane s before after at call k
 
--- an accepted call, which has changed the state: what it has done is kept, and it may come again
-abbrev pub AcceptedOnce : State → State → Call → Type 0
-AcceptedOnce s t call = t ≢ s → (k : KeptReply) × IsKeptFor t call k × MayComeAgain t call k
+-- What an accepted call, which has changed the state, has done is kept, and the call may come again.
+pub record AcceptedOnce (s t : State) (call : Call) : Type 0 where
+  pub again : t ≢ s → (k : KeptReply) × IsKeptFor t call k × MayComeAgain t call k
