@@ -24,7 +24,13 @@ use Rattle.std.proofs.lemmas.List.Elements.{All-from_recursion}
 use Rattle.desk_state.specs.Allowed.{MayLeadTo, MayTickTo}
 use Rattle.desk_state.specs.Told.{takes_alert, AreDifferences, takes_none}
 use Rattle.desk_state.proofs.ToldLaws.{call_told, tick_told}
+use Rattle.desk_state.specs.Once.{KeepsUsed}
 use Rattle.desk_state.proofs.LeadingLaws.{call_leads, tick_leads}
+use Rattle.desk_state.specs.Repeats.{AcceptedOnce}
+use Rattle.desk_state.specs.Sweeps.{SweepsWell}
+use Rattle.desk_state.proofs.OnceLaws.{call_uses, tick_uses}
+use Rattle.desk_state.proofs.RepeatLaws.{accepted_again}
+use Rattle.desk_state.proofs.SweepLaws.{sweeps_well}
 use Rattle.desk_state.proofs.Changes.{changes_lead}
 use Rattle.desk_state.proofs.Deciding.{decision_fits}
 use Rattle.desk_state.specs.Contents.{state_of}
@@ -116,6 +122,37 @@ ticked_leads opening before held p lane to is board later within stepped =
     subst (λ (b : Shown). MayTickTo lane to b.state (installed p b.state) p.reply) is
     (tick_leads held.state (installed p held.state) lane to p.reply board.sound (omega (arith, low, later), within) stepped.state stepped.reply)
 
+-- what is prepared keeps what is used of the numbers of persons
+pub prepared_uses : (opening : State) (before held : Shown) (p : Prepared) (lane : ℕ) (call : Call) → held ≡ before → IsBoard opening held.state → CallHasForms call → IsStepped held.state p (answer_call held.state lane call)
+    → KeepsUsed before.state (installed p before.state)
+prepared_uses opening before held p lane call is board form stepped =
+    subst (λ (b : Shown). KeepsUsed b.state (installed p b.state)) is
+    (call_uses held.state (installed p held.state) lane call p.reply board.formed.rising board.sound.single
+    (call_leads held.state (installed p held.state) lane call p.reply board.sound board.kept form stepped.state stepped.reply))
+
+-- once what is prepared is put in place, the call may come again
+pub prepared_again : (opening : State) (before held : Shown) (p : Prepared) (lane : ℕ) (call : Call) → held ≡ before → IsBoard opening held.state → CallHasForms call → IsStepped held.state p (answer_call held.state lane call)
+    → AcceptedOnce before.state (installed p before.state) call
+prepared_again opening before held p lane call is board form stepped =
+    subst (λ (b : Shown). AcceptedOnce b.state (installed p b.state) call) is
+    (accepted_again opening held.state (installed p held.state) lane call p.reply (call_keeps opening held.state (installed p held.state) lane call board form stepped.state)
+    (call_leads held.state (installed p held.state) lane call p.reply board.sound board.kept form stepped.state stepped.reply))
+
+pub prepared_sweeps : (opening : State) (before held : Shown) (p : Prepared) (lane : ℕ) (call : Call) → held ≡ before → IsBoard opening held.state → CallHasForms call → IsStepped held.state p (answer_call held.state lane call)
+    → SweepsWell before.state (installed p before.state) call p.reply
+prepared_sweeps opening before held p lane call is board form stepped =
+    subst (λ (b : Shown). SweepsWell b.state (installed p b.state) call p.reply) is
+    (sweeps_well held.state (installed p held.state) lane call p.reply stepped.state stepped.reply
+    (call_leads held.state (installed p held.state) lane call p.reply board.sound board.kept form stepped.state stepped.reply))
+
+pub ticked_uses : (opening : State) (before held : Shown) (p : Prepared) (lane to : ℕ) → held ≡ before → IsBoard opening held.state → held.state.moment < to → to ≤ 68_374_079
+    → IsStepped held.state p (tick_to held.state lane to) → KeepsUsed before.state (installed p before.state)
+ticked_uses opening before held p lane to is board later within stepped =
+    let low = board.kept.moment.0 in
+    subst (λ (b : Shown). KeepsUsed b.state (installed p b.state)) is
+    (tick_uses held.state (installed p held.state) lane to p.reply board.formed.rising board.sound.single
+    (tick_leads held.state (installed p held.state) lane to p.reply board.sound (omega (arith, low, later), within) stepped.state stepped.reply))
+
 -- an entry of the history has its form
 pub entry_form : (before held : Shown) (i : ℕ) (e : Entry) → held ≡ before → AllByRecursion (λ x. IsEntered x.what) held.state.entries → i < length before.state.entries
     → e ≡ get_or held.state.entries i e → IsEntered e.what
@@ -167,6 +204,16 @@ applied_leads lane call s u t told reply one two leads =
 pub applied_ticks : (lane to : ℕ) (s u t : State) (told reply : Option Reply) → u ≡ t → reply ≡ told → MayTickTo lane to s u told → MayTickTo lane to s t reply
 applied_ticks lane to s u t told reply one two leads =
     subst (λ (v : State). MayTickTo lane to s v reply) one (subst (λ (o : Option Reply). MayTickTo lane to s u o) (sym two) leads)
+
+pub applied_uses : (s u t : State) → u ≡ t → KeepsUsed s u → KeepsUsed s t
+applied_uses s u t is uses = subst (KeepsUsed s) is uses
+
+pub applied_again : (s u t : State) (call : Call) → u ≡ t → AcceptedOnce s u call → AcceptedOnce s t call
+applied_again s u t call is again = subst (λ (v : State). AcceptedOnce s v call) is again
+
+pub applied_sweeps : (s u t : State) (call : Call) (told reply : Option Reply) → u ≡ t → reply ≡ told → SweepsWell s u call told → SweepsWell s t call reply
+applied_sweeps s u t call told reply one two well =
+    subst (λ (v : State). SweepsWell s v call reply) one (subst (λ (o : Option Reply). SweepsWell s u call o) (sym two) well)
 
 -- what is planned of an event leads from the rows of a state to those of the next
 pub planned_keeps : (s t : State) (p : Prepared) (effect : Effect) (e made : Entry) (stepped : Stepped) (cs : Vec Change) → t ≡ s → p.changes ≡ cs → cs.items ≡ event_changes t effect made → made ≡ e

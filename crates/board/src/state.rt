@@ -5,7 +5,10 @@ ghost use Rattle.desk_state.specs.Step.{answer_call, tick_to};
 ghost use Rattle.desk_state.specs.Texts.{closing};
 ghost use Rattle.desk_state.specs.Allowed.{MayLeadTo, MayTickTo};
 ghost use Rattle.desk_state.specs.Told.{takes_alert, AreDifferences, takes_none};
+ghost use Rattle.desk_state.specs.Once.{KeepsUsed};
+ghost use Rattle.desk_state.specs.Repeats.{AcceptedOnce};
 ghost use Rattle.desk_state.specs.Sound.{IsBoard, IsEntered};
+ghost use Rattle.desk_state.specs.Sweeps.{SweepsWell};
 ghost use Rattle.asks.specs.Forms.{ReplyHasMoment};
 ghost use Rattle.call_json.specs.Forms.{CallHasForms};
 ghost use Rattle.desk_io.specs.Rows.{Rows, rows_of, changed_by};
@@ -130,6 +133,9 @@ impl Board {
         ensures stepped { IfOk result (λ p. IsStepped self.old.state p (answer_call self.old.state lane call.now)) }
         ensures shown { IfOk result (λ p. IfSome p.reply ReplyHasMoment) }
         ensures own { IfOk result (λ p. MayLeadTo lane call.now self.old.state (installed p self.old.state) p.reply) }
+        ensures used { IfOk result (λ p. KeepsUsed self.old.state (installed p self.old.state)) }
+        ensures again { IfOk result (λ p. AcceptedOnce self.old.state (installed p self.old.state) call.now) }
+        ensures sweeps { IfOk result (λ p. SweepsWell self.old.state (installed p self.old.state) call.now p.reply) }
         ensures told { IfOk result (λ p. AreDifferences (takes_alert self.old.state call.now.ask) self.old.state
             (installed p self.old.state) p.notices) }
         ensures rows { IfOk result (λ p. KeepsRows self.old.state p) }
@@ -155,6 +161,7 @@ impl Board {
         ensures stepped { IfOk result (λ p. IsStepped self.old.state p (tick_to self.old.state lane to)) }
         ensures shown { IfOk result (λ p. IfSome p.reply ReplyHasMoment) }
         ensures own { IfOk result (λ p. MayTickTo lane to self.old.state (installed p self.old.state) p.reply) }
+        ensures used { IfOk result (λ p. KeepsUsed self.old.state (installed p self.old.state)) }
         ensures told { IfOk result (λ p. AreDifferences takes_none self.old.state
             (installed p self.old.state) p.notices) }
         ensures rows { IfOk result (λ p. KeepsRows self.old.state p) }
@@ -203,6 +210,11 @@ impl Board {
             (answer_call self.old.state lane call.now).state None) }
         ensures own { IfOk result (λ i. MayLeadTo lane call.now self.old.state
             (answer_call self.old.state lane call.now).state i.reply) }
+        ensures used { OnOk result (KeepsUsed self.old.state (answer_call self.old.state lane call.now).state) }
+        ensures again { OnOk result (AcceptedOnce self.old.state
+            (answer_call self.old.state lane call.now).state call.now) }
+        ensures sweeps { IfOk result (λ i. SweepsWell self.old.state
+            (answer_call self.old.state lane call.now).state call.now i.reply) }
         ensures told { IfOk result (λ i. AreDifferences (takes_alert self.old.state call.now.ask) self.old.state
             (answer_call self.old.state lane call.now).state i.notices) }
         ensures err { OnErr result (self.new ≡ shown self.old.opening self.old.state None) }
@@ -225,6 +237,7 @@ impl Board {
         ensures answered { IfOk result (λ i. IsAnswered i (tick_to self.old.state lane to)) }
         ensures own { IfOk result (λ i. MayTickTo lane to self.old.state
             (tick_to self.old.state lane to).state i.reply) }
+        ensures used { OnOk result (KeepsUsed self.old.state (tick_to self.old.state lane to).state) }
         ensures told { IfOk result (λ i. AreDifferences takes_none self.old.state
             (tick_to self.old.state lane to).state i.notices) }
         ensures shown { IfOk result (λ i. IfSome i.reply ReplyHasMoment) }
@@ -236,7 +249,7 @@ impl Board {
     }
 
     /// The greatest moment so far. What holds of a board holds whenever it is asked: its history is legal
-    /// from the opening state; each active release has no alert and fails no rule, or one alert that names
+    /// from the opening state, and each person's accepted calls stand in it once; each active release has no alert and fails no rule, or one alert that names
     /// exactly the rules that it fails; each active revision bears both signatures; and each part has its forms.
     pub fn now(&self) -> Minute
         ensures moment { result ≡ self.now.state.moment }

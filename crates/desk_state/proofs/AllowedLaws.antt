@@ -53,12 +53,12 @@ use Rattle.desk_state.specs.Requests.{kept_at, floor_at}
 use Rattle.desk_state.specs.declared.effect.Effect.{Effect}
 use Rattle.desk_state.specs.declared.effect.Decision.{Decision}
 use Rattle.desk_state.specs.declared.effect.Decision.TheVariants.{Show, Do}
-use Rattle.desk_state.specs.State.{State, grounds_of, failing_in, failing_of, release_at, alert_at, judged}
+use Rattle.desk_state.specs.State.{State, grounds_of, failing_in, failing_of, release_at, alert_at, judged, is_sweep}
 use Rattle.desk_state.specs.Chain.{◌>>-◌, unless}
 use Rattle.desk_state.specs.People.{not_his_role}
 use Rattle.desk_state.specs.Decide as d
 use Rattle.desk_state.specs.Decide.{decide}
-use Rattle.desk_state.specs.Allowed.{MaySign, GainsDispatcher, GainsCaptain, GainsWeather, BothAre, IsPreparing, IsSigning, IsReleased, IsConcurring, HasNotEnded, IsCancelling, IsNextRevision, IsAmending, HasMore, HasNoMore, has_text, IsNextLeg, IsCaptainOf, FliesAs, FliesBy, IsDeparting, IsStopping, IsCompleting, IsInVersion, IsAcknowledging, OfHeld, IsListed, IsEffectOf, admits, defers, clears, drafts, prepares, signs, concurs, amends, cancels, departs, stops, completes, acknowledges, purges, sweeps, HasEndedAt, AskedOf, IsShownTo, IsAnswer, IsUnused, DecisionOf}
+use Rattle.desk_state.specs.Allowed.{MaySign, GainsDispatcher, GainsCaptain, GainsWeather, BothAre, IsPreparing, IsSigning, IsReleased, IsConcurring, HasNotEnded, IsCancelling, IsNextRevision, IsAmending, HasMore, HasNoMore, has_text, IsNextLeg, IsCaptainOf, FliesAs, FliesBy, IsDeparting, IsStopping, IsCompleting, IsInVersion, IsAcknowledging, OfHeld, IsListed, IsEffectOf, admits, defers, clears, drafts, prepares, signs, concurs, amends, cancels, departs, stops, completes, acknowledges, purges, sweeps, HasEndedAt, AskedOf, IsShownTo, IsAnswer, IsUnused, DecisionOf, IsSweeping}
 use Rattle.desk_io.proofs.Bytes.{same_bytes}
 
 given : {A : Type 0} (s : State) (actor : List ℕ) (a : Ask) (m : Result A Refusal) (f : A → Result Decision Refusal) → ((x : A) → m ≡ Ok x → AskedOf s actor a (f x)) → AskedOf s actor a (m >>- f)
@@ -533,7 +533,7 @@ ask_is s actor (ask.ViewDeferred tail) sound = deferred s actor tail
 -- Requests that come again.
 
 -- an ask that changes something is no view
-no_view : (s : State) (actor : List ℕ) {a : Ask} {effect : Effect} {made : DoneType} → IsEffectOf s actor a effect made → d.is_view a ≡ false
+pub no_view : (s : State) (actor : List ℕ) {a : Ask} {effect : Effect} {made : DoneType} → IsEffectOf s actor a effect made → d.is_view a ≡ false
 no_view s actor (admits is) = refl
 no_view s actor (defers is) = refl
 no_view s actor (clears is) = refl
@@ -598,3 +598,41 @@ numbered_is false s call e sound = once_is (kept_at call.actor call.number s.kep
 pub decision_is : (s : State) (call : Call) → Sound s → DecisionOf s call (decide s call)
 unfolding decide
 decision_is s call sound = passing s call (not_his_role (actor_of s.tables call.actor) call.ask) _ (λ e. numbered_is (d.is_view call.ask) s call refl sound)
+
+-- ---- what no ask but some does
+
+-- an effect sweeps only what a sweep may
+pub sweep_of : (s : State) (actor : List ℕ) {a : Ask} {does : Effect} {made : DoneType} → IsEffectOf s actor a does made → IfSome does.sweep (λ w. IsSweeping s w.before w.attached w.floors)
+sweep_of s actor (admits is) = tt
+sweep_of s actor (defers is) = tt
+sweep_of s actor (clears is) = tt
+sweep_of s actor (drafts is) = tt
+sweep_of s actor (prepares is pending) = tt
+sweep_of s actor (signs is) = tt
+sweep_of s actor (concurs is) = tt
+sweep_of s actor (amends is) = tt
+sweep_of s actor (cancels is) = tt
+sweep_of s actor (departs is) = tt
+sweep_of s actor (stops is) = tt
+sweep_of s actor (completes is) = tt
+sweep_of s actor (acknowledges is has) = tt
+sweep_of s actor (sweeps is) = is
+sweep_of s actor (purges is has) = tt
+
+-- an ask that isn't a sweep sweeps nothing
+pub no_sweep : (s : State) (actor : List ℕ) {a : Ask} {effect : Effect} {made : DoneType} → IsEffectOf s actor a effect made → is_sweep a ≡ false → effect.sweep ≡ None
+no_sweep s actor (admits is) e = refl
+no_sweep s actor (defers is) e = refl
+no_sweep s actor (clears is) e = refl
+no_sweep s actor (drafts is) e = refl
+no_sweep s actor (prepares is pending) e = refl
+no_sweep s actor (signs is) e = refl
+no_sweep s actor (concurs is) e = refl
+no_sweep s actor (amends is) e = refl
+no_sweep s actor (cancels is) e = refl
+no_sweep s actor (departs is) e = refl
+no_sweep s actor (stops is) e = refl
+no_sweep s actor (completes is) e = refl
+no_sweep s actor (acknowledges is has) e = refl
+no_sweep s actor (sweeps is) e = absurd (cc)
+no_sweep s actor (purges is has) e = refl

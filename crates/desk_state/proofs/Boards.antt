@@ -48,6 +48,7 @@ use Rattle.desk_state.proofs.AllowedLaws.{decision_is}
 use Rattle.desk_state.specs.Allowed.{DecisionOf}
 use Rattle.desk_state.proofs.Parts.{tick_fits, judgeable, moment_shown, none_found, reports_unlike, reports_numbered, reports_rise, reports_few, swept_each, swept_unlike, swept_rise, swept_fewer, kept_each, kept_single, kept_rise, kept_fewer, still_unused, report_next, deferrals_open, deferral_next, releases_rise, releases_valid, releases_kept, releases_held, releases_told, release_next}
 use Rattle.desk_state.proofs.Deciding.{decision_fits}
+use Rattle.desk_state.proofs.OnceLaws.{accepted_once, none_once, ticked_once}
 use Rattle.desk_state.proofs.FormLaws.{start_formed, tick_formed, command_formed}
 use Rattle.desk_state.proofs.NameForms.{person_formed}
 use Rattle.desk_io.proofs.Each.{each_weaker, each_push}
@@ -97,10 +98,10 @@ record IsEffected (t : State) : Type 0 where
   pub entries : length t.entries < 400_000
   pub forms : AllByRecursion (λ e. IsEntered e.what) t.entries
 
-few_entries : (s : State) → is_full s ≡ false → length s.entries < 400_000
+pub few_entries : (s : State) → is_full s ≡ false → length s.entries < 400_000
 few_entries s room = leb-false 400_000 (length s.entries) (or_parts (nat_le 400_000 (length s.entries)) (nat_le 999_999_999_999_000 s.counters.events) room).0
 
-few_events : (s : State) → is_full s ≡ false → s.counters.events < 999_999_999_999_000
+pub few_events : (s : State) → is_full s ≡ false → s.counters.events < 999_999_999_999_000
 few_events s room = leb-false 999_999_999_999_000 s.counters.events (or_parts (nat_le 400_000 (length s.entries)) (nat_le 999_999_999_999_000 s.counters.events) room).1
 
 -- where a command may come, an event may
@@ -246,6 +247,7 @@ tick_by false opening s lane to full board later within =
     record {
       tables = board.tables;
       history = history_more opening s (ticked s lane to).state lane (what.Tick to) board.history (later, full) is refl;
+      once = ticked_once opening s lane to board.formed.rising board.sound.single board.once;
       sound = event_sound (effected (tick to) s) (entry lane (what.Tick to)) effect tt;
       kept = kept;
       formed = tick_formed s lane to kept board.formed;
@@ -300,6 +302,7 @@ enter_board false opening s lane call made effect full is fits person has board 
     record {
       tables = board.tables;
       history = accepted_history opening s lane call made effect is full board.history;
+      once = accepted_once opening s lane call made effect board.formed.rising board.sound.single decided.0 decided.1 board.once;
       sound = event_sound (effected effect s) entered_as event (still_unused call.actor call.number effect.sweep s.kept decided.0.none);
       kept = kept;
       formed = command_formed s lane call made effect decided (record { formed = board.formed; sound = board.sound; bounds = board.kept }) person has kept;
@@ -327,6 +330,7 @@ pub start_board : (tables : TableRows) → AreNamed tables → IsBoard (start ta
 start_board tables names = record {
   tables = refl;
   history = record { empty = refl; legal = refl };
+  once = none_once (start tables) refl;
   sound = record { alerted = tt; own = refl; alerts = tt; valid = tt; unlike = λ i j d before within. absurd (omega (arith, before, within)); single = λ i j d before within. absurd (omega (arith, before, within)); ids = omega arith };
   kept = record {
     moment = (omega arith, omega arith);

@@ -56,7 +56,7 @@ here_rises Less actor number f rest raised e below rising above more = ((e, all_
 here_rises Equal actor number f rest raised e below rising above more = (below, rising)
 here_rises Greater actor number f rest raised e below rising above more = (above refl, more)
 
-raised_rises : (actor : List ℕ) (number : ℕ) (fs : List Floor) → FloorsRise fs → FloorsRise (raised_to actor number fs)
+pub raised_rises : (actor : List ℕ) (number : ℕ) (fs : List Floor) → FloorsRise fs → FloorsRise (raised_to actor number fs)
 raised_rises actor number [] rising = (tt, tt)
 raised_rises actor number (f ∷ fs) rising =
     here_rises (slice_cmp nat_cmp actor f.actor) actor number f fs (raised_to actor number fs) refl rising.0 rising.1

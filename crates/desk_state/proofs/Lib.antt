@@ -3,12 +3,16 @@ pub mod Judging
 pub mod Parts
 pub mod Passed
 pub mod Deciding
+pub mod Found
+pub mod FloorLaws
+pub mod OnceLaws
 pub mod Boards
 pub mod Changes
 pub mod AllowedLaws
 pub mod LeadingLaws
 pub mod ToldLaws
 pub mod RepeatLaws
+pub mod SweepLaws
 pub mod FindingForms
 pub mod AlertForms
 pub mod FloorForms

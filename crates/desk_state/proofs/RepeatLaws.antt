@@ -1,39 +1,33 @@
 -- A command that comes again gets what is kept of it, and changes nothing.
-use Rattle.std.proofs.Common.{◌≡◌, ℕ, ◌<◌, ◌≤◌, Bool, true, false, eq-eqb, List, [], ◌∷◌, ◌++◌, Option, None, Some, refl, ap, sym, ◌∙◌, arith, inl, inr}
+use Rattle.std.proofs.Common.{◌≡◌, ℕ, ◌<◌, ◌≤◌, Bool, true, false, List, [], ◌∷◌, ◌++◌, Option, None, Some, refl, ap, sym, ◌∙◌, arith, inl, inr}
 use Rattle.std.specs.Prelude.{nat_lt}
-use Rattle.std.specs.Option.{option_or}
 use Rattle.std.specs.List.{AllByRecursion}
-use Rattle.std.specs.Str.{bytes_eq}
 use Rattle.std.proofs.lemmas.Bool.{le-ltb, ltb-true}
-use Rattle.std.proofs.lemmas.List.Folds.{find-append}
-use Rattle.std.proofs.lemmas.Slice.Eq.{bytes_eq-Decides}
-use Rattle.asks.specs.declared.call.Ask.{Ask}
+use Rattle.ops_tables.specs.Tables.{TableRows, actor_of}
 use Rattle.asks.specs.declared.call.Call.{Call}
 use Rattle.asks.specs.declared.kept.KeptReply.{KeptReply}
-use Rattle.asks.specs.declared.reply.Done.{Done as DoneType}
 use Rattle.asks.specs.declared.reply.Reply.{Reply}
 use Rattle.asks.specs.declared.reply.Reply.TheVariants.{Done}
 use Rattle.call_json.specs.Forms.{CallHasForms}
 use Rattle.call_json.specs.Canonical.{ask_digest}
-use Rattle.desk_state.specs.Allowed.{IsEffectOf, admits, defers, clears, drafts, prepares, signs, concurs, amends, cancels, departs, stops, completes, acknowledges, purges, sweeps, MayLeadTo, MayTickTo}
-use Rattle.desk_state.specs.Decide.{decide}
+use Rattle.desk_state.specs.Allowed.{IsPermitted, MayLeadTo, MayTickTo}
+use Rattle.desk_state.specs.Decide.{decide, is_view}
 use Rattle.desk_state.specs.Events.{effected, kept_after}
 use Rattle.desk_state.specs.Lanes.{Answered, said_at, said_of, answer, made_by, once_ticked, answer_item, outcomes, after_items}
-use Rattle.desk_state.specs.Repeats.{MayAsk, IsKeptFor, SweepsNothing, IsAskable, MayBeLeftOut}
-use Rattle.desk_state.specs.Requests.{is_request, kept_at}
+use Rattle.desk_state.specs.People.{mistaken, not_his_role}
+use Rattle.desk_state.specs.Repeats.{MayAsk, IsKeptFor, SweepsNothing, IsAskable, MayBeLeftOut, MayComeAgain, AcceptedOnce}
+use Rattle.desk_state.specs.Requests.{kept_at}
 use Rattle.desk_state.specs.Sound.{IsBoard}
 use Rattle.desk_state.specs.State.{State, is_sweep}
 use Rattle.desk_state.specs.Step.{Stepped, kept_reply, stay, do_call, answer_call, tick_to}
-use Rattle.desk_state.specs.declared.effect.Effect.{Effect}
 use Rattle.desk_state.specs.declared.lanes.Item.{Item}
 use Rattle.desk_state.specs.declared.lanes.Item.TheVariants as item
 use Rattle.desk_state.specs.declared.lanes.Said.TheVariants as said
 use Rattle.desk_state.proofs.LeadingLaws.{call_leads, tick_leads}
+use Rattle.desk_state.proofs.AllowedLaws.{no_sweep, no_view}
 use Rattle.desk_state.proofs.Boards.{call_keeps, tick_keeps}
+use Rattle.desk_state.proofs.Found.{new_found, same_bytes, still_found}
 use Rattle.desk_state.proofs.Parts.{still_unused}
-
-same_bytes : (a b : List ℕ) → a ≡ b → bytes_eq a b ≡ true
-same_bytes a b e = (bytes_eq-Decides a b).1 e
 
 -- ---- the command itself
 
@@ -43,38 +37,6 @@ unfolding answer_call do_call decide
 repeat_stays s lane call k may is = rw (may.known, may.role, may.command, is.held, same_bytes k.digest (ask_digest call.ask) is.same) refl
 
 -- ---- what is kept of a command
-
--- an ask that isn't a sweep sweeps nothing
-no_sweep : (s : State) (actor : List ℕ) {a : Ask} {effect : Effect} {made : DoneType} → IsEffectOf s actor a effect made → is_sweep a ≡ false → effect.sweep ≡ None
-no_sweep s actor (admits is) e = refl
-no_sweep s actor (defers is) e = refl
-no_sweep s actor (clears is) e = refl
-no_sweep s actor (drafts is) e = refl
-no_sweep s actor (prepares is pending) e = refl
-no_sweep s actor (signs is) e = refl
-no_sweep s actor (concurs is) e = refl
-no_sweep s actor (amends is) e = refl
-no_sweep s actor (cancels is) e = refl
-no_sweep s actor (departs is) e = refl
-no_sweep s actor (stops is) e = refl
-no_sweep s actor (completes is) e = refl
-no_sweep s actor (acknowledges is has) e = refl
-no_sweep s actor (sweeps is) e = absurd (cc)
-no_sweep s actor (purges is has) e = refl
-
-or_first : (k : KeptReply) (o p : Option KeptReply) → o ≡ Some k → option_or o p ≡ Some k
-or_first k None p e = absurd (cc)
-or_first k (Some x) p e = e
-
--- what is found is found where more is added
-still_found : (actor : List ℕ) (number : ℕ) (ks more : List KeptReply) (k : KeptReply) → kept_at actor number ks ≡ Some k → kept_at actor number (ks ++ more) ≡ Some k
-still_found actor number ks more k is = find-append (is_request actor number) ks more ∙ or_first k (kept_at actor number ks) (kept_at actor number more) is
-
-new_found : (actor : List ℕ) (number : ℕ) (ks : List KeptReply) (k : KeptReply) → kept_at actor number ks ≡ None → k.actor ≡ actor → k.number ≡ number → kept_at actor number (ks ++ k ∷ []) ≡ Some k
-new_found actor number ks k none its_actor its_number =
-    find-append (is_request actor number) ks (k ∷ [])
-    ∙ ap (λ o. option_or o (kept_at actor number (k ∷ []))) none
-    ∙ rw (eq-eqb k.number number its_number, same_bytes k.actor actor its_actor) refl
 
 -- What an accepted command has done is kept with its reply.
 pub accepted_kept : (s t : State) (lane : ℕ) (call : Call) (reply : Option Reply) → MayLeadTo lane call s t reply → (t ≡ s → ⊥)
@@ -147,14 +109,16 @@ unfolding answer
 after_item opening s lane (item.Bad fault) actor number k form e holds = holds
 after_item opening s lane (item.Call at call) actor number k form e holds = after_answer (nat_lt s.moment at) opening s lane at call actor number k refl form.0 form.1 e holds
 
+holds_through : (opening s : State) (lane : ℕ) (items : List Item) (actor : List ℕ) (number : ℕ) (k : KeptReply) → AllByRecursion IsAskable items → AllByRecursion SweepsNothing items
+    → Holds opening actor number k s → Holds opening actor number k (after_items lane s items)
+holds_through opening s lane [] actor number k forms none holds = holds
+holds_through opening s lane (i ∷ rest) actor number k forms none holds =
+    holds_through opening (answer_item lane s i).state lane rest actor number k forms.1 none.1 (after_item opening s lane i actor number k forms.0 none.0 holds)
+
 -- What is kept of a command stays kept while other items come, of which none sweeps anything.
 pub kept_through : (opening s : State) (lane : ℕ) (items : List Item) (actor : List ℕ) (number : ℕ) (k : KeptReply) → IsBoard opening s → AllByRecursion IsAskable items
     → AllByRecursion SweepsNothing items → kept_at actor number s.kept ≡ Some k → kept_at actor number (after_items lane s items).kept ≡ Some k
-kept_through opening s lane items actor number k board forms none is = (through s items forms none (record { board = board; held = is })).held
-  where
-    through : (u : State) (rest : List Item) → AllByRecursion IsAskable rest → AllByRecursion SweepsNothing rest → Holds opening actor number k u → Holds opening actor number k (after_items lane u rest)
-    through u [] forms none holds = holds
-    through u (i ∷ rest) forms none holds = through (answer_item lane u i).state rest forms.1 none.1 (after_item opening u lane i actor number k forms.0 none.0 holds)
+kept_through opening s lane items actor number k board forms none is = (holds_through opening s lane items actor number k forms none (record { board = board; held = is })).held
 
 outcomes_on : (lane : ℕ) (s : State) (xs ys : List Item) → outcomes lane s (xs ++ ys) ≡ outcomes lane s xs ++ outcomes lane (after_items lane s xs) ys
 outcomes_on lane s [] ys = refl
@@ -182,3 +146,30 @@ left_out s lane before after at call k within may is =
       outcomes_without = outcomes_on lane s before after;
       states = items_on lane s before (item.Call at call ∷ after) ∙ ap (λ (a : Answered). after_items lane a.state after) again ∙ sym (items_on lane s before after);
     }
+
+-- ---- an accepted command that comes again
+
+pub may_ask_as : (s t : State) (call : Call) → t.tables ≡ s.tables → MayAsk s call → MayAsk t call
+may_ask_as s t call same may = record {
+  known = ap (λ (tables : TableRows). mistaken (actor_of tables call.actor) call.key) same ∙ may.known;
+  role = ap (λ (tables : TableRows). not_his_role (actor_of tables call.actor) call.ask) same ∙ may.role;
+  command = may.command;
+}
+
+-- what is kept of a command lets it come again
+pub comes_again : (opening s : State) (call : Call) (k : KeptReply) → IsBoard opening s → MayAsk s call → IsKeptFor s call k → MayComeAgain s call k
+comes_again opening s call k board may is lane before after at forms none within =
+    let holds = holds_through opening s lane before call.actor call.number k forms none (record { board = board; held = is.held }) in
+    left_out s lane before after at call k within (may_ask_as s (after_items lane s before) call (holds.board.tables ∙ sym board.tables) may) (record { held = holds.held; same = is.same })
+
+pub permitted_asks : (s : State) (call : Call) → IsPermitted s call → is_view call.ask ≡ false → MayAsk s call
+permitted_asks s call is command =
+    let known = is.known in let role = is.role in
+    record { known = rw (known, same_bytes is.person.key call.key is.key) refl; role = rw (known, role) refl; command = command }
+
+-- once it was accepted it may come again
+pub accepted_again : (opening s t : State) (lane : ℕ) (call : Call) (reply : Option Reply) → IsBoard opening t → MayLeadTo lane call s t reply → AcceptedOnce s t call
+accepted_again opening s t lane call reply board (inl same) = record { again = λ changes. absurd (changes same.0) }
+accepted_again opening s t lane call reply board (inr leads) =
+    let may : MayAsk t call = may_ask_as s t call leads.8.tables (permitted_asks s call leads.0 (no_view s call.actor leads.3)) in
+    record { again = λ changes. let kept = accepted_kept s t lane call reply (inr leads) changes in (kept.0, kept.1, comes_again opening t call kept.0 board may kept.1) }

@@ -9,6 +9,8 @@ pub mod Decide
 pub mod Step
 pub mod Legal
 pub mod Formed
+pub mod Once
+pub mod Sweeps
 pub mod Sound
 pub mod Lanes
 pub mod Repeats

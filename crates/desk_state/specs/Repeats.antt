@@ -1,5 +1,6 @@
 -- A command that comes again.
-use Rattle.std.specs.Prelude.{◌≡◌, ℕ, ◌≤◌, false, List, ◌∷◌, ◌++◌, None, Some}
+use Rattle.std.specs.Prelude.{◌≡◌, ◌≢◌, ℕ, ◌≤◌, false, List, ◌∷◌, ◌++◌, None, Some}
+use Rattle.std.specs.List.{AllByRecursion}
 use Rattle.ops_tables.specs.Tables.{actor_of}
 use Rattle.asks.specs.declared.call.Call.{Call}
 use Rattle.asks.specs.declared.kept.KeptReply.{KeptReply}
@@ -43,3 +44,13 @@ pub record MayBeLeftOut (lane : ℕ) (s : State) (before after : List Item) (at 
       ≡ outcomes lane s before ++ (said_at (after_items lane s before) (said.Reply (Done k.done)) (after_items lane s before)).outcome ∷ outcomes lane (after_items lane s before) after
   pub outcomes_without : outcomes lane s (before ++ after) ≡ outcomes lane s before ++ outcomes lane (after_items lane s before) after
   pub states : after_items lane s (before ++ item.Call at call ∷ after) ≡ after_items lane s (before ++ after)
+
+-- A call of which something is kept may come again: among items that may be asked, of which none before it sweeps anything, it
+-- may be left out at any moment that has come.
+abbrev pub MayComeAgain : State → Call → KeptReply → Type 0
+MayComeAgain s call k = (lane : ℕ) (before after : List Item) (at : ℕ) → AllByRecursion IsAskable before → AllByRecursion SweepsNothing before
+    → at ≤ (after_items lane s before).moment → MayBeLeftOut lane s before after at call k
+
+-- What an accepted call, which has changed the state, has done is kept, and the call may come again.
+pub record AcceptedOnce (s t : State) (call : Call) : Type 0 where
+  pub again : t ≢ s → (k : KeptReply) × IsKeptFor t call k × MayComeAgain t call k

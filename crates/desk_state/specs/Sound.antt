@@ -32,6 +32,7 @@ use Rattle.release_text.specs.Valid.{IsValid}
 use Rattle.desk_state.specs.Formed.{AreFormed}
 use Rattle.desk_state.specs.State.{State, grounds_of, failing_of, alert_at}
 use Rattle.desk_state.specs.Legal.{IsHistory}
+use Rattle.desk_state.specs.Once.{AreOnce}
 use Rattle.desk_state.specs.Requests.{is_request}
 
 -- No alert stands where none is asked for or no rule fails; one that stands names exactly the rules that fail.
@@ -216,11 +217,13 @@ DecisionFits s (Err refusal) = RefusalHasMoment refusal
 DecisionFits s (Ok (Show reply)) = ReplyHasMoment reply
 DecisionFits s (Ok (Do made effect)) = EffectFits s effect
 
--- What holds of a board at every moment: its state comes from the opening one by a history of legal steps, is sound,
--- keeps its bounds, and each part of it has its forms, so that its rows are read again.
+-- What holds of a board at every moment: its state comes from the opening one by a history of legal steps, in which each
+-- person's accepted calls stand once; it is sound, keeps its bounds, and each part of it has its forms, so that its rows are
+-- read again.
 pub record IsBoard (opening s : State) : Type 0 where
   pub tables : s.tables ≡ opening.tables
   pub history : IsHistory opening s
+  pub once : AreOnce opening s
   pub sound : Sound s
   pub kept : InBounds s
   pub formed : AreFormed s

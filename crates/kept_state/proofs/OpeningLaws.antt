@@ -7,12 +7,14 @@ use Rattle.plan.specs.declared.release.Release.{Release}
 use Rattle.desk_state.specs.Effects.{nothing}
 use Rattle.desk_state.specs.Events.{alert_changes, put_changes}
 use Rattle.desk_state.specs.Legal.{IsHistory}
+use Rattle.desk_state.specs.Once.{AreOnce}
 use Rattle.desk_state.specs.Sound.{AreCounters, AreJudgeable, InBounds, IsBoard, MayStand, Sound}
 use Rattle.desk_state.specs.State.{State, judged_all}
 use Rattle.desk_state.specs.declared.change.AlertChange.{AlertChange}
 use Rattle.desk_state.specs.declared.counters.Counters.{Counters}
 use Rattle.desk_state.proofs.Changes.{changes_lead_by}
 use Rattle.desk_state.proofs.Judging.{all_own, are_alerted, are_alerts}
+use Rattle.desk_state.proofs.OnceLaws.{none_once}
 use Rattle.desk_state.proofs.Parts.{more_valid}
 use Rattle.kept_state.specs.Opening.{MayReopen, counters_with, events_with, reopened}
 use Rattle.kept_state.proofs.ReopenedForms.{reopened_formed}
@@ -78,6 +80,10 @@ history : (s : State) → MayReopen s → IsHistory (reopened s) (reopened s)
 unfolding reopened
 history s may = record { empty = may.fresh; legal = rw (may.fresh) refl }
 
+once : (s : State) → MayReopen s → AreOnce (reopened s) (reopened s)
+unfolding reopened
+once s may = none_once (reopened s) may.fresh
+
 -- once a state is judged on opening, all holds of it that holds of a board
 pub reopened_board : (s : State) → MayReopen s → IsBoard (reopened s) (reopened s)
-reopened_board s may = record { tables = refl; history = history s may; sound = sound s may; kept = bounds s may; formed = reopened_formed s may }
+reopened_board s may = record { tables = refl; history = history s may; once = once s may; sound = sound s may; kept = bounds s may; formed = reopened_formed s may }

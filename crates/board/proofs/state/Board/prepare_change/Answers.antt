@@ -1,4 +1,4 @@
-use Rattle.board.proofs.Kept.{call_ready, call_reply, prepared_leads, prepared_told}
+use Rattle.board.proofs.Kept.{call_ready, call_reply, prepared_leads, prepared_told, prepared_uses, prepared_again, prepared_sweeps}
 use Rattle.board.proofs.state.Board.prepare_change.Goals as goal
 
 pub invariant_of-self-2 : goal.invariant_of-self-2
@@ -13,3 +13,12 @@ returns-clause-own g c = prepared_leads _ _ _ _ _ _ c.self.view_is c.self.invari
 
 pub returns-clause-told : goal.returns-clause-told
 returns-clause-told g c = prepared_told _ _ _ _ _ _ c.self.view_is c.self.invariant.0 c.requires c.in_ok-prepared.ensures.stepped
+
+pub returns-clause-used : goal.returns-clause-used
+returns-clause-used g c = prepared_uses _ _ _ _ _ _ c.self.view_is c.self.invariant.0 c.requires c.in_ok-prepared.ensures.stepped
+
+pub returns-clause-again : goal.returns-clause-again
+returns-clause-again g c = prepared_again _ _ _ _ _ _ c.self.view_is c.self.invariant.0 c.requires c.in_ok-prepared.ensures.stepped
+
+pub returns-clause-sweeps : goal.returns-clause-sweeps
+returns-clause-sweeps g c = prepared_sweeps _ _ _ _ _ _ c.self.view_is c.self.invariant.0 c.requires c.in_ok-prepared.ensures.stepped

@@ -1,4 +1,4 @@
-use Rattle.board.proofs.Kept.{tick_ready, tick_reply, later_than, ticked_leads, ticked_told}
+use Rattle.board.proofs.Kept.{tick_ready, tick_reply, later_than, ticked_leads, ticked_told, ticked_uses}
 use Rattle.board.proofs.state.Board.prepare_tick.Goals as goal
 
 pub invariant_of-self-2 : goal.invariant_of-self-2
@@ -16,3 +16,7 @@ returns-clause-told g c =
 pub returns-clause-own : goal.returns-clause-own
 returns-clause-own g c =
     ticked_leads _ _ _ _ _ _ c.self.view_is c.self.invariant.0 (later_than _ _ _ c.self.view_is c.requires.later) c.requires.within c.in_ok-prepared.ensures.stepped
+
+pub returns-clause-used : goal.returns-clause-used
+returns-clause-used g c =
+    ticked_uses _ _ _ _ _ _ c.self.view_is c.self.invariant.0 (later_than _ _ _ c.self.view_is c.requires.later) c.requires.within c.in_ok-prepared.ensures.stepped

@@ -1,0 +1,47 @@
+-- What a sweep must leave, and that it can come.
+use Rattle.std.specs.Prelude.{◌≡◌, ◌≢◌, ℕ, ◌+◌, ◌<◌, ◌≤◌, ◌==◌, false, List, find, length, Option, Some, IfSome}
+use Rattle.std.specs.List.{AllByRecursion}
+use Rattle.asks.specs.declared.call.Ask.{Ask}
+use Rattle.asks.specs.declared.call.Ask.TheVariants as ask
+use Rattle.asks.specs.declared.call.Call.{Call}
+use Rattle.asks.specs.declared.reply.Done.{Done as DoneType}
+use Rattle.asks.specs.declared.reply.Reply.{Reply}
+use Rattle.asks.specs.declared.reply.Reply.TheVariants.{Done}
+use Rattle.facts.specs.declared.report.Report.{Report}
+use Rattle.plan.specs.declared.release.Release.{Release}
+use Rattle.plan.specs.declared.release.Revision.{Revision}
+use Rattle.desk_state.specs.Allowed.{IsPermitted, IsUnused}
+use Rattle.desk_state.specs.State.{State, is_sweep}
+
+abbrev pub report_at : ℕ → List Report → Option Report
+report_at id reports = find (λ r. r.id == id) reports
+
+-- each held report that is attached to a revision is held still
+abbrev pub StayAttached : State → State → Revision → Type 0
+StayAttached s t v = AllByRecursion (λ a. IfSome (report_at a.report s.reports) (λ r. report_at a.report t.reports ≡ Some r)) v.attached
+
+-- each held report that a pending or an active revision attaches is held still
+abbrev pub KeepsAttached : State → State → Type 0
+KeepsAttached s t = AllByRecursion (λ (r : Release). IfSome r.pending (StayAttached s t) × IfSome r.active (StayAttached s t)) s.releases
+
+-- an event may come: fewer than 400,000 entries and 999,999,999,999,000 events were there
+pub record MayGoOn (s : State) : Type 0 where
+  pub entries : length s.entries < 400_000
+  pub events : s.counters.events < 999_999_999_999_000
+
+-- An ask that changes something comes while an event may, and fewer than 400,000 replies are kept, unless it is a sweep.
+pub record ComesInTime (s : State) (a : Ask) : Type 0 where
+  pub event : MayGoOn s
+  pub kept : is_sweep a ≡ false → length s.kept < 400_000
+
+-- A sweep that a person may ask under an unused number, of what is three days old and older, is done while an event may come,
+-- however many replies are kept.
+abbrev pub CanSweep : State → Call → Option Reply → Type 0
+CanSweep s call reply = (before : ℕ) → call.ask ≡ ask.Sweep before → IsPermitted s call → IsUnused s call → before + 4320 ≤ s.moment → MayGoOn s
+    → (made : DoneType) × (reply ≡ Some (Done made))
+
+-- What a call leads to from one state to another with a reply: attached reports stay, a change comes in time, and a sweep can come.
+pub record SweepsWell (s t : State) (call : Call) (reply : Option Reply) : Type 0 where
+  pub attached : KeepsAttached s t
+  pub time : t ≢ s → ComesInTime s call.ask
+  pub sweep : CanSweep s call reply
