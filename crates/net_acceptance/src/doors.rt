@@ -29,25 +29,16 @@ fn echo<D: Door>(door: &mut D) -> bool {
 #[test]
 fn a_door_gives_its_links_in_order(rt: HostRuntime) -> Result<(), Fail> {
     let alloc = rt.alloc();
-    let links = vec![in alloc;
-        link_of(alloc, b"one".as_slice())?,
-        link_of(alloc, b"two".as_slice())?,
-    ]?;
-    let fail = vec![in alloc; 2]?;
-    let mut door = MemoryDoor::new(alloc, links, fail);
+    let links = vec![in alloc; link_of(alloc, b"one")?, link_of(alloc, b"two")?]?;
+    let mut door = MemoryDoor::new(alloc, links, vec![in alloc; 2]?);
     assert!(rt; door.bind(80).is_ok());
-    assert!(rt; echo(&mut door));
-    assert!(rt; !echo(&mut door));
-    assert!(rt; door.faults() == 1);
-    assert!(rt; echo(&mut door));
-    assert!(rt; !echo(&mut door));
-    assert!(rt; door.faults() == 2);
-    let ended = door.ended();
-    assert_eq!(rt; ended.len(), 2);
-    if ended.len() == 2 {
-        assert!(rt; ended[0].written() == b"one".as_slice());
-        assert!(rt; ended[1].written() == b"two".as_slice());
+    for (heard, faults) in [(true, 0), (false, 1), (true, 1), (false, 2)] {
+        assert!(rt; echo(&mut door) == heard && door.faults() == faults);
     }
+    let [one, two] = door.ended() else {
+        panic!(rt; "two links have ended");
+    };
+    assert!(rt; one.written() == b"one".as_slice() && two.written() == b"two".as_slice());
     Ok(())
 }
 

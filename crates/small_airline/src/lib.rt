@@ -1,12 +1,16 @@
-//! A small airline for tests: the texts of its twelve tables, and whether a plan has the form in which it may be
-//! checked.
+//! A small airline for tests: the texts of its twelve tables, its scripts and reports, and whether a plan has the form in
+//! which it may be checked.
 #![tactic(auto)]
 
 mod plans;
+mod reports;
+mod scripts;
 
 use desk_io::{MemoryShelf, OutOfMemory, Text, push_all};
 use ops_tables::Tables;
 pub use plans::may_be_checked;
+pub use reports::{DAY, admit, reports_of};
+pub use scripts::{SIGNED, push_script, script_of};
 use std::alloc::Global;
 use table_files::{TableFault, read_tables};
 
