@@ -3,10 +3,9 @@ use asks::{Done, Refusal, Reply};
 use codes::ReportFault;
 use desk_io::{Copied, LineFeeds, OutOfMemory, Text, runs_between};
 use desk_json::{CallFault, read_line};
-use facts::{Report, read_report};
 use plan::{Finding, Findings, Rule};
 use records::Record;
-use small_airline::{SIGNED, script_of};
+use small_airline::{SIGNED, reports_of, script_of};
 use std::alloc::Global;
 use std::fmt::Debug;
 use std::test::Fail;
@@ -59,20 +58,11 @@ fn replies_copied(alloc: Global) -> Result<bool, OutOfMemory> {
     )
 }
 
-fn report_copied(alloc: Global) -> Result<bool, OutOfMemory> {
-    let text = Text::of(alloc, b"METAR KJFK 121651Z 24008KT 10SM FEW250")?;
-    match read_report(alloc, text.bytes(), 29_029_500) {
-        Ok(read) => is_copied(
-            alloc,
-            &Report {
-                id: 1,
-                received: 29_029_500,
-                text,
-                read,
-            },
-        ),
-        Err(ReportFault::OutOfMemory) => Err(OutOfMemory),
-        Err(ReportFault::Bad(_)) => Ok(false),
+fn report_copied(alloc: Global) -> Result<bool, ReportFault> {
+    let reports = reports_of(alloc, &[(1, b"METAR KJFK 121651Z 24008KT 10SM FEW250")])?;
+    match reports.as_slice() {
+        [report] => Ok(is_copied(alloc, report)?),
+        _ => Ok(false),
     }
 }
 

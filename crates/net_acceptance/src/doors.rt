@@ -63,15 +63,13 @@ fn call<N: Net>(net: &N, port: u16, word: &[u8]) -> io::Result<N::Stream> {
 #[test]
 fn two_callers_are_served_over_the_loopback(rt: HostRuntime) -> Result<(), Fail> {
     let mut door = TcpDoor::new(&rt);
-    assert!(rt; !echo(&mut door));
-    assert!(rt; door.faults() == 1);
+    assert!(rt; !echo(&mut door) && door.faults() == 1);
     let Some(port) = open(&mut door) else {
         panic!(rt; "no port is free");
     };
     let mut first = call(&rt, port, b"ping".as_slice())?;
     let mut second = call(&rt, port, b"abc".as_slice())?;
-    assert!(rt; echo(&mut door));
-    assert!(rt; echo(&mut door));
+    assert!(rt; echo(&mut door) && echo(&mut door));
     let mut heard = Vec::new(rt.alloc());
     first.read_to_end(&mut heard)?;
     assert!(rt; heard.as_slice() == b"ping".as_slice());
@@ -79,8 +77,7 @@ fn two_callers_are_served_over_the_loopback(rt: HostRuntime) -> Result<(), Fail>
     assert!(rt; heard.as_slice() == b"pingabc".as_slice());
     // a port that is taken
     let mut other = TcpDoor::new(&rt);
-    assert!(rt; other.bind(port).is_err());
-    assert!(rt; other.faults() == 1);
+    assert!(rt; other.bind(port).is_err() && other.faults() == 1);
     Ok(())
 }
 
@@ -107,10 +104,8 @@ fn a_link_ends_and_fails_as_its_caller_goes(rt: HostRuntime) -> Result<(), Fail>
     let mut into = [7; 8];
     assert!(rt; link.read(&mut into) == Ok(2));
     assert!(rt; into[..3] == [b'a', b'b', 7]);
-    assert!(rt; link.read(&mut into) == Ok(0));
-    assert!(rt; link.read(&mut into) == Ok(0));
+    assert!(rt; link.read(&mut into) == Ok(0) && link.read(&mut into) == Ok(0));
     drop(caller);
-    assert!(rt; fails_at_last(&mut link));
-    assert!(rt; link.faults() == 1);
+    assert!(rt; fails_at_last(&mut link) && link.faults() == 1);
     Ok(())
 }

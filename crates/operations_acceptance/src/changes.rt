@@ -1,10 +1,7 @@
-ghost use Rattle.std.specs.Prelude.{◌≡◌, IsTrue};
-ghost use Rattle.plan.specs.Phases.{PhaseFits};
-
 use crate::flights::{ETD, leg_of, plan_of, push_alternate};
 use desk_io::{LineFeeds, Listed, OutOfMemory, Text, runs_between};
 use plan::{Kind, Leg, Legs, Phase, Plan, PlanWhy, check_change};
-use small_airline::may_be_checked;
+use small_airline::{fits, may_be_checked};
 use std::alloc::Global;
 use std::test::Fail;
 
@@ -51,16 +48,6 @@ fn plan(alloc: Global, lines: &[u8], member: u8) -> Result<Plan, OutOfMemory> {
     plan_of(alloc, b"N801DK", b"C7", legs_of(alloc, lines, member)?)
 }
 
-fn fits(phase: Phase, legs: &[Leg]) -> bool
-    ensures { IsTrue result → PhaseFits phase legs.now }
-{
-    match phase {
-        Phase::Flying { leg } => 1 <= leg && leg as usize <= legs.len(),
-        Phase::Stopped { next, .. } => 1 <= next && next as usize <= legs.len(),
-        Phase::Drafted | Phase::Ready | Phase::Completed { .. } | Phase::Cancelled { .. } => true,
-    }
-}
-
 // The test that fails for a plan that is to take the place of another. No plan fails a test of times, which stands for
 // a plan that may not be checked.
 fn fault_of(plan: &Plan, old: &Plan, phase: Phase) -> Option<(u32, PlanWhy)> {
@@ -101,7 +88,10 @@ const CANCELLED: Phase = Phase::Cancelled { at: ETD };
 
 // That leg may not be so, or each may for 0.
 fn flown(leg: u32) -> Option<(u32, PlanWhy)> {
-    (leg > 0).then_some((leg, PlanWhy::Flown))
+    if leg == 0 {
+        return None;
+    }
+    Some((leg, PlanWhy::Flown))
 }
 
 // The first leg that may not be so, or 0 where all may.

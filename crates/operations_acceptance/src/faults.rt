@@ -6,22 +6,6 @@ use std::alloc::Global;
 use std::test::Fail;
 use table_files::{TableFault, TableWhy, read_tables};
 
-// The line and the reason of the first bad record, where other records stand under the header of the table with that
-// name, and it is bad.
-fn first_bad(
-    alloc: Global,
-    name: &str,
-    records: &[u8],
-) -> Result<Option<(u32, TableWhy)>, OutOfMemory> {
-    let mut shelf = shelf_of(alloc, name, records)?;
-    match read_tables(alloc, &mut shelf) {
-        Err(TableFault::Bad(bad)) if bad.name.bytes() == name.as_bytes() => {
-            Ok(Some((bad.line, bad.why)))
-        }
-        _ => Ok(None),
-    }
-}
-
 // Adds records, each with its number between two texts.
 fn push_numbered(
     alloc: Global,
@@ -48,8 +32,15 @@ fn is_over_limit(
 ) -> Result<bool, OutOfMemory> {
     let mut records = Vec::new(alloc);
     push_numbered(alloc, &mut records, before, 1, line, after)?;
-    let bad = first_bad(alloc, name, &records)?;
-    Ok(bad == Some((line, TableWhy::OverLimit)))
+    let mut shelf = shelf_of(alloc, name, &records)?;
+    match read_tables(alloc, &mut shelf) {
+        Err(TableFault::Bad(bad)) => Ok(
+            bad.name.bytes() == name.as_bytes()
+                && bad.line == line
+                && bad.why == TableWhy::OverLimit,
+        ),
+        _ => Ok(false),
+    }
 }
 
 // What a type has behind its name.

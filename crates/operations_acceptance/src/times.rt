@@ -1,16 +1,14 @@
-ghost use Rattle.std.specs.Prelude.{◌≡◌, ◌<◌, IsTrue};
+ghost use Rattle.std.specs.Prelude.{◌≡◌, ◌<◌};
 ghost use Rattle.plan.specs.Check.{IsPlan};
-ghost use Rattle.plan.specs.Texts.{HasMoment};
 
 use crate::flights::{ETD, leg_of, plan_of};
 use deferrals::Deferrals;
 use desk_io::{Listed, OutOfMemory, push_all};
-use desk_time::{FIRST, LAST};
 use facts::Reports;
 use ops_tables::Tables;
 use plan::{Finding, Kind, Phase, Plan, Rule, finding_text};
 use rules::{Steps, judge, next_due};
-use small_airline::{holds, may_be_checked};
+use small_airline::{has_moment, holds, may_be_checked};
 use std::alloc::Global;
 use std::marker::Brand;
 use std::sync::ledger::{Blank, Ledger};
@@ -27,16 +25,6 @@ fn plan(alloc: Global, tail: &[u8], kind: Kind) -> Result<Plan, OutOfMemory> {
     let mut plan = plan_of(alloc, tail, b"C7", legs)?;
     plan.kind = kind;
     Ok(plan)
-}
-
-fn has_moment(phase: Phase) -> bool
-    ensures { IsTrue result → HasMoment phase }
-{
-    match phase {
-        Phase::Drafted | Phase::Ready | Phase::Flying { .. } => true,
-        Phase::Stopped { since, .. } => FIRST <= since && since <= LAST,
-        Phase::Completed { at } | Phase::Cancelled { at } => FIRST <= at && at <= LAST,
-    }
 }
 
 // A stop before the second leg, so many minutes after the first etd.
@@ -165,7 +153,7 @@ fn is_late(
     let unknown = plan(alloc, b"N999DK", kind)?;
     let text = late(alloc, tables, &known, phase, minutes)?;
     let more = late(alloc, tables, &unknown, phase, minutes)?;
-    Ok(text.as_slice() == wanted && more.strip_prefix(wanted) == Some(b"DESK-TABLES/0/0 "))
+    Ok(text.as_slice() == wanted && more.strip_prefix(wanted) == Some(TABLES))
 }
 
 const OFF_1: &[u8] = b"DESK-LATE-OFF/1/0 ";
@@ -177,6 +165,8 @@ const STOP: &[u8] = b"121.593/2/0 ";
 const STOP_OFF: &[u8] = b"121.593/2/0 DESK-LATE-OFF/2/0 ";
 
 const FLAG_OFF: &[u8] = b"121.595/2/0 DESK-LATE-OFF/2/0 ";
+
+const TABLES: &[u8] = b"DESK-TABLES/0/0 ";
 
 fn are_late(alloc: Global, tables: &Tables) -> Result<bool, OutOfMemory> {
     let (domestic, flag) = (Kind::Domestic, Kind::Flag);

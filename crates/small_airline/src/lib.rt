@@ -1,5 +1,5 @@
-//! A small airline for tests: the texts of its twelve tables, its scripts and reports, and whether a plan has the form in
-//! which it may be checked.
+//! A small airline for tests: the texts of its twelve tables, its scripts and reports, and whether plans and
+//! phases have the form in which they may be checked.
 #![tactic(auto)]
 
 mod plans;
@@ -8,7 +8,7 @@ mod scripts;
 
 use desk_io::{MemoryShelf, OutOfMemory, Text, push_all};
 use ops_tables::Tables;
-pub use plans::may_be_checked;
+pub use plans::{fits, has_moment, may_be_checked};
 pub use reports::{DAY, admit, reports_of};
 pub use scripts::{SIGNED, push_script, script_of};
 use std::alloc::Global;
