@@ -70,8 +70,9 @@ fn paths_and_methods_have_their_routes(rt: HostRuntime) -> Result<(), Fail> {
 }
 
 // Paths of no route, with blanks between them.
-const UNROUTED: &str =
-    "/ * /nowhere board /board/ //board /BOARD /boards /call/1 /release /release/ /release/00000000001 /release/7/ /release/7a /release/-7 /release/+7 /weather/ /weather/kjfk /weather/KJF /weather/KJFKX /weather/KJFK/ /deferred/ /deferred/123456789 /deferred/a/b";
+const UNROUTED: &str = "/ * /nowhere board /board/ //board /BOARD /boards /call/1 \
+    /release /release/ /release/00000000001 /release/7/ /release/7a /release/-7 /release/+7 \
+    /weather/ /weather/kjfk /weather/KJF /weather/KJFKX /weather/KJFK/ /deferred/ /deferred/123456789 /deferred/a/b";
 
 #[test]
 fn other_paths_have_no_route_by_any_method(rt: HostRuntime) -> Result<(), Fail> {
