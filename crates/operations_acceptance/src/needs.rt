@@ -14,11 +14,9 @@ fn known(ceiling: u32, vis: u32) -> Cond {
     }
 }
 
-const fn pair(ceiling: u32, vis: u32) -> Pair {
+fn pair(ceiling: u32, vis: u32) -> Pair {
     Pair { ceiling, vis }
 }
-
-const FLOOR: Option<Pair> = Some(pair(2_000, 4_828_032));
 
 // Whether a leg that takes so long needs an alternate for its destination.
 fn needs(
@@ -38,19 +36,20 @@ fn needs(
 #[test]
 fn destinations_need_an_alternate(rt: HostRuntime) -> Result<(), Fail> {
     let clear = known(100_000, 10_000_000);
+    let least = Some(pair(2_000, 4_828_032));
     for (minutes, kind, window, floor, needed) in [
         (60, Kind::Domestic, known(2_000, 4_800_000), None, true),
         (60, Kind::Domestic, known(2_000, 5_000_000), None, false),
         (60, Kind::Domestic, known(2_000, 4_828_032), None, false),
         (60, Kind::Domestic, known(1_900, 5_000_000), None, true),
-        (60, Kind::Domestic, Cond::UNKNOWN, FLOOR, true),
-        (361, Kind::Domestic, clear, FLOOR, false),
-        (60, Kind::Flag, known(2_000, 4_800_000), FLOOR, true),
-        (60, Kind::Flag, known(2_000, 4_828_032), FLOOR, false),
-        (60, Kind::Flag, known(1_900, 5_000_000), FLOOR, true),
+        (60, Kind::Domestic, Cond::UNKNOWN, least, true),
+        (361, Kind::Domestic, clear, least, false),
+        (60, Kind::Flag, known(2_000, 4_800_000), least, true),
+        (60, Kind::Flag, known(2_000, 4_828_032), least, false),
+        (60, Kind::Flag, known(1_900, 5_000_000), least, true),
         (60, Kind::Flag, clear, None, true),
-        (360, Kind::Flag, clear, FLOOR, false),
-        (361, Kind::Flag, clear, FLOOR, true),
+        (360, Kind::Flag, clear, least, false),
+        (361, Kind::Flag, clear, least, true),
     ] {
         assert!(rt; needs(rt.alloc(), minutes, kind, window, floor)? == Some(needed));
     }
