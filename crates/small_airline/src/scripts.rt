@@ -12,12 +12,12 @@ D1 3 17:31 "digest":"93552bd08bcf733af54f012ef3711733ecf23ec2726678302a0dba7d4b0
 C7 1 17:32 "digest":"93552bd08bcf733af54f012ef3711733ecf23ec2726678302a0dba7d4b038410","do":"concur","release":1,"revision":1
 "#;
 
-fn push_line(
+fn push_line<'a>(
     script: &mut Vec<u8>,
-    actor: &str,
-    number: &str,
-    time: &str,
-    ask: &str,
+    actor: &'a str,
+    number: &'a str,
+    time: &'a str,
+    ask: &'a str,
 ) -> Result<(), OutOfMemory> {
     let (actor, number) = (actor.as_bytes(), number.as_bytes());
     push_all(
