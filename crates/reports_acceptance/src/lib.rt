@@ -3,7 +3,7 @@
 #![tactic(auto)]
 
 #[cfg(test)]
-mod failing;
+mod deaf;
 #[cfg(test)]
 mod held;
 #[cfg(test)]
