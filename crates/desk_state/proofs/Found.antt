@@ -10,7 +10,7 @@ use Rattle.std.proofs.lemmas.List.Folds.{find-append}
 use Rattle.std.proofs.lemmas.Slice.Eq.{bytes_eq-Decides}
 use Rattle.asks.specs.declared.kept.KeptReply.{KeptReply}
 use Rattle.desk_state.specs.Requests.{is_request, kept_at}
-use Rattle.desk_state.proofs.Each.{each_weaker}
+use Rattle.desk_io.proofs.Each.{each_weaker}
 
 pub if_found : {A : Type 0} (P : A → Type 0) (o : Option A) → ((x : A) → o ≡ Some x → P x) → IfSome o P
 if_found P None each = tt

@@ -27,7 +27,8 @@ use Rattle.desk_state.specs.Sound.{AreSingle}
 use Rattle.desk_state.specs.State.{State}
 use Rattle.desk_state.specs.Step.{entry, kept_reply, accepted, ticked, without_key}
 use Rattle.desk_state.proofs.AllowedLaws.{sweep_of}
-use Rattle.desk_state.proofs.Each.{each_push, each_weaker, found_each}
+use Rattle.desk_io.proofs.Each.{each_push, each_weaker}
+use Rattle.desk_state.proofs.Each.{found_each}
 use Rattle.desk_state.proofs.FloorLaws.{all_covered, still_covered, whence}
 use Rattle.desk_state.proofs.Found.{if_found, clash, found_passes, found_filter, none_all, all_none, any_filter, pairs_later, pairs_first, asked_by, other_unlike, first_unlike, new_found, still_found}
 use Rattle.desk_state.proofs.Parts.{filter_each, none_found, still_unused}

@@ -9,7 +9,7 @@ use Rattle.alerts.specs.Alerts.{IsAlert}
 use Rattle.plan.specs.declared.release.Release.{Release as ReleaseOf}
 use Rattle.desk_state.specs.Sound.{IsTaken, IsToldTo, Rise}
 use Rattle.desk_state.specs.State.{release_at, alert_at}
-use Rattle.desk_state.proofs.Each.{found_each, each_weaker}
+use Rattle.desk_state.proofs.Each.{found_each}
 use Rattle.desk_state.proofs.Judging.{IsOf, found_of}
 use Rattle.records.specs.Valid.{IsRecord, IsKeptAlert}
 use Rattle.records.specs.declared.record.KeptAlert.{KeptAlert}

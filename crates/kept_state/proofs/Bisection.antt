@@ -11,7 +11,6 @@ use Rattle.kept_state.proofs.Lists.{Pairs}
 use Rattle.kept_state.proofs.Loops.{pairs_from}
 use Rattle.kept_state.proofs.ReleaseLaws.{Below}
 use Rattle.desk_io.proofs.Each.{each_weaker}
-use Rattle.desk_state.proofs.Each.{each_weaker}
 
 abbrev pub is_below : ℕ → Release → Bool
 is_below id r = nat_lt r.id id

@@ -29,7 +29,6 @@ use Rattle.kept_state.proofs.Together.{Stands, all_few, all_pairs, all_records, 
 use Rattle.kept_state.proofs.KeptForms.{Counts, IsKeptRecord, kept_alert, kept_deferral, kept_meta, kept_release, kept_reply, kept_report}
 use Rattle.desk_state.specs.Formed.{AlertHasForms, DeferralHasForms, ReplyHasForms, ReportHasForms}
 use Rattle.desk_io.proofs.Each.{each_weaker, each_of}
-use Rattle.desk_state.proofs.Each.{each_weaker}
 
 -- ---- there is a meta record
 

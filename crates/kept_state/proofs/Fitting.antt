@@ -18,7 +18,6 @@ use Rattle.records.specs.declared.record.Record.TheVariants.{Meta, Report, Defer
 use Rattle.kept_state.specs.Held.{AreOfDesk, comes_before, rises_from, rising, meta_in}
 use Rattle.kept_state.proofs.Lists.{Pairs, both, both_pairs}
 use Rattle.desk_io.proofs.Each.{each_weaker}
-use Rattle.desk_state.proofs.Each.{each_weaker}
 
 -- ---- tests that are passed
 

@@ -4,7 +4,6 @@ use Rattle.std.specs.List.{AllByRecursion, AllPairs, filter_map, cons_option}
 use Rattle.std.proofs.lemmas.List.Kept.{AllPairs-cons}
 use Rattle.std.proofs.lemmas.List.Elements.{All-from_recursion}
 use Rattle.desk_io.proofs.Each.{each_weaker}
-use Rattle.desk_state.proofs.Each.{each_weaker}
 
 -- R of each element and each later one
 abbrev pub Pairs : {A : Type 0} → (A → A → Type 0) → List A → Type 0

@@ -19,7 +19,6 @@ use Rattle.desk_state.proofs.Parts.{more_valid}
 use Rattle.kept_state.specs.Opening.{MayReopen, counters_with, events_with, reopened}
 use Rattle.kept_state.proofs.ReopenedForms.{reopened_formed}
 use Rattle.desk_io.proofs.Each.{each_weaker}
-use Rattle.desk_state.proofs.Each.{each_weaker}
 
 -- the changes of the alerts lead to those of the judgement
 pub changes_lead : (s : State) → AreJudgeable s → put_changes (alert_changes nothing s) s.alerts ≡ judged_all s

@@ -26,7 +26,6 @@ use Rattle.kept_state.proofs.PartLaws.{IsKeptReport, kept_reports, reports_in}
 use Rattle.kept_state.proofs.AlertLaws.{alerts_in}
 use Rattle.kept_state.proofs.SavedLaws.{listed}
 use Rattle.desk_io.proofs.Each.{each_weaker}
-use Rattle.desk_state.proofs.Each.{each_weaker}
 
 -- ---- records in order, kind after kind
 

@@ -14,7 +14,6 @@ use Rattle.kept_state.specs.Held.{alert_of, state_in}
 use Rattle.kept_state.proofs.SavedLaws.{alerts_again, listed, reports_again, state_listed}
 use Rattle.desk_state.specs.Formed.{ReportHasForms}
 use Rattle.desk_io.proofs.Each.{each_weaker}
-use Rattle.desk_state.proofs.Each.{each_weaker}
 
 map_twice : {A B C : Type 0} (f : A → B) (g : B → C) (xs : List A) → map (λ x. g (f x)) xs ≡ map g (map f xs)
 map_twice f g [] = refl

@@ -21,7 +21,6 @@ use Rattle.kept_state.proofs.Fitting.{Agree, IsAmong, all_agree, are_few, each_a
 use Rattle.kept_state.proofs.PartLaws.{Counted, at_most}
 use Rattle.desk_io.proofs.Each.{each_weaker}
 use Rattle.std.proofs.lemmas.Option.{IfSome_then}
-use Rattle.desk_state.proofs.Each.{each_weaker}
 
 -- ---- a release that may be kept is one that may stand
 

@@ -30,7 +30,6 @@ use Rattle.kept_state.proofs.ReleaseLaws.{Below}
 use Rattle.kept_state.proofs.Segments.{Across, across_any, across_made, all_made, any_back, any_front, any_made, counted_all, counted_is, counted_joined, counted_none, pairs_joined, pairs_made, with_each, how_many}
 use Rattle.desk_io.proofs.Each.{each_append, each_weaker}
 use Rattle.kept_state.proofs.Loops.{pairs_from}
-use Rattle.desk_state.proofs.Each.{each_weaker}
 
 -- ---- releases by their ids
 

@@ -15,7 +15,8 @@ use Rattle.plan.specs.Phases.{standing}
 use Rattle.release_text.specs.Concerned.{AreAmong, alternate_stations, arrival_stations, concerned, departure_stations, is_among, leg_stations, stations_from, takeoff_station}
 use Rattle.release_text.specs.Laws.{IsAirportOf, IsConcerned, StandsIn}
 use Rattle.release_text.specs.Laws.IsAirportOf.{alternate, departure, destination, takeoff}
-use Rattle.release_text.proofs.StationLaws.{both_parts, concerned_once}
+use Rattle.desk_io.proofs.Each.{each_append}
+use Rattle.release_text.proofs.StationLaws.{concerned_once}
 
 -- ---- what stands in a list
 
@@ -95,7 +96,7 @@ all_arrival s leg going = (destination going, all_alternates s leg [] leg.altern
 
 all_airports : (s : Standing) (leg : Leg) → AllByRecursion (IsAirportOf s leg) (leg_stations s leg)
 all_airports Ahead leg =
-    both_parts (IsAirportOf Ahead leg) (departure_stations leg) (arrival_stations leg) (departure, all_takeoff leg leg.takeoff_alternate refl) (all_arrival Ahead leg ahead)
+    each_append (IsAirportOf Ahead leg) (departure_stations leg) (arrival_stations leg) (departure, all_takeoff leg leg.takeoff_alternate refl) (all_arrival Ahead leg ahead)
 all_airports InFlight leg = all_arrival InFlight leg in_flight
 all_airports Flown leg = tt
 
@@ -131,7 +132,7 @@ weakened P Q (x ∷ xs) f h = (f x h.0, weakened P Q xs f h.1)
 all_of_legs : (phase : Phase) (n : ℕ) (legs : List Leg) → AllByRecursion (IsOfLegs phase n legs) (stations_from phase n legs)
 all_of_legs phase n [] = tt
 all_of_legs phase n (leg ∷ legs) =
-    both_parts (IsOfLegs phase n (leg ∷ legs)) (leg_stations (standing phase n) leg) (stations_from phase (n + 1) legs)
+    each_append (IsOfLegs phase n (leg ∷ legs)) (leg_stations (standing phase n) leg) (stations_from phase (n + 1) legs)
     (weakened (IsAirportOf (standing phase n) leg) _ _ (λ station is. record { leg = leg; one = stands_first leg legs; airport = subst (λ m. IsAirportOf (standing phase m) leg station) (sym (none_before n)) is }) (all_airports (standing phase n) leg))
     (weakened (IsOfLegs phase (n + 1) legs) _ _ (λ station is. later_leg phase n leg legs station is) (all_of_legs phase (n + 1) legs))
 

@@ -9,7 +9,7 @@ use Rattle.desk_time.specs.Moments.{shown, minute_of}
 use Rattle.desk_time.specs.Numbers.{is_digit}
 use Rattle.desk_time.proofs.MomentLaws.{minute_again}
 use Rattle.desk_time.proofs.NumberLaws.{own}
-use Rattle.plan.specs.Texts.{IsMoment}
+use Rattle.desk_time.specs.Limits.{IsMoment}
 use Rattle.release_text.specs.Legible.{IsNumber, is_free}
 
 differs : (b sign : ℕ) → not (b == sign) ≡ true → b ≡ sign → ⊥
