@@ -13,8 +13,7 @@ use Rattle.desk_state.specs.declared.effect.OnDeferrals.TheVariants as on_deferr
 use Rattle.desk_state.specs.declared.effect.OnReleases.{OnReleases}
 use Rattle.desk_state.specs.declared.effect.OnReleases.TheVariants as on_releases
 use Rattle.decisions.specs.Reads.{AdmitsRead}
-use Rattle.board.specs.Room.{MayAdmit, MayDefer, MayBeMade}
-use Rattle.kept_state.specs.Shown.{IsSmallRelease, IsSmall}
+use Rattle.board.specs.Room.{IsSmall, MayAdmit, MayDefer, MayFile, MayBeMade}
 
 above_all : (next id : ℕ) (rs : List Report) → AllByRecursion (IsNumbered next) rs → id ≡ next → AllByRecursion (λ held. held.id < id) rs
 above_all next id [] all is = tt
@@ -49,7 +48,7 @@ may_defer s (on_deferrals.Open d) fits kept = record {
 }
 may_defer s (on_deferrals.Clear id) fits kept = tt
 
-may_file : (s : State) (on : OnReleases) → ReleasesFit s on → InBounds s → IsSmallRelease on
+may_file : (s : State) (on : OnReleases) → ReleasesFit s on → InBounds s → MayFile on
 may_file s on_releases.Nothing fits kept = tt
 may_file s (on_releases.File r) fits kept = let is = fits.numbered in let one = kept.counters.release in let most = kept.counters.events in omega (arith, is, one, most)
 may_file s (on_releases.Put r) fits kept = tt

@@ -1,5 +1,5 @@
 -- The rows that a desk is opened over.
-use Rattle.std.proofs.Common.{◌≡◌, ℕ, List, [], ◌∷◌, map, Option, None, Some, refl, ap, sym, ◌∙◌}
+use Rattle.std.proofs.Common.{◌≡◌, ℕ, ◌&&◌, Bool, List, [], ◌∷◌, map, Option, None, Some, refl, ap, sym, ◌∙◌}
 use Rattle.std.specs.Prelude.{IsTrue, Result, Ok, Err, IfOk, OnOk, MatchResult}
 use Rattle.board.specs.Prepare.{Shown, shown}
 use Rattle.desk_io.specs.Rows.{Rows, rows_of, changed_by}
@@ -12,7 +12,7 @@ use Rattle.desk_state.specs.State.{State}
 use Rattle.records.specs.Bodies.{row_of}
 use Rattle.records.specs.Checks.{IsDesk}
 use Rattle.records.specs.declared.record.Record.{Record}
-use Rattle.kept_state.specs.Held.{rising, AreOfDesk, state_in}
+use Rattle.kept_state.specs.Held.{comes_before, rises_from, rising, AreOfDesk, state_in}
 use Rattle.desk.proofs.Steps.{same_kept, still_keeps}
 use Rattle.desk.specs.Keeping.{KeepsState}
 use Rattle.desk.specs.Opening.{AreLoaded, AreAsked, commits_for, commits_where, commits_to_open}
@@ -21,14 +21,23 @@ use Rattle.desk_state.specs.Effects.{nothing}
 use Rattle.desk_state.specs.Events.{alert_changes}
 use Rattle.desk_state.specs.declared.change.AlertChange.{AlertChange}
 use Rattle.ops_tables.specs.Tables.{TableRows}
-use Rattle.kept_state.proofs.SameRows.{rise_as}
+
+-- rows stand in order as their records do
+rise_as : (r : Record) (rs : List Record) → order.rises_from (row_of r) (map row_of rs) ≡ rises_from r rs
+unfolding row_of
+rise_as r [] = refl
+rise_as r (next ∷ rs) = ap (λ (rest : Bool). comes_before r next && rest) (rise_as next rs)
+
+rising_as : (rs : List Record) → order.rising (map row_of rs) ≡ rising rs
+rising_as [] = refl
+rising_as (r ∷ rs) = rise_as r rs
 
 -- the records of rows in order that are those of a desk
 pub of_desk : (rows : List Row) (records : List Record) → IsDesk rows records → IsTrue (order.rising rows) → AreOfDesk records
 of_desk rows records is up = record {
   valid = is.are.valid;
   fit = is.fit;
-  order = sym (rise_as records) ∙ ap order.rising is.are.made ∙ up;
+  order = sym (rising_as records) ∙ ap order.rising is.are.made ∙ up;
 }
 
 -- what restoring changed is kept for the state

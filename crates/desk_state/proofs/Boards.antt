@@ -1,8 +1,8 @@
 -- Every step keeps what holds of a board.
-use Rattle.std.proofs.Common.{◌≡◌, ℕ, ◌+◌, ◌<◌, ◌≤◌, Bool, true, false, not, ◌&&◌, List, [], ◌∷◌, ◌++◌, append-nil, option_to_list, length, length-append, Option, None, Some, IfSome, Result, Ok, Err, refl, ap, sym, ◌∙◌, subst, arith}
+use Rattle.std.proofs.Common.{◌≡◌, ℕ, ◌+◌, ◌<◌, ◌≤◌, Bool, true, false, not, ◌&&◌, ◌||◌, List, [], ◌∷◌, ◌++◌, append-nil, option_to_list, length, length-append, Option, None, Some, IfSome, Result, Ok, Err, refl, ap, sym, ◌∙◌, subst, arith}
 use Rattle.std.specs.Prelude.{nat_le, is_some}
 use Rattle.std.specs.List.{AllByRecursion, AllPairs}
-use Rattle.std.proofs.lemmas.Bool.{leb-false, or_parts}
+use Rattle.std.proofs.lemmas.Bool.{leb-false}
 use Rattle.std.proofs.lemmas.List.Elements.{All-from_recursion}
 use Rattle.std.proofs.lemmas.List.Quantifiers.{all_pairs_push}
 use Rattle.ops_tables.specs.Forms.{is_person}
@@ -50,8 +50,7 @@ use Rattle.desk_state.proofs.Parts.{judgeable, moment_shown, none_found, reports
 use Rattle.desk_state.proofs.Deciding.{decision_fits}
 use Rattle.desk_state.proofs.FormLaws.{start_formed, tick_formed, command_formed}
 use Rattle.desk_state.proofs.NameForms.{person_formed}
-use Rattle.desk_io.proofs.Each.{each_weaker, each_push}
-use Rattle.desk_state.proofs.LeadingLaws.{tick_fits}
+use Rattle.desk_io.proofs.Each.{each_push, each_weaker}
 
 -- an entry more keeps a history legal
 legal_more : (s : State) (es : List Entry) (t : State) (e : Entry) → Legal s es t → MayCome t e.lane e.what → Legal s (es ++ e ∷ []) (next t e.lane e.what)
@@ -98,15 +97,19 @@ record IsEffected (t : State) : Type 0 where
   pub entries : length t.entries < 400_000
   pub forms : AllByRecursion (λ e. IsEntered e.what) t.entries
 
+or_false : (a b : Bool) → (a || b) ≡ false → (a ≡ false) × (b ≡ false)
+or_false true b e = absurd (cc)
+or_false false b e = (refl, e)
+
 few_entries : (s : State) → is_full s ≡ false → length s.entries < 400_000
-few_entries s room = leb-false 400_000 (length s.entries) (or_parts (nat_le 400_000 (length s.entries)) (nat_le 999_999_999_999_000 s.counters.events) room).0
+few_entries s room = leb-false 400_000 (length s.entries) (or_false (nat_le 400_000 (length s.entries)) (nat_le 999_999_999_999_000 s.counters.events) room).0
 
 few_events : (s : State) → is_full s ≡ false → s.counters.events < 999_999_999_999_000
-few_events s room = leb-false 999_999_999_999_000 s.counters.events (or_parts (nat_le 400_000 (length s.entries)) (nat_le 999_999_999_999_000 s.counters.events) room).1
+few_events s room = leb-false 999_999_999_999_000 s.counters.events (or_false (nat_le 400_000 (length s.entries)) (nat_le 999_999_999_999_000 s.counters.events) room).1
 
 -- where a command may come, an event may
 room_for : (s : State) (a : Ask) → is_full_for s a ≡ false → is_full s ≡ false
-room_for s a room = (or_parts (is_full s) (nat_le 400_000 (length s.kept) && not (is_sweep a)) room).0
+room_for s a room = (or_false (is_full s) (nat_le 400_000 (length s.kept) && not (is_sweep a)) room).0
 
 all_told : (g : Grounds) (alerts : List Alert) (rs : List Release) → AllByRecursion (IsAlerted g alerts) rs → AreTold alerts rs
 all_told g alerts rs all = each_weaker (IsAlerted g alerts) (λ r. IsToldTo r.holder (alert_at r.id alerts)) (λ r is. is.1) rs all
@@ -234,6 +237,9 @@ event_kept t e is form = record {
 }
 
 -- Ticks.
+
+tick_fits : (s : State) (to : ℕ) → IsMoment to → EffectFits s (tick to)
+tick_fits s to shown = record { moment = shown; report = tt; apart = tt; deferrals = tt; releases = tt }
 
 tick_by : (full : Bool) (opening s : State) (lane to : ℕ) → is_full s ≡ full → IsBoard opening s → s.moment < to → to ≤ 68_374_079
     → IsBoard opening (tick_unless full s lane to).state

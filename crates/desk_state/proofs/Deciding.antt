@@ -1,7 +1,8 @@
 -- What a call comes to fits the desk.
 use Rattle.std.specs.Str.{bytes_eq}
-use Rattle.std.proofs.lemmas.Bool.{eqb-true, eq-eqb, leb-false, leb-true, ltb-true, and_parts, not-false}
-use Rattle.std.proofs.Common.{◌≡◌, ℕ, ◌+◌, ◌/◌, ◌<◌, ◌≤◌, ◌==◌, not, Bool, true, false, cond, eqb, ltb, is_some, List, [], ◌∷◌, length, Option, None, Some, IfSome, Result, Ok, Err, refl, subst, sym, ◌∙◌, arith}
+use Rattle.std.proofs.lemmas.Bool.{eqb-true, eq-eqb, leb-false, leb-true, ltb-true}
+use Rattle.std.proofs.lemmas.Slice.Eq.{bytes_eq-Decides}
+use Rattle.std.proofs.Common.{◌≡◌, ℕ, ◌+◌, ◌/◌, ◌<◌, ◌≤◌, ◌==◌, not, ◌&&◌, Bool, true, false, cond, eqb, ltb, is_some, List, [], ◌∷◌, length, Option, None, Some, IfSome, Result, Ok, Err, refl, subst, sym, ◌∙◌, arith}
 use Rattle.std.specs.Prelude.{nat_le}
 use Rattle.std.specs.List.{AllByRecursion}
 use Rattle.codes.specs.Groups.{groups_of, canonical}
@@ -62,7 +63,6 @@ use Rattle.asks.specs.Forms.{IsCall, CanBeShown, RefusalHasMoment}
 use Rattle.desk_state.proofs.Each.{found_each}
 use Rattle.desk_state.proofs.Parts.{later_within}
 use Rattle.desk_io.proofs.Each.{each_weaker}
-use Rattle.desk_io.proofs.Bytes.{same_bytes}
 
 -- Chains.
 
@@ -81,7 +81,7 @@ some_stops : {A : Type 0} (x : Refusal) (o : Option A) → RefusalHasMoment x �
 some_stops x None has y e = subst RefusalHasMoment (cc) has
 some_stops x (Some a) has y e = absurd (cc)
 
-pub some_given : {A : Type 0} (x : Refusal) (o : Option A) (a : A) → some_or x o ≡ Ok a → o ≡ Some a
+some_given : {A : Type 0} (x : Refusal) (o : Option A) (a : A) → some_or x o ≡ Ok a → o ≡ Some a
 some_given x None a e = absurd (cc)
 some_given x (Some b) a e = cc
 
@@ -90,7 +90,7 @@ if_stops true x has = has
 if_stops false x has = tt
 
 -- what isn't refused isn't so
-pub not_so : (b : Bool) (x : Refusal) → refused_if b x ≡ None → b ≡ false
+not_so : (b : Bool) (x : Refusal) → refused_if b x ≡ None → b ≡ false
 not_so true x e = absurd (cc)
 not_so false x e = refl
 
@@ -136,8 +136,15 @@ change_stops plan (Some v) phase = plan_stops (change_fault plan v.plan phase)
 
 -- What the tests say.
 
-pub so : (b : Bool) (x : Refusal) → refused_if (not b) x ≡ None → b ≡ true
-so b x e = not-false b (not_so (not b) x e)
+not_not : (b : Bool) → not b ≡ false → b ≡ true
+not_not true e = refl
+not_not false e = absurd (cc)
+
+so : (b : Bool) (x : Refusal) → refused_if (not b) x ≡ None → b ≡ true
+so b x e = not_not b (not_so (not b) x e)
+
+same_bytes : (a b : List ℕ) → bytes_eq a b ≡ true → a ≡ b
+same_bytes a b e = (bytes_eq-Decides a b).0 e
 
 -- the digest that was asked for is that of the text
 on_text : (v : Revision) (digest : List ℕ) → d.mistaken_text v digest ≡ None → digest ≡ revision_digest v
@@ -147,7 +154,7 @@ signed_once : (v : Revision) (o : Option Signature) → MaySigned v o → d.unsi
 signed_once v None may e = absurd (cc)
 signed_once v (Some signature) may e = may.1
 
-pub no_plan_fault : (o : Option BadPlan) → d.bad_plan o ≡ None → o ≡ None
+no_plan_fault : (o : Option BadPlan) → d.bad_plan o ≡ None → o ≡ None
 no_plan_fault None e = refl
 no_plan_fault (Some bad) e = absurd (cc)
 
@@ -163,11 +170,15 @@ count_by true false legs e = absurd (cc)
 count_by true true false e = absurd (cc)
 count_by true true true e = refl
 
+both_true : (a b : Bool) → (a && b) ≡ true → (a ≡ true) × (b ≡ true)
+both_true true b e = (refl, e)
+both_true false b e = absurd (cc)
+
 has_a_leg : (tables : TableRows) (plan : Plan) → plan_fault tables plan ≡ None → 1 ≤ length plan.legs
 unfolding plan_fault
 has_a_leg tables plan e =
     leb-true 1 (length plan.legs)
-    (and_parts (nat_le 1 (length plan.legs)) (nat_le (length plan.legs) 5)
+    (both_true (nat_le 1 (length plan.legs)) (nat_le (length plan.legs) 5)
     (count_by (is_some (tail_named tables plan.tail)) (is_captain (actor_of tables plan.captain)) (has_legs plan)
     (whole_first (whole_fault tables plan) (first_fault tables 1 None plan.legs) e))).0
 

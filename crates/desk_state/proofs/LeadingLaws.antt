@@ -12,7 +12,7 @@ use Rattle.desk_time.specs.Limits.{IsMoment}
 use Rattle.alerts.proofs.Laws.{follows}
 use Rattle.desk_state.specs.declared.effect.OnAlerts.{OnAlerts}
 use Rattle.desk_state.specs.declared.effect.OnAlerts.TheVariants as on_alerts
-use Rattle.desk_state.proofs.Deciding.{decision_fits, so}
+use Rattle.desk_state.proofs.Deciding.{decision_fits}
 use Rattle.desk_state.proofs.Judging.{IsOf, Agrees, agrees_all, alerts_kept, found_of, judged_is}
 use Rattle.desk_state.proofs.Parts.{releases_rise}
 use Rattle.plan.specs.declared.findings.Finding.{Finding}
@@ -38,8 +38,7 @@ use Rattle.desk_state.specs.People.{may_ask, mistaken, not_his_role}
 use Rattle.desk_state.specs.Decide as d
 use Rattle.desk_state.specs.Decide.{decide}
 use Rattle.desk_state.specs.Allowed.{IsAcknowledged, IsLeft, FollowsIf, IsAlertAfter, IsEffectOf, IsUnused, DecisionOf, IsEntryOf, IsAfter, IsKeptOf, IsPermitted, IsSaidTo, MayLeadTo, MayTickTo}
-use Rattle.desk_state.proofs.AllowedLaws.{decision_is}
-use Rattle.desk_io.proofs.Bytes.{same_bytes}
+use Rattle.desk_state.proofs.AllowedLaws.{decision_is, so, same_bytes}
 
 -- Who may make a call.
 
@@ -174,7 +173,7 @@ call_leads s t lane call reply sound kept form one two =
     subst (λ (u : State). MayLeadTo lane call s u reply) (sym one)
     (subst (λ (x : Option Reply). MayLeadTo lane call s (answer_call s lane call).state x) (sym two) (do_leads s lane call (mistaken (actor_of s.tables call.actor) call.key) sound kept form refl))
 
-pub tick_fits : (s : State) (to : ℕ) → IsMoment to → EffectFits s (tick to)
+tick_fits : (s : State) (to : ℕ) → IsMoment to → EffectFits s (tick to)
 tick_fits s to shown = record { moment = shown; report = tt; apart = tt; deferrals = tt; releases = tt }
 
 tick_leads_by : (full : Bool) (s : State) (lane to : ℕ) → is_full s ≡ full → Sound s → IsMoment to → MayTickTo lane to s (tick_unless full s lane to).state (tick_unless full s lane to).reply
