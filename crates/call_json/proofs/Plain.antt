@@ -17,7 +17,7 @@ use Rattle.asks.specs.declared.reply.Done.{Done}
 use Rattle.asks.specs.declared.reply.Done.TheVariants.{Report, Deferral, Filed, Prepared, Release, Swept}
 use Rattle.call_json.specs.Plain.{IsBefore, AreInOrder, IsPlain, ItemsArePlain, HasText, ItemsHaveText, MembersHaveText}
 use Rattle.call_json.specs.Canonical.{option_data, alternate_members, alternate_data, takeoff_members, takeoff_data, leg_members, leg_data, kind_name, plan_members, plan_data, done_members, done_data}
-use Rattle.call_json.specs.Forms.{IsAmount, IsId, IsAlternate, MayBeTakeoff, IsLeg, HasForms, DoneHasForms, SaidDoneHasForms}
+use Rattle.call_json.specs.Forms.{IsAmount, IsAlternate, MayBeTakeoff, IsLeg, HasForms, DoneHasForms, SaidDoneHasForms}
 use Rattle.call_json.proofs.Texts.{written_utf8, digest_utf8}
 
 -- ---- objects whose keys are literal

@@ -1,5 +1,6 @@
 -- Texts as JSON: what is UTF-8 is written as it is, and all that is written is UTF-8.
-use Rattle.std.proofs.Common.{◌≡◌, ℕ, pos, zero, suc, ◌+◌, ◌/◌, ◌%◌, ◌<◌, ◌≤◌, ◌==◌, nat_lt, Bool, true, false, if◌then◌else◌, List, [], ◌∷◌, ◌++◌, length, slice_index, take, drop, take_all, length-drop, IsUtf8, refl, subst, arith, eqb-true, lt-ltb, unwrap_or, Option, None, Some, encode_utf8}
+use Rattle.std.proofs.Common.{◌≡◌, ℕ, pos, zero, suc, ◌+◌, ◌/◌, ◌%◌, ◌<◌, ◌≤◌, ◌==◌, nat_lt, Bool, true, false, if◌then◌else◌, List, [], ◌∷◌, ◌++◌, length, slice_index, take, drop, take_all, length-drop, IsUtf8, refl, subst, arith, eqb-true, lt-ltb, unwrap_or, Option, None, Some}
+use Rattle.std.specs.Char.{encode_utf8}
 use Rattle.std.specs.Int.{is_in_range}
 use Rattle.std.specs.List.{list_all}
 use Rattle.std.specs.Str.{is_utf8}

@@ -10,7 +10,7 @@ mod texts;
 
 pub use change::check_change;
 pub use check::{BadPlan, PlanWhy, check_plan};
-pub use findings::{Finding, Findings, Rule, is_before, is_same};
+pub use findings::{EVERY_RULE, Finding, Findings, Rule, is_before, is_same, rules_of_legs};
 pub use flights::{Alternate, Alternates, Kind, Leg, Legs, Plan, TakeoffAlternate};
 pub use release::{
     Attached, AttachedList, Phase, Release, Revision, Signature, Standing, is_active, standing_of,
