@@ -34,9 +34,7 @@ use Rattle.desk_state.proofs.SweepLaws.{sweeps_well}
 use Rattle.desk_state.proofs.Changes.{changes_lead}
 use Rattle.desk_state.proofs.Deciding.{decision_fits}
 use Rattle.desk_state.specs.Contents.{state_of}
-use Rattle.desk_state.specs.Effects.{tick}
 use Rattle.desk_state.specs.declared.content.Content.{Content}
-use Rattle.desk_time.specs.Limits.{IsMoment}
 use Rattle.board.specs.declared.prepared.Prepared.{Prepared}
 use Rattle.board.specs.declared.steps.Judged.{Judged}
 use Rattle.decisions.specs.Reads.{DecisionAdmitsRead}
@@ -197,16 +195,6 @@ install_shows before opening s t room p is leads =
 
 pub room_is : (before : Shown) (opening s : State) (room : Option Prepared) (p : Prepared) → shown opening s room ≡ before → before.room ≡ Some p → room ≡ Some p
 room_is before opening s room p is has = ap (λ (b : Shown). b.room) is ∙ has
-
-tick_fits : (s : State) (to : ℕ) → IsMoment to → EffectFits s (tick to)
-tick_fits s to shown = record { moment = shown; report = tt; apart = tt; deferrals = tt; releases = tt }
-
--- a tick fits, and may be made
-pub tick_fits_as : (s : State) (to : ℕ) (effect : Effect) → effect ≡ tick to → IsMoment to → EffectFits s effect
-tick_fits_as s to effect is shown = subst (EffectFits s) (sym is) (tick_fits s to shown)
-
-pub tick_may_as : (s : State) (to : ℕ) (effect : Effect) → effect ≡ tick to → MayBeMade s effect
-tick_may_as s to effect is = subst (MayBeMade s) (sym is) (record { report = tt; deferral = tt; release = tt })
 
 -- what is installed leads where what was prepared does
 pub applied_leads : (lane : ℕ) (call : Call) (s u t : State) (told reply : Option Reply) → u ≡ t → reply ≡ told → MayLeadTo lane call s u told → MayLeadTo lane call s t reply

@@ -12,7 +12,8 @@ use Rattle.desk_state.specs.declared.effect.OnDeferrals.{OnDeferrals}
 use Rattle.desk_state.specs.declared.effect.OnDeferrals.TheVariants as on_deferrals
 use Rattle.desk_state.specs.declared.effect.OnReleases.TheVariants as on_releases
 use Rattle.decisions.specs.Reads.{AdmitsRead}
-use Rattle.board.specs.Room.{MayAdmit, MayDefer, MayBeMade, IsSmall, MayFile}
+use Rattle.board.specs.Room.{MayAdmit, MayDefer, MayBeMade}
+use Rattle.kept_state.specs.Shown.{IsSmall, IsSmallDeferral, IsSmallReport}
 use Rattle.kept_state.proofs.ShownLaws.{are_small}
 
 above_all : (next id : ℕ) (rs : List Report) → AllByRecursion (IsNumbered next) rs → id ≡ next → AllByRecursion (λ held. held.id < id) rs

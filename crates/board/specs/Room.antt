@@ -15,6 +15,7 @@ use Rattle.desk_state.specs.declared.effect.OnDeferrals.{OnDeferrals}
 use Rattle.desk_state.specs.declared.effect.OnDeferrals.TheVariants as on_deferrals
 use Rattle.desk_state.specs.declared.effect.OnReleases.{OnReleases}
 use Rattle.desk_state.specs.declared.effect.OnReleases.TheVariants as on_releases
+use Rattle.kept_state.specs.Shown.{IsSmallRelease, IsSmall}
 
 -- there is room for what an effect adds
 
@@ -47,10 +48,6 @@ pub record HasRoom (c : Content) (more : ℕ) (e : Effect) : Type 0 where
   pub deferral : HasDeferralRoom c e.on_deferrals
   pub release : HasReleaseRoom c e.on_releases
 
--- an id after which there is another one
-abbrev pub IsSmall : ℕ → Type 0
-IsSmall id = id < 10_000_000_000_000_000
-
 -- a report that may be admitted: its id is above all others, it is canonical, and its reading that of its text
 pub record MayAdmit (held : List Report) (r : Report) : Type 0 where
   pub above : All (λ other. other.id < r.id) held
@@ -68,14 +65,8 @@ MayDefer held on_deferrals.Nothing = Unit {0}
 MayDefer held (on_deferrals.Open d) = MayAdd held d
 MayDefer held (on_deferrals.Clear id) = Unit {0}
 
-abbrev pub MayFile : OnReleases → Type 0
-MayFile on_releases.Nothing = Unit {0}
-MayFile (on_releases.File r) = IsSmall r.id
-MayFile (on_releases.Put r) = Unit {0}
-MayFile (on_releases.Remove id) = Unit {0}
-
 -- an effect that may be made
 pub record MayBeMade (s : State) (e : Effect) : Type 0 where
   pub report : IfSome e.report (MayAdmit s.reports)
   pub deferral : MayDefer s.deferrals e.on_deferrals
-  pub release : MayFile e.on_releases
+  pub release : IsSmallRelease e.on_releases

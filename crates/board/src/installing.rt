@@ -5,7 +5,8 @@ ghost use Rattle.desk_state.specs.Events as events;
 ghost use Rattle.desk_state.specs.Events.{effected};
 ghost use Rattle.desk_state.specs.Sound.{InBounds};
 ghost use Rattle.desk_state.specs.Step.{counted};
-ghost use Rattle.board.specs.Room.{HasRoom, HasReportRoom, HasDeferralRoom, HasReleaseRoom, HasOneMore, HasPlace, MayAdmit, MayDefer, MayFile, MayBeMade, IsSmall};
+ghost use Rattle.kept_state.specs.Shown.{IsSmallRelease, IsSmall};
+ghost use Rattle.board.specs.Room.{HasRoom, HasReportRoom, HasDeferralRoom, HasReleaseRoom, HasOneMore, HasPlace, MayAdmit, MayDefer, MayBeMade};
 ghost use Rattle.board.specs.Prepare.{with_event, with_events, MayInstall};
 
 use crate::held_alerts::put_changes;
@@ -70,7 +71,7 @@ fn change_deferrals(deferrals: &mut Deferrals, next: &mut u64, on: OnDeferrals)
 
 fn change_releases(releases: &mut Vec<Release>, next: &mut u64, on: OnReleases)
     requires room { HasPlace releases.old on }
-    requires may { MayFile on }
+    requires may { IsSmallRelease on }
     ensures releases { releases.new.items ≡ events.releases_after on releases.old.items }
     ensures next { next.new ≡ events.next_release on next.old }
 {

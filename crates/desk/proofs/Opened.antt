@@ -1,5 +1,5 @@
 -- The rows that a desk is opened over.
-use Rattle.std.proofs.Common.{◌≡◌, ℕ, ◌&&◌, Bool, List, [], ◌∷◌, map, Option, None, Some, refl, ap, sym, ◌∙◌}
+use Rattle.std.proofs.Common.{◌≡◌, ℕ, List, [], ◌∷◌, map, Option, None, Some, refl, ap, sym, ◌∙◌}
 use Rattle.std.specs.Prelude.{IsTrue, Result, Ok, Err, IfOk, OnOk, MatchResult}
 use Rattle.board.specs.Prepare.{Shown, shown}
 use Rattle.desk_io.specs.Rows.{Rows, rows_of, changed_by}
@@ -12,7 +12,7 @@ use Rattle.desk_state.specs.State.{State}
 use Rattle.records.specs.Bodies.{row_of}
 use Rattle.records.specs.Checks.{IsDesk}
 use Rattle.records.specs.declared.record.Record.{Record}
-use Rattle.kept_state.specs.Held.{AreOfDesk, state_in, comes_before, rises_from}
+use Rattle.kept_state.specs.Held.{AreOfDesk, state_in}
 use Rattle.kept_state.proofs.SameRows.{rise_as}
 use Rattle.desk.proofs.Steps.{same_kept, still_keeps}
 use Rattle.desk.specs.Keeping.{KeepsState}
@@ -28,7 +28,7 @@ pub of_desk : (rows : List Row) (records : List Record) → IsDesk rows records 
 of_desk rows records is up = record {
   valid = is.are.valid;
   fit = is.fit;
-  order = sym (rising_as records) ∙ ap order.rising is.are.made ∙ up;
+  order = sym (rise_as records) ∙ ap order.rising is.are.made ∙ up;
 }
 
 -- what restoring changed is kept for the state

@@ -1,11 +1,10 @@
 -- Each ask changes no more than it may.
-use Rattle.std.proofs.Common.{◌≡◌, ℕ, ◌+◌, ◌<◌, ◌&&◌, ltb, IfSome, Bool, true, false, List, Option, None, Some, Result, Ok, Err, inl, inr, refl, ap, subst, sym, not, cond, eqb, eq-eqb, ◌≢◌, ◌||◌, [], ◌∷◌, length, is_some, is_none, arith}
+use Rattle.std.proofs.Common.{◌≡◌, ℕ, ◌+◌, ◌<◌, ◌&&◌, ltb, IfSome, Bool, true, false, List, Option, None, Some, Result, Ok, Err, inl, inr, refl, ap, subst, sym, cond, eqb, eq-eqb, ◌≢◌, ◌||◌, [], ◌∷◌, length, is_some, is_none, arith}
 use Rattle.std.specs.Prelude.{nat_le, nat_lt, find}
 use Rattle.std.specs.Option.{option_map}
-use Rattle.std.proofs.lemmas.Bool.{leb-false, ltb-true, ltb-false, eqb-true, and_parts}
+use Rattle.std.proofs.lemmas.Bool.{leb-false, ltb-true, ltb-false, eqb-true, or_right, and_parts}
 use Rattle.std.specs.Str.{bytes_eq}
 use Rattle.std.specs.List.{list_any}
-use Rattle.std.proofs.lemmas.Slice.Eq.{bytes_eq-Decides}
 use Rattle.codes.specs.Groups.{groups_of, canonical}
 use Rattle.ops_tables.specs.declared.rows.Actor.{Actor}
 use Rattle.ops_tables.specs.declared.rows.TypeRow.{TypeRow}
@@ -32,7 +31,6 @@ use Rattle.alerts.proofs.Laws.{follows}
 use Rattle.ops_tables.specs.declared.rows.Role.{Role}
 use Rattle.ops_tables.specs.declared.rows.Role.TheVariants.{D, C, F, M, S}
 use Rattle.desk_state.specs.Texts.{newest}
-use Rattle.plan.specs.declared.check.BadPlan.{BadPlan}
 use Rattle.plan.specs.declared.findings.Finding.{Finding}
 use Rattle.plan.specs.declared.release.Phase.{Phase}
 use Rattle.plan.specs.declared.release.Phase.TheVariants.{Drafted, Ready, Flying, Stopped, Completed, Cancelled}
@@ -56,11 +54,12 @@ use Rattle.desk_state.specs.declared.effect.Effect.{Effect}
 use Rattle.desk_state.specs.declared.effect.Decision.{Decision}
 use Rattle.desk_state.specs.declared.effect.Decision.TheVariants.{Show, Do}
 use Rattle.desk_state.specs.State.{State, grounds_of, failing_in, failing_of, release_at, alert_at, judged, is_sweep}
-use Rattle.desk_state.specs.Chain.{◌>>-◌, unless, some_or, refused_if}
+use Rattle.desk_state.specs.Chain.{◌>>-◌, unless}
 use Rattle.desk_state.specs.People.{not_his_role}
 use Rattle.desk_state.specs.Decide as d
 use Rattle.desk_state.specs.Decide.{decide}
 use Rattle.desk_state.specs.Allowed.{MaySign, GainsDispatcher, GainsCaptain, GainsWeather, BothAre, IsPreparing, IsSigning, IsReleased, IsConcurring, HasNotEnded, IsCancelling, IsNextRevision, IsAmending, HasMore, HasNoMore, has_text, IsNextLeg, IsCaptainOf, FliesAs, FliesBy, IsDeparting, IsStopping, IsCompleting, IsInVersion, IsAcknowledging, OfHeld, IsListed, IsEffectOf, admits, defers, clears, drafts, prepares, signs, concurs, amends, cancels, departs, stops, completes, acknowledges, purges, sweeps, HasEndedAt, AskedOf, IsShownTo, IsAnswer, IsUnused, DecisionOf, IsSweeping}
+use Rattle.desk_io.proofs.Bytes.{same_bytes}
 
 given : {A : Type 0} (s : State) (actor : List ℕ) (a : Ask) (m : Result A Refusal) (f : A → Result Decision Refusal) → ((x : A) → m ≡ Ok x → AskedOf s actor a (f x)) → AskedOf s actor a (m >>- f)
 given s actor a (Err x) f goes = tt
@@ -70,25 +69,6 @@ given s actor a (Ok x) f goes = goes x refl
 known : (s : State) (actor : List ℕ) (a : Ask) (o : Option Refusal) (rest : Result Decision Refusal) → (o ≡ None → AskedOf s actor a rest) → AskedOf s actor a (unless o rest)
 known s actor a None rest goes = goes refl
 known s actor a (Some x) rest goes = tt
-
-some_given : {A : Type 0} (x : Refusal) (o : Option A) (a : A) → some_or x o ≡ Ok a → o ≡ Some a
-some_given x None a e = absurd (cc)
-some_given x (Some b) a e = cc
-
--- what isn't refused isn't so
-no_more : (b : Bool) (x : Refusal) → refused_if b x ≡ None → b ≡ false
-no_more true x e = absurd (cc)
-no_more false x e = refl
-
-not_not : (b : Bool) → not b ≡ false → b ≡ true
-not_not true e = refl
-not_not false e = absurd (cc)
-
-pub so : (b : Bool) (x : Refusal) → refused_if (not b) x ≡ None → b ≡ true
-so b x e = not_not b (no_more (not b) x e)
-
-pub same_bytes : (a b : List ℕ) → bytes_eq a b ≡ true → a ≡ b
-same_bytes a b e = (bytes_eq-Decides a b).0 e
 
 his : (person actor : List ℕ) → d.not_yours person actor ≡ None → person ≡ actor
 his person actor e = same_bytes person actor (so (bytes_eq person actor) _ e)
@@ -109,10 +89,6 @@ unsigned_is (Some signature) e = absurd (cc)
 signed_is : (o : Option Signature) → d.unsigned o ≡ None → o ≢ None
 signed_is None e = absurd (cc)
 signed_is (Some signature) e = λ same. absurd (cc)
-
-good_plan : (o : Option BadPlan) → d.bad_plan o ≡ None → o ≡ None
-good_plan None e = refl
-good_plan (Some bad) e = absurd (cc)
 
 same_text : (v : Revision) (digest : List ℕ) → d.mistaken_text v digest ≡ None → revision_digest v ≡ digest
 same_text v digest e = same_bytes (revision_digest v) digest (so (bytes_eq (revision_digest v) digest) _ e)
@@ -163,7 +139,7 @@ released (Completed at) = refl
 released (Cancelled at) = refl
 
 good_change : (plan : Plan) (v : Revision) (phase : Phase) → d.bad_change plan (Some v) phase ≡ None → change_fault plan v.plan phase ≡ None
-good_change plan v phase e = good_plan (change_fault plan v.plan phase) e
+good_change plan v phase e = no_plan_fault (change_fault plan v.plan phase) e
 
 there_is : (o : Option MelRow) → is_none o ≡ false → is_some o ≡ true
 there_is None e = absurd (cc)
@@ -299,10 +275,6 @@ read_given (Ok other) read e = cc
 
 -- a report that is found is held, with its text
 
-or_later : (a b : Bool) → b ≡ true → (a || b) ≡ true
-or_later true b e = refl
-or_later false b e = e
-
 both_parts : (a b : Bool) → a ≡ true → b ≡ true → (a && b) ≡ true
 both_parts true b e f = f
 both_parts false b e f = absurd (cc)
@@ -313,7 +285,7 @@ id_by : (text : List ℕ) (minute id : ℕ) (r : Report) (rs : List Report) (b :
 id_by text minute id r rs true same e later =
     let is : r.id ≡ id = cc in
     rw (both_parts (eqb r.id id) (bytes_eq r.text text) (eq-eqb r.id id is) (and_parts (bytes_eq r.text text) (eqb (minute_of_report r) minute) same).0) refl
-id_by text minute id r rs false same e later = or_later (has_text id text r) (list_any (has_text id text) rs) (later e)
+id_by text minute id r rs false same e later = or_right (has_text id text r) (list_any (has_text id text) rs) (later e)
 
 id_held : (text : List ℕ) (minute id : ℕ) (rs : List Report) → option_map (λ x. x.id) (find (is_same text minute) rs) ≡ Some id → list_any (has_text id text) rs ≡ true
 id_held text minute id [] e = absurd (cc)
@@ -333,7 +305,7 @@ admit_read None s actor text read same e airport =
       canonical = refl;
       reading = e;
       airport = airport;
-      few = leb-false 200_000 (length s.reports) (no_more (nat_le 200_000 (length s.reports)) _ few);
+      few = leb-false 200_000 (length s.reports) (not_so (nat_le 200_000 (length s.reports)) _ few);
     }))
 
 admit : (s : State) (actor text : List ℕ) → AskedOf s actor (ask.Admit text) (d.decide_admit s text)
@@ -351,9 +323,9 @@ defer s actor tail item found =
     given s actor (ask.Defer tail item found) (d.aircraft s tail) _ (λ kind e. known s actor (ask.Defer tail item found) (d.unlisted s kind item) _
     (λ listed. known s actor (ask.Defer tail item found) (d.found_later s found) _ (λ by_now. known s actor (ask.Defer tail item found) (d.deferrals_full s) _
     (λ few. defers (record {
-      listed = listed_by s tail item kind (some_given _ (type_of s.tables tail) kind e) (no_more (is_none (item_of s.tables kind.kind item)) _ listed);
-      by_now = let least = ltb-false s.moment found (no_more (nat_lt s.moment found) _ by_now) in omega (arith, least);
-      few = leb-false 50_000 (length s.deferrals) (no_more (nat_le 50_000 (length s.deferrals)) _ few);
+      listed = listed_by s tail item kind (some_given _ (type_of s.tables tail) kind e) (not_so (is_none (item_of s.tables kind.kind item)) _ listed);
+      by_now = let least = ltb-false s.moment found (not_so (nat_lt s.moment found) _ by_now) in omega (arith, least);
+      few = leb-false 50_000 (length s.deferrals) (not_so (nat_le 50_000 (length s.deferrals)) _ few);
       is_new = refl;
       aircraft = refl;
       deferred = refl;
@@ -371,8 +343,8 @@ draft s actor plan =
     known s actor (ask.Draft plan) (d.bad_plan (plan_fault s.tables plan)) _
     (λ good. known s actor (ask.Draft plan) (d.releases_full s) _
     (λ few. drafts (record {
-      passes = good_plan (plan_fault s.tables plan) good;
-      few = leb-false 20_000 (length s.releases) (no_more (nat_le 20_000 (length s.releases)) _ few);
+      passes = no_plan_fault (plan_fault s.tables plan) good;
+      few = leb-false 20_000 (length s.releases) (not_so (nat_le 20_000 (length s.releases)) _ few);
       is_new = refl;
       holder = refl;
       phase = refl;
@@ -418,7 +390,7 @@ amend s actor id plan there =
     known s actor a (d.bad_plan (plan_fault s.tables plan)) _ (λ passes. known s actor a (d.bad_change plan (newest q.pending q.active) q.phase) _
     (λ follows. amends (of_held (IsAmending s actor plan (d.newest_number (newest q.pending q.active) + 1)) (release_at id s.releases) q _ (some_given _ (release_at id s.releases) q e)
     (amending s q plan actor (there q (some_given _ (release_at id s.releases) q e) (allowed (d.may_change q.phase) q.phase may)) (his q.holder actor own)
-    (not_ended q.phase (allowed (d.may_change q.phase) q.phase may)) (good_plan (plan_fault s.tables plan) passes) follows)))))))
+    (not_ended q.phase (allowed (d.may_change q.phase) q.phase may)) (no_plan_fault (plan_fault s.tables plan) passes) follows)))))))
 
 cancel : (s : State) (actor : List ℕ) (id : ℕ) → AskedOf s actor (ask.Cancel id) (d.decide_cancel s actor id)
 cancel s actor id =
@@ -477,13 +449,13 @@ purge s actor id =
     (λ passed. purges (some_given _ (release_at id s.releases) q e) (record {
       at = at;
       ended = has_ended q.phase at (some_given _ (d.ended_at q.phase) at f);
-      passed = ltb-false s.moment (d.kept_until at) (no_more (nat_lt s.moment (d.kept_until at)) _ passed);
+      passed = ltb-false s.moment (d.kept_until at) (not_so (nat_lt s.moment (d.kept_until at)) _ passed);
     }))))
 
 sweep : (s : State) (actor : List ℕ) (before : ℕ) → AskedOf s actor (ask.Sweep before) (d.decide_sweep s before)
 sweep s actor before =
     known s actor (ask.Sweep before) (d.too_young s (before + 4320)) _
-    (λ passed. (sweeps (record { passed = ltb-false s.moment (before + 4320) (no_more (nat_lt s.moment (before + 4320)) _ passed); attached = refl; floors = refl })))
+    (λ passed. (sweeps (record { passed = ltb-false s.moment (before + 4320) (not_so (nat_lt s.moment (before + 4320)) _ passed); attached = refl; floors = refl })))
 
 view_release : (s : State) (actor : List ℕ) (id : ℕ) → AskedOf s actor (ask.ViewRelease id) (d.decide_release s id)
 view_release s actor id = given s actor (ask.ViewRelease id) (d.held s id) _ (λ r e. tt)
@@ -607,7 +579,7 @@ repeated_by s call k false e held = tt
 
 above_floor : (o : Option ℕ) (number : ℕ) → d.up_to_floor o number ≡ None → IfSome o (λ floor. floor < number)
 above_floor None number e = tt
-above_floor (Some floor) number e = leb-false number floor (no_more (nat_le number floor) _ e)
+above_floor (Some floor) number e = leb-false number floor (not_so (nat_le number floor) _ e)
 
 unused_is : (s : State) (call : Call) → kept_at call.actor call.number s.kept ≡ None → d.swept_number s call.actor call.number ≡ None → IsUnused s call
 unused_is s call none passes = record { none = none; above = above_floor (floor_at call.actor s.floors) call.number passes }

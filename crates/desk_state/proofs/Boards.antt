@@ -1,8 +1,8 @@
 -- Every step keeps what holds of a board.
-use Rattle.std.proofs.Common.{◌≡◌, ℕ, ◌+◌, ◌<◌, ◌≤◌, Bool, true, false, not, ◌&&◌, ◌||◌, List, [], ◌∷◌, ◌++◌, append-nil, option_to_list, length, length-append, Option, None, Some, IfSome, Result, Ok, Err, refl, ap, sym, ◌∙◌, subst, arith}
+use Rattle.std.proofs.Common.{◌≡◌, ℕ, ◌+◌, ◌<◌, ◌≤◌, Bool, true, false, not, ◌&&◌, List, [], ◌∷◌, ◌++◌, append-nil, option_to_list, length, length-append, Option, None, Some, IfSome, Result, Ok, Err, refl, ap, sym, ◌∙◌, subst, arith}
 use Rattle.std.specs.Prelude.{nat_le, is_some}
 use Rattle.std.specs.List.{AllByRecursion, AllPairs}
-use Rattle.std.proofs.lemmas.Bool.{leb-false}
+use Rattle.std.proofs.lemmas.Bool.{leb-false, or_parts}
 use Rattle.std.proofs.lemmas.List.Elements.{All-from_recursion}
 use Rattle.std.proofs.lemmas.List.Quantifiers.{all_pairs_push}
 use Rattle.ops_tables.specs.Forms.{is_person}
@@ -102,11 +102,11 @@ pub few_entries : (s : State) → is_full s ≡ false → length s.entries < 400
 few_entries s room = leb-false 400_000 (length s.entries) (or_parts (nat_le 400_000 (length s.entries)) (nat_le 999_999_999_999_000 s.counters.events) room).0
 
 pub few_events : (s : State) → is_full s ≡ false → s.counters.events < 999_999_999_999_000
-few_events s room = leb-false 999_999_999_999_000 s.counters.events (or_false (nat_le 400_000 (length s.entries)) (nat_le 999_999_999_999_000 s.counters.events) room).1
+few_events s room = leb-false 999_999_999_999_000 s.counters.events (or_parts (nat_le 400_000 (length s.entries)) (nat_le 999_999_999_999_000 s.counters.events) room).1
 
 -- where a command may come, an event may
 room_for : (s : State) (a : Ask) → is_full_for s a ≡ false → is_full s ≡ false
-room_for s a room = (or_false (is_full s) (nat_le 400_000 (length s.kept) && not (is_sweep a)) room).0
+room_for s a room = (or_parts (is_full s) (nat_le 400_000 (length s.kept) && not (is_sweep a)) room).0
 
 all_told : (g : Grounds) (alerts : List Alert) (rs : List Release) → AllByRecursion (IsAlerted g alerts) rs → AreTold alerts rs
 all_told g alerts rs all = each_weaker (IsAlerted g alerts) (λ r. IsToldTo r.holder (alert_at r.id alerts)) (λ r is. is.1) rs all
@@ -234,9 +234,6 @@ event_kept t e is form = record {
 }
 
 -- Ticks.
-
-tick_fits : (s : State) (to : ℕ) → IsMoment to → EffectFits s (tick to)
-tick_fits s to shown = record { moment = shown; report = tt; apart = tt; deferrals = tt; releases = tt }
 
 tick_by : (full : Bool) (opening s : State) (lane to : ℕ) → is_full s ≡ full → IsBoard opening s → s.moment < to → to ≤ 68_374_079
     → IsBoard opening (tick_unless full s lane to).state

@@ -1,6 +1,6 @@
 -- The changes of the alerts lead from those before an event to those after it.
-use Rattle.std.proofs.Common.{◌≡◌, ℕ, ◌+◌, ◌<◌, ◌≤◌, Bool, true, false, ◌&&◌, cond, eqb, ltb, List, [], ◌∷◌, ◌++◌, Option, None, Some, IfSome, refl, ap, sym, ◌∙◌, subst, arith, eq-eqb}
-use Rattle.std.proofs.lemmas.Bool.{ne_eqb, eqb-true, lt-ltb}
+use Rattle.std.proofs.Common.{◌≡◌, ℕ, ◌+◌, ◌<◌, ◌≤◌, Bool, true, false, cond, eqb, ltb, List, [], ◌∷◌, ◌++◌, Option, None, Some, IfSome, refl, ap, sym, ◌∙◌, subst, arith, eq-eqb}
+use Rattle.std.proofs.lemmas.Bool.{ne_eqb, eqb-true, lt-ltb, and_parts}
 use Rattle.std.proofs.lemmas.Bool.Decides.{nat_tests}
 use Rattle.std.proofs.lemmas.List.{append_assoc}
 use Rattle.std.specs.Option.{option_map}
@@ -66,13 +66,9 @@ between id None (Some b) xs ys more below above is step = ap (λ rest. put_chang
 between id (Some a) None xs ys more below above is step = ap (λ rest. put_changes more rest) (stands id (Some a) None xs ys below above is)
 between id (Some a) (Some b) xs ys more below above is step = by_same id a b _ xs ys more refl step below above is
 
-pub both_true : (a b : Bool) → (a && b) ≡ true → (a ≡ true) × (b ≡ true)
-both_true true b e = (refl, e)
-both_true false b e = absurd (cc)
-
 version_rises : (a b : Alert) → b.version ≡ a.version + 1 → is_same_alert a b ≡ true → ⊥
 version_rises a b more e =
-    absurd (let same = eqb-true a.version b.version (both_true (eqb a.version b.version) (is_same_mark a.acknowledged b.acknowledged) e).0 in omega (arith, same, more))
+    absurd (let same = eqb-true a.version b.version (and_parts (eqb a.version b.version) (is_same_mark a.acknowledged b.acknowledged) e).0 in omega (arith, same, more))
 
 once_step : (b : Bool) (a : Alert) (fs : List Finding) → is_same_alert a (alert_once_open b a fs) ≡ true → a ≡ alert_once_open b a fs
 once_step true a fs e = refl
@@ -102,7 +98,7 @@ abbrev marked : Alert → Bool → Alert
 marked a mark = record a { acknowledged = mark }
 
 seen_by : (b : Bool) (a : Alert) → is_same_alert a (cond b (marked a true) a) ≡ true → a ≡ cond b (marked a true) a
-seen_by true a e = ap (λ mark. marked a mark) (mark_is a.acknowledged (both_true (eqb a.version a.version) (is_same_mark a.acknowledged true) e).1)
+seen_by true a e = ap (λ mark. marked a mark) (mark_is a.acknowledged (and_parts (eqb a.version a.version) (is_same_mark a.acknowledged true) e).1)
 seen_by false a e = refl
 
 seen_step : (seen : ℕ) (o : Option Alert) → IsStep o (option_map (acknowledged_if seen) o)
@@ -171,21 +167,3 @@ pub changes_lead : (effect : Effect) (s : State) → EffectFits s effect → Sou
 changes_lead effect s fits sound = changes_lead_by effect s fits (judgeable s sound)
 
 -- One pass over the releases and the alerts in their order.
-
--- the alert at the front, where it is of that release
-abbrev pub here : ℕ → List Alert → Option Alert
-here id [] = None
-here id (a ∷ rest) = cond (eqb a.release id) (Some a) None
-
--- the alerts but for that one
-abbrev pub past : ℕ → List Alert → List Alert
-past id [] = []
-past id (a ∷ rest) = cond (eqb a.release id) rest (a ∷ rest)
-
-here_is : (id : ℕ) (o : Option Alert) (ys : List Alert) → IfSome o (IsOf id) → AreAbove id ys → (here id (cons_option o ys) ≡ o) × (past id (cons_option o ys) ≡ ys)
-here_is id (Some a) ys is above = rw (eq-eqb a.release id is) (refl, refl)
-here_is id None [] is above = (refl, refl)
-here_is id None (a ∷ ys) is above =
-    let less = above.0 in
-    let ne : a.release ≡ id → ⊥ = λ e. absurd (omega (arith, e, less)) in
-    rw (ne_eqb a.release id ne) (refl, refl)

@@ -1,8 +1,7 @@
 -- What a call comes to fits the desk.
 use Rattle.std.specs.Str.{bytes_eq}
-use Rattle.std.proofs.lemmas.Bool.{eqb-true, eq-eqb, leb-false, leb-true, ltb-true}
-use Rattle.std.proofs.lemmas.Slice.Eq.{bytes_eq-Decides}
-use Rattle.std.proofs.Common.{◌≡◌, ℕ, ◌+◌, ◌/◌, ◌<◌, ◌≤◌, ◌==◌, not, ◌&&◌, Bool, true, false, cond, eqb, ltb, is_some, List, [], ◌∷◌, length, Option, None, Some, IfSome, Result, Ok, Err, refl, subst, sym, ◌∙◌, arith}
+use Rattle.std.proofs.lemmas.Bool.{eqb-true, eq-eqb, leb-false, leb-true, ltb-true, and_parts, not-false}
+use Rattle.std.proofs.Common.{◌≡◌, ℕ, ◌+◌, ◌/◌, ◌<◌, ◌≤◌, ◌==◌, not, Bool, true, false, cond, eqb, ltb, is_some, List, [], ◌∷◌, length, Option, None, Some, IfSome, Result, Ok, Err, refl, subst, sym, ◌∙◌, arith}
 use Rattle.std.specs.Prelude.{nat_le}
 use Rattle.std.specs.List.{AllByRecursion}
 use Rattle.codes.specs.Groups.{groups_of, canonical}
@@ -63,6 +62,7 @@ use Rattle.asks.specs.Forms.{IsCall, CanBeShown, RefusalHasMoment}
 use Rattle.desk_state.proofs.Each.{found_each}
 use Rattle.desk_state.proofs.Parts.{later_within}
 use Rattle.desk_io.proofs.Each.{each_weaker}
+use Rattle.desk_io.proofs.Bytes.{same_bytes}
 use Rattle.desk_state.proofs.Passed.{some_given, not_so, so, same_bytes, no_plan_fault}
 
 -- Chains.
@@ -148,15 +148,11 @@ count_by true false legs e = absurd (cc)
 count_by true true false e = absurd (cc)
 count_by true true true e = refl
 
-both_true : (a b : Bool) → (a && b) ≡ true → (a ≡ true) × (b ≡ true)
-both_true true b e = (refl, e)
-both_true false b e = absurd (cc)
-
 has_a_leg : (tables : TableRows) (plan : Plan) → plan_fault tables plan ≡ None → 1 ≤ length plan.legs
 unfolding plan_fault
 has_a_leg tables plan e =
     leb-true 1 (length plan.legs)
-    (both_true (nat_le 1 (length plan.legs)) (nat_le (length plan.legs) 5)
+    (and_parts (nat_le 1 (length plan.legs)) (nat_le (length plan.legs) 5)
     (count_by (is_some (tail_named tables plan.tail)) (is_captain (actor_of tables plan.captain)) (has_legs plan)
     (whole_first (whole_fault tables plan) (first_fault tables 1 None plan.legs) e))).0
 

@@ -1,6 +1,6 @@
 -- What is told of a step are the differences of the alerts before and after it.
 use Rattle.std.proofs.Common.{◌≡◌, ℕ, Bool, true, false, ◌&&◌, cond, eqb, ltb, List, [], ◌∷◌, ◌++◌, option_to_list, Option, None, Some, Result, Ok, Err, ◌+◌, refl, ap, sym, ◌∙◌, subst, arith}
-use Rattle.std.proofs.lemmas.Bool.{eqb-true}
+use Rattle.std.proofs.lemmas.Bool.{eqb-true, and_parts}
 use Rattle.std.proofs.lemmas.Bool.Decides.{nat_tests}
 use Rattle.std.proofs.lemmas.List.Elements.{filter_map-append}
 use Rattle.std.specs.Option.{option_map}
@@ -37,7 +37,6 @@ use Rattle.desk_state.specs.Allowed.{IsEffectOf, admits, defers, clears, drafts,
 use Rattle.desk_state.specs.Told.{told_of, is_last, takes_alert, told_over, AreDifferences, takes_none}
 use Rattle.desk_state.proofs.Judging.{Agrees, agrees_all, alerts_kept, judged_is}
 use Rattle.desk_state.proofs.Parts.{releases_rise}
-use Rattle.desk_state.proofs.Changes.{both_true}
 use Rattle.desk_state.proofs.Deciding.{decision_fits}
 use Rattle.desk_state.proofs.AllowedLaws.{decision_is}
 
@@ -51,7 +50,7 @@ same_version a b e = let low : ltb a.version b.version ≡ false = let same = eq
 
 told_by : (id : ℕ) (a b : Alert) (same : Bool) → is_same_alert a b ≡ same
     → notices_of (cond same [] (record { release = id; before = Some a; after = Some b } ∷ [])) ≡ option_to_list (notice_of (Some a) (Some b))
-told_by id a b true e = ap option_to_list (sym (same_version a b (both_true (eqb a.version b.version) (is_same_mark a.acknowledged b.acknowledged) e).0))
+told_by id a b true e = ap option_to_list (sym (same_version a b (and_parts (eqb a.version b.version) (is_same_mark a.acknowledged b.acknowledged) e).0))
 told_by id a b false e = only_one (notice_of (Some a) (Some b))
 
 told_between : (id : ℕ) (before after : Option Alert) → notices_of (change_between id before after) ≡ option_to_list (notice_of before after)
