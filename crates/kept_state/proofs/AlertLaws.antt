@@ -67,14 +67,14 @@ record IsHolders (releases : List ReleaseOf) (a : AlertOf) : Type 0 where
   pub taken : IsTaken a.release releases
   pub told : IfSome (release_at a.release releases) (λ r. a.desk ≡ r.holder)
 
-taken_by : (b any : Bool) (q r : ReleaseOf) (later : Option ReleaseOf) → cond b (Some q) later ≡ Some r → (later ≡ Some r → any ≡ true) → (b || any) ≡ true
-taken_by true any q r later found rest = refl
-taken_by false any q r later found rest = rest found
+found_by : (b any : Bool) (q r : ReleaseOf) (later : Option ReleaseOf) → cond b (Some q) later ≡ Some r → (later ≡ Some r → any ≡ true) → (b || any) ≡ true
+found_by true any q r later found rest = refl
+found_by false any q r later found rest = rest found
 
 -- what is found is there
 pub found_taken : (id : ℕ) (rs : List ReleaseOf) (r : ReleaseOf) → release_at id rs ≡ Some r → IsTaken id rs
 found_taken id [] r found = absurd (cc)
-found_taken id (q ∷ qs) r found = taken_by (eqb q.id id) (list_any (λ x. x.id == id) qs) q r (release_at id qs) found (found_taken id qs r)
+found_taken id (q ∷ qs) r found = found_by (eqb q.id id) (list_any (λ x. x.id == id) qs) q r (release_at id qs) found (found_taken id qs r)
 
 holders_by : (releases : List ReleaseOf) (a : KeptAlert) (o : Option ReleaseOf) → release_at a.release releases ≡ o → IfSome (option_map (λ r. alert_with a r.holder) o) (IsHolders releases)
 holders_by releases a None is = tt
