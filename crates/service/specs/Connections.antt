@@ -64,8 +64,8 @@ abbrev pub IsFrontOf : List ℕ → List ℕ → Type 0
 IsFrontOf whole piece = (more : List ℕ) × (whole ≡ piece ++ more)
 
 -- there was no memory to write an answer, and nothing of it was written
-abbrev pub HadNoMemory : List ℕ → Type 0
-HadNoMemory piece = piece ≡ []
+abbrev pub FoundNoMemory : List ℕ → Type 0
+FoundNoMemory piece = piece ≡ []
 
 -- An answer was written whole, or a front of it, where the link failed.
 abbrev pub IsWritten : Type 0 → Response → List ℕ → Type 0
@@ -130,7 +130,7 @@ EndsConnection lane early late link clock more left u served.ReadFault t piece =
 EndsConnection lane early late link clock more left u served.WriteFault t piece =
     link × ((x : Exchange) × OneMore lane early late more u t x × IsFrontOf (bytes_of (exchange lane u x).response) piece)
 EndsConnection lane early late link clock more left u served.ClockFault t piece = NoMore early late more u t × clock × OnTold left AsksCall × IsWritten link clock_fault_answer piece
-EndsConnection lane early late link clock more left u served.OutOfMemory t piece = MayHaveMore lane early late more left u t × (IsWritten link out_of_memory_answer piece ⊎ HadNoMemory piece)
+EndsConnection lane early late link clock more left u served.OutOfMemory t piece = MayHaveMore lane early late more left u t × (IsWritten link out_of_memory_answer piece ⊎ FoundNoMemory piece)
 
 -- of bytes and of what is left of them, where both are told
 abbrev pub OnBoth : Option (List ℕ) → Option (List ℕ) → (List ℕ → List ℕ → Type 0) → Type 0

@@ -11,7 +11,7 @@ use Rattle.desk_net.specs.Clocks.{Dial}
 use Rattle.desk_net.specs.Seen.{ClockSeen, LinkSeen}
 use Rattle.desk_net.specs.Streams.{Stream, unread}
 use Rattle.desk_state.specs.State.{State}
-use Rattle.service.specs.Connections.{Gains, HadNoMemory, IsConnection, IsFrontOf, IsStep, IsWritten, bad_head_answer, too_large_answer, no_length_answer, wrong_method_answer, clock_fault_answer, out_of_memory_answer}
+use Rattle.service.specs.Connections.{Gains, FoundNoMemory, IsConnection, IsFrontOf, IsStep, IsWritten, bad_head_answer, too_large_answer, no_length_answer, wrong_method_answer, clock_fault_answer, out_of_memory_answer}
 use Rattle.service.specs.Exchanges.{bytes_of}
 use Rattle.service.specs.Requested.{requested_by}
 use Rattle.service.specs.Steps.{IsAnswered, MakesCall, MayHaveStepped, NothingCame}
@@ -25,7 +25,7 @@ Wrote old new P = (piece : List ℕ) × Gains old new piece × P piece
 
 -- an answer that ends a connection was written, or a front of it, where the link failed; or there was no memory to write it
 abbrev pub EndsAs : Type 0 → Served → Response → Served → List ℕ → Type 0
-EndsAs rose wanted r result piece = ((result ≡ wanted) × IsWritten rose r piece) ⊎ ((result ≡ served.OutOfMemory) × HadNoMemory piece)
+EndsAs rose wanted r result piece = ((result ≡ wanted) × IsWritten rose r piece) ⊎ ((result ≡ served.OutOfMemory) × FoundNoMemory piece)
 
 -- how a connection ends that has no further request
 abbrev pub EndsWithout : Type 0 → WireFault → Served → List ℕ → Type 0
@@ -44,7 +44,7 @@ abbrev pub WritesAll : Type 0 → List ℕ → Bool → Option Served → List �
 WritesAll rose bytes last None piece = (last ≡ false) × (piece ≡ bytes)
 WritesAll rose bytes last (Some served.Ended) piece = (last ≡ true) × (piece ≡ bytes)
 WritesAll rose bytes last (Some served.WriteFault) piece = rose × IsFrontOf bytes piece
-WritesAll rose bytes last (Some served.OutOfMemory) piece = HadNoMemory piece
+WritesAll rose bytes last (Some served.OutOfMemory) piece = FoundNoMemory piece
 WritesAll rose bytes last (Some other) piece = ⊥
 
 -- the connection ends, and this is how
