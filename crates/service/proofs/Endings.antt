@@ -1,5 +1,5 @@
 -- How connections end.
-use Rattle.std.proofs.Common.{◌≡◌, ◌≢◌, ℕ, ◌≤◌, ◌⊎◌, Bool, List, [], ◌∷◌, Option, Some, None, Result, Ok, Err, inl, inr, refl, ap, sym, subst, ◌∙◌, arith, append-nil}
+use Rattle.std.proofs.Common.{◌≡◌, ◌≢◌, ℕ, ◌≤◌, ◌⊎◌, Bool, List, [], ◌∷◌, Option, Some, None, Ok, Err, inl, inr, refl, ap, sym, subst, ◌∙◌, arith, append-nil}
 use Rattle.desk.specs.Keeping.{Choice}
 use Rattle.desk_http.specs.Requests.{AnswersUnused, GivesNone, unused}
 use Rattle.desk_http.specs.declared.wire.Wire.{Wire}
@@ -10,7 +10,7 @@ use Rattle.desk_io.specs.declared.faults.PutFault.TheVariants.{Failed}
 use Rattle.desk_net.specs.Clocks.{Dial}
 use Rattle.desk_net.specs.Streams.{Stream, Writes, OnlyRead, unread}
 use Rattle.desk_state.specs.State.{State}
-use Rattle.service.specs.Connections.{Exchange, responses, dial_after, AreRequests, FoundNoMemory, IsFrontOf, IsWritten, OnTold, AsksCall, EndsConnection, OnBoth, IsConnection, IsStep, out_of_memory_answer, clock_fault_answer}
+use Rattle.service.specs.Connections.{Exchange, responses, AreRequests, FoundNoMemory, IsFrontOf, IsWritten, OnTold, AsksCall, EndsConnection, OnBoth, IsConnection, IsStep, out_of_memory_answer, clock_fault_answer}
 use Rattle.service.specs.Exchanges.{bytes_of, exchanged}
 use Rattle.service.specs.Requested.{requested_by}
 use Rattle.service.specs.Serving.{Ends, EndsAs, EndsWithout, ServesRequest, WritesAll, Wrote}
