@@ -2,6 +2,7 @@
 use Rattle.std.specs.Prelude.{Some}
 use Rattle.desk_io.specs.Health.{Health}
 use Rattle.desk_io.specs.Planned.{planned_health}
+use Rattle.desk_net.specs.Clocks.{dial}
 use Rattle.desk_net.specs.Doors.{links}
 use Rattle.desk_net.specs.Seen.{ClockSeen, LinkSeen, DoorSeen}
 use Rattle.desk_net.specs.Streams.{stream}
@@ -14,7 +15,7 @@ abbrev pub health_of : Calls → Health
 health_of calls = planned_health calls.fail.items calls.faults
 
 abbrev pub clock_seen : MemoryClock → ClockSeen
-clock_seen c = record { moments = Some c.moments.items; health = health_of c.calls }
+clock_seen c = record { dial = Some (dial c.moments.items c.place); health = health_of c.calls }
 
 abbrev pub link_seen : MemoryLink → LinkSeen
 link_seen l = record { stream = Some (stream l.input.items l.taken l.written.items); health = health_of l.calls }

@@ -1,8 +1,8 @@
-ghost use Rattle.std.specs.Prelude.{◌≡◌, ◌+◌, ◌-◌, ◌<◌, min, not, length, slice_index, IfOk, OnOk, OnErr, is_ok};
+ghost use Rattle.std.specs.Prelude.{◌≡◌, ◌<◌, not, length, IfOk, OnOk, OnErr, is_ok};
 ghost use Rattle.std.specs.List.{All};
 ghost use Rattle.desk_io.specs.Health.{HasFailed, IsStill};
 ghost use Rattle.desk_io.specs.Planned.{is_planned, after};
-ghost use Rattle.desk_net.specs.Clocks.{IsAmong};
+ghost use Rattle.desk_net.specs.Clocks.{Shows};
 ghost use Rattle.desk_time.specs.Limits.{IsMoment};
 ghost use Rattle.desk_net.specs.Seen.{ClockGoesOn};
 
@@ -48,16 +48,12 @@ impl Clock for MemoryClock {
 
     fn now(&mut self) -> Result<Minute, Failed>
         ensures range { IfOk result IsMoment }
-        ensures told { IfOk result (IsAmong (clock_seen self.old).moments) }
+        ensures told { Shows (clock_seen self.old).dial (clock_seen self.new).dial result }
         ensures on { ClockGoesOn (clock_seen self.old) (clock_seen self.new) }
         ensures cause { OnErr result (HasFailed (clock_seen self.old).health (clock_seen self.new).health) }
         ensures still { OnOk result (IsStill (clock_seen self.old).health (clock_seen self.new).health) }
-        // It gives the moment at its place exactly where the call isn't among those that fail, and goes on.
+        // It gives a moment exactly where the call isn't among those that fail.
         ensures planned { is_ok result ≡ not (is_planned self.old.calls.fail.items self.old.calls.made) }
-        ensures moment { IfOk result (λ m. m ≡ slice_index self.old.moments.items self.old.place) }
-        ensures onward { OnOk result (self.new.place ≡ min (self.old.place + 1) (length self.old.moments.items - 1)) }
-        ensures kept { OnErr result (self.new.place ≡ self.old.place) }
-        ensures moments { self.new.moments.items ≡ self.old.moments.items }
         ensures fail { self.new.calls.fail.items ≡ self.old.calls.fail.items }
         ensures calls { self.new.calls.made ≡ after self.old.calls.made }
     {

@@ -1,7 +1,7 @@
 ghost use Rattle.std.specs.Prelude.{◌≡◌, ◌<◌, ◌≤◌, Some, length, IfOk, OnOk, OnErr};
 ghost use Rattle.desk_io.specs.Health.{GoesOn, GoesOnWhere, HasCause, HasFailed, HasFailedWhere, IsStill};
 ghost use Rattle.desk_io.specs.declared.faults.PutFault.TheVariants.{Failed as PutFailed};
-ghost use Rattle.desk_net.specs.Clocks.{IsAmong};
+ghost use Rattle.desk_net.specs.Clocks.{Shows};
 ghost use Rattle.desk_time.specs.Limits.{IsMoment};
 ghost use Rattle.desk_net.specs.Doors.{Accepts, TakesBack, HasNext};
 ghost use Rattle.desk_net.specs.Seen.{ClockSeen, LinkSeen, DoorSeen, ClockGoesOn, LinkGoesOn};
@@ -12,15 +12,15 @@ use desk_time::Minute;
 
 /// Where the moment comes from.
 pub trait Clock {
-    /// The moments that it answers, where the clock tells them, and how it does. An adapter over the system's
-    /// doesn't tell.
+    /// Its dial, where the clock tells it: the moments that it gives in order, and the place of the one that comes
+    /// next. And how it does. An adapter over the system's doesn't tell.
     ghost seen: { Self → ClockSeen };
 
-    /// The moment, in minutes since 1970-01-01 00:00 UTC, from `FIRST` to `LAST` of `desk_time`. A later call
-    /// may answer an earlier moment.
+    /// The moment, in minutes since 1970-01-01 00:00 UTC, from `FIRST` to `LAST` of `desk_time`: the one at
+    /// which the dial stands, which then turns. A later call may answer an earlier moment.
     fn now(&mut self) -> Result<Minute, Failed>
         ensures range { IfOk result IsMoment }
-        ensures told { IfOk result (IsAmong (seen self.old).moments) }
+        ensures told { Shows (seen self.old).dial (seen self.new).dial result }
         ensures on { ClockGoesOn (seen self.old) (seen self.new) }
         ensures cause { OnErr result (HasFailed (seen self.old).health (seen self.new).health) }
         // What it answers is no fault.

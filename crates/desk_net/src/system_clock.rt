@@ -54,7 +54,7 @@ impl<R: time::Clock + Drop> SystemClock<R> {
 }
 
 impl<R: time::Clock + Drop> Clock for SystemClock<R> {
-    ghost seen = { λ c. record { moments = None; health = unsound c.faults } };
+    ghost seen = { λ c. record { dial = None; health = unsound c.faults } };
 
     fn now(&mut self) -> Result<Minute, Failed> {
         let answer = moment_now(&self.clock);

@@ -66,7 +66,7 @@ impl CaseClock {
 }
 
 impl Clock for CaseClock {
-    ghost seen = { λ c. record { moments = None; health = unsound c.faults } };
+    ghost seen = { λ c. record { dial = None; health = unsound c.faults } };
 
     fn now(&mut self) -> Result<Minute, Failed> {
         match self.clock.now() {

@@ -1,26 +1,26 @@
 -- How connections end.
-use Rattle.std.proofs.Common.{◌≡◌, ℕ, ◌≤◌, ◌⊎◌, Bool, List, [], ◌∷◌, Option, Some, None, Result, Ok, Err, inl, inr, refl, ap, sym, subst, ◌∙◌, arith, append-nil}
-use Rattle.std.specs.Prelude.{IsErrOf}
+use Rattle.std.proofs.Common.{◌≡◌, ◌≢◌, ℕ, ◌≤◌, ◌⊎◌, Bool, List, [], ◌∷◌, Option, Some, None, Ok, Err, inl, inr, refl, ap, sym, subst, ◌∙◌, arith, append-nil}
 use Rattle.desk.specs.Keeping.{Choice}
 use Rattle.desk_http.specs.Requests.{AnswersUnused, GivesNone, unused}
 use Rattle.desk_http.specs.declared.wire.Wire.{Wire}
 use Rattle.desk_http.specs.declared.wire.WireFault.{WireFault}
 use Rattle.desk_http.specs.declared.wire.WireFault.TheVariants as fault
 use Rattle.desk_io.specs.declared.faults.PutFault.{PutFault}
-use Rattle.desk_io.specs.declared.faults.PutFault.TheVariants.{Failed, OutOfMemory}
+use Rattle.desk_io.specs.declared.faults.PutFault.TheVariants.{Failed}
+use Rattle.desk_net.specs.Clocks.{Dial}
 use Rattle.desk_net.specs.Streams.{Stream, Writes, OnlyRead, unread}
 use Rattle.desk_state.specs.State.{State}
-use Rattle.service.specs.Connections.{Exchange, responses, AreRequests, IsFrontOf, IsWritten, OnTold, AsksCall, EndsConnection, OnBoth, IsConnection, IsStep, out_of_memory_answer, clock_fault_answer}
+use Rattle.service.specs.Connections.{Exchange, responses, AreRequests, FoundNoMemory, IsFrontOf, IsWritten, OnTold, AsksCall, EndsConnection, OnBoth, IsConnection, IsStep, out_of_memory_answer, clock_fault_answer}
 use Rattle.service.specs.Exchanges.{bytes_of, exchanged}
 use Rattle.service.specs.Requested.{requested_by}
-use Rattle.service.specs.Serving.{EndsAs, EndsWithout, ServesRequest, WritesAll, Wrote}
-use Rattle.service.specs.Steps.{IsAnswered, MakesCall, IsUnanswered, MayHaveStepped}
+use Rattle.service.specs.Serving.{Ends, EndsAs, EndsWithout, ServesRequest, WritesAll, Wrote}
+use Rattle.service.specs.Steps.{IsAnswered, MakesCall, IsUnanswered, MayHaveStepped, NothingCame, dial_after_one}
 use Rattle.service.specs.declared.exchange.NoAnswer.{NoAnswer}
-use Rattle.service.specs.declared.exchange.NoAnswer.TheVariants.{OutOfMemory as NoMemory}
+use Rattle.service.specs.declared.exchange.NoAnswer.TheVariants.{ClockFault as ByClock, OutOfMemory as NoMemory}
 use Rattle.service.specs.declared.responses.Response.{Response}
 use Rattle.service.specs.declared.serving.Served.{Served}
 use Rattle.service.specs.declared.serving.Served.TheVariants as served
-use Rattle.service.proofs.Lines.{gains_all, gains_none, wrote_front, wrote_after, wrote_as}
+use Rattle.service.proofs.Lines.{gains_all, wrote_front, wrote_after, wrote_as}
 
 -- ---- the answer that ends a connection
 
@@ -40,14 +40,6 @@ pub fails_front : (T : Type 0) (old new : Option Stream) (text : List ℕ) (f : 
 fails_front T old new text f rose failed is risen =
     wrote_as old new (IsFrontOf text) (λ piece. rose × IsFrontOf text piece) (λ piece front. (risen, front)) (wrote_front T old new text (subst (λ e. Writes {T = T} old new text (Err e)) failed is))
 
--- the answer to a fault of the clock was written, or as much as there was
-pub ends_clock : {T : Type 0} (old new : Option Stream) (text : List ℕ) (result : Result T PutFault) (rose : Type 0) → Writes old new text result → (IsErrOf result Failed → rose) → text ≡ bytes_of clock_fault_answer
-    → Wrote old new (λ piece. IsWritten rose clock_fault_answer piece ⊎ (piece ≡ []))
-ends_clock old new text (Ok x) rose is risen same = (text, gains_all old new text x is, inl (inl same))
-ends_clock {T} old new text (Err Failed) rose is risen same =
-    wrote_as old new (IsFrontOf text) (λ piece. IsWritten rose clock_fault_answer piece ⊎ (piece ≡ [])) (λ piece front. inl (inr (risen refl, subst (λ t. IsFrontOf t piece) same front))) (wrote_front T old new text is)
-ends_clock {T} old new text (Err OutOfMemory) rose is risen same = ([], gains_none T old new text is, inr refl)
-
 pub without_as : (old new : Option Stream) (rose : Type 0) (f wanted : WireFault) (how : Served) → f ≡ wanted → Wrote old new (EndsWithout rose wanted how) → Wrote old new (EndsWithout rose f how)
 without_as old new rose f wanted how is wrote = subst (λ (e : WireFault). Wrote old new (EndsWithout rose e how)) (sym is) wrote
 
@@ -57,9 +49,9 @@ pub same_both : (bytes : Option (List ℕ)) → OnBoth bytes bytes (λ b l. AreR
 same_both None = tt
 same_both (Some bytes) = refl
 
-bare : (lane : ℕ) (moments : Option (List ℕ)) (link clock : Type 0) (before after : ℕ) (s : State) (bytes : Option (List ℕ)) (how : Served) (t : State) (piece : List ℕ) → before ≤ after
-    → EndsConnection lane moments link clock [] bytes s how t piece → IsConnection lane moments link clock before after s bytes how t piece
-bare lane moments link clock before after s bytes how t piece later ends = record {
+bare : (lane : ℕ) (early late : Option Dial) (link clock : Type 0) (before after : ℕ) (s : State) (bytes : Option (List ℕ)) (how : Served) (t : State) (piece : List ℕ) → before ≤ after
+    → EndsConnection lane early late link clock [] bytes s how t piece → IsConnection lane early late link clock before after s bytes how t piece
+bare lane early late link clock before after s bytes how t piece later ends = record {
   xs = [];
   more = [];
   left = bytes;
@@ -73,7 +65,7 @@ bare lane moments link clock before after s bytes how t piece later ends = recor
 }
 
 -- the answer for want of memory was written, or as much as there was
-written_last : (rose : Type 0) (how : Served) (piece : List ℕ) → EndsAs rose served.OutOfMemory out_of_memory_answer how piece → IsWritten rose out_of_memory_answer piece ⊎ (piece ≡ [])
+written_last : (rose : Type 0) (how : Served) (piece : List ℕ) → EndsAs rose served.OutOfMemory out_of_memory_answer how piece → IsWritten rose out_of_memory_answer piece ⊎ FoundNoMemory piece
 written_last rose how piece (inl (is, written)) = inl written
 written_last rose how piece (inr (is, none)) = inr none
 
@@ -81,15 +73,11 @@ last_is : (rose : Type 0) (how : Served) (piece : List ℕ) → EndsAs rose serv
 last_is rose how piece (inl (is, written)) = is
 last_is rose how piece (inr (is, none)) = is
 
-last_as : (rose : Type 0) (how : Served) (piece : List ℕ) → EndsAs rose served.OutOfMemory out_of_memory_answer how piece → EndsAs rose served.OutOfMemory out_of_memory_answer served.OutOfMemory piece
-last_as rose how piece (inl (is, written)) = inl (refl, written)
-last_as rose how piece (inr (is, none)) = inr (refl, none)
-
 pub written_more : (rose link : Type 0) (r : Response) (piece : List ℕ) → (rose → link) → IsWritten rose r piece → IsWritten link r piece
 written_more rose link r piece more (inl whole) = inl whole
 written_more rose link r piece more (inr (failed, front)) = inr (more failed, front)
 
-pub written_or : (rose link : Type 0) (r : Response) (piece : List ℕ) → (rose → link) → IsWritten rose r piece ⊎ (piece ≡ []) → IsWritten link r piece ⊎ (piece ≡ [])
+pub written_or : (rose link : Type 0) (r : Response) (piece : List ℕ) → (rose → link) → IsWritten rose r piece ⊎ FoundNoMemory piece → IsWritten link r piece ⊎ FoundNoMemory piece
 written_or rose link r piece more (inl written) = inl (written_more rose link r piece more written)
 written_or rose link r piece more (inr none) = inr none
 
@@ -102,53 +90,53 @@ told_none None (Some others) f answers = absurd answers
 told_none (Some bytes) None f answers = absurd answers
 
 -- want of memory, with nothing more answered
-bare_last : (lane : ℕ) (moments : Option (List ℕ)) (link clock : Type 0) (count : ℕ) (s : State) (bytes : Option (List ℕ)) (how : Served) (piece : List ℕ) → how ≡ served.OutOfMemory
-    → IsWritten link out_of_memory_answer piece ⊎ (piece ≡ []) → IsConnection lane moments link clock count count s bytes how s piece
-bare_last lane moments link clock count s bytes how piece is front =
-    subst (λ (e : Served). IsConnection lane moments link clock count count s bytes e s piece) (sym is)
-    (bare lane moments link clock count count s bytes served.OutOfMemory s piece (omega arith) (inl (refl, inl refl), front))
+bare_last : (lane : ℕ) (dial : Option Dial) (link clock : Type 0) (count : ℕ) (s : State) (bytes : Option (List ℕ)) (how : Served) (piece : List ℕ) → how ≡ served.OutOfMemory
+    → IsWritten link out_of_memory_answer piece ⊎ FoundNoMemory piece → IsConnection lane dial dial link clock count count s bytes how s piece
+bare_last lane dial link clock count s bytes how piece is front =
+    subst (λ (e : Served). IsConnection lane dial dial link clock count count s bytes e s piece) (sym is)
+    (bare lane dial dial link clock count count s bytes served.OutOfMemory s piece (omega arith) (inl (refl, inl (refl, refl)), front))
 
 -- the answer to a fault was written, or there was no memory for it
-bare_as : (lane : ℕ) (moments : Option (List ℕ)) (link clock rose : Type 0) (count : ℕ) (s : State) (bytes : Option (List ℕ)) (wanted : Served) (r : Response) (how : Served) (piece : List ℕ) → (rose → link)
-    → (IsWritten link r piece → EndsConnection lane moments link clock [] bytes s wanted s piece) → EndsAs rose wanted r how piece → IsConnection lane moments link clock count count s bytes how s piece
-bare_as lane moments link clock rose count s bytes wanted r how piece more ends (inl (is, written)) =
-    subst (λ (e : Served). IsConnection lane moments link clock count count s bytes e s piece) (sym is)
-    (bare lane moments link clock count count s bytes wanted s piece (omega arith) (ends (written_more rose link r piece more written)))
-bare_as lane moments link clock rose count s bytes wanted r how piece more ends (inr (is, none)) =
-    bare_last lane moments link clock count s bytes how piece is (inr none)
+bare_as : (lane : ℕ) (dial : Option Dial) (link clock rose : Type 0) (count : ℕ) (s : State) (bytes : Option (List ℕ)) (wanted : Served) (r : Response) (how : Served) (piece : List ℕ) → (rose → link)
+    → (IsWritten link r piece → EndsConnection lane dial dial link clock [] bytes s wanted s piece) → EndsAs rose wanted r how piece → IsConnection lane dial dial link clock count count s bytes how s piece
+bare_as lane dial link clock rose count s bytes wanted r how piece more ends (inl (is, written)) =
+    subst (λ (e : Served). IsConnection lane dial dial link clock count count s bytes e s piece) (sym is)
+    (bare lane dial dial link clock count count s bytes wanted s piece (omega arith) (ends (written_more rose link r piece more written)))
+bare_as lane dial link clock rose count s bytes wanted r how piece more ends (inr (is, none)) =
+    bare_last lane dial link clock count s bytes how piece is (inr none)
 
-bare_is : (lane : ℕ) (moments : Option (List ℕ)) (link clock : Type 0) (count : ℕ) (s : State) (bytes : Option (List ℕ)) (wanted how : Served) (piece : List ℕ) → how ≡ wanted
-    → EndsConnection lane moments link clock [] bytes s wanted s piece → IsConnection lane moments link clock count count s bytes how s piece
-bare_is lane moments link clock count s bytes wanted how piece is ends =
-    subst (λ (e : Served). IsConnection lane moments link clock count count s bytes e s piece) (sym is)
-    (bare lane moments link clock count count s bytes wanted s piece (omega arith) ends)
+bare_is : (lane : ℕ) (dial : Option Dial) (link clock : Type 0) (count : ℕ) (s : State) (bytes : Option (List ℕ)) (wanted how : Served) (piece : List ℕ) → how ≡ wanted
+    → EndsConnection lane dial dial link clock [] bytes s wanted s piece → IsConnection lane dial dial link clock count count s bytes how s piece
+bare_is lane dial link clock count s bytes wanted how piece is ends =
+    subst (λ (e : Served). IsConnection lane dial dial link clock count count s bytes e s piece) (sym is)
+    (bare lane dial dial link clock count count s bytes wanted s piece (omega arith) ends)
 
-pub ends_without : (lane : ℕ) (moments : Option (List ℕ)) (link clock rose : Type 0) (count : ℕ) (s : State) (f : WireFault) (bytes others : Option (List ℕ)) (how : Served) (piece : List ℕ)
-    → (rose → link) → (f ≡ fault.ReadFault → link) → AnswersUnused bytes others (Err f) → EndsWithout rose f how piece → IsConnection lane moments link clock count count s bytes how s piece
-ends_without lane moments link clock rose count s fault.End bytes others how piece more read answers (is, none) =
-    bare_is lane moments link clock count s bytes served.Ended how piece is (inl ((refl, refl), told_none bytes others fault.End answers, none))
-ends_without lane moments link clock rose count s fault.Cut bytes others how piece more read answers (is, none) =
-    bare_is lane moments link clock count s bytes served.Cut how piece is ((refl, refl), told_none bytes others fault.Cut answers, none)
-ends_without lane moments link clock rose count s fault.ReadFault bytes others how piece more read answers (is, none) =
-    bare_is lane moments link clock count s bytes served.ReadFault how piece is ((refl, refl), read refl, none)
-ends_without lane moments link clock rose count s fault.BadHead bytes others how piece more read answers ends =
-    bare_as lane moments link clock rose count s bytes served.BadHead _ how piece more (λ written. ((refl, refl), told_none bytes others fault.BadHead answers, written)) ends
-ends_without lane moments link clock rose count s fault.TooLarge bytes others how piece more read answers ends =
-    bare_as lane moments link clock rose count s bytes served.TooLarge _ how piece more (λ written. ((refl, refl), told_none bytes others fault.TooLarge answers, written)) ends
-ends_without lane moments link clock rose count s fault.NoLength bytes others how piece more read answers ends =
-    bare_as lane moments link clock rose count s bytes served.NoLength _ how piece more (λ written. ((refl, refl), told_none bytes others fault.NoLength answers, written)) ends
-ends_without lane moments link clock rose count s fault.WrongMethod bytes others how piece more read answers ends =
-    bare_as lane moments link clock rose count s bytes served.WrongMethod _ how piece more (λ written. ((refl, refl), told_none bytes others fault.WrongMethod answers, written)) ends
-ends_without lane moments link clock rose count s fault.OutOfMemory bytes others how piece more read answers ends =
-    bare_last lane moments link clock count s bytes how piece (last_is rose how piece ends) (written_or rose link out_of_memory_answer piece more (written_last rose how piece ends))
+pub ends_without : (lane : ℕ) (dial : Option Dial) (link clock rose : Type 0) (count : ℕ) (s : State) (f : WireFault) (bytes others : Option (List ℕ)) (how : Served) (piece : List ℕ)
+    → (rose → link) → (f ≡ fault.ReadFault → link) → AnswersUnused bytes others (Err f) → EndsWithout rose f how piece → IsConnection lane dial dial link clock count count s bytes how s piece
+ends_without lane dial link clock rose count s fault.End bytes others how piece more read answers (is, none) =
+    bare_is lane dial link clock count s bytes served.Ended how piece is (inl ((refl, (refl, refl)), told_none bytes others fault.End answers, none))
+ends_without lane dial link clock rose count s fault.Cut bytes others how piece more read answers (is, none) =
+    bare_is lane dial link clock count s bytes served.Cut how piece is ((refl, (refl, refl)), told_none bytes others fault.Cut answers, none)
+ends_without lane dial link clock rose count s fault.ReadFault bytes others how piece more read answers (is, none) =
+    bare_is lane dial link clock count s bytes served.ReadFault how piece is ((refl, (refl, refl)), read refl, none)
+ends_without lane dial link clock rose count s fault.BadHead bytes others how piece more read answers ends =
+    bare_as lane dial link clock rose count s bytes served.BadHead _ how piece more (λ written. ((refl, (refl, refl)), told_none bytes others fault.BadHead answers, written)) ends
+ends_without lane dial link clock rose count s fault.TooLarge bytes others how piece more read answers ends =
+    bare_as lane dial link clock rose count s bytes served.TooLarge _ how piece more (λ written. ((refl, (refl, refl)), told_none bytes others fault.TooLarge answers, written)) ends
+ends_without lane dial link clock rose count s fault.NoLength bytes others how piece more read answers ends =
+    bare_as lane dial link clock rose count s bytes served.NoLength _ how piece more (λ written. ((refl, (refl, refl)), told_none bytes others fault.NoLength answers, written)) ends
+ends_without lane dial link clock rose count s fault.WrongMethod bytes others how piece more read answers ends =
+    bare_as lane dial link clock rose count s bytes served.WrongMethod _ how piece more (λ written. ((refl, (refl, refl)), told_none bytes others fault.WrongMethod answers, written)) ends
+ends_without lane dial link clock rose count s fault.OutOfMemory bytes others how piece more read answers ends =
+    bare_last lane dial link clock count s bytes how piece (last_is rose how piece ends) (written_or rose link out_of_memory_answer piece more (written_last rose how piece ends))
 
 -- the same of what was written
-pub served_without : (old mid new : Option Stream) (lane : ℕ) (moments : Option (List ℕ)) (link clock rose : Type 0) (count : ℕ) (s : State) (f : WireFault) (bytes others : Option (List ℕ)) (how : Served)
+pub served_without : (old mid new : Option Stream) (lane : ℕ) (dial : Option Dial) (link clock rose : Type 0) (count : ℕ) (s : State) (f : WireFault) (bytes others : Option (List ℕ)) (how : Served)
     → OnlyRead old mid → (rose → link) → (f ≡ fault.ReadFault → link) → AnswersUnused bytes others (Err f) → Wrote mid new (EndsWithout rose f how)
-    → Wrote old new (IsConnection lane moments link clock count count s bytes how s)
-served_without old mid new lane moments link clock rose count s f bytes others how only more read answers wrote =
-    wrote_after old mid new (EndsWithout rose f how) (IsConnection lane moments link clock count count s bytes how s) only
-    (λ piece ends. ends_without lane moments link clock rose count s f bytes others how piece more read answers ends) wrote
+    → Wrote old new (IsConnection lane dial dial link clock count count s bytes how s)
+served_without old mid new lane dial link clock rose count s f bytes others how only more read answers wrote =
+    wrote_after old mid new (EndsWithout rose f how) (IsConnection lane dial dial link clock count count s bytes how s) only
+    (λ piece ends. ends_without lane dial link clock rose count s f bytes others how piece more read answers ends) wrote
 
 -- ---- a request that is served
 
@@ -171,11 +159,11 @@ abbrev of_wire : Wire → ℕ → Choice → Exchange
 of_wire wire at choice = record { wire = wire; at = at; choice = choice }
 
 -- a request more was answered, and its response isn't known to be written whole
-one_more : (lane : ℕ) (moments : Option (List ℕ)) (link clock : Type 0) (before after : ℕ) (s t : State) (wire : Wire) (r : Response) (bytes others : Option (List ℕ)) (how : Served) (piece : List ℕ)
-    → AnswersUnused bytes others (Ok wire) → (answered : IsAnswered lane moments before after s (requested_by wire) t r)
-    → EndsConnection lane moments link clock (of_wire wire answered.at answered.choice ∷ []) others s how t piece
-    → IsConnection lane moments link clock before after s bytes how t piece
-one_more lane moments link clock before after s t wire r bytes others how piece answers answered ends = record {
+one_more : (lane : ℕ) (early late : Option Dial) (link clock : Type 0) (before after : ℕ) (s t : State) (wire : Wire) (r : Response) (bytes others : Option (List ℕ)) (how : Served) (piece : List ℕ)
+    → AnswersUnused bytes others (Ok wire) → (answered : IsAnswered lane early late before after s (requested_by wire) t r)
+    → EndsConnection lane (dial_after_one (requested_by wire) early) late link clock (of_wire wire answered.at answered.choice ∷ []) others s how t piece
+    → IsConnection lane early late link clock before after s bytes how t piece
+one_more lane early late link clock before after s t wire r bytes others how piece answers answered ends = record {
   xs = [];
   more = of_wire wire answered.at answered.choice ∷ [];
   left = others;
@@ -188,64 +176,77 @@ one_more lane moments link clock before after s t wire r bytes others how piece 
   ends = ends;
 }
 
-serves_whole : (lane : ℕ) (moments : Option (List ℕ)) (before after : ℕ) (s t : State) (wire : Wire) (r : Response) (piece : List ℕ) (answered : IsAnswered lane moments before after s (requested_by wire) t r)
+serves_whole : (lane : ℕ) (early late : Option Dial) (before after : ℕ) (s t : State) (wire : Wire) (r : Response) (piece : List ℕ) (answered : IsAnswered lane early late before after s (requested_by wire) t r)
     → piece ≡ bytes_of r → piece ≡ responses lane s (of_wire wire answered.at answered.choice ∷ [])
-serves_whole lane moments before after s t wire r piece answered whole =
+serves_whole lane early late before after s t wire r piece answered whole =
     whole ∙ ap bytes_of answered.response ∙ sym (append-nil (bytes_of (exchanged answered.choice lane s answered.at (requested_by wire)).response))
 
 -- a response was written, or a front of it
-serves_answered : (lane : ℕ) (moments : Option (List ℕ)) (link clock : Type 0) (before after : ℕ) (s t : State) (wire : Wire) (r : Response) (bytes others : Option (List ℕ)) (result : Option Served) (piece : List ℕ)
-    → AnswersUnused bytes others (Ok wire) → IsAnswered lane moments before after s (requested_by wire) t r → WritesAll link (bytes_of r) wire.last result piece
-    → IsStep lane moments link clock before after s bytes others t piece result
-serves_answered lane moments link clock before after s t wire r bytes others None piece answers answered (open_, whole) = record {
+serves_answered : (lane : ℕ) (early late : Option Dial) (link clock : Type 0) (before after : ℕ) (s t : State) (wire : Wire) (r : Response) (bytes others : Option (List ℕ)) (result : Option Served) (piece : List ℕ)
+    → AnswersUnused bytes others (Ok wire) → IsAnswered lane early late before after s (requested_by wire) t r → WritesAll link (bytes_of r) wire.last result piece
+    → IsStep lane early late link clock before after s bytes others t piece result
+serves_answered lane early late link clock before after s t wire r bytes others None piece answers answered (open_, whole) = record {
   xs = of_wire wire answered.at answered.choice ∷ [];
   requests = one_request bytes others wire answered.at answered.choice answers;
   timed = (answered.timed, tt);
+  turned = answered.turned;
   going = (open_, tt);
   counted = answered.counted;
-  says = serves_whole lane moments before after s t wire r piece answered whole;
+  says = serves_whole lane early late before after s t wire r piece answered whole;
   state = answered.state;
 }
-serves_answered lane moments link clock before after s t wire r bytes others (Some served.Ended) piece answers answered (last, whole) =
-    one_more lane moments link clock before after s t wire r bytes others served.Ended piece answers answered
-    (inr (of_wire wire answered.at answered.choice, (refl, answered.state), last, whole ∙ ap bytes_of answered.response))
-serves_answered lane moments link clock before after s t wire r bytes others (Some served.WriteFault) piece answers answered (rose, front) =
-    one_more lane moments link clock before after s t wire r bytes others served.WriteFault piece answers answered
-    (rose, (of_wire wire answered.at answered.choice, (refl, answered.state), subst (λ (a : Response). IsFrontOf (bytes_of a) piece) answered.response front))
-serves_answered lane moments link clock before after s t wire r bytes others (Some served.OutOfMemory) piece answers answered none =
-    one_more lane moments link clock before after s t wire r bytes others served.OutOfMemory piece answers answered
-    (inr (of_wire wire answered.at answered.choice, (refl, answered.state)), inr none)
-serves_answered lane moments link clock before after s t wire r bytes others (Some served.Cut) piece answers answered never = absurd never
-serves_answered lane moments link clock before after s t wire r bytes others (Some served.BadHead) piece answers answered never = absurd never
-serves_answered lane moments link clock before after s t wire r bytes others (Some served.TooLarge) piece answers answered never = absurd never
-serves_answered lane moments link clock before after s t wire r bytes others (Some served.NoLength) piece answers answered never = absurd never
-serves_answered lane moments link clock before after s t wire r bytes others (Some served.WrongMethod) piece answers answered never = absurd never
-serves_answered lane moments link clock before after s t wire r bytes others (Some served.ReadFault) piece answers answered never = absurd never
-serves_answered lane moments link clock before after s t wire r bytes others (Some served.ClockFault) piece answers answered never = absurd never
+serves_answered lane early late link clock before after s t wire r bytes others (Some served.Ended) piece answers answered (last, whole) =
+    one_more lane early late link clock before after s t wire r bytes others served.Ended piece answers answered
+    (inr (of_wire wire answered.at answered.choice, (refl, answered.turned, answered.state), last, whole ∙ ap bytes_of answered.response))
+serves_answered lane early late link clock before after s t wire r bytes others (Some served.WriteFault) piece answers answered (rose, front) =
+    one_more lane early late link clock before after s t wire r bytes others served.WriteFault piece answers answered
+    (rose, (of_wire wire answered.at answered.choice, (refl, answered.turned, answered.state), subst (λ (a : Response). IsFrontOf (bytes_of a) piece) answered.response front))
+serves_answered lane early late link clock before after s t wire r bytes others (Some served.OutOfMemory) piece answers answered none =
+    one_more lane early late link clock before after s t wire r bytes others served.OutOfMemory piece answers answered
+    (inr (of_wire wire answered.at answered.choice, (refl, answered.turned, answered.state)), inr none)
+serves_answered lane early late link clock before after s t wire r bytes others (Some served.Cut) piece answers answered never = absurd never
+serves_answered lane early late link clock before after s t wire r bytes others (Some served.BadHead) piece answers answered never = absurd never
+serves_answered lane early late link clock before after s t wire r bytes others (Some served.TooLarge) piece answers answered never = absurd never
+serves_answered lane early late link clock before after s t wire r bytes others (Some served.NoLength) piece answers answered never = absurd never
+serves_answered lane early late link clock before after s t wire r bytes others (Some served.WrongMethod) piece answers answered never = absurd never
+serves_answered lane early late link clock before after s t wire r bytes others (Some served.ReadFault) piece answers answered never = absurd never
+serves_answered lane early late link clock before after s t wire r bytes others (Some served.ClockFault) piece answers answered never = absurd never
 
--- memory ran out
-serves_last : (lane : ℕ) (moments : Option (List ℕ)) (link clock : Type 0) (before after : ℕ) (s t : State) (wire : Wire) (bytes others : Option (List ℕ)) (piece : List ℕ) → before ≤ after
-    → AnswersUnused bytes others (Ok wire) → MayHaveStepped lane moments before after s (requested_by wire) t → IsWritten link out_of_memory_answer piece ⊎ (piece ≡ [])
-    → IsConnection lane moments link clock before after s bytes served.OutOfMemory t piece
-serves_last lane moments link clock before after s t wire bytes others piece later answers (inl still) front =
-    bare lane moments link clock before after s bytes served.OutOfMemory t piece later (inl (refl, inl still), front)
-serves_last lane moments link clock before after s t wire bytes others piece later answers (inr (inl (call, ticked))) front =
-    bare lane moments link clock before after s bytes served.OutOfMemory t piece later (inl (refl, inr (asks_call bytes others wire answers call, ticked)), front)
-serves_last lane moments link clock before after s t wire bytes others piece later answers (inr (inr (r, answered))) front =
-    one_more lane moments link clock before after s t wire r bytes others served.OutOfMemory piece answers answered
-    (inr (of_wire wire answered.at answered.choice, (refl, answered.state)), front)
+-- the clock failed, and the answer to that was written
+serves_fault : (lane : ℕ) (early late : Option Dial) (link clock : Type 0) (before after : ℕ) (s t : State) (wire : Wire) (bytes others : Option (List ℕ)) (how : Served) (piece : List ℕ) → before ≤ after
+    → AnswersUnused bytes others (Ok wire) → clock → MakesCall (requested_by wire) → NothingCame early late s t → EndsAs link served.ClockFault clock_fault_answer how piece
+    → IsConnection lane early late link clock before after s bytes how t piece
+serves_fault lane early late link clock before after s t wire bytes others how piece later answers failed call nothing (inl (is, written)) =
+    subst (λ (e : Served). IsConnection lane early late link clock before after s bytes e t piece) (sym is)
+    (bare lane early late link clock before after s bytes served.ClockFault t piece later ((refl, nothing), failed, asks_call bytes others wire answers call, written))
+serves_fault lane early late link clock before after s t wire bytes others how piece later answers failed call nothing (inr (is, none)) =
+    subst (λ (e : Served). IsConnection lane early late link clock before after s bytes e t piece) (sym is)
+    (bare lane early late link clock before after s bytes served.OutOfMemory t piece later (inl (refl, inl nothing), inr none))
 
-pub serves_step : (lane : ℕ) (moments : Option (List ℕ)) (link clock : Type 0) (before after : ℕ) (s t : State) (wire : Wire) (bytes others : Option (List ℕ)) (result : Option Served) (piece : List ℕ)
-    → before ≤ after → AnswersUnused bytes others (Ok wire) → ServesRequest lane moments link clock before after s wire t result piece
-    → IsStep lane moments link clock before after s bytes others t piece result
-serves_step lane moments link clock before after s t wire bytes others result piece later answers (inl (r, answered, writes)) =
-    serves_answered lane moments link clock before after s t wire r bytes others result piece answers answered writes
-serves_step lane moments link clock before after s t wire bytes others result piece later answers (inr (inl (is, failed, call, still, written))) =
-    subst (λ (o : Option Served). IsStep lane moments link clock before after s bytes others t piece o) (sym is)
-    (bare lane moments link clock before after s bytes served.ClockFault t piece later ((refl, still), failed, asks_call bytes others wire answers call, written))
-serves_step lane moments link clock before after s t wire bytes others result piece later answers (inr (inr (is, stepped, ends))) =
-    subst (λ (o : Option Served). IsStep lane moments link clock before after s bytes others t piece o) (sym is)
-    (serves_last lane moments link clock before after s t wire bytes others piece later answers stepped (written_last link served.OutOfMemory piece ends))
+-- memory ran out, and the answer to that was written
+serves_last : (lane : ℕ) (early late : Option Dial) (link clock : Type 0) (before after : ℕ) (s t : State) (wire : Wire) (bytes others : Option (List ℕ)) (piece : List ℕ) → before ≤ after
+    → AnswersUnused bytes others (Ok wire) → MayHaveStepped lane early late before after s (requested_by wire) t → IsWritten link out_of_memory_answer piece ⊎ FoundNoMemory piece
+    → IsConnection lane early late link clock before after s bytes served.OutOfMemory t piece
+serves_last lane early late link clock before after s t wire bytes others piece later answers (inl nothing) front =
+    bare lane early late link clock before after s bytes served.OutOfMemory t piece later (inl (refl, inl nothing), front)
+serves_last lane early late link clock before after s t wire bytes others piece later answers (inr (inl (call, has))) front =
+    bare lane early late link clock before after s bytes served.OutOfMemory t piece later (inl (refl, inr (asks_call bytes others wire answers call, has)), front)
+serves_last lane early late link clock before after s t wire bytes others piece later answers (inr (inr (r, answered))) front =
+    one_more lane early late link clock before after s t wire r bytes others served.OutOfMemory piece answers answered
+    (inr (of_wire wire answered.at answered.choice, (refl, answered.turned, answered.state)), front)
+
+pub serves_step : (lane : ℕ) (early late : Option Dial) (link clock : Type 0) (before after : ℕ) (s t : State) (wire : Wire) (bytes others : Option (List ℕ)) (result : Option Served) (piece : List ℕ)
+    → before ≤ after → AnswersUnused bytes others (Ok wire) → ServesRequest lane early late link clock before after s wire t result piece
+    → IsStep lane early late link clock before after s bytes others t piece result
+serves_step lane early late link clock before after s t wire bytes others result piece later answers (inl (r, answered, writes)) =
+    serves_answered lane early late link clock before after s t wire r bytes others result piece answers answered writes
+serves_step lane early late link clock before after s t wire bytes others (Some how) piece later answers (inr (inl (failed, call, nothing, ends))) =
+    serves_fault lane early late link clock before after s t wire bytes others how piece later answers failed call nothing ends
+serves_step lane early late link clock before after s t wire bytes others (Some how) piece later answers (inr (inr (stepped, ends))) =
+    subst (λ (e : Served). IsConnection lane early late link clock before after s bytes e t piece) (sym (last_is link how piece ends))
+    (serves_last lane early late link clock before after s t wire bytes others piece later answers stepped (written_last link how piece ends))
+serves_step lane early late link clock before after s t wire bytes others None piece later answers (inr (inl (failed, call, nothing, never))) = absurd never
+serves_step lane early late link clock before after s t wire bytes others None piece later answers (inr (inr (stepped, never))) = absurd never
 
 writes_more : (rose link : Type 0) (bytes : List ℕ) (last : Bool) (result : Option Served) (piece : List ℕ) → (rose → link) → WritesAll rose bytes last result piece → WritesAll link bytes last result piece
 writes_more rose link bytes last None piece more writes = writes
@@ -260,31 +261,50 @@ writes_more rose link bytes last (Some served.WrongMethod) piece more never = ab
 writes_more rose link bytes last (Some served.ReadFault) piece more never = absurd never
 writes_more rose link bytes last (Some served.ClockFault) piece more never = absurd never
 
+ends_more : (rose link : Type 0) (wanted : Served) (r : Response) (piece : List ℕ) → (rose → link) → (result : Option Served) → Ends result (λ how. EndsAs rose wanted r how piece)
+    → Ends result (λ how. EndsAs link wanted r how piece)
+ends_more rose link wanted r piece more None never = never
+ends_more rose link wanted r piece more (Some how) (inl (is, written)) = inl (is, written_more rose link r piece more written)
+ends_more rose link wanted r piece more (Some how) (inr none) = inr none
+
 -- the link's count may have risen while the request was read
-requests_more : (lane : ℕ) (moments : Option (List ℕ)) (rose link clock : Type 0) (before after : ℕ) (s t : State) (wire : Wire) (result : Option Served) (piece : List ℕ) → (rose → link)
-    → ServesRequest lane moments rose clock before after s wire t result piece → ServesRequest lane moments link clock before after s wire t result piece
-requests_more lane moments rose link clock before after s t wire result piece more (inl (r, answered, writes)) = inl (r, answered, writes_more rose link (bytes_of r) wire.last result piece more writes)
-requests_more lane moments rose link clock before after s t wire result piece more (inr (inl (is, failed, call, still, written))) =
-    inr (inl (is, failed, call, still, written_or rose link clock_fault_answer piece more written))
-requests_more lane moments rose link clock before after s t wire result piece more (inr (inr (is, stepped, inl (last, written)))) =
-    inr (inr (is, stepped, inl (last, written_more rose link out_of_memory_answer piece more written)))
-requests_more lane moments rose link clock before after s t wire result piece more (inr (inr (is, stepped, inr none))) = inr (inr (is, stepped, inr none))
+requests_more : (lane : ℕ) (early late : Option Dial) (rose link clock : Type 0) (before after : ℕ) (s t : State) (wire : Wire) (result : Option Served) (piece : List ℕ) → (rose → link)
+    → ServesRequest lane early late rose clock before after s wire t result piece → ServesRequest lane early late link clock before after s wire t result piece
+requests_more lane early late rose link clock before after s t wire result piece more (inl (r, answered, writes)) = inl (r, answered, writes_more rose link (bytes_of r) wire.last result piece more writes)
+requests_more lane early late rose link clock before after s t wire result piece more (inr (inl (failed, call, nothing, ends))) =
+    inr (inl (failed, call, nothing, ends_more rose link served.ClockFault clock_fault_answer piece more result ends))
+requests_more lane early late rose link clock before after s t wire result piece more (inr (inr (stepped, ends))) =
+    inr (inr (stepped, ends_more rose link served.OutOfMemory out_of_memory_answer piece more result ends))
 
 -- a request was read, and served
-pub served_step : (old mid new : Option Stream) (lane : ℕ) (moments : Option (List ℕ)) (rose link clock : Type 0) (before after : ℕ) (s t : State) (wire : Wire) (bytes : Option (List ℕ)) (kept : List ℕ) (result : Option Served)
+pub served_step : (old mid new : Option Stream) (lane : ℕ) (early late : Option Dial) (rose link clock : Type 0) (before after : ℕ) (s t : State) (wire : Wire) (bytes : Option (List ℕ)) (kept : List ℕ) (result : Option Served)
     → OnlyRead old mid → (rose → link) → before ≤ after → unread new ≡ unread mid → AnswersUnused bytes (unused kept (unread mid)) (Ok wire)
-    → Wrote mid new (ServesRequest lane moments rose clock before after s wire t result)
-    → Wrote old new (λ piece. IsStep lane moments link clock before after s bytes (unused kept (unread new)) t piece result)
-served_step old mid new lane moments rose link clock before after s t wire bytes kept result only more later same answers wrote =
-    wrote_after old mid new (ServesRequest lane moments rose clock before after s wire t result) (λ piece. IsStep lane moments link clock before after s bytes (unused kept (unread new)) t piece result) only
-    (λ piece serves. serves_step lane moments link clock before after s t wire bytes (unused kept (unread new)) result piece later
+    → Wrote mid new (ServesRequest lane early late rose clock before after s wire t result)
+    → Wrote old new (λ piece. IsStep lane early late link clock before after s bytes (unused kept (unread new)) t piece result)
+served_step old mid new lane early late rose link clock before after s t wire bytes kept result only more later same answers wrote =
+    wrote_after old mid new (ServesRequest lane early late rose clock before after s wire t result) (λ piece. IsStep lane early late link clock before after s bytes (unused kept (unread new)) t piece result) only
+    (λ piece serves. serves_step lane early late link clock before after s t wire bytes (unused kept (unread new)) result piece later
     (subst (λ rest. AnswersUnused bytes (unused kept rest) (Ok wire)) (sym same) answers)
-    (requests_more lane moments rose link clock before after s t wire result piece more serves)) wrote
+    (requests_more lane early late rose link clock before after s t wire result piece more serves)) wrote
 
--- memory ran out, and the answer for that was written
-pub served_last : (old new : Option Stream) (lane : ℕ) (moments : Option (List ℕ)) (link clock : Type 0) (before after : ℕ) (s t : State) (wire : Wire) (why : NoAnswer) (how : Served) → why ≡ NoMemory
-    → IsUnanswered lane moments clock before after s (requested_by wire) t why → Wrote old new (EndsAs link served.OutOfMemory out_of_memory_answer how) → Wrote old new (ServesRequest lane moments link clock before after s wire t (Some how))
-served_last old new lane moments link clock before after s t wire why how is none wrote =
-    let stepped : MayHaveStepped lane moments before after s (requested_by wire) t = subst (IsUnanswered lane moments clock before after s (requested_by wire) t) is none in
-    wrote_as old new (EndsAs link served.OutOfMemory out_of_memory_answer how) (ServesRequest lane moments link clock before after s wire t (Some how))
-    (λ piece ends. inr (inr (ap Some (last_is link how piece ends), stepped, last_as link how piece ends))) wrote
+-- memory ran out, and the answer to that was written
+pub served_last : (old new : Option Stream) (lane : ℕ) (early late : Option Dial) (link clock : Type 0) (before after : ℕ) (s t : State) (wire : Wire) (why : NoAnswer) (how : Served) → why ≡ NoMemory
+    → IsUnanswered lane early late clock before after s (requested_by wire) t why → Wrote old new (EndsAs link served.OutOfMemory out_of_memory_answer how) → Wrote old new (ServesRequest lane early late link clock before after s wire t (Some how))
+served_last old new lane early late link clock before after s t wire why how is none wrote =
+    let stepped : MayHaveStepped lane early late before after s (requested_by wire) t = subst (IsUnanswered lane early late clock before after s (requested_by wire) t) is none in
+    wrote_as old new (EndsAs link served.OutOfMemory out_of_memory_answer how) (ServesRequest lane early late link clock before after s wire t (Some how)) (λ piece ends. inr (inr (stepped, ends))) wrote
+
+-- the clock failed, and the answer to that was written
+pub served_fault : (old new : Option Stream) (lane : ℕ) (early late : Option Dial) (link clock : Type 0) (before after : ℕ) (s t : State) (wire : Wire) (why : NoAnswer) (how : Served) → why ≡ ByClock
+    → IsUnanswered lane early late clock before after s (requested_by wire) t why → Wrote old new (EndsAs link served.ClockFault clock_fault_answer how) → Wrote old new (ServesRequest lane early late link clock before after s wire t (Some how))
+served_fault old new lane early late link clock before after s t wire why how is none wrote =
+    let failed : clock × MakesCall (requested_by wire) × NothingCame early late s t = subst (IsUnanswered lane early late clock before after s (requested_by wire) t) is none in
+    wrote_as old new (EndsAs link served.ClockFault clock_fault_answer how) (ServesRequest lane early late link clock before after s wire t (Some how)) (λ piece ends. inr (inl (failed.0, failed.1, failed.2, ends))) wrote
+
+-- an answer that ends a connection ends it as was wanted, or memory ran out
+pub ends_otherwise : (old new : Option Stream) (rose : Type 0) (wanted : Served) (r : Response) (how : Served) → Wrote old new (EndsAs rose wanted r how) → how ≢ wanted → how ≢ served.OutOfMemory → ⊥
+ends_otherwise old new rose wanted r how wrote one two = by wrote.2
+  where
+    by : EndsAs rose wanted r how wrote.0 → ⊥
+    by (inl (is, written)) = one is
+    by (inr (is, none)) = two is

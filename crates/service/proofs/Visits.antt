@@ -7,6 +7,7 @@ use Rattle.std.proofs.lemmas.List.Elements.{filter-append}
 use Rattle.desk.specs.Seen.{DeskAt}
 use Rattle.desk_io.specs.Health.{HasFailed, RoseOrFull}
 use Rattle.desk_io.specs.Over.{Over}
+use Rattle.desk_net.specs.Clocks.{Dial}
 use Rattle.desk_net.specs.Doors.{Links, Accepts, TakesBack, HasNext}
 use Rattle.desk_net.specs.Seen.{ClockSeen, DoorSeen, LinkSeen}
 use Rattle.desk_net.specs.Streams.{unread}
@@ -25,26 +26,27 @@ use Rattle.service.proofs.Endings.{same_both}
 
 -- ---- a connection seen from before
 
-nothing_yet : (lane : ℕ) (moments : Option (List ℕ)) (less before : ℕ) (s : State) (bytes : Option (List ℕ)) → less ≤ before → GoesOn lane moments less before s bytes bytes s []
-nothing_yet lane moments less before s bytes under =
-    record { xs = []; requests = same_both bytes; timed = tt; going = tt; counted = under; says = refl; state = refl }
+nothing_yet : (lane : ℕ) (dial : Option Dial) (less before : ℕ) (s : State) (bytes : Option (List ℕ)) → less ≤ before → GoesOn lane dial dial less before s bytes bytes s []
+nothing_yet lane dial less before s bytes under =
+    record { xs = []; requests = same_both bytes; timed = tt; turned = refl; going = tt; counted = under; says = refl; state = refl }
 
 -- a visit, counted from before
-visit_from : {L : Type 0} (link : L → LinkSeen) (lane : ℕ) (moments : Option (List ℕ)) (failed clock : Type 0) (less before after : ℕ) (s : State) (v : Visit L) (t : State)
-    → less ≤ before → (failed → clock) → IsVisit link lane moments failed before after s v t → IsVisit link lane moments clock less after s v t
-visit_from link lane moments failed clock less before after s v t under of_clock is =
+visit_from : {L : Type 0} (link : L → LinkSeen) (lane : ℕ) (early late : Option Dial) (failed clock : Type 0) (less before after : ℕ) (s : State) (v : Visit L) (t : State)
+    → less ≤ before → (failed → clock) → IsVisit link lane early late failed before after s v t → IsVisit link lane early late clock less after s v t
+visit_from link lane early late failed clock less before after s v t under of_clock is =
     wrote_as (link v.came).stream (link v.went).stream _ _
-    (λ piece one. joined lane moments _ failed _ clock less before after s s t (unread (link v.came).stream) (unread (link v.came).stream) v.served [] piece (λ rose. rose) of_clock
-    (nothing_yet lane moments less before s (unread (link v.came).stream) under) one) is
+    (λ piece one. joined lane early early late _ failed _ clock less before after s s t (unread (link v.came).stream) (unread (link v.came).stream) v.served [] piece (λ rose. rose) of_clock
+    (nothing_yet lane early less before s (unread (link v.came).stream) under) one) is
 
-pub visits_from : {L : Type 0} (link : L → LinkSeen) (lane : ℕ) (moments : Option (List ℕ)) (failed clock : Type 0) (less before after : ℕ) (s : State) (vs : List (Visit L)) (t : State)
-    → less ≤ before → (failed → clock) → AreVisits link lane moments failed before after s vs t → AreVisits link lane moments clock less after s vs t
-visits_from link lane moments failed clock less before after s [] t under of_clock are = let more = are.0 in (omega (arith, under, more), are.1)
-visits_from link lane moments failed clock less before after s (v ∷ vs) t under of_clock (middle, u, one, rest) = (
+pub visits_from : {L : Type 0} (link : L → LinkSeen) (lane : ℕ) (early late : Option Dial) (failed clock : Type 0) (less before after : ℕ) (s : State) (vs : List (Visit L)) (t : State)
+    → less ≤ before → (failed → clock) → AreVisits link lane early late failed before after s vs t → AreVisits link lane early late clock less after s vs t
+visits_from link lane early late failed clock less before after s [] t under of_clock are = let more = are.0 in (omega (arith, under, more), are.1, are.2)
+visits_from link lane early late failed clock less before after s (v ∷ vs) t under of_clock (middle, noon, u, one, rest) = (
   middle,
+  noon,
   u,
-  visit_from link lane moments failed clock less before middle s v u under of_clock one,
-  visits_from link (lane + 1) moments failed clock middle middle after u vs t (omega arith) of_clock rest,
+  visit_from link lane early noon failed clock less before middle s v u under of_clock one,
+  visits_from link (lane + 1) noon late failed clock middle middle after u vs t (omega arith) of_clock rest,
 )
 
 -- ---- one more
@@ -55,16 +57,24 @@ same_lane lane = omega arith
 next_lane : (lane n : ℕ) → lane + suc n ≡ (lane + 1) + n
 next_lane lane n = omega arith
 
-pub visits_on : {L : Type 0} (link : L → LinkSeen) (lane : ℕ) (moments : Option (List ℕ)) (clock : Type 0) (before middle after : ℕ) (s : State) (vs : List (Visit L)) (u : State) (v : Visit L) (t : State)
-    → AreVisits link lane moments clock before middle s vs u → IsVisit link (lane + length vs) moments clock middle after u v t → AreVisits link lane moments clock before after s (vs ++ v ∷ []) t
-visits_on link lane moments clock before middle after s [] u v t are is =
-    (after, t, visit_from link lane moments clock clock before middle after s v t are.0 (λ rose. rose) (subst (λ (x : State). IsVisit link lane moments clock middle after x v t) are.1 (subst (λ l. IsVisit link l moments clock middle after u v t) (same_lane lane) is)), (omega arith, refl))
-visits_on link lane moments clock before middle after s (w ∷ ws) u v t (first, x, one, rest) is = (
+pub visits_on : {L : Type 0} (link : L → LinkSeen) (lane : ℕ) (early noon late : Option Dial) (clock : Type 0) (before middle after : ℕ) (s : State) (vs : List (Visit L)) (u : State) (v : Visit L) (t : State)
+    → AreVisits link lane early noon clock before middle s vs u → IsVisit link (lane + length vs) noon late clock middle after u v t → AreVisits link lane early late clock before after s (vs ++ v ∷ []) t
+visits_on link lane early noon late clock before middle after s [] u v t are is = (
+  after,
+  late,
+  t,
+  visit_from link lane early late clock clock before middle after s v t are.0 (λ rose. rose)
+      (subst (λ (x : State). IsVisit link lane early late clock middle after x v t) are.2
+      (subst (λ dial. IsVisit link lane dial late clock middle after u v t) are.1 (subst (λ l. IsVisit link l noon late clock middle after u v t) (same_lane lane) is))),
+  (omega arith, refl, refl),
+)
+visits_on link lane early noon late clock before middle after s (w ∷ ws) u v t (first, dial, x, one, rest) is = (
   first,
+  dial,
   x,
   one,
-  visits_on link (lane + 1) moments clock first middle after x ws u v t rest
-      (subst (λ l. IsVisit link l moments clock middle after u v t) (next_lane lane (length ws)) is),
+  visits_on link (lane + 1) dial noon late clock first middle after x ws u v t rest
+      (subst (λ l. IsVisit link l noon late clock middle after u v t) (next_lane lane (length ws)) is),
 )
 
 all_on : {L : Type 0} (P : Visit L → Type 0) (vs : List (Visit L)) (v : Visit L) → AllByRecursion P vs → P v → AllByRecursion P (vs ++ v ∷ [])
@@ -138,34 +148,34 @@ left_out T E (Some old) None new came went how e one two = absurd one
 left_out T E (Some old) (Some mid) None came went how e one two = absurd two
 
 -- a connection ends by a fault of the clock only where its count rose
-ends_clock : (lane : ℕ) (moments : Option (List ℕ)) (link clock : Type 0) (before after : ℕ) (s : State) (bytes : Option (List ℕ)) (how : Served) (t : State) (text : List ℕ) → how ≡ served.ClockFault
-    → IsConnection lane moments link clock before after s bytes how t text → clock
-ends_clock lane moments link clock before after s bytes how t text is one =
-    (subst (λ (h : Served). IsConnection lane moments link clock before after s bytes h t text) is one).ends.1
+ends_clock : (lane : ℕ) (early late : Option Dial) (link clock : Type 0) (before after : ℕ) (s : State) (bytes : Option (List ℕ)) (how : Served) (t : State) (text : List ℕ) → how ≡ served.ClockFault
+    → IsConnection lane early late link clock before after s bytes how t text → clock
+ends_clock lane early late link clock before after s bytes how t text is one =
+    (subst (λ (h : Served). IsConnection lane early late link clock before after s bytes h t text) is one).ends.1
 
 -- where the clock hasn't failed none ends by it
-pub not_by_clock : (lane : ℕ) (moments : Option (List ℕ)) (link clock : Type 0) (before after : ℕ) (s : State) (bytes : Option (List ℕ)) (how : Served) (t : State) (text : List ℕ)
-    → IsConnection lane moments link clock before after s bytes how t text → (clock → ⊥) → how ≢ served.ClockFault
-not_by_clock lane moments link clock before after s bytes how t text one never = λ is. never (ends_clock lane moments link clock before after s bytes how t text is one)
+pub not_by_clock : (lane : ℕ) (early late : Option Dial) (link clock : Type 0) (before after : ℕ) (s : State) (bytes : Option (List ℕ)) (how : Served) (t : State) (text : List ℕ)
+    → IsConnection lane early late link clock before after s bytes how t text → (clock → ⊥) → how ≢ served.ClockFault
+not_by_clock lane early late link clock before after s bytes how t text one never = λ is. never (ends_clock lane early late link clock before after s bytes how t text is one)
 
 -- where the link hasn't failed none ends by it
-pub not_by_link : (lane : ℕ) (moments : Option (List ℕ)) (link clock : Type 0) (before after : ℕ) (s : State) (bytes : Option (List ℕ)) (how : Served) (t : State) (text : List ℕ)
-    → IsConnection lane moments link clock before after s bytes how t text → (link → ⊥) → (how ≢ served.ReadFault) × (how ≢ served.WriteFault)
-not_by_link lane moments link clock before after s bytes how t text one never = (
-  λ is. never (subst (λ (h : Served). IsConnection lane moments link clock before after s bytes h t text) is one).ends.1,
-  λ is. never (subst (λ (h : Served). IsConnection lane moments link clock before after s bytes h t text) is one).ends.0,
+pub not_by_link : (lane : ℕ) (early late : Option Dial) (link clock : Type 0) (before after : ℕ) (s : State) (bytes : Option (List ℕ)) (how : Served) (t : State) (text : List ℕ)
+    → IsConnection lane early late link clock before after s bytes how t text → (link → ⊥) → (how ≢ served.ReadFault) × (how ≢ served.WriteFault)
+not_by_link lane early late link clock before after s bytes how t text one never = (
+  λ is. never (subst (λ (h : Served). IsConnection lane early late link clock before after s bytes h t text) is one).ends.1,
+  λ is. never (subst (λ (h : Served). IsConnection lane early late link clock before after s bytes h t text) is one).ends.0,
 )
 
-pub visit_clock : {L : Type 0} (link : L → LinkSeen) (lane : ℕ) (moments : Option (List ℕ)) (clock : Type 0) (before after : ℕ) (s : State) (v : Visit L) (t : State)
-    → IsVisit link lane moments clock before after s v t → v.served ≡ served.ClockFault → clock
-visit_clock link lane moments clock before after s v t is how = ends_clock lane moments _ clock before after s (unread (link v.came).stream) v.served t is.0 how is.2
+pub visit_clock : {L : Type 0} (link : L → LinkSeen) (lane : ℕ) (early late : Option Dial) (clock : Type 0) (before after : ℕ) (s : State) (v : Visit L) (t : State)
+    → IsVisit link lane early late clock before after s v t → v.served ≡ served.ClockFault → clock
+visit_clock link lane early late clock before after s v t is how = ends_clock lane early late _ clock before after s (unread (link v.came).stream) v.served t is.0 how is.2
 
 -- ---- what connections have met
 
 -- so many connections were served, and this was met
-pub record HasServed {L : Type 0} (link : L → LinkSeen) (old new : Option (Links L)) (moments : Option (List ℕ)) (clock : Type 0) (done : ℕ) (met : Met) (before after : ℕ) (s t : State) : Type 0 where
+pub record HasServed {L : Type 0} (link : L → LinkSeen) (old new : Option (Links L)) (early late : Option Dial) (clock : Type 0) (done : ℕ) (met : Met) (before after : ℕ) (s t : State) : Type 0 where
   pub vs : List (Visit L)
-  pub are : AreVisits link 1 moments clock before after s vs t
+  pub are : AreVisits link 1 early late clock before after s vs t
   pub taken : AreTaken old new vs
   pub many : length vs ≡ done
   pub had : met.memory ≡ false → AllByRecursion HadMemory vs
@@ -173,10 +183,10 @@ pub record HasServed {L : Type 0} (link : L → LinkSeen) (old new : Option (Lin
   pub fault : met.clock ≡ true → clock
   pub some : met.clock ≡ true → list_any ended_by_clock vs ≡ true
 
-pub served_none : {L : Type 0} (link : L → LinkSeen) (old new : Option (Links L)) (moments : Option (List ℕ)) (clock : Type 0) (faults : ℕ) (s : State) → new ≡ old
-    → HasServed link old new moments clock 0 (record { memory = false; clock = false }) faults faults s s
-served_none link old new moments clock faults s same =
-    record { vs = []; are = (omega arith, refl); taken = taken_none old new same; many = refl; had = λ none. tt; well = λ none fine. tt; fault = λ e. absurd (cc); some = λ e. absurd (cc) }
+pub served_none : {L : Type 0} (link : L → LinkSeen) (old new : Option (Links L)) (dial : Option Dial) (clock : Type 0) (faults : ℕ) (s : State) → new ≡ old
+    → HasServed link old new dial dial clock 0 (record { memory = false; clock = false }) faults faults s s
+served_none link old new dial clock faults s same =
+    record { vs = []; are = (omega arith, refl, refl); taken = taken_none old new same; many = refl; had = λ none. tt; well = λ none fine. tt; fault = λ e. absurd (cc); some = λ e. absurd (cc) }
 
 abbrev is_memory : Served → Bool
 is_memory served.OutOfMemory = true
@@ -230,18 +240,17 @@ adds : {L : Type 0} (met : Met) (v : Visit L) (how : Served) → how ≡ counts_
 adds met v how is = subst (λ (h : Served). Adds met v (met_after met h)) (sym is) (adds_by met v v.back v.served refl refl)
 
 -- one connection more
-pub served_next : {L : Type 0} (link : L → LinkSeen) (old mid new : Option (Links L)) (moments there : Option (List ℕ)) (rose failed clock : Type 0) (done : ℕ) (met next : Met) (how : Served)
-    (before middle after : ℕ) (s u t : State) (v : Visit L) → there ≡ moments → (rose → clock) → (failed → clock) → HasServed link old mid moments rose done met before middle s u
-    → IsVisit link (done + 1) there failed middle after u v t → AreTaken mid new (v ∷ []) → how ≡ counts_as v → next ≡ met_after met how → HasServed link old new moments clock (done + 1) next before after s t
-served_next link old mid new moments there rose failed clock done met next how before middle after s u t v same of_rose of_failed has is taken counts met_is =
+pub served_next : {L : Type 0} (link : L → LinkSeen) (old mid new : Option (Links L)) (early noon late : Option Dial) (rose failed clock : Type 0) (done : ℕ) (met next : Met) (how : Served)
+    (before middle after : ℕ) (s u t : State) (v : Visit L) → (rose → clock) → (failed → clock) → HasServed link old mid early noon rose done met before middle s u
+    → IsVisit link (done + 1) noon late failed middle after u v t → AreTaken mid new (v ∷ []) → how ≡ counts_as v → next ≡ met_after met how → HasServed link old new early late clock (done + 1) next before after s t
+served_next link old mid new early noon late rose failed clock done met next how before middle after s u t v of_rose of_failed has is taken counts met_is =
     let many = has.many in
     let one : Adds met v next = subst (λ (m : Met). Adds met v m) (sym met_is) (adds met v how counts) in
-    let here : IsVisit link (1 + length has.vs) moments failed middle after u v t =
-    subst (λ l. IsVisit link l moments failed middle after u v t) (omega (arith, many)) (subst (λ ms. IsVisit link (done + 1) ms failed middle after u v t) same is) in
+    let here : IsVisit link (1 + length has.vs) noon late failed middle after u v t = subst (λ l. IsVisit link l noon late failed middle after u v t) (omega (arith, many)) is in
     record {
       vs = has.vs ++ v ∷ [];
-      are = visits_on link 1 moments clock before middle after s has.vs u v t (visits_from link 1 moments rose clock before before middle s has.vs u (omega arith) of_rose has.are)
-          (visit_from link (1 + length has.vs) moments failed clock middle middle after u v t (omega arith) of_failed here);
+      are = visits_on link 1 early noon late clock before middle after s has.vs u v t (visits_from link 1 early noon rose clock before before middle s has.vs u (omega arith) of_rose has.are)
+          (visit_from link (1 + length has.vs) noon late failed clock middle middle after u v t (omega arith) of_failed here);
       taken = taken_on old mid new has.vs (v ∷ []) has.taken taken;
       many = length_on has.vs v ∙ ap (λ n. n + 1) many;
       had = λ none. let more = one.had none in all_on HadMemory has.vs v (has.had more.0) more.1;
@@ -252,7 +261,7 @@ served_next link old mid new moments there rose failed clock done met next how b
   where
     by : (met.clock ≡ true) ⊎ (v.served ≡ served.ClockFault) → clock
     by (inl before_it) = of_rose (has.fault before_it)
-    by (inr now) = of_failed (visit_clock link (done + 1) there failed middle after u v t is now)
+    by (inr now) = of_failed (visit_clock link (done + 1) noon late failed middle after u v t is now)
 
     some_by : (met.clock ≡ true) ⊎ (v.served ≡ served.ClockFault) → list_any ended_by_clock (has.vs ++ v ∷ []) ≡ true
     some_by (inl before_it) = some_first has.vs v (has.some before_it)
@@ -274,20 +283,21 @@ at_port opened_at port [] is = tt
 at_port opened_at port (v ∷ vs) is = is
 
 -- the next link didn't come
-pub served_to_fault : {L : Type 0} (link : L → LinkSeen) (mid : Option (Links L)) (rose : Type 0) (door : Over (DoorSeen L)) (clock : Over ClockSeen) (desk : Over DeskAt) (port done most : ℕ) (met : Met) (end : ServeEnd)
+pub served_to_fault : {L : Type 0} (link : L → LinkSeen) (mid : Option (Links L)) (noon : Option Dial) (rose : Type 0) (door : Over (DoorSeen L)) (clock : Over ClockSeen) (desk : Over DeskAt) (port done most : ℕ) (met : Met) (end : ServeEnd)
     (middle : ℕ) (u : State) → end ≡ end_at_door met → done < most → door.after.opened_at ≡ Some port → RoseOrFull door.before.health.faults door.after.health.faults → (rose → HasFailed clock.before.health clock.after.health)
-    → door.after.links ≡ mid → desk.after.faults ≡ middle → desk.after.state ≡ u → HasServed link door.before.links mid clock.before.moments rose done met desk.before.faults middle desk.before.state u
+    → door.after.links ≡ mid → clock.after.dial ≡ noon → desk.after.faults ≡ middle → desk.after.state ≡ u → HasServed link door.before.links mid clock.before.dial noon rose done met desk.before.faults middle desk.before.state u
     → IsServing link door clock desk port most end
-served_to_fault {L} link mid rose door clock desk port done most met end middle u how within opened failing of_rose same counts is has =
+served_to_fault {L} link mid noon rose door clock desk port done most met end middle u how within opened failing of_rose same stands counts is has =
     let many = has.many in
-    let moments = clock.before.moments in
+    let early = clock.before.dial in
     let failed = HasFailed clock.before.health clock.after.health in
     let low = desk.before.faults in
     let s = desk.before.state in
-    let are : AreVisits link 1 moments failed low middle s has.vs u = visits_from link 1 moments rose failed low low middle s has.vs u (omega arith) of_rose has.are in
+    let are : AreVisits link 1 early noon failed low middle s has.vs u = visits_from link 1 early noon rose failed low low middle s has.vs u (omega arith) of_rose has.are in
     record {
       visits = has.vs;
-      are = subst (λ n. AreVisits link 1 moments failed low n s has.vs desk.after.state) (sym counts) (subst (λ (x : State). AreVisits link 1 moments failed low middle s has.vs x) (sym is) are);
+      are = subst (λ n. AreVisits link 1 early clock.after.dial failed low n s has.vs desk.after.state) (sym counts)
+          (subst (λ (x : State). AreVisits link 1 early clock.after.dial failed low middle s has.vs x) (sym is) (subst (λ dial. AreVisits link 1 early dial failed low middle s has.vs u) (sym stands) are));
       taken = subst (λ (d : Option (Links L)). AreTaken door.before.links d has.vs) (sym same) has.taken;
       came_at = at_port door.after.opened_at port has.vs opened;
       ends = subst (EndsServing (RoseOrFull door.before.health.faults door.after.health.faults) failed most has.vs) (sym how)
@@ -303,7 +313,7 @@ all_end door failed clock most vs false false of_clock fault had well some many 
 -- as many connections were served as stated
 pub served_to_end : {L : Type 0} (link : L → LinkSeen) (door : Over (DoorSeen L)) (clock : Over ClockSeen) (desk : Over DeskAt) (port done most : ℕ) (met : Met) (end : ServeEnd) → end ≡ end_of met → done ≤ most → most ≤ done
     → door.after.opened_at ≡ Some port
-    → HasServed link door.before.links door.after.links clock.before.moments (HasFailed clock.before.health clock.after.health) done met desk.before.faults desk.after.faults desk.before.state desk.after.state
+    → HasServed link door.before.links door.after.links clock.before.dial clock.after.dial (HasFailed clock.before.health clock.after.health) done met desk.before.faults desk.after.faults desk.before.state desk.after.state
     → IsServing link door clock desk port most end
 served_to_end link door clock desk port done most met end how within all opened has =
     let many = has.many in
@@ -382,7 +392,7 @@ serving_from link door clock desk port most end less under is =
     let failed = HasFailed clock.before.health clock.after.health in
     record {
       visits = is.visits;
-      are = visits_from link 1 clock.before.moments failed failed less desk.before.faults desk.after.faults desk.before.state is.visits desk.after.state under (λ rose. rose) is.are;
+      are = visits_from link 1 clock.before.dial clock.after.dial failed failed less desk.before.faults desk.after.faults desk.before.state is.visits desk.after.state under (λ rose. rose) is.are;
       taken = is.taken;
       came_at = is.came_at;
       ends = is.ends;

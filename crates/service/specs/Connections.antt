@@ -2,15 +2,15 @@
 use Rattle.std.specs.Prelude.{◌≡◌, ◌⊎◌, ℕ, true, false, List, [], ◌∷◌, ◌++◌, map, codes, Option, None, Some}
 use Rattle.std.specs.List.{AllByRecursion}
 use Rattle.desk.specs.Keeping.{Choice, Counted}
-use Rattle.desk.specs.Settled.{MayHaveTicked}
 use Rattle.desk_http.specs.Requests.{BeginsWithRequest, GivesNone}
 use Rattle.desk_http.specs.declared.wire.Wire.{Wire}
 use Rattle.desk_http.specs.declared.wire.WireFault.TheVariants as fault
+use Rattle.desk_net.specs.Clocks.{Dial}
 use Rattle.desk_net.specs.Streams.{Stream}
 use Rattle.desk_state.specs.State.{State}
 use Rattle.service.specs.Exchanges.{Exchanged, exchanged, bytes_of, failing}
 use Rattle.service.specs.Requested.{requested_by}
-use Rattle.service.specs.Steps.{MakesCall, IsClockMoment, OnCall}
+use Rattle.service.specs.Steps.{HasMoment, IsClockMoment, MakesCall, NothingCame, OnCall, dial_after_one}
 use Rattle.service.specs.declared.responses.Response.{Response}
 use Rattle.service.specs.declared.serving.Served.{Served}
 use Rattle.service.specs.declared.serving.Served.TheVariants as served
@@ -41,9 +41,15 @@ abbrev pub AreRequests : List ℕ → List Exchange → List ℕ → Type 0
 AreRequests bytes [] left = left ≡ bytes
 AreRequests bytes (x ∷ xs) left = (rest : List ℕ) × BeginsWithRequest bytes x.wire rest × AreRequests rest xs left
 
--- a call was made at one of the clock's moments
-abbrev pub IsTimed : Option (List ℕ) → Exchange → Type 0
-IsTimed moments x = OnCall (requested_by x.wire) (IsClockMoment moments x.at)
+-- the clock's dial after requests: it turns once for each that is a call
+abbrev pub dial_after : Option Dial → List Exchange → Option Dial
+dial_after dial [] = dial
+dial_after dial (x ∷ xs) = dial_after (dial_after_one (requested_by x.wire) dial) xs
+
+-- each call was made at the moment at which the clock stood when it came to it
+abbrev pub AreTimed : Option Dial → List Exchange → Type 0
+AreTimed dial [] = Unit {0}
+AreTimed dial (x ∷ xs) = OnCall (requested_by x.wire) (IsClockMoment dial x.at) × AreTimed (dial_after_one (requested_by x.wire) dial) xs
 
 -- a request after which the connection goes on
 abbrev pub IsOpen : Exchange → Type 0
@@ -56,6 +62,10 @@ IsLast x = x.wire.last ≡ true
 -- a front of bytes
 abbrev pub IsFrontOf : List ℕ → List ℕ → Type 0
 IsFrontOf whole piece = (more : List ℕ) × (whole ≡ piece ++ more)
+
+-- there was no memory to write an answer, and nothing of it was written
+abbrev pub FoundNoMemory : List ℕ → Type 0
+FoundNoMemory piece = piece ≡ []
 
 -- An answer was written whole, or a front of it, where the link failed.
 abbrev pub IsWritten : Type 0 → Response → List ℕ → Type 0
@@ -92,36 +102,35 @@ out_of_memory_answer = failing 500 (codes "OutOfMemory")
 -- ---- how a connection ends
 
 -- nothing was answered beyond what was written whole
-abbrev pub NoMore : List Exchange → State → State → Type 0
-NoMore more u t = (more ≡ []) × (t ≡ u)
+abbrev pub NoMore : Option Dial → Option Dial → List Exchange → State → State → Type 0
+NoMore early late more u t = (more ≡ []) × NothingCame early late u t
 
 -- one request more was answered
-abbrev pub OneMore : ℕ → List Exchange → State → State → Exchange → Type 0
-OneMore lane more u t x = (more ≡ x ∷ []) × (t ≡ (exchange lane u x).state)
+abbrev pub OneMore : ℕ → Option Dial → Option Dial → List Exchange → State → State → Exchange → Type 0
+OneMore lane early late more u t x = (more ≡ x ∷ []) × (late ≡ early) × (t ≡ (exchange lane u x).state)
 
--- where memory ran out: as before, or after the tick of the call that the bytes left ask for, or after a request more
-abbrev pub MayHaveMore : ℕ → Option (List ℕ) → List Exchange → Option (List ℕ) → State → State → Type 0
-MayHaveMore lane moments more left u t =
-    ((more ≡ []) × ((t ≡ u) ⊎ (OnTold left AsksCall × ((at : ℕ) × IsClockMoment moments at × MayHaveTicked lane at u t))))
-    ⊎ ((x : Exchange) × OneMore lane more u t x)
+-- where memory ran out: as before, or after the moment for the call that the bytes left ask for, or after a request more
+abbrev pub MayHaveMore : ℕ → Option Dial → Option Dial → List Exchange → Option (List ℕ) → State → State → Type 0
+MayHaveMore lane early late more left u t =
+    ((more ≡ []) × (NothingCame early late u t ⊎ (OnTold left AsksCall × HasMoment lane early late u t))) ⊎ ((x : Exchange) × OneMore lane early late more u t x)
 
 -- How a connection ends on the bytes that are left, from the state after the requests after which it went on: `more` is the request
--- with which it ended, if that was answered, and the piece is what was written after their responses. `link` and `clock` say that
--- the link and the clock have failed.
-abbrev pub EndsConnection : ℕ → Option (List ℕ) → Type 0 → Type 0 → List Exchange → Option (List ℕ) → State → Served → State → List ℕ → Type 0
-EndsConnection lane moments link clock more left u served.Ended t piece =
-    (NoMore more u t × OnTold left (λ b. GivesNone b fault.End) × (piece ≡ []))
-    ⊎ ((x : Exchange) × OneMore lane more u t x × IsLast x × (piece ≡ bytes_of (exchange lane u x).response))
-EndsConnection lane moments link clock more left u served.Cut t piece = NoMore more u t × OnTold left (λ b. GivesNone b fault.Cut) × (piece ≡ [])
-EndsConnection lane moments link clock more left u served.BadHead t piece = NoMore more u t × OnTold left (λ b. GivesNone b fault.BadHead) × IsWritten link bad_head_answer piece
-EndsConnection lane moments link clock more left u served.TooLarge t piece = NoMore more u t × OnTold left (λ b. GivesNone b fault.TooLarge) × IsWritten link too_large_answer piece
-EndsConnection lane moments link clock more left u served.NoLength t piece = NoMore more u t × OnTold left (λ b. GivesNone b fault.NoLength) × IsWritten link no_length_answer piece
-EndsConnection lane moments link clock more left u served.WrongMethod t piece = NoMore more u t × OnTold left (λ b. GivesNone b fault.WrongMethod) × IsWritten link wrong_method_answer piece
-EndsConnection lane moments link clock more left u served.ReadFault t piece = NoMore more u t × link × (piece ≡ [])
-EndsConnection lane moments link clock more left u served.WriteFault t piece =
-    link × ((x : Exchange) × OneMore lane more u t x × IsFrontOf (bytes_of (exchange lane u x).response) piece)
-EndsConnection lane moments link clock more left u served.ClockFault t piece = NoMore more u t × clock × OnTold left AsksCall × (IsWritten link clock_fault_answer piece ⊎ (piece ≡ []))
-EndsConnection lane moments link clock more left u served.OutOfMemory t piece = MayHaveMore lane moments more left u t × (IsWritten link out_of_memory_answer piece ⊎ (piece ≡ []))
+-- with which it ended, if that was answered, and the piece is what was written after their responses. `early` is the clock's dial
+-- after all these requests, and `late` the one at the end. `link` and `clock` say that the link and the clock have failed.
+abbrev pub EndsConnection : ℕ → Option Dial → Option Dial → Type 0 → Type 0 → List Exchange → Option (List ℕ) → State → Served → State → List ℕ → Type 0
+EndsConnection lane early late link clock more left u served.Ended t piece =
+    (NoMore early late more u t × OnTold left (λ b. GivesNone b fault.End) × (piece ≡ []))
+    ⊎ ((x : Exchange) × OneMore lane early late more u t x × IsLast x × (piece ≡ bytes_of (exchange lane u x).response))
+EndsConnection lane early late link clock more left u served.Cut t piece = NoMore early late more u t × OnTold left (λ b. GivesNone b fault.Cut) × (piece ≡ [])
+EndsConnection lane early late link clock more left u served.BadHead t piece = NoMore early late more u t × OnTold left (λ b. GivesNone b fault.BadHead) × IsWritten link bad_head_answer piece
+EndsConnection lane early late link clock more left u served.TooLarge t piece = NoMore early late more u t × OnTold left (λ b. GivesNone b fault.TooLarge) × IsWritten link too_large_answer piece
+EndsConnection lane early late link clock more left u served.NoLength t piece = NoMore early late more u t × OnTold left (λ b. GivesNone b fault.NoLength) × IsWritten link no_length_answer piece
+EndsConnection lane early late link clock more left u served.WrongMethod t piece = NoMore early late more u t × OnTold left (λ b. GivesNone b fault.WrongMethod) × IsWritten link wrong_method_answer piece
+EndsConnection lane early late link clock more left u served.ReadFault t piece = NoMore early late more u t × link × (piece ≡ [])
+EndsConnection lane early late link clock more left u served.WriteFault t piece =
+    link × ((x : Exchange) × OneMore lane early late more u t x × IsFrontOf (bytes_of (exchange lane u x).response) piece)
+EndsConnection lane early late link clock more left u served.ClockFault t piece = NoMore early late more u t × clock × OnTold left AsksCall × IsWritten link clock_fault_answer piece
+EndsConnection lane early late link clock more left u served.OutOfMemory t piece = MayHaveMore lane early late more left u t × (IsWritten link out_of_memory_answer piece ⊎ FoundNoMemory piece)
 
 -- of bytes and of what is left of them, where both are told
 abbrev pub OnBoth : Option (List ℕ) → Option (List ℕ) → (List ℕ → List ℕ → Type 0) → Type 0
@@ -129,35 +138,36 @@ OnBoth None None P = Unit {0}
 OnBoth (Some bytes) (Some left) P = P bytes left
 OnBoth _ _ P = ⊥
 
--- A connection of a lane, from a state to another: the requests after which it went on, and at most one more with which it ended. Each
--- call was made at one of the clock's moments, under choices that the keeper's counts allow; the text is the responses to those after
--- which it went on, and what was written at the end.
-pub record IsConnection (lane : ℕ) (moments : Option (List ℕ)) (link clock : Type 0) (before after : ℕ) (s : State) (bytes : Option (List ℕ)) (served : Served) (t : State) (text : List ℕ) : Type 0 where
+-- A connection of a lane, from a state to another, while the clock's dial turned from `early` to `late`: the requests after which it went
+-- on, and at most one more with which it ended. Each call was made at the moment that was asked for it, under choices that the keeper's
+-- counts allow; the text is the responses to those after which it went on, and what was written at the end.
+pub record IsConnection (lane : ℕ) (early late : Option Dial) (link clock : Type 0) (before after : ℕ) (s : State) (bytes : Option (List ℕ)) (served : Served) (t : State) (text : List ℕ) : Type 0 where
   pub xs : List Exchange
   pub more : List Exchange
   pub left : Option (List ℕ)
   pub piece : List ℕ
   pub requests : OnBoth bytes left (λ b l. AreRequests b (xs ++ more) l)
-  pub timed : AllByRecursion (IsTimed moments) (xs ++ more)
+  pub timed : AreTimed early (xs ++ more)
   pub going : AllByRecursion IsOpen xs
   pub counted : Counted before (map (λ x. x.choice) (xs ++ more)) after
   pub says : text ≡ responses lane s xs ++ piece
-  pub ends : EndsConnection lane moments link clock more left (state_after lane s xs) served t piece
+  pub ends : EndsConnection lane (dial_after early (xs ++ more)) late link clock more left (state_after lane s xs) served t piece
 
 -- requests after which the connection goes on, all answered whole
-pub record GoesOn (lane : ℕ) (moments : Option (List ℕ)) (before after : ℕ) (s : State) (bytes : Option (List ℕ)) (left : Option (List ℕ)) (t : State) (text : List ℕ) : Type 0 where
+pub record GoesOn (lane : ℕ) (early late : Option Dial) (before after : ℕ) (s : State) (bytes : Option (List ℕ)) (left : Option (List ℕ)) (t : State) (text : List ℕ) : Type 0 where
   pub xs : List Exchange
   pub requests : OnBoth bytes left (λ b l. AreRequests b xs l)
-  pub timed : AllByRecursion (IsTimed moments) xs
+  pub timed : AreTimed early xs
+  pub turned : late ≡ dial_after early xs
   pub going : AllByRecursion IsOpen xs
   pub counted : Counted before (map (λ x. x.choice) xs) after
   pub says : text ≡ responses lane s xs
   pub state : t ≡ state_after lane s xs
 
 -- one step of a connection: it goes on, or it ends
-abbrev pub IsStep : ℕ → Option (List ℕ) → Type 0 → Type 0 → ℕ → ℕ → State → Option (List ℕ) → Option (List ℕ) → State → List ℕ → Option Served → Type 0
-IsStep lane moments link clock before after s bytes left t text None = GoesOn lane moments before after s bytes left t text
-IsStep lane moments link clock before after s bytes left t text (Some served) = IsConnection lane moments link clock before after s bytes served t text
+abbrev pub IsStep : ℕ → Option Dial → Option Dial → Type 0 → Type 0 → ℕ → ℕ → State → Option (List ℕ) → Option (List ℕ) → State → List ℕ → Option Served → Type 0
+IsStep lane early late link clock before after s bytes left t text None = GoesOn lane early late before after s bytes left t text
+IsStep lane early late link clock before after s bytes left t text (Some served) = IsConnection lane early late link clock before after s bytes served t text
 
 -- a link gained a text, where it tells
 abbrev pub Gains : Option Stream → Option Stream → List ℕ → Type 0

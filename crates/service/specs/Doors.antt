@@ -4,6 +4,7 @@ use Rattle.std.specs.List.{AllByRecursion, list_any}
 use Rattle.desk.specs.Seen.{DeskAt}
 use Rattle.desk_io.specs.Health.{HasFailed, RoseOrFull}
 use Rattle.desk_io.specs.Over.{Over}
+use Rattle.desk_net.specs.Clocks.{Dial}
 use Rattle.desk_net.specs.Doors.{Links}
 use Rattle.desk_net.specs.Seen.{ClockSeen, DoorSeen, LinkSeen}
 use Rattle.desk_net.specs.Streams.{unread}
@@ -23,17 +24,18 @@ pub record Visit (L : Type 0) : Type 0 where
   pub served : Served
   pub back : Bool
 
--- What the link gained is what its connection is answered, from a state to another.
-abbrev pub IsVisit : {L : Type 0} → (L → LinkSeen) → ℕ → Option (List ℕ) → Type 0 → ℕ → ℕ → State → Visit L → State → Type 0
-IsVisit link lane moments clock before after s v t =
+-- What the link gained is what its connection is answered, from a state to another, while the clock's dial turned from one to another.
+abbrev pub IsVisit : {L : Type 0} → (L → LinkSeen) → ℕ → Option Dial → Option Dial → Type 0 → ℕ → ℕ → State → Visit L → State → Type 0
+IsVisit link lane early late clock before after s v t =
     Wrote (link v.came).stream (link v.went).stream
-    (IsConnection lane moments (HasFailed (link v.came).health (link v.went).health) clock before after s (unread (link v.came).stream) v.served t)
+    (IsConnection lane early late (HasFailed (link v.came).health (link v.went).health) clock before after s (unread (link v.came).stream) v.served t)
 
 -- Links that come one after another, each in the lane of its number.
-abbrev pub AreVisits : {L : Type 0} → (L → LinkSeen) → ℕ → Option (List ℕ) → Type 0 → ℕ → ℕ → State → List (Visit L) → State → Type 0
-AreVisits link lane moments clock before after s [] t = (before ≤ after) × (t ≡ s)
-AreVisits link lane moments clock before after s (v ∷ vs) t =
-    (middle : ℕ) × (u : State) × IsVisit link lane moments clock before middle s v u × AreVisits link (lane + 1) moments clock middle after u vs t
+abbrev pub AreVisits : {L : Type 0} → (L → LinkSeen) → ℕ → Option Dial → Option Dial → Type 0 → ℕ → ℕ → State → List (Visit L) → State → Type 0
+AreVisits link lane early late clock before after s [] t = (before ≤ after) × (late ≡ early) × (t ≡ s)
+AreVisits link lane early late clock before after s (v ∷ vs) t =
+    (middle : ℕ) × (dial : Option Dial) × (u : State)
+    × IsVisit link lane early dial clock before middle s v u × AreVisits link (lane + 1) dial late clock middle after u vs t
 
 abbrev pub came_of : {L : Type 0} → List (Visit L) → List L
 came_of vs = map (λ v. v.came) vs
@@ -92,7 +94,7 @@ AreAtPort opened_at port (v ∷ vs) = opened_at ≡ Some port
 -- Connections of a door at a port were served, so many at most, one after another, and so it ended.
 pub record IsServing {L : Type 0} (link : L → LinkSeen) (door : Over (DoorSeen L)) (clock : Over ClockSeen) (desk : Over DeskAt) (port most : ℕ) (end : ServeEnd) : Type 0 where
   pub visits : List (Visit L)
-  pub are : AreVisits link 1 clock.before.moments (HasFailed clock.before.health clock.after.health) desk.before.faults desk.after.faults desk.before.state visits desk.after.state
+  pub are : AreVisits link 1 clock.before.dial clock.after.dial (HasFailed clock.before.health clock.after.health) desk.before.faults desk.after.faults desk.before.state visits desk.after.state
   pub taken : AreTaken door.before.links door.after.links visits
   pub came_at : AreAtPort door.after.opened_at port visits
   pub ends : EndsServing (RoseOrFull door.before.health.faults door.after.health.faults) (HasFailed clock.before.health clock.after.health) most visits end
@@ -120,11 +122,11 @@ end_at_door m = if m.memory then ends.OutOfMemory else ends.DoorFault
 abbrev pub Visits : {L : Type 0} → (L → LinkSeen) → ℕ → Over (DoorSeen L) → Over ClockSeen → Over DeskAt → Served → Type 0
 Visits {L} link lane door clock desk how =
     (v : Visit L)
-    × IsVisit link lane clock.before.moments (HasFailed clock.before.health clock.after.health) desk.before.faults desk.after.faults desk.before.state v desk.after.state
+    × IsVisit link lane clock.before.dial clock.after.dial (HasFailed clock.before.health clock.after.health) desk.before.faults desk.after.faults desk.before.state v desk.after.state
     × AreTaken door.before.links door.after.links (v ∷ []) × (how ≡ counts_as v)
 
 -- no link came: the door failed, and nothing changed
-abbrev pub NoneCame : {L : Type 0} → Over (DoorSeen L) → Over DeskAt → Type 0
-NoneCame door desk =
-    RoseOrFull door.before.health.faults door.after.health.faults × (door.after.links ≡ door.before.links)
+abbrev pub NoneCame : {L : Type 0} → Over (DoorSeen L) → Over ClockSeen → Over DeskAt → Type 0
+NoneCame door clock desk =
+    RoseOrFull door.before.health.faults door.after.health.faults × (door.after.links ≡ door.before.links) × (clock.after ≡ clock.before)
     × (desk.after.state ≡ desk.before.state) × (desk.after.faults ≡ desk.before.faults)

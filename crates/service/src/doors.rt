@@ -94,7 +94,7 @@ fn serve_next_link<R: Wait, K: Keeper, C: Clock, D: Door, L: Ledger>(
     ensures visit { IfOk result (λ served. Visits D.Link.seen lane (over D.seen door.old door.new)
         (over C.seen clock.old clock.new) (over (desk_at K.seen) desk.old desk.new) served) }
     ensures none { IfErr result (λ _. NoneCame (over D.seen door.old door.new)
-        (over (desk_at K.seen) desk.old desk.new)) }
+        (over C.seen clock.old clock.new) (over (desk_at K.seen) desk.old desk.new)) }
     ensures desk { DeskGoesOn (desk_seen K.seen desk.old) (desk_seen K.seen desk.new) }
     ensures clock { ClockGoesOn (C.seen clock.old) (C.seen clock.new) }
     ensures still { result ≢ Ok ended.ClockFault → result ≢ Ok ended.OutOfMemory → IsStill (C.seen clock.old).health

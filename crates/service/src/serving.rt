@@ -1,10 +1,9 @@
-ghost use Rattle.std.specs.Prelude.{◌≡◌, ◌≢◌, ◌⊎◌, [], Some};
+ghost use Rattle.std.specs.Prelude.{◌≡◌, ◌≢◌, Some};
 ghost use Rattle.desk.specs.Seen.{desk_at, desk_seen, DeskGoesOn};
 ghost use Rattle.desk_io.specs.Health.{IsSound, IsStill};
 ghost use Rattle.desk_io.specs.Over.{over};
 ghost use Rattle.desk_net.specs.Seen.{ClockGoesOn, LinkGoesOn};
 ghost use Rattle.desk_net.specs.Streams.{unread};
-ghost use Rattle.service.specs.Connections.{IsWritten, clock_fault_answer as clock_response};
 ghost use Rattle.service.specs.Exchanges.{bytes_of};
 ghost use Rattle.service.specs.Serving.{EndsAs, EndsWithout, Serves, ServesLink, ServesStep, WritesAll, WroteTo};
 ghost use Rattle.service.specs.declared.responses.Response.{Response as AResponse};
@@ -65,16 +64,6 @@ fn end_by<N: Link>(link: &mut N, text: &[u8], served: Served) -> Served
     }
 }
 
-// After a fault of the clock the connection ends by it, whatever comes of the answer.
-fn end_by_clock<N: Link>(link: &mut N)
-    ensures wrote { WroteTo (over N.seen link.old link.new)
-        (λ failed piece. IsWritten failed clock_response piece ⊎ (piece ≡ [])) }
-    ensures link { LinkGoesOn (N.seen link.old) (N.seen link.new) }
-    ensures left { unread (N.seen link.new).stream ≡ unread (N.seen link.old).stream }
-{
-    let _ = link.write(clock_fault_answer());
-}
-
 // There is no further request.
 fn end_without<N: Link>(link: &mut N, fault: WireFault) -> Served
     ensures wrote { WroteTo (over N.seen link.old link.new) (λ failed. EndsWithout failed fault result) }
@@ -119,15 +108,15 @@ fn serve_request<K: Keeper, N: Link, C: Clock, L: Ledger>(
         (over (desk_at K.seen) desk.old desk.new) wire.now result }
     ensures desk { DeskGoesOn (desk_seen K.seen desk.old) (desk_seen K.seen desk.new) }
     ensures clock { ClockGoesOn (C.seen clock.old) (C.seen clock.new) }
-    ensures still { result ≢ Some ended.ClockFault → IsStill (C.seen clock.old).health (C.seen clock.new).health }
+    ensures still { result ≢ Some ended.ClockFault → result ≢ Some ended.OutOfMemory → IsStill (C.seen clock.old).health
+        (C.seen clock.new).health }
     ensures link { LinkGoesOn (N.seen link.old) (N.seen link.new) }
     ensures left { unread (N.seen link.new).stream ≡ unread (N.seen link.old).stream }
 {
     match exchange(alloc, desk, lane, clock, wire, steps) {
         Ok(bytes) => write_response(link, bytes.bytes(), wire.last),
         Err(NoAnswer::ClockFault) => {
-            end_by_clock(link);
-            Some(Served::ClockFault)
+            Some(end_by(link, clock_fault_answer(), Served::ClockFault))
         }
         Err(NoAnswer::OutOfMemory) => Some(end_by(
             link,
@@ -151,7 +140,8 @@ fn serve_next<K: Keeper, N: Link, C: Clock, L: Ledger>(
         (over (desk_at K.seen) desk.old desk.new) buffer.old buffer.new result }
     ensures desk { DeskGoesOn (desk_seen K.seen desk.old) (desk_seen K.seen desk.new) }
     ensures clock { ClockGoesOn (C.seen clock.old) (C.seen clock.new) }
-    ensures still { result ≢ Some ended.ClockFault → IsStill (C.seen clock.old).health (C.seen clock.new).health }
+    ensures still { result ≢ Some ended.ClockFault → result ≢ Some ended.OutOfMemory → IsStill (C.seen clock.old).health
+        (C.seen clock.new).health }
     ensures link { LinkGoesOn (N.seen link.old) (N.seen link.new) }
 {
     match next_request(alloc, link, buffer) {
@@ -160,7 +150,8 @@ fn serve_next<K: Keeper, N: Link, C: Clock, L: Ledger>(
     }
 }
 
-/// Serves a connection: its requests are answered in their turn, each call at the clock's moment, until it ends.
+/// Serves a connection: its requests are answered in their turn, each call at the moment that the clock gives for it,
+/// until it ends.
 ///
 /// What was written is the responses to the requests of the link's bytes, each with the status and the body of what it was
 /// answered, and, where a request can't be read, the answer that ends the connection. Only the answer that was being written
@@ -179,8 +170,10 @@ pub fn serve_link<R: Wait, K: Keeper, N: Link, C: Clock, L: Ledger>(
         (over (desk_at K.seen) desk.old desk.new) result }
     ensures desk { DeskGoesOn (desk_seen K.seen desk.old) (desk_seen K.seen desk.new) }
     ensures clock { ClockGoesOn (C.seen clock.old) (C.seen clock.new) }
-    // A fault of the clock ends the connection as such: however else it ends, the count stands still.
-    ensures still { result ≢ ended.ClockFault → IsStill (C.seen clock.old).health (C.seen clock.new).health }
+    // A fault of the clock ends the connection as such, or by want of memory: however else it ends, the count stands
+    // still.
+    ensures still { result ≢ ended.ClockFault → result ≢ ended.OutOfMemory → IsStill (C.seen clock.old).health
+        (C.seen clock.new).health }
     ensures link { LinkGoesOn (N.seen link.old) (N.seen link.new) }
     // Neither ends it where it is sound.
     ensures steady_clock { IsSound (C.seen clock.old).health → result ≢ ended.ClockFault }

@@ -7,7 +7,7 @@ use Rattle.service.proofs.doors.serve_door.Given as goal
 
 abbrev pub invariant-loop-before : goal.invariant-loop-before
 invariant-loop-before g l = record {
-  served : HasServed g.D.Link.Link.seen (g.D.Door.seen l.fn.door).links (g.D.Door.seen l.door).links (g.C.Clock.seen l.fn.clock).moments
+  served : HasServed g.D.Link.Link.seen (g.D.Door.seen l.fn.door).links (g.D.Door.seen l.door).links (g.C.Clock.seen l.fn.clock).dial (g.C.Clock.seen l.clock).dial
       (HasFailed (g.C.Clock.seen l.fn.clock).health (g.C.Clock.seen l.clock).health) l.before l.met (g.K.Keeper.seen l.fn.desk.keeper).health.faults (g.K.Keeper.seen l.desk.keeper).health.faults
       l.fn.desk.board.state l.desk.board.state;
   within : l.before ≤ l.connections;

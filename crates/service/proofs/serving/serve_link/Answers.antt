@@ -20,7 +20,7 @@ pub returns-in-Some-serve_next-clause-serves : goal.returns-in-Some-serve_next-c
 returns-in-Some-serve_next-clause-serves g c =
     let inv = c.loop.invariant in
     let is = c.in-Some-serve_next.ensures in
-    written_end _ _ _ _ _ _ _ _ _ _ _ _ _ _ _ _ _ _ _ inv.clock.moments (failed_last _ _ (g.N.Link.seen c.serve_next.new.link).health inv.link)
+    written_end _ _ _ _ _ _ _ _ _ _ _ _ _ _ _ _ _ _ _ _ (failed_last _ _ (g.N.Link.seen c.serve_next.new.link).health inv.link)
     (failed_last _ _ (g.C.Clock.seen c.serve_next.new.clock).health inv.clock.health) inv.served is.serves
 
 pub returns-in-Some-serve_next-clause-desk : goal.returns-in-Some-serve_next-clause-desk
@@ -30,26 +30,26 @@ pub returns-in-Some-serve_next-clause-clock : goal.returns-in-Some-serve_next-cl
 returns-in-Some-serve_next-clause-clock g c = clock_on _ _ _ c.loop.invariant.clock c.serve_next.ensures.clock
 
 pub returns-in-Some-serve_next-clause-still : goal.returns-in-Some-serve_next-clause-still
-returns-in-Some-serve_next-clause-still g c = λ other. c.serve_next.ensures.still (λ e. other (cc)) ∙ c.loop.invariant.still
+returns-in-Some-serve_next-clause-still g c = λ other more. c.serve_next.ensures.still (λ e. other (cc)) (λ e. more (cc)) ∙ c.loop.invariant.still
 
 pub returns-in-Some-serve_next-clause-link : goal.returns-in-Some-serve_next-clause-link
 returns-in-Some-serve_next-clause-link g c = goes_on _ _ _ c.loop.invariant.link c.serve_next.ensures.link
 
 pub returns-in-Some-serve_next-clause-steady_clock : goal.returns-in-Some-serve_next-clause-steady_clock
 returns-in-Some-serve_next-clause-steady_clock g c =
-    let serves = returns-in-Some-serve_next-clause-serves g c in λ sound. not_by_clock _ _ _ _ _ _ _ _ _ _ _ serves.2 (λ failed. failed.1 sound)
+    let serves = returns-in-Some-serve_next-clause-serves g c in λ sound. not_by_clock _ _ _ _ _ _ _ _ _ _ _ _ serves.2 (λ failed. failed.1 sound)
 
 pub returns-in-Some-serve_next-clause-steady_link : goal.returns-in-Some-serve_next-clause-steady_link
 returns-in-Some-serve_next-clause-steady_link g c =
-    let serves = returns-in-Some-serve_next-clause-serves g c in λ sound. not_by_link _ _ _ _ _ _ _ _ _ _ _ serves.2 (λ failed. failed.1 sound)
+    let serves = returns-in-Some-serve_next-clause-serves g c in λ sound. not_by_link _ _ _ _ _ _ _ _ _ _ _ _ serves.2 (λ failed. failed.1 sound)
 
 pub loop-preserved : goal.loop-preserved
 loop-preserved g c =
     let inv = c.loop.invariant in
     let is = c.serve_next.ensures in record {
-      served = written_more _ _ _ _ _ _ _ _ _ _ _ _ _ _ _ inv.clock.moments inv.served c.in_default.ensures.serves;
+      served = written_more _ _ _ _ _ _ _ _ _ _ _ _ _ _ _ _ inv.served c.in_default.ensures.serves;
       desk = desk_on _ _ _ inv.desk is.desk;
-      still = is.still (λ e. absurd (cc)) ∙ inv.still;
+      still = is.still (λ e. absurd (cc)) (λ e. absurd (cc)) ∙ inv.still;
       clock = clock_on _ _ _ inv.clock is.clock;
       link = goes_on _ _ _ inv.link is.link;
     }
