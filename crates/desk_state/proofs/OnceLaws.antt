@@ -131,8 +131,8 @@ raised_after (Some w) ks more fs actor number rising single unkept raises is =
         inr (
           before,
           find-append (is_request actor number) (filter (is_since w.before) ks) (option_to_list more)
-          ∙ ap (λ (o : Option KeptReply). option_or o (kept_at actor number (option_to_list more))) (swept_none w.before actor number ks single some)
-          ∙ more_none more ks actor number unkept before,
+              ∙ ap (λ (o : Option KeptReply). option_or o (kept_at actor number (option_to_list more))) (swept_none w.before actor number ks single some)
+              ∙ more_none more ks actor number unkept before,
         )
 
 -- ---- what a step leaves

@@ -97,7 +97,7 @@ stay_attached s t lane call reply (inl same) =
     attached_all s t (λ id r attached has. ap (λ (u : State). report_at id u.reports) same.0 ∙ has) s.releases (λ id e. e)
 stay_attached s t lane call reply (inr leads) =
     attached_all s t (λ id r attached has. ap (λ rs. report_at id rs) leads.8.reports
-        ∙ after_sweep s leads.1.sweep (reports_after leads.1.report s.reports) id r (sweep_of s call.actor leads.3) attached has (after_report leads.1.report s.reports id r has))
+    ∙ after_sweep s leads.1.sweep (reports_after leads.1.report s.reports) id r (sweep_of s call.actor leads.3) attached has (after_report leads.1.report s.reports id r has))
     s.releases (λ id e. e)
 
 -- ---- what comes in time
