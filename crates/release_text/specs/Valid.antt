@@ -1,5 +1,5 @@
 -- Which releases are valid: their phase, their revisions and the signatures on these agree (14 CFR 121.593 to 121.597, 121.687).
-use Rattle.std.specs.Prelude.{◌≡◌, ℕ, ◌<◌, ◌≤◌, true, length, Option, None, Some, IfSome}
+use Rattle.std.specs.Prelude.{◌≡◌, ◌<◌, ◌≤◌, true, length, Option, None, Some, IfSome}
 use Rattle.plan.specs.Phases.{PhaseFits}
 use Rattle.plan.specs.declared.release.Phase.{Phase}
 use Rattle.plan.specs.declared.release.Phase.TheVariants.{Drafted, Ready, Flying, Stopped, Completed, Cancelled}
