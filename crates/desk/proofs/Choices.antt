@@ -11,15 +11,13 @@ use Rattle.asks.specs.declared.reply.Refusal.TheVariants.{Unkept}
 use Rattle.asks.specs.declared.reply.Reply.TheVariants.{Done, Refused}
 use Rattle.alerts.specs.declared.notices.Notice.{Notice}
 use Rattle.desk_state.specs.Repeats.{MayAsk, IsKeptFor}
-use Rattle.desk_state.proofs.RepeatLaws.{repeat_stays}
+use Rattle.desk_state.proofs.RepeatLaws.{may_ask_as, repeat_stays}
 use Rattle.std.proofs.lemmas.Bool.{le-ltb, lt-ltb}
 use Rattle.desk_state.specs.Lanes as lanes
 use Rattle.desk_state.specs.Lanes.{outcomes, after_items}
 use Rattle.desk_state.specs.State.{State, is_full}
 use Rattle.desk_state.specs.Step.{Stepped, stay, answer_call, tick_to, tick_unless, ticked, full_reply}
-use Rattle.desk_state.specs.People.{mistaken, not_his_role}
 use Rattle.desk_state.specs.Requests.{kept_at}
-use Rattle.ops_tables.specs.Tables.{TableRows, actor_of}
 use Rattle.desk_state.specs.Texts.{closing}
 use Rattle.desk_state.specs.declared.lanes.Item.{Item}
 use Rattle.desk_state.specs.declared.lanes.Item.TheVariants as item
@@ -251,13 +249,6 @@ again_answered lane s at call k c t o ticked called within may is given =
 tick_leaves : (full : Bool) (s : State) (lane to : ℕ) → ((tick_unless full s lane to).state.tables ≡ s.tables) × ((tick_unless full s lane to).state.kept ≡ s.kept)
 tick_leaves true s lane to = (refl, refl)
 tick_leaves false s lane to = (refl, append-nil s.kept)
-
-may_ask_as : (s t : State) (call : Call) → t.tables ≡ s.tables → MayAsk s call → MayAsk t call
-may_ask_as s t call same may = record {
-  known = ap (λ (tables : TableRows). mistaken (actor_of tables call.actor) call.key) same ∙ may.known;
-  role = ap (λ (tables : TableRows). not_his_role (actor_of tables call.actor) call.ask) same ∙ may.role;
-  command = may.command;
-}
 
 kept_for_as : (s t : State) (call : Call) (k : KeptReply) → t.kept ≡ s.kept → IsKeptFor s call k → IsKeptFor t call k
 kept_for_as s t call k same is = record { held = ap (kept_at call.actor call.number) same ∙ is.held; same = is.same }

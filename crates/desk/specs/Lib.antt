@@ -4,3 +4,4 @@ pub mod Keeping
 pub mod Settled
 pub mod Opening
 pub mod Seen
+pub mod Again

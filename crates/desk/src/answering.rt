@@ -6,6 +6,7 @@ ghost use Rattle.desk_io.specs.Health.{IsSound, IsStill};
 ghost use Rattle.desk_state.specs.Lanes as lanes;
 ghost use Rattle.desk_state.specs.Repeats.{MayAsk, IsKeptFor};
 ghost use Rattle.desk_state.specs.Step.{answer_call, tick_to};
+ghost use Rattle.desk.specs.Again.{AllMayComeAgain};
 ghost use Rattle.desk.specs.Keeping as spec;
 ghost use Rattle.desk.specs.Keeping.{adds, AreNow, Counted, CountedOnce};
 ghost use Rattle.desk.specs.Seen.{desk_seen, DeskGoesOn};
@@ -286,6 +287,8 @@ pub fn answer<K: Keeper, L: Ledger>(
         → MayAsk desk.old.board.state call.now → IsKeptFor desk.old.board.state call.now k
         → IfOk result
         (λ a. IsSaid (done_again k (tick_to desk.old.board.state lane moment).state) desk.new.board.state a) }
+    // Of whatever is kept then: the command may be left out of a list of items in which it comes again.
+    ensures kept { IfOk result (λ a. AllMayComeAgain desk.new.board.state) }
     ensures shown { IfOk result (λ a. IsShown a.outcome) }
     ensures err { OnErr result (MayHaveTicked lane moment desk.old.board.state desk.new.board.state) }
     ensures on { DeskGoesOn (desk_seen K.seen desk.old) (desk_seen K.seen desk.new) }
@@ -294,5 +297,6 @@ pub fn answer<K: Keeper, L: Ledger>(
         (answer_call desk.old.board.state lane call.now) ≡ false → desk.new.keeper ≡ desk.old.keeper }
 {
     let judged = answer_with(alloc, desk, lane, moment, call, steps)?;
+    let _ = desk.board.now();
     Ok(judged.answered)
 }

@@ -1,18 +1,70 @@
+ghost use Rattle.std.specs.Prelude.{◌≡◌, ◌<◌, ◌≤◌, All, IfOk, IsTrue};
+ghost use Rattle.facts.specs.Reading.{IsRead};
+
+use codes::ReportFault;
 use desk_io::OutOfMemory;
-use facts::{Reports, push_weather, push_weather_at};
-use small_airline::{DAY, reports_of};
+use desk_time::{FIRST, LAST, Minute};
+use facts::{Received, Report, Reports, push_weather, push_weather_at, receive};
 use stations::Station;
 use std::alloc::Global;
 use std::test::Fail;
 
+/// 2025-03-12 00:00.
+pub const DAY: Minute = 29_028_960;
+
+fn report(alloc: Global, id: u64, received: Minute, text: &[u8]) -> Result<Report, ReportFault>
+    requires low { FIRST ≤ received }
+    requires high { received ≤ LAST }
+    ensures id { IfOk result (λ report. report.id ≡ id) }
+    ensures read { IfOk result IsRead }
+{
+    let Received { text, read } = receive(alloc, text, received)?;
+    Ok(Report {
+        id,
+        received,
+        text,
+        read,
+    })
+}
+
+fn is_above(reports: &[Report], id: u64) -> bool
+    ensures { IsTrue result → All (λ held. held.id < id) reports.now }
+{
+    reports.iter().all(|held| held.id < id)
+}
+
+/// Admits a report that came at 17:40 of that day, under a number above all.
+pub fn admit(
+    alloc: Global,
+    reports: &mut Reports,
+    id: u64,
+    text: &[u8],
+) -> Result<(), ReportFault> {
+    let report = report(alloc, id, DAY + 1060, text)?;
+    if is_above(reports.as_slice(), id) {
+        reports.reserve(&report)?;
+        reports.admit(report);
+    }
+    Ok(())
+}
+
 // Reports of three stations, under numbers that rise with gaps.
-const HELD: &[(u64, &[u8])] = &[
-    (1, b"SPECI KJFK 121738Z 24012KT 4SM BR BKN015 11/09 A3008"),
-    (2, b"METAR KJFK 121651Z 10SM CLR"),
-    (4, b"TAF KJFK 121720Z 1218/1324 24010KT P6SM BKN030"),
-    (7, b"TAF KJFK 121720Z 1218/1324 24010KT P6SM BKN030"),
-    (8, b"TAF EINN 121720Z NIL"),
-];
+fn held(alloc: Global) -> Result<Reports, ReportFault> {
+    let mut reports = Reports::new(alloc);
+    for (id, text) in [
+        (
+            1,
+            b"SPECI KJFK 121738Z 24012KT 4SM BR BKN015 11/09 A3008".as_slice(),
+        ),
+        (2, b"METAR KJFK 121651Z 10SM CLR"),
+        (4, b"TAF KJFK 121720Z 1218/1324 24010KT P6SM BKN030"),
+        (7, b"TAF KJFK 121720Z 1218/1324 24010KT P6SM BKN030"),
+        (8, b"TAF EINN 121720Z NIL"),
+    ] {
+        admit(alloc, &mut reports, id, text)?;
+    }
+    Ok(reports)
+}
 
 /// The numbers of the latest METAR and the latest TAF of a station.
 pub fn latest(reports: &Reports, name: &[u8]) -> Option<(Option<u64>, Option<u64>)> {
@@ -22,18 +74,23 @@ pub fn latest(reports: &Reports, name: &[u8]) -> Option<(Option<u64>, Option<u64
     Some((metar, taf))
 }
 
-// The weather lines of one station, or of all.
-fn weather(
+// Whether the weather lines of all stations are these.
+fn has_weather(alloc: Global, reports: &Reports, lines: &[u8]) -> Result<bool, OutOfMemory> {
+    let mut out = Vec::new(alloc);
+    push_weather(&mut out, reports)?;
+    Ok(out.as_slice() == lines)
+}
+
+// Whether the weather lines of one station are these.
+fn has_weather_at(
     alloc: Global,
     reports: &Reports,
-    station: Option<Station>,
-) -> Result<Vec<u8>, OutOfMemory> {
+    station: Station,
+    lines: &[u8],
+) -> Result<bool, OutOfMemory> {
     let mut out = Vec::new(alloc);
-    match station {
-        Some(station) => push_weather_at(&mut out, reports, station)?,
-        None => push_weather(&mut out, reports)?,
-    }
-    Ok(out)
+    push_weather_at(&mut out, reports, station)?;
+    Ok(out.as_slice() == lines)
 }
 
 const KENNEDY: &[u8] = b"KJFK METAR 1 2025-03-12T17:38Z ceiling 1500 vis 6437376 unread 0\n\
@@ -47,7 +104,7 @@ const ALL: &[u8] = b"EINN TAF 8 2025-03-12T17:20Z 2025-03-12T17:20Z 2025-03-12T1
 fn the_latest_moment_counts(rt: HostRuntime) -> Result<(), Fail> {
     let alloc = rt.alloc();
     assert!(rt; Reports::new(alloc).is_empty());
-    let reports = reports_of(alloc, HELD)?;
+    let reports = held(alloc)?;
     assert!(rt; reports.len() == 5);
     assert!(rt; latest(&reports, b"KJFK") == Some((Some(1), Some(7))));
     assert!(rt; latest(&reports, b"EINN") == Some((None, Some(8))));
@@ -56,7 +113,11 @@ fn the_latest_moment_counts(rt: HostRuntime) -> Result<(), Fail> {
     assert!(rt; reports.same(forecast, DAY + 1040) == Some(4));
     assert!(rt; reports.same(forecast, DAY + 1041) == None);
     assert!(rt; reports.same(b"TAF KJFK 121720Z", DAY + 1040) == None);
-    assert!(rt; weather(alloc, &reports, None)?.as_slice() == ALL);
-    assert!(rt; weather(alloc, &reports, Station::read(b"KJFK"))?.as_slice() == KENNEDY);
+    assert!(rt; has_weather(alloc, &reports, ALL)?);
+    let kennedy = Station::read(b"KJFK");
+    assert!(rt; kennedy.is_some());
+    if let Some(station) = kennedy {
+        assert!(rt; has_weather_at(alloc, &reports, station, KENNEDY)?);
+    }
     Ok(())
 }

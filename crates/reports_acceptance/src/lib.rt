@@ -3,7 +3,7 @@
 #![tactic(auto)]
 
 #[cfg(test)]
-mod deaf;
+mod failing;
 #[cfg(test)]
 mod held;
 #[cfg(test)]

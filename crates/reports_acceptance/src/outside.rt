@@ -1,4 +1,4 @@
-use crate::deaf::DeafOutput;
+use crate::failing::{FailingFolder, FailingOutput};
 use desk_io::{
     Copied, FileShelf, LineFeeds, Listed, MemoryShelf, MemorySink, OutOfMemory, PutFault, Shelf,
     Sink, StdoutSink, Text, WholeFault, copied_items, copied_option, push_all, read_whole,
@@ -8,22 +8,25 @@ use std::alloc::Global;
 use std::fs;
 use std::test::Fail;
 
+fn source(alloc: Global, name: &[u8], text: Vec<u8>) -> Result<(Text, Text), OutOfMemory> {
+    Ok((Text::of(alloc, name)?, Text::from_vec(text)))
+}
+
 // A short source `a` and a long one `b`.
 fn two_sources(alloc: Global) -> Result<Vec<(Text, Text)>, OutOfMemory> {
     let mut sources = Vec::new(alloc);
-    sources.push((Text::of(alloc, b"a")?, Text::of(alloc, b"first")?))?;
-    let long = vec![in alloc; 7u8; 5000]?;
-    sources.push((Text::of(alloc, b"b")?, Text::from_vec(long)))?;
+    sources.push(source(alloc, b"a", Vec::from_slice(alloc, b"first")?)?)?;
+    sources.push(source(alloc, b"b", vec![in alloc; 7u8; 5000]?)?)?;
     Ok(sources)
-}
-
-fn length_of<S: Shelf>(alloc: Global, shelf: &mut S, name: &str) -> Result<usize, WholeFault> {
-    Ok(read_whole(alloc, shelf, name)?.bytes().len())
 }
 
 // How long the source is, or why it wasn't read, and the faults counted since.
 fn reads(alloc: Global, shelf: &mut MemoryShelf, name: &str) -> (Result<usize, WholeFault>, u64) {
-    (length_of(alloc, shelf, name), shelf.faults())
+    let length = match read_whole(alloc, shelf, name) {
+        Ok(text) => Ok(text.bytes().len()),
+        Err(fault) => Err(fault),
+    };
+    (length, shelf.faults())
 }
 
 // What a sink in memory holds whose second write fails, and the faults that it counts.
@@ -97,34 +100,38 @@ fn texts_and_lists_are_copied_and_cut(rt: HostRuntime) -> Result<(), Fail> {
     Ok(())
 }
 
-// The file that a test writes.
-const NAME: &str = "reports_acceptance_source";
+fn length_of<S: Shelf>(alloc: Global, shelf: &mut S) -> Result<usize, WholeFault> {
+    Ok(
+        read_whole(alloc, shelf, "reports_acceptance_source")?
+            .bytes()
+            .len(),
+    )
+}
 
 // The disk and standard output tell no contents, so only a run shows what passes through them.
 #[test]
 fn files_and_standard_output(rt: HostRuntime) -> Result<(), Fail> {
     let alloc = rt.alloc();
     let long = vec![in alloc; b'x'; 5000]?;
-    fs::write(&rt, NAME, long.as_slice())?;
+    fs::write(&rt, "reports_acceptance_source", long.as_slice())?;
     let mut shelf = FileShelf::new(rt);
-    let read = length_of(alloc, &mut shelf, NAME);
-    fs::remove_file(&rt, NAME)?;
+    let read = length_of(alloc, &mut shelf);
+    fs::remove_file(&rt, "reports_acceptance_source")?;
     assert!(rt; read == Ok(5000) && shelf.faults() == 0);
-    let missing = length_of(alloc, &mut shelf, NAME);
+    let missing = length_of(alloc, &mut shelf);
     assert!(rt; missing == Err(WholeFault::ReadFault) && shelf.faults() == 1);
     let mut out = StdoutSink::new(rt);
     assert!(rt; out.write(b"written\n") == Ok(()) && out.faults() == 0);
     Ok(())
 }
 
-// An error of a read isn't the end of a file, and bytes that weren't written are a fault.
+// An error in the middle of a file isn't its end, and bytes that weren't written are a fault.
 #[test]
 fn errors_of_the_system_are_faults(rt: HostRuntime) -> Result<(), Fail> {
-    // A folder can be opened as a file, but not read.
-    let mut shelf = FileShelf::new(rt);
-    let read = length_of(rt.alloc(), &mut shelf, ".");
+    let mut shelf = FileShelf::new((FailingFolder, rt.alloc()));
+    let read = length_of(rt.alloc(), &mut shelf);
     assert!(rt; read == Err(WholeFault::ReadFault) && shelf.faults() == 1);
-    let mut out = StdoutSink::new(DeafOutput);
+    let mut out = StdoutSink::new(FailingOutput);
     assert!(rt; out.write(b"abc") == Ok(()) && out.faults() == 0);
     assert!(rt; out.write(b"abcd") == Err(PutFault::Failed) && out.faults() == 1);
     Ok(())

@@ -1,7 +1,7 @@
-use crate::held::latest;
+use crate::held::{DAY, admit, latest};
+use codes::ReportFault;
 use desk_time::{FIRST, LAST, Minute};
 use facts::Reports;
-use small_airline::{DAY, admit, reports_of};
 use std::alloc::Global;
 use std::test::Fail;
 
@@ -12,18 +12,24 @@ const EARLY: &[u8] = b"TAF KJFK 101720Z 1018/1124 24010KT P6SM BKN030";
 const KEPT: &[u8] = b"TAF KJFK 111120Z 1112/1218 24010KT P6SM BKN030";
 
 // Reports of two stations from three days. Numbers 1 and 8 have the same text.
-const THREE_DAYS: &[(u64, &[u8])] = &[
-    (1, CLEAR),
-    (2, EARLY),
-    (3, b"METAR KPHL 101654Z 9SM CLR"),
-    (4, b"METAR KJFK 111651Z 8SM CLR"),
-    (5, KEPT),
-    (6, b"TAF KPHL 101120Z 1012/1118 24010KT P6SM BKN030"),
-    (7, b"METAR KJFK 121651Z 7SM CLR"),
-    (8, CLEAR),
-    (9, b"METAR KJFK 111650Z 6SM CLR"),
-    (10, b"TAF KJFK 121720Z 1218/1324 24010KT P6SM BKN030"),
-];
+fn three_days(alloc: Global) -> Result<Reports, ReportFault> {
+    let mut reports = Reports::new(alloc);
+    for (id, text) in [
+        (1, CLEAR),
+        (2, EARLY),
+        (3, b"METAR KPHL 101654Z 9SM CLR"),
+        (4, b"METAR KJFK 111651Z 8SM CLR"),
+        (5, KEPT),
+        (6, b"TAF KPHL 101120Z 1012/1118 24010KT P6SM BKN030"),
+        (7, b"METAR KJFK 121651Z 7SM CLR"),
+        (8, CLEAR),
+        (9, b"METAR KJFK 111650Z 6SM CLR"),
+        (10, b"TAF KJFK 121720Z 1218/1324 24010KT P6SM BKN030"),
+    ] {
+        admit(alloc, &mut reports, id, text)?;
+    }
+    Ok(reports)
+}
 
 fn have_ids(reports: &Reports, ids: &[u64]) -> bool {
     let held = reports.as_slice();
@@ -44,40 +50,67 @@ fn have_latest(reports: &Reports) -> bool {
 // 2025-03-11 16:51, the moment of number 4.
 const BEFORE: Minute = DAY - 1440 + 1011;
 
-// What a sweep of that moment leaves beside the latest, where 5 and 8 are to be kept.
-const LEFT: &[u64] = &[3, 4, 5, 6, 7, 8, 10];
+fn is_swept(reports: &mut Reports) -> bool {
+    leaves(reports, BEFORE, &[5, 8, 77], 3, &[3, 4, 5, 6, 7, 8, 10])
+        && have_latest(reports)
+        // The first of that text went, and the second is kept.
+        && reports.same(CLEAR, DAY - 2880 + 1011) == Some(8)
+        && reports.same(EARLY, DAY - 2880 + 1040) == None
+        && reports.same(KEPT, DAY - 1440 + 680) == Some(5)
+}
+
+// What went comes again, under the next number.
+fn comes_again(alloc: Global, reports: &mut Reports) -> Result<bool, ReportFault> {
+    admit(alloc, reports, 11, EARLY)?;
+    Ok(
+        have_ids(reports, &[3, 4, 5, 6, 7, 8, 10, 11])
+            && have_latest(reports)
+            && reports.same(EARLY, DAY - 2880 + 1040) == Some(11),
+    )
+}
+
+// The latest of each station stay at any moment.
+fn leaves_the_latest(reports: &mut Reports) -> bool {
+    leaves(reports, LAST, &[], 4, &[3, 6, 7, 10])
+        && have_latest(reports)
+        && reports.same(CLEAR, DAY - 2880 + 1011) == None
+}
 
 #[test]
 fn old_reports_are_swept_away(rt: HostRuntime) -> Result<(), Fail> {
     let alloc = rt.alloc();
-    let mut reports = reports_of(alloc, THREE_DAYS)?;
-    let (clear, early) = (DAY - 2880 + 1011, DAY - 2880 + 1040);
-    assert!(rt; have_latest(&reports) && reports.same(CLEAR, clear) == Some(1));
-    assert!(rt; leaves(&mut reports, BEFORE, &[5, 8, 77], 3, LEFT) && have_latest(&reports));
-    // The first of that text went, and the second is kept.
-    assert!(rt; reports.same(CLEAR, clear) == Some(8) && reports.same(EARLY, early) == None);
-    assert!(rt; reports.same(KEPT, DAY - 1440 + 680) == Some(5));
-    // What went comes again, under the next number.
-    admit(alloc, &mut reports, 11, EARLY)?;
-    assert!(rt; have_ids(&reports, &[3, 4, 5, 6, 7, 8, 10, 11]) && have_latest(&reports));
-    assert!(rt; reports.same(EARLY, early) == Some(11));
-    // The latest of each station stay at any moment.
-    assert!(rt; leaves(&mut reports, LAST, &[], 4, &[3, 6, 7, 10]) && have_latest(&reports));
-    assert!(rt; reports.same(CLEAR, clear) == None);
+    let mut reports = three_days(alloc)?;
+    assert!(rt; have_latest(&reports) && reports.same(CLEAR, DAY - 2880 + 1011) == Some(1));
+    assert!(rt; is_swept(&mut reports));
+    assert!(rt; comes_again(alloc, &mut reports)?);
+    assert!(rt; leaves_the_latest(&mut reports));
     Ok(())
 }
 
 #[test]
-fn a_sweep_leaves_the_numbers_to_keep_in_any_order_and_may_leave_all(
-    rt: HostRuntime,
-) -> Result<(), Fail> {
+fn numbers_to_keep_stand_in_any_order(rt: HostRuntime) -> Result<(), Fail> {
+    let alloc = rt.alloc();
+    let mut reports = three_days(alloc)?;
+    assert!(rt;
+        leaves(
+            &mut reports,
+            BEFORE,
+            &[8, 77, 5, 8],
+            3,
+            &[3, 4, 5, 6, 7, 8, 10]
+        )
+    );
+    assert!(rt; leaves(&mut reports, LAST, &[8, 4, 1], 1, &[3, 4, 6, 7, 8, 10]));
+    Ok(())
+}
+
+#[test]
+fn a_sweep_of_nothing_leaves_all(rt: HostRuntime) -> Result<(), Fail> {
     let alloc = rt.alloc();
     let mut none = Reports::new(alloc);
     assert!(rt; leaves(&mut none, LAST, &[1], 0, &[]) && none.is_empty());
-    let mut reports = reports_of(alloc, THREE_DAYS)?;
+    let mut reports = three_days(alloc)?;
     let all = [1, 2, 3, 4, 5, 6, 7, 8, 9, 10];
     assert!(rt; leaves(&mut reports, FIRST, &[], 0, &all) && have_latest(&reports));
-    assert!(rt; leaves(&mut reports, BEFORE, &[8, 77, 5, 8], 3, LEFT));
-    assert!(rt; leaves(&mut reports, LAST, &[8, 4, 1], 1, &[3, 4, 6, 7, 8, 10]));
     Ok(())
 }

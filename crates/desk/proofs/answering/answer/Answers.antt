@@ -1,3 +1,4 @@
+use Rattle.desk_state.proofs.RepeatLaws.{comes_again}
 use Rattle.desk.specs.Settled.{choice_of}
 use Rattle.desk.proofs.Choices.{quiet_answer, again_answered, again_after_tick}
 use Rattle.desk.proofs.answering.answer.Goals as goal
@@ -17,3 +18,6 @@ returns-clause-again g c = λ k within may is.
 pub returns-clause-late : goal.returns-clause-late
 returns-clause-late g c = λ k later reached may is.
     again_after_tick _ _ _ _ k (choice_of c.in_ok-judged.judged) _ _ _ _ later reached may is c.in_ok-judged.ensures.given
+
+pub returns-clause-kept : goal.returns-clause-kept
+returns-clause-kept g c = record { each = λ call k may is. comes_again _ _ call k c.now.ensures.board may is }
