@@ -1,5 +1,5 @@
 -- What a clock answers, and what it tells of its moments.
-use Rattle.std.specs.Prelude.{ℕ, ◌/◌, nat_le, ◌&&◌, if◌then◌else◌, List, Option, None, Some, ◌≡◌, ◌+◌, ◌-◌, ◌<◌, min, length, slice_index, Result, MatchResult}
+use Rattle.std.specs.Prelude.{ℕ, ◌/◌, nat_le, ◌&&◌, if◌then◌else◌, List, Option, None, Some, ◌≡◌, ◌+◌, ◌-◌, ◌<◌, ◌≤◌, min, length, slice_index, Result, MatchResult}
 use Rattle.desk_time.specs.Limits.{first_moment, last_moment}
 
 -- The moments that a clock gives, in order, and the place of the one that comes next. The last one comes again for ever.
