@@ -97,8 +97,8 @@ pub fn desk_main<R: Wait, S: Shelf, O: Sink, C: Clock + Drop, K: Keeper, D: Door
         (service C.seen D.seen D.Link.seen clock result.clock door.old door.new)
         (lent K.seen keeper result.keeper) (command_of (map string_bytes words.now)) result.board)
         (over O.seen out.old out.new) result.status }
-    // Whatever the status: the clock tells the same moments and never goes back among them, and neither its count nor the door's falls. A sound clock
-    // stays sound, and its count stands still.
+    // Whatever the status: the clock tells the same moments and never goes back among them, and neither its count nor the
+    // door's falls. A sound clock stays sound, and its count stands still.
     ensures clock { ClockGoesOn (C.seen clock) (C.seen result.clock) }
     // At status 0 no fault of the clock was passed over.
     ensures still { result.status ≡ 0 → IsStill (C.seen clock).health (C.seen result.clock).health }
