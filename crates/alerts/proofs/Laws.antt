@@ -133,7 +133,7 @@ left_among h (f ∷ fs) gs e = or_more (is_same h f) (is_among fs h) (is_among (
 
 right_among : (h : Finding) (fs gs : List Finding) → is_among gs h ≡ true → is_among (fs ++ gs) h ≡ true
 right_among h [] gs e = e
-right_among h (f ∷ fs) gs e = or_later (is_same h f) (is_among (fs ++ gs) h) (right_among h fs gs e)
+right_among h (f ∷ fs) gs e = or_right (is_same h f) (is_among (fs ++ gs) h) (right_among h fs gs e)
 
 left_all : (fs gs hs : List Finding) → AreAmong fs hs → AreAmong (fs ++ gs) hs
 left_all fs gs [] all = tt

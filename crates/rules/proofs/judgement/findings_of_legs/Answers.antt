@@ -10,6 +10,7 @@ returns c =
     IfOk-weaker c.findings_in.result _ _
     (λ f is.
     is
+    ∙ ap (λ rules. findings_in_all rules c.deref.result.now) c.rules_of_legs.ensures
     ∙ ap (λ seen. findings_in_all rules_of_legs seen)
     (c.deref.ensures.value ∙ c.in_ok-sights.ensures.value ∙ ap (λ legs. sights_from c.args.times.now (option_map case_by (option_copied c.args.circumstances)) 1 legs) c.as_slice.ensures))
     c.findings_in.ensures
