@@ -24,7 +24,7 @@ use Rattle.release_text.specs.Revisions.{revision_digest}
 use Rattle.release_text.specs.Weather.{newer_than}
 use Rattle.rules.specs.Grounds.{Grounds}
 use Rattle.desk_state.proofs.Each.{found_each}
-use Rattle.desk_state.proofs.Passed.{some_given, not_so, so, same_bytes, no_plan_fault}
+use Rattle.desk_state.proofs.Passed.{some_given, not_so, so, no_plan_fault}
 use Rattle.desk_state.specs.Sound.{Sound, MayStand}
 use Rattle.release_text.specs.Valid.{IsPhased, IsThere}
 use Rattle.alerts.proofs.Laws.{follows}

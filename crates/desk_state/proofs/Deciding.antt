@@ -63,7 +63,7 @@ use Rattle.desk_state.proofs.Each.{found_each}
 use Rattle.desk_state.proofs.Parts.{later_within}
 use Rattle.desk_io.proofs.Each.{each_weaker}
 use Rattle.desk_io.proofs.Bytes.{same_bytes}
-use Rattle.desk_state.proofs.Passed.{some_given, not_so, so, same_bytes, no_plan_fault}
+use Rattle.desk_state.proofs.Passed.{some_given, not_so, so, no_plan_fault}
 
 -- Chains.
 

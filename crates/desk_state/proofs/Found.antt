@@ -107,8 +107,8 @@ first_unlike actor number x ks true is some unlike = absurd (both (all_none (is_
     both : list_any (is_request actor number) ks ≡ false → ⊥
     both none = absurd (cc)
 
-pub same_bytes : (a b : List ℕ) → a ≡ b → bytes_eq a b ≡ true
-same_bytes a b e = (bytes_eq-Decides a b).1 e
+pub alike_bytes : (a b : List ℕ) → a ≡ b → bytes_eq a b ≡ true
+alike_bytes a b e = (bytes_eq-Decides a b).1 e
 
 or_first : {A : Type 0} (x : A) (o p : Option A) → o ≡ Some x → option_or o p ≡ Some x
 or_first x None p e = absurd (cc)
@@ -125,4 +125,4 @@ pub new_found : (actor : List ℕ) (number : ℕ) (ks : List KeptReply) (k : Kep
 new_found actor number ks k none its_actor its_number =
     find-append (is_request actor number) ks (k ∷ [])
     ∙ ap (λ o. option_or o (kept_at actor number (k ∷ []))) none
-    ∙ rw (eq-eqb k.number number its_number, same_bytes k.actor actor its_actor) refl
+    ∙ rw (eq-eqb k.number number its_number, alike_bytes k.actor actor its_actor) refl

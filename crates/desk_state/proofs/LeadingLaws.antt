@@ -40,7 +40,7 @@ use Rattle.desk_state.specs.Decide.{decide}
 use Rattle.desk_state.specs.Allowed.{IsAcknowledged, FollowsIf, IsAlertAfter, IsEffectOf, IsUnused, DecisionOf, IsEntryOf, IsAfter, IsKeptOf, IsPermitted, IsSaidTo, MayLeadTo, MayTickTo, LeavesAlert}
 use Rattle.desk_state.proofs.AllowedLaws.{decision_is}
 use Rattle.desk_io.proofs.Bytes.{same_bytes}
-use Rattle.desk_state.proofs.Passed.{so, same_bytes}
+use Rattle.desk_state.proofs.Passed.{so}
 
 -- Who may make a call.
 

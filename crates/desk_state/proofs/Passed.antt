@@ -1,7 +1,6 @@
 -- What holds where the tests of a call are passed.
-use Rattle.std.proofs.Common.{◌≡◌, ℕ, not, Bool, true, false, List, Option, None, Some, Ok, refl}
-use Rattle.std.specs.Str.{bytes_eq}
-use Rattle.std.proofs.lemmas.Slice.Eq.{bytes_eq-Decides}
+use Rattle.std.proofs.Common.{◌≡◌, not, Bool, true, false, Option, None, Some, Ok, refl}
+use Rattle.std.proofs.lemmas.Bool.{not-false}
 use Rattle.asks.specs.declared.reply.Refusal.{Refusal}
 use Rattle.plan.specs.declared.check.BadPlan.{BadPlan}
 use Rattle.desk_state.specs.Chain.{some_or, refused_if}
@@ -16,15 +15,8 @@ pub not_so : (b : Bool) (x : Refusal) → refused_if b x ≡ None → b ≡ fals
 not_so true x e = absurd (cc)
 not_so false x e = refl
 
-not_not : (b : Bool) → not b ≡ false → b ≡ true
-not_not true e = refl
-not_not false e = absurd (cc)
-
 pub so : (b : Bool) (x : Refusal) → refused_if (not b) x ≡ None → b ≡ true
-so b x e = not_not b (not_so (not b) x e)
-
-pub same_bytes : (a b : List ℕ) → bytes_eq a b ≡ true → a ≡ b
-same_bytes a b e = (bytes_eq-Decides a b).0 e
+so b x e = not-false b (not_so (not b) x e)
 
 pub no_plan_fault : (o : Option BadPlan) → bad_plan o ≡ None → o ≡ None
 no_plan_fault None e = refl

@@ -26,7 +26,7 @@ use Rattle.desk_state.specs.declared.lanes.Said.TheVariants as said
 use Rattle.desk_state.proofs.LeadingLaws.{call_leads, tick_leads}
 use Rattle.desk_state.proofs.AllowedLaws.{no_sweep, no_view}
 use Rattle.desk_state.proofs.Boards.{call_keeps, tick_keeps}
-use Rattle.desk_state.proofs.Found.{new_found, same_bytes, still_found}
+use Rattle.desk_state.proofs.Found.{alike_bytes, new_found, still_found}
 use Rattle.desk_state.proofs.Parts.{still_unused}
 
 -- ---- the command itself
@@ -34,7 +34,7 @@ use Rattle.desk_state.proofs.Parts.{still_unused}
 -- A command that comes again is answered with what it has done, and changes nothing.
 pub repeat_stays : (s : State) (lane : ℕ) (call : Call) (k : KeptReply) → MayAsk s call → IsKeptFor s call k → answer_call s lane call ≡ stay s (Done k.done)
 unfolding answer_call do_call decide
-repeat_stays s lane call k may is = rw (may.known, may.role, may.command, is.held, same_bytes k.digest (ask_digest call.ask) is.same) refl
+repeat_stays s lane call k may is = rw (may.known, may.role, may.command, is.held, alike_bytes k.digest (ask_digest call.ask) is.same) refl
 
 -- ---- what is kept of a command
 
@@ -165,7 +165,7 @@ comes_again opening s call k board may is lane before after at forms none within
 pub permitted_asks : (s : State) (call : Call) → IsPermitted s call → is_view call.ask ≡ false → MayAsk s call
 permitted_asks s call is command =
     let known = is.known in let role = is.role in
-    record { known = rw (known, same_bytes is.person.key call.key is.key) refl; role = rw (known, role) refl; command = command }
+    record { known = rw (known, alike_bytes is.person.key call.key is.key) refl; role = rw (known, role) refl; command = command }
 
 -- once it was accepted it may come again
 pub accepted_again : (opening s t : State) (lane : ℕ) (call : Call) (reply : Option Reply) → IsBoard opening t → MayLeadTo lane call s t reply → AcceptedOnce s t call
