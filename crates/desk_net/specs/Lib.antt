@@ -4,3 +4,4 @@ pub mod Doors
 pub mod Calls
 pub mod Seen
 pub mod InMemory
+pub mod System

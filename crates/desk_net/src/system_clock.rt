@@ -1,12 +1,15 @@
-ghost use Rattle.std.specs.Prelude.{◌≡◌, None, IfOk, IfSome};
+ghost use Rattle.std.specs.Prelude.{◌≡◌, None, option_map, IfOk, IfSome, OnErr, OnOk};
 ghost use Rattle.std.specs.Duration.{as_nanos};
-ghost use Rattle.desk_io.specs.Health.{unsound};
+ghost use Rattle.std.specs.Time.{system_time_nanos};
+ghost use Rattle.desk_io.specs.Health.{GoesOn, HasFailed, IsStill, unsound};
 ghost use Rattle.desk_net.specs.Clocks as spec;
 ghost use Rattle.desk_time.specs.Limits.{IsMoment};
+ghost use Rattle.desk_net.specs.System.{IsMinuteOf};
 
 use crate::Clock;
 use desk_io::{Failed, counted};
 use desk_time::{FIRST, LAST, Minute};
+use std::snapshot::Snapshot;
 use std::time::{Duration, SystemTime, UNIX_EPOCH};
 use std::{io, time};
 
@@ -23,16 +26,12 @@ fn moment_in(since: Duration) -> Option<Minute>
     }
 }
 
-fn moment_now<R: time::Clock>(clock: &R) -> io::Result<Minute>
-    ensures { IfOk result IsMoment }
+// The same of a time of the system.
+fn moment_at(time: SystemTime) -> Option<Minute>
+    ensures value { result ≡ spec.moment_in (system_time_nanos time) }
+    ensures range { IfSome result IsMoment }
 {
-    let Ok(since) = SystemTime::now(clock)?.duration_since(UNIX_EPOCH) else {
-        return Err(io::Error::from(io::ErrorKind::InvalidData));
-    };
-    match moment_in(since) {
-        Some(moment) => Ok(moment),
-        None => Err(io::Error::from(io::ErrorKind::InvalidData)),
-    }
+    moment_in(time.duration_since(UNIX_EPOCH).ok()?)
 }
 
 /// The system's clock, in whole minutes since 1970-01-01 00:00 UTC as it counts them (leap seconds aren't
@@ -41,6 +40,7 @@ fn moment_now<R: time::Clock>(clock: &R) -> io::Result<Minute>
 #[derive(Drop)]
 pub struct SystemClock<R: time::Clock + Drop> {
     clock: R,
+    told: Option<Snapshot<SystemTime>>,
     faults: u64,
 }
 
@@ -49,15 +49,40 @@ impl<R: time::Clock + Drop> SystemClock<R> {
     pub fn new(clock: R) -> Self
         ensures { result.faults ≡ 0 }
     {
-        SystemClock { clock, faults: 0 }
+        SystemClock {
+            clock,
+            told: None,
+            faults: 0,
+        }
+    }
+
+    // The moment of the time that the system tells, which contracts alone see in `told`.
+    fn read(&mut self) -> io::Result<Minute>
+        ensures moment { IfOk result (IsMinuteOf (option_map (λ t. t.value) self.new.told)) }
+        ensures range { IfOk result IsMoment }
+        ensures faults { self.new.faults ≡ self.old.faults }
+    {
+        let time = SystemTime::now(&self.clock)?;
+        self.told = Some(Snapshot::of(&time));
+        match moment_at(time) {
+            Some(moment) => Ok(moment),
+            None => Err(io::Error::from(io::ErrorKind::InvalidData)),
+        }
     }
 }
 
 impl<R: time::Clock + Drop> Clock for SystemClock<R> {
     ghost seen = { λ c. record { dial = None; health = unsound c.faults } };
 
-    fn now(&mut self) -> Result<Minute, Failed> {
-        let answer = moment_now(&self.clock);
+    fn now(&mut self) -> Result<Minute, Failed>
+        ensures range { IfOk result IsMoment }
+        ensures on { GoesOn (unsound self.old.faults) (unsound self.new.faults) }
+        ensures cause { OnErr result (HasFailed (unsound self.old.faults) (unsound self.new.faults)) }
+        ensures still { OnOk result (IsStill (unsound self.old.faults) (unsound self.new.faults)) }
+        // It is the whole minute of the time that the system told in this call.
+        ensures moment { IfOk result (IsMinuteOf (option_map (λ t. t.value) self.new.told)) }
+    {
+        let answer = self.read();
         counted(answer, &mut self.faults)
     }
 

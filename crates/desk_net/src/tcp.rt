@@ -1,13 +1,14 @@
-ghost use Rattle.std.specs.Prelude.{◌≡◌, ◌<◌, ◌≤◌, length, None, Some, IsSome, IfOk, IsOk, IsErr, OnOk, OnErr};
+ghost use Rattle.std.specs.Prelude.{◌≡◌, ◌<◌, ◌≤◌, length, None, Some, IsSome, IsSomeAnd, IfOk, IsOk, IsErr, OnOk, OnErr};
 ghost use Rattle.std.specs.Io.KnownBytes.{Appends, ReadConsumes};
 ghost use Rattle.desk_io.specs.Health.{GoesOn, GoesOnWhere, HasCause, HasFailed, HasFailedWhere, unsound};
+ghost use Rattle.desk_net.specs.System.{IsLocal, port_at};
 ghost use Rattle.desk_io.specs.declared.faults.PutFault.TheVariants.{Failed as PutFailed};
 
 use crate::{Door, Link};
 use desk_io::{Failed, OutOfMemory, PutFault, counted};
 use std::io;
 use std::io::{Read, Write};
-use std::net::{Ipv4Addr, Net, OpenListener, TcpListener};
+use std::net::{Ipv4Addr, Net, OpenListener, SocketAddr, SocketAddrV4, TcpListener};
 
 fn read_some<S: Read>(stream: &mut S, into: &mut [u8]) -> io::Result<usize>
     ensures bound { IfOk result (λ n. n ≤ length into.old) }
@@ -74,6 +75,26 @@ impl<S: Read + Write + Drop> Link for TcpLink<S> {
     }
 }
 
+// The address 127.0.0.1 and that port.
+fn local(port: u16) -> SocketAddr
+    ensures { IsLocal port result }
+{
+    SocketAddr::V4(SocketAddrV4::new(Ipv4Addr::LOCALHOST, port))
+}
+
+// A socket that listens at that address, as it says itself; one that says another is closed again.
+fn listen<R: Net>(net: &R, at: SocketAddr) -> io::Result<(R::Listener, SocketAddr)>
+    ensures { IfOk result (λ socket. socket.1 ≡ at) }
+{
+    let listener = TcpListener::bind(net, at)?;
+    let told = listener.local_addr()?;
+    if told == at {
+        Ok((listener, told))
+    } else {
+        Err(io::Error::from(io::ErrorKind::AddrNotAvailable))
+    }
+}
+
 /// A door at 127.0.0.1, which only this machine reaches (RFC 1122, 3.2.1.3). It tells no links, and each error
 /// is a counted fault, as is an accept at a door that isn't open. An accept may wait for a caller without limit.
 /// It takes no memory.
@@ -81,7 +102,7 @@ impl<S: Read + Write + Drop> Link for TcpLink<S> {
 pub struct TcpDoor<R: Net + Drop> {
     net: R,
     listener: Option<R::Listener>,
-    port: Option<u16>,
+    at: Option<SocketAddr>,
     faults: u64,
 }
 
@@ -89,12 +110,12 @@ impl<R: Net + Drop> TcpDoor<R> {
     /// A door that isn't open yet.
     pub fn new(net: R) -> Self
         ensures faults { result.faults ≡ 0 }
-        ensures port { result.port ≡ None }
+        ensures at { result.at ≡ None }
     {
         TcpDoor {
             net,
             listener: None,
-            port: None,
+            at: None,
             faults: 0,
         }
     }
@@ -102,12 +123,12 @@ impl<R: Net + Drop> TcpDoor<R> {
     // Opens the door at that port. A door that was open stays so where this fails.
     fn open(&mut self, port: u16) -> io::Result<()>
         ensures faults { self.new.faults ≡ self.old.faults }
-        ensures opened { OnOk result (IsSome self.new.listener × (self.new.port ≡ Some port)) }
-        ensures unopened { OnErr result (self.new.port ≡ self.old.port) }
+        ensures opened { OnOk result (IsSome self.new.listener × IsSomeAnd self.new.at (IsLocal port)) }
+        ensures unopened { OnErr result (self.new.at ≡ self.old.at) }
     {
-        let listener = TcpListener::bind(&self.net, (Ipv4Addr::LOCALHOST, port))?;
+        let (listener, at) = listen(&self.net, local(port))?;
         self.listener = Some(listener);
-        self.port = Some(port);
+        self.at = Some(at);
         Ok(())
     }
 
@@ -124,14 +145,16 @@ impl<R: Net + Drop> TcpDoor<R> {
 impl<R: Net + Drop> Door for TcpDoor<R> {
     type Link = TcpLink<R::Stream>;
 
-    ghost seen = { λ d. record { links = None; opened_at = d.port; health = unsound d.faults } };
+    ghost seen = { λ d. record { links = None; opened_at = port_at d.at; health = unsound d.faults } };
 
     fn bind(&mut self, port: u16) -> Result<(), Failed>
         ensures on { GoesOn (unsound self.old.faults) (unsound self.new.faults) }
         ensures cause { OnErr result (HasFailed (unsound self.old.faults) (unsound self.new.faults)) }
         ensures listens { OnOk result (IsSome self.new.listener) }
-        ensures opened { OnOk result (self.new.port ≡ Some port) }
-        ensures unopened { OnErr result (self.new.port ≡ self.old.port) }
+        // The socket says that it listens at 127.0.0.1 and at that port.
+        ensures local { OnOk result (IsSomeAnd self.new.at (IsLocal port)) }
+        ensures opened { OnOk result (port_at self.new.at ≡ Some port) }
+        ensures unopened { OnErr result (self.new.at ≡ self.old.at) }
     {
         let answer = self.open(port);
         counted(answer, &mut self.faults)
@@ -140,7 +163,7 @@ impl<R: Net + Drop> Door for TcpDoor<R> {
     fn accept(&mut self) -> Result<TcpLink<R::Stream>, Failed>
         ensures on { GoesOnWhere (Unit {0}) (unsound self.old.faults) (unsound self.new.faults) }
         ensures cause { OnErr result (HasFailedWhere (Unit {0}) (unsound self.old.faults) (unsound self.new.faults)) }
-        ensures port { self.new.port ≡ self.old.port }
+        ensures at { self.new.at ≡ self.old.at }
         ensures shut { self.old.listener ≡ None → IsErr result }
         ensures fresh { IfOk result (λ link. link.faults ≡ 0) }
     {
@@ -153,7 +176,7 @@ impl<R: Net + Drop> Door for TcpDoor<R> {
 
     // It closes the connection, and takes no memory.
     fn done(&mut self, _link: TcpLink<R::Stream>) -> Result<(), OutOfMemory>
-        ensures port { self.new.port ≡ self.old.port }
+        ensures at { self.new.at ≡ self.old.at }
         ensures health { unsound self.new.faults ≡ unsound self.old.faults }
         ensures always { IsOk result }
     {

@@ -1,0 +1,4 @@
+pub mod Troubles
+pub mod Statements
+pub mod Transactions
+pub mod Keeping

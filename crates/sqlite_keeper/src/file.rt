@@ -1,6 +1,11 @@
-ghost use Rattle.std.specs.Prelude.{◌≡◌, ◌≤◌, IsTrue, IfOk, None};
-ghost use Rattle.desk_io.specs.Health.{RoseOrFull, unsound};
+ghost use Rattle.std.specs.Prelude.{◌≡◌, ◌≤◌, IsTrue, IfOk, IsErrOf, IsSomeAnd, None};
+ghost use Rattle.desk_io.specs.Health.{GoesOn, HasCause, RoseOrFull, unsound};
+ghost use Rattle.desk_io.specs.Planned.{after};
 ghost use Rattle.keeper.specs.Order.{rising};
+ghost use Rattle.keeper.specs.declared.keeping.KeepFault.TheVariants.{Failed as KeepFailed};
+ghost use Rattle.sqlite.specs.Files.{over_files};
+ghost use Rattle.sqlite_keeper.specs.Transactions.{IsClean};
+ghost use Rattle.sqlite_keeper.specs.Keeping.{CommitsOver, IsReady, LoadsOver};
 
 use crate::table::{all_rows, make_all, make_table};
 use crate::trouble::Trouble;
@@ -16,6 +21,10 @@ use std::alloc::Global;
 ///
 /// Before a load that succeeds it takes no commit. Where the file fails it is let go, since what became
 /// of the latest commit isn't known: no commit is taken until a load has opened it and found that out.
+///
+/// Its clauses say which statements the engine executed, committed and showed, as the engine's own
+/// contracts tell it, while its disk returns what was written (`IsClean`). What stands in the file is the
+/// engine's.
 #[derive(Drop)]
 pub struct KeeperOver<C: Drop> {
     rt: HostRuntime,
@@ -28,7 +37,9 @@ pub struct KeeperOver<C: Drop> {
 /// A keeper over a file.
 pub type SqliteKeeper = KeeperOver<Connection<FileStore<File>>>;
 
-fn opened(rt: &HostRuntime, path: &str) -> Result<Connection<FileStore<File>>, Trouble> {
+fn opened(rt: &HostRuntime, path: &str) -> Result<Connection<FileStore<File>>, Trouble>
+    ensures { IfOk result (λ conn. IsClean over_files conn → IsReady over_files conn) }
+{
     let mut conn = Connection::open(rt, path)?;
     make_table(&mut conn)?;
     Ok(conn)
@@ -38,6 +49,7 @@ impl<C: Drop> KeeperOver<C> {
     // Counts a fault.
     fn fault(&mut self) -> KeepFault
         ensures failed { result ≡ KeepFault.Failed }
+        ensures conn { self.new.conn ≡ self.old.conn }
         ensures rose { RoseOrFull self.old.faults self.new.faults }
         ensures later { self.old.faults ≤ self.new.faults }
         ensures commits { self.new.commits ≡ self.old.commits }
@@ -46,20 +58,16 @@ impl<C: Drop> KeeperOver<C> {
         KeepFault::Failed
     }
 
-    // Counts the fault, unless memory ran out. Where the file failed it is let go.
-    fn trouble(&mut self, trouble: Trouble) -> KeepFault
+    // Lets the file go, and counts a fault.
+    fn lose(&mut self) -> KeepFault
+        ensures failed { result ≡ KeepFault.Failed }
+        ensures let_go { self.new.conn ≡ None }
+        ensures rose { RoseOrFull self.old.faults self.new.faults }
         ensures later { self.old.faults ≤ self.new.faults }
-        ensures cause { result ≡ KeepFault.Failed → RoseOrFull self.old.faults self.new.faults }
         ensures commits { self.new.commits ≡ self.old.commits }
     {
-        match trouble {
-            Trouble::OutOfMemory => KeepFault::OutOfMemory,
-            Trouble::Refused => self.fault(),
-            Trouble::Lost => {
-                self.conn = None;
-                self.fault()
-            }
-        }
+        self.conn = None;
+        self.fault()
     }
 }
 
@@ -78,27 +86,48 @@ impl KeeperOver<Connection<FileStore<File>>> {
         }
     }
 
-    fn load_rows(&mut self, alloc: Global) -> Result<Vec<Row>, Trouble>
+    // Opens the file, and holds it on where its rows can be read.
+    fn open_rows(&mut self, alloc: Global) -> Result<Vec<Row>, Trouble>
         ensures rising { IfOk result (λ rows. IsTrue (rising rows.items)) }
+        ensures rows { self.old.conn ≡ None → IfOk result (λ rows. IsSomeAnd self.new.conn
+            (λ conn. IsClean over_files conn → LoadsOver over_files self.old.conn conn rows.items)) }
         ensures faults { self.new.faults ≡ self.old.faults }
         ensures commits { self.new.commits ≡ self.old.commits }
     {
-        if let Some(conn) = &mut self.conn {
-            return all_rows(alloc, conn);
-        }
         let mut conn = opened(&self.rt, self.path.as_str())?;
         let rows = all_rows(alloc, &mut conn)?;
         self.conn = Some(conn);
         Ok(rows)
     }
 
-    fn make(&mut self, changes: &[Change]) -> Result<(), Trouble>
+    fn load_rows(&mut self, alloc: Global) -> Result<Vec<Row>, Trouble>
+        ensures rising { IfOk result (λ rows. IsTrue (rising rows.items)) }
+        ensures rows { IfOk result (λ rows. IsSomeAnd self.new.conn
+            (λ conn. IsClean over_files conn → LoadsOver over_files self.old.conn conn rows.items)) }
         ensures faults { self.new.faults ≡ self.old.faults }
         ensures commits { self.new.commits ≡ self.old.commits }
     {
-        match &mut self.conn {
-            None => Err(Trouble::Refused),
-            Some(conn) => make_all(conn, changes),
+        let Some(conn) = &mut self.conn else {
+            return self.open_rows(alloc);
+        };
+        let rows = all_rows(alloc, conn)?;
+        Ok(rows)
+    }
+
+    fn make(&mut self, changes: &[Change]) -> Result<(), KeepFault>
+        ensures made { CommitsOver over_files changes.now self.old.conn self.new.conn result }
+        ensures later { self.old.faults ≤ self.new.faults }
+        ensures cause { IsErrOf result KeepFailed → RoseOrFull self.old.faults self.new.faults }
+        ensures commits { self.new.commits ≡ self.old.commits }
+    {
+        let Some(conn) = &mut self.conn else {
+            return Err(self.fault());
+        };
+        match make_all(conn, changes) {
+            Ok(()) => Ok(()),
+            Err(Trouble::OutOfMemory) => Err(KeepFault::OutOfMemory),
+            Err(Trouble::Refused) => Err(self.fault()),
+            Err(Trouble::Lost) => Err(self.lose()),
         }
     }
 }
@@ -106,19 +135,33 @@ impl KeeperOver<Connection<FileStore<File>>> {
 impl Keeper for KeeperOver<Connection<FileStore<File>>> {
     ghost seen = { λ k. record { rows = None; commits = k.commits; health = unsound k.faults } };
 
-    fn load(&mut self, alloc: Global) -> Result<Vec<Row>, KeepFault> {
+    fn load(&mut self, alloc: Global) -> Result<Vec<Row>, KeepFault>
+        ensures rising { IfOk result (λ rows. IsTrue (rising rows.items)) }
+        ensures none { self.new.commits ≡ self.old.commits }
+        ensures on { GoesOn (unsound self.old.faults) (unsound self.new.faults) }
+        ensures cause { HasCause KeepFailed (unsound self.old.faults) (unsound self.new.faults) result }
+        // The file is held, and the rows are those that the engine shows.
+        ensures loaded { IfOk result (λ rows. IsSomeAnd self.new.conn
+            (λ conn. IsClean over_files conn → LoadsOver over_files self.old.conn conn rows.items)) }
+        // A file that failed is let go.
+        ensures let_go { IsErrOf result KeepFailed → self.new.conn ≡ None }
+    {
         match self.load_rows(alloc) {
             Ok(rows) => Ok(rows),
-            Err(trouble) => Err(self.trouble(trouble)),
+            Err(Trouble::OutOfMemory) => Err(KeepFault::OutOfMemory),
+            Err(_) => Err(self.lose()),
         }
     }
 
-    fn commit(&mut self, _: Global, changes: &[Change]) -> Result<(), KeepFault> {
+    fn commit(&mut self, _: Global, changes: &[Change]) -> Result<(), KeepFault>
+        ensures one { self.new.commits ≡ after self.old.commits }
+        ensures on { GoesOn (unsound self.old.faults) (unsound self.new.faults) }
+        ensures cause { HasCause KeepFailed (unsound self.old.faults) (unsound self.new.faults) result }
+        // All changes in one transaction, or none; before a load none.
+        ensures made { CommitsOver over_files changes.now self.old.conn self.new.conn result }
+    {
         self.commits = self.commits.saturating_add(1);
-        match self.make(changes) {
-            Ok(()) => Ok(()),
-            Err(trouble) => Err(self.trouble(trouble)),
-        }
+        self.make(changes)
     }
 
     fn faults(&self) -> u64 {

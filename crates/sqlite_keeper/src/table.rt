@@ -1,5 +1,13 @@
-ghost use Rattle.std.specs.Prelude.{IsTrue, IfOk};
+ghost use Rattle.std.specs.Prelude.{◌≡◌, false, IsTrue, IfOk, OnOk, map, take};
 ghost use Rattle.keeper.specs.Order.{rising};
+ghost use Rattle.desk_io.specs.declared.rows.Change.TheVariants.{Put, Remove};
+ghost use Rattle.sqlite.specs.Held.{state};
+ghost use Rattle.sqlite.specs.State.{Survives};
+ghost use Rattle.sqlite.specs.Values.{bound};
+ghost use Rattle.sqlite.specs.Order.{column};
+ghost use Rattle.sqlite.specs.declared.types.Value.TheVariants.{Text as SqlText};
+ghost use Rattle.sqlite_keeper.specs.Statements.{columns, line_of};
+ghost use Rattle.sqlite_keeper.specs.Transactions.{IsClean, IsRun, Makes, MakesEach, Changes, IsAfter, ShowsAll, HasTable};
 
 use crate::trouble::Trouble;
 use desk_io::{Change, Row, Text};
@@ -22,7 +30,9 @@ const PUT: &str =
 
 const REMOVE: &str = "DELETE FROM kept WHERE kind = ?1 AND key = ?2";
 
-fn is_text(line: &Line, text: &str) -> bool {
+fn is_text(line: &Line, text: &str) -> bool
+    ensures { IsTrue result → column line.now 0 ≡ SqlText text.now }
+{
     match line.get_ref(0) {
         Ok(ValueRef::Text(bytes)) => bytes == text.as_bytes(),
         _ => false,
@@ -30,7 +40,10 @@ fn is_text(line: &Line, text: &str) -> bool {
 }
 
 /// Makes the table where nothing has its name. Whatever else has it isn't the desk's.
-pub fn make_table<S: Alter>(conn: &mut Connection<S>) -> Result<(), Trouble> {
+pub fn make_table<S: Alter>(conn: &mut Connection<S>) -> Result<(), Trouble>
+    ensures has { IsClean S.Store conn.new → OnOk result (HasTable S.Store conn.old conn.new) }
+    ensures clean { IsClean S.Store conn.new → IsClean S.Store conn.old }
+{
     let found = conn.query_all(TEXT_OF_TABLE, &[])?;
     match found.as_slice() {
         [] => {
@@ -42,7 +55,9 @@ pub fn make_table<S: Alter>(conn: &mut Connection<S>) -> Result<(), Trouble> {
     }
 }
 
-fn row_of(alloc: Global, line: &Line) -> Result<Row, Trouble> {
+fn row_of(alloc: Global, line: &Line) -> Result<Row, Trouble>
+    ensures { IfOk result (λ row. line_of row ≡ columns line.now) }
+{
     let kind: u32 = line.get(0)?;
     let key: u64 = line.get(1)?;
     let (Ok(kind), ValueRef::Text(body)) = (u8::try_from(kind), line.get_ref(2)?) else {
@@ -55,24 +70,25 @@ fn row_of(alloc: Global, line: &Line) -> Result<Row, Trouble> {
     Ok(Row { kind, key, body })
 }
 
-fn rows_in<S: Alter>(alloc: Global, conn: &mut Connection<S>) -> Result<Vec<Row>, Trouble> {
-    let mut found = Vec::new(alloc);
-    let mut lines = conn.query(ALL, &[])?;
-    'lines: for _ in 0..u64::MAX {
-        let Some(line) = lines.next()? else {
-            return Ok(found);
-        };
+fn rows_of(alloc: Global, lines: &[Line]) -> Result<Vec<Row>, Trouble>
+    ensures { IfOk result (λ rows. map columns lines.now ≡ map line_of rows.items) }
+{
+    let mut rows = Vec::new(alloc);
+    for line in lines {
         let row = row_of(alloc, line)?;
-        found.push(row)?;
+        rows.push(row)?;
     }
-    Ok(found)
+    Ok(rows)
 }
 
 /// All rows of the table, in order of kind and then of key.
 pub fn all_rows<S: Alter>(alloc: Global, conn: &mut Connection<S>) -> Result<Vec<Row>, Trouble>
-    ensures { IfOk result (λ rows. IsTrue (rising rows.items)) }
+    ensures rising { IfOk result (λ rows. IsTrue (rising rows.items)) }
+    ensures shown { IfOk result (λ rows. IsClean S.Store conn.new → ShowsAll S.Store conn.old conn.new rows.items) }
+    ensures clean { IsClean S.Store conn.new → IsClean S.Store conn.old }
 {
-    let rows = rows_in(alloc, conn)?;
+    let lines = conn.query_all(ALL, &[])?;
+    let rows = rows_of(alloc, &lines)?;
     if is_rising(&rows) {
         Ok(rows)
     } else {
@@ -80,39 +96,82 @@ pub fn all_rows<S: Alter>(alloc: Global, conn: &mut Connection<S>) -> Result<Vec
     }
 }
 
-fn put<S: Alter>(changing: &mut Transaction<'_, S>, row: &Row) -> Result<(), Trouble> {
+// Executes a statement inside a transaction.
+fn run<S: Alter>(
+    changing: &mut Transaction<'_, S>,
+    text: &str,
+    values: &[ValueRef<'_>],
+) -> Result<(), Trouble>
+    ensures same_reference { changing.new.conn.ghost_name ≡ changing.old.conn.ghost_name }
+    ensures ran { IsClean S.Store changing.new.conn.now → IsTrue changing.old.conn.now.in_transaction
+        → IsRun S.Store text.now (bound values.now) changing.old.conn.now changing.new.conn.now result }
+    ensures survives { Survives (state S.Store changing.old.conn.now) (state S.Store changing.new.conn.now) (λ _. ⊥) }
+{
+    match changing.execute(text, values) {
+        Ok(_) => Ok(()),
+        Err(error) => Err(Trouble::from(error)),
+    }
+}
+
+fn put<S: Alter>(changing: &mut Transaction<'_, S>, row: &Row) -> Result<(), Trouble>
+    ensures same_reference { changing.new.conn.ghost_name ≡ changing.old.conn.ghost_name }
+    ensures made { IsClean S.Store changing.new.conn.now → IsTrue changing.old.conn.now.in_transaction
+        → Makes S.Store (Put row.now) changing.old.conn.now changing.new.conn.now result }
+    ensures survives { Survives (state S.Store changing.old.conn.now) (state S.Store changing.new.conn.now) (λ _. ⊥) }
+{
     let (Ok(key), Ok(body)) = (i64::try_from(row.key), str::from_utf8(row.body.bytes())) else {
         return Err(Trouble::Refused);
     };
-    changing.execute(PUT, params![u32::from(row.kind), key, body])?;
-    Ok(())
+    run(changing, PUT, params![u32::from(row.kind), key, body])
 }
 
-fn remove<S: Alter>(changing: &mut Transaction<'_, S>, kind: u8, key: u64) -> Result<(), Trouble> {
+fn remove<S: Alter>(changing: &mut Transaction<'_, S>, kind: u8, key: u64) -> Result<(), Trouble>
+    ensures same_reference { changing.new.conn.ghost_name ≡ changing.old.conn.ghost_name }
+    ensures made { IsClean S.Store changing.new.conn.now → IsTrue changing.old.conn.now.in_transaction
+        → Makes S.Store (Remove kind key) changing.old.conn.now changing.new.conn.now result }
+    ensures survives { Survives (state S.Store changing.old.conn.now) (state S.Store changing.new.conn.now) (λ _. ⊥) }
+{
     let Ok(key) = i64::try_from(key) else {
         return Err(Trouble::Refused);
     };
-    changing.execute(REMOVE, params![u32::from(kind), key])?;
-    Ok(())
+    run(changing, REMOVE, params![u32::from(kind), key])
 }
 
-fn make<S: Alter>(changing: &mut Transaction<'_, S>, change: &Change) -> Result<(), Trouble> {
+fn make<S: Alter>(changing: &mut Transaction<'_, S>, change: &Change) -> Result<(), Trouble>
+    ensures same_reference { changing.new.conn.ghost_name ≡ changing.old.conn.ghost_name }
+    ensures made { IsClean S.Store changing.new.conn.now → IsTrue changing.old.conn.now.in_transaction
+        → Makes S.Store change.now changing.old.conn.now changing.new.conn.now result }
+    ensures survives { Survives (state S.Store changing.old.conn.now) (state S.Store changing.new.conn.now) (λ _. ⊥) }
+{
     match change {
         Change::Put(row) => put(changing, row),
         Change::Remove { kind, key } => remove(changing, *kind, *key),
     }
 }
 
+fn make_each<S: Alter>(changing: &mut Transaction<'_, S>, changes: &[Change]) -> Result<(), Trouble>
+    ensures same_reference { changing.new.conn.ghost_name ≡ changing.old.conn.ghost_name }
+    ensures made { IsClean S.Store changing.new.conn.now → IsTrue changing.old.conn.now.in_transaction
+        → MakesEach S.Store changes.now changing.old.conn.now changing.new.conn.now result }
+    ensures survives { Survives (state S.Store changing.old.conn.now) (state S.Store changing.new.conn.now) (λ _. ⊥) }
+{
+    for change in changes {
+        make(changing, change)?;
+    }
+    Ok(())
+}
+
 /// Makes all changes in one transaction, each in its turn. Where one can't be made the transaction is
 /// dropped, which takes back those before it.
-pub fn make_all<S: Alter>(conn: &mut Connection<S>, changes: &[Change]) -> Result<(), Trouble> {
+pub fn make_all<S: Alter>(conn: &mut Connection<S>, changes: &[Change]) -> Result<(), Trouble>
+    ensures made { IsClean S.Store conn.new → Changes S.Store changes.now conn.old conn.new result }
+    ensures crash { Survives (state S.Store conn.old) (state S.Store conn.new) (IsAfter S.Store changes.now conn.old) }
+{
     if !conn.is_autocommit() {
         return Err(Trouble::Lost);
     }
     let mut changing = conn.transaction();
-    for change in changes {
-        make(&mut changing, change)?;
-    }
+    make_each(&mut changing, changes)?;
     changing.commit()?;
     Ok(())
 }

@@ -1,3 +1,7 @@
+ghost use Rattle.std.specs.Prelude.{◌≡◌};
+ghost use Rattle.sqlite_keeper.specs.Troubles as spec;
+ghost use Rattle.sqlite_keeper.specs.declared.trouble.Trouble.TheVariants.{OutOfMemory as Memory};
+
 use desk_io::OutOfMemory;
 use sqlite::{Error, ErrorCode};
 use sqlite_resolve::CompileError;
@@ -16,7 +20,9 @@ pub enum Trouble {
 }
 
 // The three ways in which the engine says that memory ran out.
-fn is_memory(error: Error) -> bool {
+fn is_memory(error: Error) -> bool
+    ensures { result ≡ spec.is_memory error }
+{
     matches!(
         error,
         Error::SqliteFailure(ErrorCode::OutOfMemory)
@@ -26,6 +32,8 @@ fn is_memory(error: Error) -> bool {
 }
 
 impl From<Error> for Trouble {
+    ghost from_gives = { λ error trouble. trouble ≡ spec.trouble_of error };
+
     fn from(error: Error) -> Self {
         if is_memory(error) {
             Trouble::OutOfMemory
@@ -36,12 +44,16 @@ impl From<Error> for Trouble {
 }
 
 impl From<OutOfMemory> for Trouble {
+    ghost from_gives = { λ _ trouble. trouble ≡ Memory };
+
     fn from(_: OutOfMemory) -> Self {
         Trouble::OutOfMemory
     }
 }
 
 impl<T: Drop> From<AllocFailed<T>> for Trouble {
+    ghost from_gives = { λ _ trouble. trouble ≡ Memory };
+
     fn from(_: AllocFailed<T>) -> Self {
         Trouble::OutOfMemory
     }
