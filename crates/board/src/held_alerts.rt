@@ -38,7 +38,7 @@ fn insert_reserved(alerts: &mut Vec<Alert>, place: usize, alert: Alert)
 }
 
 // Puts the alert of a release in its place, or takes it out. It takes no memory.
-#[tactic(auto, using(keeper::proofs::Places::replaced))]
+#[tactic(auto, using(crate::proofs::Places::replaced))]
 fn put_alert(alerts: &mut Vec<Alert>, release: u64, alert: Option<Alert>)
     requires { vec_len alerts.old < vec_capacity alerts.old }
     ensures items { alerts.new.items ≡ spec.put_alert release alert alerts.old.items }

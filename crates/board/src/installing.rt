@@ -21,7 +21,7 @@ use facts::{Report, Reports};
 use plan::Release;
 
 // Puts a release in the place of the first of its id.
-#[tactic(auto, using(keeper::proofs::Places::replaced))]
+#[tactic(auto, using(crate::proofs::Places::replaced))]
 fn put_release(releases: &mut Vec<Release>, release: Release)
     ensures { releases.new.items ≡ events.put_release release releases.old.items }
 {
