@@ -1,6 +1,6 @@
 -- The rows that a desk is opened over.
-use Rattle.std.proofs.Common.{◌≡◌, ℕ, List, [], ◌∷◌, map, Option, None, Some, refl, ap, sym, ◌∙◌}
-use Rattle.std.specs.Prelude.{IsTrue, Result, Ok, Err, IfOk, OnOk, MatchResult}
+use Rattle.std.proofs.Common.{◌≡◌, ℕ, List, [], ◌∷◌, map, Option, None, Some, refl, ap, sym, ◌∙◌, ◌⊎◌, inl, inr}
+use Rattle.std.specs.Prelude.{IsTrue, Result, Ok, Err, IfErr, IfOk, OnErr, OnOk, MatchResult}
 use Rattle.board.specs.Prepare.{Shown, shown}
 use Rattle.desk_io.specs.Rows.{Rows, rows_of, changed_by}
 use Rattle.desk_io.specs.declared.rows.Change.{Change}
@@ -16,7 +16,7 @@ use Rattle.kept_state.specs.Held.{AreOfDesk, state_in}
 use Rattle.kept_state.proofs.SameRows.{rise_as}
 use Rattle.desk.proofs.Steps.{same_kept, still_keeps}
 use Rattle.desk.specs.Keeping.{KeepsState}
-use Rattle.desk.specs.Opening.{AreLoaded, AreAsked, commits_for, commits_where, commits_to_open}
+use Rattle.desk.specs.Opening.{AreLoaded, AreAsked, MayHaveAsked, commits_for, commits_where, commits_to_open}
 use Rattle.kept_state.specs.Judged.{judged_changes}
 use Rattle.desk_state.specs.Effects.{nothing}
 use Rattle.desk_state.specs.Events.{alert_changes}
@@ -66,11 +66,20 @@ asked_for s [] n = refl
 asked_for s (c ∷ cs) n = refl
 
 -- what restoring changed asks for a commit where an alert changed
+asks_to_open : (tables : TableRows) (records : List Record) (changes : List Change) (before now : ℕ) → now ≡ commits_for changes before
+    → changes ≡ judged_changes (state_in tables records) (alert_changes nothing (state_in tables records)) → now ≡ commits_to_open tables records before
+asks_to_open tables records changes before now asked are =
+    let s : State = state_in tables records in asked ∙ ap (λ cs. commits_for cs before) are ∙ asked_for s (alert_changes nothing s) before
+
 pub restored_asks : {T E : Type 0} (result : Result T E) (tables : TableRows) (records : List Record) (changes : List Change) (before now : ℕ) → now ≡ commits_for changes before
     → changes ≡ judged_changes (state_in tables records) (alert_changes nothing (state_in tables records)) → IfOk result (λ b. now ≡ commits_to_open tables records before)
-restored_asks (Ok b) tables records changes before now asked are =
-    let s : State = state_in tables records in asked ∙ ap (λ cs. commits_for cs before) are ∙ asked_for s (alert_changes nothing s) before
+restored_asks (Ok b) tables records changes before now asked are = asks_to_open tables records changes before now asked are
 restored_asks (Err e) tables records changes before now asked are = tt
+
+pub restored_failed : {T E : Type 0} (result : Result T E) (tables : TableRows) (records : List Record) (changes : List Change) (before now : ℕ) → now ≡ commits_for changes before
+    → changes ≡ judged_changes (state_in tables records) (alert_changes nothing (state_in tables records)) → OnErr result ((now ≡ before) ⊎ (now ≡ commits_to_open tables records before))
+restored_failed (Ok b) tables records changes before now asked are = tt
+restored_failed (Err e) tables records changes before now asked are = inr (asks_to_open tables records changes before now asked are)
 
 -- the same of the records that were loaded
 pub opened_asks : {T E : Type 0} (count : T → ℕ) (result : Result T E) (told : Option Rows) (tables : TableRows) (records : List Record) (before middle : ℕ) → AreLoaded told records → middle ≡ before
@@ -78,3 +87,10 @@ pub opened_asks : {T E : Type 0} (count : T → ℕ) (result : Result T E) (told
 opened_asks count (Ok d) told tables records before middle loaded none asked =
     record { records = records; loaded = loaded; asked = asked ∙ ap (commits_to_open tables records) none }
 opened_asks count (Err e) told tables records before middle loaded none asked = tt
+
+pub opened_failed : {T E : Type 0} (count : E → ℕ) (result : Result T E) (told : Option Rows) (tables : TableRows) (records : List Record) (before middle : ℕ) → AreLoaded told records → middle ≡ before
+    → IfErr result (λ f. (count f ≡ middle) ⊎ (count f ≡ commits_to_open tables records middle)) → IfErr result (λ f. MayHaveAsked told tables before (count f))
+opened_failed count (Ok d) told tables records before middle loaded none asked = tt
+opened_failed count (Err f) told tables records before middle loaded none (inl same) = inl (same ∙ none)
+opened_failed count (Err f) told tables records before middle loaded none (inr asked) =
+    inr (record { records = records; loaded = loaded; asked = asked ∙ ap (commits_to_open tables records) none })

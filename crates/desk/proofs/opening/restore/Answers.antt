@@ -1,4 +1,4 @@
-use Rattle.desk.proofs.Opened.{restored_keeps, restored_asks}
+use Rattle.desk.proofs.Opened.{restored_keeps, restored_asks, restored_failed}
 use Rattle.desk.proofs.opening.restore.Goals as goal
 
 pub returns-clause-kept : goal.returns-clause-kept
@@ -7,3 +7,6 @@ returns-clause-kept g c =
 
 pub returns-clause-asked : goal.returns-clause-asked
 returns-clause-asked g c = restored_asks _ _ _ _ _ _ c.finish.ensures.asked c.in_ok-restored.ensures.changes
+
+pub returns-clause-failed : goal.returns-clause-failed
+returns-clause-failed g c = restored_failed _ _ _ _ _ _ c.finish.ensures.asked c.in_ok-restored.ensures.changes
