@@ -19,7 +19,7 @@ use Rattle.commands.specs.Faults.{Gives, Outcome}
 use Rattle.commands.specs.Seen.{Service, lent as lent_over}
 use Rattle.commands.specs.Working.{Opens, Runs, Serves}
 use Rattle.commands.specs.declared.fault.Fault.TheVariants.{OutOfMemory}
-use Rattle.commands.specs.declared.working.Said.{Said}
+use Rattle.commands.specs.declared.working.Ended.{Ended}
 
 -- a run that counts from before
 run_lower : (less before after : ℕ) (s : State) (script : List ℕ) (t : State) (text : List ℕ) → less ≤ before → IsRun before after s script t text → IsRun less after s script t text
@@ -77,7 +77,7 @@ module _ {K : Type 0} (seen : K → KeeperSeen) (tables : TableRows) (Works : Ov
       )
 
   -- what is given back is the desk on which the work was done
-  pub worked : (desk done : Desk K) (answer : Outcome) (said : Said K) → said.answer ≡ answer → said.board ≡ Some done.board → said.keeper ≡ done.keeper
+  pub worked : (desk done : Desk K) (answer : Outcome) (said : Ended K) → said.answer ≡ answer → said.board ≡ Some done.board → said.keeper ≡ done.keeper
       → IsOpened (seen lent).rows tables desk.board → KeeperGoesOn (seen lent) (seen desk.keeper) → KeepsState (seen desk.keeper).rows desk.board.state
       → DeskGoesOn (desk_seen seen desk) (desk_seen seen done) → Works (over (desk_at seen) desk done) answer → IsBoard done.board.opening done.board.state
       → Opens tables Works (lent_over seen lent said.keeper) said.board said.answer

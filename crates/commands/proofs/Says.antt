@@ -122,15 +122,15 @@ module _ (of : Charges) where
   end_tells ends.OutOfMemory s answer says clock door = subst (TellsBy of) (sym says) tt
 
 pub is_formed : (command : Option (Task × List ℕ)) → IsSome command → command ≡ None → ⊥
-is_formed None formed is = formed
+is_formed None formed is = absurd (cc)
 is_formed (Some command) formed is = absurd (cc)
 
 -- why serving ended
 door_failed : {L : Type 0} (door clock : Type 0) (most : ℕ) (vs : List (Visit L)) (end : ServeEnd) → EndsServing door clock most vs end → end ≡ ends.DoorFault → door
-door_failed {L} door clock most vs end how is = (subst (EndsServing {L} door clock most vs) is how).0
+door_failed {L} door clock most vs end how is = (subst (EndsServing {L = L} door clock most vs) is how).0
 
 clock_failed : {L : Type 0} (door clock : Type 0) (most : ℕ) (vs : List (Visit L)) (end : ServeEnd) → EndsServing door clock most vs end → end ≡ ends.ClockFault → clock
-clock_failed {L} door clock most vs end how is = (subst (EndsServing {L} door clock most vs) is how).0
+clock_failed {L} door clock most vs end how is = (subst (EndsServing {L = L} door clock most vs) is how).0
 
 ok_any : {P : Type 0} (answer : Outcome) → P → IfOk answer (λ text. P)
 ok_any (Ok text) holds = holds

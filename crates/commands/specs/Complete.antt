@@ -30,7 +30,7 @@ AreShort sources names = All (λ name. IsTooLong sources name → ⊥) names
 
 -- no row that a keeper tells is bad, and no two are
 abbrev pub AreFaultless : Option Rows → Type 0
-AreFaultless told = (fault : RowsFault) → fault ≢ fault.OutOfMemory → OnLoaded told (λ rows. IsFaultOf rows fault) → ⊥
+AreFaultless told = (why : RowsFault) → why ≢ fault.OutOfMemory → OnLoaded told (λ rows. IsFaultOf rows why) → ⊥
 
 -- The words form a command, and all that it reads is valid: the tables, its sources, the rows.
 pub record IsValid (shelf : ShelfSeen) (rows : Option Rows) (command : Option (Task × List ℕ)) : Type 0 where
