@@ -1,21 +1,22 @@
 ghost use Rattle.std.specs.Prelude.{◌≡◌, ◌<◌, ◌≤◌, IfOk, IfSome};
 ghost use Rattle.call_json.specs.Forms.{CallHasForms};
 
-use crate::texts::{AFTERNOON, CANCELLATION, STOPPED, WATCHED};
+use crate::texts::{AFTERNOON, CANCELLED, STOPPED, WATCHED};
 use alerts::{Notice, NoticeKind, Notices};
 use asks::Call;
 use board::Board;
-use desk_io::{LineFeeds, OutOfMemory, push_all, runs_between};
+use desk_io::{LineFeeds, OutOfMemory, runs_between};
 use desk_json::{CallFault, read_line};
 use desk_state::{Entry, What};
 use desk_time::{LAST, Minute};
 use ops_tables::Tables;
 use rules::Steps;
-use small_airline::small_tables;
+use small_airline::{SIGNED, script_of, small_tables};
 use std::alloc::Global;
 use std::marker::Brand;
 use std::sync::ledger::{Blank, Ledger};
 use std::test::Fail;
+use table_files::TableFault;
 
 // What was told of an alert as a letter: opened, changed, or X for closed.
 fn letter(notice: &Notice) -> u8 {
@@ -109,30 +110,14 @@ fn push_entries(board: &Board, entries: &mut Vec<u8>) -> Result<(), OutOfMemory>
     Ok(())
 }
 
-// What is seen of a board after a script.
-#[derive(Drop)]
-struct Seen {
-    // What was told of alerts, line by line.
-    told: Vec<u8>,
-    // The entries of the history.
-    entries: Vec<u8>,
-    // Whether release 1 has an alert.
-    is_alerted: bool,
-    // Whether release 1 is there, and no other and no other alert.
-    is_alone: bool,
-}
-
-fn is_alone(board: &Board) -> bool {
-    board.release(1).is_some() && board.release(2).is_none() && board.alert(2).is_none()
-}
-
-// Plays a script, and shows what is seen of the board then.
+// Plays a script. What is told of alerts and the entries of the history are added.
 fn play<L: Ledger>(
     alloc: Global,
     tables: Tables,
     script: &[u8],
     blank: Blank,
-    seen: &mut Seen,
+    told: &mut Vec<u8>,
+    entries: &mut Vec<u8>,
 ) -> Result<(), OutOfMemory>
     requires name { blank.name ≡ L.name }
     requires parts { blank.parts ≡ L.parts }
@@ -140,69 +125,56 @@ fn play<L: Ledger>(
 {
     let mut steps = Steps::<L>::new(blank);
     let mut board = Board::new(alloc, tables);
-    let made = make_all(alloc, &mut board, script, &mut steps, &mut seen.told);
-    let shown = push_entries(&board, &mut seen.entries);
-    seen.is_alerted = board.alert(1).is_some();
-    seen.is_alone = is_alone(&board);
+    let made = make_all(alloc, &mut board, script, &mut steps, told);
+    let shown = push_entries(&board, entries);
     made.and(shown)
 }
 
-// Two texts, one after the other.
-fn joined(alloc: Global, script: &[u8], more: &[u8]) -> Result<Vec<u8>, OutOfMemory> {
-    let mut whole = Vec::new(alloc);
-    push_all(&mut whole, &[script, more])?;
-    Ok(whole)
-}
-
-// What is seen after a script over these tables.
-fn seen_after(alloc: Global, tables: Tables, script: &[u8]) -> Result<Seen, OutOfMemory> {
-    let mut seen = Seen {
-        told: Vec::new(alloc),
-        entries: Vec::new(alloc),
-        is_alerted: false,
-        is_alone: false,
-    };
-    play::<Brand>(alloc, tables, script, Blank::new(1), &mut seen)?;
-    Ok(seen)
-}
-
-// A tick for each moment and a call for each line, but none for the view: 7 ticks and 9 calls.
-#[test]
-fn the_history_has_ticks_and_calls(rt: HostRuntime) -> Result<(), Fail> {
-    let alloc = rt.alloc();
+// What is told of alerts at each line of a script in two parts over the small airline, and the entries of the history.
+fn seen_after(alloc: Global, lines: &str, more: &str) -> Result<(Vec<u8>, Vec<u8>), TableFault> {
+    let script = script_of(alloc, lines, more)?;
     let tables = small_tables(alloc)?;
-    let seen = seen_after(alloc, tables, AFTERNOON)?;
-    assert!(rt; seen.entries.as_slice() == b"TCCCTCCTCTKTCTTC".as_slice());
-    assert!(rt; seen.is_alerted && seen.is_alone);
-    Ok(())
+    let mut told = Vec::new(alloc);
+    let mut entries = Vec::new(alloc);
+    play::<Brand>(
+        alloc,
+        tables,
+        &script,
+        Blank::new(1),
+        &mut told,
+        &mut entries,
+    )?;
+    Ok((told, entries))
 }
 
-// Whether this is told of alerts at each line of a script, and an alert is open after it.
-fn is_told(
-    alloc: Global,
-    tables: Tables,
-    script: &[u8],
-    wanted: &[u8],
-    is_open: bool,
-) -> Result<bool, OutOfMemory> {
-    let seen = seen_after(alloc, tables, script)?;
-    Ok(seen.told.as_slice() == wanted && seen.is_alerted == is_open)
-}
-
+// The history has a tick for each moment and a call for each line, but none for the view: 7 ticks and 9 calls.
 // An alert is told when it opens and when it changes, by a tick too. It is closed by a concurrence, a cancellation or
 // the last arrival. An acknowledgement tells nothing.
 #[test]
-fn notices_follow_the_alert(rt: HostRuntime) -> Result<(), Fail> {
-    let alloc = rt.alloc();
-    for (script, more, wanted, is_open) in [
-        (AFTERNOON, b"".as_slice(), b".......O.C".as_slice(), true),
-        (AFTERNOON, CANCELLATION, b".......O.CX", false),
-        (WATCHED, b"", b"........OC....XO..CX", false),
-        (STOPPED, b"", b"..........O", true),
+fn notices_follow_the_alert_and_the_history_has_ticks_and_calls(
+    rt: HostRuntime,
+) -> Result<(), Fail> {
+    for (lines, more, wanted, entered) in [
+        (
+            SIGNED,
+            AFTERNOON,
+            b".......O.C".as_slice(),
+            b"TCCCTCCTCTKTCTTC".as_slice(),
+        ),
+        (SIGNED, CANCELLED, b".......O.CX", b"TCCCTCCTCTKTCTTCTC"),
+        (
+            SIGNED,
+            WATCHED,
+            b"........OC....XO..CX",
+            b"TCCCTCCTCTKTCTCTCTCTCTCTCTCTCTTTTC",
+        ),
+        (STOPPED, "", b"..........O", b"TCCCTCCTCTKTCTCTT"),
     ] {
-        let whole = joined(alloc, script, more)?;
-        let tables = small_tables(alloc)?;
-        assert!(rt; is_told(alloc, tables, &whole, wanted, is_open)?);
+        let (told, entries) = seen_after(rt.alloc(), lines, more)?;
+        assert!(rt;
+            told.as_slice() == wanted && entries.as_slice() == entered,
+            "{more}"
+        );
     }
     Ok(())
 }

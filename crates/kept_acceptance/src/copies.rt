@@ -1,35 +1,22 @@
-use crate::lines::rows_in;
-use crate::rows::{ALERT, DEFERRAL, DRAFTED, KEPT, META, READY, REPORT};
 use alerts::Alert;
 use asks::{Done, Refusal, Reply};
 use codes::ReportFault;
-use desk_io::{Copied, LineFeeds, OutOfMemory, Row, Text, runs_between};
+use desk_io::{Copied, LineFeeds, OutOfMemory, Text, runs_between};
 use desk_json::{CallFault, read_line};
-use facts::{Report, read_report};
 use plan::{Finding, Findings, Rule};
-use records::{Record, RowFault, read_row};
+use records::Record;
+use small_airline::{SIGNED, reports_of, script_of};
 use std::alloc::Global;
 use std::fmt::Debug;
 use std::test::Fail;
-
-// The life of a release until both have signed it.
-const SIGNED: &[u8] =
-    br#"{"actor":"F1","ask":{"do":"admit","text":"TAF KBOS 121720Z 1218/1324 24010KT P6SM SCT040"},"at":"2025-03-12T17:25Z","key":"kF1","number":1}
-{"actor":"F1","ask":{"do":"admit","text":"TAF KJFK 121720Z 1218/1324 24010KT P6SM BKN030"},"at":"2025-03-12T17:25Z","key":"kF1","number":2}
-{"actor":"F1","ask":{"do":"admit","text":"TAF KPHL 121720Z 1218/1324 24010KT P6SM BKN030"},"at":"2025-03-12T17:25Z","key":"kF1","number":3}
-{"actor":"D1","ask":{"do":"draft","plan":{"captain":"C7","flight":"DK101","kind":"domestic","legs":[{"alternates":[{"fuel":3000,"minutes":35,"station":"KPHL"}],"burn":12000,"eta":"2025-03-12T19:00Z","etd":"2025-03-12T18:00Z","extra":0,"from":"KBOS","minimum":19500,"minutes":55,"onboard":20000,"takeoff_alternate":null,"to":"KJFK"}],"tail":"N801DK"}},"at":"2025-03-12T17:30Z","key":"kD1","number":1}
-{"actor":"D1","ask":{"do":"prepare","release":1},"at":"2025-03-12T17:31Z","key":"kD1","number":2}
-{"actor":"D1","ask":{"digest":"93552bd08bcf733af54f012ef3711733ecf23ec2726678302a0dba7d4b038410","do":"sign","release":1,"revision":1},"at":"2025-03-12T17:32Z","key":"kD1","number":3}
-{"actor":"C7","ask":{"digest":"93552bd08bcf733af54f012ef3711733ecf23ec2726678302a0dba7d4b038410","do":"concur","release":1,"revision":1},"at":"2025-03-12T17:41Z","key":"kC7","number":1}
-"#;
 
 fn is_copied<T: Copied + Debug + Drop>(alloc: Global, value: &T) -> Result<bool, OutOfMemory> {
     let copy = value.copy(alloc)?;
     Ok(format!(in alloc; "{value:?}")? == format!(in alloc; "{copy:?}")?)
 }
 
-// A deferral, a release and what is kept of a command; of the others a part is copied.
-fn is_record_copied(alloc: Global, record: &Record) -> Result<bool, OutOfMemory> {
+/// Whether a deferral, a release or what is kept of a command is copied as it is, or a part of another record.
+pub fn is_record_copied(alloc: Global, record: &Record) -> Result<bool, OutOfMemory> {
     match record {
         Record::Deferral(deferral) => is_copied(alloc, deferral),
         Record::Release(release) => is_copied(alloc, release),
@@ -38,32 +25,6 @@ fn is_record_copied(alloc: Global, record: &Record) -> Result<bool, OutOfMemory>
         Record::Report(report) => is_copied(alloc, &report.text),
         Record::Alert(alert) => is_copied(alloc, &alert.ever),
     }
-}
-
-fn is_row_copied(alloc: Global, row: &Row) -> Result<bool, OutOfMemory> {
-    match read_row(alloc, row) {
-        Ok(record) => is_record_copied(alloc, &record),
-        Err(RowFault::OutOfMemory) => Err(OutOfMemory),
-        Err(RowFault::NotCanonical) => Ok(false),
-    }
-}
-
-// Whether what the row of a line says is copied as it is.
-fn is_line_of_row_copied(alloc: Global, line: &str) -> Result<bool, OutOfMemory> {
-    match rows_in(alloc, line)?.as_slice() {
-        [row] => is_row_copied(alloc, row),
-        _ => Ok(false),
-    }
-}
-
-// A row of each kind, and a release that is drafted and one that is ready.
-fn rows_copied(alloc: Global) -> Result<bool, OutOfMemory> {
-    for line in &[META, REPORT, DEFERRAL, DRAFTED, READY, KEPT, ALERT] {
-        if !is_line_of_row_copied(alloc, line)? {
-            return Ok(false);
-        }
-    }
-    Ok(true)
 }
 
 // The call of a line, if it is one.
@@ -97,20 +58,11 @@ fn replies_copied(alloc: Global) -> Result<bool, OutOfMemory> {
     )
 }
 
-fn report_copied(alloc: Global) -> Result<bool, OutOfMemory> {
-    let text = Text::of(alloc, b"METAR KJFK 121651Z 24008KT 10SM FEW250")?;
-    match read_report(alloc, text.bytes(), 29_029_500) {
-        Ok(read) => is_copied(
-            alloc,
-            &Report {
-                id: 1,
-                received: 29_029_500,
-                text,
-                read,
-            },
-        ),
-        Err(ReportFault::OutOfMemory) => Err(OutOfMemory),
-        Err(ReportFault::Bad(_)) => Ok(false),
+fn report_copied(alloc: Global) -> Result<bool, ReportFault> {
+    let reports = reports_of(alloc, &[(1, b"METAR KJFK 121651Z 24008KT 10SM FEW250")])?;
+    match reports.as_slice() {
+        [report] => Ok(is_copied(alloc, report)?),
+        _ => Ok(false),
     }
 }
 
@@ -136,8 +88,8 @@ fn alert_copied(alloc: Global) -> Result<bool, OutOfMemory> {
 #[test]
 fn copies_equal(rt: HostRuntime) -> Result<(), Fail> {
     let alloc = rt.alloc();
-    assert!(rt; rows_copied(alloc)?);
-    assert!(rt; calls_copied(alloc, SIGNED)?);
+    let script = script_of(alloc, SIGNED, "")?;
+    assert!(rt; calls_copied(alloc, &script)?);
     assert!(rt; replies_copied(alloc)?);
     assert!(rt; report_copied(alloc)?);
     assert!(rt; alert_copied(alloc)?);

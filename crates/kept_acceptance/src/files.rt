@@ -58,59 +58,44 @@ fn rows_in_a_file_are_found_by_the_next_keeper(rt: HostRuntime) -> Result<(), Fa
 }
 
 // Whether a commit before a load and one of a row that can't stand in the file fail, and change nothing.
-fn refuses(rt: HostRuntime, keeper: &mut SqliteKeeper) -> Result<bool, KeepFault> {
+fn refuses(rt: HostRuntime, name: &str) -> Result<bool, KeepFault> {
     let alloc = rt.alloc();
-    if commit(alloc, keeper, "1 4 four\n") != Err(KeepFault::Failed) || keeper.faults() != 1 {
-        return Ok(false);
-    }
-    if !gives(alloc, keeper, "")? {
-        return Ok(false);
-    }
-    let past = commit(alloc, keeper, "1 4 four\n1 9223372036854775808 past\n");
-    Ok(past == Err(KeepFault::Failed) && gives(alloc, keeper, "")? && keeper.faults() == 2)
-}
-
-fn refuses_at(rt: HostRuntime, name: &str) -> Result<bool, KeepFault> {
     let mut keeper = keeper_at(rt, name)?;
-    refuses(rt, &mut keeper)
+    let early = commit(alloc, &mut keeper, "1 4 four\n");
+    if early != Err(KeepFault::Failed) || keeper.faults() != 1 || !gives(alloc, &mut keeper, "")? {
+        return Ok(false);
+    }
+    let past = commit(alloc, &mut keeper, "1 4 four\n1 9223372036854775808 past\n");
+    Ok(past == Err(KeepFault::Failed) && gives(alloc, &mut keeper, "")? && keeper.faults() == 2)
 }
 
 #[test]
 fn commits_that_cant_be_made_are_counted(rt: HostRuntime) -> Result<(), Fail> {
     let name = "kept_acceptance_refused";
     clear(rt, name)?;
-    assert!(rt; refuses_at(rt, name)?);
+    assert!(rt; refuses(rt, name)?);
     assert!(rt; leads(rt, name, "", "1 4 four\n", "1 4 four\n")?);
     clear(rt, name)?;
     Ok(())
 }
 
 // Whether a second keeper can't load the file of one that holds it, which goes on.
-fn is_shut_out(
-    rt: HostRuntime,
-    first: &mut SqliteKeeper,
-    second: &mut SqliteKeeper,
-) -> Result<bool, KeepFault> {
+fn is_shut_out(rt: HostRuntime, name: &str) -> Result<bool, KeepFault> {
     let alloc = rt.alloc();
-    if !gives(alloc, first, "")? {
+    let mut first = keeper_at(rt, name)?;
+    if !gives(alloc, &mut first, "")? {
         return Ok(false);
     }
-    let shut = gives(alloc, second, "") == Err(KeepFault::Failed) && second.faults() == 1;
-    commit(alloc, first, "1 4 four\n")?;
-    Ok(shut && gives(alloc, first, "1 4 four\n")? && first.faults() == 0)
-}
-
-fn are_apart(rt: HostRuntime, name: &str) -> Result<bool, KeepFault> {
-    let mut first = keeper_at(rt, name)?;
-    let mut second = keeper_at(rt, name)?;
-    is_shut_out(rt, &mut first, &mut second)
+    let shut = fails_to_load(rt, name)?;
+    commit(alloc, &mut first, "1 4 four\n")?;
+    Ok(shut && gives(alloc, &mut first, "1 4 four\n")? && first.faults() == 0)
 }
 
 #[test]
 fn a_file_has_one_keeper_at_a_time(rt: HostRuntime) -> Result<(), Fail> {
     let name = "kept_acceptance_held";
     clear(rt, name)?;
-    assert!(rt; are_apart(rt, name)?);
+    assert!(rt; is_shut_out(rt, name)?);
     assert!(rt; leads(rt, name, "1 4 four\n", "1 4\n", "")?);
     clear(rt, name)?;
     Ok(())

@@ -4,7 +4,7 @@ ghost use Rattle.desk_io.specs.Rows.{is_row};
 ghost use Rattle.keeper.specs.Order.{AreApart};
 
 use crate::lines::{commit, gives, rows_in};
-use desk_io::{OutOfMemory, Row};
+use desk_io::Row;
 use keeper::{KeepFault, Keeper, MemoryKeeper};
 use std::alloc::Global;
 use std::test::Fail;
@@ -35,25 +35,19 @@ fn are_apart(rows: &[Row]) -> bool
 }
 
 // A keeper of rows of which no two have the same kind and key, whose commits of those numbers fail.
-fn keeper_of(
-    alloc: Global,
-    lines: &str,
-    fail: &[u64],
-) -> Result<Option<MemoryKeeper>, OutOfMemory> {
+fn keeper_of(alloc: Global, lines: &str, fail: &[u64]) -> Result<MemoryKeeper, KeepFault> {
     let fail = Vec::from_slice(alloc, fail)?;
     let rows = rows_in(alloc, lines)?;
     if are_apart(&rows) {
-        Ok(Some(MemoryKeeper::new(rows, fail)))
+        Ok(MemoryKeeper::new(rows, fail))
     } else {
-        Ok(None)
+        Err(KeepFault::Failed)
     }
 }
 
 fn begins_with(alloc: Global, first: &str, lines: &str) -> Result<bool, KeepFault> {
-    match keeper_of(alloc, first, &[])? {
-        None => Ok(false),
-        Some(mut keeper) => gives(alloc, &mut keeper, lines),
-    }
+    let mut keeper = keeper_of(alloc, first, &[])?;
+    gives(alloc, &mut keeper, lines)
 }
 
 #[test]
@@ -76,25 +70,19 @@ fn a_keeper_begins_with_rows_in_any_order(rt: HostRuntime) -> Result<(), Fail> {
 
 // Whether changes lead from `KEPT` to those rows.
 fn lead_to(alloc: Global, changes: &str, lines: &str) -> Result<bool, KeepFault> {
-    let Some(mut keeper) = keeper_of(alloc, KEPT, &[])? else {
-        return Ok(false);
-    };
+    let mut keeper = keeper_of(alloc, KEPT, &[])?;
     commit(alloc, &mut keeper, changes)?;
     Ok(gives(alloc, &mut keeper, lines)? && keeper.faults() == 0)
 }
 
 #[test]
 fn changes_of_rows_are_made_each_in_its_turn(rt: HostRuntime) -> Result<(), Fail> {
+    let another = "0 0 meta\n1 4 another\n1 9 nine\n3 2 two\n";
+    let six = "0 0 meta\n1 4 four\n1 6 six\n1 9 nine\n3 2 two\n";
     for (changes, lines) in [
         ("", KEPT),
-        (
-            "1 4 another\n",
-            "0 0 meta\n1 4 another\n1 9 nine\n3 2 two\n",
-        ),
-        (
-            "1 6 six\n",
-            "0 0 meta\n1 4 four\n1 6 six\n1 9 nine\n3 2 two\n",
-        ),
+        ("1 4 another\n", another),
+        ("1 6 six\n", six),
         ("3 2\n", "0 0 meta\n1 4 four\n1 9 nine\n"),
         ("2 4\n1 5\n", KEPT),
         (
@@ -113,30 +101,20 @@ fn changes_of_rows_are_made_each_in_its_turn(rt: HostRuntime) -> Result<(), Fail
 }
 
 // Whether a keeper of nothing whose second commit fails goes through these steps.
-fn goes_on(alloc: Global, keeper: &mut MemoryKeeper) -> Result<bool, KeepFault> {
+fn fails_once(alloc: Global) -> Result<bool, KeepFault> {
+    let two = "1 4 four\n1 9 nine\n";
+    let mut keeper = keeper_of(alloc, "", &[1])?;
     for (changes, answer, lines, faults) in [
-        ("1 4 four\n1 9 nine\n", Ok(()), "1 4 four\n1 9 nine\n", 0),
-        (
-            "1 4\n2 2 two\n",
-            Err(KeepFault::Failed),
-            "1 4 four\n1 9 nine\n",
-            1,
-        ),
+        (two, Ok(()), two, 0),
+        ("1 4\n2 2 two\n", Err(KeepFault::Failed), two, 1),
         ("1 4\n2 2 two\n", Ok(()), "1 9 nine\n2 2 two\n", 1),
     ] {
-        let answered = commit(alloc, keeper, changes);
-        if answered != answer || !gives(alloc, keeper, lines)? || keeper.faults() != faults {
+        let answered = commit(alloc, &mut keeper, changes);
+        if answered != answer || !gives(alloc, &mut keeper, lines)? || keeper.faults() != faults {
             return Ok(false);
         }
     }
     Ok(true)
-}
-
-fn fails_once(alloc: Global) -> Result<bool, KeepFault> {
-    match keeper_of(alloc, "", &[1])? {
-        None => Ok(false),
-        Some(mut keeper) => goes_on(alloc, &mut keeper),
-    }
 }
 
 #[test]

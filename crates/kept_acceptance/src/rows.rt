@@ -1,7 +1,8 @@
 ghost use Rattle.records.specs.Bodies.{HasMoments};
 
+use crate::copies::is_record_copied;
 use crate::lines::rows_in;
-use asks::{Done, KeptReply};
+use asks::{Done, Floor, KeptReply};
 use deferrals::Deferral;
 use desk_io::{OutOfMemory, Row};
 use desk_time::{Minute, read_minute};
@@ -10,31 +11,16 @@ use records::{KeptAlert, KeptReport, Meta, Record, RowFault, read_row, row_of};
 use std::alloc::Global;
 use std::test::Fail;
 
-// The counters of a desk that keeps some replies of six persons no more.
-pub const META: &str =
-    r#"0 0 {"events":319,"floors":{"C7":6,"C8":3,"D1":35,"D2":26,"F1":28,"M1":7},"next_deferral":6,"next_kept":181,"next_release":28,"next_report":61,"now":"2025-03-23T06:15Z","version":1}"#;
-
-/// A report.
-pub const REPORT: &str = r#"1 45 {"received":"2025-03-19T14:38Z","text":"SPECI EINN 191339Z NIL"}"#;
-
-/// A deferral.
-pub const DEFERRAL: &str = r#"2 4 {"found":"2025-03-10T14:20Z","item":"34-1","tail":"N801DK"}"#;
-
-/// A release that is drafted, with the signature of its dispatcher.
-pub const DRAFTED: &str =
-    r#"3 1 {"active":null,"holder":"D1","pending":{"attached":[{"report":2,"text":"TAF AMD EH3Y 121702Z 1216/1322 24010KT P6SM SKC"},{"report":1,"text":"TAF AMD EGLL 121701Z 1216/1322 24010KT 9999 NSC"},{"report":3,"text":"TAF AMD KJFK 121703Z 1216/1322 24010KT 9999 NSC"}],"captain":null,"dispatcher":{"actor":"D1","at":"2025-03-12T17:03Z","digest":"1dc7a9717bb8a66958d877eda5fe025b96205eb73a930072cef96314b4003d19"},"number":1,"plan":{"captain":"C7","flight":"DK723","kind":"flag","legs":[{"alternates":[{"fuel":500,"minutes":63,"station":"KJFK"}],"burn":5000,"eta":"2025-03-13T01:41Z","etd":"2025-03-12T19:01Z","extra":0,"from":"EH3Y","minimum":13053,"minutes":394,"onboard":14053,"takeoff_alternate":{"minutes":75,"station":"EGLL"},"to":"EGLL"}],"tail":"N2-X"},"prepared":true},"phase":"DRAFTED"}"#;
-
-// A release that is ready, with an amendment that waits.
-pub const READY: &str =
-    r#"3 23 {"active":{"attached":[{"report":26,"text":"TAF AMD CLNX 010248Z 0102/0208 24010KT P6SM SKC"},{"report":41,"text":"TAF AMD EGLL 011258Z 0111/0217 24010KT P6SM BKN030"}],"captain":{"actor":"C7","at":"2025-04-01T12:45Z","digest":"85021cf1a6b3c40cb4d3eb90d54a31fd1d6a32a31465abbbd2fe3444a5ac6576"},"dispatcher":{"actor":"D1","at":"2025-04-01T12:42Z","digest":"85021cf1a6b3c40cb4d3eb90d54a31fd1d6a32a31465abbbd2fe3444a5ac6576"},"number":1,"plan":{"captain":"C7","flight":"DK105","kind":"domestic","legs":[{"alternates":[],"burn":12000,"eta":"2025-04-01T19:49Z","etd":"2025-04-01T13:09Z","extra":0,"from":"CLNX","minimum":17000,"minutes":399,"onboard":17000,"takeoff_alternate":null,"to":"EGLL"}],"tail":"N4"},"prepared":true},"holder":"D1","pending":{"attached":[],"captain":null,"dispatcher":null,"number":2,"plan":{"captain":"C7","flight":"DK105","kind":"domestic","legs":[{"alternates":[],"burn":12000,"eta":"2025-04-01T19:49Z","etd":"2025-04-01T13:09Z","extra":0,"from":"CLNX","minimum":17000,"minutes":399,"onboard":17000,"takeoff_alternate":null,"to":"EGLL"}],"tail":"N4"},"prepared":false},"phase":"READY 1"}"#;
-
-/// A reply that is kept.
-pub const KEPT: &str =
-    r#"4 145 {"actor":"D1","at":"2025-03-19T15:41Z","digest":"c783651c88604e092cdcba85703f1f96cea890bba87f39102b378d6ac7752b58","number":84,"reply":{"done":{"digest":"3fb5c4881f1f439f93cc5cdecc4101a0dd5965358d078afdd19885ec4d899f4e","release":23,"revision":2}}}"#;
-
-// Its alert.
-pub const ALERT: &str =
-    r#"5 23 {"acknowledged":true,"ever":["121.625/1/1","121.625/1/2","DESK-LATE-OFF/1/0"],"failing":["121.625/1/2"],"opened":"2025-04-01T12:50Z","version":6}"#;
+// Counters of a desk that keeps some replies of six persons no more; a report, a deferral, a release that is drafted and
+// that its dispatcher signed, one that is ready with an amendment that waits, what is kept of a reply, and an alert.
+const ROWS: &str =
+    r#"0 0 {"events":319,"floors":{"C7":6,"C8":3,"D1":35,"D2":26,"F1":28,"M1":7},"next_deferral":6,"next_kept":181,"next_release":28,"next_report":61,"now":"2025-03-23T06:15Z","version":1}
+1 45 {"received":"2025-03-19T14:38Z","text":"SPECI EINN 191339Z NIL"}
+2 4 {"found":"2025-03-10T14:20Z","item":"34-1","tail":"N801DK"}
+3 1 {"active":null,"holder":"D1","pending":{"attached":[{"report":2,"text":"TAF AMD EH3Y 121702Z 1216/1322 24010KT P6SM SKC"},{"report":1,"text":"TAF AMD EGLL 121701Z 1216/1322 24010KT 9999 NSC"},{"report":3,"text":"TAF AMD KJFK 121703Z 1216/1322 24010KT 9999 NSC"}],"captain":null,"dispatcher":{"actor":"D1","at":"2025-03-12T17:03Z","digest":"1dc7a9717bb8a66958d877eda5fe025b96205eb73a930072cef96314b4003d19"},"number":1,"plan":{"captain":"C7","flight":"DK723","kind":"flag","legs":[{"alternates":[{"fuel":500,"minutes":63,"station":"KJFK"}],"burn":5000,"eta":"2025-03-13T01:41Z","etd":"2025-03-12T19:01Z","extra":0,"from":"EH3Y","minimum":13053,"minutes":394,"onboard":14053,"takeoff_alternate":{"minutes":75,"station":"EGLL"},"to":"EGLL"}],"tail":"N2-X"},"prepared":true},"phase":"DRAFTED"}
+3 23 {"active":{"attached":[{"report":26,"text":"TAF AMD CLNX 010248Z 0102/0208 24010KT P6SM SKC"},{"report":41,"text":"TAF AMD EGLL 011258Z 0111/0217 24010KT P6SM BKN030"}],"captain":{"actor":"C7","at":"2025-04-01T12:45Z","digest":"85021cf1a6b3c40cb4d3eb90d54a31fd1d6a32a31465abbbd2fe3444a5ac6576"},"dispatcher":{"actor":"D1","at":"2025-04-01T12:42Z","digest":"85021cf1a6b3c40cb4d3eb90d54a31fd1d6a32a31465abbbd2fe3444a5ac6576"},"number":1,"plan":{"captain":"C7","flight":"DK105","kind":"domestic","legs":[{"alternates":[],"burn":12000,"eta":"2025-04-01T19:49Z","etd":"2025-04-01T13:09Z","extra":0,"from":"CLNX","minimum":17000,"minutes":399,"onboard":17000,"takeoff_alternate":null,"to":"EGLL"}],"tail":"N4"},"prepared":true},"holder":"D1","pending":{"attached":[],"captain":null,"dispatcher":null,"number":2,"plan":{"captain":"C7","flight":"DK105","kind":"domestic","legs":[{"alternates":[],"burn":12000,"eta":"2025-04-01T19:49Z","etd":"2025-04-01T13:09Z","extra":0,"from":"CLNX","minimum":17000,"minutes":399,"onboard":17000,"takeoff_alternate":null,"to":"EGLL"}],"tail":"N4"},"prepared":false},"phase":"READY 1"}
+4 145 {"actor":"D1","at":"2025-03-19T15:41Z","digest":"c783651c88604e092cdcba85703f1f96cea890bba87f39102b378d6ac7752b58","number":84,"reply":{"done":{"digest":"3fb5c4881f1f439f93cc5cdecc4101a0dd5965358d078afdd19885ec4d899f4e","release":23,"revision":2}}}
+5 23 {"acknowledged":true,"ever":["121.625/1/1","121.625/1/2","DESK-LATE-OFF/1/0"],"failing":["121.625/1/2"],"opened":"2025-04-01T12:50Z","version":6}"#;
 
 fn is_at(text: &[u8], at: Minute) -> bool {
     read_minute(text) == Some(at)
@@ -46,23 +32,26 @@ fn begins(digest: &[u8; 32], front: [u8; 4]) -> bool {
 }
 
 fn is_meta(meta: &Meta) -> bool {
+    let counters = &meta.counters;
+    let next = [
+        counters.next_report,
+        counters.next_deferral,
+        counters.next_release,
+        counters.next_kept,
+    ];
     is_at(b"2025-03-23T06:15Z", meta.moment)
-        && meta.counters.events == 319
-        && meta.counters.next_report == 61
-        && meta.counters.next_deferral == 6
-        && meta.counters.next_release == 28
-        && meta.counters.next_kept == 181
+        && counters.events == 319
+        && next == [61, 6, 28, 181]
         && has_floors(meta)
+}
+
+fn is_floor(floor: &Floor, actor: &[u8], number: u64) -> bool {
+    floor.actor.bytes() == actor && floor.number == number
 }
 
 fn has_floors(meta: &Meta) -> bool {
     match meta.floors.as_slice() {
-        [first, .., last] => {
-            first.actor.bytes() == b"C7".as_slice()
-                && first.number == 6
-                && last.actor.bytes() == b"M1".as_slice()
-                && last.number == 7
-        }
+        [first, .., last] => is_floor(first, b"C7", 6) && is_floor(last, b"M1", 7),
         _ => false,
     }
 }
@@ -83,11 +72,7 @@ fn is_deferral(deferral: &Deferral) -> bool {
 fn is_signed(signature: &Option<Signature>, actor: &[u8], at: &[u8], front: [u8; 4]) -> bool {
     match signature {
         None => false,
-        Some(signature) => {
-            signature.actor.bytes() == actor
-                && is_at(at, signature.at)
-                && begins(&signature.digest, front)
-        }
+        Some(s) => s.actor.bytes() == actor && is_at(at, s.at) && begins(&s.digest, front),
     }
 }
 
@@ -110,15 +95,11 @@ fn is_flight(revision: &Revision, flight: &[u8], tail: &[u8]) -> bool {
 }
 
 fn is_draft(revision: &Revision) -> bool {
+    let front = [0x1d, 0xc7, 0xa9, 0x71];
     has_numbers(revision, 1, true, &[2, 1, 3])
         && is_flight(revision, b"DK723", b"N2-X")
         && revision.captain.is_none()
-        && is_signed(
-            &revision.dispatcher,
-            b"D1",
-            b"2025-03-12T17:03Z",
-            [0x1d, 0xc7, 0xa9, 0x71],
-        )
+        && is_signed(&revision.dispatcher, b"D1", b"2025-03-12T17:03Z", front)
 }
 
 fn is_flown_by(revision: &Revision) -> bool {
@@ -195,27 +176,25 @@ fn is_row_of(alloc: Global, row: &Row, record: &Record) -> Result<bool, OutOfMem
     Ok(again.kind == row.kind && again.key == row.key && again.body.bytes() == row.body.bytes())
 }
 
-// Whether a row is read as what it says, and written from that as it was.
+// Whether a row is read as what it says, copied so, and written from that as it was.
 #[tactic(auto, using(records::proofs::RowLaws::valid_moments))]
 fn is_both_ways(alloc: Global, row: &Row) -> Result<bool, OutOfMemory> {
     match read_row(alloc, row) {
-        Ok(record) => Ok(says(&record) && is_row_of(alloc, row, &record)?),
+        Ok(record) => Ok(
+            says(&record) && is_record_copied(alloc, &record)? && is_row_of(alloc, row, &record)?,
+        ),
         Err(RowFault::NotCanonical) => Ok(false),
         Err(RowFault::OutOfMemory) => Err(OutOfMemory),
     }
 }
 
-fn are_both_ways(alloc: Global, lines: &str) -> Result<bool, OutOfMemory> {
-    match rows_in(alloc, lines)?.as_slice() {
-        [row] => is_both_ways(alloc, row),
-        _ => Ok(false),
-    }
-}
-
 #[test]
-fn a_row_of_each_kind_is_read_and_written_again(rt: HostRuntime) -> Result<(), Fail> {
-    for line in [META, REPORT, DEFERRAL, DRAFTED, READY, KEPT, ALERT] {
-        assert!(rt; are_both_ways(rt.alloc(), line)?, "{line}");
+fn a_row_of_each_kind_is_read_copied_and_written_again(rt: HostRuntime) -> Result<(), Fail> {
+    let rows = rows_in(rt.alloc(), ROWS)?;
+    assert!(rt; rows.len() == 7);
+    for row in &rows {
+        let (kind, key) = (row.kind, row.key);
+        assert!(rt; is_both_ways(rt.alloc(), row)?, "{kind} {key}");
     }
     Ok(())
 }

@@ -29,25 +29,16 @@ fn echo<D: Door>(door: &mut D) -> bool {
 #[test]
 fn a_door_gives_its_links_in_order(rt: HostRuntime) -> Result<(), Fail> {
     let alloc = rt.alloc();
-    let links = vec![in alloc;
-        link_of(alloc, b"one".as_slice())?,
-        link_of(alloc, b"two".as_slice())?,
-    ]?;
-    let fail = vec![in alloc; 2]?;
-    let mut door = MemoryDoor::new(alloc, links, fail);
+    let links = vec![in alloc; link_of(alloc, b"one")?, link_of(alloc, b"two")?]?;
+    let mut door = MemoryDoor::new(alloc, links, vec![in alloc; 2]?);
     assert!(rt; door.bind(80).is_ok());
-    assert!(rt; echo(&mut door));
-    assert!(rt; !echo(&mut door));
-    assert!(rt; door.faults() == 1);
-    assert!(rt; echo(&mut door));
-    assert!(rt; !echo(&mut door));
-    assert!(rt; door.faults() == 2);
-    let ended = door.ended();
-    assert_eq!(rt; ended.len(), 2);
-    if ended.len() == 2 {
-        assert!(rt; ended[0].written() == b"one".as_slice());
-        assert!(rt; ended[1].written() == b"two".as_slice());
+    for (heard, faults) in [(true, 0), (false, 1), (true, 1), (false, 2)] {
+        assert!(rt; echo(&mut door) == heard && door.faults() == faults);
     }
+    let [one, two] = door.ended() else {
+        panic!(rt; "two links have ended");
+    };
+    assert!(rt; one.written() == b"one".as_slice() && two.written() == b"two".as_slice());
     Ok(())
 }
 
@@ -72,15 +63,13 @@ fn call<N: Net>(net: &N, port: u16, word: &[u8]) -> io::Result<N::Stream> {
 #[test]
 fn two_callers_are_served_over_the_loopback(rt: HostRuntime) -> Result<(), Fail> {
     let mut door = TcpDoor::new(&rt);
-    assert!(rt; !echo(&mut door));
-    assert!(rt; door.faults() == 1);
+    assert!(rt; !echo(&mut door) && door.faults() == 1);
     let Some(port) = open(&mut door) else {
         panic!(rt; "no port is free");
     };
     let mut first = call(&rt, port, b"ping".as_slice())?;
     let mut second = call(&rt, port, b"abc".as_slice())?;
-    assert!(rt; echo(&mut door));
-    assert!(rt; echo(&mut door));
+    assert!(rt; echo(&mut door) && echo(&mut door));
     let mut heard = Vec::new(rt.alloc());
     first.read_to_end(&mut heard)?;
     assert!(rt; heard.as_slice() == b"ping".as_slice());
@@ -88,8 +77,7 @@ fn two_callers_are_served_over_the_loopback(rt: HostRuntime) -> Result<(), Fail>
     assert!(rt; heard.as_slice() == b"pingabc".as_slice());
     // a port that is taken
     let mut other = TcpDoor::new(&rt);
-    assert!(rt; other.bind(port).is_err());
-    assert!(rt; other.faults() == 1);
+    assert!(rt; other.bind(port).is_err() && other.faults() == 1);
     Ok(())
 }
 
@@ -116,10 +104,8 @@ fn a_link_ends_and_fails_as_its_caller_goes(rt: HostRuntime) -> Result<(), Fail>
     let mut into = [7; 8];
     assert!(rt; link.read(&mut into) == Ok(2));
     assert!(rt; into[..3] == [b'a', b'b', 7]);
-    assert!(rt; link.read(&mut into) == Ok(0));
-    assert!(rt; link.read(&mut into) == Ok(0));
+    assert!(rt; link.read(&mut into) == Ok(0) && link.read(&mut into) == Ok(0));
     drop(caller);
-    assert!(rt; fails_at_last(&mut link));
-    assert!(rt; link.faults() == 1);
+    assert!(rt; fails_at_last(&mut link) && link.faults() == 1);
     Ok(())
 }

@@ -1,4 +1,5 @@
-//! Tests of the outside of the service, in memory and over 127.0.0.1, and of requests, their routes and responses.
+//! Tests of the outside of the service, in memory and over 127.0.0.1, and of requests in every cut, their routes and
+//! responses. What heads and bodies come to is tested by the cases of `scenarios`.
 #![tactic(auto)]
 
 #[cfg(test)]
@@ -7,10 +8,6 @@ mod clocks;
 mod cuts;
 #[cfg(test)]
 mod doors;
-#[cfg(test)]
-mod heads;
-#[cfg(test)]
-mod limits;
 #[cfg(test)]
 mod links;
 #[cfg(test)]

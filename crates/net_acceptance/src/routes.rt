@@ -29,7 +29,7 @@ fn push_routed(alloc: Global, out: &mut Vec<u8>, routed: &Routed) -> Result<(), 
 }
 
 // Whether a request by that method and path is routed so.
-fn goes_to(alloc: Global, get: bool, path: &[u8], want: &[u8]) -> Result<bool, OutOfMemory> {
+fn is_routed(alloc: Global, get: bool, path: &[u8], want: &[u8]) -> Result<bool, OutOfMemory> {
     let mut shown = Vec::new(alloc);
     match route(alloc, &wire_of(alloc, get, path)?) {
         Ok(routed) => push_routed(alloc, &mut shown, &routed)?,
@@ -40,74 +40,45 @@ fn goes_to(alloc: Global, get: bool, path: &[u8], want: &[u8]) -> Result<bool, O
     Ok(shown.as_slice() == want)
 }
 
+// Whether a path is routed so by the one method and by the other.
+fn goes_to(alloc: Global, path: &[u8], get: &[u8], post: &[u8]) -> Result<bool, OutOfMemory> {
+    Ok(is_routed(alloc, true, path, get)? && is_routed(alloc, false, path, post)?)
+}
+
 #[test]
 fn paths_and_methods_have_their_routes(rt: HostRuntime) -> Result<(), Fail> {
-    for (path, by_get, by_post) in [
-        (
-            b"/call".as_slice(),
-            b"WrongMethod".as_slice(),
-            b"call".as_slice(),
-        ),
-        (b"/board", b"board", b"WrongMethod"),
-        (b"/alerts", b"alerts", b"WrongMethod"),
-        (b"/release/7", b"release 7", b"WrongMethod"),
-        (b"/release/007", b"release 7", b"WrongMethod"),
-        (
-            b"/release/9999999999",
-            b"release 9999999999",
-            b"WrongMethod",
-        ),
-        (b"/weather/KJFK", b"weather KJFK", b"WrongMethod"),
-        (b"/deferred/N801DK", b"deferred N801DK", b"WrongMethod"),
-        (b"/deferred/%41", b"deferred %41", b"WrongMethod"),
-        (b"/deferred/12345678", b"deferred 12345678", b"WrongMethod"),
-        (b"/deferred/\xc3\xa9", b"deferred \xc3\xa9", b"WrongMethod"),
+    let wrong = b"WrongMethod".as_slice();
+    for (path, get, post) in [
+        (b"/call".as_slice(), wrong, b"call".as_slice()),
+        (b"/board", b"board", wrong),
+        (b"/alerts", b"alerts", wrong),
+        (b"/release/7", b"release 7", wrong),
+        (b"/release/007", b"release 7", wrong),
+        (b"/release/9999999999", b"release 9999999999", wrong),
+        (b"/weather/KJFK", b"weather KJFK", wrong),
+        (b"/deferred/N801DK", b"deferred N801DK", wrong),
+        (b"/deferred/%41", b"deferred %41", wrong),
+        (b"/deferred/12345678", b"deferred 12345678", wrong),
+        (b"/deferred/\xc3\xa9", b"deferred \xc3\xa9", wrong),
+        (b"/deferred/\xff", b"NoRoute", b"NoRoute"),
+        (b"/board\xff", b"NoRoute", b"NoRoute"),
+        (b"", b"NoRoute", b"NoRoute"),
     ] {
-        assert!(rt; goes_to(rt.alloc(), true, path, by_get)?, "GET {path:?}");
-        assert!(rt; goes_to(rt.alloc(), false, path, by_post)?, "POST {path:?}");
+        assert!(rt; goes_to(rt.alloc(), path, get, post)?, "{path:?}");
     }
     Ok(())
 }
 
+// Paths of no route, with blanks between them.
+const UNROUTED: &str = "/ * /nowhere board /board/ //board /BOARD /boards /call/1 \
+    /release /release/ /release/00000000001 /release/7/ /release/7a /release/-7 /release/+7 \
+    /weather/ /weather/kjfk /weather/KJF /weather/KJFKX /weather/KJFK/ /deferred/ /deferred/123456789 /deferred/a/b";
+
 #[test]
 fn other_paths_have_no_route_by_any_method(rt: HostRuntime) -> Result<(), Fail> {
-    for path in [
-        b"".as_slice(),
-        b"/",
-        b"*",
-        b"/nowhere",
-        b"board",
-        b"/board/",
-        b"//board",
-        b"/BOARD",
-        b"/boards",
-        b"/call/1",
-        b"/release",
-        b"/release/",
-        b"/release/00000000001",
-        b"/release/7/",
-        b"/release/7a",
-        b"/release/-7",
-        b"/release/+7",
-        b"/weather/",
-        b"/weather/kjfk",
-        b"/weather/KJF",
-        b"/weather/KJFKX",
-        b"/weather/KJFK/",
-        b"/deferred/",
-        b"/deferred/123456789",
-        b"/deferred/a/b",
-        b"/deferred/\xff",
-        b"/board\xff",
-    ] {
-        assert!(rt;
-            goes_to(rt.alloc(), true, path, b"NoRoute")?,
-            "GET {path:?}"
-        );
-        assert!(rt;
-            goes_to(rt.alloc(), false, path, b"NoRoute")?,
-            "POST {path:?}"
-        );
+    for path in UNROUTED.split(" ") {
+        let agrees = goes_to(rt.alloc(), path.as_bytes(), b"NoRoute", b"NoRoute")?;
+        assert!(rt; agrees, "{path}");
     }
     Ok(())
 }

@@ -18,19 +18,11 @@ fn fault_name(fault: WireFault) -> &'static [u8] {
 
 // A request as a line: its method, path, actor, key and body, and whether the connection ends after it.
 fn push_request(out: &mut Vec<u8>, wire: &Wire) -> Result<(), OutOfMemory> {
-    let method = if wire.get {
-        b"GET|".as_slice()
-    } else {
-        b"POST|".as_slice()
-    };
-    let last = if wire.last {
-        b"|last\n".as_slice()
-    } else {
-        b"|on\n".as_slice()
-    };
-    push_all(out, &[method, wire.path.bytes(), b"|"])?;
+    let method = if wire.get { "GET|" } else { "POST|" };
+    let last = if wire.last { "|last\n" } else { "|on\n" };
+    push_all(out, &[method.as_bytes(), wire.path.bytes(), b"|"])?;
     push_all(out, &[wire.actor.bytes(), b"|", wire.key.bytes(), b"|"])?;
-    push_all(out, &[wire.body.bytes(), last])
+    push_all(out, &[wire.body.bytes(), last.as_bytes()])
 }
 
 // The requests of a link, a line each, and then why there is no further one.

@@ -1,11 +1,7 @@
-ghost use Rattle.std.specs.Prelude.{◌≡◌, IsTrue};
-ghost use Rattle.plan.specs.Phases.{PhaseFits};
-
-use crate::flights::{ETD, leg_of, plan_of};
+use crate::flights::{ETD, leg_of, plan_of, push_alternate};
 use desk_io::{LineFeeds, Listed, OutOfMemory, Text, runs_between};
-use plan::{Alternate, Kind, Leg, Legs, Phase, Plan, PlanWhy, check_change};
-use small_airline::may_be_checked;
-use stations::Station;
+use plan::{Kind, Leg, Legs, Phase, Plan, PlanWhy, check_change};
+use small_airline::{fits, may_be_checked};
 use std::alloc::Global;
 use std::test::Fail;
 
@@ -25,15 +21,7 @@ fn alter(leg: &mut Leg, member: u8) -> Result<(), OutOfMemory> {
         5 => leg.extra = 1,
         6 => leg.minimum = 19_501,
         7 => leg.onboard = 20_001,
-        8 => {
-            if let Some(station) = Station::read(b"EGLL") {
-                leg.alternates.push(Alternate {
-                    station,
-                    minutes: 35,
-                    fuel: 3_000,
-                })?;
-            }
-        }
+        8 => push_alternate(leg, b"EGLL")?,
         _ => {}
     }
     Ok(())
@@ -58,16 +46,6 @@ fn legs_of(alloc: Global, text: &[u8], member: u8) -> Result<Legs, OutOfMemory> 
 
 fn plan(alloc: Global, lines: &[u8], member: u8) -> Result<Plan, OutOfMemory> {
     plan_of(alloc, b"N801DK", b"C7", legs_of(alloc, lines, member)?)
-}
-
-fn fits(phase: Phase, legs: &[Leg]) -> bool
-    ensures { IsTrue result → PhaseFits phase legs.now }
-{
-    match phase {
-        Phase::Flying { leg } => 1 <= leg && leg as usize <= legs.len(),
-        Phase::Stopped { next, .. } => 1 <= next && next as usize <= legs.len(),
-        Phase::Drafted | Phase::Ready | Phase::Completed { .. } | Phase::Cancelled { .. } => true,
-    }
 }
 
 // The test that fails for a plan that is to take the place of another. No plan fails a test of times, which stands for
@@ -108,6 +86,14 @@ const COMPLETED: Phase = Phase::Completed { at: ETD + 121 };
 
 const CANCELLED: Phase = Phase::Cancelled { at: ETD };
 
+// That leg may not be so, or each may for 0.
+fn flown(leg: u32) -> Option<(u32, PlanWhy)> {
+    if leg == 0 {
+        return None;
+    }
+    Some((leg, PlanWhy::Flown))
+}
+
 // The first leg that may not be so, or 0 where all may.
 fn has_flown_faults(alloc: Global, old: &Plan) -> Result<bool, OutOfMemory> {
     for (phase, lines, leg) in [
@@ -142,12 +128,7 @@ fn has_flown_faults(alloc: Global, old: &Plan) -> Result<bool, OutOfMemory> {
         (CANCELLED, TWO, 3),
         (CANCELLED, THREE, 0),
     ] {
-        let wanted = if leg == 0 {
-            None
-        } else {
-            Some((leg, PlanWhy::Flown))
-        };
-        if legs_fault(alloc, old, phase, lines, 0)? != wanted {
+        if legs_fault(alloc, old, phase, lines, 0)? != flown(leg) {
             return Ok(false);
         }
     }
@@ -157,16 +138,11 @@ fn has_flown_faults(alloc: Global, old: &Plan) -> Result<bool, OutOfMemory> {
 // A leg that is flown keeps each of its members. One in flight keeps its etd, and one at which a flight has stopped
 // none.
 fn has_member_faults(alloc: Global, old: &Plan) -> Result<bool, OutOfMemory> {
-    let flown = Some((2, PlanWhy::Flown));
     for member in 1..9 {
-        let (first, second) = if member == 1 {
-            (Some((1, PlanWhy::Flown)), flown)
-        } else {
-            (None, None)
-        };
-        if legs_fault(alloc, old, COMPLETED, TWO, member)? != flown
-            || legs_fault(alloc, old, FIRST, ONE, member)? != first
-            || legs_fault(alloc, old, SECOND, TWO, member)? != second
+        let (first, second) = if member == 1 { (1, 2) } else { (0, 0) };
+        if legs_fault(alloc, old, COMPLETED, TWO, member)? != flown(2)
+            || legs_fault(alloc, old, FIRST, ONE, member)? != flown(first)
+            || legs_fault(alloc, old, SECOND, TWO, member)? != flown(second)
             || legs_fault(alloc, old, STOPPED, TWO, member)?.is_some()
         {
             return Ok(false);
@@ -192,7 +168,6 @@ fn head_fault(
 
 fn has_head_faults(alloc: Global, old: &Plan) -> Result<bool, OutOfMemory> {
     let changed = Some((0, PlanWhy::Changed));
-    let ended = Some((3, PlanWhy::Flown));
     let (domestic, flag) = (Kind::Domestic, Kind::Flag);
     for (phase, other_tail) in [
         (Phase::Drafted, None),
@@ -200,8 +175,8 @@ fn has_head_faults(alloc: Global, old: &Plan) -> Result<bool, OutOfMemory> {
         (FIRST, changed),
         (SECOND, changed),
         (STOPPED, None),
-        (COMPLETED, ended),
-        (CANCELLED, ended),
+        (COMPLETED, flown(3)),
+        (CANCELLED, flown(3)),
     ] {
         if head_fault(alloc, old, phase, b"DK102", domestic, b"N801DK")? != changed
             || head_fault(alloc, old, phase, b"DK101", flag, b"N801DK")? != changed

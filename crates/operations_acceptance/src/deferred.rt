@@ -73,22 +73,20 @@ fn limits_text(
     Ok(Text::from_vec(text))
 }
 
-fn limits_are(
-    alloc: Global,
-    tables: &Tables,
-    tail: &[u8],
-    text: &[u8],
-) -> Result<bool, OutOfMemory> {
-    let lines = b"N801DK 34-2\nN801DK 34-1\nN901DK 34-1\nN801DK 22-1\nN801DK 22-1\nN801DK 99-9\n";
-    Ok(limits_text(alloc, tables, lines, tail)?.bytes() == text)
-}
+const LINES: &[u8] =
+    b"N801DK 34-2\nN801DK 34-1\nN901DK 34-1\nN801DK 22-1\nN801DK 22-1\nN801DK 99-9\n";
 
 fn are_limits(alloc: Global, tables: &Tables) -> Result<bool, OutOfMemory> {
-    Ok(
-        limits_are(alloc, tables, b"N801DK", b"380 GPS ILS")?
-            && limits_are(alloc, tables, b"N901DK", b"0")?
-            && limits_are(alloc, tables, b"N999DK", b"0")?,
-    )
+    for (tail, text) in [
+        (b"N801DK".as_slice(), b"380 GPS ILS".as_slice()),
+        (b"N901DK", b"0"),
+        (b"N999DK", b"0"),
+    ] {
+        if limits_text(alloc, tables, LINES, tail)?.bytes() != text {
+            return Ok(false);
+        }
+    }
+    Ok(true)
 }
 
 #[test]

@@ -6,28 +6,6 @@ use std::alloc::Global;
 use std::test::Fail;
 use table_files::{TableFault, TableWhy, read_tables};
 
-// The number and the reason of the first bad record, which has to be of the table with that name.
-fn bad_record(alloc: Global, shelf: &mut MemoryShelf, name: &str) -> Option<(u32, TableWhy)> {
-    let read = read_tables(alloc, shelf);
-    let Err(TableFault::Bad(bad)) = read else {
-        return None;
-    };
-    if bad.name.bytes() != name.as_bytes() {
-        return None;
-    }
-    Some((bad.line, bad.why))
-}
-
-// The same over the small tables, with other records under the header of that table.
-fn first_bad(
-    alloc: Global,
-    name: &str,
-    records: &[u8],
-) -> Result<Option<(u32, TableWhy)>, OutOfMemory> {
-    let mut shelf = shelf_of(alloc, name, records)?;
-    Ok(bad_record(alloc, &mut shelf, name))
-}
-
 // Adds records, each with its number between two texts.
 fn push_numbered(
     alloc: Global,
@@ -54,15 +32,24 @@ fn is_over_limit(
 ) -> Result<bool, OutOfMemory> {
     let mut records = Vec::new(alloc);
     push_numbered(alloc, &mut records, before, 1, line, after)?;
-    let bad = first_bad(alloc, name, &records)?;
-    Ok(bad == Some((line, TableWhy::OverLimit)))
+    let mut shelf = shelf_of(alloc, name, &records)?;
+    match read_tables(alloc, &mut shelf) {
+        Err(TableFault::Bad(bad)) => Ok(
+            bad.name.bytes() == name.as_bytes()
+                && bad.line == line
+                && bad.why == TableWhy::OverLimit,
+        ),
+        _ => Ok(false),
+    }
 }
+
+// What a type has behind its name.
+const FEATURES: &[u8] = b",2,400,6000,5000,ILS GPS";
 
 #[test]
 fn no_table_goes_over_its_limit(rt: HostRuntime) -> Result<(), Fail> {
     let alloc = rt.alloc();
-    let features = b",2,400,6000,5000,ILS GPS";
-    assert!(rt; is_over_limit(alloc, "types.csv", b"T", features, 202)?);
+    assert!(rt; is_over_limit(alloc, "types.csv", b"T", FEATURES, 202)?);
     assert!(rt; is_over_limit(alloc, "tails.csv", b"N", b",A320", 5_002)?);
     Ok(())
 }
@@ -74,12 +61,12 @@ fn push_airports(
     before: &[u8],
     after: &[u8],
 ) -> Result<(), OutOfMemory> {
-    let mut name = Vec::from_slice(alloc, before)?;
-    name.push(b'K')?;
-    push_numbered(alloc, out, &name, 100, 600, after)?;
-    name.pop();
-    name.push(b'L')?;
-    push_numbered(alloc, out, &name, 100, 600, after)
+    for letter in [b"K".as_slice(), b"L"] {
+        let mut name = Vec::from_slice(alloc, before)?;
+        name.extend_from_slice(letter)?;
+        push_numbered(alloc, out, &name, 100, 600, after)?;
+    }
+    Ok(())
 }
 
 // 200 types, those of the small airline and 198 more, may use 1,000 airports each.
@@ -87,11 +74,9 @@ fn all_uses(alloc: Global) -> Result<Vec<u8>, OutOfMemory> {
     let mut uses = Vec::from_slice(alloc, b"kind,station\n")?;
     push_airports(alloc, &mut uses, b"A320,", b"")?;
     push_airports(alloc, &mut uses, b"B763,", b"")?;
-    for number in 0..198 {
-        let mut kind = Vec::new(alloc);
-        let digits = number.to_string(alloc)?;
-        push_all(&mut kind, &[b"T", digits.as_bytes(), b","])?;
-        push_airports(alloc, &mut uses, &kind, b"")?;
+    for number in 0..198_u32 {
+        let kind = format!(in alloc; "T{number},")?;
+        push_airports(alloc, &mut uses, kind.as_bytes(), b"")?;
     }
     Ok(uses)
 }
@@ -100,7 +85,7 @@ fn large_shelf(alloc: Global) -> Result<MemoryShelf, OutOfMemory> {
     let mut airports = Vec::from_slice(alloc, lines_of("airports.csv").as_bytes())?;
     push_airports(alloc, &mut airports, b"", b",1,0")?;
     let mut types = Vec::from_slice(alloc, lines_of("types.csv").as_bytes())?;
-    push_numbered(alloc, &mut types, b"T", 0, 198, b",2,400,6000,5000,ILS GPS")?;
+    push_numbered(alloc, &mut types, b"T", 0, 198, FEATURES)?;
     let uses = all_uses(alloc)?;
     let mut sources = Vec::new(alloc);
     sources.push((Text::of(alloc, b"airports.csv")?, Text::from_vec(airports)))?;

@@ -1,4 +1,4 @@
-use desk_io::{Blanks, Listed, OutOfMemory, Run, Text, runs_between};
+use desk_io::{Blanks, Listed, OutOfMemory, Text, runs_between};
 use desk_time::Minute;
 use plan::{Alternate, Kind, Leg, Legs, Plan, TakeoffAlternate};
 use stations::Station;
@@ -6,30 +6,6 @@ use std::alloc::Global;
 
 /// 2025-03-12 18:00.
 pub const ETD: Minute = 29_030_040;
-
-/// A leg without alternates, whose amounts of fuel are in bounds.
-pub fn leg_between(
-    alloc: Global,
-    from: Station,
-    to: Station,
-    etd: Minute,
-    eta: Minute,
-    minutes: u32,
-) -> Leg {
-    Leg {
-        from,
-        to,
-        etd,
-        eta,
-        minutes,
-        burn: 12_000,
-        extra: 0,
-        minimum: 19_500,
-        onboard: 20_000,
-        takeoff_alternate: None,
-        alternates: Listed::new(alloc),
-    }
-}
 
 /// A plan of a domestic flight.
 pub fn plan_of(
@@ -47,15 +23,14 @@ pub fn plan_of(
     })
 }
 
-fn push_alternates(leg: &mut Leg, names: &[Run]) -> Result<(), OutOfMemory> {
-    for name in names {
-        if let Some(station) = Station::read(name.bytes()) {
-            leg.alternates.push(Alternate {
-                station,
-                minutes: 35,
-                fuel: 3_000,
-            })?;
-        }
+/// Adds the alternate of that name, half an hour and more away.
+pub fn push_alternate(leg: &mut Leg, name: &[u8]) -> Result<(), OutOfMemory> {
+    if let Some(station) = Station::read(name) {
+        leg.alternates.push(Alternate {
+            station,
+            minutes: 35,
+            fuel: 3_000,
+        })?;
     }
     Ok(())
 }
@@ -69,7 +44,7 @@ fn takeoff_alternate(name: &[u8]) -> Option<TakeoffAlternate> {
 }
 
 /// The leg of an hour that a line says: where it begins, where it ends, its takeoff alternate or dashes for none,
-/// and its alternates.
+/// and its alternates. Its amounts of fuel are in bounds.
 pub fn leg_of(alloc: Global, line: &[u8], etd: Minute) -> Result<Option<Leg>, OutOfMemory> {
     let words = runs_between::<Blanks>(alloc, line)?;
     let [from, to, takeoff, alternates @ ..] = words.as_slice() else {
@@ -78,8 +53,21 @@ pub fn leg_of(alloc: Global, line: &[u8], etd: Minute) -> Result<Option<Leg>, Ou
     let (Some(from), Some(to)) = (Station::read(from.bytes()), Station::read(to.bytes())) else {
         return Ok(None);
     };
-    let mut leg = leg_between(alloc, from, to, etd, etd.saturating_add(60), 55);
-    leg.takeoff_alternate = takeoff_alternate(takeoff.bytes());
-    push_alternates(&mut leg, alternates)?;
+    let mut leg = Leg {
+        from,
+        to,
+        etd,
+        eta: etd.saturating_add(60),
+        minutes: 55,
+        burn: 12_000,
+        extra: 0,
+        minimum: 19_500,
+        onboard: 20_000,
+        takeoff_alternate: takeoff_alternate(takeoff.bytes()),
+        alternates: Listed::new(alloc),
+    };
+    for name in alternates {
+        push_alternate(&mut leg, name.bytes())?;
+    }
     Ok(Some(leg))
 }

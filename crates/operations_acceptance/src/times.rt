@@ -1,16 +1,14 @@
-ghost use Rattle.std.specs.Prelude.{◌≡◌, ◌<◌, IsTrue};
+ghost use Rattle.std.specs.Prelude.{◌≡◌, ◌<◌};
 ghost use Rattle.plan.specs.Check.{IsPlan};
-ghost use Rattle.plan.specs.Texts.{HasMoment};
 
 use crate::flights::{ETD, leg_of, plan_of};
 use deferrals::Deferrals;
 use desk_io::{Listed, OutOfMemory, push_all};
-use desk_time::{FIRST, LAST, Minute};
 use facts::Reports;
 use ops_tables::Tables;
 use plan::{Finding, Kind, Phase, Plan, Rule, finding_text};
 use rules::{Steps, judge, next_due};
-use small_airline::{holds, may_be_checked};
+use small_airline::{has_moment, holds, may_be_checked};
 use std::alloc::Global;
 use std::marker::Brand;
 use std::sync::ledger::{Blank, Ledger};
@@ -29,20 +27,11 @@ fn plan(alloc: Global, tail: &[u8], kind: Kind) -> Result<Plan, OutOfMemory> {
     Ok(plan)
 }
 
-fn has_moment(phase: Phase) -> bool
-    ensures { IsTrue result → HasMoment phase }
-{
-    match phase {
-        Phase::Drafted | Phase::Ready | Phase::Flying { .. } => true,
-        Phase::Stopped { since, .. } => FIRST <= since && since <= LAST,
-        Phase::Completed { at } | Phase::Cancelled { at } => FIRST <= at && at <= LAST,
-    }
-}
-
-const fn stopped(since: Minute, again: bool) -> Phase {
+// A stop before the second leg, so many minutes after the first etd.
+fn stopped(minutes: u64, again: bool) -> Phase {
     Phase::Stopped {
         next: 2,
-        since,
+        since: ETD.saturating_add(minutes),
         again,
     }
 }
@@ -66,18 +55,18 @@ fn are_due(tables: &Tables, domestic: &Plan, flag: &Plan) -> bool {
         (flag, Phase::Flying { leg: 1 }, 90, Some(91)),
         (domestic, Phase::Flying { leg: 1 }, 91, None),
         (domestic, Phase::Flying { leg: 2 }, 91, Some(151)),
-        (domestic, stopped(ETD + 50, false), 50, Some(111)),
-        (domestic, stopped(ETD + 50, false), 110, Some(111)),
-        (domestic, stopped(ETD + 50, false), 111, Some(121)),
-        (domestic, stopped(ETD + 50, false), 121, None),
-        (domestic, stopped(ETD + 50, true), 50, Some(121)),
-        (domestic, stopped(ETD + 70, false), 70, Some(121)),
-        (domestic, stopped(ETD + 70, false), 121, Some(131)),
-        (flag, stopped(ETD + 50, false), 50, Some(121)),
-        (flag, stopped(ETD + 50, false), 121, Some(411)),
-        (flag, stopped(ETD + 50, false), 410, Some(411)),
-        (flag, stopped(ETD + 50, false), 411, None),
-        (flag, stopped(ETD + 50, true), 121, None),
+        (domestic, stopped(50, false), 50, Some(111)),
+        (domestic, stopped(50, false), 110, Some(111)),
+        (domestic, stopped(50, false), 111, Some(121)),
+        (domestic, stopped(50, false), 121, None),
+        (domestic, stopped(50, true), 50, Some(121)),
+        (domestic, stopped(70, false), 70, Some(121)),
+        (domestic, stopped(70, false), 121, Some(131)),
+        (flag, stopped(50, false), 50, Some(121)),
+        (flag, stopped(50, false), 121, Some(411)),
+        (flag, stopped(50, false), 410, Some(411)),
+        (flag, stopped(50, false), 411, None),
+        (flag, stopped(50, true), 121, None),
         (domestic, Phase::Completed { at: ETD }, 0, None),
         (domestic, Phase::Cancelled { at: ETD }, 0, None),
     ] {
@@ -151,73 +140,58 @@ fn late(
     }
 }
 
-// Whether these rules of time, and then something else, are all of them that an aircraft's plan fails.
+// Whether these are all rules of time that a plan fails, and of an unknown aircraft its lack in the tables besides.
 fn is_late(
     alloc: Global,
     tables: &Tables,
-    flight: (&[u8], Kind),
+    kind: Kind,
     phase: Phase,
     minutes: u64,
-    wanted: (&[u8], &[u8]),
+    wanted: &[u8],
 ) -> Result<bool, OutOfMemory> {
-    let plan = plan(alloc, flight.0, flight.1)?;
-    let text = late(alloc, tables, &plan, phase, minutes)?;
-    Ok(text.strip_prefix(wanted.0) == Some(wanted.1))
+    let known = plan(alloc, b"N801DK", kind)?;
+    let unknown = plan(alloc, b"N999DK", kind)?;
+    let text = late(alloc, tables, &known, phase, minutes)?;
+    let more = late(alloc, tables, &unknown, phase, minutes)?;
+    Ok(text.as_slice() == wanted && more.strip_prefix(wanted) == Some(TABLES))
 }
+
+const OFF_1: &[u8] = b"DESK-LATE-OFF/1/0 ";
+
+const OFF_2: &[u8] = b"DESK-LATE-OFF/2/0 ";
+
+const STOP: &[u8] = b"121.593/2/0 ";
+
+const STOP_OFF: &[u8] = b"121.593/2/0 DESK-LATE-OFF/2/0 ";
+
+const FLAG_OFF: &[u8] = b"121.595/2/0 DESK-LATE-OFF/2/0 ";
+
+const TABLES: &[u8] = b"DESK-TABLES/0/0 ";
 
 fn are_late(alloc: Global, tables: &Tables) -> Result<bool, OutOfMemory> {
     let (domestic, flag) = (Kind::Domestic, Kind::Flag);
     for (kind, phase, minutes, wanted) in [
         (domestic, Phase::Drafted, 60, b"".as_slice()),
-        (domestic, Phase::Drafted, 61, b"DESK-LATE-OFF/1/0 "),
+        (domestic, Phase::Drafted, 61, OFF_1),
         (flag, Phase::Ready, 60, b""),
-        (flag, Phase::Ready, 61, b"DESK-LATE-OFF/1/0 "),
+        (flag, Phase::Ready, 61, OFF_1),
         (domestic, Phase::Flying { leg: 1 }, 90, b""),
         (domestic, Phase::Flying { leg: 1 }, 91, b"DESK-LATE-ON/1/0 "),
         (flag, Phase::Flying { leg: 2 }, 150, b""),
         (flag, Phase::Flying { leg: 2 }, 151, b"DESK-LATE-ON/2/0 "),
-        (domestic, stopped(ETD + 50, false), 110, b""),
-        (domestic, stopped(ETD + 50, false), 111, b"121.593/2/0 "),
-        (domestic, stopped(ETD + 50, false), 120, b"121.593/2/0 "),
-        (
-            domestic,
-            stopped(ETD + 50, false),
-            121,
-            b"121.593/2/0 DESK-LATE-OFF/2/0 ",
-        ),
-        (domestic, stopped(ETD + 50, true), 120, b""),
-        (
-            domestic,
-            stopped(ETD + 50, true),
-            121,
-            b"DESK-LATE-OFF/2/0 ",
-        ),
-        (flag, stopped(ETD + 50, false), 410, b"DESK-LATE-OFF/2/0 "),
-        (
-            flag,
-            stopped(ETD + 50, false),
-            411,
-            b"121.595/2/0 DESK-LATE-OFF/2/0 ",
-        ),
-        (flag, stopped(ETD + 50, true), 411, b"DESK-LATE-OFF/2/0 "),
+        (domestic, stopped(50, false), 110, b""),
+        (domestic, stopped(50, false), 111, STOP),
+        (domestic, stopped(50, false), 120, STOP),
+        (domestic, stopped(50, false), 121, STOP_OFF),
+        (domestic, stopped(50, true), 120, b""),
+        (domestic, stopped(50, true), 121, OFF_2),
+        (flag, stopped(50, false), 410, OFF_2),
+        (flag, stopped(50, false), 411, FLAG_OFF),
+        (flag, stopped(50, true), 411, OFF_2),
         (domestic, Phase::Completed { at: ETD }, 500, b""),
         (domestic, Phase::Cancelled { at: ETD }, 500, b""),
     ] {
-        if !is_late(
-            alloc,
-            tables,
-            (b"N801DK", kind),
-            phase,
-            minutes,
-            (wanted, b""),
-        )? || !is_late(
-            alloc,
-            tables,
-            (b"N999DK", kind),
-            phase,
-            minutes,
-            (wanted, b"DESK-TABLES/0/0 "),
-        )? {
+        if !is_late(alloc, tables, kind, phase, minutes, wanted)? {
             return Ok(false);
         }
     }

@@ -1,18 +1,33 @@
-//! A small airline for tests: the texts of its twelve tables, and whether a plan has the form in which it may be
-//! checked.
+//! A small airline for tests: the texts of its twelve tables, its scripts and reports, and whether plans and
+//! phases have the form in which they may be checked.
 #![tactic(auto)]
 
 mod plans;
+mod reports;
+mod scripts;
 
 use desk_io::{MemoryShelf, OutOfMemory, Text, push_all};
 use ops_tables::Tables;
-pub use plans::may_be_checked;
+pub use plans::{fits, has_moment, may_be_checked};
+pub use reports::{DAY, admit, reports_of};
+pub use scripts::{SIGNED, push_script, script_of};
 use std::alloc::Global;
 use table_files::{TableFault, read_tables};
 
 // A small airline: the name of each table and its lines, with a line of dashes between tables.
 const SMALL: &str =
-    "settings.csv\nname,value\nhold_minutes,60\nmarginal_ceiling,200\nsingle_ceiling,400\ndouble_ceiling,200\nmarginal_vis16,8\nsingle_vis16,16\ndouble_vis16,8\nlate_off,60\nlate_on,30\n--\nairports.csv\nstation,conus,circle\nKBOS,1,0\nKJFK,1,0\nKPHL,1,0\nEGLL,0,0\nEINN,0,0\n--\napproaches.csv\nstation,name,runway,capability,height,ceiling,vis16\nKBOS,ILS04R,04R,ILS,200,200,8\nKJFK,ILS22L,22L,ILS,200,200,8\nKPHL,ILS27R,27R,ILS,200,200,8\nKPHL,RNV09R,09R,GPS,400,400,16\nEGLL,ILS27L,27L,ILS,200,200,8\nEINN,ILS24,24,ILS,200,200,8\n--\nalternates.csv\nstation,ceiling,vis16\nEINN,600,32\n--\ntypes.csv\nkind,engines,oei_knots,cruise_pph,hold_pph,capabilities\nA320,2,400,6000,5000,ILS GPS\nB763,2,420,11500,9001,ILS GPS\n--\ntails.csv\ntail,kind\nN801DK,A320\nN901DK,B763\n--\nuses.csv\nkind,station\nA320,KBOS\nA320,KJFK\nA320,KPHL\nB763,KBOS\nB763,KJFK\nB763,KPHL\nB763,EGLL\nB763,EINN\n--\ndistances.csv\nfrom,to,miles\nKBOS,KJFK,162\n--\nroutes.csv\nfrom,to\n--\nmel.csv\nkind,item,category,days,capability,extra_fuel,flag_ok,max_minutes\nA320,34-1,B,0,,0,1,0\nA320,22-1,C,0,ILS,0,1,0\n--\npairs.csv\nkind,item,other\nA320,22-1,34-1\n--\nactors.csv\nname,key,role\nD1,kD1,D\nD2,kD2,D\nC7,kC7,C\nF1,kF1,F\nM1,kM1,M\nS1,kS1,S\n";
+    "settings.csv\nname,value\nhold_minutes,60\nmarginal_ceiling,200\nsingle_ceiling,400\ndouble_ceiling,200\nmarginal_vis16,8\nsingle_vis16,16\ndouble_vis16,8\nlate_off,60\nlate_on,30\n--\n\
+    airports.csv\nstation,conus,circle\nKBOS,1,0\nKJFK,1,0\nKPHL,1,0\nEGLL,0,0\nEINN,0,0\n--\n\
+    approaches.csv\nstation,name,runway,capability,height,ceiling,vis16\nKBOS,ILS04R,04R,ILS,200,200,8\nKJFK,ILS22L,22L,ILS,200,200,8\nKPHL,ILS27R,27R,ILS,200,200,8\nKPHL,RNV09R,09R,GPS,400,400,16\nEGLL,ILS27L,27L,ILS,200,200,8\nEINN,ILS24,24,ILS,200,200,8\n--\n\
+    alternates.csv\nstation,ceiling,vis16\nEINN,600,32\n--\n\
+    types.csv\nkind,engines,oei_knots,cruise_pph,hold_pph,capabilities\nA320,2,400,6000,5000,ILS GPS\nB763,2,420,11500,9001,ILS GPS\n--\n\
+    tails.csv\ntail,kind\nN801DK,A320\nN901DK,B763\n--\n\
+    uses.csv\nkind,station\nA320,KBOS\nA320,KJFK\nA320,KPHL\nB763,KBOS\nB763,KJFK\nB763,KPHL\nB763,EGLL\nB763,EINN\n--\n\
+    distances.csv\nfrom,to,miles\nKBOS,KJFK,162\n--\n\
+    routes.csv\nfrom,to\n--\n\
+    mel.csv\nkind,item,category,days,capability,extra_fuel,flag_ok,max_minutes\nA320,34-1,B,0,,0,1,0\nA320,22-1,C,0,ILS,0,1,0\n--\n\
+    pairs.csv\nkind,item,other\nA320,22-1,34-1\n--\n\
+    actors.csv\nname,key,role\nD1,kD1,D\nD2,kD2,D\nC7,kC7,C\nF1,kF1,F\nM1,kM1,M\nS1,kS1,S\n";
 
 /// Adds the files of the small airline. Of two sources with one name the first counts.
 pub fn push_small(alloc: Global, sources: &mut Vec<(Text, Text)>) -> Result<(), OutOfMemory> {

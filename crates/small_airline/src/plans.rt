@@ -1,9 +1,11 @@
 ghost use Rattle.std.specs.Prelude.{IsTrue};
 ghost use Rattle.std.specs.List.{AllByRecursion};
 ghost use Rattle.plan.specs.Check.{HasMoments, IsPlan};
+ghost use Rattle.plan.specs.Phases.{PhaseFits};
+ghost use Rattle.plan.specs.Texts.{HasMoment};
 
 use desk_time::{FIRST, LAST};
-use plan::{Leg, Plan};
+use plan::{Leg, Phase, Plan};
 
 fn has_moments(leg: &Leg) -> bool
     ensures { IsTrue result → HasMoments leg.now }
@@ -30,4 +32,26 @@ pub fn may_be_checked(plan: &Plan) -> bool
 {
     let legs = plan.legs.as_slice();
     legs.len() <= 1_000 && have_moments(legs)
+}
+
+/// Whether the moment of a phase can be read and shown, where it has one.
+pub fn has_moment(phase: Phase) -> bool
+    ensures { IsTrue result → HasMoment phase }
+{
+    match phase {
+        Phase::Drafted | Phase::Ready | Phase::Flying { .. } => true,
+        Phase::Stopped { since, .. } => FIRST <= since && since <= LAST,
+        Phase::Completed { at } | Phase::Cancelled { at } => FIRST <= at && at <= LAST,
+    }
+}
+
+/// Whether a plan has the leg that a phase names.
+pub fn fits(phase: Phase, legs: &[Leg]) -> bool
+    ensures { IsTrue result → PhaseFits phase legs.now }
+{
+    match phase {
+        Phase::Flying { leg } => 1 <= leg && leg as usize <= legs.len(),
+        Phase::Stopped { next, .. } => 1 <= next && next as usize <= legs.len(),
+        Phase::Drafted | Phase::Ready | Phase::Completed { .. } | Phase::Cancelled { .. } => true,
+    }
 }
