@@ -1,57 +1,14 @@
-ghost use Rattle.std.specs.Prelude.{◌≡◌, ◌<◌, ◌≤◌, All, IfOk, IsTrue};
-ghost use Rattle.facts.specs.Reading.{IsRead};
-
 use codes::ReportFault;
 use desk_io::OutOfMemory;
-use desk_time::{FIRST, LAST, Minute};
-use facts::{Received, Report, Reports, push_weather, push_weather_at, receive};
+use facts::{Reports, push_weather, push_weather_at};
+use small_airline::{DAY, reports_of};
 use stations::Station;
 use std::alloc::Global;
 use std::test::Fail;
 
-/// 2025-03-12 00:00.
-pub const DAY: Minute = 29_028_960;
-
-fn report(alloc: Global, id: u64, received: Minute, text: &[u8]) -> Result<Report, ReportFault>
-    requires low { FIRST ≤ received }
-    requires high { received ≤ LAST }
-    ensures id { IfOk result (λ report. report.id ≡ id) }
-    ensures read { IfOk result IsRead }
-{
-    let Received { text, read } = receive(alloc, text, received)?;
-    Ok(Report {
-        id,
-        received,
-        text,
-        read,
-    })
-}
-
-fn is_above(reports: &[Report], id: u64) -> bool
-    ensures { IsTrue result → All (λ held. held.id < id) reports.now }
-{
-    reports.iter().all(|held| held.id < id)
-}
-
-/// Admits a report that came at 17:40 of that day, under a number above all.
-pub fn admit(
-    alloc: Global,
-    reports: &mut Reports,
-    id: u64,
-    text: &[u8],
-) -> Result<(), ReportFault> {
-    let report = report(alloc, id, DAY + 1060, text)?;
-    if is_above(reports.as_slice(), id) {
-        reports.reserve(&report)?;
-        reports.admit(report);
-    }
-    Ok(())
-}
-
 // Reports of three stations, under numbers that rise with gaps.
 fn held(alloc: Global) -> Result<Reports, ReportFault> {
-    let mut reports = Reports::new(alloc);
-    for (id, text) in [
+    let rows = [
         (
             1,
             b"SPECI KJFK 121738Z 24012KT 4SM BR BKN015 11/09 A3008".as_slice(),
@@ -60,10 +17,8 @@ fn held(alloc: Global) -> Result<Reports, ReportFault> {
         (4, b"TAF KJFK 121720Z 1218/1324 24010KT P6SM BKN030"),
         (7, b"TAF KJFK 121720Z 1218/1324 24010KT P6SM BKN030"),
         (8, b"TAF EINN 121720Z NIL"),
-    ] {
-        admit(alloc, &mut reports, id, text)?;
-    }
-    Ok(reports)
+    ];
+    reports_of(alloc, &rows)
 }
 
 /// The numbers of the latest METAR and the latest TAF of a station.

@@ -1,7 +1,8 @@
-use crate::held::{DAY, admit, latest};
+use crate::held::latest;
 use codes::ReportFault;
 use desk_time::{FIRST, LAST, Minute};
 use facts::Reports;
+use small_airline::{DAY, admit, reports_of};
 use std::alloc::Global;
 use std::test::Fail;
 
@@ -13,8 +14,7 @@ const KEPT: &[u8] = b"TAF KJFK 111120Z 1112/1218 24010KT P6SM BKN030";
 
 // Reports of two stations from three days. Numbers 1 and 8 have the same text.
 fn three_days(alloc: Global) -> Result<Reports, ReportFault> {
-    let mut reports = Reports::new(alloc);
-    for (id, text) in [
+    let rows = [
         (1, CLEAR),
         (2, EARLY),
         (3, b"METAR KPHL 101654Z 9SM CLR"),
@@ -25,10 +25,8 @@ fn three_days(alloc: Global) -> Result<Reports, ReportFault> {
         (8, CLEAR),
         (9, b"METAR KJFK 111650Z 6SM CLR"),
         (10, b"TAF KJFK 121720Z 1218/1324 24010KT P6SM BKN030"),
-    ] {
-        admit(alloc, &mut reports, id, text)?;
-    }
-    Ok(reports)
+    ];
+    reports_of(alloc, &rows)
 }
 
 fn have_ids(reports: &Reports, ids: &[u64]) -> bool {

@@ -1,4 +1,0 @@
-use Rattle.reports_acceptance.proofs.held.report.Goals as goal
-
-pub returns-clause-read : goal.returns-clause-read
-returns-clause-read c = c.in_ok-text.ensures.read c.args.id
