@@ -1,8 +1,8 @@
 -- Each ask changes no more than it may.
-use Rattle.std.proofs.Common.{◌≡◌, ℕ, ◌+◌, ◌<◌, ◌&&◌, ltb, IfSome, Bool, true, false, List, Option, None, Some, Result, Ok, Err, inl, inr, refl, ap, subst, sym, cond, eqb, eq-eqb, ◌≢◌, ◌||◌, [], ◌∷◌, length, is_some, is_none, arith}
+use Rattle.std.proofs.Common.{◌≡◌, ◌⊎◌, ℕ, ◌+◌, ◌<◌, ◌&&◌, ltb, IfSome, Bool, true, false, List, Option, None, Some, Result, Ok, Err, inl, inr, refl, ap, subst, sym, cond, eqb, eq-eqb, ◌≢◌, ◌||◌, [], ◌∷◌, length, is_some, is_none, arith}
 use Rattle.std.specs.Prelude.{nat_le, nat_lt, find}
 use Rattle.std.specs.Option.{option_map}
-use Rattle.std.proofs.lemmas.Bool.{leb-false, ltb-true, ltb-false, eqb-true, or_right, and_parts}
+use Rattle.std.proofs.lemmas.Bool.{leb-true, leb-false, ltb-true, ltb-false, eqb-true, or_cases, or_right, and_parts}
 use Rattle.std.specs.Str.{bytes_eq}
 use Rattle.std.specs.List.{list_any}
 use Rattle.codes.specs.Groups.{groups_of, canonical}
@@ -53,12 +53,12 @@ use Rattle.desk_state.specs.Requests.{kept_at, floor_at}
 use Rattle.desk_state.specs.declared.effect.Effect.{Effect}
 use Rattle.desk_state.specs.declared.effect.Decision.{Decision}
 use Rattle.desk_state.specs.declared.effect.Decision.TheVariants.{Show, Do}
-use Rattle.desk_state.specs.State.{State, grounds_of, failing_in, failing_of, release_at, alert_at, judged, is_sweep}
+use Rattle.desk_state.specs.State.{State, grounds_of, failing_in, failing_of, release_at, alert_at, judged, is_full, is_sweep}
 use Rattle.desk_state.specs.Chain.{◌>>-◌, unless}
 use Rattle.desk_state.specs.People.{not_his_role}
 use Rattle.desk_state.specs.Decide as d
 use Rattle.desk_state.specs.Decide.{decide}
-use Rattle.desk_state.specs.Allowed.{MaySign, GainsDispatcher, GainsCaptain, GainsWeather, BothAre, IsPreparing, IsSigning, IsReleased, IsConcurring, HasNotEnded, IsCancelling, IsNextRevision, IsAmending, HasMore, HasNoMore, has_text, IsNextLeg, IsCaptainOf, FliesAs, FliesBy, IsDeparting, IsStopping, IsCompleting, IsInVersion, IsAcknowledging, OfHeld, IsListed, IsEffectOf, admits, defers, clears, drafts, prepares, signs, concurs, amends, cancels, departs, stops, completes, acknowledges, purges, sweeps, HasEndedAt, AskedOf, IsShownTo, IsAnswer, IsUnused, DecisionOf, IsSweeping}
+use Rattle.desk_state.specs.Allowed.{MaySign, GainsDispatcher, GainsCaptain, GainsWeather, BothAre, IsPreparing, IsSigning, IsReleased, IsConcurring, HasNotEnded, IsCancelling, IsNextRevision, IsAmending, HasMore, HasNoMore, has_text, IsNextLeg, IsCaptainOf, FliesAs, FliesBy, IsDeparting, IsStopping, IsCompleting, IsInVersion, IsAcknowledging, OfHeld, IsListed, IsEffectOf, admits, defers, clears, drafts, prepares, signs, concurs, amends, cancels, departs, stops, completes, acknowledges, purges, sweeps, HasEndedAt, AskedOf, IsShownTo, IsAnswer, IsUnused, DecisionOf, IsSweeping, IsFull}
 use Rattle.desk_io.proofs.Bytes.{same_bytes}
 
 given : {A : Type 0} (s : State) (actor : List ℕ) (a : Ask) (m : Result A Refusal) (f : A → Result Decision Refusal) → ((x : A) → m ≡ Ok x → AskedOf s actor a (f x)) → AskedOf s actor a (m >>- f)
@@ -218,7 +218,7 @@ captain_is : (actor holder : List ℕ) (active : Option Revision) → IsThere ac
 captain_is actor holder None there e = absurd there
 captain_is actor holder (Some v) there e = e
 
-flies_as : (role : Role) (actor : List ℕ) (q : Release) → IsThere q.active → cond (is_captain_role role) (d.captain_or q.active q.holder) q.holder ≡ actor → FliesAs role actor q
+pub flies_as : (role : Role) (actor : List ℕ) (q : Release) → IsThere q.active → cond (is_captain_role role) (d.captain_or q.active q.holder) q.holder ≡ actor → FliesAs role actor q
 flies_as D actor q there e = e
 flies_as C actor q there e = captain_is actor q.holder q.active there e
 flies_as F actor q there e = e
@@ -434,7 +434,7 @@ acknowledge s actor id version =
     (λ seen. acknowledges (some_given _ (release_at id s.releases) q e)
     (acknowledging s q actor version a (some_given _ (alert_at q.id s.alerts) a f) (his q.holder actor own) (in_version a version seen))))))
 
-has_ended : (phase : Phase) (at : ℕ) → d.ended_at phase ≡ Some at → HasEndedAt phase at
+pub has_ended : (phase : Phase) (at : ℕ) → d.ended_at phase ≡ Some at → HasEndedAt phase at
 has_ended Drafted at e = absurd (cc)
 has_ended Ready at e = absurd (cc)
 has_ended (Flying leg) at e = absurd (cc)
@@ -465,7 +465,7 @@ view_weather s actor station = known s actor (ask.ViewWeather station) (d.no_air
 
 -- What soundness says of a release that is held.
 
-valid_held : (s : State) (id : ℕ) (q : Release) → Sound s → release_at id s.releases ≡ Some q → MayStand s.counters.events q
+pub valid_held : (s : State) (id : ℕ) (q : Release) → Sound s → release_at id s.releases ≡ Some q → MayStand s.counters.events q
 valid_held s id q sound is =
     subst (λ (o : Option Release). IfSome o (MayStand s.counters.events)) is (found_each (MayStand s.counters.events) (λ r. eqb r.id id) s.releases sound.valid)
 
@@ -491,7 +491,7 @@ judged_by g (Stopped next since again) leg pending (Some v) e is none = absurd (
 judged_by g (Completed at) leg pending active e is none = absurd (cc)
 judged_by g (Cancelled at) leg pending active e is none = absurd (cc)
 
-depart_there : (phase : Phase) (leg : ℕ) (pending active : Option Revision) → d.may_depart phase leg ≡ true → IsPhased phase pending active → IsThere active
+pub depart_there : (phase : Phase) (leg : ℕ) (pending active : Option Revision) → d.may_depart phase leg ≡ true → IsPhased phase pending active → IsThere active
 depart_there Drafted leg pending active e is = absurd (cc)
 depart_there Ready leg pending active e is = is
 depart_there (Flying n) leg pending active e is = absurd (cc)
@@ -499,7 +499,7 @@ depart_there (Stopped next since again) leg pending active e is = is
 depart_there (Completed at) leg pending active e is = absurd (cc)
 depart_there (Cancelled at) leg pending active e is = absurd (cc)
 
-arrive_there : (phase : Phase) (leg : ℕ) (pending active : Option Revision) → d.may_arrive phase leg ≡ true → IsPhased phase pending active → IsThere active
+pub arrive_there : (phase : Phase) (leg : ℕ) (pending active : Option Revision) → d.may_arrive phase leg ≡ true → IsPhased phase pending active → IsThere active
 arrive_there Drafted leg pending active e is = absurd (cc)
 arrive_there Ready leg pending active e is = absurd (cc)
 arrive_there (Flying n) leg pending active e is = is
@@ -636,3 +636,11 @@ no_sweep s actor (completes is) e = refl
 no_sweep s actor (acknowledges is has) e = refl
 no_sweep s actor (sweeps is) e = absurd (cc)
 no_sweep s actor (purges is has) e = refl
+
+-- no event may come any more
+pub full_says : (s : State) → is_full s ≡ true → IsFull s
+full_says s e = by (or_cases (nat_le 400_000 (length s.entries)) (nat_le 999_999_999_999_000 s.counters.events) e)
+  where
+    by : (nat_le 400_000 (length s.entries) ≡ true) ⊎ (nat_le 999_999_999_999_000 s.counters.events ≡ true) → IsFull s
+    by (inl many) = inl (leb-true 400_000 (length s.entries) many)
+    by (inr many) = inr (leb-true 999_999_999_999_000 s.counters.events many)

@@ -658,7 +658,7 @@ removed_fits s id r at sound is ended = record {
 
 -- until when a release is kept, from the moment at which it ended
 
-ended_moment : (phase : Phase) (at : ℕ) → d.ended_at phase ≡ Some at → HasMoment phase → IsMoment at
+pub ended_moment : (phase : Phase) (at : ℕ) → d.ended_at phase ≡ Some at → HasMoment phase → IsMoment at
 ended_moment Drafted at e has = absurd (cc)
 ended_moment Ready at e has = absurd (cc)
 ended_moment (Flying leg) at e has = absurd (cc)

@@ -38,23 +38,23 @@ use Rattle.desk_state.specs.People.{may_ask, mistaken, not_his_role}
 use Rattle.desk_state.specs.Decide as d
 use Rattle.desk_state.specs.Decide.{decide}
 use Rattle.desk_state.specs.Allowed.{IsAcknowledged, FollowsIf, IsAlertAfter, IsEffectOf, IsUnused, DecisionOf, IsEntryOf, IsAfter, IsKeptOf, IsPermitted, IsSaidTo, MayLeadTo, MayTickTo, LeavesAlert}
-use Rattle.desk_state.proofs.AllowedLaws.{decision_is}
+use Rattle.desk_state.proofs.AllowedLaws.{decision_is, full_says}
 use Rattle.desk_io.proofs.Bytes.{same_bytes}
 use Rattle.desk_state.proofs.Passed.{so}
 
 -- Who may make a call.
 
 -- the person has a role that the ask is for
-abbrev HasRole : Option Actor → Ask → Type 0
+abbrev pub HasRole : Option Actor → Ask → Type 0
 HasRole None a = ⊥
 HasRole (Some person) a = may_ask a person.role ≡ true
 
-role_by : (o : Option Actor) (a : Ask) → not_his_role o a ≡ None → HasRole o a
+pub role_by : (o : Option Actor) (a : Ask) → not_his_role o a ≡ None → HasRole o a
 role_by None a e = absurd (cc)
 role_by (Some person) a e = so (may_ask a person.role) _ e
 
 -- a call that isn't refused
-abbrev Goes : Result Decision Refusal → Type 0
+abbrev pub Goes : Result Decision Refusal → Type 0
 Goes (Err refusal) = ⊥
 Goes (Ok decision) = Unit {0}
 
@@ -62,11 +62,11 @@ unless_goes : (o : Option Refusal) (rest : Result Decision Refusal) → Goes (un
 unless_goes None rest goes = refl
 unless_goes (Some x) rest goes = absurd goes
 
-decided_role : (s : State) (call : Call) → Goes (decide s call) → HasRole (actor_of s.tables call.actor) call.ask
+pub decided_role : (s : State) (call : Call) → Goes (decide s call) → HasRole (actor_of s.tables call.actor) call.ask
 unfolding decide
 decided_role s call goes = role_by (actor_of s.tables call.actor) call.ask (unless_goes (not_his_role (actor_of s.tables call.actor) call.ask) (d.decide_numbered (d.is_view call.ask) s call) goes)
 
-permitted_by : (s : State) (call : Call) (o : Option Actor) → actor_of s.tables call.actor ≡ o → mistaken o call.key ≡ None → HasRole o call.ask → IsPermitted s call
+pub permitted_by : (s : State) (call : Call) (o : Option Actor) → actor_of s.tables call.actor ≡ o → mistaken o call.key ≡ None → HasRole o call.ask → IsPermitted s call
 permitted_by s call None is right has = absurd has
 permitted_by s call (Some person) is right has = record {
   person = person;
@@ -176,7 +176,7 @@ call_leads s t lane call reply sound kept form one two =
     (subst (λ (x : Option Reply). MayLeadTo lane call s (answer_call s lane call).state x) (sym two) (do_leads s lane call (mistaken (actor_of s.tables call.actor) call.key) sound kept form refl))
 
 tick_leads_by : (full : Bool) (s : State) (lane to : ℕ) → is_full s ≡ full → Sound s → IsMoment to → MayTickTo lane to s (tick_unless full s lane to).state (tick_unless full s lane to).reply
-tick_leads_by true s lane to full sound shown = inl (refl, full, refl)
+tick_leads_by true s lane to full sound shown = inl (refl, full_says s full, refl)
 tick_leads_by false s lane to full sound shown =
     inr (refl, entry lane (what.Tick to), refl, refl, append-nil s.kept, effect_after (tick to) (entry lane (what.Tick to)) s (tick_fits s to shown) sound)
 

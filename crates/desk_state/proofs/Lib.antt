@@ -10,6 +10,7 @@ pub mod Boards
 pub mod Changes
 pub mod AllowedLaws
 pub mod LeadingLaws
+pub mod CauseLaws
 pub mod ToldLaws
 pub mod RepeatLaws
 pub mod SweepLaws

@@ -40,7 +40,7 @@ use Rattle.desk_state.specs.declared.effect.Decision.TheVariants.{Show, Do}
 use Rattle.desk_state.specs.declared.entry.Entry.{Entry}
 use Rattle.desk_state.specs.declared.entry.What.{What}
 use Rattle.desk_state.specs.declared.entry.What.TheVariants as what
-use Rattle.desk_state.specs.State.{State, grounds_of, failing_of, release_at, alert_at, is_full}
+use Rattle.desk_state.specs.State.{State, grounds_of, failing_of, release_at, alert_at}
 use Rattle.desk_state.specs.Events.{effected, moment_after, reports_after, reports_swept, deferrals_after, releases_after, kept_after, floors_after}
 use Rattle.desk_state.specs.Decide.{once_signed, kept_until, attached_reports, reports_before}
 use Rattle.desk_state.specs.Requests.{kept_at, floor_at, raised_by, kept_before}
@@ -493,8 +493,12 @@ MayLeadTo lane call s t reply =
     ⊎ (IsPermitted s call × (does : Effect) × (made : DoneType) × IsEffectOf s call.actor call.ask does made × (reply ≡ Some (Done made))
     × (e : Entry) × IsEntryOf lane call (Done made) e × IsKeptOf s t call does made × IsAfter does e s t)
 
+-- no event may come any more: there are 400,000 entries, or there were 999,999,999,999,000 events
+abbrev pub IsFull : State → Type 0
+IsFull s = (400_000 ≤ length s.entries) ⊎ (999_999_999_999_000 ≤ s.counters.events)
+
 -- No event may come any more, the tick is refused and nothing changes; or the moment rises, every active release is then judged, and the tick entered.
 abbrev pub MayTickTo : ℕ → ℕ → State → State → Option Reply → Type 0
 MayTickTo lane to s t reply =
-    ((t ≡ s) × (is_full s ≡ true) × (reply ≡ Some (full_reply s)))
+    ((t ≡ s) × IsFull s × (reply ≡ Some (full_reply s)))
     ⊎ ((reply ≡ None) × (e : Entry) × (e.lane ≡ lane) × (e.what ≡ what.Tick to) × (t.kept ≡ s.kept) × IsAfter (effect.tick to) e s t)

@@ -15,5 +15,6 @@ pub mod Sound
 pub mod Lanes
 pub mod Repeats
 pub mod Allowed
+pub mod Causes
 pub mod Told
 pub mod Contents
