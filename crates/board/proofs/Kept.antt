@@ -22,6 +22,8 @@ use Rattle.alerts.specs.declared.notices.Notice.{Notice}
 use Rattle.std.specs.List.{AllByRecursion}
 use Rattle.std.proofs.lemmas.List.Elements.{All-from_recursion}
 use Rattle.desk_state.specs.Allowed.{MayLeadTo, MayTickTo}
+use Rattle.desk_state.specs.Causes.{RefusesFor}
+use Rattle.desk_state.proofs.CauseLaws.{refused_for}
 use Rattle.desk_state.specs.Told.{takes_alert, AreDifferences, takes_none}
 use Rattle.desk_state.proofs.ToldLaws.{call_told, tick_told}
 use Rattle.desk_state.specs.Once.{KeepsUsed}
@@ -115,6 +117,12 @@ pub prepared_leads : (opening : State) (before held : Shown) (p : Prepared) (lan
 prepared_leads opening before held p lane call is board form stepped =
     subst (λ (b : Shown). MayLeadTo lane call b.state (installed p b.state) p.reply) is (call_leads held.state (installed p held.state) lane call p.reply board.sound board.kept form stepped.state stepped.reply)
 
+-- what is prepared refuses only for the cause of the refusal
+pub prepared_cause : (opening : State) (before held : Shown) (p : Prepared) (lane : ℕ) (call : Call) → held ≡ before → IsBoard opening held.state → IsStepped held.state p (answer_call held.state lane call)
+    → RefusesFor before.state call p.reply
+prepared_cause opening before held p lane call is board stepped =
+    subst (λ (b : Shown). RefusesFor b.state call p.reply) is (refused_for held.state lane call p.reply board.sound board.kept stepped.reply)
+
 pub ticked_leads : (opening : State) (before held : Shown) (p : Prepared) (lane to : ℕ) → held ≡ before → IsBoard opening held.state → held.state.moment < to → to ≤ 68_374_079
     → IsStepped held.state p (tick_to held.state lane to) → MayTickTo lane to before.state (installed p before.state) p.reply
 ticked_leads opening before held p lane to is board later within stepped =
@@ -200,6 +208,9 @@ room_is before opening s room p is has = ap (λ (b : Shown). b.room) is ∙ has
 pub applied_leads : (lane : ℕ) (call : Call) (s u t : State) (told reply : Option Reply) → u ≡ t → reply ≡ told → MayLeadTo lane call s u told → MayLeadTo lane call s t reply
 applied_leads lane call s u t told reply one two leads =
     subst (λ (v : State). MayLeadTo lane call s v reply) one (subst (λ (o : Option Reply). MayLeadTo lane call s u o) (sym two) leads)
+
+pub applied_cause : (s : State) (call : Call) (told reply : Option Reply) → reply ≡ told → RefusesFor s call told → RefusesFor s call reply
+applied_cause s call told reply same refuses = subst (RefusesFor s call) (sym same) refuses
 
 pub applied_ticks : (lane to : ℕ) (s u t : State) (told reply : Option Reply) → u ≡ t → reply ≡ told → MayTickTo lane to s u told → MayTickTo lane to s t reply
 applied_ticks lane to s u t told reply one two leads =

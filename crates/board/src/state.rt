@@ -4,6 +4,7 @@ ghost use Rattle.desk_state.specs.State.{start, release_at, alert_at};
 ghost use Rattle.desk_state.specs.Step.{answer_call, tick_to};
 ghost use Rattle.desk_state.specs.Texts.{closing};
 ghost use Rattle.desk_state.specs.Allowed.{MayLeadTo, MayTickTo};
+ghost use Rattle.desk_state.specs.Causes.{RefusesFor};
 ghost use Rattle.desk_state.specs.Told.{takes_alert, AreDifferences, takes_none};
 ghost use Rattle.desk_state.specs.Once.{KeepsUsed};
 ghost use Rattle.desk_state.specs.Repeats.{AcceptedOnce};
@@ -133,6 +134,7 @@ impl Board {
         ensures stepped { IfOk result (λ p. IsStepped self.old.state p (answer_call self.old.state lane call.now)) }
         ensures shown { IfOk result (λ p. IfSome p.reply ReplyHasMoment) }
         ensures own { IfOk result (λ p. MayLeadTo lane call.now self.old.state (installed p self.old.state) p.reply) }
+        ensures cause { IfOk result (λ p. RefusesFor self.old.state call.now p.reply) }
         ensures used { IfOk result (λ p. KeepsUsed self.old.state (installed p self.old.state)) }
         ensures again { IfOk result (λ p. AcceptedOnce self.old.state (installed p self.old.state) call.now) }
         ensures sweeps { IfOk result (λ p. SweepsWell self.old.state (installed p self.old.state) call.now p.reply) }
@@ -210,6 +212,7 @@ impl Board {
             (answer_call self.old.state lane call.now).state None) }
         ensures own { IfOk result (λ i. MayLeadTo lane call.now self.old.state
             (answer_call self.old.state lane call.now).state i.reply) }
+        ensures cause { IfOk result (λ i. RefusesFor self.old.state call.now i.reply) }
         ensures used { OnOk result (KeepsUsed self.old.state (answer_call self.old.state lane call.now).state) }
         ensures again { OnOk result (AcceptedOnce self.old.state
             (answer_call self.old.state lane call.now).state call.now) }

@@ -1,4 +1,4 @@
-use Rattle.board.proofs.Kept.{applied_again, applied_leads, applied_sweeps, applied_uses, installed_told}
+use Rattle.board.proofs.Kept.{applied_again, applied_cause, applied_leads, applied_sweeps, applied_uses, installed_told}
 use Rattle.board.proofs.state.Board.apply.Goals as goal
 
 pub returns-clause-own : goal.returns-clause-own
@@ -16,3 +16,6 @@ returns-clause-again g c = applied_again _ _ _ _ c.in_ok-prepared.ensures.steppe
 pub returns-clause-sweeps : goal.returns-clause-sweeps
 returns-clause-sweeps g c =
     applied_sweeps _ _ _ _ _ _ c.in_ok-prepared.ensures.stepped.state c.install.ensures.reply c.in_ok-prepared.ensures.sweeps
+
+pub returns-clause-cause : goal.returns-clause-cause
+returns-clause-cause g c = applied_cause _ _ _ _ c.install.ensures.reply c.in_ok-prepared.ensures.cause

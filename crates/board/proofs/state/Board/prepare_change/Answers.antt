@@ -1,4 +1,4 @@
-use Rattle.board.proofs.Kept.{call_ready, call_reply, prepared_leads, prepared_told, prepared_uses, prepared_again, prepared_sweeps}
+use Rattle.board.proofs.Kept.{call_ready, call_reply, prepared_cause, prepared_leads, prepared_told, prepared_uses, prepared_again, prepared_sweeps}
 use Rattle.board.proofs.state.Board.prepare_change.Goals as goal
 
 pub invariant_of-self-2 : goal.invariant_of-self-2
@@ -22,3 +22,6 @@ returns-clause-again g c = prepared_again _ _ _ _ _ _ c.self.view_is c.self.inva
 
 pub returns-clause-sweeps : goal.returns-clause-sweeps
 returns-clause-sweeps g c = prepared_sweeps _ _ _ _ _ _ c.self.view_is c.self.invariant.0 c.requires c.in_ok-prepared.ensures.stepped
+
+pub returns-clause-cause : goal.returns-clause-cause
+returns-clause-cause g c = prepared_cause _ _ _ _ _ _ c.self.view_is c.self.invariant.0 c.in_ok-prepared.ensures.stepped
