@@ -1,2 +1,3 @@
 pub mod LowestLaws
 mod FloorLaws
+mod AlternateLaws

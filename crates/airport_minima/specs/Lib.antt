@@ -1,3 +1,4 @@
 pub mod Minima
 pub mod Floor
 pub mod Lowest
+pub mod Alternate

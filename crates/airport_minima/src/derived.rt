@@ -3,6 +3,7 @@ ghost use Rattle.ops_tables.specs.Limits.{FitsApproach, FitsAlternate, FitsSetti
 ghost use Rattle.stations.specs.Pair.{AreWithin};
 ghost use Rattle.airport_minima.specs.Minima as spec;
 ghost use Rattle.airport_minima.specs.Minima.{landing, alternate_pairs};
+ghost use Rattle.airport_minima.specs.Alternate.{AreAlternateMinima};
 
 use crate::usable::{millimetres, minima_of, usable};
 use desk_io::{Listed, OutOfMemory};
@@ -190,12 +191,8 @@ fn all_own_minima(alloc: Global, rows: &[AlternateRow]) -> Result<Vec<Pair>, Out
     Ok(pairs)
 }
 
-/// The minima of a station as an alternate (14 CFR 121.625): its own where the table has any, in
-/// the order of the table. Otherwise they are derived from the approaches that the type can fly:
-/// first each with the single addend, then each two to different runways, in the order of the first
-/// and then of the second, with the higher ceiling, the higher visibility and the double addend.
 #[tactic(auto, unfolding(crate::specs::Minima::alternate_pairs))]
-pub fn alternate_pairs(
+fn own_or_derived(
     alloc: Global,
     tables: &Tables,
     kind: &TypeRow,
@@ -211,4 +208,22 @@ pub fn alternate_pairs(
     }
     let usable = usable(alloc, tables.approaches(station), kind, lost)?;
     Ok(Listed::from_vec(derived(alloc, tables.settings(), &usable)?))
+}
+
+/// The minima of a station as an alternate (14 CFR 121.625): its own where the table has any, in
+/// the order of the table. Otherwise they are derived from the approaches that the type can fly:
+/// first each with the single addend, then each two to different runways, in the order of the first
+/// and then of the second, with the higher ceiling, the higher visibility and the double addend.
+pub fn alternate_pairs(
+    alloc: Global,
+    tables: &Tables,
+    kind: &TypeRow,
+    station: Station,
+    lost: &Lost,
+) -> Result<Pairs, OutOfMemory>
+    ensures value { IfOk result (λ pairs. pairs ≡ alternate_pairs tables.now kind.now station lost.now) }
+    ensures minima { IfOk result (λ pairs. AreAlternateMinima tables.now kind.now station lost.now pairs) }
+    ensures within { IfOk result (λ pairs. AreWithin 40_000 32_186_880 pairs) }
+{
+    own_or_derived(alloc, tables, kind, station, lost)
 }

@@ -1,4 +1,3 @@
-ghost use Rattle.std.specs.Prelude.{◌≡◌};
 ghost use Rattle.desk_state.specs.Chain as spec;
 ghost use Rattle.decisions.specs.Answers.{Passes, IsWant};
 

@@ -65,7 +65,7 @@ fn bad_change(plan: &Plan, newest: Option<&Revision>, phase: Phase) -> Result<()
 
 fn newest_number(newest: Option<&Revision>, phase: Phase) -> u64
     requires { IfSome (option_copied newest) (IsNewest phase) }
-    ensures value { result ≡ spec.newest_number (option_copied newest.entry) }
+    ensures value { result ≡ texts.revision_number (option_copied newest.entry) }
     ensures small { result ≤ 999_999_999_999_999 }
 {
     match newest {

@@ -15,7 +15,7 @@ use desk_io::{OutOfMemory, Text};
 use desk_state::{Content, Decision, Effect};
 use desk_time::Minute;
 use ops_tables::Actor;
-use plan::{Phase, Release, Revision, is_active};
+use plan::{Phase, Release, Revision, is_active, is_flying};
 use rules::Steps;
 use std::alloc::Global;
 use std::sync::ledger::Ledger;
@@ -28,19 +28,6 @@ fn may_depart(phase: Phase, leg: u32) -> bool
         Phase::Stopped { next, .. } => leg == next,
         Phase::Drafted | Phase::Flying { .. } | Phase::Completed { .. } | Phase::Cancelled { .. } =>
             false,
-    }
-}
-
-fn may_arrive(phase: Phase, leg: u32) -> bool
-    ensures { result ≡ spec.may_arrive phase leg }
-{
-    match phase {
-        Phase::Flying { leg: in_flight } => leg == in_flight,
-        Phase::Drafted
-        | Phase::Ready
-        | Phase::Stopped { .. }
-        | Phase::Completed { .. }
-        | Phase::Cancelled { .. } => false,
     }
 }
 
@@ -154,7 +141,7 @@ pub(crate) fn arrive(
     ensures read { IfOk result DecisionAdmitsRead }
 {
     let release = held(content, id)?;
-    out_of_phase(may_arrive(release.phase, leg), release.phase)?;
+    out_of_phase(is_flying(release.phase, leg), release.phase)?;
     let person = content.tables.actor(actor.bytes());
     not_yours(alloc, flies_by(person, release), actor)?;
     Ok(arrival(alloc, release, leg, content.moment)?)

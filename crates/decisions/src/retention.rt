@@ -1,4 +1,4 @@
-ghost use Rattle.std.specs.Prelude.{◌≡◌, ◌≤◌, IfOk};
+ghost use Rattle.std.specs.Prelude.{◌≡◌, IfOk};
 ghost use Rattle.plan.specs.Texts.{HasMoment};
 ghost use Rattle.desk_time.specs.Limits.{IsMoment};
 ghost use Rattle.desk_state.specs.Contents.{state_of};

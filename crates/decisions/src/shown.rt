@@ -1,4 +1,4 @@
-ghost use Rattle.std.specs.Prelude.{◌≡◌, [], IfOk};
+ghost use Rattle.std.specs.Prelude.{[], IfOk};
 ghost use Rattle.desk_state.specs.Contents.{state_of};
 ghost use Rattle.desk_state.specs.Decide as spec;
 ghost use Rattle.desk_state.specs.Sound.{Sound, InBounds};

@@ -30,7 +30,7 @@ use Rattle.release_text.specs.Valid.{IsPhased, IsThere}
 use Rattle.alerts.proofs.Laws.{follows}
 use Rattle.ops_tables.specs.declared.rows.Role.{Role}
 use Rattle.ops_tables.specs.declared.rows.Role.TheVariants.{D, C, F, M, S}
-use Rattle.desk_state.specs.Texts.{newest}
+use Rattle.desk_state.specs.Texts.{newest, revision_number}
 use Rattle.plan.specs.declared.findings.Finding.{Finding}
 use Rattle.plan.specs.declared.release.Phase.{Phase}
 use Rattle.plan.specs.declared.release.Phase.TheVariants.{Drafted, Ready, Flying, Stopped, Completed, Cancelled}
@@ -56,6 +56,7 @@ use Rattle.desk_state.specs.declared.effect.Decision.TheVariants.{Show, Do}
 use Rattle.desk_state.specs.State.{State, grounds_of, failing_in, failing_of, release_at, alert_at, judged, is_full, is_sweep}
 use Rattle.desk_state.specs.Chain.{◌>>-◌, unless}
 use Rattle.desk_state.specs.People.{not_his_role}
+use Rattle.plan.specs.Phases.{is_flying}
 use Rattle.desk_state.specs.Decide as d
 use Rattle.desk_state.specs.Decide.{decide}
 use Rattle.desk_state.specs.Allowed.{MaySign, GainsDispatcher, GainsCaptain, GainsWeather, BothAre, IsPreparing, IsSigning, IsReleased, IsConcurring, HasNotEnded, IsCancelling, IsNextRevision, IsAmending, HasMore, HasNoMore, has_text, IsNextLeg, IsCaptainOf, FliesAs, FliesBy, IsDeparting, IsStopping, IsCompleting, IsInVersion, IsAcknowledging, OfHeld, IsListed, IsEffectOf, admits, defers, clears, drafts, prepares, signs, concurs, amends, cancels, departs, stops, completes, acknowledges, purges, sweeps, HasEndedAt, AskedOf, IsShownTo, IsAnswer, IsUnused, DecisionOf, IsSweeping, IsFull}
@@ -116,7 +117,7 @@ next_leg (Stopped next since again) leg e = eqb-true leg next e
 next_leg (Completed at) leg e = absurd (cc)
 next_leg (Cancelled at) leg e = absurd (cc)
 
-in_flight : (phase : Phase) (leg : ℕ) → d.may_arrive phase leg ≡ true → phase ≡ Flying leg
+in_flight : (phase : Phase) (leg : ℕ) → is_flying phase leg ≡ true → phase ≡ Flying leg
 in_flight Drafted leg e = absurd (cc)
 in_flight Ready leg e = absurd (cc)
 in_flight (Flying n) leg e = ap (λ k. Flying k) (sym (eqb-true leg n e))
@@ -194,14 +195,14 @@ concurring s q v actor number digest e own may signed = record {
 
 next_revision : (s : State) (plan : Plan) (phase : Phase) (pending active : Option Revision) → (newest pending active ≡ None → ⊥) → plan_fault s.tables plan ≡ None
     → d.bad_change plan (newest pending active) phase ≡ None
-    → IsNextRevision s plan phase pending active (Some (d.fresh_revision (d.newest_number (newest pending active) + 1) plan)) (d.newest_number (newest pending active) + 1)
+    → IsNextRevision s plan phase pending active (Some (d.fresh_revision (revision_number (newest pending active) + 1) plan)) (revision_number (newest pending active) + 1)
 next_revision s plan phase (Some v) active there passes follows = (record { passes = passes; follows = good_change plan v phase follows }, refl, (refl, refl, refl, refl, refl, refl))
 next_revision s plan phase None (Some v) there passes follows = (record { passes = passes; follows = good_change plan v phase follows }, refl, (refl, refl, refl, refl, refl, refl))
 next_revision s plan phase None None there passes follows = absurd (there refl)
 
 amending : (s : State) (q : Release) (plan : Plan) (actor : List ℕ) → (newest q.pending q.active ≡ None → ⊥) → q.holder ≡ actor → HasNotEnded q.phase
     → plan_fault s.tables plan ≡ None → d.bad_change plan (newest q.pending q.active) q.phase ≡ None
-    → IsAmending s actor plan (d.newest_number (newest q.pending q.active) + 1) q (d.amended q plan)
+    → IsAmending s actor plan (revision_number (newest q.pending q.active) + 1) q (d.amended q plan)
 amending s q plan actor there own once passes follows = record {
   own = own;
   once = once;
@@ -388,7 +389,7 @@ amend s actor id plan there =
     let a : Ask = ask.Amend id plan in
     given s actor a (d.held s id) _ (λ q e. known s actor a (d.out_of_phase (d.may_change q.phase) q.phase) _ (λ may. known s actor a (d.not_yours q.holder actor) _ (λ own.
     known s actor a (d.bad_plan (plan_fault s.tables plan)) _ (λ passes. known s actor a (d.bad_change plan (newest q.pending q.active) q.phase) _
-    (λ follows. amends (of_held (IsAmending s actor plan (d.newest_number (newest q.pending q.active) + 1)) (release_at id s.releases) q _ (some_given _ (release_at id s.releases) q e)
+    (λ follows. amends (of_held (IsAmending s actor plan (revision_number (newest q.pending q.active) + 1)) (release_at id s.releases) q _ (some_given _ (release_at id s.releases) q e)
     (amending s q plan actor (there q (some_given _ (release_at id s.releases) q e) (allowed (d.may_change q.phase) q.phase may)) (his q.holder actor own)
     (not_ended q.phase (allowed (d.may_change q.phase) q.phase may)) (no_plan_fault (plan_fault s.tables plan) passes) follows)))))))
 
@@ -415,14 +416,14 @@ arrival_is : (more : Bool) (s : State) (actor : List ℕ) (id leg : ℕ) (q : Re
 arrival_is true s actor id leg q held own flying more = stops (of_held (IsStopping s actor leg) (release_at id s.releases) q _ held (stopping s q actor leg own flying more))
 arrival_is false s actor id leg q held own flying more = completes (of_held (IsCompleting s actor leg) (release_at id s.releases) q _ held (completing s q actor leg own flying more))
 
-arrive : (s : State) (actor : List ℕ) (id leg : ℕ) → ((q : Release) → release_at id s.releases ≡ Some q → d.may_arrive q.phase leg ≡ true → IsThere q.active)
+arrive : (s : State) (actor : List ℕ) (id leg : ℕ) → ((q : Release) → release_at id s.releases ≡ Some q → is_flying q.phase leg ≡ true → IsThere q.active)
     → AskedOf s actor (ask.Arrive id leg) (d.decide_arrive s actor id leg)
 arrive s actor id leg there =
     let a : Ask = ask.Arrive id leg in
-    given s actor a (d.held s id) _ (λ q e. known s actor a (d.out_of_phase (d.may_arrive q.phase leg) q.phase) _ (λ may.
+    given s actor a (d.held s id) _ (λ q e. known s actor a (d.out_of_phase (is_flying q.phase leg) q.phase) _ (λ may.
     known s actor a (d.not_yours (d.flies_by (actor_of s.tables actor) q) actor) _
-    (λ own. arrival_is (d.has_more q leg) s actor id leg q (some_given _ (release_at id s.releases) q e) (flies_by (actor_of s.tables actor) actor q (there q (some_given _ (release_at id s.releases) q e) (allowed (d.may_arrive q.phase leg) q.phase may)) own)
-    (in_flight q.phase leg (allowed (d.may_arrive q.phase leg) q.phase may)) refl)))
+    (λ own. arrival_is (d.has_more q leg) s actor id leg q (some_given _ (release_at id s.releases) q e) (flies_by (actor_of s.tables actor) actor q (there q (some_given _ (release_at id s.releases) q e) (allowed (is_flying q.phase leg) q.phase may)) own)
+    (in_flight q.phase leg (allowed (is_flying q.phase leg) q.phase may)) refl)))
 
 in_version : (a : Alert) (version : ℕ) → d.moved a version ≡ None → a.version ≡ version
 in_version a version e = eqb-true a.version version (so (eqb a.version version) _ e)
@@ -499,7 +500,7 @@ depart_there (Stopped next since again) leg pending active e is = is
 depart_there (Completed at) leg pending active e is = absurd (cc)
 depart_there (Cancelled at) leg pending active e is = absurd (cc)
 
-pub arrive_there : (phase : Phase) (leg : ℕ) (pending active : Option Revision) → d.may_arrive phase leg ≡ true → IsPhased phase pending active → IsThere active
+pub arrive_there : (phase : Phase) (leg : ℕ) (pending active : Option Revision) → is_flying phase leg ≡ true → IsPhased phase pending active → IsThere active
 arrive_there Drafted leg pending active e is = absurd (cc)
 arrive_there Ready leg pending active e is = absurd (cc)
 arrive_there (Flying n) leg pending active e is = is

@@ -54,6 +54,7 @@ use Rattle.desk_state.specs.Chain.{◌>>-◌, unless, some_or, refused_if}
 use Rattle.desk_state.specs.People.{may_ask, mistaken, not_his_role}
 use Rattle.desk_state.specs.Requests.{kept_at, floor_at}
 use Rattle.desk_state.specs.Texts.{newest}
+use Rattle.plan.specs.Phases.{is_flying}
 use Rattle.desk_state.specs.Decide as d
 use Rattle.desk_state.specs.Decide.{decide}
 use Rattle.desk_state.specs.Step.{enter, finish, do_call, do_unless, answer_call}
@@ -301,7 +302,7 @@ not_next (Stopped next since again) leg e is = eqb-false leg next e is
 not_next (Completed at) leg e is = is
 not_next (Cancelled at) leg e is = is
 
-not_flying : (phase : Phase) (leg : ℕ) → d.may_arrive phase leg ≡ false → phase ≡ Flying leg → ⊥
+not_flying : (phase : Phase) (leg : ℕ) → is_flying phase leg ≡ false → phase ≡ Flying leg → ⊥
 not_flying Drafted leg e is = absurd (cc)
 not_flying Ready leg e is = absurd (cc)
 not_flying (Flying n) leg e is = let same : leg ≡ n = cc in eqb-false leg n e same
@@ -345,7 +346,7 @@ depart s c id leg sound =
 arrive : (s : State) (c : Call) (id leg : ℕ) → Sound s → Caused s (asks c (ask.Arrive id leg)) (d.decide_arrive s c.actor id leg)
 arrive s c id leg sound =
     let a : Ask = ask.Arrive id leg in
-    of_release s c a id _ refl (λ q n. in_phase s c a q (d.may_arrive q.phase leg) _ n (not_flying q.phase leg) (λ may.
+    of_release s c a id _ refl (λ q n. in_phase s c a q (is_flying q.phase leg) _ n (not_flying q.phase leg) (λ may.
     his s c a q (d.flies_by (actor_of s.tables c.actor) q) _ n
     (flown_by (actor_of s.tables c.actor) q (arrive_there q.phase leg q.pending q.active may (valid_held s n.id q sound n.held).valid.phased))
     (arrived s c a (d.has_more q leg) q leg)))

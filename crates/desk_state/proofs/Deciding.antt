@@ -16,7 +16,7 @@ use Rattle.ops_tables.specs.declared.rows.Actor.{Actor}
 use Rattle.plan.proofs.ChangeLaws.{may_follow}
 use Rattle.plan.specs.Change.{change_fault, MayFollow}
 use Rattle.plan.specs.Check.{fault_or, first_fault, has_legs, is_captain, plan_fault, whole_fault, IsPlan}
-use Rattle.plan.specs.Phases.{PhaseFits}
+use Rattle.plan.specs.Phases.{PhaseFits, is_flying}
 use Rattle.plan.specs.declared.check.PlanWhy.{PlanWhy}
 use Rattle.plan.specs.declared.check.PlanWhy.TheVariants.{UnknownTail, UnknownCaptain, Count}
 use Rattle.plan.specs.declared.flights.Leg.{Leg}
@@ -57,7 +57,7 @@ use Rattle.desk_time.specs.Limits.{IsMoment}
 use Rattle.desk_state.specs.Sound.{Sound, InBounds, ReleaseInBounds, RevisionInBounds, IsNew, MayStand, Fits, MayReplace, IsTaken, IsToldTo, Matches, IsAlerted, EffectFits, DecisionFits}
 use Rattle.release_text.specs.Valid.{IsPhased, IsThere, AreNumbered, Waits, MaySigned, HasLegs, IsSigned}
 use Rattle.desk_state.specs.Effects as effect
-use Rattle.desk_state.specs.Texts.{newest}
+use Rattle.desk_state.specs.Texts.{newest, revision_number}
 use Rattle.asks.specs.Forms.{IsCall, CanBeShown, RefusalHasMoment}
 use Rattle.desk_state.proofs.Each.{found_each}
 use Rattle.desk_state.proofs.Parts.{later_within}
@@ -335,7 +335,7 @@ departed_fits s r leg is may =
     moved_fits s r (Flying leg) is (depart_phased r.phase leg r.pending r.active may is.fits.stands.valid.phased)
     (λ v has. record { some = has.some; fits = depart_fit r.phase leg v.plan.legs may has.some has.fits }) tt
 
-arrive_phased : (phase : Phase) (leg next since : ℕ) (again : Bool) (pending active : Option Revision) → d.may_arrive phase leg ≡ true → IsPhased phase pending active
+arrive_phased : (phase : Phase) (leg next since : ℕ) (again : Bool) (pending active : Option Revision) → is_flying phase leg ≡ true → IsPhased phase pending active
     → IsPhased (Stopped next since again) None active
 arrive_phased Drafted leg next since again pending active e is = absurd (cc)
 arrive_phased Ready leg next since again pending active e is = absurd (cc)
@@ -349,7 +349,7 @@ stop_legs : (phase : Phase) (leg since : ℕ) (o : Option Revision) → ltb leg 
 stop_legs phase leg since None e is = tt
 stop_legs phase leg since (Some v) e is = record { some = is.some; fits = (omega arith, let less = ltb-true leg (length v.plan.legs) e in omega (arith, less)) }
 
-stopped_fits : (s : State) (r : Release) (leg : ℕ) → IsHeld s r → d.may_arrive r.phase leg ≡ true → d.has_more r leg ≡ true → IsMoment s.moment → MayReplace s (d.stopped r leg s.moment)
+stopped_fits : (s : State) (r : Release) (leg : ℕ) → IsHeld s r → is_flying r.phase leg ≡ true → d.has_more r leg ≡ true → IsMoment s.moment → MayReplace s (d.stopped r leg s.moment)
 stopped_fits s r leg is may more shown = record {
   fits = record {
     stands = record {
@@ -379,12 +379,12 @@ amend_phased (Stopped next since again) w pending active e is = is
 amend_phased (Completed at) w pending active e is = absurd (cc)
 amend_phased (Cancelled at) w pending active e is = absurd (cc)
 
-amend_numbered : (w : Revision) (pending active : Option Revision) → w.number ≡ d.newest_number (newest pending active) + 1 → AreNumbered pending active → AreNumbered (Some w) active
+amend_numbered : (w : Revision) (pending active : Option Revision) → w.number ≡ revision_number (newest pending active) + 1 → AreNumbered pending active → AreNumbered (Some w) active
 amend_numbered w pending None is has = tt
 amend_numbered w (Some v) (Some x) is has = omega (arith, is, has)
 amend_numbered w None (Some x) is has = omega (arith, is)
 
-next_within : (most : ℕ) (o : Option Revision) → IfSome o (λ v. v.number ≤ most) → d.newest_number o + 1 ≤ most + 1
+next_within : (most : ℕ) (o : Option Revision) → IfSome o (λ v. v.number ≤ most) → revision_number o + 1 ≤ most + 1
 next_within most None is = omega arith
 next_within most (Some v) is = omega (arith, is)
 
@@ -418,7 +418,7 @@ amend_legs phase plan (Some v) there has e = amend_fit phase plan v.plan has.fit
 amended_fits : (s : State) (r : Release) (plan : Plan) → IsHeld s r → IsPlan plan → d.may_change r.phase ≡ true → plan_fault s.tables plan ≡ None
     → d.bad_change plan (newest r.pending r.active) r.phase ≡ None → MayReplace s (d.amended r plan)
 amended_fits s r plan is form may passes follows =
-    let w : Revision = d.fresh_revision (d.newest_number (newest r.pending r.active) + 1) plan in
+    let w : Revision = d.fresh_revision (revision_number (newest r.pending r.active) + 1) plan in
     record {
       fits = record {
         stands = record {
@@ -607,16 +607,16 @@ depart s actor id leg sound kept =
     (λ may. passed s (d.not_yours (d.flies_by (actor_of s.tables actor) r) actor) _ (if_stops _ _ tt) (λ own.
     passed s (d.fails_now s r) _ (failing_any_stops _) (λ e. put_fits s _ (departed_fits s r leg held (so (d.may_depart r.phase leg) _ may))))))
 
-arrival_fits : (more : Bool) (s : State) (r : Release) (leg : ℕ) → IsHeld s r → d.may_arrive r.phase leg ≡ true → d.has_more r leg ≡ more → IsMoment s.moment
+arrival_fits : (more : Bool) (s : State) (r : Release) (leg : ℕ) → IsHeld s r → is_flying r.phase leg ≡ true → d.has_more r leg ≡ more → IsMoment s.moment
     → DecisionFits s (Ok (d.arrival more r leg s.moment))
 arrival_fits true s r leg held may more shown = put_fits s _ (stopped_fits s r leg held may more shown)
 arrival_fits false s r leg held may more shown = put_afresh_fits s _ (completed_fits s r held shown)
 
 arrive : (s : State) (actor : List ℕ) (id leg : ℕ) → Sound s → InBounds s → DecisionFits s (d.decide_arrive s actor id leg)
 arrive s actor id leg sound kept =
-    held_by s id _ sound kept (λ r held. passed s (d.out_of_phase (d.may_arrive r.phase leg) r.phase) _ (if_stops _ _ held.fits.kept.moment)
+    held_by s id _ sound kept (λ r held. passed s (d.out_of_phase (is_flying r.phase leg) r.phase) _ (if_stops _ _ held.fits.kept.moment)
     (λ may. passed s (d.not_yours (d.flies_by (actor_of s.tables actor) r) actor) _ (if_stops _ _ tt) (λ own.
-    arrival_fits (d.has_more r leg) s r leg held (so (d.may_arrive r.phase leg) _ may) refl kept.moment)))
+    arrival_fits (d.has_more r leg) s r leg held (so (is_flying r.phase leg) _ may) refl kept.moment)))
 
 acknowledge : (s : State) (actor : List ℕ) (id version : ℕ) → Sound s → InBounds s → DecisionFits s (d.decide_acknowledge s actor id version)
 acknowledge s actor id version sound kept =

@@ -29,6 +29,7 @@ use Rattle.plan.specs.declared.flights.Plan.{Plan}
 use Rattle.plan.specs.declared.findings.Finding.{Finding}
 use Rattle.plan.specs.declared.release.Phase.{Phase}
 use Rattle.plan.specs.declared.release.Phase.TheVariants.{Drafted, Ready, Flying, Stopped, Completed, Cancelled}
+use Rattle.plan.specs.Phases.{is_flying}
 use Rattle.plan.specs.declared.release.Release.{Release}
 use Rattle.plan.specs.declared.release.Revision.{Revision}
 use Rattle.plan.specs.declared.release.Signature.{Signature}
@@ -49,7 +50,7 @@ use Rattle.desk_state.specs.State.{State, grounds_of, failing_of, release_at, al
 use Rattle.desk_state.specs.Chain.{◌>>-◌, unless, some_or, refused_if}
 use Rattle.desk_state.specs.People.{not_his_role}
 use Rattle.desk_state.specs.Requests.{kept_at, floor_at, raised_by, kept_before}
-use Rattle.desk_state.specs.Texts.{alerts_view, board_view, deferral_lines, newest, release_view}
+use Rattle.desk_state.specs.Texts.{alerts_view, board_view, deferral_lines, newest, release_view, revision_number}
 
 -- The tests.
 
@@ -194,15 +195,6 @@ may_depart (Stopped next since again) leg = leg == next
 may_depart (Completed at) leg = false
 may_depart (Cancelled at) leg = false
 
--- the leg in flight arrives
-abbrev pub may_arrive : Phase → ℕ → Bool
-may_arrive Drafted leg = false
-may_arrive Ready leg = false
-may_arrive (Flying in_flight) leg = leg == in_flight
-may_arrive (Stopped next since again) leg = false
-may_arrive (Completed at) leg = false
-may_arrive (Cancelled at) leg = false
-
 -- the phase doesn't allow it (18)
 abbrev pub out_of_phase : Bool → Phase → Option Refusal
 out_of_phase allowed phase = refused_if (not allowed) (refusal.WrongPhase phase)
@@ -285,13 +277,9 @@ with_dispatcher r v signature = record r { pending = Some (record v { dispatcher
 abbrev pub made_active : Release → Revision → Signature → Release
 made_active r v signature = record r { phase = once_signed r.phase; pending = None; active = Some (record v { captain = Some signature }) }
 
-abbrev pub newest_number : Option Revision → ℕ
-newest_number None = 0
-newest_number (Some v) = v.number
-
 -- a plan is pending, in a revision of the next number
 abbrev pub amended : Release → Plan → Release
-amended r plan = record r { pending = Some (fresh_revision (newest_number (newest r.pending r.active) + 1) plan) }
+amended r plan = record r { pending = Some (fresh_revision (revision_number (newest r.pending r.active) + 1) plan) }
 
 abbrev pub cancelled : Release → ℕ → Release
 cancelled r moment = record r { phase = Cancelled moment; pending = None }
@@ -373,7 +361,7 @@ abbrev pub decide_amend : State → List ℕ → ℕ → Plan → Result Decisio
 decide_amend s actor id plan =
     held s id >>- λ r. unless (out_of_phase (may_change r.phase) r.phase) (unless (not_yours r.holder actor)
     (unless (bad_plan (plan_fault s.tables plan)) (unless (bad_change plan (newest r.pending r.active) r.phase)
-    (Ok (Do (done.Filed r.id (newest_number (newest r.pending r.active) + 1)) (effect.put (amended r plan)))))))
+    (Ok (Do (done.Filed r.id (revision_number (newest r.pending r.active) + 1)) (effect.put (amended r plan)))))))
 
 abbrev pub decide_cancel : State → List ℕ → ℕ → Result Decision Refusal
 decide_cancel s actor id =
@@ -392,7 +380,7 @@ arrival false r leg moment = Do (done.Release r.id) (effect.put_afresh (complete
 
 abbrev pub decide_arrive : State → List ℕ → ℕ → ℕ → Result Decision Refusal
 decide_arrive s actor id leg =
-    held s id >>- λ r. unless (out_of_phase (may_arrive r.phase leg) r.phase) (unless (not_yours (flies_by (actor_of s.tables actor) r) actor)
+    held s id >>- λ r. unless (out_of_phase (is_flying r.phase leg) r.phase) (unless (not_yours (flies_by (actor_of s.tables actor) r) actor)
     (Ok (arrival (has_more r leg) r leg s.moment)))
 
 abbrev pub decide_acknowledge : State → List ℕ → ℕ → ℕ → Result Decision Refusal

@@ -4,7 +4,6 @@ use Rattle.std.specs.Prelude.{nat_lt}
 use Rattle.std.proofs.lemmas.Bool.{ltb-false, leb-false, or_parts}
 use Rattle.ops_tables.specs.Named.{AreNamed}
 use Rattle.ops_tables.specs.Tables.{TableRows}
-use Rattle.desk_time.specs.Limits.{IsMoment}
 use Rattle.desk_state.specs.Sound.{AreCounters, AreJudgeable, InBounds, IsBoard}
 use Rattle.desk_state.specs.State.{start}
 use Rattle.desk_state.proofs.Boards.{start_board}

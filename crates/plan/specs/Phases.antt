@@ -32,6 +32,15 @@ is_active (Stopped next since again) = true
 is_active (Completed at) = false
 is_active (Cancelled at) = false
 
+-- the leg of a number is in flight
+abbrev pub is_flying : Phase → ℕ → Bool
+is_flying Drafted leg = false
+is_flying Ready leg = false
+is_flying (Flying in_flight) leg = leg == in_flight
+is_flying (Stopped next since again) leg = false
+is_flying (Completed at) leg = false
+is_flying (Cancelled at) leg = false
+
 -- the leg in flight
 abbrev pub in_flight : Phase → Option ℕ
 in_flight Drafted = None

@@ -91,6 +91,20 @@ pub fn is_active(phase: Phase) -> bool
     }
 }
 
+/// Whether the leg of a number, counted from 1, is in flight.
+pub fn is_flying(phase: Phase, number: u32) -> bool
+    ensures { result ≡ spec.is_flying phase number }
+{
+    match phase {
+        Phase::Flying { leg } => number == leg,
+        Phase::Drafted
+        | Phase::Ready
+        | Phase::Stopped { .. }
+        | Phase::Completed { .. }
+        | Phase::Cancelled { .. } => false,
+    }
+}
+
 /// The signature of a person on the text of a release (14 CFR 121.663).
 #[derive(Debug, Drop)]
 pub struct Signature {

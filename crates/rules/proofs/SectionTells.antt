@@ -26,7 +26,8 @@ use Rattle.rules.specs.Weather.{is_below_landing}
 use Rattle.rules.specs.TakeoffAlternates.{needs_takeoff_alternate, lacks_takeoff_alternate, is_far, has_far_takeoff_alternate, is_below_there, has_low_takeoff_alternate}
 use Rattle.rules.specs.DestinationAlternates.{is_domestic, is_flag, lists_none, arrival_weather, needs_alternate, lacks_domestic_alternate, margin, is_marginal_landing, is_marginal_at, are_marginal, lacks_second_alternate, is_free, lacks_flag_alternate}
 use Rattle.rules.specs.Equipment.{is_paired_with, is_paired, is_too_long, forbids, is_limiting, is_due_by, is_overdue}
-use Rattle.rules.specs.Time.{only_if, unless_again, stop_limit, departs_next, is_flying, is_past}
+use Rattle.plan.specs.Phases.{is_flying}
+use Rattle.rules.specs.Time.{only_if, unless_again, stop_limit, departs_next, is_past}
 use Rattle.rules.specs.Regulation.{IsAtOrAbove, AllowsLanding, AllowsAlternate, StaysAtOrAbove, StopsAtMost, DepartsNext, first_of_draft, first, after_stop, fair, IsShortAndFair, IsFair, NeedsAlternate, IsNear, NeedsTakeoffAlternate, with_margin, IsBeyondMargin, IsBeyondMarginAtOne, IsAllowed, ArrivesBeforeRepair}
 use Rattle.rules.proofs.Tells.{Tells, tells_by, tells_same, tells_not, tells_again, tells_and, tells_neither, tells_not_both, tells_unless, tells_unless_both, tells_le, tells_lt, tells_not_less, tells_not_within, tells_true, tells_false, tells_none, tells_any, tells_each}
 use Rattle.rules.proofs.WeatherTells.{above_tells, meets_tells, stays_tells}

@@ -7,6 +7,7 @@ use Rattle.plan.specs.declared.flights.Leg.{Leg}
 use Rattle.plan.specs.declared.findings.Rule.{Rule}
 use Rattle.plan.specs.declared.findings.Rule.TheVariants.{No1, No2, No17, No18}
 use Rattle.plan.specs.declared.release.Phase.{Phase}
+use Rattle.plan.specs.Phases.{is_flying}
 use Rattle.plan.specs.declared.release.Phase.TheVariants.{Drafted, Ready, Flying, Stopped, Completed, Cancelled}
 use Rattle.rules.specs.DestinationAlternates.{is_domestic, is_flag, place_if}
 
@@ -35,15 +36,6 @@ departs_next (Flying in_flight) leg = false
 departs_next (Stopped next since again) leg = leg == next
 departs_next (Completed at) leg = false
 departs_next (Cancelled at) leg = false
-
--- the leg of a number is in flight
-abbrev pub is_flying : Phase → ℕ → Bool
-is_flying Drafted leg = false
-is_flying Ready leg = false
-is_flying (Flying in_flight) leg = leg == in_flight
-is_flying (Stopped next since again) leg = false
-is_flying (Completed at) leg = false
-is_flying (Cancelled at) leg = false
 
 -- The last minute at which the leg of a number doesn't fail a rule of time: none where the rule doesn't speak of the leg.
 -- A domestic flight may stop for an hour, a flag flight for six.

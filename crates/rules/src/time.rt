@@ -11,7 +11,7 @@ ghost use Rattle.rules.specs.Sights.{last_of, late_of};
 use crate::destination_alternates::is_domestic;
 use desk_time::Minute;
 use ops_tables::Settings;
-use plan::{Kind, Leg, Phase};
+use plan::{Kind, Leg, Phase, is_flying};
 
 /// For how many minutes a domestic flight may stop before it is released again (14 CFR 121.593).
 const DOMESTIC_STOP: u32 = 60;
@@ -91,15 +91,6 @@ impl Times {
         }
     }
 
-    fn is_flying(&self, number: u32) -> bool
-        ensures { result ≡ spec.is_flying self.now.phase number }
-    {
-        match self.phase {
-            Phase::Flying { leg } => number == leg,
-            _ => false,
-        }
-    }
-
     /// Until when a domestic flight may stop before a leg.
     pub(crate) fn domestic_stop(&self, number: u32) -> Option<Limit>
         ensures value { option_map last_of result ≡ spec.only_if (destination.is_domestic self.now.flight)
@@ -148,7 +139,7 @@ impl Times {
             self.now.phase number leg.now }
         ensures within { HasMoments leg.now → IfSome result (λ l. IsMoment l.since) }
     {
-        if self.is_flying(number) {
+        if is_flying(self.phase, number) {
             Some(Limit {
                 since: leg.eta,
                 minutes: self.settings.late_on,
