@@ -38,7 +38,7 @@ stays_by : {A : Type 0} (p : A → Bool) (y : A) (xs : List A) (b : Bool) → p 
 stays_by p y xs true e rest =
     All-cons (Stays p (y ∷ filter p xs)) y xs (λ passes. (0, omega arith, refl))
     (All-weaker (Stays p (filter p xs)) (Stays p (y ∷ filter p xs))
-      (λ x there passes. Contains-append_right (y ∷ []) (filter p xs) x (there passes)) xs rest)
+    (λ x there passes. Contains-append_right (y ∷ []) (filter p xs) x (there passes)) xs rest)
 stays_by p y xs false e rest = All-cons (Stays p (filter p xs)) y xs (λ passes. absurd (cc)) rest
 
 each_passing : {A : Type 0} (p : A → Bool) (xs : List A) → All (Stays p (filter p xs)) xs
@@ -75,8 +75,8 @@ module _ (settings : Settings) where
   first_comes : (a : Approach) (later : List Approach) → All (ComesIn (doubles_with (double_addend settings) a later) a) later
   first_comes a later = All-weaker (Stays (λ b. are_apart a b) (filter (λ b. are_apart a b) later)) (ComesIn (doubles_with (double_addend settings) a later) a)
       (λ b stays pair is. two_is a b pair (doubles_with (double_addend settings) a later) is
-        (mapped (λ b. Two a b) (filter (λ b. are_apart a b) later) b
-          (stays (differ_apart a b (bytes_eq b.runway a.runway) refl is.apart))))
+      (mapped (λ b. Two a b) (filter (λ b. are_apart a b) later) b
+      (stays (differ_apart a b (bytes_eq b.runway a.runway) refl is.apart))))
       later (each_passing (λ b. are_apart a b) later)
 
   twos_come : (approaches : List Approach) → AllPairs (ComesIn (doubles (double_addend settings) approaches)) approaches
@@ -85,30 +85,30 @@ module _ (settings : Settings) where
       let first = doubles_with (double_addend settings) a later in
       let others = doubles (double_addend settings) later in
       AllPairs-cons (ComesIn (first ++ others)) a later
-        (All-weaker (ComesIn first a) (ComesIn (first ++ others) a)
-          (λ b comes pair is. Contains-append_left first others pair (comes pair is)) later (first_comes a later))
-        (λ i j d before within pair is. Contains-append_right first others pair (twos_come later i j d before within pair is))
+      (All-weaker (ComesIn first a) (ComesIn (first ++ others) a)
+      (λ b comes pair is. Contains-append_left first others pair (comes pair is)) later (first_comes a later))
+      (λ i j d before within pair is. Contains-append_right first others pair (twos_come later i j d before within pair is))
 
   -- each pair of doubles is of two of the approaches
   first_given : (all : List Approach) (a : Approach) (later : List Approach) → Contains all a → All (Contains all) later
-    → All (IsGiven settings all) (doubles_with (double_addend settings) a later)
+      → All (IsGiven settings all) (doubles_with (double_addend settings) a later)
   first_given all a later here there =
       All-map (IsGiven settings all) (λ b. Two a b) (filter (λ b. are_apart a b) later)
-        (λ k d within. ByTwo a (get_or (filter (λ b. are_apart a b) later) k d) here
-          (All-filter (λ b. are_apart a b) (Contains all) later there k d within)
-          (record { apart = apart_differ a (get_or (filter (λ b. are_apart a b) later) k d) (filter_passes (λ b. are_apart a b) later k d within); ceiling = refl; visibility = refl }))
+      (λ k d within. ByTwo a (get_or (filter (λ b. are_apart a b) later) k d) here
+      (All-filter (λ b. are_apart a b) (Contains all) later there k d within)
+      (record { apart = apart_differ a (get_or (filter (λ b. are_apart a b) later) k d) (filter_passes (λ b. are_apart a b) later k d within); ceiling = refl; visibility = refl }))
 
   twos_given : (all approaches : List Approach) → All (Contains all) approaches → All (IsGiven settings all) (doubles (double_addend settings) approaches)
   twos_given all [] there = All-nil (IsGiven settings all)
   twos_given all (a ∷ later) there =
       All-append (IsGiven settings all) (doubles_with (double_addend settings) a later) (doubles (double_addend settings) later)
-        (first_given all a later (there 0 a (omega arith)) (λ k d within. there (suc k) d (omega (arith, within))))
-        (twos_given all later (λ k d within. there (suc k) d (omega (arith, within))))
+      (first_given all a later (there 0 a (omega arith)) (λ k d within. there (suc k) d (omega (arith, within))))
+      (twos_given all later (λ k d within. there (suc k) d (omega (arith, within))))
 
   ones_given : (all : List Approach) → All (IsGiven settings all) (map (λ a. One a) all)
   ones_given all = All-map (IsGiven settings all) (λ a. One a) all
       (All-weaker (Contains all) (λ a. IsGiven settings all (One a))
-        (λ a there. ByOne a there (record { ceiling = refl; visibility = refl })) all (All-contains_itself all))
+      (λ a there. ByOne a there (record { ceiling = refl; visibility = refl })) all (All-contains_itself all))
 
   are_given : (all : List Approach) → AreGiven settings all (derived settings all)
   are_given all =
@@ -117,14 +117,14 @@ module _ (settings : Settings) where
       record {
         only = All-append (IsGiven settings all) ones twos (ones_given all) (twos_given all all (All-contains_itself all));
         by_one = All-weaker (Contains all) (λ a. (pair : Pair) → IsByOne settings a pair → Contains (ones ++ twos) pair)
-          (λ a there pair is. Contains-append_left ones twos pair (one_is a pair ones is (mapped (λ a. One a) all a there)))
-          all (All-contains_itself all);
+            (λ a there pair is. Contains-append_left ones twos pair (one_is a pair ones is (mapped (λ a. One a) all a there)))
+            all (All-contains_itself all);
         by_two = λ i j d before within pair is. Contains-append_right ones twos pair (twos_come all i j d before within pair is);
       }
 
 module _ (tables : TableRows) (kind : TypeRow) (station : Station) (lost : List (List ℕ)) where
   are_alternate : (rows : List AlternateRow) → alternates_of tables station ≡ rows
-    → AreAlternateMinima tables kind station lost (own_or rows (derived tables.settings (usable tables kind station lost)))
+      → AreAlternateMinima tables kind station lost (own_or rows (derived tables.settings (usable tables kind station lost)))
   are_alternate [] is = record {
     its_own = λ some. absurd (omega (arith, some, ap length is));
     of_approaches = λ none. are_given tables.settings (usable tables kind station lost);

@@ -24,7 +24,7 @@ pub record IsByTwo (settings : Settings) (first second : Approach) (pair : Pair)
 pub data IsGiven (settings : Settings) (approaches : List Approach) (pair : Pair) : Type 0 where
   ByOne : (a : Approach) → Contains approaches a → IsByOne settings a pair → IsGiven settings approaches pair
   ByTwo : (a b : Approach) → Contains approaches a → Contains approaches b → IsByTwo settings a b pair
-    → IsGiven settings approaches pair
+      → IsGiven settings approaches pair
 
 -- the minima are those that some of the approaches give, and all of them
 pub record AreGiven (settings : Settings) (approaches : List Approach) (pairs : List Pair) : Type 0 where
@@ -37,6 +37,6 @@ pub record AreGiven (settings : Settings) (approaches : List Approach) (pairs : 
 pub record AreAlternateMinima (tables : TableRows) (kind : TypeRow) (station : Station) (lost : List (List ℕ))
     (pairs : List Pair) : Type 0 where
   pub its_own : 0 < length (alternates_of tables station)
-    → pairs ≡ map (λ r. record { ceiling = r.ceiling; vis = r.vis16 * 100_584 }) (alternates_of tables station)
+      → pairs ≡ map (λ r. record { ceiling = r.ceiling; vis = r.vis16 * 100_584 }) (alternates_of tables station)
   pub of_approaches : length (alternates_of tables station) ≡ 0
-    → AreGiven tables.settings (usable tables kind station lost) pairs
+      → AreGiven tables.settings (usable tables kind station lost) pairs

@@ -196,8 +196,9 @@ impl Board {
     }
 
     /// Makes a call in a lane: its reply, what it changes, and what is told of the alerts are those of
-    /// the call. A refusal, a view and a repeated report change nothing; an accepted call is of a known person, with his
-    /// key and a role for which the ask is, and changes no more than its ask may. After want of memory the board is as before.
+    /// the call. A refusal, a view and a repeated report change nothing; an accepted call is of a known person, with
+    /// his key and a role for which the ask is, and changes no more than its ask may. After want of memory the board is
+    /// as before.
     pub fn apply<L: Ledger>(
         &mut self,
         alloc: Global,
@@ -252,8 +253,9 @@ impl Board {
     }
 
     /// The greatest moment so far. What holds of a board holds whenever it is asked: its history is legal
-    /// from the opening state, and each person's accepted calls stand in it once; each active release has no alert and fails no rule, or one alert that names
-    /// exactly the rules that it fails; each active revision bears both signatures; and each part has its forms.
+    /// from the opening state, and each person's accepted calls stand in it once; each active release has no alert and
+    /// fails no rule, or one alert that names exactly the rules that it fails; each active revision bears both
+    /// signatures; and each part has its forms.
     pub fn now(&self) -> Minute
         ensures moment { result ≡ self.now.state.moment }
         ensures board { IsBoard self.now.opening self.now.state }

@@ -48,8 +48,8 @@ fn write<O: Sink>(alloc: Global, answer: Result<Text, Fault>, out: &mut O) -> u8
 
 /// Does what the words ask, and answers the status of the program. `run SCRIPT` reads the twelve tables and then the
 /// script, and loads the rows of the keeper; then the script is run on the desk of these rows. `weather FILE` reads
-/// the file alone, and asks nothing of the keeper. `serve PORT CONNECTIONS` reads the tables and loads the rows, and then so many
-/// connections are served at the port, one after another. The first fault in this order is answered.
+/// the file alone, and asks nothing of the keeper. `serve PORT CONNECTIONS` reads the tables and loads the rows, and
+/// then so many connections are served at the port, one after another. The first fault in this order is answered.
 ///
 /// - 0: all of this was read to its end, and what is said of it was written: of `run SCRIPT` a reply for
 ///   each line and the closing text, of `weather FILE` a line for each report, of `serve` the closing text.
@@ -66,9 +66,9 @@ fn write<O: Sink>(alloc: Global, answer: Result<Text, Fault>, out: &mut O) -> u8
 /// - 10: exactly where the source of that name has more than 64 MiB; `error 10 InputTooLong NAME`.
 /// - 11: only where the clock's count of faults rose, or is full; `error 11 ClockFault`.
 ///
-/// 3, 4, 5, 9 and 11 tell that the shelf, the sink, the keeper, the door or the clock isn't sound, or that the shelf lacks
-/// a source, or that fewer links come to the door than are to be served. Where no door is to be opened, or no desk was, the door
-/// and the clock are given back as they were.
+/// 3, 4, 5, 9 and 11 tell that the shelf, the sink, the keeper, the door or the clock isn't sound, or that the shelf
+/// lacks a source, or that fewer links come to the door than are to be served. Where no door is to be opened, or no desk
+/// was, the door and the clock are given back as they were.
 pub fn desk_main<R: Wait, S: Shelf, O: Sink, C: Clock + Drop, K: Keeper, D: Door>(
     rt: &R,
     alloc: Global,
@@ -85,9 +85,10 @@ pub fn desk_main<R: Wait, S: Shelf, O: Sink, C: Clock + Drop, K: Keeper, D: Door
         → HasDoor (D.seen door.old) (command_of (map string_bytes words.now))
         → IsSound (O.seen out.old).health → IsSound (K.seen keeper).health → IsSound (C.seen clock).health → Contains
         (0 ∷ 2 ∷ 6 ∷ 7 ∷ 8 ∷ 10 ∷ []) result.status }
-    // Where the words form a command, all that it reads is valid, and no fault was counted, all was done, or memory ran out.
-    ensures done { IsValid (S.seen shelf.old) (K.seen keeper).rows (command_of (map string_bytes words.now)) → HaveServed
-        (over S.seen shelf.old shelf.new) (over O.seen out.old out.new) (lent K.seen keeper result.keeper)
+    // Where the words form a command, all that it reads is valid, and no fault was counted, all was done, or memory
+    // ran out.
+    ensures done { IsValid (S.seen shelf.old) (K.seen keeper).rows (command_of (map string_bytes words.now))
+        → HaveServed (over S.seen shelf.old shelf.new) (over O.seen out.old out.new) (lent K.seen keeper result.keeper)
         (service C.seen D.seen D.Link.seen clock result.clock door.old door.new) → Contains (0 ∷ 8 ∷ []) result.status }
     ensures blames { Blames (HasSources (S.seen shelf.old) (command_of (map string_bytes words.now)))
         (IsSound (O.seen out.old).health) (IsSound (K.seen keeper).health)
@@ -97,8 +98,8 @@ pub fn desk_main<R: Wait, S: Shelf, O: Sink, C: Clock + Drop, K: Keeper, D: Door
         (service C.seen D.seen D.Link.seen clock result.clock door.old door.new)
         (lent K.seen keeper result.keeper) (command_of (map string_bytes words.now)) result.board)
         (over O.seen out.old out.new) result.status }
-    // Whatever the status: the clock tells the same moments and never goes back among them, and neither its count nor the
-    // door's falls. A sound clock stays sound, and its count stands still.
+    // Whatever the status: the clock tells the same moments and never goes back among them, and neither its count nor
+    // the door's falls. A sound clock stays sound, and its count stands still.
     ensures clock { ClockGoesOn (C.seen clock) (C.seen result.clock) }
     // At status 0 no fault of the clock was passed over.
     ensures still { result.status ≡ 0 → IsStill (C.seen clock).health (C.seen result.clock).health }
@@ -110,8 +111,8 @@ pub fn desk_main<R: Wait, S: Shelf, O: Sink, C: Clock + Drop, K: Keeper, D: Door
     // Whatever the status: without a board the rows are as before, and else they are kept for its state.
     ensures kept { AreKeptOver (lent K.seen keeper result.keeper) result.board }
     // The board is one: its history is legal from its opening state, and each active release bears both signatures on
-    // its very text, and fails no rule or has one alert that names exactly the rules that it fails. And each part of its
-    // state has the forms by which its rows are read again.
+    // its very text, and fails no rule or has one alert that names exactly the rules that it fails. And each part of
+    // its state has the forms by which its rows are read again.
     ensures board { IfSome result.board (λ b. IsBoard b.opening b.state) }
     // Over the rows of a desk that was left there is no fault of rows.
     ensures left { (s : State) → IsLeft s → TellsRowsOf (K.seen keeper).rows s → result.status ≢ 7 }

@@ -13,6 +13,7 @@ pub use check::{BadPlan, PlanWhy, check_plan};
 pub use findings::{EVERY_RULE, Finding, Findings, Rule, is_before, is_same, rules_of_legs};
 pub use flights::{Alternate, Alternates, Kind, Leg, Legs, Plan, TakeoffAlternate};
 pub use release::{
-    Attached, AttachedList, Phase, Release, Revision, Signature, Standing, is_active, is_flying, standing_of,
+    Attached, AttachedList, Phase, Release, Revision, Signature, Standing, is_active, is_flying,
+    standing_of,
 };
 pub use texts::{finding_text, phase_text};

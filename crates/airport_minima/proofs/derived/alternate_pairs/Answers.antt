@@ -6,5 +6,5 @@ use Rattle.airport_minima.proofs.derived.alternate_pairs.Goals as goal
 pub returns-clause-minima : goal.returns-clause-minima
 returns-clause-minima c =
     IfOk-weaker c.own_or_derived.result _ _
-      (λ pairs is. alternate_minima c.args.tables.now c.args.kind.now c.args.station c.args.lost.now pairs is)
-      c.own_or_derived.ensures.value
+    (λ pairs is. alternate_minima c.args.tables.now c.args.kind.now c.args.station c.args.lost.now pairs is)
+    c.own_or_derived.ensures.value
