@@ -119,7 +119,7 @@ after_is (Some a) release desk findings moment most shown order is = once_open_i
 
 -- What becomes of an alert.
 
-all_same : (fs : List Finding) → are_same fs fs ≡ true
+pub all_same : (fs : List Finding) → are_same fs fs ≡ true
 all_same [] = refl
 all_same (f ∷ fs) = rw (same_self f) (all_same fs)
 

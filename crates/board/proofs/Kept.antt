@@ -128,7 +128,7 @@ pub ticked_leads : (opening : State) (before held : Shown) (p : Prepared) (lane 
 ticked_leads opening before held p lane to is board later within stepped =
     let low = board.kept.moment.0 in
     subst (λ (b : Shown). MayTickTo lane to b.state (installed p b.state) p.reply) is
-    (tick_leads held.state (installed p held.state) lane to p.reply board.sound (omega (arith, low, later), within) stepped.state stepped.reply)
+    (tick_leads held.state (installed p held.state) lane to p.reply board.sound ((omega (arith, low, later), within), omega (arith, later)) stepped.state stepped.reply)
 
 -- what is prepared keeps what is used of the numbers of persons
 pub prepared_uses : (opening : State) (before held : Shown) (p : Prepared) (lane : ℕ) (call : Call) → held ≡ before → IsBoard opening held.state → CallHasForms call → IsStepped held.state p (answer_call held.state lane call)
@@ -159,7 +159,7 @@ ticked_uses opening before held p lane to is board later within stepped =
     let low = board.kept.moment.0 in
     subst (λ (b : Shown). KeepsUsed b.state (installed p b.state)) is
     (tick_uses held.state (installed p held.state) lane to p.reply board.formed.rising board.sound.single
-    (tick_leads held.state (installed p held.state) lane to p.reply board.sound (omega (arith, low, later), within) stepped.state stepped.reply))
+    (tick_leads held.state (installed p held.state) lane to p.reply board.sound ((omega (arith, low, later), within), omega (arith, later)) stepped.state stepped.reply))
 
 -- an entry of the history has its form
 pub entry_form : (before held : Shown) (i : ℕ) (e : Entry) → held ≡ before → AllByRecursion (λ x. IsEntered x.what) held.state.entries → i < length before.state.entries

@@ -241,7 +241,7 @@ unfolding tick_to
 tick_by true opening s lane to full board later within = board
 tick_by false opening s lane to full board later within =
     let moment : IsMoment to = (let low = board.kept.moment.0 in omega arith, within) in
-    let effect = effect_is s (tick to) (tick_fits s to moment) board.sound board.kept full in
+    let effect = effect_is s (tick to) (tick_fits s to (moment, omega (arith, later))) board.sound board.kept full in
     let is : (tick_to s lane to).state ≡ (ticked s lane to).state = rw full refl in
     let kept = event_kept (effected (tick to) s) (entry lane (what.Tick to)) effect moment in
     record {

@@ -7,8 +7,7 @@ use Rattle.std.specs.List.{AllByRecursion}
 use Rattle.ops_tables.specs.declared.rows.Actor.{Actor}
 use Rattle.ops_tables.specs.Tables.{actor_of}
 use Rattle.alerts.specs.declared.alert.Alert.{Alert}
-use Rattle.desk_state.specs.Sound.{Sound, InBounds, EffectFits, DecisionFits}
-use Rattle.desk_time.specs.Limits.{IsMoment}
+use Rattle.desk_state.specs.Sound.{Sound, InBounds, IsLater, EffectFits, DecisionFits}
 use Rattle.alerts.proofs.Laws.{follows}
 use Rattle.desk_state.specs.declared.effect.OnAlerts.{OnAlerts}
 use Rattle.desk_state.specs.declared.effect.OnAlerts.TheVariants as on_alerts
@@ -175,13 +174,13 @@ call_leads s t lane call reply sound kept form one two =
     subst (λ (u : State). MayLeadTo lane call s u reply) (sym one)
     (subst (λ (x : Option Reply). MayLeadTo lane call s (answer_call s lane call).state x) (sym two) (do_leads s lane call (mistaken (actor_of s.tables call.actor) call.key) sound kept form refl))
 
-tick_leads_by : (full : Bool) (s : State) (lane to : ℕ) → is_full s ≡ full → Sound s → IsMoment to → MayTickTo lane to s (tick_unless full s lane to).state (tick_unless full s lane to).reply
+tick_leads_by : (full : Bool) (s : State) (lane to : ℕ) → is_full s ≡ full → Sound s → IsLater s.moment to → MayTickTo lane to s (tick_unless full s lane to).state (tick_unless full s lane to).reply
 tick_leads_by true s lane to full sound shown = inl (refl, full_says s full, refl)
 tick_leads_by false s lane to full sound shown =
     inr (refl, entry lane (what.Tick to), refl, refl, append-nil s.kept, effect_after (tick to) (entry lane (what.Tick to)) s (tick_fits s to shown) sound)
 
 -- a tick leads to no other state than it may
-pub tick_leads : (s t : State) (lane to : ℕ) (reply : Option Reply) → Sound s → IsMoment to → t ≡ (tick_to s lane to).state → reply ≡ (tick_to s lane to).reply → MayTickTo lane to s t reply
+pub tick_leads : (s t : State) (lane to : ℕ) (reply : Option Reply) → Sound s → IsLater s.moment to → t ≡ (tick_to s lane to).state → reply ≡ (tick_to s lane to).reply → MayTickTo lane to s t reply
 unfolding tick_to
 tick_leads s t lane to reply sound shown one two =
     subst (λ (u : State). MayTickTo lane to s u reply) (sym one)

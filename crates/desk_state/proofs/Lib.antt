@@ -8,6 +8,7 @@ pub mod FloorLaws
 pub mod OnceLaws
 pub mod Boards
 pub mod Changes
+pub mod Untouched
 pub mod AllowedLaws
 pub mod LeadingLaws
 pub mod CauseLaws

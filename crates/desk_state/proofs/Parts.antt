@@ -24,18 +24,18 @@ use Rattle.desk_state.specs.declared.effect.OnReleases.{OnReleases}
 use Rattle.desk_state.specs.declared.effect.OnReleases.TheVariants as on_releases
 use Rattle.desk_state.specs.Effects.{tick}
 use Rattle.desk_state.specs.Events.{put_release, without_release, moment_after, reports_after, reports_swept, is_since, kept_after, deferrals_after, releases_after, next_report, next_deferral, next_release}
-use Rattle.desk_state.specs.Sound.{Sound, AreJudgeable, MayStand, ReleaseInBounds, IsNumbered, IsOpen, AreOpen, MayOpen, IsNext, AreUnlike, AreSingle, IsToldTo, Rise, DeferralsFit, ReleasesFit, EffectFits}
+use Rattle.desk_state.specs.Sound.{Sound, AreJudgeable, IsLater, MayStand, ReleaseInBounds, IsNumbered, IsOpen, AreOpen, MayOpen, IsNext, AreUnlike, AreSingle, IsToldTo, Rise, DeferralsFit, ReleasesFit, EffectFits}
 use Rattle.desk_state.specs.Requests.{is_request, kept_at}
 use Rattle.desk_state.specs.State.{State, alert_at}
 use Rattle.desk_state.proofs.Each.{put_each, put_length, without_each, without_shorter}
 use Rattle.desk_state.proofs.Judging.{AreTold, none_next, rise_push, rise_put, rise_without}
 use Rattle.desk_io.proofs.Each.{each_weaker, each_push}
 
-pub moment_shown : (o : Option ℕ) (moment : ℕ) → IfSome o IsMoment → IsMoment moment → IsMoment (moment_after o moment)
+pub moment_shown : (o : Option ℕ) (moment : ℕ) → IfSome o (IsLater moment) → IsMoment moment → IsMoment (moment_after o moment)
 moment_shown None moment fits is = is
-moment_shown (Some to) moment fits is = fits
+moment_shown (Some to) moment fits is = fits.0
 
-pub tick_fits : (s : State) (to : ℕ) → IsMoment to → EffectFits s (tick to)
+pub tick_fits : (s : State) (to : ℕ) → IsLater s.moment to → EffectFits s (tick to)
 tick_fits s to shown = record { moment = shown; report = tt; apart = tt; deferrals = tt; releases = tt }
 
 -- Reports.

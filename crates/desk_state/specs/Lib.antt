@@ -12,6 +12,7 @@ pub mod Formed
 pub mod Once
 pub mod Sweeps
 pub mod Sound
+pub mod Touched
 pub mod Lanes
 pub mod Repeats
 pub mod Allowed

@@ -204,9 +204,13 @@ AreApart None sweep = Unit {0}
 AreApart (Some r) None = Unit {0}
 AreApart (Some r) (Some w) = ⊥
 
+-- a moment that can be shown, and isn't before another
+abbrev pub IsLater : ℕ → ℕ → Type 0
+IsLater moment to = IsMoment to × (moment ≤ to)
+
 -- an effect that keeps what holds of the desk
 pub record EffectFits (s : State) (e : Effect) : Type 0 where
-  pub moment : IfSome e.moment IsMoment
+  pub moment : IfSome e.moment (IsLater s.moment)
   pub report : IfSome e.report (IsNext s)
   pub apart : AreApart e.report e.sweep
   pub deferrals : DeferralsFit s e.on_deferrals
