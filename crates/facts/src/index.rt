@@ -5,7 +5,7 @@ ghost use Rattle.facts.specs.Index as spec;
 
 use crate::latest::Kind;
 use crate::report::{Read, Report};
-use crate::sorted::Sorted;
+use sorted::Sorted;
 use desk_time::Minute;
 
 /// Where the latest reports of a station stand among all reports.

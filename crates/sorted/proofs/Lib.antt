@@ -1,0 +1,4 @@
+pub mod SortedEdits
+pub mod SortedLaws
+pub mod RunLaws
+pub mod KeyLaws
