@@ -1,0 +1,2 @@
+pub mod ByIdEdits
+pub mod ByIdLaws
