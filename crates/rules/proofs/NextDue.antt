@@ -12,7 +12,7 @@ use Rattle.plan.specs.declared.findings.Rule.TheVariants.{No1, No2, No3, No17, N
 use Rattle.plan.specs.declared.release.Phase.{Phase}
 use Rattle.rules.specs.Judgement.{leg_numbered}
 use Rattle.rules.specs.Time.{limit_of, is_past}
-use Rattle.rules.specs.Due.{rules_of_time, due_after, leg_due, legs_due, next_due, Begins, IsNextDue}
+use Rattle.rules.specs.Due.{rules_of_time, due_after, leg_due, legs_due, next_due, Begins, IsNextDue, IsBeforeDue, Lasts}
 use Rattle.rules.specs.Sights.{due_by, first_due}
 use Rattle.rules.specs.declared.time.Times.{Times}
 use Rattle.codes.proofs.CondLaws.{lesser_none}
@@ -213,6 +213,36 @@ pub next_due_is : (plan : Plan) (phase : Phase) (settings : Settings) (moment : 
 unfolding next_due
 next_due_is plan phase settings moment =
     is_next plan phase settings moment (legs_due settings plan phase moment 1 plan.legs) (legs_are_least settings plan phase moment 1 plan.legs)
+
+one_least : (x y : ℕ) → (x < y → ⊥) → (y < x → ⊥) → x ≡ y
+one_least x y above below = elim (nat_lt x y) as (λ b. nat_lt x y ≡ b → x ≡ y) [
+  | true ↦ λ e. absurd (above (ltb-true x y e))
+  | false ↦ λ e. elim (nat_lt y x) as (λ b. nat_lt y x ≡ b → x ≡ y) [
+    | true ↦ λ f. absurd (below (ltb-true y x f))
+    | false ↦ λ f. let p = ltb-false x y e in let q = ltb-false y x f in omega (arith, p, q)
+  ] refl
+] refl
+
+-- there is one least number
+least_same : (P : ℕ → Type 0) (moment : ℕ) (a b : Option ℕ) → IsLeast P moment a → IsLeast P moment b → a ≡ b
+least_same P moment None None a b = refl
+least_same P moment None (Some y) a b = absurd (a y b.0 b.1)
+least_same P moment (Some x) None a b = absurd (b x a.0 a.1)
+least_same P moment (Some x) (Some y) a b = ap (λ n. Some n) (one_least x y (λ less. b.2 x a.0 less a.1) (λ less. a.2 y b.0 less b.1))
+
+-- before it comes it is the least after a later moment too
+least_after : (P : ℕ → Type 0) (moment minute : ℕ) (due : Option ℕ) → moment ≤ minute → IsBeforeDue minute due → IsLeast P moment due → IsLeast P minute due
+least_after P moment minute None later before least = λ m after p. least m (omega (arith, later, after)) p
+least_after P moment minute (Some due) later before least = (before, least.1, λ m after until p. least.2 m (omega (arith, later, after)) until p)
+
+-- until something is due, the same is due next
+pub lasts : (plan : Plan) (phase : Phase) (settings : Settings) (moment : ℕ) → Lasts plan phase settings moment (next_due plan phase settings moment)
+unfolding next_due
+lasts plan phase settings moment minute later before =
+    least_same (LegsBegin settings plan phase 1 plan.legs) minute (legs_due settings plan phase minute 1 plan.legs) (legs_due settings plan phase moment 1 plan.legs)
+    (legs_are_least settings plan phase minute 1 plan.legs)
+    (least_after (LegsBegin settings plan phase 1 plan.legs) moment minute (legs_due settings plan phase moment 1 plan.legs) later before
+    (legs_are_least settings plan phase moment 1 plan.legs))
 
 due_legs : (settings : Settings) (plan : Plan) (phase : Phase) (moment n : ℕ) (legs : List Leg)
     → first_due (record { settings = settings; flight = plan.kind; phase = phase; moment = moment }) n legs ≡ legs_due settings plan phase moment n legs

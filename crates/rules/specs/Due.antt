@@ -69,3 +69,7 @@ StaysUntil plan phase g due = (minute : ℕ) → g.moment ≤ minute → IsBefor
 -- whatever reports and deferrals there are
 abbrev pub Stays : Plan → Phase → Settings → ℕ → Option ℕ → Type 0
 Stays plan phase settings moment due = (g : Grounds) → g.tables.settings ≡ settings → g.moment ≡ moment → StaysUntil plan phase g due
+
+-- From the moment until something is due, the same is due next.
+abbrev pub Lasts : Plan → Phase → Settings → ℕ → Option ℕ → Type 0
+Lasts plan phase settings moment due = (minute : ℕ) → moment ≤ minute → IsBeforeDue minute due → next_due plan phase settings minute ≡ due

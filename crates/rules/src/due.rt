@@ -5,7 +5,7 @@ ghost use Rattle.plan.specs.Check.{HasMoments, IsPlan};
 ghost use Rattle.plan.specs.Texts.{HasMoment};
 ghost use Rattle.desk_time.specs.Limits.{IsMoment};
 ghost use Rattle.rules.specs.Due as spec;
-ghost use Rattle.rules.specs.Due.{IsNextDue, Stays};
+ghost use Rattle.rules.specs.Due.{IsNextDue, Lasts, Stays};
 ghost use Rattle.rules.specs.Sights as seen;
 ghost use Rattle.rules.specs.Sights.{last_of};
 
@@ -76,13 +76,14 @@ fn due_in(plan: &Plan, phase: Phase, tables: &Tables, moment: Minute) -> Option<
 /// has then stopped for more than an hour (14 CFR 121.593) or a flag flight for more than six (14 CFR 121.595), and
 /// hasn't been released again, or the next leg departs or the leg in flight arrives later than the settings allow.
 /// There is none where none will begin to fail. Until then a judgement by the same reports and deferrals finds the
-/// same. It takes no memory.
+/// same, and the same minute is next. It takes no memory.
 pub fn next_due(plan: &Plan, phase: Phase, tables: &Tables, moment: Minute) -> Option<Minute>
     requires plan { IsPlan plan.now }
     requires phase { HasMoment phase }
     ensures value { result ≡ spec.next_due plan.now phase tables.now.settings moment }
     ensures due { IsNextDue plan.now phase tables.now.settings moment result }
     ensures stays { Stays plan.now phase tables.now.settings moment result }
+    ensures lasts { Lasts plan.now phase tables.now.settings moment result }
 {
     due_in(plan, phase, tables, moment)
 }
