@@ -73,7 +73,7 @@ module _ {K : Type 0} (seen : K → KeeperSeen) (tables : TableRows) (Works : Ov
           kept = goes.rows kept;
         },
         subst (λ (s : State). Works (record { before = record { state = s; faults = less }; after = desk_at seen done }) answer) first
-            (lower (over (desk_at seen) desk done) less answer lasts.later works),
+            (lower (over (desk_at seen) desk done) less answer lasts.health.later works),
       )
 
   -- what is given back is the desk on which the work was done

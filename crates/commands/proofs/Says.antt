@@ -13,9 +13,9 @@ use Rattle.desk.specs.Seen.{DeskAt}
 use Rattle.desk_io.specs.Health.{HasFailed, IsSound, RoseOrFull}
 use Rattle.desk_io.specs.Over.{Over}
 use Rattle.desk_io.specs.Seen.{ShelfSeen, SinkSeen}
-use Rattle.desk_io.proofs.HealthLaws.{stays}
 use Rattle.desk_net.specs.Seen.{ClockSeen, DoorSeen, LinkSeen, ClockGoesOn}
 use Rattle.desk_net.proofs.SeenLaws.{clock_stays}
+use Rattle.keeper.proofs.SeenLaws.{keeper_stays}
 use Rattle.keeper.specs.Seen.{KeeperSeen, KeeperGoesOn}
 use Rattle.desk_state.specs.Sound.{IsBoard}
 use Rattle.desk_state.specs.State.{State}
@@ -187,7 +187,7 @@ module _ {K C D L : Type 0} (k : K → KeeperSeen) (c : C → ClockSeen) (d : D 
   untouched_follows : (command : Option (Task × List ℕ)) (board : Option Shown) (answer : Outcome) → IsUntouched rows_over board → serving.idle → TellsBy (charges command) answer → Follows command board answer
   untouched_follows command board answer is idle tells =
       record {
-        keeper = subst (λ x. KeeperGoesOn (k lent) (k x)) (sym is.same) (stays (k lent).health);
+        keeper = subst (λ x. KeeperGoesOn (k lent) (k x)) (sym is.same) (keeper_stays (k lent));
         are_kept = subst (λ b. AreKeptOver rows_over b) (sym is.none) (ap (λ x. (k x).rows) is.same);
         holds = subst (λ b. IfSome b (λ b. IsBoard b.opening b.state)) (sym is.none) tt;
         served = idle_served command answer idle tells;

@@ -104,7 +104,8 @@ pub fn desk_main<R: Wait, S: Shelf, O: Sink, C: Clock + Drop, K: Keeper, D: Door
     // At status 0 no fault of the clock was passed over.
     ensures still { result.status ≡ 0 → IsStill (C.seen clock).health (C.seen result.clock).health }
     ensures door { (D.seen door.old).health.faults ≤ (D.seen door.new).health.faults }
-    // The keeper's count never falls. A sound keeper stays sound, and its count stands still.
+    // The keeper tells its rows exactly where it told them before, and its count never falls. A sound keeper stays
+    // sound, and its count stands still.
     ensures keeper { KeeperGoesOn (K.seen keeper) (K.seen result.keeper) }
     // A sound keeper never ends a run, and since its count stands still nothing is refused for its sake.
     ensures steady { IsSound (K.seen keeper).health → result.status ≢ 5 }
