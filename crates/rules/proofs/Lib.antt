@@ -7,6 +7,7 @@ pub mod NextDue
 pub mod UntilDue
 pub mod Named
 pub mod FrameLaws
+pub mod OpenFrame
 pub mod TouchLaws
 pub mod Rising
 pub mod Order

@@ -1,5 +1,5 @@
--- A plan that doesn't name a station fails the same whatever is reported of it.
-use Rattle.std.proofs.Common.{◌≡◌, Bool, true, false, cond, ◌&&◌, List, [], ◌∷◌, ◌++◌, None, Some, refl, sym, ap, ◌∙◌, ◌↔◌}
+-- A plan that doesn't name a station fails the same whatever is reported of it, and one of another tail whatever is deferred.
+use Rattle.std.proofs.Common.{◌≡◌, ℕ, Bool, true, false, cond, ◌&&◌, List, [], ◌∷◌, ◌++◌, None, Some, refl, sym, ap, ◌∙◌, ◌↔◌}
 use Rattle.std.specs.Option.{option_and_then}
 use Rattle.std.specs.Str.{bytes_eq}
 use Rattle.stations.specs.Station.{Station}
@@ -12,9 +12,10 @@ use Rattle.facts.specs.declared.latest.Kind.TheVariants as kind
 use Rattle.facts.specs.declared.report.Report.{Report}
 use Rattle.facts.proofs.IndexLaws.{latest_push, later_none}
 use Rattle.rules.specs.Frame.{SameLatestBut}
-use Rattle.rules.specs.Touches.{names_station, IgnoresStation, IgnoresReport, Names}
-use Rattle.rules.proofs.Named.{same_station, names_there, there_names}
+use Rattle.rules.specs.Touches.{names_station, IgnoresStation, IgnoresReport, is_of_tail, IgnoresTail, IgnoresDeferral, IgnoresClearing, Names}
+use Rattle.rules.proofs.Named.{same_station, station_same, names_there, there_names}
 use Rattle.rules.proofs.FrameLaws.{reads_named}
+use Rattle.rules.proofs.OpenFrame.{reads_open, open_added, open_cleared}
 
 -- The reports of a station
 
@@ -48,3 +49,21 @@ ignores_report plan phase station unnamed g report is = ignores_station plan pha
 -- what a plan names
 pub named_exactly : (plan : Plan) (phase : Phase) (station : Station) → (names_station plan phase station ≡ true) ↔ Names plan phase station
 named_exactly plan phase station = (names_there plan phase station, there_names plan phase station)
+
+-- The deferrals of a tail
+
+other_tail : (plan : Plan) (tail : List ℕ) → is_of_tail plan tail ≡ false → plan.tail ≡ tail → ⊥
+other_tail plan tail unlike is = let e = station_same plan.tail tail is in absurd (cc)
+
+pub ignores_tail : (plan : Plan) (tail : List ℕ) → is_of_tail plan tail ≡ false → IgnoresTail plan tail
+ignores_tail plan tail unlike phase g others same = reads_open plan phase g others (same plan.tail (other_tail plan tail unlike))
+
+pub ignores_deferral : (plan : Plan) (tail : List ℕ) → is_of_tail plan tail ≡ false → IgnoresDeferral plan tail
+ignores_deferral plan tail unlike phase g deferral is =
+    ignores_tail plan tail unlike phase g (g.deferrals ++ deferral ∷ []) (open_added tail g.deferrals deferral is)
+
+pub ignores_clearing : (plan : Plan) (tail : List ℕ) → is_of_tail plan tail ≡ false → IgnoresClearing plan tail
+ignores_clearing plan tail unlike phase g id all = ignores_tail plan tail unlike phase g _ (open_cleared tail g.deferrals id all)
+
+pub tail_exactly : (plan : Plan) (tail : List ℕ) → (is_of_tail plan tail ≡ true) ↔ (plan.tail ≡ tail)
+tail_exactly plan tail = (same_station plan.tail tail, station_same plan.tail tail)

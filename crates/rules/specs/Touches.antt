@@ -1,7 +1,7 @@
--- Which reports a judgement of a plan reads: those of the stations that it names in legs that aren't flown. By others it
--- finds the same.
+-- Which reports and deferrals a judgement of a plan reads: those of the stations that it names in legs that aren't flown,
+-- and those of the tail of its aircraft. By others it finds the same.
 use Rattle.std.specs.Prelude.{◌≡◌, ℕ, ◌+◌, Bool, true, false, ◌||◌, List, [], ◌∷◌, ◌++◌, Option, None, Some, Any}
-use Rattle.std.specs.List.{list_any}
+use Rattle.std.specs.List.{All, list_any}
 use Rattle.std.specs.Str.{bytes_eq}
 use Rattle.stations.specs.Station.{Station}
 use Rattle.facts.specs.declared.report.Report.{Report}
@@ -14,9 +14,11 @@ use Rattle.plan.specs.declared.flights.TakeoffAlternate.{TakeoffAlternate}
 use Rattle.plan.specs.declared.release.Phase.{Phase}
 use Rattle.plan.specs.declared.release.Standing.{Standing}
 use Rattle.plan.specs.declared.release.Standing.TheVariants.{Ahead, InFlight, Flown}
+use Rattle.deferrals.specs.declared.items.Deferral.{Deferral}
+use Rattle.deferrals.specs.Held.{without}
 use Rattle.rules.specs.Grounds.{Grounds}
 use Rattle.rules.specs.Judgement.{findings_of, leg_numbered}
-use Rattle.rules.specs.Frame.{SameLatest, SameLatestBut, with_reports}
+use Rattle.rules.specs.Frame.{SameLatest, SameLatestBut, SameOpen, SameOpenBut, with_reports, with_deferrals}
 
 abbrev pub is_takeoff_alternate : Station → Option TakeoffAlternate → Bool
 is_takeoff_alternate station None = false
@@ -76,3 +78,28 @@ IgnoresStation plan phase station = (g : Grounds) (others : List Report) → Sam
 -- It does so with one more report of a station.
 abbrev pub IgnoresReport : Plan → Phase → Station → Type 0
 IgnoresReport plan phase station = (g : Grounds) (report : Report) → station_of_report report ≡ station → SameByReports plan phase g (g.reports ++ report ∷ [])
+
+-- the aircraft of a plan has that tail
+abbrev pub is_of_tail : Plan → List ℕ → Bool
+is_of_tail plan tail = bytes_eq plan.tail tail
+
+-- A judgement finds the same with other deferrals.
+abbrev pub SameByDeferrals : Plan → Phase → Grounds → List Deferral → Type 0
+SameByDeferrals plan phase g others = findings_of plan phase (with_deferrals g others) ≡ findings_of plan phase g
+
+-- It does so, in whatever phase, where the same is open on the aircraft.
+abbrev pub ReadsOpen : Plan → Type 0
+ReadsOpen plan = (phase : Phase) (g : Grounds) (others : List Deferral) → SameOpen g.deferrals others plan.tail → SameByDeferrals plan phase g others
+
+-- It does so whatever is open on a tail.
+abbrev pub IgnoresTail : Plan → List ℕ → Type 0
+IgnoresTail plan tail = (phase : Phase) (g : Grounds) (others : List Deferral) → SameOpenBut tail g.deferrals others → SameByDeferrals plan phase g others
+
+-- It does so with one more deferral of a tail.
+abbrev pub IgnoresDeferral : Plan → List ℕ → Type 0
+IgnoresDeferral plan tail = (phase : Phase) (g : Grounds) (deferral : Deferral) → deferral.tail ≡ tail → SameByDeferrals plan phase g (g.deferrals ++ deferral ∷ [])
+
+-- It does so once the deferral of an id is cleared, where that is one of a tail.
+abbrev pub IgnoresClearing : Plan → List ℕ → Type 0
+IgnoresClearing plan tail =
+    (phase : Phase) (g : Grounds) (id : ℕ) → All (λ deferral. deferral.id ≡ id → deferral.tail ≡ tail) g.deferrals → SameByDeferrals plan phase g (without id g.deferrals)

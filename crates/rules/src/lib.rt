@@ -17,5 +17,5 @@ mod weather;
 pub use due::next_due;
 pub use evidence::Evidence;
 pub use judgement::{judge, judge_by};
-pub use touches::names_station;
+pub use touches::{is_of_tail, names_station};
 pub use weather_window::Steps;

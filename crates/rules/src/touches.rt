@@ -2,7 +2,16 @@ ghost use Rattle.std.specs.Prelude.{◌≡◌, ◌≤◌, ◌↔◌, length, tru
 ghost use Rattle.std.specs.Str.{bytes_eq};
 ghost use Rattle.plan.specs.Check.{IsPlan};
 ghost use Rattle.rules.specs.Touches as spec;
-ghost use Rattle.rules.specs.Touches.{IgnoresReport, IgnoresStation, Names, ReadsNamed};
+ghost use Rattle.rules.specs.Touches.{
+  IgnoresClearing,
+  IgnoresDeferral,
+  IgnoresReport,
+  IgnoresStation,
+  IgnoresTail,
+  Names,
+  ReadsNamed,
+  ReadsOpen,
+};
 
 use plan::{Alternate, Leg, Phase, Plan, Standing, TakeoffAlternate, standing_of};
 use stations::Station;
@@ -78,4 +87,23 @@ pub fn names_station(plan: &Plan, phase: Phase, station: Station) -> bool
     ensures admitted { result ≡ false → IgnoresReport plan.now phase station }
 {
     is_named(plan, phase, station)
+}
+
+fn has_tail(plan: &Plan, tail: &[u8]) -> bool
+    ensures { result ≡ spec.is_of_tail plan.now tail.now }
+{
+    plan.tail.bytes() == tail
+}
+
+/// Whether the aircraft of a plan has that tail. By the deferrals that are open on it a judgement finds the same,
+/// and so it does whatever is deferred or cleared on another one. It takes no memory.
+pub fn is_of_tail(plan: &Plan, tail: &[u8]) -> bool
+    ensures value { result ≡ spec.is_of_tail plan.now tail.now }
+    ensures same { (result ≡ true) ↔ (plan.now.tail ≡ tail.now) }
+    ensures reads { ReadsOpen plan.now }
+    ensures frame { result ≡ false → IgnoresTail plan.now tail.now }
+    ensures deferred { result ≡ false → IgnoresDeferral plan.now tail.now }
+    ensures cleared { result ≡ false → IgnoresClearing plan.now tail.now }
+{
+    has_tail(plan, tail)
 }
