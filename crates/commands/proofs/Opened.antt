@@ -6,6 +6,7 @@ use Rattle.board.specs.Prepare.{Shown}
 use Rattle.desk.proofs.Choices.{rise_lower, rise_within}
 use Rattle.desk.specs.Keeping.{KeepsState, numbers_of}
 use Rattle.desk.specs.Opening.{IsOpened}
+use Rattle.desk.specs.InPart.{IsRunInPart}
 use Rattle.desk.specs.Run.{IsRun}
 use Rattle.desk.specs.declared.settling.Desk.{Desk}
 use Rattle.desk.specs.Seen.{DeskAt, DeskGoesOn, desk_at, desk_seen}
@@ -15,7 +16,7 @@ use Rattle.desk_state.specs.Sound.{IsBoard}
 use Rattle.desk_state.specs.State.{State}
 use Rattle.ops_tables.specs.Tables.{TableRows}
 use Rattle.service.proofs.Visits.{serving_from}
-use Rattle.commands.specs.Faults.{Gives, Outcome}
+use Rattle.commands.specs.Faults.{Outcome}
 use Rattle.commands.specs.Seen.{Service, lent as lent_over}
 use Rattle.commands.specs.Working.{Opens, Runs, Serves}
 use Rattle.commands.specs.declared.fault.Fault.TheVariants.{OutOfMemory}
@@ -33,17 +34,28 @@ run_lower less before after s script t text under run =
       steady = λ same. run.steady (omega (arith, same, under, within));
     }
 
-gives_lower : (less before after : ℕ) (s : State) (script : List ℕ) (t : State) (answer : Outcome) → less ≤ before → Gives (IsRun before after s script t) answer → Gives (IsRun less after s script t) answer
-gives_lower less before after s script t (Ok text) under gives = run_lower less before after s script t text under gives
-gives_lower less before after s script t (Err OutOfMemory) under gives = tt
-gives_lower less before after s script t (Err other) under gives = absurd gives
+part_lower : (less before after : ℕ) (s : State) (script : List ℕ) (t : State) → less ≤ before → IsRunInPart before after s script t → IsRunInPart less after s script t
+part_lower less before after s script t under part = record {
+  front = part.front;
+  left = part.left;
+  choices = part.choices;
+  whole = part.whole;
+  counted = rise_lower less before (concat (map numbers_of part.choices)) after under part.counted;
+  state = part.state;
+}
 
 -- what it comes to is told as well where faults are counted from before
 abbrev Lowers : (Over DeskAt → Outcome → Type 0) → Type 0
 Lowers Works = (desk : Over DeskAt) (less : ℕ) (answer : Outcome) → less ≤ desk.before.faults → Works desk answer → Works (record desk { before = record desk.before { faults = less } }) answer
 
+works_lower : (script : List ℕ) (desk : Over DeskAt) (less : ℕ) (answer : Outcome) → less ≤ desk.before.faults → Runs script desk answer
+    → Runs script (record desk { before = record desk.before { faults = less } }) answer
+works_lower script desk less (Ok text) under runs = run_lower less desk.before.faults desk.after.faults desk.before.state script desk.after.state text under runs
+works_lower script desk less (Err OutOfMemory) under runs = part_lower less desk.before.faults desk.after.faults desk.before.state script desk.after.state under runs
+works_lower script desk less (Err other) under runs = absurd runs
+
 pub runs_lower : (script : List ℕ) → Lowers (Runs script)
-runs_lower script = λ desk less answer under works. gives_lower less desk.before.faults desk.after.faults desk.before.state script desk.after.state answer under works
+runs_lower script = works_lower script
 
 pub serves_lower : {L : Type 0} (service : Service L) (port most : ℕ) → Lowers (Serves service port most)
 serves_lower service port most = λ desk less answer under works.
@@ -73,7 +85,7 @@ module _ {K : Type 0} (seen : K → KeeperSeen) (tables : TableRows) (Works : Ov
           kept = goes.rows kept;
         },
         subst (λ (s : State). Works (record { before = record { state = s; faults = less }; after = desk_at seen done }) answer) first
-            (lower (over (desk_at seen) desk done) less answer lasts.later works),
+            (lower (over (desk_at seen) desk done) less answer lasts.health.later works),
       )
 
   -- what is given back is the desk on which the work was done

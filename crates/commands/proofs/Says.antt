@@ -13,9 +13,9 @@ use Rattle.desk.specs.Seen.{DeskAt}
 use Rattle.desk_io.specs.Health.{HasFailed, IsSound, RoseOrFull}
 use Rattle.desk_io.specs.Over.{Over}
 use Rattle.desk_io.specs.Seen.{ShelfSeen, SinkSeen}
-use Rattle.desk_io.proofs.HealthLaws.{stays}
 use Rattle.desk_net.specs.Seen.{ClockSeen, DoorSeen, LinkSeen, ClockGoesOn}
 use Rattle.desk_net.proofs.SeenLaws.{clock_stays}
+use Rattle.keeper.proofs.SeenLaws.{keeper_stays}
 use Rattle.keeper.specs.Seen.{KeeperSeen, KeeperGoesOn}
 use Rattle.desk_state.specs.Sound.{IsBoard}
 use Rattle.desk_state.specs.State.{State}
@@ -108,6 +108,11 @@ module _ (of : Charges) where
   gives_tells P (Err OutOfMemory) gives = tt
   gives_tells P (Err other) gives = absurd gives
 
+  runs_tell : (script : List ℕ) (desk : Over DeskAt) (answer : Outcome) → Runs script desk answer → TellsBy of answer
+  runs_tell script desk (Ok text) runs = tt
+  runs_tell script desk (Err OutOfMemory) runs = tt
+  runs_tell script desk (Err other) runs = absurd runs
+
   why_tells : (told : Option Rows) (failed : Type 0) (why : OpenWhy) → (failed → of.keeper) → ((AreFaultless told → ⊥) × (AreLeft told → ⊥) → of.rows) → IsWhy told failed why
       → (AreLeft told → IsOfKeeper failed why) → TellsBy of (Err (of_opening why))
   why_tells told failed why.KeeperFault keeper rows is left = keeper is
@@ -187,7 +192,7 @@ module _ {K C D L : Type 0} (k : K → KeeperSeen) (c : C → ClockSeen) (d : D 
   untouched_follows : (command : Option (Task × List ℕ)) (board : Option Shown) (answer : Outcome) → IsUntouched rows_over board → serving.idle → TellsBy (charges command) answer → Follows command board answer
   untouched_follows command board answer is idle tells =
       record {
-        keeper = subst (λ x. KeeperGoesOn (k lent) (k x)) (sym is.same) (stays (k lent).health);
+        keeper = subst (λ x. KeeperGoesOn (k lent) (k x)) (sym is.same) (keeper_stays (k lent));
         are_kept = subst (λ b. AreKeptOver rows_over b) (sym is.none) (ap (λ x. (k x).rows) is.same);
         holds = subst (λ b. IfSome b (λ b. IsBoard b.opening b.state)) (sym is.none) tt;
         served = idle_served command answer idle tells;
@@ -226,7 +231,7 @@ module _ {K C D L : Type 0} (k : K → KeeperSeen) (c : C → ClockSeen) (d : D 
       → Follows (Some (Desk Run, name)) board answer
   script_follows name tables board answer (Ok script) reads does idle =
       opens_follow (Some (Desk Run, name)) tables (Runs script) board answer does.0 does.1 (λ none. idle)
-      (λ desk ran. idle_served (Some (Desk Run, name)) answer idle (gives_tells (charges (Some (Desk Run, name))) _ answer ran))
+      (λ desk ran. idle_served (Some (Desk Run, name)) answer idle (runs_tell (charges (Some (Desk Run, name))) script desk answer ran))
   script_follows name tables board answer (Err fault) reads does idle =
       told_follows (Some (Desk Run, name)) board answer fault does idle
       (source_tells (charges (Some (Desk Run, name))) shelf (sources_of (Some (Desk Run, name))) (λ misses. misses) (λ long. long) name (λ P all. held_last P (map name_of files) name all) fault reads)

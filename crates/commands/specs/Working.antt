@@ -1,7 +1,8 @@
 -- The desk that a command opens, and the work on it.
-use Rattle.std.specs.Prelude.{◌≡◌, ◌≢◌, ℕ, ◌≤◌, List, Option, None, Some, Err}
+use Rattle.std.specs.Prelude.{◌≡◌, ◌≢◌, ℕ, ◌≤◌, List, Option, None, Some, Ok, Err}
 use Rattle.board.specs.Prepare.{Shown}
 use Rattle.desk.specs.Keeping.{KeepsState}
+use Rattle.desk.specs.InPart.{IsRunInPart}
 use Rattle.desk.specs.Opening.{AreLoaded, IsLeft, IsOfKeeper, IsWhy, MayHaveAsked, TellsRowsOf}
 use Rattle.desk.specs.Run.{IsRun}
 use Rattle.desk.specs.Seen.{DeskAt}
@@ -44,9 +45,11 @@ pub record Serves {L : Type 0} (service : Service L) (port most : ℕ) (desk : O
   pub steady_clock : IsSound service.clock.before.health → end ≢ ends.ClockFault
   pub steady_door : IsSound service.door.before.health → HasLinks service.door.before.links most → end ≢ ends.DoorFault
 
--- a script was run on a desk
+-- A script was run on a desk: to its end, with the text of that, or up to where memory ran out.
 abbrev pub Runs : List ℕ → Over DeskAt → Outcome → Type 0
-Runs script desk answer = Gives (IsRun desk.before.faults desk.after.faults desk.before.state script desk.after.state) answer
+Runs script desk (Ok text) = IsRun desk.before.faults desk.after.faults desk.before.state script desk.after.state text
+Runs script desk (Err OutOfMemory) = IsRunInPart desk.before.faults desk.after.faults desk.before.state script desk.after.state
+Runs script desk (Err other) = ⊥
 
 -- ---- the desk
 

@@ -61,7 +61,7 @@ fn write<O: Sink>(alloc: Global, answer: Result<Text, Fault>, out: &mut O) -> u8
 ///   `error 6 BadTable NAME NUMBER WHY`.
 /// - 7: exactly where the rows that were loaded aren't those of a desk: `error 7 BadRow KIND KEY WHY` or
 ///   `error 7 BadPair KIND KEY KIND KEY`, their first fault.
-/// - 8: want of memory; the sink gained nothing.
+/// - 8: want of memory; the sink gained nothing. What a front of a script changed stays, and at most a tick more.
 /// - 9: only where the door's count of faults rose, or is full; `error 9 DoorFault`.
 /// - 10: exactly where the source of that name has more than 64 MiB; `error 10 InputTooLong NAME`.
 /// - 11: only where the clock's count of faults rose, or is full; `error 11 ClockFault`.
@@ -104,7 +104,8 @@ pub fn desk_main<R: Wait, S: Shelf, O: Sink, C: Clock + Drop, K: Keeper, D: Door
     // At status 0 no fault of the clock was passed over.
     ensures still { result.status ≡ 0 → IsStill (C.seen clock).health (C.seen result.clock).health }
     ensures door { (D.seen door.old).health.faults ≤ (D.seen door.new).health.faults }
-    // The keeper's count never falls. A sound keeper stays sound, and its count stands still.
+    // The keeper tells its rows exactly where it told them before, and its count never falls. A sound keeper stays
+    // sound, and its count stands still.
     ensures keeper { KeeperGoesOn (K.seen keeper) (K.seen result.keeper) }
     // A sound keeper never ends a run, and since its count stands still nothing is refused for its sake.
     ensures steady { IsSound (K.seen keeper).health → result.status ≢ 5 }

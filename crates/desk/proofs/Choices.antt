@@ -102,19 +102,23 @@ given_on : (lane before middle after : ℕ) (s : State) (items : List Item) (t u
     → AreGivenSoFar lane before middle s items t (i ∷ left) made → Counted middle (c ∷ []) after → o ≡ (item_with c lane t i).outcome → u ≡ (item_with c lane t i).state → more ≡ made ++ o ∷ []
     → AreGivenSoFar lane before after s items u left more
 given_on lane before middle after s items t u i left made more c o so_far counted outcome state pushed = record {
+  front = so_far.front ++ i ∷ [];
   choices = so_far.choices ++ c ∷ [];
+  whole = so_far.whole ∙ sym (append_assoc so_far.front (i ∷ []) left);
   counted = counted_on before so_far.choices (c ∷ []) middle after so_far.counted counted;
-  outcomes = λ later.
-      ap (λ os. os ++ outcomes_with lane u left later) pushed
-      ∙ append_assoc made (o ∷ []) (outcomes_with lane u left later)
-      ∙ ap (λ (x : Outcome). made ++ x ∷ outcomes_with lane u left later) outcome
-      ∙ ap (λ (v : State). made ++ (item_with c lane t i).outcome ∷ outcomes_with lane v left later) state
-      ∙ so_far.outcomes (c ∷ later)
-      ∙ ap (λ cs. outcomes_with lane s items cs) (sym (append_assoc so_far.choices (c ∷ []) later));
-  state = λ later.
-      ap (λ (v : State). after_with lane v left later) state
-      ∙ so_far.state (c ∷ later)
-      ∙ ap (λ cs. after_with lane s items cs) (sym (append_assoc so_far.choices (c ∷ []) later));
+  outcomes = λ next later.
+      ap (λ os. os ++ outcomes_with lane u next later) pushed
+      ∙ append_assoc made (o ∷ []) (outcomes_with lane u next later)
+      ∙ ap (λ (x : Outcome). made ++ x ∷ outcomes_with lane u next later) outcome
+      ∙ ap (λ (v : State). made ++ (item_with c lane t i).outcome ∷ outcomes_with lane v next later) state
+      ∙ so_far.outcomes (i ∷ next) (c ∷ later)
+      ∙ ap (λ is. outcomes_with lane s is (so_far.choices ++ c ∷ later)) (sym (append_assoc so_far.front (i ∷ []) next))
+      ∙ ap (λ cs. outcomes_with lane s ((so_far.front ++ i ∷ []) ++ next) cs) (sym (append_assoc so_far.choices (c ∷ []) later));
+  state = λ next later.
+      ap (λ (v : State). after_with lane v next later) state
+      ∙ so_far.state (i ∷ next) (c ∷ later)
+      ∙ ap (λ is. after_with lane s is (so_far.choices ++ c ∷ later)) (sym (append_assoc so_far.front (i ∷ []) next))
+      ∙ ap (λ cs. after_with lane s ((so_far.front ++ i ∷ []) ++ next) cs) (sym (append_assoc so_far.choices (c ∷ []) later));
 }
 
 pub given_next : (lane before middle after : ℕ) (s : State) (items : List Item) (t u : State) (left rest : List Item) (i : Item) (made more : List Outcome) (c : Choice) (o : Outcome)
@@ -144,8 +148,12 @@ all_given lane before after s items t left made none so_far =
     record {
       choices = last.choices;
       counted = last.counted;
-      outcomes = sym (append-nil made) ∙ last.outcomes [] ∙ ap (λ cs. outcomes_with lane s items cs) (append-nil last.choices);
-      state = last.state [] ∙ ap (λ cs. after_with lane s items cs) (append-nil last.choices);
+      outcomes =
+          sym (append-nil made)
+          ∙ last.outcomes [] []
+          ∙ ap (λ is. outcomes_with lane s is (last.choices ++ [])) (sym last.whole)
+          ∙ ap (λ cs. outcomes_with lane s items cs) (append-nil last.choices);
+      state = last.state [] [] ∙ ap (λ is. after_with lane s is (last.choices ++ [])) (sym last.whole) ∙ ap (λ cs. after_with lane s items cs) (append-nil last.choices);
     }
 
 -- ---- where nothing fails

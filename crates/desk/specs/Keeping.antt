@@ -189,9 +189,12 @@ pub record AreGiven (lane before after : ℕ) (s : State) (items : List Item) (t
   pub outcomes : made ≡ outcomes_with lane s items choices
   pub state : t ≡ after_with lane s items choices
 
--- The same where some items are left: whatever choices come later, what is made and what is left make the whole.
+-- The same of a front of items, where others are left: whatever items come next, and under whatever choices, what is made and what these
+-- make are the whole.
 pub record AreGivenSoFar (lane before after : ℕ) (s : State) (items : List Item) (t : State) (left : List Item) (made : List Outcome) : Type 0 where
+  pub front : List Item
   pub choices : List Choice
+  pub whole : items ≡ front ++ left
   pub counted : Counted before choices after
-  pub outcomes : (later : List Choice) → made ++ outcomes_with lane t left later ≡ outcomes_with lane s items (choices ++ later)
-  pub state : (later : List Choice) → after_with lane t left later ≡ after_with lane s items (choices ++ later)
+  pub outcomes : (next : List Item) (later : List Choice) → made ++ outcomes_with lane t next later ≡ outcomes_with lane s (front ++ next) (choices ++ later)
+  pub state : (next : List Item) (later : List Choice) → after_with lane t next later ≡ after_with lane s (front ++ next) (choices ++ later)

@@ -1,4 +1,5 @@
 pub mod Run
+pub mod InPart
 pub mod Shown
 pub mod Keeping
 pub mod Settled

@@ -1,6 +1,7 @@
-ghost use Rattle.std.specs.Prelude.{◌≡◌, ◌++◌, [], IfOk, OnOk};
+ghost use Rattle.std.specs.Prelude.{◌≡◌, ◌++◌, [], IfOk, OnErr, OnOk};
 ghost use Rattle.std.specs.List.{AllByRecursion};
 ghost use Rattle.desk_state.specs.Texts.{closing};
+ghost use Rattle.desk.specs.InPart.{AreGivenInPart, IsRunInPart, MayHaveBegun};
 ghost use Rattle.desk.specs.Keeping.{bad_given, AreGiven};
 ghost use Rattle.desk.specs.Run as spec;
 ghost use Rattle.desk.specs.Run.{texts_of, IsRun};
@@ -53,6 +54,7 @@ fn answer_item<K: Keeper, L: Ledger>(
     ensures given { IfOk result
         (λ a. AnswersItem LANE item.now (desk_seen K.seen desk.old) (desk_seen K.seen desk.new) a) }
     ensures shown { IfOk result (λ a. IsShown a.outcome) }
+    ensures err { OnErr result (MayHaveBegun LANE item.now desk.old.board.state desk.new.board.state) }
     ensures on { DeskGoesOn (desk_seen K.seen desk.old) (desk_seen K.seen desk.new) }
 {
     match item {
@@ -79,6 +81,8 @@ fn outcomes_of<K: Keeper, L: Ledger>(
     ensures given { IfOk result (λ v. AreGiven LANE (K.seen desk.old.keeper).health.faults
         (K.seen desk.new.keeper).health.faults desk.old.board.state items.now desk.new.board.state v.items) }
     ensures shown { IfOk result (λ v. AllByRecursion IsShown v.items) }
+    ensures err { OnErr result (AreGivenInPart LANE (K.seen desk.old.keeper).health.faults
+        (K.seen desk.new.keeper).health.faults desk.old.board.state items.now desk.new.board.state) }
     ensures on { DeskGoesOn (desk_seen K.seen desk.old) (desk_seen K.seen desk.new) }
 {
     let mut outcomes = Vec::new(alloc);
@@ -99,6 +103,8 @@ pub(crate) fn run_lane<K: Keeper, L: Ledger>(
     ensures given { OnOk result (AreGiven LANE (K.seen desk.old.keeper).health.faults
         (K.seen desk.new.keeper).health.faults desk.old.board.state lane.old.items desk.new.board.state
         lane.new.outcomes) }
+    ensures err { OnErr result (AreGivenInPart LANE (K.seen desk.old.keeper).health.faults
+        (K.seen desk.new.keeper).health.faults desk.old.board.state lane.old.items desk.new.board.state) }
     ensures items { lane.new.items ≡ lane.old.items }
     ensures on { DeskGoesOn (desk_seen K.seen desk.old) (desk_seen K.seen desk.new) }
 {
@@ -164,6 +170,9 @@ pub fn text_from<K: Keeper, L: Ledger>(
 ) -> Result<Vec<u8>, OutOfMemory>
     ensures run { IfOk result (λ v. IsRun (K.seen desk.old.keeper).health.faults
         (K.seen desk.new.keeper).health.faults desk.old.board.state script.now desk.new.board.state v.items) }
+    // Where memory ran out: a front of the lines was answered whole, and after it nothing was done but at most a tick.
+    ensures err { OnErr result (IsRunInPart (K.seen desk.old.keeper).health.faults
+        (K.seen desk.new.keeper).health.faults desk.old.board.state script.now desk.new.board.state) }
     ensures on { DeskGoesOn (desk_seen K.seen desk.old) (desk_seen K.seen desk.new) }
 {
     let mut lane = Lane::of(alloc, script)?;

@@ -20,7 +20,7 @@ use Rattle.facts.specs.Same.{minute_of_report, station_of_report}
 use Rattle.facts.specs.Latest.{latest}
 use Rattle.facts.specs.Lines.{stations_of}
 use Rattle.facts.specs.Index.{place_of, place_in, places_or, places_with, no_places, IsAtPlace, of_station, IsLatestIndex, key_of, key_cmp, first_from, IsFirstIndex}
-use Rattle.facts.specs.Sorted.{if_below}
+use Rattle.sorted.specs.Sorted.{if_below}
 use Rattle.facts.specs.Swept.{kind_of, has_id, is_latest, is_kept, stays, swept, is_place, stands_latest, stays_at}
 use Rattle.facts.proofs.IndexLaws.{place_or, updated}
 use Rattle.facts.proofs.StationLaws.{are_stations}

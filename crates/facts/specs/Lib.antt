@@ -4,5 +4,4 @@ pub mod Reports
 pub mod Latest
 pub mod Lines
 pub mod Index
-pub mod Sorted
 pub mod Swept

@@ -5,8 +5,8 @@ ghost use Rattle.facts.specs.Index as spec;
 
 use crate::latest::Kind;
 use crate::report::{Read, Report};
-use crate::sorted::Sorted;
 use desk_time::Minute;
+use sorted::Sorted;
 
 /// Where the latest reports of a station stand among all reports.
 #[derive(Clone, Copy, Debug, Drop)]

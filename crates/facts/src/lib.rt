@@ -7,7 +7,6 @@ mod lines;
 mod reader;
 mod report;
 mod reports;
-mod sorted;
 mod sweeping;
 
 pub use index::fingerprint;
@@ -16,4 +15,3 @@ pub use lines::{push_line, push_weather, push_weather_at};
 pub use reader::{read_groups, read_report, receive};
 pub use report::{HELD_LIMIT, Read, Received, Report};
 pub use reports::Reports;
-pub use sorted::Sorted;

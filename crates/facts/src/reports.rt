@@ -22,11 +22,11 @@ ghost use Rattle.facts.specs.Latest.{
 use crate::index::{Places, fingerprint, first_place, key_of, place_of, places_at, places_with};
 use crate::latest::Kind;
 use crate::report::Report;
-use crate::sorted::Sorted;
 use crate::sweeping::{index_firsts, index_latest, leaving_ids, sweep_held};
 use desk_io::{Listed, OutOfMemory};
 use desk_time::Minute;
 use metar::Metar;
+use sorted::Sorted;
 use stations::Station;
 use std::alloc::Global;
 use std::marker::Model;
@@ -165,8 +165,8 @@ impl Reports {
         ensures err { OnErr result (self.new ≡ self.old) }
     {
         self.held.reserve(1)?;
-        self.stations.reserve()?;
-        self.firsts.reserve()?;
+        self.stations.reserve(1)?;
+        self.firsts.reserve(1)?;
         self.room = Some(Snapshot::of(report));
         Ok(())
     }

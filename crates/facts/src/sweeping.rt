@@ -12,9 +12,9 @@ ghost use Rattle.facts.specs.Swept.{swept, leaving};
 use crate::index::{Places, key_of, place_of, places_at, places_with};
 use crate::latest::Kind;
 use crate::report::{Read, Report};
-use crate::sorted::Sorted;
 use desk_io::{Listed, OutOfMemory};
 use desk_time::Minute;
+use sorted::Sorted;
 use std::alloc::Global;
 
 fn kind_of(read: &Read) -> Kind

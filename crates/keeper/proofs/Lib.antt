@@ -2,4 +2,5 @@ pub mod Crossing
 pub mod OrderLaws
 mod PlaceLaws
 mod Places
+pub mod SeenLaws
 pub mod SortLaws

@@ -2,6 +2,7 @@
 use Rattle.std.specs.Prelude.{ℕ, Option}
 use Rattle.desk_io.specs.Health.{Health, GoesOn}
 use Rattle.desk_io.specs.Rows.{Rows}
+use Rattle.desk_io.specs.Told.{TellsAsBefore}
 
 pub record KeeperSeen : Type 0 where
   -- the rows, where the keeper tells them
@@ -10,5 +11,7 @@ pub record KeeperSeen : Type 0 where
   pub commits : ℕ
   pub health : Health
 
-abbrev pub KeeperGoesOn : KeeperSeen → KeeperSeen → Type 0
-KeeperGoesOn old new = GoesOn old.health new.health
+-- A keeper tells its rows after each call exactly where it told them before.
+pub record KeeperGoesOn (old new : KeeperSeen) : Type 0 where
+  pub telling : TellsAsBefore old.rows new.rows
+  pub health : GoesOn old.health new.health

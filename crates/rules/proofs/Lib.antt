@@ -5,7 +5,10 @@ pub mod DueLaws
 pub mod SightLaws
 pub mod NextDue
 pub mod UntilDue
+pub mod Named
 pub mod FrameLaws
+pub mod OpenFrame
+pub mod TouchLaws
 pub mod Rising
 pub mod Order
 pub mod Truth

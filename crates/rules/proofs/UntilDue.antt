@@ -82,7 +82,7 @@ from_same p q rule n (leg ∷ legs) same =
     (λ number of least stands. same number of (omega (arith, least))
     (let ne : number ≡ n → ⊥ = λ e. absurd (omega (arith, e, least)) in rw (ne_eqb number n ne) stands)))
 
-by_same : (p q : Rule → ℕ → Leg → List ℕ) (rules : List Rule) (legs : List Leg)
+pub by_same : (p q : Rule → ℕ → Leg → List ℕ) (rules : List Rule) (legs : List Leg)
     → ((rule : Rule) (number : ℕ) (leg : Leg) → leg_numbered number 1 legs ≡ Some leg → p rule number leg ≡ q rule number leg) → findings_by p rules legs ≡ findings_by q rules legs
 by_same p q [] legs same = refl
 by_same p q (rule ∷ rules) legs same =

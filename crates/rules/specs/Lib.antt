@@ -11,4 +11,5 @@ pub mod Judgement
 pub mod Due
 pub mod Sights
 pub mod Frame
+pub mod Touches
 pub mod Regulation

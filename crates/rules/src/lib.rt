@@ -11,9 +11,11 @@ mod required_fuel;
 mod sights;
 mod takeoff_alternates;
 mod time;
+mod touches;
 mod weather;
 
 pub use due::next_due;
 pub use evidence::Evidence;
 pub use judgement::{judge, judge_by};
+pub use touches::{is_of_tail, names_station};
 pub use weather_window::Steps;

@@ -5,11 +5,12 @@ use Rattle.std.specs.List.{AllByRecursion, list_any}
 use Rattle.std.proofs.lemmas.List.{map-append}
 use Rattle.std.proofs.lemmas.List.Elements.{filter-append}
 use Rattle.desk.specs.Seen.{DeskAt}
+use Rattle.desk_io.proofs.HealthLaws.{failed_first, failed_last}
 use Rattle.desk_io.specs.Health.{HasFailed, RoseOrFull}
 use Rattle.desk_io.specs.Over.{Over}
 use Rattle.desk_net.specs.Clocks.{Dial}
 use Rattle.desk_net.specs.Doors.{Links, Accepts, TakesBack, HasNext}
-use Rattle.desk_net.specs.Seen.{ClockSeen, DoorSeen, LinkSeen}
+use Rattle.desk_net.specs.Seen.{ClockGoesOn, ClockSeen, DoorSeen, LinkSeen}
 use Rattle.desk_net.specs.Streams.{unread}
 use Rattle.desk_state.specs.State.{State}
 use Rattle.service.specs.Connections.{GoesOn, IsConnection}
@@ -31,23 +32,26 @@ nothing_yet lane dial less before s bytes under =
     record { xs = []; requests = same_both bytes; timed = tt; turned = refl; going = tt; counted = under; says = refl; state = refl }
 
 -- a visit, counted from before
-visit_from : {L : Type 0} (link : L → LinkSeen) (lane : ℕ) (early late : Option Dial) (failed clock : Type 0) (less before after : ℕ) (s : State) (v : Visit L) (t : State)
-    → less ≤ before → (failed → clock) → IsVisit link lane early late failed before after s v t → IsVisit link lane early late clock less after s v t
-visit_from link lane early late failed clock less before after s v t under of_clock is =
-    wrote_as (link v.came).stream (link v.went).stream _ _
-    (λ piece one. joined lane early early late _ failed _ clock less before after s s t (unread (link v.came).stream) (unread (link v.came).stream) v.served [] piece (λ rose. rose) of_clock
-    (nothing_yet lane early less before s (unread (link v.came).stream) under) one) is
+visit_from : {L : Type 0} (link : L → LinkSeen) (lane : ℕ) (early late : ClockSeen) (less before after : ℕ) (s : State) (v : Visit L) (t : State)
+    → less ≤ before → IsVisit link lane early late before after s v t → IsVisit link lane early late less after s v t
+visit_from link lane early late less before after s v t under is =
+    let rose = HasFailed (link v.came).health (link v.went).health in
+    let failed = HasFailed early.health late.health in
+    let bytes = unread (link v.came).stream in
+    record {
+      answered = wrote_as (link v.came).stream (link v.went).stream _ _
+          (λ piece one. joined lane early.dial early.dial late.dial rose failed rose failed less before after s s t bytes bytes v.served [] piece (λ why. why) (λ why. why)
+          (nothing_yet lane early.dial less before s bytes under) one) is.answered;
+      clock = is.clock;
+      still = is.still;
+      goes_on = is.goes_on;
+    }
 
-pub visits_from : {L : Type 0} (link : L → LinkSeen) (lane : ℕ) (early late : Option Dial) (failed clock : Type 0) (less before after : ℕ) (s : State) (vs : List (Visit L)) (t : State)
-    → less ≤ before → (failed → clock) → AreVisits link lane early late failed before after s vs t → AreVisits link lane early late clock less after s vs t
-visits_from link lane early late failed clock less before after s [] t under of_clock are = let more = are.0 in (omega (arith, under, more), are.1, are.2)
-visits_from link lane early late failed clock less before after s (v ∷ vs) t under of_clock (middle, noon, u, one, rest) = (
-  middle,
-  noon,
-  u,
-  visit_from link lane early noon failed clock less before middle s v u under of_clock one,
-  visits_from link (lane + 1) noon late failed clock middle middle after u vs t (omega arith) of_clock rest,
-)
+pub visits_from : {L : Type 0} (link : L → LinkSeen) (lane : ℕ) (early late : ClockSeen) (less before after : ℕ) (s : State) (vs : List (Visit L)) (t : State)
+    → less ≤ before → AreVisits link lane early late before after s vs t → AreVisits link lane early late less after s vs t
+visits_from link lane early late less before after s [] t under are = let more = are.0 in (omega (arith, under, more), are.1, are.2)
+visits_from link lane early late less before after s (v ∷ vs) t under (middle, noon, u, one, rest) =
+    (middle, noon, u, visit_from link lane early noon less before middle s v u under one, rest)
 
 -- ---- one more
 
@@ -57,24 +61,24 @@ same_lane lane = omega arith
 next_lane : (lane n : ℕ) → lane + suc n ≡ (lane + 1) + n
 next_lane lane n = omega arith
 
-pub visits_on : {L : Type 0} (link : L → LinkSeen) (lane : ℕ) (early noon late : Option Dial) (clock : Type 0) (before middle after : ℕ) (s : State) (vs : List (Visit L)) (u : State) (v : Visit L) (t : State)
-    → AreVisits link lane early noon clock before middle s vs u → IsVisit link (lane + length vs) noon late clock middle after u v t → AreVisits link lane early late clock before after s (vs ++ v ∷ []) t
-visits_on link lane early noon late clock before middle after s [] u v t are is = (
+pub visits_on : {L : Type 0} (link : L → LinkSeen) (lane : ℕ) (early noon late : ClockSeen) (before middle after : ℕ) (s : State) (vs : List (Visit L)) (u : State) (v : Visit L) (t : State)
+    → AreVisits link lane early noon before middle s vs u → IsVisit link (lane + length vs) noon late middle after u v t → AreVisits link lane early late before after s (vs ++ v ∷ []) t
+visits_on link lane early noon late before middle after s [] u v t are is = (
   after,
   late,
   t,
-  visit_from link lane early late clock clock before middle after s v t are.0 (λ rose. rose)
-      (subst (λ (x : State). IsVisit link lane early late clock middle after x v t) are.2
-      (subst (λ dial. IsVisit link lane dial late clock middle after u v t) are.1 (subst (λ l. IsVisit link l noon late clock middle after u v t) (same_lane lane) is))),
+  visit_from link lane early late before middle after s v t are.0
+      (subst (λ (x : State). IsVisit link lane early late middle after x v t) are.2
+      (subst (λ (dawn : ClockSeen). IsVisit link lane dawn late middle after u v t) are.1 (subst (λ l. IsVisit link l noon late middle after u v t) (same_lane lane) is))),
   (omega arith, refl, refl),
 )
-visits_on link lane early noon late clock before middle after s (w ∷ ws) u v t (first, dial, x, one, rest) is = (
+visits_on link lane early noon late before middle after s (w ∷ ws) u v t (first, dawn, x, one, rest) is = (
   first,
-  dial,
+  dawn,
   x,
   one,
-  visits_on link (lane + 1) dial noon late clock first middle after x ws u v t rest
-      (subst (λ l. IsVisit link l noon late clock middle after u v t) (next_lane lane (length ws)) is),
+  visits_on link (lane + 1) dawn noon late first middle after x ws u v t rest
+      (subst (λ l. IsVisit link l noon late middle after u v t) (next_lane lane (length ws)) is),
 )
 
 all_on : {L : Type 0} (P : Visit L → Type 0) (vs : List (Visit L)) (v : Visit L) → AllByRecursion P vs → P v → AllByRecursion P (vs ++ v ∷ [])
@@ -166,26 +170,27 @@ not_by_link lane early late link clock before after s bytes how t text one never
   λ is. never (subst (λ (h : Served). IsConnection lane early late link clock before after s bytes h t text) is one).ends.0,
 )
 
-pub visit_clock : {L : Type 0} (link : L → LinkSeen) (lane : ℕ) (early late : Option Dial) (clock : Type 0) (before after : ℕ) (s : State) (v : Visit L) (t : State)
-    → IsVisit link lane early late clock before after s v t → v.served ≡ served.ClockFault → clock
-visit_clock link lane early late clock before after s v t is how = ends_clock lane early late _ clock before after s (unread (link v.came).stream) v.served t is.0 how is.2
+visit_clock : {L : Type 0} (link : L → LinkSeen) (lane : ℕ) (early late : ClockSeen) (before after : ℕ) (s : State) (v : Visit L) (t : State)
+    → IsVisit link lane early late before after s v t → v.served ≡ served.ClockFault → HasFailed early.health late.health
+visit_clock link lane early late before after s v t is how =
+    ends_clock lane early.dial late.dial _ (HasFailed early.health late.health) before after s (unread (link v.came).stream) v.served t is.answered.0 how is.answered.2
 
 -- ---- what connections have met
 
 -- so many connections were served, and this was met
-pub record HasServed {L : Type 0} (link : L → LinkSeen) (old new : Option (Links L)) (early late : Option Dial) (clock : Type 0) (done : ℕ) (met : Met) (before after : ℕ) (s t : State) : Type 0 where
+pub record HasServed {L : Type 0} (link : L → LinkSeen) (old new : Option (Links L)) (early late : ClockSeen) (done : ℕ) (met : Met) (before after : ℕ) (s t : State) : Type 0 where
   pub vs : List (Visit L)
-  pub are : AreVisits link 1 early late clock before after s vs t
+  pub are : AreVisits link 1 early late before after s vs t
   pub taken : AreTaken old new vs
   pub many : length vs ≡ done
   pub had : met.memory ≡ false → AllByRecursion HadMemory vs
   pub well : met.memory ≡ false → met.clock ≡ false → AllByRecursion IsWell vs
-  pub fault : met.clock ≡ true → clock
+  pub fault : met.clock ≡ true → HasFailed early.health late.health
   pub some : met.clock ≡ true → list_any ended_by_clock vs ≡ true
 
-pub served_none : {L : Type 0} (link : L → LinkSeen) (old new : Option (Links L)) (dial : Option Dial) (clock : Type 0) (faults : ℕ) (s : State) → new ≡ old
-    → HasServed link old new dial dial clock 0 (record { memory = false; clock = false }) faults faults s s
-served_none link old new dial clock faults s same =
+pub served_none : {L : Type 0} (link : L → LinkSeen) (old new : Option (Links L)) (clock : ClockSeen) (faults : ℕ) (s : State) → new ≡ old
+    → HasServed link old new clock clock 0 (record { memory = false; clock = false }) faults faults s s
+served_none link old new clock faults s same =
     record { vs = []; are = (omega arith, refl, refl); taken = taken_none old new same; many = refl; had = λ none. tt; well = λ none fine. tt; fault = λ e. absurd (cc); some = λ e. absurd (cc) }
 
 abbrev is_memory : Served → Bool
@@ -240,28 +245,27 @@ adds : {L : Type 0} (met : Met) (v : Visit L) (how : Served) → how ≡ counts_
 adds met v how is = subst (λ (h : Served). Adds met v (met_after met h)) (sym is) (adds_by met v v.back v.served refl refl)
 
 -- one connection more
-pub served_next : {L : Type 0} (link : L → LinkSeen) (old mid new : Option (Links L)) (early noon late : Option Dial) (rose failed clock : Type 0) (done : ℕ) (met next : Met) (how : Served)
-    (before middle after : ℕ) (s u t : State) (v : Visit L) → (rose → clock) → (failed → clock) → HasServed link old mid early noon rose done met before middle s u
-    → IsVisit link (done + 1) noon late failed middle after u v t → AreTaken mid new (v ∷ []) → how ≡ counts_as v → next ≡ met_after met how → HasServed link old new early late clock (done + 1) next before after s t
-served_next link old mid new early noon late rose failed clock done met next how before middle after s u t v of_rose of_failed has is taken counts met_is =
+pub served_next : {L : Type 0} (link : L → LinkSeen) (old mid new : Option (Links L)) (early noon late : ClockSeen) (done : ℕ) (met next : Met) (how : Served)
+    (before middle after : ℕ) (s u t : State) (v : Visit L) → ClockGoesOn early noon → HasServed link old mid early noon done met before middle s u
+    → IsVisit link (done + 1) noon late middle after u v t → AreTaken mid new (v ∷ []) → how ≡ counts_as v → next ≡ met_after met how → HasServed link old new early late (done + 1) next before after s t
+served_next link old mid new early noon late done met next how before middle after s u t v goes has is taken counts met_is =
     let many = has.many in
     let one : Adds met v next = subst (λ (m : Met). Adds met v m) (sym met_is) (adds met v how counts) in
-    let here : IsVisit link (1 + length has.vs) noon late failed middle after u v t = subst (λ l. IsVisit link l noon late failed middle after u v t) (omega (arith, many)) is in
+    let here : IsVisit link (1 + length has.vs) noon late middle after u v t = subst (λ l. IsVisit link l noon late middle after u v t) (omega (arith, many)) is in
     record {
       vs = has.vs ++ v ∷ [];
-      are = visits_on link 1 early noon late clock before middle after s has.vs u v t (visits_from link 1 early noon rose clock before before middle s has.vs u (omega arith) of_rose has.are)
-          (visit_from link (1 + length has.vs) noon late failed clock middle middle after u v t (omega arith) of_failed here);
+      are = visits_on link 1 early noon late before middle after s has.vs u v t has.are here;
       taken = taken_on old mid new has.vs (v ∷ []) has.taken taken;
       many = length_on has.vs v ∙ ap (λ n. n + 1) many;
       had = λ none. let more = one.had none in all_on HadMemory has.vs v (has.had more.0) more.1;
       well = λ none fine. let more = one.well none fine in all_on IsWell has.vs v (has.well more.0 more.1) more.2;
-      fault = λ late. by (one.fault late);
-      some = λ late. some_by (one.fault late);
+      fault = λ faulty. by (one.fault faulty);
+      some = λ faulty. some_by (one.fault faulty);
     }
   where
-    by : (met.clock ≡ true) ⊎ (v.served ≡ served.ClockFault) → clock
-    by (inl before_it) = of_rose (has.fault before_it)
-    by (inr now) = of_failed (visit_clock link (done + 1) noon late failed middle after u v t is now)
+    by : (met.clock ≡ true) ⊎ (v.served ≡ served.ClockFault) → HasFailed early.health late.health
+    by (inl before_it) = failed_first early.health noon.health late.health is.clock.health (has.fault before_it)
+    by (inr now) = failed_last early.health noon.health late.health goes.health (visit_clock link (done + 1) noon late middle after u v t is now)
 
     some_by : (met.clock ≡ true) ⊎ (v.served ≡ served.ClockFault) → list_any ended_by_clock (has.vs ++ v ∷ []) ≡ true
     some_by (inl before_it) = some_first has.vs v (has.some before_it)
@@ -283,37 +287,35 @@ at_port opened_at port [] is = tt
 at_port opened_at port (v ∷ vs) is = is
 
 -- the next link didn't come
-pub served_to_fault : {L : Type 0} (link : L → LinkSeen) (mid : Option (Links L)) (noon : Option Dial) (rose : Type 0) (door : Over (DoorSeen L)) (clock : Over ClockSeen) (desk : Over DeskAt) (port done most : ℕ) (met : Met) (end : ServeEnd)
-    (middle : ℕ) (u : State) → end ≡ end_at_door met → done < most → door.after.opened_at ≡ Some port → RoseOrFull door.before.health.faults door.after.health.faults → (rose → HasFailed clock.before.health clock.after.health)
-    → door.after.links ≡ mid → clock.after.dial ≡ noon → desk.after.faults ≡ middle → desk.after.state ≡ u → HasServed link door.before.links mid clock.before.dial noon rose done met desk.before.faults middle desk.before.state u
+pub served_to_fault : {L : Type 0} (link : L → LinkSeen) (mid : Option (Links L)) (noon : ClockSeen) (door : Over (DoorSeen L)) (clock : Over ClockSeen) (desk : Over DeskAt) (port done most : ℕ) (met : Met) (end : ServeEnd)
+    (middle : ℕ) (u : State) → end ≡ end_at_door met → done < most → door.after.opened_at ≡ Some port → RoseOrFull door.before.health.faults door.after.health.faults
+    → door.after.links ≡ mid → clock.after ≡ noon → desk.after.faults ≡ middle → desk.after.state ≡ u → HasServed link door.before.links mid clock.before noon done met desk.before.faults middle desk.before.state u
     → IsServing link door clock desk port most end
-served_to_fault {L} link mid noon rose door clock desk port done most met end middle u how within opened failing of_rose same stands counts is has =
+served_to_fault {L} link mid noon door clock desk port done most met end middle u how within opened failing same stands counts is has =
     let many = has.many in
-    let early = clock.before.dial in
     let failed = HasFailed clock.before.health clock.after.health in
     let low = desk.before.faults in
     let s = desk.before.state in
-    let are : AreVisits link 1 early noon failed low middle s has.vs u = visits_from link 1 early noon rose failed low low middle s has.vs u (omega arith) of_rose has.are in
     record {
       visits = has.vs;
-      are = subst (λ n. AreVisits link 1 early clock.after.dial failed low n s has.vs desk.after.state) (sym counts)
-          (subst (λ (x : State). AreVisits link 1 early clock.after.dial failed low middle s has.vs x) (sym is) (subst (λ dial. AreVisits link 1 early dial failed low middle s has.vs u) (sym stands) are));
+      are = subst (λ n. AreVisits link 1 clock.before clock.after low n s has.vs desk.after.state) (sym counts)
+          (subst (λ (x : State). AreVisits link 1 clock.before clock.after low middle s has.vs x) (sym is) (subst (λ (dusk : ClockSeen). AreVisits link 1 clock.before dusk low middle s has.vs u) (sym stands) has.are));
       taken = subst (λ (d : Option (Links L)). AreTaken door.before.links d has.vs) (sym same) has.taken;
       came_at = at_port door.after.opened_at port has.vs opened;
       ends = subst (EndsServing (RoseOrFull door.before.health.faults door.after.health.faults) failed most has.vs) (sym how)
           (door_ends (RoseOrFull door.before.health.faults door.after.health.faults) failed most has.vs met.memory failing has.had (fewer has.vs done most many within));
     }
 
-all_end : {L : Type 0} (door failed clock : Type 0) (most : ℕ) (vs : List (Visit L)) (memory late : Bool) → (failed → clock) → (late ≡ true → failed) → (memory ≡ false → AllByRecursion HadMemory vs)
+all_end : {L : Type 0} (door clock : Type 0) (most : ℕ) (vs : List (Visit L)) (memory late : Bool) → (late ≡ true → clock) → (memory ≡ false → AllByRecursion HadMemory vs)
     → (memory ≡ false → late ≡ false → AllByRecursion IsWell vs) → (late ≡ true → list_any ended_by_clock vs ≡ true) → length vs ≡ most → EndsServing door clock most vs (if memory then ends.OutOfMemory else (if late then ends.ClockFault else ends.Done))
-all_end door failed clock most vs true late of_clock fault had well some many = inl many
-all_end door failed clock most vs false true of_clock fault had well some many = (of_clock (fault refl), many, had refl, some refl)
-all_end door failed clock most vs false false of_clock fault had well some many = (many, well refl refl)
+all_end door clock most vs true late fault had well some many = inl many
+all_end door clock most vs false true fault had well some many = (fault refl, many, had refl, some refl)
+all_end door clock most vs false false fault had well some many = (many, well refl refl)
 
 -- as many connections were served as stated
 pub served_to_end : {L : Type 0} (link : L → LinkSeen) (door : Over (DoorSeen L)) (clock : Over ClockSeen) (desk : Over DeskAt) (port done most : ℕ) (met : Met) (end : ServeEnd) → end ≡ end_of met → done ≤ most → most ≤ done
     → door.after.opened_at ≡ Some port
-    → HasServed link door.before.links door.after.links clock.before.dial clock.after.dial (HasFailed clock.before.health clock.after.health) done met desk.before.faults desk.after.faults desk.before.state desk.after.state
+    → HasServed link door.before.links door.after.links clock.before clock.after done met desk.before.faults desk.after.faults desk.before.state desk.after.state
     → IsServing link door clock desk port most end
 served_to_end link door clock desk port done most met end how within all opened has =
     let many = has.many in
@@ -325,7 +327,7 @@ served_to_end link door clock desk port done most met end how within all opened 
       taken = has.taken;
       came_at = at_port door.after.opened_at port has.vs opened;
       ends = subst (EndsServing rose failed most has.vs) (sym how)
-          (all_end rose failed failed most has.vs met.memory met.clock (λ late. late) has.fault has.had has.well has.some (omega (arith, many, within, all)));
+          (all_end rose failed most has.vs met.memory met.clock has.fault has.had has.well has.some (omega (arith, many, within, all)));
     }
 
 -- ---- where the clock has not failed
@@ -388,12 +390,10 @@ next_comes (Some old) None vs done most taken many few links = absurd taken
 pub serving_from : {L : Type 0} (link : L → LinkSeen) (door : Over (DoorSeen L)) (clock : Over ClockSeen) (desk : Over DeskAt) (port most : ℕ) (end : ServeEnd) (less : ℕ) → less ≤ desk.before.faults
     → IsServing link door clock desk port most end
     → IsServing link door clock (record desk { before = record desk.before { faults = less } }) port most end
-serving_from link door clock desk port most end less under is =
-    let failed = HasFailed clock.before.health clock.after.health in
-    record {
-      visits = is.visits;
-      are = visits_from link 1 clock.before.dial clock.after.dial failed failed less desk.before.faults desk.after.faults desk.before.state is.visits desk.after.state under (λ rose. rose) is.are;
-      taken = is.taken;
-      came_at = is.came_at;
-      ends = is.ends;
-    }
+serving_from link door clock desk port most end less under is = record {
+  visits = is.visits;
+  are = visits_from link 1 clock.before clock.after less desk.before.faults desk.after.faults desk.before.state is.visits desk.after.state under is.are;
+  taken = is.taken;
+  came_at = is.came_at;
+  ends = is.ends;
+}

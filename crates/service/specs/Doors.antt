@@ -2,11 +2,10 @@
 use Rattle.std.specs.Prelude.{◌≡◌, ◌≢◌, ◌⊎◌, ◌<◌, ◌≤◌, ℕ, ◌+◌, Bool, true, false, List, [], ◌∷◌, ◌++◌, length, map, filter, Option, None, Some, if◌then◌else◌}
 use Rattle.std.specs.List.{AllByRecursion, list_any}
 use Rattle.desk.specs.Seen.{DeskAt}
-use Rattle.desk_io.specs.Health.{HasFailed, RoseOrFull}
+use Rattle.desk_io.specs.Health.{HasFailed, IsStill, RoseOrFull}
 use Rattle.desk_io.specs.Over.{Over}
-use Rattle.desk_net.specs.Clocks.{Dial}
 use Rattle.desk_net.specs.Doors.{Links}
-use Rattle.desk_net.specs.Seen.{ClockSeen, DoorSeen, LinkSeen}
+use Rattle.desk_net.specs.Seen.{ClockGoesOn, ClockSeen, DoorSeen, LinkGoesOn, LinkSeen}
 use Rattle.desk_net.specs.Streams.{unread}
 use Rattle.desk_state.specs.State.{State}
 use Rattle.service.specs.Connections.{IsConnection}
@@ -24,18 +23,22 @@ pub record Visit (L : Type 0) : Type 0 where
   pub served : Served
   pub back : Bool
 
--- What the link gained is what its connection is answered, from a state to another, while the clock's dial turned from one to another.
-abbrev pub IsVisit : {L : Type 0} → (L → LinkSeen) → ℕ → Option Dial → Option Dial → Type 0 → ℕ → ℕ → State → Visit L → State → Type 0
-IsVisit link lane early late clock before after s v t =
-    Wrote (link v.came).stream (link v.went).stream
-    (IsConnection lane early late (HasFailed (link v.came).health (link v.went).health) clock before after s (unread (link v.came).stream) v.served t)
+-- What the link gained is what its connection is answered, from a state to another. `early` and `late` are the clock before the connection
+-- and after it: it ends by a fault of the clock only where the clock failed meanwhile. However else it ends, but for want of memory, the clock's
+-- count of faults stands still.
+pub record IsVisit {L : Type 0} (link : L → LinkSeen) (lane : ℕ) (early late : ClockSeen) (before after : ℕ) (s : State) (v : Visit L) (t : State) : Type 0 where
+  pub answered :
+      Wrote (link v.came).stream (link v.went).stream
+      (IsConnection lane early.dial late.dial (HasFailed (link v.came).health (link v.went).health) (HasFailed early.health late.health) before after s (unread (link v.came).stream) v.served t)
+  pub clock : ClockGoesOn early late
+  pub still : v.served ≢ served.ClockFault → v.served ≢ served.OutOfMemory → IsStill early.health late.health
+  pub goes_on : LinkGoesOn (link v.came) (link v.went)
 
--- Links that come one after another, each in the lane of its number.
-abbrev pub AreVisits : {L : Type 0} → (L → LinkSeen) → ℕ → Option Dial → Option Dial → Type 0 → ℕ → ℕ → State → List (Visit L) → State → Type 0
-AreVisits link lane early late clock before after s [] t = (before ≤ after) × (late ≡ early) × (t ≡ s)
-AreVisits link lane early late clock before after s (v ∷ vs) t =
-    (middle : ℕ) × (dial : Option Dial) × (u : State)
-    × IsVisit link lane early dial clock before middle s v u × AreVisits link (lane + 1) dial late clock middle after u vs t
+-- Links that come one after another, each in the lane of its number. Each finds the clock as the one before left it.
+abbrev pub AreVisits : {L : Type 0} → (L → LinkSeen) → ℕ → ClockSeen → ClockSeen → ℕ → ℕ → State → List (Visit L) → State → Type 0
+AreVisits link lane early late before after s [] t = (before ≤ after) × (late ≡ early) × (t ≡ s)
+AreVisits link lane early late before after s (v ∷ vs) t =
+    (middle : ℕ) × (noon : ClockSeen) × (u : State) × IsVisit link lane early noon before middle s v u × AreVisits link (lane + 1) noon late middle after u vs t
 
 abbrev pub came_of : {L : Type 0} → List (Visit L) → List L
 came_of vs = map (λ v. v.came) vs
@@ -94,7 +97,7 @@ AreAtPort opened_at port (v ∷ vs) = opened_at ≡ Some port
 -- Connections of a door at a port were served, so many at most, one after another, and so it ended.
 pub record IsServing {L : Type 0} (link : L → LinkSeen) (door : Over (DoorSeen L)) (clock : Over ClockSeen) (desk : Over DeskAt) (port most : ℕ) (end : ServeEnd) : Type 0 where
   pub visits : List (Visit L)
-  pub are : AreVisits link 1 clock.before.dial clock.after.dial (HasFailed clock.before.health clock.after.health) desk.before.faults desk.after.faults desk.before.state visits desk.after.state
+  pub are : AreVisits link 1 clock.before clock.after desk.before.faults desk.after.faults desk.before.state visits desk.after.state
   pub taken : AreTaken door.before.links door.after.links visits
   pub came_at : AreAtPort door.after.opened_at port visits
   pub ends : EndsServing (RoseOrFull door.before.health.faults door.after.health.faults) (HasFailed clock.before.health clock.after.health) most visits end
@@ -122,7 +125,7 @@ end_at_door m = if m.memory then ends.OutOfMemory else ends.DoorFault
 abbrev pub Visits : {L : Type 0} → (L → LinkSeen) → ℕ → Over (DoorSeen L) → Over ClockSeen → Over DeskAt → Served → Type 0
 Visits {L} link lane door clock desk how =
     (v : Visit L)
-    × IsVisit link lane clock.before.dial clock.after.dial (HasFailed clock.before.health clock.after.health) desk.before.faults desk.after.faults desk.before.state v desk.after.state
+    × IsVisit link lane clock.before clock.after desk.before.faults desk.after.faults desk.before.state v desk.after.state
     × AreTaken door.before.links door.after.links (v ∷ []) × (how ≡ counts_as v)
 
 -- no link came: the door failed, and nothing changed

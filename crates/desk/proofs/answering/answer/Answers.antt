@@ -9,7 +9,7 @@ returns-clause-given g c =
 
 pub returns-clause-quiet : goal.returns-clause-quiet
 returns-clause-quiet g c = λ sound.
-    quiet_answer _ _ _ _ _ _ (choice_of c.in_ok-judged.judged) _ _ _ _ (c.in_ok-judged.ensures.on.keeper.sound sound).1 c.in_ok-judged.ensures.count c.in_ok-judged.ensures.given
+    quiet_answer _ _ _ _ _ _ (choice_of c.in_ok-judged.judged) _ _ _ _ (c.in_ok-judged.ensures.on.keeper.health.sound sound).1 c.in_ok-judged.ensures.count c.in_ok-judged.ensures.given
 
 pub returns-clause-again : goal.returns-clause-again
 returns-clause-again g c = λ k within may is.

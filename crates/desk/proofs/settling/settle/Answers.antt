@@ -1,5 +1,5 @@
 use Rattle.std.proofs.Common.{sym, ◌∙◌}
-use Rattle.desk_io.proofs.HealthLaws.{stays as health_stays}
+use Rattle.keeper.proofs.SeenLaws.{keeper_stays}
 use Rattle.desk.proofs.Steps.{stays, is_unkept, still_keeps, now_keeps}
 use Rattle.desk.proofs.settling.settle.Goals as goal
 
@@ -7,7 +7,7 @@ pub returns-then-not-changed-clause-on : goal.returns-then-not-changed-clause-on
 returns-then-not-changed-clause-on g c = record {
   opening = c.install.ensures.opening;
   rows = still_keeps _ _ _ (c.install.ensures.state ∙ stays c.args.prepared c.args.desk.now.board.state (sym c.changed.ensures ∙ c.if-not-changed.true));
-  keeper = health_stays _;
+  keeper = keeper_stays _;
 }
 
 pub returns-in-Ok-None-clause-on : goal.returns-in-Ok-None-clause-on

@@ -2,7 +2,7 @@ use Rattle.std.proofs.Common.{◌∙◌, ap, length}
 use Rattle.std.specs.Map.{lookup}
 use Rattle.std.specs.BTreeMap.{is_at}
 use Rattle.facts.specs.Index.{key_cmp}
-use Rattle.facts.specs.Sorted.{if_below}
+use Rattle.sorted.specs.Sorted.{if_below}
 use Rattle.facts.proofs.ReindexLaws.{placed_below}
 use Rattle.facts.proofs.sweeping.index_firsts.Goals as goal
 

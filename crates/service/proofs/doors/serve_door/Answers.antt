@@ -1,16 +1,15 @@
-use Rattle.std.proofs.Common.{◌≡◌, ◌∙◌, true, false, refl, ap, arith}
+use Rattle.std.proofs.Common.{◌≡◌, ◌∙◌, true, false, refl, arith}
 use Rattle.desk.proofs.SeenLaws.{desk_stays, desk_on}
 use Rattle.desk.specs.Seen.{desk_at}
-use Rattle.desk_io.proofs.HealthLaws.{failed_first, failed_last, rose_before}
+use Rattle.desk_io.proofs.HealthLaws.{rose_before}
 use Rattle.desk_io.specs.Over.{over}
 use Rattle.desk_net.proofs.SeenLaws.{clock_stays, clock_on}
-use Rattle.desk_net.specs.Seen.{ClockSeen}
 use Rattle.service.proofs.Visits.{done_well, door_not_clock, door_not_done, next_comes, served_none, served_next, served_to_end, served_to_fault, well_before}
 use Rattle.service.proofs.doors.serve_door.Goals as goal
 
 pub loop-before-init : goal.loop-before-init
 loop-before-init g c = record {
-  served = served_none _ _ _ _ _ _ _ c.bind.ensures.same;
+  served = served_none _ _ _ _ _ _ c.bind.ensures.same;
   within = omega arith;
   port = c.in-Ok.ensures.opened;
   desk = desk_stays _;
@@ -25,9 +24,9 @@ returns-in-Err-clause-serves g c =
     let inv = c.loop-before.invariant in
     let none = c.in-Err.ensures.none in
     let new = c.serve_next_link.new in
-    served_to_fault g.D.Link.Link.seen _ _ _ (over g.D.Door.seen c.args.door.now new.door) (over g.C.Clock.seen c.args.clock.now new.clock)
+    served_to_fault g.D.Link.Link.seen _ _ (over g.D.Door.seen c.args.door.now new.door) (over g.C.Clock.seen c.args.clock.now new.clock)
     (over (desk_at g.K.Keeper.seen) c.args.desk.now new.desk) _ _ _ c.loop-before.met _ _ _ c.end_at_door.ensures (omega (arith, c.loop-before-test.true)) (c.in-Err.ensures.port ∙ inv.port)
-    (rose_before _ _ _ inv.door none.0) (failed_first _ _ (g.C.Clock.seen new.clock).health c.in-Err.ensures.clock.health) none.1 (ap (λ (x : ClockSeen). x.dial) none.2) none.4 none.3 inv.served
+    (rose_before _ _ _ inv.door none.0) none.1 none.2 none.4 none.3 inv.served
 
 pub returns-in-Err-clause-desk : goal.returns-in-Err-clause-desk
 returns-in-Err-clause-desk g c = desk_on _ _ _ c.loop-before.invariant.desk c.in-Err.ensures.desk
@@ -65,10 +64,8 @@ loop-before-preserved g c =
     let within = c.loop-before-test.true in
     let is = c.in-Ok-serve_next_link.ensures in
     let visit = is.visit in
-    let late = (g.C.Clock.seen c.serve_next_link.new.clock).health in
     record {
-      served = served_next g.D.Link.Link.seen _ _ _ _ _ _ _ _ _ c.loop-before.before c.loop-before.met _ _ _ _ _ _ _ _ visit.0 (failed_first _ _ late is.clock.health)
-          (failed_last _ _ late inv.clock.health) inv.served visit.1 visit.2 visit.3 c.after-met.ensures;
+      served = served_next g.D.Link.Link.seen _ _ _ _ _ _ c.loop-before.before c.loop-before.met _ _ _ _ _ _ _ _ visit.0 inv.clock inv.served visit.1 visit.2 visit.3 c.after-met.ensures;
       within = omega (arith, within);
       port = is.port ∙ inv.port;
       desk = desk_on _ _ _ inv.desk is.desk;

@@ -7,7 +7,7 @@ pub returns-in-Ok-clause-serves : goal.returns-in-Ok-clause-serves
 returns-in-Ok-clause-serves g c =
     let read = c.in-Ok.ensures in
     let is = c.serve_request.ensures in
-    served_step _ _ _ _ _ _ _ _ _ _ _ _ _ _ _ _ _ read.same (failed_last _ _ (g.N.Link.seen c.serve_request.new.link).health read.on) is.desk.keeper.later is.left read.answers is.serves
+    served_step _ _ _ _ _ _ _ _ _ _ _ _ _ _ _ _ _ read.same (failed_last _ _ (g.N.Link.seen c.serve_request.new.link).health read.on) is.desk.keeper.health.later is.left read.answers is.serves
 
 pub returns-in-Err-clause-serves : goal.returns-in-Err-clause-serves
 returns-in-Err-clause-serves g c =
