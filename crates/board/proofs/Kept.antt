@@ -180,7 +180,7 @@ pub ticked_told : (opening : State) (before held : Shown) (p : Prepared) (lane t
 ticked_told opening before held p lane to is board later within stepped =
     let low = board.kept.moment.0 in
     subst (λ (b : Shown). AreDifferences takes_none b.state (installed p b.state) p.notices) is
-    (tick_told held.state (installed p held.state) lane to p.notices board.sound (omega (arith, low, later), within) stepped.state stepped.notices)
+    (tick_told held.state (installed p held.state) lane to p.notices board.sound ((omega (arith, low, later), within), omega (arith, later)) stepped.state stepped.notices)
 
 -- the same of what is installed
 pub installed_told : (takes : ℕ → Bool) (s t u : State) (told notices : List Notice) → u ≡ t → notices ≡ told → AreDifferences takes s u told → AreDifferences takes s t notices

@@ -89,7 +89,7 @@ after_tick opening s lane to actor number k later within holds =
     record {
       board = tick_keeps opening s (tick_to s lane to).state lane to holds.board later within refl;
       held = kept_by_tick s (tick_to s lane to).state lane to (tick_to s lane to).reply actor number k
-          (tick_leads s (tick_to s lane to).state lane to (tick_to s lane to).reply holds.board.sound (omega (arith, low, later), within) refl refl) holds.held;
+          (tick_leads s (tick_to s lane to).state lane to (tick_to s lane to).reply holds.board.sound ((omega (arith, low, later), within), omega (arith, later)) refl refl) holds.held;
     }
 
 after_ticked : (opening s : State) (lane : ℕ) (o : Option Reply) (call : Call) (actor : List ℕ) (number : ℕ) (k : KeptReply) → CallHasForms call → is_sweep call.ask ≡ false

@@ -16,7 +16,6 @@ use Rattle.asks.specs.declared.reply.Refusal.{Refusal}
 use Rattle.asks.specs.declared.reply.Done.{Done as DoneType}
 use Rattle.asks.specs.declared.reply.Reply.TheVariants.{Done}
 use Rattle.call_json.specs.Forms.{CallHasForms}
-use Rattle.desk_time.specs.Limits.{IsMoment}
 use Rattle.ops_tables.specs.Tables.{actor_of}
 use Rattle.desk_state.specs.declared.change.AlertChange.{AlertChange}
 use Rattle.desk_state.specs.declared.entry.Entry.{Entry}
@@ -32,7 +31,7 @@ use Rattle.desk_state.specs.Events.{effected, acknowledged_if, kept_alert, is_sa
 use Rattle.desk_state.specs.Decide.{decide, leg_count}
 use Rattle.desk_state.specs.Step.{entry, entered, without_key, enter, finish, do_call, do_unless, answer_call, tick_unless, tick_to}
 use Rattle.desk_state.specs.People.{mistaken}
-use Rattle.desk_state.specs.Sound.{Sound, InBounds, EffectFits, DecisionFits}
+use Rattle.desk_state.specs.Sound.{Sound, InBounds, IsLater, EffectFits, DecisionFits}
 use Rattle.desk_state.specs.Allowed.{IsEffectOf, admits, defers, clears, drafts, prepares, signs, concurs, amends, cancels, departs, stops, completes, acknowledges, purges, sweeps, OfHeld, IsConcurring, IsCancelling, HasMore, HasNoMore, IsStopping, IsCompleting, DecisionOf}
 use Rattle.desk_state.specs.Told.{told_of, is_last, takes_alert, told_over, AreDifferences, takes_none}
 use Rattle.desk_state.proofs.Judging.{Agrees, agrees_all, alerts_kept, judged_is}
@@ -239,13 +238,13 @@ call_told s t lane call notices sound kept form one two =
     (subst (λ (ns : List Notice). AreDifferences (takes_alert s call.ask) s (answer_call s lane call).state ns) (sym two)
     (do_told s lane call (mistaken (actor_of s.tables call.actor) call.key) sound kept form))
 
-tick_told_by : (full : Bool) (s : State) (lane to : ℕ) → IsMoment to → Sound s → AreDifferences takes_none s (tick_unless full s lane to).state (tick_unless full s lane to).notices
+tick_told_by : (full : Bool) (s : State) (lane to : ℕ) → IsLater s.moment to → Sound s → AreDifferences takes_none s (tick_unless full s lane to).state (tick_unless full s lane to).notices
 tick_told_by true s lane to shown sound = nothing_told takes_none s
 tick_told_by false s lane to shown sound =
     told_event takes_none (tick to) (entry lane (what.Tick to)) s (notices_of (alert_changes (tick to) s)) (effect_told (tick to) s takes_none (record { moment = shown; report = tt; apart = tt; deferrals = tt; releases = tt }) sound (λ id. refl))
 
 -- what is told of a tick
-pub tick_told : (s t : State) (lane to : ℕ) (notices : List Notice) → Sound s → IsMoment to → t ≡ (tick_to s lane to).state → notices ≡ (tick_to s lane to).notices → AreDifferences takes_none s t notices
+pub tick_told : (s t : State) (lane to : ℕ) (notices : List Notice) → Sound s → IsLater s.moment to → t ≡ (tick_to s lane to).state → notices ≡ (tick_to s lane to).notices → AreDifferences takes_none s t notices
 unfolding tick_to
 tick_told s t lane to notices sound shown one two =
     subst (λ (u : State). AreDifferences takes_none s u notices) (sym one)

@@ -152,7 +152,7 @@ cleared_same g id None r none rising untouched = ap (λ ds. failing_of (with_def
 cleared_same g id (Some d) r found rising untouched =
     failing_same g (with_deferrals g (without id g.deferrals)) (λ plan phase. is_of_tail plan d.tail) r.active r.phase
     (λ plan fails. ignores_clearing plan d.tail fails r.phase g id
-      (one_tail id d.tail g.deferrals rising (subst (λ (o : Option Deferral). IfSome o (λ e. e.tail ≡ d.tail)) (sym found) refl))) untouched
+    (one_tail id d.tail g.deferrals rising (subst (λ (o : Option Deferral). IfSome o (λ e. e.tail ≡ d.tail)) (sym found) refl))) untouched
 
 deferral_same : (g : Grounds) (on : OnDeferrals) (r : Release) → AreRising g.deferrals → by_deferral on g.deferrals r ≡ false
     → failing_of (with_deferrals g (deferrals_after on g.deferrals)) r ≡ failing_of g r
@@ -172,7 +172,7 @@ time_same g None r later untouched = refl
 time_same g (Some to) r later untouched =
     failing_same g (at_moment g to) (λ plan phase. is_due_by to (next_due plan phase g.tables.settings g.moment)) r.active r.phase
     (λ plan fails. stays_until plan r.phase g (next_due plan r.phase g.tables.settings g.moment) (next_due_is plan r.phase g.tables.settings g.moment) to later.1
-      (before_due to (next_due plan r.phase g.tables.settings g.moment) fails)) untouched
+    (before_due to (next_due plan r.phase g.tables.settings g.moment) fails)) untouched
 
 -- ---- an event
 
