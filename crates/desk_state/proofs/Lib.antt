@@ -9,6 +9,7 @@ pub mod OnceLaws
 pub mod Boards
 pub mod Changes
 pub mod Untouched
+pub mod CountLaws
 pub mod AllowedLaws
 pub mod LeadingLaws
 pub mod CauseLaws

@@ -13,6 +13,7 @@ pub mod Once
 pub mod Sweeps
 pub mod Sound
 pub mod Touched
+pub mod Counting
 pub mod Lanes
 pub mod Repeats
 pub mod Allowed
