@@ -1,5 +1,5 @@
 -- One pass over the releases and the alerts finds what became of each alert.
-use Rattle.std.proofs.Common.{◌≡◌, ℕ, ◌+◌, Bool, true, false, cond, eqb, List, [], ◌∷◌, ◌++◌, Option, None, Some, IfSome, refl, ap, sym, ◌∙◌, subst, arith, eq-eqb}
+use Rattle.std.proofs.Common.{◌≡◌, ℕ, ◌+◌, Bool, true, false, cond, eqb, length, filter, Bor, List, [], ◌∷◌, ◌++◌, Option, None, Some, IfSome, refl, ap, sym, ◌∙◌, subst, arith, eq-eqb}
 use Rattle.std.proofs.lemmas.Bool.{ne_eqb}
 use Rattle.std.specs.List.{AllByRecursion, filter_map, cons_option}
 use Rattle.plan.specs.declared.release.Release.{Release}
@@ -10,14 +10,19 @@ use Rattle.desk_state.specs.declared.effect.Effect.{Effect}
 use Rattle.desk_state.specs.declared.effect.OnAlerts.{OnAlerts}
 use Rattle.desk_state.specs.declared.effect.OnAlerts.TheVariants as on_alerts
 use Rattle.desk_state.specs.State.{State, alert_at}
+use Rattle.desk_state.specs.Counting.{count_touched}
 use Rattle.desk_state.specs.Events.{effected, change_between, changes_from, changes_over, alert_changes, kept_alert}
-use Rattle.desk_state.specs.Sound.{AreJudgeable, InBounds, ReleaseInBounds, Rise, EffectFits}
+use Rattle.desk_state.specs.Sound.{Sound, AreJudgeable, InBounds, ReleaseInBounds, Rise, EffectFits}
 use Rattle.desk_state.proofs.Judging.{IsOf, found_of, alerts_kept, kept_has}
 use Rattle.desk_state.proofs.Changes.{AreAbove, all_above}
 use Rattle.desk_state.proofs.Parts.{deferrals_open, releases_kept, releases_own, releases_rise}
+use Rattle.desk_state.proofs.Untouched.{touched_changes}
+use Rattle.deferrals.specs.declared.items.Deferral.{Deferral}
 use Rattle.alert_judging.specs.declared.prospect.Prospect.{Prospect}
+use Rattle.alert_judging.specs.declared.reach.Reach.{Reach}
+use Rattle.alert_judging.specs.declared.reach.Reach.TheVariants as reach
 use Rattle.desk_state.specs.Contents.{state_of}
-use Rattle.alert_judging.specs.Prospect.{AreOpenThen, IsBounded, AreBounded, prospect, acknowledged_by, left_by, judged_by, changes_of, here, past, walk}
+use Rattle.alert_judging.specs.Prospect.{AreOpenThen, IsBounded, AreBounded, prospect, acknowledged_by, left_by, judged_by, changes_of, changes_if, changes_among, count_judged, is_judged, one_if, here, past, walk}
 use Rattle.desk_io.proofs.Each.{each_weaker}
 
 pub all_bounded : (s : State) → AreJudgeable s → InBounds s → AreBounded s.alerts
@@ -94,24 +99,63 @@ past_is id None (a ∷ ys) is above =
 abbrev changes_for : Prospect → Release → Option Alert → Option Alert → List AlertChange
 changes_for p r before kept = change_between r.id before kept ++ change_between r.id kept (judged_by p r kept)
 
-walk_is : (p : Prospect) (low : ℕ) (rs : List Release) (next : ℕ) → Rise low rs next
-    → walk p (filter_map (λ r. alert_at r.id (state_of p.content.now).alerts) rs) rs ≡ changes_over (prospect p) (state_of p.content.now).alerts rs
-walk_is p low [] next rise = refl
-walk_is p low (r ∷ rs) next rise =
+-- whether a release is judged or not
+among_by : (p : Prospect) (t : State) (held : List Alert) (r : Release) (later : List Release) (more : List AlertChange) (b : Bool) → more ≡ changes_over t held later
+    → cond b (changes_from t (alert_at r.id held) r) [] ++ more ≡ changes_over t held (cond b (r ∷ later) later)
+among_by p t held r later more true same = ap (λ cs. changes_from t (alert_at r.id held) r ++ cs) same
+among_by p t held r later more false same = same
+
+if_is : (p : Prospect) (b : Bool) (before : Option Alert) (r : Release) → changes_if b p before r ≡ cond b (changes_of p before r) []
+if_is p true before r = refl
+if_is p false before r = refl
+
+walk_is : (which : Reach) (p : Prospect) (low : ℕ) (rs : List Release) (next : ℕ) → Rise low rs next
+    → walk which p (filter_map (λ r. alert_at r.id (state_of p.content.now).alerts) rs) rs
+    ≡ changes_over (prospect p) (state_of p.content.now).alerts (filter (is_judged which p) rs)
+walk_is which p low [] next rise = refl
+walk_is which p low (r ∷ rs) next rise =
     let s : State = state_of p.content.now in
+    let b : Bool = is_judged which p r in
     let later : List Alert = filter_map (λ q. alert_at q.id s.alerts) rs in
     let above : AreAbove r.id later = all_above (λ q. alert_at q.id s.alerts) (r.id + 1) rs next (λ q. found_of q.id s.alerts) r.id (omega arith) rise.1 in
-    ap (λ o. changes_of p o r ++ walk p (past r.id (cons_option (alert_at r.id s.alerts) later)) rs) (here_is r.id (alert_at r.id s.alerts) later (found_of r.id s.alerts) above)
-    ∙ ap (λ (left : List Alert). changes_of p (alert_at r.id s.alerts) r ++ walk p left rs) (past_is r.id (alert_at r.id s.alerts) later (found_of r.id s.alerts) above)
-    ∙ ap (λ o. changes_for p r (alert_at r.id s.alerts) o ++ walk p later rs) (sym (alerts_kept p.effect.now.on_alerts r.id s.alerts))
-    ∙ ap (λ rest. changes_from (prospect p) (alert_at r.id s.alerts) r ++ rest) (walk_is p (r.id + 1) rs next rise.1)
+    ap (λ o. changes_if b p o r ++ walk which p (past r.id (cons_option (alert_at r.id s.alerts) later)) rs) (here_is r.id (alert_at r.id s.alerts) later (found_of r.id s.alerts) above)
+    ∙ ap (λ (left : List Alert). changes_if b p (alert_at r.id s.alerts) r ++ walk which p left rs) (past_is r.id (alert_at r.id s.alerts) later (found_of r.id s.alerts) above)
+    ∙ ap (λ cs. cs ++ walk which p later rs) (if_is p b (alert_at r.id s.alerts) r)
+    ∙ ap (λ o. cond b (changes_for p r (alert_at r.id s.alerts) o) [] ++ walk which p later rs) (sym (alerts_kept p.effect.now.on_alerts r.id s.alerts))
+    ∙ among_by p (prospect p) s.alerts r (filter (is_judged which p) rs) (walk which p later rs) b (walk_is which p (r.id + 1) rs next rise.1)
 
--- the pass over all gives the changes of the alerts
-pub walk_all : (p : Prospect) (rs : List Release) → rs ≡ (prospect p).releases → EffectFits (state_of p.content.now) p.effect.now → AreJudgeable (state_of p.content.now)
-    → walk p (state_of p.content.now).alerts rs ≡ alert_changes p.effect.now (state_of p.content.now)
-walk_all p rs is fits listed =
+-- the pass over all gives the changes of the alerts of those that are judged
+pub walk_among : (which : Reach) (p : Prospect) (rs : List Release) → rs ≡ (prospect p).releases → EffectFits (state_of p.content.now) p.effect.now → AreJudgeable (state_of p.content.now)
+    → walk which p (state_of p.content.now).alerts rs ≡ changes_among which p
+walk_among which p rs is fits listed =
     let s : State = state_of p.content.now in
     let t : State = prospect p in
-    ap (λ (held : List Release). walk p s.alerts held) is
-    ∙ ap (λ (alerts : List Alert). walk p alerts t.releases) (releases_own s p.effect.now.on_releases fits.releases listed)
-    ∙ walk_is p 0 t.releases t.counters.next_release (releases_rise s p.effect.now.on_releases fits.releases listed.ids)
+    ap (λ (held : List Release). walk which p s.alerts held) is
+    ∙ ap (λ (alerts : List Alert). walk which p alerts t.releases) (releases_own s p.effect.now.on_releases fits.releases listed)
+    ∙ walk_is which p 0 t.releases t.counters.next_release (releases_rise s p.effect.now.on_releases fits.releases listed.ids)
+
+every_one : (p : Prospect) (rs : List Release) → filter (is_judged reach.Every p) rs ≡ rs
+every_one p [] = refl
+every_one p (r ∷ rs) = ap (λ more. r ∷ more) (every_one p rs)
+
+-- where every active release is judged, these are all changes
+pub among_every : (p : Prospect) → changes_among reach.Every p ≡ alert_changes p.effect.now (state_of p.content.now)
+among_every p = ap (λ (rs : List Release). changes_over (prospect p) (state_of p.content.now).alerts rs) (every_one p (prospect p).releases)
+
+-- and where those are that the effect touches
+pub among_touched : (cleared : Option (Bor Deferral)) (p : Prospect) → Sound (state_of p.content.now) → InBounds (state_of p.content.now) → EffectFits (state_of p.content.now) p.effect.now
+    → changes_among (reach.Touched cleared) p ≡ alert_changes p.effect.now (state_of p.content.now)
+among_touched cleared p sound kept fits = sym (touched_changes (state_of p.content.now) p.effect.now sound kept.deferrals.rising fits)
+
+count_by : (p : Prospect) (b : Bool) (r : Release) (rs more : List Release) (n : ℕ) → n ≡ length more → one_if b + n ≡ length (cond b (r ∷ more) more)
+count_by p true r rs more n is = omega (arith, is)
+count_by p false r rs more n is = omega (arith, is)
+
+-- those that are judged are those that pass the test
+pub judged_count : (which : Reach) (p : Prospect) (rs : List Release) → count_judged which p rs ≡ length (filter (is_judged which p) rs)
+judged_count which p [] = refl
+judged_count which p (r ∷ rs) = count_by p (is_judged which p r) r rs (filter (is_judged which p) rs) (count_judged which p rs) (judged_count which p rs)
+
+-- as many are judged as the effect touches
+pub touched_count : (cleared : Option (Bor Deferral)) (p : Prospect) → count_judged (reach.Touched cleared) p (prospect p).releases ≡ count_touched (state_of p.content.now) p.effect.now
+touched_count cleared p = judged_count (reach.Touched cleared) p (prospect p).releases

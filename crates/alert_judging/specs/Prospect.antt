@@ -1,6 +1,7 @@
 -- What is judged: what the board holds, once an effect is there. One pass over the releases and the
--- alerts, each in its order.
-use Rattle.std.specs.Prelude.{ℕ, ◌<◌, ◌==◌, true, if◌then◌else◌, List, [], ◌∷◌, ◌++◌, Option, None, Some}
+-- alerts, each in its order, finds what becomes of those that are judged.
+use Rattle.std.specs.Prelude.{◌≡◌, ℕ, ◌+◌, ◌<◌, ◌==◌, Bool, true, false, if◌then◌else◌, List, [], ◌∷◌, ◌++◌, filter, find, Option, None, Some}
+use Rattle.std.specs.Option.{option_copied}
 use Rattle.std.specs.List.{AllByRecursion}
 use Rattle.plan.specs.declared.release.Release.{Release}
 use Rattle.rules.specs.Grounds.{Grounds}
@@ -13,8 +14,12 @@ use Rattle.desk_state.specs.declared.effect.OnAlerts.{OnAlerts}
 use Rattle.desk_state.specs.declared.effect.OnAlerts.TheVariants as on_alerts
 use Rattle.desk_state.specs.State.{State, grounds_of, failing_of, alert_for}
 use Rattle.desk_state.specs.Sound.{AreOpen}
-use Rattle.desk_state.specs.Events.{effected, reports_after, change_between, kept_alert}
+use Rattle.desk_state.specs.Events.{effected, reports_after, change_between, changes_over, kept_alert}
+use Rattle.desk_state.specs.Touched.{is_touched}
+use Rattle.deferrals.specs.Held.{has_id}
 use Rattle.alert_judging.specs.declared.prospect.Prospect.{Prospect}
+use Rattle.alert_judging.specs.declared.reach.Reach.{Reach}
+use Rattle.alert_judging.specs.declared.reach.Reach.TheVariants as reach
 use Rattle.desk_state.specs.Contents.{state_of}
 
 -- a version that leaves room for one more
@@ -83,6 +88,40 @@ abbrev pub past : ℕ → List Alert → List Alert
 past id [] = []
 past id (a ∷ rest) = if a.release == id then rest else a ∷ rest
 
-abbrev pub walk : Prospect → List Alert → List Release → List AlertChange
-walk p alerts [] = []
-walk p alerts (r ∷ rs) = changes_of p (here r.id alerts) r ++ walk p (past r.id alerts) rs
+-- the deferral that an effect clears, where it is open
+abbrev pub deferral_cleared : OnDeferrals → List Deferral → Option Deferral
+deferral_cleared on_deferrals.Nothing list = None
+deferral_cleared (on_deferrals.Open d) list = None
+deferral_cleared (on_deferrals.Clear id) list = find (has_id id) list
+
+-- the deferral that is cleared was found
+abbrev pub IsReach : Prospect → Reach → Type 0
+IsReach p reach.Every = Unit {0}
+IsReach p (reach.Touched cleared) = option_copied cleared ≡ deferral_cleared p.effect.now.on_deferrals (state_of p.content.now).deferrals
+
+-- a release is among those that are judged
+abbrev pub is_judged : Reach → Prospect → Release → Bool
+is_judged reach.Every p r = true
+is_judged (reach.Touched cleared) p r = is_touched (state_of p.content.now) p.effect.now r
+
+abbrev pub changes_if : Bool → Prospect → Option Alert → Release → List AlertChange
+changes_if true p before r = changes_of p before r
+changes_if false p before r = []
+
+abbrev pub one_if : Bool → ℕ
+one_if true = 1
+one_if false = 0
+
+-- how many of some releases are judged
+abbrev pub count_judged : Reach → Prospect → List Release → ℕ
+count_judged which p [] = 0
+count_judged which p (r ∷ rs) = one_if (is_judged which p r) + count_judged which p rs
+
+-- one pass over the releases and the alerts
+abbrev pub walk : Reach → Prospect → List Alert → List Release → List AlertChange
+walk which p alerts [] = []
+walk which p alerts (r ∷ rs) = changes_if (is_judged which p r) p (here r.id alerts) r ++ walk which p (past r.id alerts) rs
+
+-- the changes of the alerts of those that are judged
+abbrev pub changes_among : Reach → Prospect → List AlertChange
+changes_among which p = changes_over (prospect p) (state_of p.content.now).alerts (filter (is_judged which p) (prospect p).releases)

@@ -1,8 +1,9 @@
-//! Which alerts an event changes: every active release is judged by what is held once its effect is there.
+//! Which alerts an event changes: the active releases that it touches are judged by what is held once its effect is there.
 #![tactic(auto)]
 
 mod changes;
 mod prospect;
+mod reach;
 
 pub use changes::notices_of;
 pub use prospect::Prospect;

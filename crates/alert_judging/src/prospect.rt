@@ -1,4 +1,4 @@
-ghost use Rattle.std.specs.Prelude.{◌≡◌, ◌++◌, ◌<◌, ◌+◌, map, take, drop, option_to_list, IfOk, IfSome, OnOk};
+ghost use Rattle.std.specs.Prelude.{◌≡◌, ◌++◌, ◌<◌, ◌≤◌, ◌+◌, map, take, drop, option_to_list, IfOk, IfSome, OnOk};
 ghost use Rattle.std.specs.List.{AllByRecursion};
 ghost use Rattle.std.specs.Option.{option_copied};
 ghost use Rattle.plan.specs.Check.{IsPlan};
@@ -7,12 +7,14 @@ ghost use Rattle.rules.specs.Judgement.{findings_of};
 ghost use Rattle.desk_state.specs.State as state;
 ghost use Rattle.desk_state.specs.Events as events;
 ghost use Rattle.desk_state.specs.Events.{alert_changes};
-ghost use Rattle.desk_state.specs.Sound.{ReleaseInBounds, AreJudgeable, InBounds, EffectFits};
+ghost use Rattle.desk_state.specs.Counting.{count_touched};
+ghost use Rattle.desk_state.specs.Sound.{Sound, ReleaseInBounds, AreJudgeable, InBounds, EffectFits};
 ghost use Rattle.desk_state.specs.Contents.{state_of};
 ghost use Rattle.alert_judging.specs.Prospect as spec;
-ghost use Rattle.alert_judging.specs.Prospect.{prospect, AreBounded, IsBounded, AreOpenThen};
+ghost use Rattle.alert_judging.specs.Prospect.{prospect, AreBounded, IsBounded, IsReach, AreOpenThen};
 
 use crate::changes::push_change;
+use crate::reach::Reach;
 use alerts::{Alert, after};
 use deferrals::Deferral;
 use desk_io::{Copied, OutOfMemory};
@@ -166,7 +168,8 @@ impl<'a> Prospect<'a> {
     ) -> Result<Findings, OutOfMemory>
         requires open { AreOpenThen self.now }
         requires plan { IsPlan plan.now }
-        ensures { IfOk result (λ f. f ≡ findings_of plan.now phase (state.grounds_of (prospect self.now))) }
+        ensures value { IfOk result (λ f. f ≡ findings_of plan.now phase (state.grounds_of (prospect self.now))) }
+        ensures steps { steps.new ≡ steps.old + 1 }
     {
         judge_by(alloc, plan, phase, self.evidence(), steps)
     }
@@ -180,7 +183,8 @@ impl<'a> Prospect<'a> {
     ) -> Result<Option<Findings>, OutOfMemory>
         requires release { ReleaseInBounds release.now }
         requires open { AreOpenThen self.now }
-        ensures { IfOk result (λ f. f ≡ state.failing_of (state.grounds_of (prospect self.now)) release.now) }
+        ensures value { IfOk result (λ f. f ≡ state.failing_of (state.grounds_of (prospect self.now)) release.now) }
+        ensures steps { steps.new ≤ steps.old + 1 }
     {
         match &release.active {
             Some(revision) if is_active(release.phase) => {
@@ -249,7 +253,8 @@ impl<'a> Prospect<'a> {
         requires release { ReleaseInBounds release.now }
         requires open { AreOpenThen self.now }
         requires version { IfSome (option_copied kept) IsBounded }
-        ensures { IfOk result (λ a. a ≡ spec.judged_by self.now release.now (option_copied kept.entry)) }
+        ensures value { IfOk result (λ a. a ≡ spec.judged_by self.now release.now (option_copied kept.entry)) }
+        ensures steps { steps.new ≤ steps.old + 1 }
     {
         match self.failing(alloc, release, steps)? {
             None => Ok(None),
@@ -276,8 +281,9 @@ impl<'a> Prospect<'a> {
         requires release { ReleaseInBounds release.now }
         requires open { AreOpenThen self.now }
         requires version { IfSome (option_copied before) IsBounded }
-        ensures { OnOk result (out.new.items ≡ out.old.items ++ spec.changes_of self.now
+        ensures changes { OnOk result (out.new.items ≡ out.old.items ++ spec.changes_of self.now
             (option_copied before.entry) release.now) }
+        ensures steps { steps.new ≤ steps.old + 1 }
     {
         let acknowledged = self.acknowledged(alloc, before)?;
         let kept = self.kept(acknowledged.as_ref(), before, release.id);
@@ -286,7 +292,32 @@ impl<'a> Prospect<'a> {
         push_change(alloc, out, release.id, kept, after.as_ref())
     }
 
-    // The changes of the alerts of all releases, in one pass over both.
+    // The changes of the alert of a release, where it is among those that are judged.
+    fn push_changes_if<L: Ledger>(
+        &self,
+        alloc: Global,
+        out: &mut Vec<AlertChange>,
+        before: Option<&'a Alert>,
+        release: &Release,
+        reach: Reach<'a>,
+        steps: &mut Steps<L>,
+    ) -> Result<(), OutOfMemory>
+        requires release { ReleaseInBounds release.now }
+        requires open { AreOpenThen self.now }
+        requires version { IfSome (option_copied before) IsBounded }
+        requires reach { IsReach self.now reach }
+        ensures changes { OnOk result (out.new.items ≡ out.old.items ++ spec.changes_if
+            (spec.is_judged reach.entry self.now release.now) self.now (option_copied before.entry) release.now) }
+        ensures steps { steps.new ≤ steps.old + spec.one_if (spec.is_judged reach.entry self.now release.now) }
+    {
+        if self.is_judged(reach, release) {
+            self.push_changes(alloc, out, before, release, steps)
+        } else {
+            Ok(())
+        }
+    }
+
+    // The changes of the alerts of those of the releases that are judged, in one pass over both.
     #[tactic(auto, using(crate::proofs::Walks::here_bounded, crate::proofs::Walks::past_bounded))]
     fn push_all_changes<L: Ledger>(
         &self,
@@ -294,27 +325,75 @@ impl<'a> Prospect<'a> {
         out: &mut Vec<AlertChange>,
         alerts: &'a [Alert],
         releases: &[&Release],
+        reach: Reach<'a>,
         steps: &mut Steps<L>,
     ) -> Result<(), OutOfMemory>
         requires releases { AllByRecursion ReleaseInBounds (map (λ r. r.now) releases.now) }
         requires open { AreOpenThen self.now }
         requires alerts { AreBounded alerts.now }
-        ensures { OnOk result (out.new.items ≡ out.old.items ++ spec.walk self.now alerts.now
+        requires reach { IsReach self.now reach }
+        ensures changes { OnOk result (out.new.items ≡ out.old.items ++ spec.walk reach.entry self.now alerts.now
             (map (λ r. r.now) releases.now)) }
+        ensures steps { steps.new ≤ steps.old + spec.count_judged reach.entry self.now (map (λ r. r.now) releases.now) }
     {
         let mut left = alerts;
         for release in releases {
             let (before, rest) = front_of(left, release.id);
             left = rest;
-            self.push_changes(alloc, out, before, release, steps)?;
+            self.push_changes_if(alloc, out, before, release, reach, steps)?;
         }
         Ok(())
     }
 
+    #[tactic(auto, using(crate::proofs::Walks::walk_among, crate::proofs::Walks::open_then))]
+    fn changes_in<L: Ledger>(
+        &self,
+        alloc: Global,
+        reach: Reach<'a>,
+        steps: &mut Steps<L>,
+    ) -> Result<Vec<AlertChange>, OutOfMemory>
+        requires listed { AreJudgeable (state_of self.now.content.now) }
+        requires kept { InBounds (state_of self.now.content.now) }
+        requires fits { EffectFits (state_of self.now.content.now) self.now.effect.now }
+        requires reach { IsReach self.now reach }
+        ensures changes { IfOk result (λ v. v.items ≡ spec.changes_among reach.entry self.now) }
+        ensures steps { steps.new ≤ steps.old + spec.count_judged reach.entry self.now (prospect self.now).releases }
+    {
+        let releases = self.releases(alloc)?;
+        let mut out = Vec::new(alloc);
+        self.push_all_changes(
+            alloc,
+            &mut out,
+            &self.content.alerts,
+            &releases,
+            reach,
+            steps,
+        )?;
+        Ok(out)
+    }
+
     /// The changes of the alerts by the effect and by the judgement of every active release, in order of
-    /// the releases.
-    #[tactic(auto, using(crate::proofs::Walks::all_bounded, crate::proofs::Walks::releases_in_bounds, crate::proofs::Walks::open_then, crate::proofs::Walks::walk_all))]
+    /// the releases, where the effect is one on a desk of which what holds of a board holds. Only releases that the
+    /// effect touches are judged: the others' rules find the same as before.
+    #[tactic(auto, using(crate::proofs::Walks::touched_count))]
     pub fn changes<L: Ledger>(
+        &self,
+        alloc: Global,
+        steps: &mut Steps<L>,
+    ) -> Result<Vec<AlertChange>, OutOfMemory>
+        requires sound { Sound (state_of self.now.content.now) }
+        requires kept { InBounds (state_of self.now.content.now) }
+        requires fits { EffectFits (state_of self.now.content.now) self.now.effect.now }
+        ensures value { IfOk result (λ v. v.items ≡ alert_changes self.now.effect.now (state_of self.now.content.now)) }
+        ensures steps { steps.new ≤ steps.old + count_touched (state_of self.now.content.now) self.now.effect.now }
+    {
+        self.changes_in(alloc, Reach::Touched(self.cleared_deferral()), steps)
+    }
+
+    /// The changes of the alerts by the effect and by the judgement of every active release, in order of the releases,
+    /// where nothing is known of the alerts but that each is that of a release. Every active release is judged.
+    #[tactic(auto, using(crate::proofs::Walks::among_every))]
+    pub fn all_changes<L: Ledger>(
         &self,
         alloc: Global,
         steps: &mut Steps<L>,
@@ -324,9 +403,6 @@ impl<'a> Prospect<'a> {
         requires fits { EffectFits (state_of self.now.content.now) self.now.effect.now }
         ensures { IfOk result (λ v. v.items ≡ alert_changes self.now.effect.now (state_of self.now.content.now)) }
     {
-        let releases = self.releases(alloc)?;
-        let mut out = Vec::new(alloc);
-        self.push_all_changes(alloc, &mut out, &self.content.alerts, &releases, steps)?;
-        Ok(out)
+        self.changes_in(alloc, Reach::Every, steps)
     }
 }

@@ -1,14 +1,8 @@
-use Rattle.std.proofs.Common.{ap, sym, subst, ◌∙◌}
-use Rattle.std.specs.Prelude.{map}
-use Rattle.desk_state.specs.Contents.{state_of}
-use Rattle.alert_judging.specs.Prospect.{AreBounded}
-use Rattle.alert_judging.proofs.Walks.{all_bounded, releases_in_bounds}
+use Rattle.std.proofs.Common.{◌∙◌}
+use Rattle.std.proofs.lemmas.Result.{IfOk-weaker}
+use Rattle.alert_judging.proofs.Walks.{among_touched}
 use Rattle.alert_judging.proofs.prospect.Prospect.changes.Goals as goal
 
-pub push_all_changes-requires-clause-releases : goal.push_all_changes-requires-clause-releases
-push_all_changes-requires-clause-releases g c =
-    releases_in_bounds c.args.self.now.effect.now (state_of c.args.self.now.content.now) _ (ap (map (λ r. r.now)) c.deref-2.ensures.value ∙ c.in_ok-releases.ensures) c.requires.fits c.requires.kept
-
-pub push_all_changes-requires-clause-alerts : goal.push_all_changes-requires-clause-alerts
-push_all_changes-requires-clause-alerts g c =
-    subst AreBounded (sym c.deref.ensures.value) (all_bounded (state_of c.args.self.now.content.now) c.requires.listed c.requires.kept)
+pub returns-clause-value : goal.returns-clause-value
+returns-clause-value g c =
+    IfOk-weaker c.changes_in.result _ _ (λ v is. is ∙ among_touched c.cleared_deferral.result c.args.self.now c.requires.sound c.requires.kept c.requires.fits) c.changes_in.ensures.changes
