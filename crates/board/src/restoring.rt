@@ -46,7 +46,7 @@ fn judge_anew<L: Ledger>(
         content,
         effect: &effect,
     }
-    .changes(alloc, steps)
+    .all_changes(alloc, steps)
 }
 
 // A judgement by which an alert changes is an event.

@@ -1,10 +1,11 @@
-ghost use Rattle.std.specs.Prelude.{◌≡◌, ◌≤◌, ◌<◌, length, map, slice_get, None, Some, IfOk, IfSome, OnOk, OnErr};
+ghost use Rattle.std.specs.Prelude.{◌≡◌, ◌≤◌, ◌<◌, ◌+◌, length, map, slice_get, None, Some, IfOk, IfSome, OnOk, OnErr};
 ghost use Rattle.std.specs.Option.{option_copied};
 ghost use Rattle.desk_state.specs.State.{start, release_at, alert_at};
 ghost use Rattle.desk_state.specs.Step.{answer_call, tick_to};
 ghost use Rattle.desk_state.specs.Texts.{closing};
 ghost use Rattle.desk_state.specs.Allowed.{MayLeadTo, MayTickTo};
 ghost use Rattle.desk_state.specs.Causes.{RefusesFor};
+ghost use Rattle.desk_state.specs.Counting.{most_judged, most_ticked};
 ghost use Rattle.desk_state.specs.Told.{takes_alert, AreDifferences, takes_none};
 ghost use Rattle.desk_state.specs.Once.{KeepsUsed};
 ghost use Rattle.desk_state.specs.Repeats.{AcceptedOnce};
@@ -143,6 +144,7 @@ impl Board {
         ensures rows { IfOk result (λ p. KeepsRows self.old.state p) }
         ensures ok { IfOk result (λ p. self.new ≡ shown self.old.opening self.old.state (Some p)) }
         ensures err { OnErr result (self.new ≡ shown self.old.opening self.old.state None) }
+        ensures steps { steps.new ≤ steps.old + most_judged self.old.state call.now.ask }
     {
         self.room = None;
         let prepared = prepare_answer(alloc, &mut self.content, lane, call, steps)?;
@@ -169,6 +171,7 @@ impl Board {
         ensures rows { IfOk result (λ p. KeepsRows self.old.state p) }
         ensures ok { IfOk result (λ p. self.new ≡ shown self.old.opening self.old.state (Some p)) }
         ensures err { OnErr result (self.new ≡ shown self.old.opening self.old.state None) }
+        ensures steps { steps.new ≤ steps.old + most_ticked self.old.state to }
     {
         self.room = None;
         let prepared = prepare_tick(alloc, &mut self.content, lane, to, steps)?;
@@ -222,6 +225,7 @@ impl Board {
         ensures told { IfOk result (λ i. AreDifferences (takes_alert self.old.state call.now.ask) self.old.state
             (answer_call self.old.state lane call.now).state i.notices) }
         ensures err { OnErr result (self.new ≡ shown self.old.opening self.old.state None) }
+        ensures steps { steps.new ≤ steps.old + most_judged self.old.state call.now.ask }
     {
         let prepared = self.prepare_change(alloc, lane, call, steps)?;
         Ok(self.install(prepared))
@@ -247,6 +251,7 @@ impl Board {
         ensures shown { IfOk result (λ i. IfSome i.reply ReplyHasMoment) }
         ensures state { OnOk result (self.new ≡ shown self.old.opening (tick_to self.old.state lane to).state None) }
         ensures err { OnErr result (self.new ≡ shown self.old.opening self.old.state None) }
+        ensures steps { steps.new ≤ steps.old + most_ticked self.old.state to }
     {
         let prepared = self.prepare_tick(alloc, lane, to, steps)?;
         Ok(self.install(prepared))

@@ -1,6 +1,7 @@
-ghost use Rattle.std.specs.Prelude.{◌≡◌, [], length, None, Some, IfOk, OnOk};
+ghost use Rattle.std.specs.Prelude.{◌≡◌, ◌≤◌, ◌+◌, [], length, None, Some, IfOk, OnOk};
 ghost use Rattle.std.specs.Option.{option_map};
 ghost use Rattle.desk_state.specs.Contents.{state_of};
+ghost use Rattle.desk_state.specs.Counting.{count_touched, most_judged, most_ticked};
 ghost use Rattle.desk_state.specs.Effects.{tick};
 ghost use Rattle.desk_state.specs.Events as events;
 ghost use Rattle.desk_state.specs.Events.{effected, alert_changes};
@@ -207,10 +208,9 @@ fn full_reply(content: &Content) -> Reply
     })
 }
 
-// Judges every active release once an effect is there, and takes all memory that the event needs. What is held stays
-// as it is.
-#[tactic(auto, using(desk_state::proofs::Parts::judgeable))]
-fn judge_all<L: Ledger>(
+// Judges what an effect touches, as it is once the effect is there, and takes all memory that the event needs. What is
+// held stays as it is.
+fn judge_touched<L: Ledger>(
     alloc: Global,
     content: &mut Content,
     effect: &Effect,
@@ -224,6 +224,7 @@ fn judge_all<L: Ledger>(
     ensures notices { IfOk result (λ j. j.notices ≡ events.notices_of
         (alert_changes effect.now (state_of content.old))) }
     ensures room { IfOk result (λ j. HasRoom content.new (length j.changes.items) effect.now) }
+    ensures steps { steps.new ≤ steps.old + count_touched (state_of content.old) effect.now }
 {
     let changes = Prospect { content, effect }.changes(alloc, steps)?;
     let notices = notices_of(alloc, &changes)?;
@@ -231,7 +232,7 @@ fn judge_all<L: Ledger>(
     Ok(Judged { changes, notices })
 }
 
-// Judges every active release once an effect is there, and says what the event changes of the rows.
+// Judges what an effect touches, and says what the event changes of the rows.
 fn work_out<L: Ledger>(
     alloc: Global,
     content: &mut Content,
@@ -250,8 +251,9 @@ fn work_out<L: Ledger>(
     ensures room { IfOk result (λ w. HasRoom content.new (length w.0.changes.items) effect.now) }
     ensures rows { IfOk result (λ w. w.1.items ≡ kept_rows.event_changes
         (state_of content.new) effect.now recorded.now.entered) }
+    ensures steps { steps.new ≤ steps.old + count_touched (state_of content.old) effect.now }
 {
-    let judged = judge_all(alloc, content, effect, steps)?;
+    let judged = judge_touched(alloc, content, effect, steps)?;
     let changes = rows_of(alloc, content, effect, &judged, recorded)?;
     Ok((judged, changes))
 }
@@ -288,6 +290,7 @@ fn prepare_event<L: Ledger>(
         (step.after_event (state_of content.old) (option_map Reply.Done done) effect recorded.entered)) }
     ensures may { IfOk result (λ p. MayInstall content.new p.event) }
     ensures rows { IfOk result (λ p. KeepsRows (state_of content.old) p) }
+    ensures steps { steps.new ≤ steps.old + count_touched (state_of content.old) effect }
 {
     match work_out(alloc, content, &effect, &recorded, steps) {
         Ok((judged, changes)) => { Ok(planned(replied(done), effect, judged, recorded, changes)) }
@@ -318,6 +321,7 @@ fn prepare_accepted<L: Ledger>(
         (step.accepted (state_of content.old) lane call.now done effect)) }
     ensures may { IfOk result (λ p. MayInstall content.new p.event) }
     ensures rows { IfOk result (λ p. KeepsRows (state_of content.old) p) }
+    ensures steps { steps.new ≤ steps.old + count_touched (state_of content.old) effect }
 {
     match record_call(alloc, content, lane, call, done, &effect) {
         Ok(recorded) => prepare_event(alloc, content, Some(done), effect, recorded, steps),
@@ -352,6 +356,7 @@ fn prepare_entered<L: Ledger>(
         (state_of content.old) lane call.now done effect)) }
     ensures may { IfOk result (λ p. MayInstall content.new p.event) }
     ensures rows { IfOk result (λ p. KeepsRows (state_of content.old) p) }
+    ensures steps { steps.new ≤ steps.old + count_touched (state_of content.old) effect }
 {
     if content.is_full_for(&call.ask) {
         leave(effect);
@@ -377,6 +382,7 @@ fn prepare_call<L: Ledger>(
         (do_call (state_of content.old) lane call.now)) }
     ensures may { IfOk result (λ p. MayInstall content.new p.event) }
     ensures rows { IfOk result (λ p. KeepsRows (state_of content.old) p) }
+    ensures steps { steps.new ≤ steps.old + most_judged (state_of content.old) call.now.ask }
 {
     match decide(alloc, content, call, steps) {
         Ok(Decision::Do(done, effect)) => {
@@ -405,6 +411,7 @@ pub fn prepare_answer<L: Ledger>(
         (answer_call (state_of content.old) lane call.now)) }
     ensures may { IfOk result (λ p. MayInstall content.new p.event) }
     ensures rows { IfOk result (λ p. KeepsRows (state_of content.old) p) }
+    ensures steps { steps.new ≤ steps.old + most_judged (state_of content.old) call.now.ask }
 {
     match mistaken(content.tables.actor(call.actor.bytes()), call.key.bytes()) {
         Some(refusal) => Ok(stay(alloc, Reply::Refused(refusal))),
@@ -427,6 +434,7 @@ fn prepare_ticked<L: Ledger>(
         (step.ticked (state_of content.old) lane to)) }
     ensures may { IfOk result (λ p. MayInstall content.new p.event) }
     ensures rows { IfOk result (λ p. KeepsRows (state_of content.old) p) }
+    ensures steps { steps.new ≤ steps.old + most_ticked (state_of content.old) to }
 {
     let recorded = Recorded {
         entered: tick_entry(lane, to),
@@ -451,6 +459,7 @@ pub fn prepare_tick<L: Ledger>(
     ensures stepped { IfOk result (λ p. IsStepped (state_of content.old) p (tick_to (state_of content.old) lane to)) }
     ensures may { IfOk result (λ p. MayInstall content.new p.event) }
     ensures rows { IfOk result (λ p. KeepsRows (state_of content.old) p) }
+    ensures steps { steps.new ≤ steps.old + most_ticked (state_of content.old) to }
 {
     if content.is_full() {
         return Ok(stay(alloc, full_reply(content)));

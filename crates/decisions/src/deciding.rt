@@ -1,6 +1,7 @@
-ghost use Rattle.std.specs.Prelude.{◌≡◌, false, IfOk};
+ghost use Rattle.std.specs.Prelude.{◌≡◌, ◌≤◌, ◌+◌, false, IfOk};
 ghost use Rattle.asks.specs.Forms.{IsCall};
 ghost use Rattle.desk_state.specs.Contents.{state_of};
+ghost use Rattle.desk_state.specs.Counting.{to_decide};
 ghost use Rattle.desk_state.specs.Decide as spec;
 ghost use Rattle.desk_state.specs.Decide.{decide};
 ghost use Rattle.desk_state.specs.Sound.{Sound, InBounds};
@@ -37,6 +38,7 @@ fn decide_ask<L: Ledger>(
     requires call { IsCall call.now.ask }
     ensures value { Answers (λ d. d) result (spec.decide_ask (state_of content.now) call.now.actor call.now.ask) }
     ensures read { IfOk result DecisionAdmitsRead }
+    ensures steps { steps.new ≤ steps.old + to_decide call.now.ask }
 {
     let actor = &call.actor;
     match &call.ask {
@@ -97,6 +99,7 @@ fn decide_command<L: Ledger>(
     requires call { IsCall call.now.ask }
     ensures value { Answers (λ d. d) result (spec.decide_numbered false (state_of content.now) call.now) }
     ensures read { IfOk result DecisionAdmitsRead }
+    ensures steps { steps.new ≤ steps.old + to_decide call.now.ask }
 {
     match kept_at(&content.kept, call.actor.bytes(), call.number) {
         Some(reply) => repeated(reply, &ask_digest(alloc, &call.ask)?),
@@ -123,6 +126,7 @@ pub fn decide<L: Ledger>(
     requires call { IsCall call.now.ask }
     ensures value { Answers (λ d. d) result (decide (state_of content.now) call.now) }
     ensures read { IfOk result DecisionAdmitsRead }
+    ensures steps { steps.new ≤ steps.old + to_decide call.now.ask }
 {
     not_his_role(content.tables.actor(call.actor.bytes()), &call.ask)?;
     if is_view(&call.ask) {

@@ -1,4 +1,4 @@
-ghost use Rattle.std.specs.Prelude.{◌≡◌, ◌<◌, IsTrue, IfOk, IfSome};
+ghost use Rattle.std.specs.Prelude.{◌≡◌, ◌≤◌, ◌<◌, ◌+◌, IsTrue, IfOk, IfSome};
 ghost use Rattle.std.specs.Option.{option_copied};
 ghost use Rattle.desk_state.specs.Contents.{state_of};
 ghost use Rattle.desk_state.specs.Decide as spec;
@@ -57,7 +57,8 @@ fn fails_now<L: Ledger>(
     steps: &mut Steps<L>,
 ) -> Result<(), Stop>
     requires { ReleaseInBounds release.now }
-    ensures { Passes result (spec.fails_now (state_of content.now) release.now) }
+    ensures passes { Passes result (spec.fails_now (state_of content.now) release.now) }
+    ensures steps { steps.new ≤ steps.old + 1 }
 {
     match &release.active {
         Some(revision) if is_active(release.phase) => {
@@ -116,6 +117,7 @@ pub(crate) fn depart<L: Ledger>(
     requires kept { InBounds (state_of content.now) }
     ensures value { Answers (λ d. d) result (spec.decide_depart (state_of content.now) actor.now id leg) }
     ensures read { IfOk result DecisionAdmitsRead }
+    ensures steps { steps.new ≤ steps.old + 1 }
 {
     let release = held(content, id)?;
     out_of_phase(may_depart(release.phase, leg), release.phase)?;

@@ -1,3 +1,4 @@
+ghost use Rattle.std.specs.Prelude.{◌≡◌, ◌+◌};
 ghost use Rattle.plan.specs.Check.{IsPlan};
 ghost use Rattle.rules.specs.Judgement.{findings_of};
 ghost use Rattle.desk_state.specs.Contents.{state_of};
@@ -32,7 +33,8 @@ pub(crate) fn judged<L: Ledger>(
     steps: &mut Steps<L>,
 ) -> Result<(), Stop>
     requires { IsPlan plan.now }
-    ensures { Passes result (spec.failing (findings_of plan.now phase (grounds_of (state_of content.now)))) }
+    ensures passes { Passes result (spec.failing (findings_of plan.now phase (grounds_of (state_of content.now)))) }
+    ensures steps { steps.new ≡ steps.old + 1 }
 {
     let findings = judge(
         alloc,

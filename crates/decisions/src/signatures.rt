@@ -1,4 +1,4 @@
-ghost use Rattle.std.specs.Prelude.{◌≡◌, IfOk};
+ghost use Rattle.std.specs.Prelude.{◌≡◌, ◌≤◌, ◌+◌, IfOk};
 ghost use Rattle.plan.specs.Check.{IsPlan};
 ghost use Rattle.desk_state.specs.Contents.{state_of};
 ghost use Rattle.desk_state.specs.Decide as spec;
@@ -102,7 +102,8 @@ fn fails<L: Ledger>(
     steps: &mut Steps<L>,
 ) -> Result<(), Stop>
     requires { IsPlan revision.now.plan }
-    ensures { Passes result (spec.fails (state_of content.now) release.now revision.now) }
+    ensures passes { Passes result (spec.fails (state_of content.now) release.now revision.now) }
+    ensures steps { steps.new ≡ steps.old + 1 }
 {
     judged(
         alloc,
@@ -193,6 +194,7 @@ pub(crate) fn sign<L: Ledger>(
     requires kept { InBounds (state_of content.now) }
     ensures value { Answers (λ d. d) result (spec.decide_sign (state_of content.now) actor.now id number digest.now) }
     ensures read { IfOk result DecisionAdmitsRead }
+    ensures steps { steps.new ≤ steps.old + 1 }
 {
     let release = held(content, id)?;
     let revision = pending(release)?;
@@ -223,6 +225,7 @@ pub(crate) fn concur<L: Ledger>(
     requires kept { InBounds (state_of content.now) }
     ensures value { Answers (λ d. d) result (spec.decide_concur (state_of content.now) actor.now id number digest.now) }
     ensures read { IfOk result DecisionAdmitsRead }
+    ensures steps { steps.new ≤ steps.old + 1 }
 {
     let release = held(content, id)?;
     let revision = pending(release)?;

@@ -25,6 +25,7 @@ use Rattle.rules.specs.Touches.{names_station, is_of_tail}
 use Rattle.rules.specs.Due.{next_due, IsBeforeDue, at_moment}
 use Rattle.rules.proofs.FrameLaws.{findings_swept}
 use Rattle.rules.proofs.NextDue.{next_due_is}
+use Rattle.rules.proofs.OpenFrame.{one_of_id}
 use Rattle.rules.proofs.TouchLaws.{ignores_report, ignores_deferral, ignores_clearing}
 use Rattle.rules.proofs.UntilDue.{stays_until}
 use Rattle.desk_state.specs.declared.effect.Effect.{Effect}
@@ -129,30 +130,13 @@ without_none : (id : ℕ) (ds : List Deferral) → find (has_id id) ds ≡ None 
 without_none id [] none = refl
 without_none id (d ∷ ds) none = without_by id d ds (eqb d.id id) none (without_none id ds)
 
--- Of deferrals whose ids rise, the one that is found of an id is the only one of it.
-abbrev HasTail : ℕ → List ℕ → Deferral → Type 0
-HasTail id tail d = d.id ≡ id → d.tail ≡ tail
-
-one_tail_by : (id : ℕ) (tail : List ℕ) (d : Deferral) (ds : List Deferral) (b : Bool) → eqb d.id id ≡ b → AreRising (d ∷ ds)
-    → IfSome (cond b (Some d) (find (has_id id) ds)) (λ e. e.tail ≡ tail) → (IfSome (find (has_id id) ds) (λ e. e.tail ≡ tail) → All (HasTail id tail) ds)
-    → All (HasTail id tail) (d ∷ ds)
-one_tail_by id tail d ds true same rising is rest =
-    All-cons (HasTail id tail) d ds (λ _. is)
-    (λ k x within of. absurd (let less = rising zero (suc k) x (omega arith) (omega (arith, within)) in let first = eqb-true d.id id same in omega (arith, less, first, of)))
-one_tail_by id tail d ds false other rising is rest = All-cons (HasTail id tail) d ds (λ of. absurd (let bad : eqb d.id id ≡ true = eq-eqb d.id id of in cc)) (rest is)
-
-one_tail : (id : ℕ) (tail : List ℕ) (ds : List Deferral) → AreRising ds → IfSome (find (has_id id) ds) (λ e. e.tail ≡ tail) → All (HasTail id tail) ds
-one_tail id tail [] rising is = All-nil (HasTail id tail)
-one_tail id tail (d ∷ ds) rising is =
-    one_tail_by id tail d ds (eqb d.id id) refl rising is (one_tail id tail ds (λ i j x before within. rising (suc i) (suc j) x (omega (arith, before)) (omega (arith, within))))
-
 cleared_same : (g : Grounds) (id : ℕ) (o : Option Deferral) (r : Release) → find (has_id id) g.deferrals ≡ o → AreRising g.deferrals → by_cleared o r ≡ false
     → failing_of (with_deferrals g (without id g.deferrals)) r ≡ failing_of g r
 cleared_same g id None r none rising untouched = ap (λ ds. failing_of (with_deferrals g ds) r) (without_none id g.deferrals none)
 cleared_same g id (Some d) r found rising untouched =
     failing_same g (with_deferrals g (without id g.deferrals)) (λ plan phase. is_of_tail plan d.tail) r.active r.phase
     (λ plan fails. ignores_clearing plan d.tail fails r.phase g id
-    (one_tail id d.tail g.deferrals rising (subst (λ (o : Option Deferral). IfSome o (λ e. e.tail ≡ d.tail)) (sym found) refl))) untouched
+    (one_of_id id d g.deferrals rising found)) untouched
 
 deferral_same : (g : Grounds) (on : OnDeferrals) (r : Release) → AreRising g.deferrals → by_deferral on g.deferrals r ≡ false
     → failing_of (with_deferrals g (deferrals_after on g.deferrals)) r ≡ failing_of g r
