@@ -46,7 +46,7 @@ returns-in_err-answered-clause-err g c =
     let is = c.in_err-answered.ensures in
     let within = c.loop-item-test.true in
     let left = item_left c.args.items.now c.loop-item.item-index c.item-item.result (omega (arith, within)) c.item-item.is in
-    on_err c.from_residual.result (at_next 1 _ _ _ _ _ _ _ _ _ _ _ left inv.given is.on.keeper.later is.err)
+    on_err c.from_residual.result (at_next 1 _ _ _ _ _ _ _ _ _ _ _ left inv.given is.on.keeper.health.later is.err)
 
 pub returns-in_err-push-clause-err : goal.returns-in_err-push-clause-err
 returns-in_err-push-clause-err g c =
