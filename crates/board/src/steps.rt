@@ -366,7 +366,7 @@ fn prepare_entered<L: Ledger>(
 }
 
 // Prepares a call of a person who may make it, and takes all memory that it needs. What is held stays as it is.
-#[tactic(auto, unfolding(desk_state::specs::Step::do_call, crate::specs::Prepare::installed))]
+#[tactic(auto, unfolding(desk_state::specs::Step::do_call, crate::specs::Prepare::installed), using(crate::proofs::Counted::one_counted))]
 fn prepare_call<L: Ledger>(
     alloc: Global,
     content: &mut Content,
@@ -419,6 +419,7 @@ pub fn prepare_answer<L: Ledger>(
     }
 }
 
+#[tactic(auto, using(desk_state::proofs::CountLaws::tick_judges))]
 fn prepare_ticked<L: Ledger>(
     alloc: Global,
     content: &mut Content,

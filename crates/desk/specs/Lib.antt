@@ -6,3 +6,4 @@ pub mod Settled
 pub mod Opening
 pub mod Seen
 pub mod Again
+pub mod Counted

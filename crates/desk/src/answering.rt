@@ -1,12 +1,15 @@
-ghost use Rattle.std.specs.Prelude.{◌≡◌, ◌<◌, ◌≤◌, [], ◌∷◌, None, Some, false, true, is_some, IfOk, IfSome, OnErr};
+ghost use Rattle.std.specs.Prelude.{◌≡◌, ◌<◌, ◌≤◌, ◌+◌, [], ◌∷◌, None, Some, false, true, is_some, IfOk, IfSome, OnErr};
 ghost use Rattle.asks.specs.Forms.{ReplyHasMoment};
 ghost use Rattle.asks.specs.declared.kept.KeptReply.{KeptReply as AKept};
 ghost use Rattle.call_json.specs.Forms.{CallHasForms};
 ghost use Rattle.desk_io.specs.Health.{IsSound, IsStill};
+ghost use Rattle.desk_state.specs.Counting.{most_judged, most_ticked};
 ghost use Rattle.desk_state.specs.Lanes as lanes;
 ghost use Rattle.desk_state.specs.Repeats.{MayAsk, IsKeptFor};
 ghost use Rattle.desk_state.specs.Step.{answer_call, tick_to};
 ghost use Rattle.desk.specs.Again.{AllMayComeAgain};
+ghost use Rattle.desk.specs.Counted as counted;
+ghost use Rattle.desk.specs.Counted.{most_answered};
 ghost use Rattle.desk.specs.Keeping as spec;
 ghost use Rattle.desk.specs.Keeping.{adds, AreNow, Counted, CountedOnce};
 ghost use Rattle.desk.specs.Seen.{desk_seen, DeskGoesOn};
@@ -62,6 +65,7 @@ fn make_call<K: Keeper, L: Ledger>(
         (adds desk.old.board.state (answer_call desk.old.board.state lane call.now)) (K.seen desk.old.keeper).commits) }
     ensures still { adds desk.old.board.state (answer_call desk.old.board.state lane call.now) ≡ false
         → desk.new.keeper ≡ desk.old.keeper }
+    ensures steps { steps.new ≤ steps.old + most_judged desk.old.board.state call.now.ask }
 {
     let prepared = desk.board.prepare_change(alloc, lane, call, steps)?;
     settle(alloc, desk, prepared)
@@ -86,6 +90,7 @@ fn make_tick<K: Keeper, L: Ledger>(
     ensures asked { IfOk result (λ r. (K.seen desk.new.keeper).commits ≡ spec.asked_if
         (adds desk.old.board.state (tick_to desk.old.board.state lane to)) (K.seen desk.old.keeper).commits) }
     ensures told { IfOk result (λ r. IfSome r.fault (λ n. r.reply ≡ Some (Reply.Refused (Refusal.Unkept n)))) }
+    ensures steps { steps.new ≤ steps.old + most_ticked desk.old.board.state to }
 {
     let prepared = desk.board.prepare_tick(alloc, lane, to, steps)?;
     settle(alloc, desk, prepared)
@@ -114,6 +119,7 @@ fn once_ticked<K: Keeper, L: Ledger>(
         desk.old.board.state call.now (K.seen desk.old.keeper).commits) }
     ensures stays { IfOk result (λ r. IfSome refused
         (λ reply. (r.fault ≡ None) × IsStill (K.seen desk.old.keeper).health (K.seen desk.new.keeper).health)) }
+    ensures steps { steps.new ≤ steps.old + counted.most_once_ticked refused desk.old.board.state call.now.ask }
 {
     match refused {
         None => make_call(alloc, desk, lane, call, steps),
@@ -186,6 +192,7 @@ fn answer_made<K: Keeper, L: Ledger>(
         desk.old.board.state call.now (K.seen desk.old.keeper).commits) }
     ensures still { adds desk.old.board.state (answer_call desk.old.board.state lane call.now) ≡ false
         → desk.new.keeper ≡ desk.old.keeper }
+    ensures steps { steps.new ≤ steps.old + most_judged desk.old.board.state call.now.ask }
 {
     let position = desk.board.entries() as u64;
     let settled = make_call(alloc, desk, lane, call, steps)?;
@@ -214,6 +221,7 @@ fn answer_late<K: Keeper, L: Ledger>(
     ensures asked { IfOk result (λ j. (K.seen desk.new.keeper).commits ≡ spec.asked_late j.tick lane
         desk.old.board.state at call.now (K.seen desk.old.keeper).commits) }
     ensures exact { IfOk result (λ j. AreNow (K.seen desk.new.keeper).health.faults (choice_of j)) }
+    ensures steps { steps.new ≤ steps.old + counted.most_if_late true lane desk.old.board.state at call.now.ask }
 {
     let Settled {
         reply,
@@ -250,6 +258,7 @@ pub(crate) fn answer_with<K: Keeper, L: Ledger>(
         desk.old.board.state at call.now (K.seen desk.old.keeper).commits) }
     ensures still { at ≤ desk.old.board.state.moment → adds desk.old.board.state
         (answer_call desk.old.board.state lane call.now) ≡ false → desk.new.keeper ≡ desk.old.keeper }
+    ensures steps { steps.new ≤ steps.old + most_answered lane desk.old.board.state at call.now.ask }
 {
     if desk.board.now() < at {
         answer_late(alloc, desk, lane, at, call, steps)
@@ -295,6 +304,8 @@ pub fn answer<K: Keeper, L: Ledger>(
     // What changes nothing isn't kept.
     ensures still { moment ≤ desk.old.board.state.moment → adds desk.old.board.state
         (answer_call desk.old.board.state lane call.now) ≡ false → desk.new.keeper ≡ desk.old.keeper }
+    // No more plans are judged than the tick and the call together may judge.
+    ensures steps { steps.new ≤ steps.old + most_answered lane desk.old.board.state moment call.now.ask }
 {
     let judged = answer_with(alloc, desk, lane, moment, call, steps)?;
     let _ = desk.board.now();
