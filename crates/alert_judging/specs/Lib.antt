@@ -1,2 +1,1 @@
 pub mod Prospect
-pub mod Touching
