@@ -1,5 +1,6 @@
 -- What a call of a link that reads did to it.
-use Rattle.std.proofs.Common.{◌≡◌, ℕ, List, [], ◌++◌, length, take, drop, Option, Some, None, Result, Ok, Err, ap, sym, ◌∙◌, arith, IfOk}
+use Rattle.std.proofs.Common.{◌≡◌, ℕ, List, [], ◌++◌, length, take, drop, Option, Some, None, Result, Ok, Err, refl, ap, sym, ◌∙◌, arith, IfOk}
+use Rattle.std.specs.Prelude.{OnErr}
 use Rattle.std.proofs.lemmas.List.{take-append-drop, drop-drop, drop_all}
 use Rattle.desk_net.specs.Streams.{Stream, Reads, TakesNext, unread, OnlyRead}
 use Rattle.desk_http.specs.Requests.{Splits, AtEnd}
@@ -28,6 +29,14 @@ at_end (Some old) (Some new) into (Ok n) is = ended old new n into is
 at_end None (Some new) into (Ok n) is = absurd is
 at_end (Some old) None into (Ok n) is = absurd is
 at_end old new into (Err e) is = tt
+
+-- a read that failed left what is unread
+pub stays : {E : Type 0} (old new : Option Stream) (into : List ℕ) (r : Result ℕ E) → Reads old new into r → OnErr r (unread new ≡ unread old)
+stays old new into (Ok n) is = tt
+stays None None into (Err e) is = refl
+stays (Some old) (Some new) into (Err e) is = ap (λ (s : Stream). Some (drop s.taken s.input)) is
+stays None (Some new) into (Err e) is = absurd is
+stays (Some old) None into (Err e) is = absurd is
 
 pub only : {E : Type 0} (old new : Option Stream) (into : List ℕ) (r : Result ℕ E) → Reads old new into r → OnlyRead old new
 only None None into r is = tt

@@ -1,5 +1,5 @@
 -- What is read of a stream, and what its bytes begin with.
-use Rattle.std.proofs.Common.{◌≡◌, ◌≢◌, ◌==◌, false, ℕ, ◌+◌, ◌-◌, ◌<◌, ◌≤◌, inl, inr, List, [], ◌∷◌, ◌++◌, length, take, drop, Option, Some, None, Result, Ok, Err, ap, sym, subst, ◌∙◌, arith, length-append, append-nil, slice_range, MatchResult, IsErr, IsErrAnd}
+use Rattle.std.proofs.Common.{◌≡◌, ◌≢◌, ◌==◌, false, ℕ, ◌+◌, ◌-◌, ◌<◌, ◌≤◌, inl, inr, List, [], ◌∷◌, ◌++◌, length, take, drop, Option, Some, None, Result, Ok, Err, refl, ap, sym, subst, ◌∙◌, arith, length-append, append-nil, slice_range, MatchResult, IsErr, IsErrAnd}
 use Rattle.std.proofs.lemmas.List.{append_assoc, take-append-drop, take_all, drop-append-le, drop-drop, length-take, length-take-le, nil_from_length}
 use Rattle.std.proofs.Math.Seq.{drop-append_seam}
 use Rattle.httparse.specs.Grammar.{RequestHead, print_request, HasNoRequest, NeverHasRequest}
@@ -8,7 +8,7 @@ use Rattle.httparse.specs.declared.spans.HeaderSpan.{HeaderSpan}
 use Rattle.httparse.specs.declared.spans.RequestSpans.{RequestSpans}
 use Rattle.desk_io.specs.Health.{Health, HasCause}
 use Rattle.desk_http.specs.Heads.{Fields, fields_at, head_limit, asked, asks, IsRefusal}
-use Rattle.desk_http.specs.Requests.{Splits, HasHead, wire_of, Begins, BeginsWithRequest, IsRefused, IsPart, HasRead, EndsBy, IsOutside}
+use Rattle.desk_http.specs.Requests.{Splits, HasHead, wire_of, Begins, BeginsWithRequest, IsRefused, IsPart, IsUnfinished, HasRead, ReadsNone, EndsBy, FallsShort, IsOutside}
 use Rattle.desk_http.specs.declared.wire.Asked.{Asked}
 use Rattle.desk_http.specs.declared.wire.Wire.{Wire}
 use Rattle.desk_http.specs.declared.wire.WireFault.{WireFault}
@@ -19,15 +19,19 @@ pub passed_on : {T : Type 0} (r : Result T WireFault) (fault : WireFault) (P : T
 passed_on (Ok t) fault P Q fails is held = cc
 passed_on (Err e) fault P Q fails is held = subst Q (sym is) held
 
-pub outside_ends : (before now : Option (List ℕ)) (kept left : List ℕ) (fault : WireFault) → IsOutside fault → EndsBy before now kept left fault
-outside_ends before now kept left ReadFault is = tt
-outside_ends before now kept left OutOfMemory is = tt
-outside_ends before now kept left End is = absurd is
-outside_ends before now kept left Cut is = absurd is
-outside_ends before now kept left BadHead is = absurd is
-outside_ends before now kept left TooLarge is = absurd is
-outside_ends before now kept left NoLength is = absurd is
-outside_ends before now kept left WrongMethod is = absurd is
+-- after bytes that are no whole request no more was read
+pub outside_ends : (before mid now : Option (List ℕ)) (kept grown left : List ℕ) (fault : WireFault) → HasRead before mid kept grown → IsUnfinished grown → (fault ≡ ReadFault → ReadsNone mid now grown left)
+    → IsOutside fault → EndsBy before now kept left fault
+outside_ends before mid now kept grown left ReadFault read part none is =
+    let same = none refl in
+    (subst (λ later. HasRead before later kept left) (sym same.0) (subst (HasRead before mid kept) (sym same.1) read), subst IsUnfinished (sym same.1) part)
+outside_ends before mid now kept grown left OutOfMemory read part none is = tt
+outside_ends before mid now kept grown left End read part none is = absurd is
+outside_ends before mid now kept grown left Cut read part none is = absurd is
+outside_ends before mid now kept grown left BadHead read part none is = absurd is
+outside_ends before mid now kept grown left TooLarge read part none is = absurd is
+outside_ends before mid now kept grown left NoLength read part none is = absurd is
+outside_ends before mid now kept grown left WrongMethod read part none is = absurd is
 
 -- reading twice
 splits_more : (before now later : Option (List ℕ)) (one two : List ℕ) → Splits before one now → Splits now two later → Splits before (one ++ two) later
@@ -115,6 +119,11 @@ never s without = λ more h rest reads.
 pub part_of_head : (s : List ℕ) → HasNoRequest (take head_limit s) → length s < head_limit → s ≢ [] → IsPart s
 part_of_head s without few some = inl (some, subst HasNoRequest (take_all head_limit s (omega (arith, few))) without, few)
 
+-- few bytes that hold no head are none, or part of one
+pub unfinished_head : (s : List ℕ) → HasNoRequest (take head_limit s) → length s < head_limit → IsUnfinished s
+unfinished_head [] without few = inl refl
+unfinished_head (x ∷ xs) without few = inr (part_of_head (x ∷ xs) without few (λ e. absurd (cc)))
+
 pub nonempty : (xs : List ℕ) → false ≡ (length xs == 0) → xs ≢ []
 nonempty [] is = absurd (cc)
 nonempty (x ∷ xs) is = λ e. absurd (cc)
@@ -141,6 +150,20 @@ part_of_body s n a begins within few =
     let parts = length-append (take n s) (drop n s) in
     let front = length-take-le n s within in
     inr (a, drop n s, begins, omega (arith, long, parts, front, few))
+
+-- a head was read, and not all of its body
+pub short_ends : (before mid now : Option (List ℕ)) (kept grown left : List ℕ) (start : ℕ) (a : Asked) (fault : WireFault) → HasRead before mid kept grown → Begins grown a (drop start grown)
+    → start ≤ length grown → FallsShort (start + a.length) mid now grown left fault → EndsBy before now kept left fault
+short_ends before mid now kept grown left start a ReadFault read begins within (more, few) =
+    let longer = not_shorter mid now grown left more in
+    (read_on before mid now kept grown left read more, inr (part_of_body left start a (begins_on mid now grown left start a more begins within) (omega (arith, within, longer)) few))
+short_ends before mid now kept grown left start a OutOfMemory read begins within short = tt
+short_ends before mid now kept grown left start a End read begins within short = absurd short
+short_ends before mid now kept grown left start a Cut read begins within short = absurd short
+short_ends before mid now kept grown left start a BadHead read begins within short = absurd short
+short_ends before mid now kept grown left start a TooLarge read begins within short = absurd short
+short_ends before mid now kept grown left start a NoLength read begins within short = absurd short
+short_ends before mid now kept grown left start a WrongMethod read begins within short = absurd short
 
 -- where all bytes are there, they are the request and then others
 pub whole_request : (s : List ℕ) (n : ℕ) (a : Asked) (wire : Wire) (left : List ℕ) → Begins s a (drop n s) → n ≤ length s → n + a.length ≤ length s

@@ -65,6 +65,10 @@ IsPartOfBody bytes = (asked : Asked) × (body : List ℕ) × Begins bytes asked 
 abbrev pub IsPart : List ℕ → Type 0
 IsPart bytes = IsPartOfHead bytes ⊎ IsPartOfBody bytes
 
+-- bytes hold no whole request, and others may make them one
+abbrev pub IsUnfinished : List ℕ → Type 0
+IsUnfinished bytes = (bytes ≡ []) ⊎ IsPart bytes
+
 -- the first bytes, as many as a head may have, hold no whole head
 abbrev pub IsTooLong : List ℕ → Type 0
 IsTooLong bytes = (head_limit ≤ length bytes) × HasNoRequest (take head_limit bytes)
@@ -91,9 +95,13 @@ Faults bytes unread fault = GivesNone bytes fault
 abbrev pub HasRead : Option (List ℕ) → Option (List ℕ) → List ℕ → List ℕ → Type 0
 HasRead before now kept grown = (read : List ℕ) × (grown ≡ kept ++ read) × Splits before read now
 
--- Why no request was read. A fault of the link and want of memory say nothing of the bytes.
+-- no byte was read, and none was let go
+abbrev pub ReadsNone : Option (List ℕ) → Option (List ℕ) → List ℕ → List ℕ → Type 0
+ReadsNone before now kept left = (now ≡ before) × (left ≡ kept)
+
+-- Why no request was read. Where the link failed, the bytes that were read till then are no whole request. Want of memory says nothing of them.
 abbrev pub EndsBy : Option (List ℕ) → Option (List ℕ) → List ℕ → List ℕ → WireFault → Type 0
-EndsBy before now kept left ReadFault = Unit {0}
+EndsBy before now kept left ReadFault = HasRead before now kept left × IsUnfinished left
 EndsBy before now kept left OutOfMemory = Unit {0}
 EndsBy before now kept left fault = HasRead before now kept left × Faults left now fault
 
@@ -143,6 +151,12 @@ AnswersUnused _ _ result = ⊥
 abbrev pub IsUpTo : ℕ → List ℕ → Option (List ℕ) → Bool → Type 0
 IsUpTo count grown now true = count ≤ length grown
 IsUpTo count grown now false = (length grown < count) × AtEnd now
+
+-- why fewer bytes than so many are kept: the link failed, or memory ran out
+abbrev pub FallsShort : ℕ → Option (List ℕ) → Option (List ℕ) → List ℕ → List ℕ → WireFault → Type 0
+FallsShort count before now kept grown ReadFault = HasRead before now kept grown × (length grown < count)
+FallsShort count before now kept grown OutOfMemory = Unit {0}
+FallsShort count before now kept grown fault = ⊥
 
 -- Reading a head: where its parts are, in as many bytes as a head may have; or why there is none.
 abbrev pub ReadsHead : Option (List ℕ) → Option (List ℕ) → List ℕ → List ℕ → List HeaderSpan → Result RequestSpans WireFault → Type 0

@@ -1,4 +1,4 @@
-ghost use Rattle.std.specs.Prelude.{◌≡◌, ◌<◌, ◌≤◌, ◌+◌, length, take, IfOk, IfErr, OnErr, MatchResult};
+ghost use Rattle.std.specs.Prelude.{◌≡◌, ◌<◌, ◌≤◌, ◌+◌, length, take, IfOk, IfErr, OnErr, IsErrOf, MatchResult};
 ghost use Rattle.desk_io.specs.Health.{HasCause, HasFailed};
 ghost use Rattle.desk_net.specs.Seen.{LinkGoesOn};
 ghost use Rattle.desk_net.specs.Streams.{unread, OnlyRead};
@@ -19,6 +19,7 @@ fn read_piece<N: Link>(link: &mut N, into: &mut [u8]) -> Result<usize, Failed>
     ensures given { IfOk result
         (λ n. Splits (unread (N.seen link.old).stream) (take n into.new) (unread (N.seen link.new).stream)) }
     ensures at_end { IfOk result (λ n. n ≡ 0 → AtEnd (unread (N.seen link.new).stream)) }
+    ensures stays { OnErr result (unread (N.seen link.new).stream ≡ unread (N.seen link.old).stream) }
     ensures same { OnlyRead (N.seen link.old).stream (N.seen link.new).stream }
     ensures on { LinkGoesOn (N.seen link.old) (N.seen link.new) }
     ensures cause { OnErr result (HasFailed (N.seen link.old).health (N.seen link.new).health) }
@@ -38,6 +39,8 @@ pub(crate) fn read_more<N: Link>(
     ensures count { IfOk result (λ n. length bytes.new.items ≡ length bytes.old.items + n) }
     ensures at_end { IfOk result (λ n. n ≡ 0 → AtEnd (unread (N.seen link.new).stream)) }
     ensures outside { IfErr result spec.IsOutside }
+    ensures none { IsErrOf result WireFault.ReadFault → spec.ReadsNone (unread (N.seen link.old).stream)
+        (unread (N.seen link.new).stream) bytes.old.items bytes.new.items }
     ensures same { OnlyRead (N.seen link.old).stream (N.seen link.new).stream }
     ensures on { LinkGoesOn (N.seen link.old) (N.seen link.new) }
     ensures cause { HasCause WireFault.ReadFault (N.seen link.old).health (N.seen link.new).health result }
@@ -99,8 +102,9 @@ pub(crate) fn read_up_to<N: Link>(
     requires { 0 < length piece.old }
     ensures read { IfOk result (λ _. HasRead (unread (N.seen link.old).stream) (unread (N.seen link.new).stream)
         bytes.old.items bytes.new.items) }
-    ensures next { MatchResult result
-        (spec.IsUpTo count bytes.new.items (unread (N.seen link.new).stream)) spec.IsOutside }
+    ensures next { MatchResult result (spec.IsUpTo count bytes.new.items (unread (N.seen link.new).stream))
+        (spec.FallsShort count (unread (N.seen link.old).stream) (unread (N.seen link.new).stream)
+        bytes.old.items bytes.new.items) }
     ensures same { OnlyRead (N.seen link.old).stream (N.seen link.new).stream }
     ensures on { LinkGoesOn (N.seen link.old) (N.seen link.new) }
     ensures cause { HasCause WireFault.ReadFault (N.seen link.old).health (N.seen link.new).health result }

@@ -62,18 +62,18 @@ counted_both : (before middle after : ℕ) (xs ys : List Exchange) → Counted b
 counted_both before middle after xs ys one two =
     subst (λ cs. Counted before cs after) (sym (choices_on xs ys)) (counted_on before (map (λ x. x.choice) xs) (map (λ x. x.choice) ys) middle after one two)
 
-ends_on : (lane : ℕ) (early late : Option Dial) (rose failed link clock : Type 0) (more : List Exchange) (left : Option (List ℕ)) (u : State) (how : Served) (t : State) (piece : List ℕ)
-    → (rose → link) → (failed → clock) → EndsConnection lane early late rose failed more left u how t piece → EndsConnection lane early late link clock more left u how t piece
-ends_on lane early late rose failed link clock more left u served.Ended t piece of_link of_clock ends = ends
-ends_on lane early late rose failed link clock more left u served.Cut t piece of_link of_clock ends = ends
-ends_on lane early late rose failed link clock more left u served.BadHead t piece of_link of_clock (none, why, written) = (none, why, written_as rose link _ piece of_link written)
-ends_on lane early late rose failed link clock more left u served.TooLarge t piece of_link of_clock (none, why, written) = (none, why, written_as rose link _ piece of_link written)
-ends_on lane early late rose failed link clock more left u served.NoLength t piece of_link of_clock (none, why, written) = (none, why, written_as rose link _ piece of_link written)
-ends_on lane early late rose failed link clock more left u served.WrongMethod t piece of_link of_clock (none, why, written) = (none, why, written_as rose link _ piece of_link written)
-ends_on lane early late rose failed link clock more left u served.ReadFault t piece of_link of_clock (none, why, is) = (none, of_link why, is)
-ends_on lane early late rose failed link clock more left u served.WriteFault t piece of_link of_clock (why, one) = (of_link why, one)
-ends_on lane early late rose failed link clock more left u served.ClockFault t piece of_link of_clock (none, why, asks, written) = (none, of_clock why, asks, written_as rose link _ piece of_link written)
-ends_on lane early late rose failed link clock more left u served.OutOfMemory t piece of_link of_clock (state, written) = (state, written_or rose link _ piece of_link written)
+ends_on : (lane : ℕ) (early late : Option Dial) (rose failed link clock : Type 0) (more : List Exchange) (left rest : Option (List ℕ)) (u : State) (how : Served) (t : State) (piece : List ℕ)
+    → (rose → link) → (failed → clock) → EndsConnection lane early late rose failed more left rest u how t piece → EndsConnection lane early late link clock more left rest u how t piece
+ends_on lane early late rose failed link clock more left rest u served.Ended t piece of_link of_clock ends = ends
+ends_on lane early late rose failed link clock more left rest u served.Cut t piece of_link of_clock ends = ends
+ends_on lane early late rose failed link clock more left rest u served.BadHead t piece of_link of_clock (none, why, written) = (none, why, written_as rose link _ piece of_link written)
+ends_on lane early late rose failed link clock more left rest u served.TooLarge t piece of_link of_clock (none, why, written) = (none, why, written_as rose link _ piece of_link written)
+ends_on lane early late rose failed link clock more left rest u served.NoLength t piece of_link of_clock (none, why, written) = (none, why, written_as rose link _ piece of_link written)
+ends_on lane early late rose failed link clock more left rest u served.WrongMethod t piece of_link of_clock (none, why, written) = (none, why, written_as rose link _ piece of_link written)
+ends_on lane early late rose failed link clock more left rest u served.ReadFault t piece of_link of_clock (none, why, mid, is) = (none, of_link why, mid, is)
+ends_on lane early late rose failed link clock more left rest u served.WriteFault t piece of_link of_clock (why, one) = (of_link why, one)
+ends_on lane early late rose failed link clock more left rest u served.ClockFault t piece of_link of_clock (none, why, asks, written) = (none, of_clock why, asks, written_as rose link _ piece of_link written)
+ends_on lane early late rose failed link clock more left rest u served.OutOfMemory t piece of_link of_clock (state, written) = (state, written_or rose link _ piece of_link written)
 
 -- ---- joined
 
@@ -89,11 +89,11 @@ text_on : (lane : ℕ) (s : State) (xs ys : List Exchange) (one two : List ℕ) 
 text_on lane s xs ys one two first second =
     ap (λ t. t ++ two) first ∙ ap (λ t. responses lane s xs ++ t) second ∙ sym (responses_on lane s xs ys)
 
-ends_after : (lane : ℕ) (early late : Option Dial) (rose failed link clock : Type 0) (before middle after : ℕ) (s t : State) (bytes mid : Option (List ℕ)) (how : Served) (one two : List ℕ) (xs : List Exchange)
+ends_after : (lane : ℕ) (early late : Option Dial) (rose failed link clock : Type 0) (before middle after : ℕ) (s t : State) (bytes mid rest : Option (List ℕ)) (how : Served) (one two : List ℕ) (xs : List Exchange)
     → (rose → link) → (failed → clock) → OnBoth bytes mid (λ b l. AreRequests b xs l) → AreTimed early xs → AllByRecursion IsOpen xs → Counted before (map (λ x. x.choice) xs) middle
-    → one ≡ responses lane s xs → IsConnection lane (dial_after early xs) late rose failed middle after (state_after lane s xs) mid how t two
-    → IsConnection lane early late link clock before after s bytes how t (one ++ two)
-ends_after lane early late rose failed link clock before middle after s t bytes mid how one two xs of_link of_clock requests timed going counted says then =
+    → one ≡ responses lane s xs → IsConnection lane (dial_after early xs) late rose failed middle after (state_after lane s xs) mid rest how t two
+    → IsConnection lane early late link clock before after s bytes rest how t (one ++ two)
+ends_after lane early late rose failed link clock before middle after s t bytes mid rest how one two xs of_link of_clock requests timed going counted says then =
     let whole : (xs ++ then.xs) ++ then.more ≡ xs ++ (then.xs ++ then.more) = append_assoc xs then.xs then.more in
     record {
       xs = xs ++ then.xs;
@@ -105,20 +105,20 @@ ends_after lane early late rose failed link clock before middle after s t bytes 
       going = all_on IsOpen xs then.xs going then.going;
       counted = subst (λ all. Counted before (map (λ x. x.choice) all) after) (sym whole) (counted_both before middle after xs (then.xs ++ then.more) counted then.counted);
       says = texts_on lane s xs then.xs one two then.piece says then.says;
-      ends = subst (λ dial. EndsConnection lane dial late link clock then.more then.left (state_after lane s (xs ++ then.xs)) how t then.piece)
+      ends = subst (λ dial. EndsConnection lane dial late link clock then.more then.left rest (state_after lane s (xs ++ then.xs)) how t then.piece)
           (sym (ap (dial_after early) whole ∙ dial_on early xs (then.xs ++ then.more)))
-          (subst (λ (u : State). EndsConnection lane (dial_after (dial_after early xs) (then.xs ++ then.more)) late link clock then.more then.left u how t then.piece) (sym (state_on lane s xs then.xs))
-          (ends_on lane (dial_after (dial_after early xs) (then.xs ++ then.more)) late rose failed link clock then.more then.left (state_after lane (state_after lane s xs) then.xs) how t then.piece of_link of_clock then.ends));
+          (subst (λ (u : State). EndsConnection lane (dial_after (dial_after early xs) (then.xs ++ then.more)) late link clock then.more then.left rest u how t then.piece) (sym (state_on lane s xs then.xs))
+          (ends_on lane (dial_after (dial_after early xs) (then.xs ++ then.more)) late rose failed link clock then.more then.left rest (state_after lane (state_after lane s xs) then.xs) how t then.piece of_link of_clock then.ends));
     }
 
 -- requests that were answered, and then a connection's end
-pub joined : (lane : ℕ) (early noon late : Option Dial) (rose failed link clock : Type 0) (before middle after : ℕ) (s u t : State) (bytes mid : Option (List ℕ)) (how : Served) (one two : List ℕ)
-    → (rose → link) → (failed → clock) → GoesOn lane early noon before middle s bytes mid u one → IsConnection lane noon late rose failed middle after u mid how t two
-    → IsConnection lane early late link clock before after s bytes how t (one ++ two)
-joined lane early noon late rose failed link clock before middle after s u t bytes mid how one two of_link of_clock first then =
-    ends_after lane early late rose failed link clock before middle after s t bytes mid how one two first.xs of_link of_clock first.requests first.timed first.going first.counted first.says
-    (subst (λ dial. IsConnection lane dial late rose failed middle after (state_after lane s first.xs) mid how t two) first.turned
-    (subst (λ (v : State). IsConnection lane noon late rose failed middle after v mid how t two) first.state then))
+pub joined : (lane : ℕ) (early noon late : Option Dial) (rose failed link clock : Type 0) (before middle after : ℕ) (s u t : State) (bytes mid rest : Option (List ℕ)) (how : Served) (one two : List ℕ)
+    → (rose → link) → (failed → clock) → GoesOn lane early noon before middle s bytes mid u one → IsConnection lane noon late rose failed middle after u mid rest how t two
+    → IsConnection lane early late link clock before after s bytes rest how t (one ++ two)
+joined lane early noon late rose failed link clock before middle after s u t bytes mid rest how one two of_link of_clock first then =
+    ends_after lane early late rose failed link clock before middle after s t bytes mid rest how one two first.xs of_link of_clock first.requests first.timed first.going first.counted first.says
+    (subst (λ dial. IsConnection lane dial late rose failed middle after (state_after lane s first.xs) mid rest how t two) first.turned
+    (subst (λ (v : State). IsConnection lane noon late rose failed middle after v mid rest how t two) first.state then))
 
 goes_after : (lane : ℕ) (early late : Option Dial) (before middle after : ℕ) (s t : State) (bytes mid left : Option (List ℕ)) (one two : List ℕ) (xs : List Exchange)
     → OnBoth bytes mid (λ b l. AreRequests b xs l) → AreTimed early xs → AllByRecursion IsOpen xs → Counted before (map (λ x. x.choice) xs) middle → one ≡ responses lane s xs
@@ -143,12 +143,12 @@ gone_on lane early noon late before middle after s u t bytes mid left one two fi
     (subst (λ (v : State). GoesOn lane noon late middle after v mid left t two) first.state then))
 
 -- the same of what was written
-pub written_end : (old mid new : Option Stream) (lane : ℕ) (early noon late : Option Dial) (rose failed link clock : Type 0) (before middle after : ℕ) (s u t : State) (bytes rest : Option (List ℕ)) (how : Served)
-    → (rose → link) → (failed → clock) → Wrote old mid (GoesOn lane early noon before middle s bytes rest u) → Wrote mid new (IsConnection lane noon late rose failed middle after u rest how t)
-    → Wrote old new (IsConnection lane early late link clock before after s bytes how t)
-written_end old mid new lane early noon late rose failed link clock before middle after s u t bytes rest how of_link of_clock first then =
-    wrote_on old mid new (GoesOn lane early noon before middle s bytes rest u) (IsConnection lane noon late rose failed middle after u rest how t) (IsConnection lane early late link clock before after s bytes how t)
-    (λ p q one two. joined lane early noon late rose failed link clock before middle after s u t bytes rest how p q of_link of_clock one two) first then
+pub written_end : (old mid new : Option Stream) (lane : ℕ) (early noon late : Option Dial) (rose failed link clock : Type 0) (before middle after : ℕ) (s u t : State) (bytes left rest : Option (List ℕ)) (how : Served)
+    → (rose → link) → (failed → clock) → Wrote old mid (GoesOn lane early noon before middle s bytes left u) → Wrote mid new (IsConnection lane noon late rose failed middle after u left rest how t)
+    → Wrote old new (IsConnection lane early late link clock before after s bytes rest how t)
+written_end old mid new lane early noon late rose failed link clock before middle after s u t bytes left rest how of_link of_clock first then =
+    wrote_on old mid new (GoesOn lane early noon before middle s bytes left u) (IsConnection lane noon late rose failed middle after u left rest how t) (IsConnection lane early late link clock before after s bytes rest how t)
+    (λ p q one two. joined lane early noon late rose failed link clock before middle after s u t bytes left rest how p q of_link of_clock one two) first then
 
 pub written_more : (old mid new : Option Stream) (lane : ℕ) (early noon late : Option Dial) (before middle after : ℕ) (s u t : State) (bytes rest left : Option (List ℕ))
     → Wrote old mid (GoesOn lane early noon before middle s bytes rest u) → Wrote mid new (GoesOn lane noon late middle after u rest left t) → Wrote old new (GoesOn lane early late before after s bytes left t)

@@ -38,9 +38,10 @@ visit_from link lane early late less before after s v t under is =
     let rose = HasFailed (link v.came).health (link v.went).health in
     let failed = HasFailed early.health late.health in
     let bytes = unread (link v.came).stream in
+    let rest = unread (link v.went).stream in
     record {
       answered = wrote_as (link v.came).stream (link v.went).stream _ _
-          (λ piece one. joined lane early.dial early.dial late.dial rose failed rose failed less before after s s t bytes bytes v.served [] piece (λ why. why) (λ why. why)
+          (λ piece one. joined lane early.dial early.dial late.dial rose failed rose failed less before after s s t bytes bytes rest v.served [] piece (λ why. why) (λ why. why)
           (nothing_yet lane early.dial less before s bytes under) one) is.answered;
       clock = is.clock;
       still = is.still;
@@ -152,28 +153,28 @@ left_out T E (Some old) None new came went how e one two = absurd one
 left_out T E (Some old) (Some mid) None came went how e one two = absurd two
 
 -- a connection ends by a fault of the clock only where its count rose
-ends_clock : (lane : ℕ) (early late : Option Dial) (link clock : Type 0) (before after : ℕ) (s : State) (bytes : Option (List ℕ)) (how : Served) (t : State) (text : List ℕ) → how ≡ served.ClockFault
-    → IsConnection lane early late link clock before after s bytes how t text → clock
-ends_clock lane early late link clock before after s bytes how t text is one =
-    (subst (λ (h : Served). IsConnection lane early late link clock before after s bytes h t text) is one).ends.1
+ends_clock : (lane : ℕ) (early late : Option Dial) (link clock : Type 0) (before after : ℕ) (s : State) (bytes rest : Option (List ℕ)) (how : Served) (t : State) (text : List ℕ) → how ≡ served.ClockFault
+    → IsConnection lane early late link clock before after s bytes rest how t text → clock
+ends_clock lane early late link clock before after s bytes rest how t text is one =
+    (subst (λ (h : Served). IsConnection lane early late link clock before after s bytes rest h t text) is one).ends.1
 
 -- where the clock hasn't failed none ends by it
-pub not_by_clock : (lane : ℕ) (early late : Option Dial) (link clock : Type 0) (before after : ℕ) (s : State) (bytes : Option (List ℕ)) (how : Served) (t : State) (text : List ℕ)
-    → IsConnection lane early late link clock before after s bytes how t text → (clock → ⊥) → how ≢ served.ClockFault
-not_by_clock lane early late link clock before after s bytes how t text one never = λ is. never (ends_clock lane early late link clock before after s bytes how t text is one)
+pub not_by_clock : (lane : ℕ) (early late : Option Dial) (link clock : Type 0) (before after : ℕ) (s : State) (bytes rest : Option (List ℕ)) (how : Served) (t : State) (text : List ℕ)
+    → IsConnection lane early late link clock before after s bytes rest how t text → (clock → ⊥) → how ≢ served.ClockFault
+not_by_clock lane early late link clock before after s bytes rest how t text one never = λ is. never (ends_clock lane early late link clock before after s bytes rest how t text is one)
 
 -- where the link hasn't failed none ends by it
-pub not_by_link : (lane : ℕ) (early late : Option Dial) (link clock : Type 0) (before after : ℕ) (s : State) (bytes : Option (List ℕ)) (how : Served) (t : State) (text : List ℕ)
-    → IsConnection lane early late link clock before after s bytes how t text → (link → ⊥) → (how ≢ served.ReadFault) × (how ≢ served.WriteFault)
-not_by_link lane early late link clock before after s bytes how t text one never = (
-  λ is. never (subst (λ (h : Served). IsConnection lane early late link clock before after s bytes h t text) is one).ends.1,
-  λ is. never (subst (λ (h : Served). IsConnection lane early late link clock before after s bytes h t text) is one).ends.0,
+pub not_by_link : (lane : ℕ) (early late : Option Dial) (link clock : Type 0) (before after : ℕ) (s : State) (bytes rest : Option (List ℕ)) (how : Served) (t : State) (text : List ℕ)
+    → IsConnection lane early late link clock before after s bytes rest how t text → (link → ⊥) → (how ≢ served.ReadFault) × (how ≢ served.WriteFault)
+not_by_link lane early late link clock before after s bytes rest how t text one never = (
+  λ is. never (subst (λ (h : Served). IsConnection lane early late link clock before after s bytes rest h t text) is one).ends.1,
+  λ is. never (subst (λ (h : Served). IsConnection lane early late link clock before after s bytes rest h t text) is one).ends.0,
 )
 
 visit_clock : {L : Type 0} (link : L → LinkSeen) (lane : ℕ) (early late : ClockSeen) (before after : ℕ) (s : State) (v : Visit L) (t : State)
     → IsVisit link lane early late before after s v t → v.served ≡ served.ClockFault → HasFailed early.health late.health
 visit_clock link lane early late before after s v t is how =
-    ends_clock lane early.dial late.dial _ (HasFailed early.health late.health) before after s (unread (link v.came).stream) v.served t is.answered.0 how is.answered.2
+    ends_clock lane early.dial late.dial _ (HasFailed early.health late.health) before after s (unread (link v.came).stream) (unread (link v.went).stream) v.served t is.answered.0 how is.answered.2
 
 -- ---- what connections have met
 

@@ -2,7 +2,7 @@
 use Rattle.std.specs.Prelude.{◌≡◌, ◌⊎◌, ℕ, true, false, List, [], ◌∷◌, ◌++◌, map, codes, Option, None, Some}
 use Rattle.std.specs.List.{AllByRecursion}
 use Rattle.desk.specs.Keeping.{Choice, Counted}
-use Rattle.desk_http.specs.Requests.{BeginsWithRequest, GivesNone}
+use Rattle.desk_http.specs.Requests.{BeginsWithRequest, GivesNone, IsUnfinished}
 use Rattle.desk_http.specs.declared.wire.Wire.{Wire}
 use Rattle.desk_http.specs.declared.wire.WireFault.TheVariants as fault
 use Rattle.desk_net.specs.Clocks.{Dial}
@@ -76,6 +76,16 @@ abbrev pub OnTold : Option (List ℕ) → (List ℕ → Type 0) → Type 0
 OnTold None P = Unit {0}
 OnTold (Some bytes) P = P bytes
 
+-- of bytes and of what is left of them, where both are told
+abbrev pub OnBoth : Option (List ℕ) → Option (List ℕ) → (List ℕ → List ℕ → Type 0) → Type 0
+OnBoth None None P = Unit {0}
+OnBoth (Some bytes) (Some left) P = P bytes left
+OnBoth _ _ P = ⊥
+
+-- what was read of the bytes left is no whole request, and the others are unread
+abbrev pub IsMidRequest : Option (List ℕ) → Option (List ℕ) → Type 0
+IsMidRequest left unread = OnBoth left unread (λ bytes others. (kept : List ℕ) × (bytes ≡ kept ++ others) × IsUnfinished kept)
+
 -- the bytes begin with a request for a call
 abbrev pub AsksCall : List ℕ → Type 0
 AsksCall bytes = (wire : Wire) × (rest : List ℕ) × BeginsWithRequest bytes wire rest × MakesCall (requested_by wire)
@@ -116,32 +126,27 @@ MayHaveMore lane early late more left u t =
 
 -- How a connection ends on the bytes that are left, from the state after the requests after which it went on: `more` is the request
 -- with which it ended, if that was answered, and the piece is what was written after their responses. `early` is the clock's dial
--- after all these requests, and `late` the one at the end. `link` and `clock` say that the link and the clock have failed.
-abbrev pub EndsConnection : ℕ → Option Dial → Option Dial → Type 0 → Type 0 → List Exchange → Option (List ℕ) → State → Served → State → List ℕ → Type 0
-EndsConnection lane early late link clock more left u served.Ended t piece =
+-- after all these requests, and `late` the one at the end. `link` and `clock` say that the link and the clock have failed, and `rest` is
+-- what is unread at the end.
+abbrev pub EndsConnection : ℕ → Option Dial → Option Dial → Type 0 → Type 0 → List Exchange → Option (List ℕ) → Option (List ℕ) → State → Served → State → List ℕ → Type 0
+EndsConnection lane early late link clock more left rest u served.Ended t piece =
     (NoMore early late more u t × OnTold left (λ b. GivesNone b fault.End) × (piece ≡ []))
     ⊎ ((x : Exchange) × OneMore lane early late more u t x × IsLast x × (piece ≡ bytes_of (exchange lane u x).response))
-EndsConnection lane early late link clock more left u served.Cut t piece = NoMore early late more u t × OnTold left (λ b. GivesNone b fault.Cut) × (piece ≡ [])
-EndsConnection lane early late link clock more left u served.BadHead t piece = NoMore early late more u t × OnTold left (λ b. GivesNone b fault.BadHead) × IsWritten link bad_head_answer piece
-EndsConnection lane early late link clock more left u served.TooLarge t piece = NoMore early late more u t × OnTold left (λ b. GivesNone b fault.TooLarge) × IsWritten link too_large_answer piece
-EndsConnection lane early late link clock more left u served.NoLength t piece = NoMore early late more u t × OnTold left (λ b. GivesNone b fault.NoLength) × IsWritten link no_length_answer piece
-EndsConnection lane early late link clock more left u served.WrongMethod t piece = NoMore early late more u t × OnTold left (λ b. GivesNone b fault.WrongMethod) × IsWritten link wrong_method_answer piece
-EndsConnection lane early late link clock more left u served.ReadFault t piece = NoMore early late more u t × link × (piece ≡ [])
-EndsConnection lane early late link clock more left u served.WriteFault t piece =
+EndsConnection lane early late link clock more left rest u served.Cut t piece = NoMore early late more u t × OnTold left (λ b. GivesNone b fault.Cut) × (piece ≡ [])
+EndsConnection lane early late link clock more left rest u served.BadHead t piece = NoMore early late more u t × OnTold left (λ b. GivesNone b fault.BadHead) × IsWritten link bad_head_answer piece
+EndsConnection lane early late link clock more left rest u served.TooLarge t piece = NoMore early late more u t × OnTold left (λ b. GivesNone b fault.TooLarge) × IsWritten link too_large_answer piece
+EndsConnection lane early late link clock more left rest u served.NoLength t piece = NoMore early late more u t × OnTold left (λ b. GivesNone b fault.NoLength) × IsWritten link no_length_answer piece
+EndsConnection lane early late link clock more left rest u served.WrongMethod t piece = NoMore early late more u t × OnTold left (λ b. GivesNone b fault.WrongMethod) × IsWritten link wrong_method_answer piece
+EndsConnection lane early late link clock more left rest u served.ReadFault t piece = NoMore early late more u t × link × IsMidRequest left rest × (piece ≡ [])
+EndsConnection lane early late link clock more left rest u served.WriteFault t piece =
     link × ((x : Exchange) × OneMore lane early late more u t x × IsFrontOf (bytes_of (exchange lane u x).response) piece)
-EndsConnection lane early late link clock more left u served.ClockFault t piece = NoMore early late more u t × clock × OnTold left AsksCall × IsWritten link clock_fault_answer piece
-EndsConnection lane early late link clock more left u served.OutOfMemory t piece = MayHaveMore lane early late more left u t × (IsWritten link out_of_memory_answer piece ⊎ FoundNoMemory piece)
-
--- of bytes and of what is left of them, where both are told
-abbrev pub OnBoth : Option (List ℕ) → Option (List ℕ) → (List ℕ → List ℕ → Type 0) → Type 0
-OnBoth None None P = Unit {0}
-OnBoth (Some bytes) (Some left) P = P bytes left
-OnBoth _ _ P = ⊥
+EndsConnection lane early late link clock more left rest u served.ClockFault t piece = NoMore early late more u t × clock × OnTold left AsksCall × IsWritten link clock_fault_answer piece
+EndsConnection lane early late link clock more left rest u served.OutOfMemory t piece = MayHaveMore lane early late more left u t × (IsWritten link out_of_memory_answer piece ⊎ FoundNoMemory piece)
 
 -- A connection of a lane, from a state to another, while the clock's dial turned from `early` to `late`: the requests after which it went
 -- on, and at most one more with which it ended. Each call was made at the moment that was asked for it, under choices that the keeper's
 -- counts allow; the text is the responses to those after which it went on, and what was written at the end.
-pub record IsConnection (lane : ℕ) (early late : Option Dial) (link clock : Type 0) (before after : ℕ) (s : State) (bytes : Option (List ℕ)) (served : Served) (t : State) (text : List ℕ) : Type 0 where
+pub record IsConnection (lane : ℕ) (early late : Option Dial) (link clock : Type 0) (before after : ℕ) (s : State) (bytes rest : Option (List ℕ)) (served : Served) (t : State) (text : List ℕ) : Type 0 where
   pub xs : List Exchange
   pub more : List Exchange
   pub left : Option (List ℕ)
@@ -151,7 +156,7 @@ pub record IsConnection (lane : ℕ) (early late : Option Dial) (link clock : Ty
   pub going : AllByRecursion IsOpen xs
   pub counted : Counted before (map (λ x. x.choice) (xs ++ more)) after
   pub says : text ≡ responses lane s xs ++ piece
-  pub ends : EndsConnection lane (dial_after early (xs ++ more)) late link clock more left (state_after lane s xs) served t piece
+  pub ends : EndsConnection lane (dial_after early (xs ++ more)) late link clock more left rest (state_after lane s xs) served t piece
 
 -- requests after which the connection goes on, all answered whole
 pub record GoesOn (lane : ℕ) (early late : Option Dial) (before after : ℕ) (s : State) (bytes : Option (List ℕ)) (left : Option (List ℕ)) (t : State) (text : List ℕ) : Type 0 where
@@ -165,9 +170,9 @@ pub record GoesOn (lane : ℕ) (early late : Option Dial) (before after : ℕ) (
   pub state : t ≡ state_after lane s xs
 
 -- one step of a connection: it goes on, or it ends
-abbrev pub IsStep : ℕ → Option Dial → Option Dial → Type 0 → Type 0 → ℕ → ℕ → State → Option (List ℕ) → Option (List ℕ) → State → List ℕ → Option Served → Type 0
-IsStep lane early late link clock before after s bytes left t text None = GoesOn lane early late before after s bytes left t text
-IsStep lane early late link clock before after s bytes left t text (Some served) = IsConnection lane early late link clock before after s bytes served t text
+abbrev pub IsStep : ℕ → Option Dial → Option Dial → Type 0 → Type 0 → ℕ → ℕ → State → Option (List ℕ) → Option (List ℕ) → Option (List ℕ) → State → List ℕ → Option Served → Type 0
+IsStep lane early late link clock before after s bytes left rest t text None = GoesOn lane early late before after s bytes left t text
+IsStep lane early late link clock before after s bytes left rest t text (Some served) = IsConnection lane early late link clock before after s bytes rest served t text
 
 -- a link gained a text, where it tells
 abbrev pub Gains : Option Stream → Option Stream → List ℕ → Type 0

@@ -29,7 +29,7 @@ pub record Visit (L : Type 0) : Type 0 where
 pub record IsVisit {L : Type 0} (link : L → LinkSeen) (lane : ℕ) (early late : ClockSeen) (before after : ℕ) (s : State) (v : Visit L) (t : State) : Type 0 where
   pub answered :
       Wrote (link v.came).stream (link v.went).stream
-      (IsConnection lane early.dial late.dial (HasFailed (link v.came).health (link v.went).health) (HasFailed early.health late.health) before after s (unread (link v.came).stream) v.served t)
+      (IsConnection lane early.dial late.dial (HasFailed (link v.came).health (link v.went).health) (HasFailed early.health late.health) before after s (unread (link v.came).stream) (unread (link v.went).stream) v.served t)
   pub clock : ClockGoesOn early late
   pub still : v.served ≢ served.ClockFault → v.served ≢ served.OutOfMemory → IsStill early.health late.health
   pub goes_on : LinkGoesOn (link v.came) (link v.went)

@@ -76,11 +76,11 @@ abbrev pub ServesStep : ℕ → Over LinkSeen → Over ClockSeen → Over DeskAt
 ServesStep lane link clock desk kept left result =
     WroteTo link
     (λ failed piece. IsStep lane clock.before.dial clock.after.dial failed (HasFailed clock.before.health clock.after.health) desk.before.faults desk.after.faults desk.before.state
-    (unused kept (unread link.before.stream)) (unused left (unread link.after.stream)) desk.after.state piece result)
+    (unused kept (unread link.before.stream)) (unused left (unread link.after.stream)) (unread link.after.stream) desk.after.state piece result)
 
 -- a whole connection
 abbrev pub ServesLink : ℕ → Over LinkSeen → Over ClockSeen → Over DeskAt → Served → Type 0
 ServesLink lane link clock desk result =
     WroteTo link
     (λ failed. IsConnection lane clock.before.dial clock.after.dial failed (HasFailed clock.before.health clock.after.health) desk.before.faults desk.after.faults desk.before.state
-    (unread link.before.stream) result desk.after.state)
+    (unread link.before.stream) (unread link.after.stream) result desk.after.state)

@@ -68,6 +68,7 @@ fn end_by<N: Link>(link: &mut N, text: &[u8], served: Served) -> Served
 fn end_without<N: Link>(link: &mut N, fault: WireFault) -> Served
     ensures wrote { WroteTo (over N.seen link.old link.new) (λ failed. EndsWithout failed fault result) }
     ensures link { LinkGoesOn (N.seen link.old) (N.seen link.new) }
+    ensures left { unread (N.seen link.new).stream ≡ unread (N.seen link.old).stream }
 {
     match fault {
         WireFault::End => Served::Ended,
@@ -155,8 +156,8 @@ fn serve_next<K: Keeper, N: Link, C: Clock, L: Ledger>(
 ///
 /// What was written is the responses to the requests of the link's bytes, each with the status and the body of what it was
 /// answered, and, where a request can't be read, the answer that ends the connection. Only the answer that was being written
-/// when the link failed, which a sound one never does, or when memory ran out, may be cut or missing. Between two requests it
-/// may wait for ever.
+/// when the link failed, which a sound one never does, or when memory ran out, may be cut or missing. A fault of reading
+/// ends it only where all requests that were read whole are answered. Between two requests it may wait for ever.
 pub fn serve_link<R: Wait, K: Keeper, N: Link, C: Clock, L: Ledger>(
     rt: &R,
     alloc: Global,

@@ -1,4 +1,4 @@
-use Rattle.std.proofs.Common.{rules, ◌==◌, ◌+◌, ◌<◌, take, ap, sym, subst, ◌∙◌, length, arith}
+use Rattle.std.proofs.Common.{rules, Err, ◌==◌, ◌+◌, ◌<◌, take, ap, sym, subst, ◌∙◌, length, arith}
 use Rattle.httparse.specs.Grammar.{NeverHasRequest, HasNoRequest}
 use Rattle.httparse.specs.Spans.{IsRequestOf}
 use Rattle.desk_net.specs.Streams.{unread}
@@ -6,7 +6,7 @@ use Rattle.desk_http.specs.Heads.{head_limit}
 use Rattle.desk_http.specs.Requests.{HasRead, EndsBy, IsPart}
 use Rattle.desk_io.proofs.HealthLaws.{goes_on}
 use Rattle.desk_http.proofs.Links.{only_on}
-use Rattle.desk_http.proofs.Streams.{passed_on, outside_ends, read_on, none_read, never, part_of_head, nonempty}
+use Rattle.desk_http.proofs.Streams.{passed_on, outside_ends, read_on, none_read, never, part_of_head, unfinished_head, nonempty}
 use Rattle.desk_http.proofs.reading.read_head.Goals as goal
 
 pub returns-in-Never-clause-next : goal.returns-in-Never-clause-next
@@ -20,9 +20,13 @@ returns-in_err-read_more-clause-next g c =
     let now = unread (g.N.Link.seen c.read_more.new.link).stream in
     let kept = c.args.bytes.now.items in
     let grown = c.read_more.new.bytes.items in
+    let old = c.loop-head.bytes.items in
+    let same = c.head_bytes.ensures.value ∙ ap (take head_limit) c.deref.ensures.value in
+    let few : length old < head_limit = omega (arith, c.if-len-ge-HEAD_LIMIT.false, c.len.ensures, c.deref.ensures.len, ap length c.deref.ensures.value) in
+    let part = unfinished_head old (subst HasNoRequest same c.in-More.ensures) few in
     passed_on c.from_residual.result c.in_err-read_more.field-0.0
     (λ head. HasRead before now kept grown × IsRequestOf (take head_limit grown) c.front_of.new.spans head) (EndsBy before now kept grown)
-    c.from_residual.ensures.0 c.from_residual.ensures.1 (outside_ends before now kept grown _ c.in_err-read_more.ensures.outside)
+    c.from_residual.ensures.0 c.from_residual.ensures.1 (outside_ends before _ now kept old grown _ c.loop-head.invariant.read part (λ is. c.in_err-read_more.ensures.none (ap Err is)) c.in_err-read_more.ensures.outside)
 
 pub returns-else-is_empty-clause-next : goal.returns-else-is_empty-clause-next
 returns-else-is_empty-clause-next g c =

@@ -1,7 +1,7 @@
 use Rattle.std.proofs.Common.{rules, ◌≡◌, ◌≤◌, ◌+◌, ℕ, List, length, arith, subst, true, false}
 use Rattle.desk_net.specs.Streams.{unread}
 use Rattle.desk_http.specs.Requests.{HasRead, EndsBy, BeginsWithRequest, IsUpTo}
-use Rattle.desk_http.proofs.Streams.{passed_on, outside_ends, read_on, not_shorter, begins_on, part_of_body, whole_request}
+use Rattle.desk_http.proofs.Streams.{passed_on, short_ends, read_on, not_shorter, begins_on, part_of_body, whole_request}
 use Rattle.desk_http.proofs.requests.request_in.Goals as goal
 
 pub overflow_add-end : goal.overflow_add-end
@@ -13,9 +13,10 @@ returns-in_err-read_up_to-clause-next g c =
     let now = unread (g.N.Link.seen c.read_up_to.new.link).stream in
     let kept = c.args.bytes.now.items in
     let left = c.read_up_to.new.bytes.items in
+    let b = c.in_ok-asked.ensures.next in
     passed_on c.from_residual-in_err-read_up_to.result c.in_err-read_up_to.field-0.0
     (λ wire. (bytes : List ℕ) × HasRead before now kept bytes × BeginsWithRequest bytes wire left) (EndsBy before now kept left)
-    c.from_residual-in_err-read_up_to.ensures.0 c.from_residual-in_err-read_up_to.ensures.1 (outside_ends before now kept left _ c.in_err-read_up_to.ensures.next)
+    c.from_residual-in_err-read_up_to.ensures.0 c.from_residual-in_err-read_up_to.ensures.1 (short_ends before _ now kept _ left c.in_ok-asked.start c.in_ok-asked.asked _ b.read b.begins b.within c.in_err-read_up_to.ensures.next)
 
 pub returns-then-not-branch-clause-next : goal.returns-then-not-branch-clause-next
 returns-then-not-branch-clause-next g c =

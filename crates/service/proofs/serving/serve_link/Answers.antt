@@ -20,7 +20,7 @@ pub returns-in-Some-serve_next-clause-serves : goal.returns-in-Some-serve_next-c
 returns-in-Some-serve_next-clause-serves g c =
     let inv = c.loop.invariant in
     let is = c.in-Some-serve_next.ensures in
-    written_end _ _ _ _ _ _ _ _ _ _ _ _ _ _ _ _ _ _ _ _ (failed_last _ _ (g.N.Link.seen c.serve_next.new.link).health inv.link)
+    written_end _ _ _ _ _ _ _ _ _ _ _ _ _ _ _ _ _ _ _ _ _ (failed_last _ _ (g.N.Link.seen c.serve_next.new.link).health inv.link)
     (failed_last _ _ (g.C.Clock.seen c.serve_next.new.clock).health inv.clock.health) inv.served is.serves
 
 pub returns-in-Some-serve_next-clause-desk : goal.returns-in-Some-serve_next-clause-desk
@@ -37,11 +37,11 @@ returns-in-Some-serve_next-clause-link g c = goes_on _ _ _ c.loop.invariant.link
 
 pub returns-in-Some-serve_next-clause-steady_clock : goal.returns-in-Some-serve_next-clause-steady_clock
 returns-in-Some-serve_next-clause-steady_clock g c =
-    let serves = returns-in-Some-serve_next-clause-serves g c in λ sound. not_by_clock _ _ _ _ _ _ _ _ _ _ _ _ serves.2 (λ failed. failed.1 sound)
+    let serves = returns-in-Some-serve_next-clause-serves g c in λ sound. not_by_clock _ _ _ _ _ _ _ _ _ _ _ _ _ serves.2 (λ failed. failed.1 sound)
 
 pub returns-in-Some-serve_next-clause-steady_link : goal.returns-in-Some-serve_next-clause-steady_link
 returns-in-Some-serve_next-clause-steady_link g c =
-    let serves = returns-in-Some-serve_next-clause-serves g c in λ sound. not_by_link _ _ _ _ _ _ _ _ _ _ _ _ serves.2 (λ failed. failed.1 sound)
+    let serves = returns-in-Some-serve_next-clause-serves g c in λ sound. not_by_link _ _ _ _ _ _ _ _ _ _ _ _ _ serves.2 (λ failed. failed.1 sound)
 
 pub loop-preserved : goal.loop-preserved
 loop-preserved g c =
