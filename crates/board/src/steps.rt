@@ -8,8 +8,7 @@ ghost use Rattle.desk_state.specs.Events.{effected, alert_changes};
 ghost use Rattle.desk_state.specs.State.{is_full, is_full_for};
 ghost use Rattle.desk_state.specs.Step as step;
 ghost use Rattle.desk_state.specs.Step.{do_call, answer_call, tick_to};
-ghost use Rattle.desk_state.specs.Sound.{Sound, InBounds, EffectFits};
-ghost use Rattle.desk_time.specs.Limits.{IsMoment};
+ghost use Rattle.desk_state.specs.Sound.{Sound, InBounds, IsLater, EffectFits};
 ghost use Rattle.call_json.specs.Forms.{CallHasForms};
 ghost use Rattle.board.specs.Room.{HasRoom, MayBeMade};
 ghost use Rattle.kept_state.specs.Changes as kept_rows;
@@ -429,7 +428,7 @@ fn prepare_ticked<L: Ledger>(
 ) -> Result<Prepared, OutOfMemory>
     requires sound { Sound (state_of content.old) }
     requires kept { InBounds (state_of content.old) }
-    requires moment { IsMoment to }
+    requires moment { IsLater content.old.moment to }
     ensures same { state_of content.new ≡ state_of content.old }
     ensures stepped { IfOk result (λ p. IsStepped (state_of content.old) p
         (step.ticked (state_of content.old) lane to)) }
@@ -455,7 +454,7 @@ pub fn prepare_tick<L: Ledger>(
 ) -> Result<Prepared, OutOfMemory>
     requires sound { Sound (state_of content.old) }
     requires kept { InBounds (state_of content.old) }
-    requires moment { IsMoment to }
+    requires moment { IsLater content.old.moment to }
     ensures same { state_of content.new ≡ state_of content.old }
     ensures stepped { IfOk result (λ p. IsStepped (state_of content.old) p (tick_to (state_of content.old) lane to)) }
     ensures may { IfOk result (λ p. MayInstall content.new p.event) }
