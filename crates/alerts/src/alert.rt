@@ -6,6 +6,7 @@ ghost use Rattle.alerts.specs.Follows.{Follows};
 use desk_io::{Copied, OutOfMemory, Text};
 use desk_time::Minute;
 use plan::{Finding, Findings, is_before, is_same};
+use sorted::HasId;
 use std::alloc::Global;
 
 /// What stands open for a release from the first judgement on at which a rule fails, until a captain concurs with
@@ -26,6 +27,15 @@ pub struct Alert {
     pub ever: Findings,
     /// Whether the dispatcher has acknowledged this version.
     pub acknowledged: bool,
+}
+
+impl HasId for Alert {
+    ghost id_of = { λ a. a.release };
+
+    // Each release has one alert at most.
+    fn id(&self) -> u64 {
+        self.release
+    }
 }
 
 impl Copied for Alert {

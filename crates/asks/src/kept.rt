@@ -1,6 +1,7 @@
 use crate::reply::Done;
 use desk_io::{Copied, Listed, OutOfMemory, Text};
 use desk_time::Minute;
+use sorted::HasId;
 use std::alloc::Global;
 
 /// What an accepted request has done, kept for the case that it comes again.
@@ -18,6 +19,14 @@ pub struct KeptReply {
     pub at: Minute,
     /// What it has done.
     pub done: Done,
+}
+
+impl HasId for KeptReply {
+    ghost id_of = { λ k. k.id };
+
+    fn id(&self) -> u64 {
+        self.id
+    }
 }
 
 /// The greatest number among the requests of a person whose replies are kept no more.

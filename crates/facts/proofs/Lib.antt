@@ -10,3 +10,4 @@ pub mod SweepLaws
 pub mod Moments
 pub mod Forecasts
 pub mod ReadLaws
+pub mod IndexingLaws

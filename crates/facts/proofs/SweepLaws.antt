@@ -201,7 +201,7 @@ rest_same x s xs ys true e low high same =
     subst (λ z. list_any (λ t. bytes_eq t z) xs ≡ list_any (λ t. bytes_eq t z) ys) is (none_below x xs low ∙ sym (none_below x ys high))
 
 -- lists that rise and have the same members are the same
-rising_same : (xs ys : List Station) → IsStrictlySortedBy (slice_cmp nat_cmp) xs → IsStrictlySortedBy (slice_cmp nat_cmp) ys
+pub rising_same : (xs ys : List Station) → IsStrictlySortedBy (slice_cmp nat_cmp) xs → IsStrictlySortedBy (slice_cmp nat_cmp) ys
     → ((s : Station) → list_any (λ t. bytes_eq t s) xs ≡ list_any (λ t. bytes_eq t s) ys) → xs ≡ ys
 unfolding IsStrictlySortedBy
 rising_same [] [] low high same = refl

@@ -15,7 +15,7 @@ use Rattle.facts.specs.declared.latest.Kind.TheVariants as kind
 use Rattle.facts.specs.declared.report.Read.{Read}
 use Rattle.facts.specs.declared.report.Read.TheVariants as read
 use Rattle.facts.specs.declared.report.Report.{Report}
-use Rattle.facts.specs.Same.{minute_of_report, is_same}
+use Rattle.facts.specs.Same.{minute_of_report, station_of_report, is_same}
 use Rattle.facts.specs.Latest.{latest}
 use Rattle.facts.specs.Lines.{stations_of}
 
@@ -75,6 +75,13 @@ fingerprint text = fingerprint_from 1 text
 -- the moment and the fingerprint of a report's text
 abbrev pub key_of : Report → ℕ × ℕ
 key_of r = (minute_of_report r, fingerprint r.text)
+
+-- the station of a report, and that key, each as an entry without a value
+abbrev pub station_entry : Report → Station × Unit {0}
+station_entry r = (station_of_report r, tt)
+
+abbrev pub key_entry : Report → (ℕ × ℕ) × Unit {0}
+key_entry r = (key_of r, tt)
 
 abbrev pub key_cmp : ℕ × ℕ → ℕ × ℕ → Ordering
 key_cmp x y = ordering_then (nat_cmp x.0 y.0) (nat_cmp x.1 y.1)

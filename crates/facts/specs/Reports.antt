@@ -23,6 +23,10 @@ pub record Admissions : Type 0 where
 abbrev pub no_reports : Admissions
 no_reports = record { reports = []; room = None }
 
+-- those reports, and room for none
+abbrev pub admissions_of : List Report → Admissions
+admissions_of rs = record { reports = rs; room = None }
+
 -- there is room for that report
 abbrev pub reserved : Admissions → Report → Admissions
 reserved a r = record { reports = a.reports; room = Some (room_for r) }

@@ -2,6 +2,7 @@
 #![tactic(auto)]
 
 mod index;
+mod indexing;
 mod latest;
 mod lines;
 mod reader;

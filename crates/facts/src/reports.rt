@@ -4,7 +4,7 @@ ghost use Rattle.std.specs.Option.{option_copied, option_map, option_and_then};
 ghost use Rattle.desk_time.specs.Limits.{IsMoment};
 ghost use Rattle.facts.specs.Same.{is_same, same_id};
 ghost use Rattle.facts.specs.Reading.{HasMoments, TafHasMoments, IsRead};
-ghost use Rattle.facts.specs.Reports.{room_for, no_reports, reserved, admitted, AreHeld};
+ghost use Rattle.facts.specs.Reports.{room_for, no_reports, admissions_of, reserved, admitted, AreHeld};
 ghost use Rattle.facts.specs.Index.{IsLatestIndex, IsFirstIndex, id_from};
 ghost use Rattle.facts.specs.Lines.{AreStations, stations_of};
 ghost use Rattle.facts.specs.Swept.{with_swept, leaving};
@@ -20,6 +20,7 @@ ghost use Rattle.facts.specs.Latest.{
 };
 
 use crate::index::{Places, fingerprint, first_place, key_of, place_of, places_at, places_with};
+use crate::indexing::{first_index, latest_index};
 use crate::latest::Kind;
 use crate::report::Report;
 use crate::sweeping::{index_firsts, index_latest, leaving_ids, sweep_held};
@@ -135,6 +136,21 @@ impl Reports {
             firsts: Sorted::new(alloc),
             room: None,
         }
+    }
+
+    /// The reports of a vector, in the order of their numbers, and room for none. Each index is sorted once.
+    pub fn from_vec(alloc: Global, held: Vec<Report>) -> Result<Reports, OutOfMemory>
+        requires { AreHeld held.items }
+        ensures { IfOk result (λ reports. reports ≡ admissions_of held.items) }
+    {
+        let stations = latest_index(alloc, held.as_slice())?;
+        let firsts = first_index(alloc, held.as_slice())?;
+        Ok(Reports {
+            held,
+            stations,
+            firsts,
+            room: None,
+        })
     }
 
     /// The reports in order of admission. It takes no memory.

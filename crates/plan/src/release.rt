@@ -4,6 +4,7 @@ ghost use Rattle.plan.specs.Phases as spec;
 use crate::flights::Plan;
 use desk_io::{Copied, Listed, OutOfMemory, Text, copied_option};
 use desk_time::Minute;
+use sorted::HasId;
 use std::alloc::Global;
 
 /// Where a release stands.
@@ -154,6 +155,14 @@ pub struct Release {
     pub pending: Option<Revision>,
     /// The revision that both have signed.
     pub active: Option<Revision>,
+}
+
+impl HasId for Release {
+    ghost id_of = { λ r. r.id };
+
+    fn id(&self) -> u64 {
+        self.id
+    }
 }
 
 impl Copied for Signature {

@@ -88,8 +88,8 @@ module _ {T : Type 0} (id_of : T → ℕ) where
     pub replace_found : (ys seen : List T) (i : ℕ) → ys ≡ seen → IsFoundAt id_of (id_of x) seen i → set ys i x ≡ replaced id_of x seen
     replace_found ys seen i view is = ap (λ zs. set zs i x) view ∙ over seen i is.stands
 
-    pub replace_none : (ys seen : List T) (i : ℕ) → ys ≡ seen → AreRising id_of ys → IsGapAt id_of (id_of x) seen i → seen ≡ replaced id_of x seen
-    replace_none ys seen i view pairs is = stays seen i (rise id_of seen (subst (AreRising id_of) view pairs)) is.goes
+    pub replace_none : (seen : List T) (i : ℕ) → AreRising id_of seen → IsGapAt id_of (id_of x) seen i → seen ≡ replaced id_of x seen
+    replace_none seen i pairs is = stays seen i (rise id_of seen pairs) is.goes
 
     pub put_found : (ys seen : List T) (i : ℕ) → ys ≡ seen → IsFoundAt id_of (id_of x) seen i → set ys i x ≡ put id_of x seen
     put_found ys seen i view is = ap (λ zs. set zs i x) view ∙ put_over seen i is.stands

@@ -3,7 +3,7 @@ use Rattle.std.proofs.Common.{◌≡◌, refl, sym, ap, ◌∙◌, subst, ℕ, z
 use Rattle.std.proofs.lemmas.Bool.Decides.{nat_tests}
 use Rattle.std.specs.Ordering.{ordering_index, nat_cmp, MatchOrdering}
 use Rattle.std.specs.Cmp.{ranks}
-use Rattle.std.specs.List.{AllByRecursion, find, list_any, remove}
+use Rattle.std.specs.List.{AllByRecursion, find, position, position_or_len, list_any, remove}
 use Rattle.std.specs.List.Sorted.{IsNonDecreasingBy, IsBinarySearchResult, IsSearchInRange}
 use denote.Ref.{Bor}
 use Rattle.std.specs.Option.{is_some, option_copied}
@@ -25,6 +25,9 @@ below a b is = grind (arith, nat_tests)
 
 pub not_below : (a b : ℕ) → b < a → nat_lt a b ≡ false
 not_below a b is = grind (arith, nat_tests)
+
+itself : (a : ℕ) → nat_lt a a ≡ false
+itself a = grind (arith, nat_tests)
 
 known : (a b : ℕ) (r : Ordering) → nat_cmp a b ≡ r → MatchOrdering r (a < b) (a ≡ b) (b < a)
 known a b r is = subst (λ o. MatchOrdering o (a < b) (a ≡ b) (b < a)) is (ranks a b)
@@ -147,6 +150,11 @@ module _ {T : Type 0} (id_of : T → ℕ) where
     gone (x ∷ xs) zero at = rw (same (id_of x) id at) refl
     gone (x ∷ xs) (suc i) at = rw (lower (id_of x) id at.0) (ap (λ ys. x ∷ ys) (gone xs i at.1))
 
+    place_at : (xs : List T) (i : ℕ) → StandsAt id_of id xs i → position_or_len (has_id id_of id) xs ≡ i
+    place_at [] i at = absurd at
+    place_at (x ∷ xs) zero at = rw (same (id_of x) id at) refl
+    place_at (x ∷ xs) (suc i) at = rw (lower (id_of x) id at.0) (let rest = place_at xs i at.1 in omega (arith, rest))
+
     -- Where none does.
 
     none_above : (xs : List T) → Above id xs → find (has_id id_of id) xs ≡ None
@@ -158,7 +166,7 @@ module _ {T : Type 0} (id_of : T → ℕ) where
     none (x ∷ xs) zero all at = none_above (x ∷ xs) (at, higher_above id (id_of x) xs (omega (arith, at)) all.0)
     none (x ∷ xs) (suc i) all at = rw (lower (id_of x) id at.0) (none xs i all.1 at.1)
 
-    stays_above : (xs : List T) → Above id xs → xs ≡ without id_of id xs
+    pub stays_above : (xs : List T) → Above id xs → xs ≡ without id_of id xs
     stays_above [] all = refl
     stays_above (x ∷ xs) all = rw (higher (id_of x) id all.0) (ap (λ ys. x ∷ ys) (stays_above xs all.1))
 
@@ -167,16 +175,31 @@ module _ {T : Type 0} (id_of : T → ℕ) where
     stays (x ∷ xs) zero all at = stays_above (x ∷ xs) (at, higher_above id (id_of x) xs (omega (arith, at)) all.0)
     stays (x ∷ xs) (suc i) all at = rw (lower (id_of x) id at.0) (ap (λ ys. x ∷ ys) (stays xs i all.1 at.1))
 
+    end_above : (xs : List T) → Above id xs → position_or_len (has_id id_of id) xs ≡ length xs
+    end_above [] all = refl
+    end_above (x ∷ xs) all = rw (higher (id_of x) id all.0) (let rest = end_above xs all.1 in omega (arith, rest))
+
+    end_at : (xs : List T) (i : ℕ) → Rise xs → GoesAt id_of id xs i → position_or_len (has_id id_of id) xs ≡ length xs
+    end_at [] i all at = refl
+    end_at (x ∷ xs) zero all at = end_above (x ∷ xs) (at, higher_above id (id_of x) xs (omega (arith, at)) all.0)
+    end_at (x ∷ xs) (suc i) all at = rw (lower (id_of x) id at.0) (let rest = end_at xs i all.1 at.1 in omega (arith, rest))
+
     -- Of values that are seen.
+
+    pub place_found : (seen : List T) (i : ℕ) → IsFoundAt id_of id seen i → Some i ≡ position (has_id id_of id) seen
+    place_found seen i is = rw (place_at seen i is.stands) (rw (below i (length seen) is.within) refl)
+
+    pub place_none : (seen : List T) (i : ℕ) → AreRising id_of seen → IsGapAt id_of id seen i → None ≡ position (has_id id_of id) seen
+    place_none seen i pairs is = rw (end_at seen i (rise seen pairs) is.goes) (rw (itself (length seen)) refl)
 
     pub get_found : (xs seen : List T) (i : ℕ) (x : T) → xs ≡ seen → IsFoundAt id_of id seen i → x ≡ get_or xs i x → Some x ≡ find (has_id id_of id) seen
     get_found xs seen i x view is at = ap (λ y. Some y) (at ∙ ap (λ ys. get_or ys i x) view) ∙ sym (found seen i x is.stands)
 
-    pub get_none : (xs seen : List T) (i : ℕ) → xs ≡ seen → AreRising id_of xs → IsGapAt id_of id seen i → None ≡ find (has_id id_of id) seen
-    get_none xs seen i view pairs is = sym (none seen i (rise seen (subst (λ ys. AreRising id_of ys) view pairs)) is.goes)
+    pub get_none : (seen : List T) (i : ℕ) → AreRising id_of seen → IsGapAt id_of id seen i → None ≡ find (has_id id_of id) seen
+    get_none seen i pairs is = sym (none seen i (rise seen pairs) is.goes)
 
     pub take_found : (xs seen fresh : List T) (i : ℕ) → xs ≡ seen → IsFoundAt id_of id seen i → fresh ≡ remove xs i → fresh ≡ without id_of id seen
     take_found xs seen fresh i view is after = after ∙ ap (λ ys. remove ys i) view ∙ gone seen i is.stands
 
-    pub take_none : (xs seen : List T) (i : ℕ) → xs ≡ seen → AreRising id_of xs → IsGapAt id_of id seen i → seen ≡ without id_of id seen
-    take_none xs seen i view pairs is = stays seen i (rise seen (subst (λ ys. AreRising id_of ys) view pairs)) is.goes
+    pub take_none : (seen : List T) (i : ℕ) → AreRising id_of seen → IsGapAt id_of id seen i → seen ≡ without id_of id seen
+    take_none seen i pairs is = stays seen i (rise seen pairs) is.goes

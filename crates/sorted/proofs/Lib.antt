@@ -2,5 +2,8 @@ pub mod SortedEdits
 pub mod SortedLaws
 pub mod RunLaws
 pub mod KeyLaws
+pub mod KeySorts
 pub mod ByIdEdits
+pub mod ByIdForms
 pub mod ByIdLaws
+pub mod PairLaws

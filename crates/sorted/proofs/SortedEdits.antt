@@ -1,7 +1,8 @@
 -- What other edits of entries in rising order do: one value, all values, and a part of the entries.
 use Rattle.std.proofs.Common.{◌≡◌, refl, sym, ap, ◌∙◌, subst, ℕ, zero, suc, ◌+◌, ◌<◌, ◌≤◌, Bool, true, false, cond, List, [], ◌∷◌, length, filter, get_or, set, Option, Some, None, arith, nat_lt, Ordering, Less, Equal, Greater, option_map}
 use Rattle.std.specs.Cmp.{IsTotalOrder, eq_by_cmp_equiv}
-use Rattle.std.specs.List.{AllByRecursion}
+use Rattle.std.specs.List.{AllByRecursion, items_where_true}
+use Rattle.std.specs.List.Retain.{IsFiltered}
 use Rattle.std.specs.List.Sorted.{IsStrictlySortedBy}
 use Rattle.std.specs.Map.{lookup, keys_of, remove_entry}
 use Rattle.std.specs.BTreeMap.{is_at}
@@ -82,6 +83,24 @@ module _ {K V : Type 0} (cmp : K → K → Ordering) where
 
   pub sorted_filtered : (p : K × V → Bool) (es fresh : List (K × V)) → fresh ≡ filter p es → IsStrictlySortedBy cmp (keys_of es) → IsStrictlySortedBy cmp (keys_of fresh)
   sorted_filtered p es fresh is sorted = subst (λ xs. IsStrictlySortedBy cmp (keys_of xs)) (sym is) (sorted_part p es sorted)
+
+  each_where : (P : K → Type 0) (bs : List Bool) (es : List (K × V)) → AllByRecursion P (keys_of es) → AllByRecursion P (keys_of (items_where_true bs es))
+  each_where P [] es all = tt
+  each_where P (b ∷ bs) [] all = tt
+  each_where P (true ∷ bs) (e ∷ es) all = (all.0, each_where P bs es all.1)
+  each_where P (false ∷ bs) (e ∷ es) all = each_where P bs es all.1
+
+  sorted_where : (bs : List Bool) (es : List (K × V)) → IsStrictlySortedBy cmp (keys_of es) → IsStrictlySortedBy cmp (keys_of (items_where_true bs es))
+  unfolding IsStrictlySortedBy
+  sorted_where [] es sorted = tt
+  sorted_where (b ∷ bs) [] sorted = tt
+  sorted_where (true ∷ bs) (e ∷ es) sorted = (each_where (λ y. cmp e.0 y ≡ Less) bs es sorted.0, sorted_where bs es sorted.1)
+  sorted_where (false ∷ bs) (e ∷ es) sorted = sorted_where bs es sorted.1
+
+  -- the keys that a test leaves rise, whatever it answers
+  pub sorted_kept : {P : Type 0} (R : P → K × V → Bool → P → Type 0) (p : P) (es fresh : List (K × V)) → IsFiltered R p es fresh → IsStrictlySortedBy cmp (keys_of es)
+      → IsStrictlySortedBy cmp (keys_of fresh)
+  sorted_kept R p es fresh is sorted = subst (λ xs. IsStrictlySortedBy cmp (keys_of xs)) (sym is.4) (sorted_where is.0 es sorted)
 
   module _ (total : IsTotalOrder cmp) (k : K) (v : V) where
     same_place : (q : K) (es : List (K × V)) → cmp q k ≡ Equal → lookup (is_at (cmp q)) es ≡ lookup (is_at (cmp k)) es

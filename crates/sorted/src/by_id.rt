@@ -1,4 +1,4 @@
-ghost use Rattle.std.specs.Prelude.{◌≡◌, ◌≤◌, ◌<◌, ◌+◌, ◌==◌, ◌++◌, ◌∷◌, [], ℕ, Bool, All, find, filter, length, IfSome, IfOk, IfErr, OnOk, OnErr};
+ghost use Rattle.std.specs.Prelude.{◌≡◌, ◌≤◌, ◌<◌, ◌+◌, ◌==◌, ◌++◌, ◌∷◌, [], ℕ, Bool, All, find, position, filter, length, IfSome, IfOk, IfErr, OnOk, OnErr};
 ghost use Rattle.std.specs.List.{list_any};
 ghost use Rattle.std.specs.Option.{option_copied};
 ghost use Rattle.std.specs.Fn.{ComputesKey};
@@ -56,7 +56,7 @@ impl<T: HasId> ById<T> {
     /// The values in order. It takes no memory.
     pub fn as_slice(&self) -> &[T]
         ensures value { result.now ≡ self.now.list }
-        ensures rising { AreRising T.id_of result.now }
+        ensures rising { AreRising T.id_of self.now.list }
     {
         &self.held
     }
@@ -81,6 +81,17 @@ impl<T: HasId> ById<T> {
     {
         match self.place(id) {
             Ok(i) => Some(&self.held[i]),
+            Err(_) => None,
+        }
+    }
+
+    /// The place of the one of that id. It takes no memory.
+    pub fn position_of(&self, id: u64) -> Option<usize>
+        ensures value { result ≡ position (has_id T.id_of id) self.now.list }
+        ensures within { IfSome result (λ i. i < length self.now.list) }
+    {
+        match self.place(id) {
+            Ok(i) => Some(i),
             Err(_) => None,
         }
     }
@@ -166,6 +177,7 @@ impl<T: HasId> ById<T> {
     fn place(&self, id: u64) -> Result<usize, usize>
         ensures found { IfOk result (IsFoundAt T.id_of id self.now.list) }
         ensures absent { IfErr result (IsGapAt T.id_of id self.now.list) }
+        ensures rising { AreRising T.id_of self.now.list }
     {
         self.held.binary_search_by_key(&id, |value| value.id())
     }

@@ -1,7 +1,9 @@
-ghost use Rattle.std.specs.Prelude.{◌≡◌, ◌≤◌, ◌+◌, ◌&&◌, ◌||◌, [], OnOk, filter, length, not};
+ghost use Rattle.std.specs.Prelude.{◌≡◌, ◌≤◌, ◌+◌, ◌&&◌, ◌||◌, [], Bool, OnOk, filter, length, not};
 ghost use Rattle.std.specs.List.Sorted.{IsStrictlySortedBy};
 ghost use Rattle.std.specs.Map.{keys_of};
 ghost use Rattle.std.specs.BTreeMap.{is_at};
+ghost use Rattle.std.specs.Fn.{ComputesKey};
+ghost use Rattle.std.specs.Ordering.{is_ge};
 ghost use Rattle.sorted.specs.Keys.{is_held};
 ghost use Rattle.sorted.specs.Sorted.{within};
 
@@ -85,5 +87,37 @@ impl<K: Ord + Drop> Keys<K> {
         ensures room { self.old.room ≤ self.new.room }
     {
         self.held.remove(key).is_some()
+    }
+}
+
+impl<K: Ord + Drop> Keys<K> {
+    /// The keys of a vector, each once. It sorts them, and takes no memory.
+    pub fn from_vec(keys: Vec<(K, ())>) -> Keys<K>
+        ensures { (q : K) → is_held K.cmp q result.keys ≡ is_held K.cmp q (keys_of keys.items) }
+    {
+        let mut rising = keys;
+        rising.sort_unstable();
+        rising.dedup();
+        Keys {
+            held: Sorted::from_vec(rising),
+        }
+    }
+
+    /// The keys that aren't below that one, in order. It takes no memory.
+    pub fn from(&self, low: &K) -> &[(K, ())]
+        ensures value { keys_of result.now ≡ filter (λ k. is_ge (K.cmp k low.now)) self.now.keys }
+        ensures sorted { IsStrictlySortedBy K.cmp (keys_of result.now) }
+    {
+        self.held.from(low)
+    }
+
+    /// Takes away the keys that don't pass the test. It takes no memory.
+    pub fn retain<F: FnMut(&(K, ())) -> bool>(&mut self, test: F)
+        requires { F.IsAlwaysCallable test }
+        ensures keys { (p : K → Bool) → ComputesKey F.FnMut (λ e. p e.0) test
+            → self.new.keys ≡ filter p self.old.keys }
+        ensures room { self.old.room ≤ self.new.room }
+    {
+        self.held.retain(test);
     }
 }

@@ -1,5 +1,6 @@
-ghost use Rattle.std.specs.Prelude.{◌≡◌, ◌≤◌, ◌+◌, [], IfOk, IfErr, OnOk, filter, if◌then◌else◌, None, Some};
+ghost use Rattle.std.specs.Prelude.{◌≡◌, ◌≤◌, ◌+◌, [], Bool, IfOk, IfErr, OnOk, filter, if◌then◌else◌, None, Some};
 ghost use Rattle.std.specs.Option.{option_copied, option_map};
+ghost use Rattle.std.specs.Fn.{ComputesKey};
 ghost use Rattle.std.specs.List.Sorted.{IsStrictlySortedBy};
 ghost use Rattle.std.specs.Map.{lookup, keys_of, remove_entry};
 ghost use Rattle.std.specs.BTreeMap.{insert_entry, is_at};
@@ -189,5 +190,33 @@ impl<K: Ord + Drop> Sorted<K, usize> {
             }
         }
         self.held.truncate(to);
+    }
+}
+
+impl<K: Ord + Drop, V: Drop> Sorted<K, V> {
+    /// The entries of a vector in which the keys rise. It takes no memory.
+    pub fn from_vec(held: Vec<(K, V)>) -> Sorted<K, V>
+        requires { IsStrictlySortedBy K.cmp (keys_of held.items) }
+        ensures { result.entries ≡ held.items }
+    {
+        Sorted { held }
+    }
+
+    /// The entries whose keys aren't below that one, in order. It takes no memory.
+    pub fn from(&self, low: &K) -> &[(K, V)]
+        ensures value { result.now ≡ filter (λ e. is_ge (K.cmp e.0 low.now)) self.now.entries }
+        ensures sorted { IsStrictlySortedBy K.cmp (keys_of result.now) }
+    {
+        not_below(self.as_slice(), low)
+    }
+
+    /// Takes out the entries that don't pass the test. It takes no memory.
+    pub fn retain<F: FnMut(&(K, V)) -> bool>(&mut self, test: F)
+        requires { F.IsAlwaysCallable test }
+        ensures entries { (p : K × V → Bool) → ComputesKey F.FnMut p test
+            → self.new.entries ≡ filter p self.old.entries }
+        ensures room { self.old.room ≤ self.new.room }
+    {
+        self.held.retain(test);
     }
 }

@@ -15,7 +15,7 @@ returns-in-Ok-clause-list g c = take_found g.T.HasId.id_of c.args.id _ _ _ c.in-
 
 -- it wasn't there
 pub returns-in-Err-clause-value : goal.returns-in-Err-clause-value
-returns-in-Err-clause-value g c = get_none g.T.HasId.id_of c.args.id _ _ _ (ap (λ s. s.list) c.self.view_is) c.self.invariant c.in-Err.ensures.absent
+returns-in-Err-clause-value g c = get_none g.T.HasId.id_of c.args.id _ _ c.place.ensures.rising c.in-Err.ensures.absent
 
 pub returns-in-Err-clause-list : goal.returns-in-Err-clause-list
-returns-in-Err-clause-list g c = take_none g.T.HasId.id_of c.args.id _ _ _ (ap (λ s. s.list) c.self.view_is) c.self.invariant c.in-Err.ensures.absent
+returns-in-Err-clause-list g c = take_none g.T.HasId.id_of c.args.id _ _ c.place.ensures.rising c.in-Err.ensures.absent
