@@ -1,10 +1,11 @@
 -- A list without the one element of an id.
-use Rattle.std.proofs.Common.{◌≡◌, ◌≢◌, ℕ, zero, suc, ◌<◌, Bool, true, false, not, cond, nat_lt, List, [], ◌∷◌, length, get_or, refl, ap, sym, arith, Option, Some, None, is_some, IfNone, IfSome, inl, inr}
-use Rattle.std.specs.List.{All, filter, remove, position, position_or_len, list_any}
+use Rattle.std.proofs.Common.{◌≡◌, ◌≢◌, ℕ, zero, suc, ◌<◌, Bool, true, false, not, cond, nat_lt, List, [], ◌∷◌, length, get_or, refl, ap, sym, ◌∙◌, arith, ltb-false, Option, Some, None, is_some, IfNone, IfSome, inl, inr}
+use Rattle.std.specs.List.{All, find, slice_get, filter, remove, position, position_or_len, list_any}
 use Rattle.std.proofs.lemmas.Bool.Decides.{nat_tests}
 use Rattle.std.proofs.lemmas.Bool.{cases_lt}
 use Rattle.std.proofs.lemmas.List.Elements.{All-head, All-tail}
-use Rattle.std.proofs.lemmas.List.Folds.{list_any_none, list_any_at}
+use Rattle.std.proofs.lemmas.Option.{slice_get_past}
+use Rattle.std.proofs.lemmas.List.Folds.{find_at, list_any_none, list_any_at}
 use Rattle.std.proofs.lemmas.List.Sums.{fails_before_first}
 use Rattle.std.proofs.lemmas.List.Quantifiers.{position-Some}
 use Rattle.deferrals.specs.declared.items.Deferral.{Deferral}
@@ -81,3 +82,19 @@ place_found id list (Some i) rising e = (
       (λ d. ap not (position-Some (has_id id) list i d (sym e)).1)
       (passes id list i rising (sym e)),
 )
+
+-- what stands at the place that is found is what is found
+pub placed_is : (id : ℕ) (list : List Deferral) (i : ℕ) → position (has_id id) list ≡ Some i → slice_get list i ≡ find (has_id id) list
+placed_is id list i found = ap (slice_get list) (by (nat_lt (position_or_len (has_id id) list) (length list)) found) ∙ sym (find_at (has_id id) list)
+  where
+    by : (b : Bool) → cond b (Some (position_or_len (has_id id) list)) None ≡ Some i → i ≡ position_or_len (has_id id) list
+    by true is = cc
+    by false is = absurd (cc)
+
+pub placed_none : (id : ℕ) (list : List Deferral) → position (has_id id) list ≡ None → find (has_id id) list ≡ None
+placed_none id list none = find_at (has_id id) list ∙ by (nat_lt (position_or_len (has_id id) list) (length list)) refl none
+  where
+    by : (b : Bool) → nat_lt (position_or_len (has_id id) list) (length list) ≡ b → cond b (Some (position_or_len (has_id id) list)) None ≡ None
+        → slice_get list (position_or_len (has_id id) list) ≡ None
+    by true e is = absurd (cc)
+    by false e is = slice_get_past list (position_or_len (has_id id) list) (ltb-false (position_or_len (has_id id) list) (length list) e)

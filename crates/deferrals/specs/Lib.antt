@@ -1,3 +1,5 @@
 pub mod Due
 pub mod Held
 pub mod Limits
+pub mod Fuel
+pub mod ByTail

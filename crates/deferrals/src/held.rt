@@ -1,9 +1,15 @@
-ghost use Rattle.std.specs.Prelude.{◌≡◌, ◌≤◌, ◌<◌, ◌++◌, ◌∷◌, [], length, true, false, position, remove, is_some, IfNone, IfSome, OnOk, OnErr};
+ghost use Rattle.std.specs.Prelude.{◌≡◌, ◌≤◌, ◌<◌, ◌++◌, ◌∷◌, [], length, map, true, false, find, remove, is_some, IfNone, IfSome, IfOk, OnOk, OnErr};
 ghost use Rattle.std.specs.List.{list_any};
+ghost use Rattle.std.specs.Option.{option_copied};
 ghost use Rattle.deferrals.specs.Held.{AreRising, IsNewest, has_id, without};
+ghost use Rattle.deferrals.specs.Limits.{open_on};
 
+use crate::by_tail::{
+    TailKey, all_keys, deferral_of, key_of, open_among, position_of, tail_number,
+};
 use crate::items::Deferral;
 use desk_io::OutOfMemory;
+use sorted::Keys;
 use std::alloc::Global;
 use std::marker::Model;
 
@@ -12,14 +18,17 @@ pub const DEFERRAL_LIMIT: usize = 50_000;
 
 /// The open deferrals in the order of their ids, which rise. A contract sees them as a list, and
 /// whether there is room for one more without taking memory.
-#[derive(Debug, Drop)]
+#[derive(Drop)]
 pub struct Deferrals {
     held: Vec<Deferral>,
+    // the keys of all of them
+    by_tail: Keys<TailKey>,
     room: bool,
 }
 
 impl Model for Deferrals {
     ghost use Rattle.std.specs.Prelude.{◌≡◌, ◌≤◌, ◌<◌, true, vec_len, vec_capacity};
+    ghost use Rattle.deferrals.specs.ByTail.{AreFound};
     ghost use Rattle.deferrals.specs.Held.{OpenDeferrals, AreRising};
 
     ghost Value = { OpenDeferrals };
@@ -27,13 +36,8 @@ impl Model for Deferrals {
     ghost view = { λ d. record { list = d.held.items; room = d.room } };
 
     ghost invariant = { λ d. (vec_len d.held ≤ 50_000) × AreRising d.held.items
+        × AreFound d.by_tail.keys d.held.items × (d.room ≡ true → 1 ≤ d.by_tail.room)
         × (d.room ≡ true → vec_len d.held < vec_capacity d.held) };
-}
-
-fn position_of(held: &[Deferral], id: u64) -> Option<usize>
-    ensures { result ≡ position (has_id id) held.now }
-{
-    held.iter().position(|d| d.id == id)
 }
 
 // The place of the one with that id.
@@ -53,8 +57,23 @@ impl Deferrals {
     {
         Deferrals {
             held: Vec::new(alloc),
+            by_tail: Keys::new(alloc),
             room: false,
         }
+    }
+
+    /// The deferrals of a vector, in which the ids rise, and no room. The keys of the aircraft are sorted once.
+    pub fn from_vec(alloc: Global, held: Vec<Deferral>) -> Result<Deferrals, OutOfMemory>
+        requires rising { AreRising held.items }
+        requires few { length held.items ≤ DEFERRAL_LIMIT }
+        ensures { IfOk result (λ made. made ≡ record { list = held.items; room = false }) }
+    {
+        let by_tail = all_keys(alloc, held.as_slice())?;
+        Ok(Deferrals {
+            held,
+            by_tail,
+            room: false,
+        })
     }
 
     /// The open deferrals in order. It takes no memory.
@@ -66,12 +85,36 @@ impl Deferrals {
         self.held.as_slice()
     }
 
+    /// The open deferrals of an aircraft, in order of their ids. They are found by halves.
+    pub fn open_on(&self, alloc: Global, tail: &[u8]) -> Result<Vec<&Deferral>, OutOfMemory>
+        ensures value { IfOk result (λ v. map (λ d. d.now) v.items ≡ open_on tail.now self.now.list) }
+        ensures count { IfOk result (λ v. length v.items ≤ length self.now.list) }
+        ensures limit { length self.now.list ≤ DEFERRAL_LIMIT }
+    {
+        open_among(alloc, self.held.as_slice(), &self.by_tail, tail)
+    }
+
+    /// The deferral of that id. It is found by halves, and takes no memory.
+    pub fn get(&self, id: u64) -> Option<&Deferral>
+        ensures { option_copied result ≡ find (has_id id) self.now.list }
+    {
+        deferral_of(self.held.as_slice(), id)
+    }
+
+    /// One with that id is open. It is found by halves, and takes no memory.
+    pub fn has(&self, id: u64) -> bool
+        ensures { result ≡ list_any (has_id id) self.now.list }
+    {
+        place_of(self.held.as_slice(), id).is_some()
+    }
+
     /// Makes room for one more. Where memory runs out all stays as it was.
     pub fn reserve(&mut self) -> Result<(), OutOfMemory>
         ensures ok { OnOk result (self.new ≡ record { list = self.old.list; room = true }) }
         ensures err { OnErr result (self.new ≡ self.old) }
     {
         self.held.reserve(1)?;
+        self.by_tail.reserve(1)?;
         self.room = true;
         Ok(())
     }
@@ -84,6 +127,7 @@ impl Deferrals {
         ensures { self.new ≡ record { list = self.old.list ++ deferral ∷ []; room = false } }
     {
         self.room = false;
+        self.by_tail.put_reserved(key_of(&deferral));
         self.held.push_reserved(deferral);
     }
 
@@ -96,7 +140,8 @@ impl Deferrals {
         match place_of(&self.held, id) {
             None => false,
             Some(place) => {
-                let _ = self.held.remove(place);
+                let gone = self.held.remove(place);
+                let _ = self.by_tail.take(&(tail_number(gone.tail.bytes()), id));
                 true
             }
         }

@@ -2,6 +2,7 @@
 //! due for repair, and how it limits a flight (14 CFR 121.628).
 #![tactic(auto)]
 
+mod by_tail;
 mod held;
 mod items;
 mod limits;

@@ -1,8 +1,10 @@
 ghost use Rattle.std.specs.Prelude.{◌≡◌, ◌≤◌, length, map, All, IfOk};
 ghost use Rattle.std.specs.List.{sum};
 ghost use Rattle.ops_tables.specs.Limits.{FitsItem};
+ghost use Rattle.deferrals.specs.Fuel.{AddsFuel};
 ghost use Rattle.deferrals.specs.Limits as spec;
 
+use crate::by_tail::is_of;
 use crate::held::{DEFERRAL_LIMIT, Deferrals};
 use crate::items::Deferral;
 use desk_io::{Copied, Listed, OutOfMemory};
@@ -18,13 +20,7 @@ pub struct Limits {
     pub lost: Lost,
 }
 
-fn is_of(tail: &[u8], deferral: &Deferral) -> bool
-    ensures { result ≡ spec.is_of tail.now deferral.now }
-{
-    deferral.tail.bytes() == tail
-}
-
-/// The open deferrals of an aircraft, in order of their ids.
+/// Those deferrals of a list that are of an aircraft, in their order.
 pub fn open_on<'a>(
     alloc: Global,
     list: &'a [Deferral],
@@ -97,11 +93,7 @@ fn lost_by(alloc: Global, rows: &[&MelRow]) -> Result<Lost, OutOfMemory>
     Ok(lost)
 }
 
-/// What deferred items of one aircraft add and take away, where its type is known: the sum of their extra fuel,
-/// in pounds, and the capabilities that they take away, each once, in the order in which they were deferred (14
-/// CFR 121.628). An item that the list of the type lacks adds and takes away nothing, and one whose capability is
-/// empty takes none away.
-pub fn limits_on(
+fn limits_by(
     alloc: Global,
     deferred: &[&Deferral],
     kind: &[u8],
@@ -119,6 +111,27 @@ pub fn limits_on(
     })
 }
 
+/// What deferred items of one aircraft add and take away, where its type is known: the sum of their extra fuel,
+/// in pounds, and the capabilities that they take away, each once, in the order in which they were deferred (14
+/// CFR 121.628). An item that the list of the type lacks adds and takes away nothing, and one whose capability is
+/// empty takes none away.
+#[tactic(auto, using(crate::proofs::FuelLaws::adds_fuel))]
+pub fn limits_on(
+    alloc: Global,
+    deferred: &[&Deferral],
+    kind: &[u8],
+    tables: &Tables,
+) -> Result<Limits, OutOfMemory>
+    requires { length deferred.now ≤ DEFERRAL_LIMIT }
+    ensures value { IfOk result (λ limits. limits ≡ spec.limits_by
+        (spec.rows_of tables.now kind.now (map (λ d. d.now) deferred.now))) }
+    ensures adds { IfOk result (λ limits. AddsFuel (spec.rows_of tables.now kind.now (map (λ d. d.now) deferred.now))
+        limits.extra_fuel) }
+    ensures within { IfOk result (λ limits. limits.extra_fuel ≤ 5_000_000_000) }
+{
+    limits_by(alloc, deferred, kind, tables)
+}
+
 /// What the open deferrals of an aircraft add and take away, as `limits_on` says of its type. An aircraft of no
 /// known type has no list.
 #[tactic(auto, unfolding(crate::specs::Limits::limits))]
@@ -134,7 +147,7 @@ pub fn limits_of(
     match tables.type_of(tail) {
         None => limits_on(alloc, &[], b"", tables),
         Some(kind) => {
-            let open = open_on(alloc, list.as_slice(), tail)?;
+            let open = list.open_on(alloc, tail)?;
             limits_on(alloc, &open, kind.kind.bytes(), tables)
         }
     }

@@ -4,6 +4,7 @@ pub mod Needs
 pub mod DueLaws
 pub mod SightLaws
 pub mod NextDue
+pub mod DueMinutes
 pub mod UntilDue
 pub mod Named
 pub mod FrameLaws

@@ -1,5 +1,5 @@
 -- When a rule of time begins to fail.
-use Rattle.std.specs.Prelude.{◌≡◌, ℕ, ◌+◌, ◌-◌, ◌<◌, ◌≤◌, nat_lt, true, false, if◌then◌else◌, List, [], ◌∷◌, Option, None, Some}
+use Rattle.std.specs.Prelude.{◌≡◌, ℕ, ◌+◌, ◌-◌, ◌<◌, ◌≤◌, nat_lt, true, false, if◌then◌else◌, List, [], ◌∷◌, ◌++◌, Option, None, Some}
 use Rattle.codes.specs.Cond.{lesser}
 use Rattle.ops_tables.specs.declared.rows.Settings.{Settings}
 use Rattle.plan.specs.declared.flights.Leg.{Leg}
@@ -52,6 +52,34 @@ NoneBegins plan phase settings after until = (minute : ℕ) → after < minute �
 abbrev pub IsNextDue : Plan → Phase → Settings → ℕ → Option ℕ → Type 0
 IsNextDue plan phase settings moment None = (until : ℕ) → NoneBegins plan phase settings moment until
 IsNextDue plan phase settings moment (Some due) = (moment < due) × Begins plan phase settings due × NoneBegins plan phase settings moment due
+
+-- The minutes at which a rule of time begins to fail, whatever the moment is: the first past each limit. Each adds to some.
+
+abbrev pub with_past : List ℕ → Option ℕ → List ℕ
+with_past minutes None = minutes
+with_past minutes (Some limit) = minutes ++ (limit + 1) ∷ []
+
+abbrev pub with_leg : List Rule → Settings → Plan → Phase → ℕ → List ℕ → Leg → List ℕ
+with_leg [] settings plan phase n minutes leg = minutes
+with_leg (rule ∷ rules) settings plan phase n minutes leg =
+    with_leg rules settings plan phase n (with_past minutes (limit_of rule settings plan.kind phase n leg)) leg
+
+abbrev pub with_legs : Settings → Plan → Phase → ℕ → List ℕ → List Leg → List ℕ
+with_legs settings plan phase n minutes [] = minutes
+with_legs settings plan phase n minutes (leg ∷ legs) =
+    with_legs settings plan phase (n + 1) (with_leg rules_of_time settings plan phase n minutes leg) legs
+
+unfoldable pub due_minutes : Plan → Phase → Settings → List ℕ
+due_minutes plan phase settings = with_legs settings plan phase 1 [] plan.legs
+
+-- the least of some minutes that comes after a moment
+abbrev pub first_after : ℕ → List ℕ → Option ℕ
+first_after moment [] = None
+first_after moment (minute ∷ minutes) = lesser (if nat_lt moment minute then Some minute else None) (first_after moment minutes)
+
+-- What is next due after any moment is the first of some minutes that comes after it.
+abbrev pub AreDue : Plan → Phase → Settings → List ℕ → Type 0
+AreDue plan phase settings minutes = (moment : ℕ) → next_due plan phase settings moment ≡ first_after moment minutes
 
 -- the same tables, reports and deferrals at another moment
 abbrev pub at_moment : Grounds → ℕ → Grounds

@@ -25,7 +25,7 @@ use Rattle.rules.specs.Equipment.{is_limiting, is_overdue, limiting, overdue, ba
 use Rattle.rules.specs.Fuel.{does_without, is_short_domestic, is_short_flag, is_underfilled}
 use Rattle.rules.specs.Time.{limit_of, is_late}
 use Rattle.rules.specs.Judgement.{finding}
-use Rattle.rules.specs.Due.{due_after}
+use Rattle.rules.specs.Due.{due_after, with_past}
 use Rattle.rules.specs.declared.circumstances.Circumstances.{Circumstances}
 use Rattle.rules.specs.declared.weather.Reported.{Reported}
 use Rattle.rules.specs.declared.takeoff_alternates.Takeoff.{Takeoff}
@@ -159,6 +159,17 @@ due_of times n leg = lesser (due_by No1 times n leg) (lesser (due_by No2 times n
 abbrev pub first_due : Times → ℕ → List Leg → Option ℕ
 first_due times n [] = None
 first_due times n (leg ∷ legs) = lesser (due_of times n leg) (first_due times (n + 1) legs)
+
+-- the first minute past each limit of a leg, after some
+abbrev pub dues_of : Times → ℕ → List ℕ → Leg → List ℕ
+dues_of times n minutes leg =
+    let limit : Rule → Option ℕ = λ rule. limit_of rule times.settings times.flight times.phase n leg in
+    with_past (with_past (with_past (with_past minutes (limit No1)) (limit No2)) (limit No17)) (limit No18)
+
+-- those of some legs, where the first of them has that number
+abbrev pub all_dues : Times → ℕ → List ℕ → List Leg → List ℕ
+all_dues times n minutes [] = minutes
+all_dues times n minutes (leg ∷ legs) = all_dues times (n + 1) (dues_of times n minutes leg) legs
 
 -- what each rule says of the leg of a number
 abbrev pub sight_of : Times → Option Case → ℕ → Leg → Sight

@@ -1,19 +1,21 @@
-ghost use Rattle.std.specs.Prelude.{◌≡◌, ◌≤◌, length, IfSome};
+ghost use Rattle.std.specs.Prelude.{◌≡◌, ◌≤◌, length, IfOk, IfSome, OnOk};
 ghost use Rattle.std.specs.List.{AllByRecursion};
 ghost use Rattle.std.specs.Option.{option_map};
 ghost use Rattle.plan.specs.Check.{HasMoments, IsPlan};
 ghost use Rattle.plan.specs.Texts.{HasMoment};
 ghost use Rattle.desk_time.specs.Limits.{IsMoment};
 ghost use Rattle.rules.specs.Due as spec;
-ghost use Rattle.rules.specs.Due.{IsNextDue, Lasts, Stays};
+ghost use Rattle.rules.specs.Due.{AreDue, IsNextDue, Lasts, Stays};
 ghost use Rattle.rules.specs.Sights as seen;
 ghost use Rattle.rules.specs.Sights.{last_of};
 
 use crate::time::{Limit, Times};
 use codes::least_of;
+use desk_io::{Listed, OutOfMemory};
 use desk_time::Minute;
-use ops_tables::Tables;
+use ops_tables::{Settings, Tables};
 use plan::{Leg, Phase, Plan};
+use std::alloc::Global;
 
 // The first minute past a limit, where it lies after a moment.
 fn due_after(moment: Minute, limit: Option<Limit>) -> Option<Minute>
@@ -57,19 +59,29 @@ fn first_due(times: &Times, legs: &[Leg]) -> Option<Minute>
     least
 }
 
+/// The least minute after a moment at which a rule of time begins to fail by those settings, as `next_due` has it. It
+/// takes no memory.
 #[tactic(auto, using(crate::proofs::NextDue::first_is_next))]
-fn due_in(plan: &Plan, phase: Phase, tables: &Tables, moment: Minute) -> Option<Minute>
+pub fn next_due_by(plan: &Plan, phase: Phase, settings: Settings, moment: Minute) -> Option<Minute>
     requires plan { IsPlan plan.now }
     requires phase { HasMoment phase }
-    ensures { result ≡ spec.next_due plan.now phase tables.now.settings moment }
+    ensures { result ≡ spec.next_due plan.now phase settings moment }
 {
     let times = Times {
-        settings: tables.settings(),
+        settings,
         flight: plan.kind,
         phase,
         moment,
     };
     first_due(&times, plan.legs.as_slice())
+}
+
+fn due_in(plan: &Plan, phase: Phase, tables: &Tables, moment: Minute) -> Option<Minute>
+    requires plan { IsPlan plan.now }
+    requires phase { HasMoment phase }
+    ensures { result ≡ spec.next_due plan.now phase tables.now.settings moment }
+{
+    next_due_by(plan, phase, tables.settings(), moment)
 }
 
 /// The least minute after a moment at which a rule of time begins to fail for a plan in a phase: a domestic flight
@@ -86,4 +98,79 @@ pub fn next_due(plan: &Plan, phase: Phase, tables: &Tables, moment: Minute) -> O
     ensures lasts { Lasts plan.now phase tables.now.settings moment result }
 {
     due_in(plan, phase, tables, moment)
+}
+
+fn push_past(minutes: &mut Listed<Minute>, limit: Option<Limit>) -> Result<(), OutOfMemory>
+    requires { IfSome limit (λ l. IsMoment l.since) }
+    ensures { OnOk result (minutes.new ≡ spec.with_past minutes.old (option_map last_of limit)) }
+{
+    match limit {
+        None => Ok(()),
+        Some(limit) => minutes.push(limit.since + u64::from(limit.minutes) + 1),
+    }
+}
+
+fn push_leg(
+    minutes: &mut Listed<Minute>,
+    times: &Times,
+    number: u32,
+    leg: &Leg,
+) -> Result<(), OutOfMemory>
+    requires phase { HasMoment times.now.phase }
+    requires moments { HasMoments leg.now }
+    ensures { OnOk result (minutes.new ≡ seen.dues_of times.now number minutes.old leg.now) }
+{
+    push_past(minutes, times.domestic_stop(number))?;
+    push_past(minutes, times.flag_stop(number))?;
+    push_past(minutes, times.departure(number, leg))?;
+    push_past(minutes, times.arrival(number, leg))
+}
+
+fn push_legs(minutes: &mut Listed<Minute>, times: &Times, legs: &[Leg]) -> Result<(), OutOfMemory>
+    requires phase { HasMoment times.now.phase }
+    requires few { length legs.now ≤ 1000 }
+    requires moments { AllByRecursion HasMoments legs.now }
+    ensures { OnOk result (minutes.new ≡ seen.all_dues times.now 1 minutes.old legs.now) }
+{
+    for (i, leg) in legs.iter().enumerate() {
+        push_leg(minutes, times, i as u32 + 1, leg)?;
+    }
+    Ok(())
+}
+
+fn minutes_in(
+    alloc: Global,
+    plan: &Plan,
+    phase: Phase,
+    settings: Settings,
+) -> Result<Listed<Minute>, OutOfMemory>
+    requires plan { IsPlan plan.now }
+    requires phase { HasMoment phase }
+    ensures { IfOk result (λ minutes. minutes ≡ spec.due_minutes plan.now phase settings) }
+{
+    let times = Times {
+        settings,
+        flight: plan.kind,
+        phase,
+        moment: 0,
+    };
+    let mut minutes = Listed::new(alloc);
+    push_legs(&mut minutes, &times, plan.legs.as_slice())?;
+    Ok(minutes)
+}
+
+/// The minutes at which a rule of time begins to fail for a plan in a phase, whatever the moment is. What is next due
+/// after a moment is the first of them that comes after it.
+pub fn due_minutes(
+    alloc: Global,
+    plan: &Plan,
+    phase: Phase,
+    settings: Settings,
+) -> Result<Listed<Minute>, OutOfMemory>
+    requires plan { IsPlan plan.now }
+    requires phase { HasMoment phase }
+    ensures value { IfOk result (λ minutes. minutes ≡ spec.due_minutes plan.now phase settings) }
+    ensures due { IfOk result (AreDue plan.now phase settings) }
+{
+    minutes_in(alloc, plan, phase, settings)
 }

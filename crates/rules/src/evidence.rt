@@ -7,7 +7,7 @@ ghost use Rattle.deferrals.specs.Limits.{is_of, open_on as opened};
 ghost use Rattle.rules.specs.Grounds.{reports_of, once_cleared, deferrals_of};
 ghost use Rattle.rules.specs.Evidence as spec;
 
-use deferrals::{Deferral, Deferrals, open_on};
+use deferrals::{Deferral, Deferrals};
 use desk_io::OutOfMemory;
 use desk_time::Minute;
 use facts::{Read, Report, Reports};
@@ -137,36 +137,37 @@ fn is_of(tail: &[u8], deferral: &Deferral) -> bool
     deferral.tail.bytes() == tail
 }
 
-// The open deferrals of an aircraft, but for the one with that id.
-fn open_without<'a>(
+// Deferrals but for the one with that id.
+fn but_for<'a>(
     alloc: Global,
-    list: &'a [Deferral],
+    list: &[&'a Deferral],
     id: u64,
-    tail: &[u8],
 ) -> Result<Vec<&'a Deferral>, OutOfMemory>
-    ensures { IfOk result (λ v. map (λ d. d.now) v.items ≡ opened tail.now (without id list.now)) }
+    ensures { IfOk result (λ v. map (λ d. d.now) v.items ≡ without id (map (λ d. d.now) list.now)) }
 {
-    let mut open = Vec::new(alloc);
+    let mut others = Vec::new(alloc);
     for deferral in list {
-        if deferral.id != id && is_of(tail, deferral) {
-            open.push(deferral)?;
+        if deferral.id != id {
+            others.push(*deferral)?;
         }
     }
-    Ok(open)
+    Ok(others)
 }
 
-// The open deferrals of an aircraft, but for the one that is cleared.
+// The open deferrals of an aircraft, but for the one that is cleared. They are found by halves.
+#[tactic(auto, using(crate::proofs::OpenLaws::opened_without))]
 fn open_once_cleared<'a>(
     alloc: Global,
-    list: &'a [Deferral],
+    deferrals: &'a Deferrals,
     cleared: Option<u64>,
     tail: &[u8],
 ) -> Result<Vec<&'a Deferral>, OutOfMemory>
-    ensures { IfOk result (λ v. map (λ d. d.now) v.items ≡ opened tail.now (once_cleared cleared list.now)) }
+    ensures { IfOk result (λ v. map (λ d. d.now) v.items ≡ opened tail.now (once_cleared cleared deferrals.now.list)) }
 {
+    let open = deferrals.open_on(alloc, tail)?;
     match cleared {
-        None => open_on(alloc, list, tail),
-        Some(id) => open_without(alloc, list, id, tail),
+        None => Ok(open),
+        Some(id) => but_for(alloc, &open, id),
     }
 }
 
@@ -211,7 +212,7 @@ impl<'a> Evidence<'a> {
     ) -> Result<Vec<&'a Deferral>, OutOfMemory>
         ensures { IfOk result (λ v. map (λ d. d.now) v.items ≡ opened tail.now (deferrals_of self.now)) }
     {
-        let mut open = open_once_cleared(alloc, self.deferrals.as_slice(), self.cleared, tail)?;
+        let mut open = open_once_cleared(alloc, self.deferrals, self.cleared, tail)?;
         push_deferred(&mut open, self.deferred, tail)?;
         Ok(open)
     }

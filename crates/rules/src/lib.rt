@@ -14,7 +14,7 @@ mod time;
 mod touches;
 mod weather;
 
-pub use due::next_due;
+pub use due::{due_minutes, next_due, next_due_by};
 pub use evidence::Evidence;
 pub use judgement::{judge, judge_by};
 pub use touches::{is_of_tail, names_station};
