@@ -16,7 +16,7 @@ use Rattle.airport_minima.specs.Minima.{usable, single, double, single_addend, d
 use Rattle.airport_minima.specs.Alternate.{IsByOne, IsByTwo, IsGiven, AreGiven, AreAlternateMinima}
 use Rattle.airport_minima.specs.Alternate.IsGiven.{ByOne, ByTwo}
 
-same_pair : (p q : Pair) → p.ceiling ≡ q.ceiling → p.vis ≡ q.vis → p ≡ q
+pub same_pair : (p q : Pair) → p.ceiling ≡ q.ceiling → p.vis ≡ q.vis → p ≡ q
 same_pair p q ceilings visibilities =
     ap (λ c. record { ceiling = c; vis = p.vis }) ceilings ∙ ap (λ v. record { ceiling = q.ceiling; vis = v }) visibilities
 
@@ -26,10 +26,10 @@ mapped_at f (y ∷ xs) x zero within is = (0, omega arith, ap f is)
 mapped_at f (y ∷ xs) x (suc k) within is =
     Contains-append_right (f y ∷ []) (map f xs) (f x) (mapped_at f xs x k (omega (arith, within)) is)
 
-mapped : {A B : Type 0} (f : A → B) (xs : List A) (x : A) → Contains xs x → Contains (map f xs) (f x)
+pub mapped : {A B : Type 0} (f : A → B) (xs : List A) (x : A) → Contains xs x → Contains (map f xs) (f x)
 mapped f xs x there = mapped_at f xs x there.0 there.1 there.2
 
-abbrev Stays : {A : Type 0} → (A → Bool) → List A → A → Type 0
+abbrev pub Stays : {A : Type 0} → (A → Bool) → List A → A → Type 0
 Stays p kept x = p x ≡ true → Contains kept x
 
 -- each of a list that passes a test is in the filtered list
@@ -41,7 +41,7 @@ stays_by p y xs true e rest =
     (λ x there passes. Contains-append_right (y ∷ []) (filter p xs) x (there passes)) xs rest)
 stays_by p y xs false e rest = All-cons (Stays p (filter p xs)) y xs (λ passes. absurd (cc)) rest
 
-each_passing : {A : Type 0} (p : A → Bool) (xs : List A) → All (Stays p (filter p xs)) xs
+pub each_passing : {A : Type 0} (p : A → Bool) (xs : List A) → All (Stays p (filter p xs)) xs
 each_passing p [] = All-nil (Stays p [])
 each_passing p (y ∷ xs) = stays_by p y xs (p y) refl (each_passing p xs)
 

@@ -1,3 +1,4 @@
 pub mod LowestLaws
 mod FloorLaws
 mod AlternateLaws
+mod FlownLaws

@@ -1,4 +1,5 @@
 pub mod Minima
+pub mod Flown
 pub mod Floor
 pub mod Lowest
 pub mod Alternate

@@ -4,6 +4,7 @@ ghost use Rattle.stations.specs.Pair.{AreWithin};
 ghost use Rattle.airport_minima.specs.Minima as spec;
 ghost use Rattle.airport_minima.specs.Minima.{landing, alternate_pairs};
 ghost use Rattle.airport_minima.specs.Alternate.{AreAlternateMinima};
+ghost use Rattle.airport_minima.specs.Flown.{AreFlown, AreLandingMinima};
 
 use crate::usable::{millimetres, minima_of, usable};
 use desk_io::{Listed, OutOfMemory};
@@ -23,11 +24,8 @@ fn landing_minima(alloc: Global, usable: &[&Approach]) -> Result<Vec<Pair>, OutO
     Ok(pairs)
 }
 
-/// The landing minima of a station: those of each approach that the type can fly, in the order of
-/// the table (14 CFR 121.613). A type can fly an approach where its capability is among the type's
-/// and not among the lost ones.
 #[tactic(auto, unfolding(crate::specs::Minima::landing))]
-pub fn landing(
+fn landing_of_usable(
     alloc: Global,
     tables: &Tables,
     kind: &TypeRow,
@@ -39,6 +37,23 @@ pub fn landing(
 {
     let usable = usable(alloc, tables.approaches(station), kind, lost)?;
     Ok(Listed::from_vec(landing_minima(alloc, &usable)?))
+}
+
+/// The landing minima of a station: those of each approach that the type can fly, in the order of
+/// the table (14 CFR 121.613). A type can fly an approach where its capability is among the type's
+/// and not among the lost ones.
+pub fn landing(
+    alloc: Global,
+    tables: &Tables,
+    kind: &TypeRow,
+    station: Station,
+    lost: &Lost,
+) -> Result<Pairs, OutOfMemory>
+    ensures value { IfOk result (λ pairs. pairs ≡ landing tables.now kind.now station lost.now) }
+    ensures minima { IfOk result (λ pairs. AreLandingMinima tables.now kind.now station lost.now pairs) }
+    ensures within { IfOk result (λ pairs. AreWithin 20_000 16_093_440 pairs) }
+{
+    landing_of_usable(alloc, tables, kind, station, lost)
 }
 
 fn single_addend(settings: Settings) -> Pair
@@ -223,6 +238,7 @@ pub fn alternate_pairs(
 ) -> Result<Pairs, OutOfMemory>
     ensures value { IfOk result (λ pairs. pairs ≡ alternate_pairs tables.now kind.now station lost.now) }
     ensures minima { IfOk result (λ pairs. AreAlternateMinima tables.now kind.now station lost.now pairs) }
+    ensures flown { AreFlown tables.now kind.now station lost.now }
     ensures within { IfOk result (λ pairs. AreWithin 40_000 32_186_880 pairs) }
 {
     own_or_derived(alloc, tables, kind, station, lost)

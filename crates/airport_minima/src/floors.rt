@@ -2,6 +2,7 @@ ghost use Rattle.std.specs.Prelude.{◌≡◌, ◌≤◌, length, filter, All, I
 ghost use Rattle.ops_tables.specs.Limits.{FitsApproach};
 ghost use Rattle.airport_minima.specs.Minima.{is_usable, usable};
 ghost use Rattle.airport_minima.specs.Floor as spec;
+ghost use Rattle.airport_minima.specs.Flown.{AreFlown};
 ghost use Rattle.airport_minima.specs.Floor.{flag_floor};
 ghost use Rattle.airport_minima.specs.Lowest.{IsFlagFloor};
 
@@ -95,6 +96,7 @@ pub fn flag_floor(tables: &Tables, kind: &TypeRow, station: Station, lost: &Lost
     ensures value { result ≡ flag_floor tables.now kind.now station lost.now }
     ensures lowest { MatchOption result (length (usable tables.now kind.now station lost.now) ≡ 0)
         (λ floor. IsFlagFloor tables.now kind.now station lost.now floor) }
+    ensures flown { AreFlown tables.now kind.now station lost.now }
 {
     floor_over(tables, kind, station, lost)
 }
