@@ -1,0 +1,4 @@
+pub mod KeyOrder
+pub mod FoundLaws
+pub mod FloorLaws
+pub mod HeldLaws

@@ -1,0 +1,8 @@
+//! The replies that are kept, found by the person and the number of a request, and the floors of persons.
+#![tactic(auto)]
+
+mod floors;
+mod replies;
+mod requests;
+
+pub use replies::Replies;

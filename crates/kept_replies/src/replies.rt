@@ -1,0 +1,157 @@
+ghost use Rattle.std.specs.Prelude.{◌≡◌, ◌==◌, ◌<◌, All, IfOk, IsTrue, OnErr, OnOk, [], length};
+ghost use Rattle.std.specs.Option.{option_copied};
+ghost use Rattle.sorted.specs.ById.{AreRising};
+ghost use Rattle.kept_replies.specs.Index.{id_of};
+ghost use Rattle.kept_replies.specs.Replies as spec;
+ghost use Rattle.kept_replies.specs.Requests as asked;
+ghost use Rattle.kept_replies.specs.Requests.{FloorsRise};
+
+use crate::floors::floor_at;
+use crate::requests::{all_keys, keep_leading, keep_since, kept_at, key_of};
+use asks::{Floor, Floors, KeptReply};
+use desk_io::{Listed, OutOfMemory};
+use desk_time::Minute;
+use sorted::{ById, Keys};
+use std::alloc::Global;
+use std::marker::Model;
+
+/// The replies that are kept, in rising order of their ids, and the floors of persons, in byte order of the names. A
+/// reply is found by the person and the number of its request. A contract sees the list of replies, the floors, and
+/// whether one more reply needs no memory.
+#[derive(Drop)]
+pub struct Replies {
+    held: ById<KeptReply>,
+    // A key for each reply.
+    requests: Keys<(u64, u64, u64)>,
+    floors: Floors,
+    room: bool,
+}
+
+impl Model for Replies {
+    ghost use Rattle.kept_replies.specs.Replies.{HeldReplies, AreHeld};
+
+    ghost Value = { HeldReplies };
+
+    ghost view = { λ r. record { list = r.held.list; floors = r.floors; room = r.room } };
+
+    ghost invariant = { λ r. AreHeld r.held.list r.held.room r.requests.keys r.requests.room r.floors r.room };
+}
+
+impl Replies {
+    /// No replies, no floors, and no room. It takes no memory.
+    pub fn new(alloc: Global) -> Replies
+        ensures { result ≡ spec.replies_of [] [] }
+    {
+        Replies {
+            held: ById::new(alloc),
+            requests: Keys::new(alloc),
+            floors: Listed::new(alloc),
+            room: false,
+        }
+    }
+
+    /// Those replies and floors, and no room.
+    pub fn from_parts(
+        alloc: Global,
+        kept: Vec<KeptReply>,
+        floors: Floors,
+    ) -> Result<Replies, OutOfMemory>
+        requires rising { AreRising id_of kept.items }
+        requires floors { FloorsRise floors }
+        ensures { IfOk result (λ r. r ≡ spec.replies_of kept.items floors) }
+    {
+        let requests = all_keys(alloc, kept.as_slice())?;
+        Ok(Replies {
+            held: ById::from_vec(kept),
+            requests,
+            floors,
+            room: false,
+        })
+    }
+
+    /// The replies in order. It takes no memory.
+    pub fn as_slice(&self) -> &[KeptReply]
+        ensures value { result.now ≡ self.now.list }
+        ensures rising { AreRising id_of result.now }
+    {
+        self.held.as_slice()
+    }
+
+    /// How many replies there are.
+    pub fn len(&self) -> usize
+        ensures { result ≡ length self.now.list }
+    {
+        self.held.len()
+    }
+
+    /// Whether there is no reply.
+    pub fn is_empty(&self) -> bool
+        ensures { result ≡ (length self.now.list == 0) }
+    {
+        self.held.is_empty()
+    }
+
+    /// The floors in order. It takes no memory.
+    pub fn floors(&self) -> &[Floor]
+        ensures value { result.now ≡ self.now.floors }
+        ensures rising { FloorsRise result.now }
+    {
+        self.floors.as_slice()
+    }
+
+    /// The floors as they are held. It takes no memory.
+    pub fn listed_floors(&self) -> &Floors
+        ensures value { result.now ≡ self.now.floors }
+        ensures rising { FloorsRise result.now }
+    {
+        &self.floors
+    }
+
+    /// What is kept of the request of a person under a number. It is found by halves, and takes no memory.
+    pub fn kept_at(&self, actor: &[u8], number: u64) -> Option<&KeptReply>
+        ensures { option_copied result ≡ asked.kept_at actor.now number self.now.list }
+    {
+        kept_at(&self.held, &self.requests, actor, number)
+    }
+
+    /// The floor of a person. It is found by halves, and takes no memory.
+    pub fn floor_at(&self, actor: &[u8]) -> Option<u64>
+        ensures { result ≡ asked.floor_at actor.now self.now.floors }
+    {
+        floor_at(self.floors.as_slice(), actor)
+    }
+
+    /// Makes room for one more reply.
+    pub fn reserve(&mut self) -> Result<(), OutOfMemory>
+        ensures ok { OnOk result (self.new ≡ spec.with_room self.old) }
+        ensures err { OnErr result (self.new ≡ self.old) }
+    {
+        self.held.reserve(1)?;
+        self.requests.reserve(1)?;
+        self.room = true;
+        Ok(())
+    }
+
+    /// Adds a reply whose id is above all, where there is room, and leaves no room. It takes no memory.
+    pub fn push_reserved(&mut self, reply: KeptReply)
+        requires newest { All (λ k. k.id < reply.id) self.old.list }
+        requires room { IsTrue self.old.room }
+        ensures { self.new ≡ spec.with_reply reply self.old }
+    {
+        self.requests.put_reserved(key_of(&reply));
+        self.held.push_reserved(reply);
+        self.room = false;
+    }
+
+    /// Takes away the replies that were accepted before a moment, and puts other floors in place of those that there
+    /// are. It takes no memory.
+    pub fn sweep(&mut self, before: Minute, floors: Floors)
+        requires { FloorsRise floors }
+        ensures { self.new ≡ spec.with_swept before floors self.old }
+    {
+        let _ = self.held.as_slice();
+        keep_since(&mut self.held, before);
+        keep_leading(&mut self.requests, &self.held);
+        self.floors = floors;
+    }
+}
