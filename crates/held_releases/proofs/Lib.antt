@@ -1,0 +1,9 @@
+pub mod SetLaws
+pub mod BoolLaws
+pub mod PairLaws
+pub mod ChangeLaws
+pub mod ChosenLaws
+pub mod EntryLaws
+pub mod RunLaws
+pub mod HeldLaws
+pub mod DueLaws

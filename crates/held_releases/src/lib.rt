@@ -1,0 +1,12 @@
+//! The releases that are held, found by their ids, and by the stations, the aircraft and the minutes that touch them.
+#![tactic(auto)]
+
+mod change;
+mod entries;
+mod keys;
+mod moves;
+mod releases;
+mod touched;
+
+pub use change::OnReleases;
+pub use releases::{RELEASE_LIMIT, Releases};

@@ -1,0 +1,151 @@
+ghost use Rattle.std.specs.Prelude.{◌≡◌, ◌≤◌, ◌&&◌, ◌||◌, [], length, not, ℕ, IfOk, IfSome, OnOk};
+ghost use Rattle.std.specs.List.{AllByRecursion};
+ghost use Rattle.std.specs.Option.{option_copied};
+ghost use Rattle.facts.specs.Index.{key_cmp};
+ghost use Rattle.sorted.specs.Keys.{is_held};
+ghost use Rattle.held_releases.specs.Bounds.{ReleaseInBounds};
+ghost use Rattle.held_releases.specs.Changes as changes;
+ghost use Rattle.held_releases.specs.Changes.{MayChange};
+ghost use Rattle.held_releases.specs.Index as spec;
+ghost use Rattle.held_releases.specs.Index.{IsIndexOf, IsMove};
+
+use crate::change::OnReleases;
+use crate::entries::{push_dues, push_stations, push_tail};
+use crate::keys::{Key, enter, leave, set_of};
+use desk_io::OutOfMemory;
+use ops_tables::Settings;
+use plan::Release;
+use sorted::{ById, Keys};
+use std::alloc::Global;
+
+/// By what an index finds releases.
+#[derive(Clone, Copy)]
+pub(crate) enum By {
+    /// The stations that they name.
+    Station,
+    /// Their aircraft.
+    Tail,
+    /// The minutes at which a rule of time begins to fail for them.
+    Due,
+}
+
+/// What a change does to an index.
+#[derive(Drop)]
+pub(crate) struct Move {
+    /// The keys that it takes out.
+    pub(crate) leaving: Vec<Key>,
+    /// The keys that it puts in.
+    pub(crate) coming: Vec<Key>,
+}
+
+fn push_keys(
+    alloc: Global,
+    by: By,
+    settings: Settings,
+    keys: &mut Vec<Key>,
+    release: &Release,
+) -> Result<(), OutOfMemory>
+    requires { ReleaseInBounds release.now }
+    ensures { OnOk result (keys.new.items ≡ spec.onto_by by settings keys.old.items release.now) }
+{
+    match by {
+        By::Station => push_stations(keys, release),
+        By::Tail => push_tail(keys, release),
+        By::Due => push_dues(alloc, settings, keys, release),
+    }
+}
+
+/// The keys of a release, if there is one.
+pub(crate) fn keys_of(
+    alloc: Global,
+    by: By,
+    settings: Settings,
+    release: Option<&Release>,
+) -> Result<Vec<Key>, OutOfMemory>
+    requires { IfSome (option_copied release) ReleaseInBounds }
+    ensures { IfOk result (λ keys. keys.items ≡ spec.keys_of (spec.onto_by by settings) (option_copied release.entry)) }
+{
+    let mut keys = Vec::new(alloc);
+    match release {
+        None => {}
+        Some(release) => push_keys(alloc, by, settings, &mut keys, release)?,
+    }
+    Ok(keys)
+}
+
+fn all_keys(
+    alloc: Global,
+    by: By,
+    settings: Settings,
+    list: &[Release],
+) -> Result<Vec<Key>, OutOfMemory>
+    requires { AllByRecursion ReleaseInBounds list.now }
+    ensures { IfOk result (λ keys. keys.items ≡ spec.all_onto (spec.onto_by by settings) [] list.now) }
+{
+    let mut keys = Vec::new(alloc);
+    for release in list {
+        push_keys(alloc, by, settings, &mut keys, release)?;
+    }
+    Ok(keys)
+}
+
+/// The index of releases.
+pub(crate) fn index_of(
+    alloc: Global,
+    by: By,
+    settings: Settings,
+    list: &[Release],
+) -> Result<Keys<Key>, OutOfMemory>
+    requires { AllByRecursion ReleaseInBounds list.now }
+    ensures { IfOk result (λ set. IsIndexOf (spec.onto_by by settings) set.keys list.now) }
+{
+    set_of(alloc, all_keys(alloc, by, settings, list)?)
+}
+
+// The release that a change takes away, or puts another in the place of.
+fn old_of<'a>(held: &'a ById<Release>, on: &OnReleases) -> Option<&'a Release>
+    ensures { option_copied result ≡ changes.old_of on.now held.now.list }
+{
+    match on {
+        OnReleases::Nothing | OnReleases::File(_) => None,
+        OnReleases::Put(release) => held.get(release.id),
+        OnReleases::Remove { release } => held.get(*release),
+    }
+}
+
+// The release that a change brings.
+fn fresh_of(on: &OnReleases) -> Option<&Release>
+    ensures { option_copied result ≡ changes.fresh_of on.now }
+{
+    match on {
+        OnReleases::Nothing | OnReleases::Remove { .. } => None,
+        OnReleases::File(release) | OnReleases::Put(release) => Some(release),
+    }
+}
+
+/// What a change does to an index.
+pub(crate) fn move_of(
+    alloc: Global,
+    by: By,
+    settings: Settings,
+    held: &ById<Release>,
+    on: &OnReleases,
+) -> Result<Move, OutOfMemory>
+    requires may { MayChange on.now held.now.list }
+    requires each { AllByRecursion ReleaseInBounds held.now.list }
+    ensures { IfOk result (IsMove by settings on.now held.now.list) }
+{
+    let leaving = keys_of(alloc, by, settings, old_of(held, on))?;
+    let coming = keys_of(alloc, by, settings, fresh_of(on))?;
+    Ok(Move { leaving, coming })
+}
+
+/// Takes the keys that leave out of an index that has room for those that come, and puts these in. It takes no memory.
+pub(crate) fn turn(index: &mut Keys<Key>, by: &Move)
+    requires { length by.now.coming.items ≤ index.old.room }
+    ensures { (q : ℕ × ℕ) → is_held key_cmp q index.new.keys ≡ (is_held key_cmp q by.now.coming.items
+        || (not (is_held key_cmp q by.now.leaving.items) && is_held key_cmp q index.old.keys)) }
+{
+    leave(index, &by.leaving);
+    enter(index, &by.coming);
+}
