@@ -21,8 +21,8 @@ use Rattle.desk_state.specs.State.{State, release_at}
 use Rattle.desk_state.specs.declared.effect.Effect.{Effect}
 use Rattle.desk_state.specs.declared.effect.OnDeferrals.{OnDeferrals}
 use Rattle.desk_state.specs.declared.effect.OnDeferrals.TheVariants as on_deferrals
-use Rattle.desk_state.specs.declared.effect.OnReleases.{OnReleases}
-use Rattle.desk_state.specs.declared.effect.OnReleases.TheVariants as on_releases
+use Rattle.held_releases.specs.declared.change.OnReleases.{OnReleases}
+use Rattle.held_releases.specs.declared.change.OnReleases.TheVariants as on_releases
 use Rattle.desk_state.specs.declared.effect.Sweep.{Sweep}
 use Rattle.desk_state.proofs.Each.{found_each}
 use Rattle.desk_state.proofs.Judging.{rise_bound}
@@ -370,3 +370,21 @@ effect_formed s actor stands person (completes {id = id} {leg = leg} {r = r} is)
 effect_formed s actor stands person (acknowledges {id = id} {q = q} held is) has = (record { admitted = tt; opened = tt; filed = tt; floors = tt }, found_low s id q stands held)
 effect_formed s actor stands person (sweeps {before = before} {attached = attached} {floors = floors} is) has = sweeping_done s before attached floors stands is
 effect_formed s actor stands person (purges {id = id} {q = q} held is) has = (record { admitted = tt; opened = tt; filed = tt; floors = tt }, found_low s id q stands held)
+
+-- The floors of an accepted ask rise.
+pub floors_rise : (s : State) (actor : List ℕ) {a : Ask} {e : Effect} {made : DoneType} → AreFormed s → IsEffectOf s actor a e made → IfSome e.sweep (λ w. FloorsRise w.floors)
+floors_rise s actor formed (admits is) = tt
+floors_rise s actor formed (defers is) = tt
+floors_rise s actor formed (clears is) = tt
+floors_rise s actor formed (drafts is) = tt
+floors_rise s actor formed (prepares is pending) = tt
+floors_rise s actor formed (signs is) = tt
+floors_rise s actor formed (concurs is) = tt
+floors_rise s actor formed (amends is) = tt
+floors_rise s actor formed (cancels is) = tt
+floors_rise s actor formed (departs is) = tt
+floors_rise s actor formed (stops is) = tt
+floors_rise s actor formed (completes is) = tt
+floors_rise s actor formed (acknowledges held is) = tt
+floors_rise s actor formed (sweeps {before = before} {floors = floors} is) = subst FloorsRise (sym is.floors) (raised_rise (kept_before before s.kept) s.floors formed.rising)
+floors_rise s actor formed (purges held is) = tt

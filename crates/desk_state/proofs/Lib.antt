@@ -9,6 +9,9 @@ pub mod OnceLaws
 pub mod Boards
 pub mod Changes
 pub mod Untouched
+pub mod AlertPuts
+pub mod HoldLaws
+pub mod InstallLaws
 pub mod CountLaws
 pub mod AllowedLaws
 pub mod LeadingLaws

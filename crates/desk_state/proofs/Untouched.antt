@@ -1,10 +1,8 @@
 -- An event changes the alerts of the releases that it touches, and of no others.
-use Rattle.std.proofs.Common.{◌≡◌, ◌≢◌, ℕ, ◌≤◌, ◌<◌, suc, zero, Bool, true, false, not, cond, eqb, leb, ◌&&◌, ◌||◌, List, [], ◌∷◌, ◌++◌, filter, find, length, get_or, Option, None, Some, IfSome, refl, ap, sym, ◌∙◌, subst, arith, eq-eqb}
-use Rattle.std.proofs.lemmas.Bool.{and_from, or_parts, eqb-true, leb-false}
-use Rattle.std.proofs.lemmas.List.Elements.{All-nil, All-cons}
+use Rattle.std.proofs.Common.{◌≡◌, ℕ, Bool, true, false, not, cond, eqb, ◌&&◌, ◌||◌, List, [], ◌∷◌, ◌++◌, filter, find, Option, None, Some, IfSome, refl, ap, ◌∙◌, subst, eq-eqb}
+use Rattle.std.proofs.lemmas.Bool.{and_from, or_parts, leb-false}
 use Rattle.std.specs.Option.{option_map}
-use Rattle.std.specs.List.{All, AllByRecursion}
-use Rattle.stations.specs.Station.{Station}
+use Rattle.std.specs.List.{AllByRecursion}
 use Rattle.facts.specs.Same.{station_of_report}
 use Rattle.facts.specs.declared.report.Report.{Report}
 use Rattle.deferrals.specs.declared.items.Deferral.{Deferral}
@@ -34,10 +32,10 @@ use Rattle.desk_state.specs.declared.effect.OnAlerts.{OnAlerts}
 use Rattle.desk_state.specs.declared.effect.OnAlerts.TheVariants as on_alerts
 use Rattle.desk_state.specs.declared.effect.OnDeferrals.{OnDeferrals}
 use Rattle.desk_state.specs.declared.effect.OnDeferrals.TheVariants as on_deferrals
-use Rattle.desk_state.specs.declared.effect.OnReleases.{OnReleases}
-use Rattle.desk_state.specs.declared.effect.OnReleases.TheVariants as on_releases
-use Rattle.desk_state.specs.State.{State, grounds_of, failing_if, failing_in, failing_of, alert_at, alert_for, judged}
-use Rattle.desk_state.specs.Events.{effected, moment_after, reports_after, reports_swept, deferrals_after, releases_after, alerts_after, acknowledged_if, kept_alert, is_same_mark, is_same_alert, change_between, changes_from, changes_over, alert_changes}
+use Rattle.held_releases.specs.declared.change.OnReleases.{OnReleases}
+use Rattle.held_releases.specs.declared.change.OnReleases.TheVariants as on_releases
+use Rattle.desk_state.specs.State.{State, grounds_of, failing_if, failing_in, failing_of, alert_at, alert_for}
+use Rattle.desk_state.specs.Events.{effected, moment_after, reports_after, reports_swept, deferrals_after, releases_after, acknowledged_if, kept_alert, is_same_mark, is_same_alert, change_between, changes_from, changes_over, alert_changes}
 use Rattle.desk_state.specs.Sound.{Sound, Matches, IsAlerted, IsLater, EffectFits}
 use Rattle.desk_state.specs.Touched.{passes_in, is_due_by, by_report, by_cleared, by_deferral, by_time, by_release, by_alert, is_touched}
 use Rattle.desk_state.proofs.Each.{put_each, without_each}

@@ -1,18 +1,33 @@
--- What the state in code stands for.
+-- What the parts in code stand for, and what contracts see of them.
+use Rattle.std.specs.Prelude.{ℕ, Option}
 use Rattle.desk_state.specs.State.{State}
-use Rattle.desk_state.specs.declared.content.Content.{Content}
+use Rattle.desk_state.specs.declared.effect.Effect.{Effect}
+use Rattle.desk_state.specs.declared.holdings.Holdings.{Holdings}
 
--- the state that the content is
-abbrev pub state_of : Content → State
-state_of c = record {
-  tables = c.tables;
-  moment = c.moment;
-  counters = c.counters;
-  reports = c.reports.reports;
-  deferrals = c.deferrals.list;
-  releases = c.releases.items;
-  alerts = c.alerts.items;
-  kept = c.kept.items;
-  floors = c.floors;
-  entries = c.entries.items;
+-- the state that the parts are
+abbrev pub state_of : Holdings → State
+state_of p = record {
+  tables = p.tables;
+  moment = p.moment;
+  counters = p.counters;
+  reports = p.reports.reports;
+  deferrals = p.deferrals.list;
+  releases = p.releases.list;
+  alerts = p.alerts.list;
+  kept = p.replies.list;
+  floors = p.replies.floors;
+  entries = p.entries.items;
 }
+
+-- an effect, and how many alerts change, for which memory was taken
+pub record RoomFor : Type 0 where
+  pub effect : Effect
+  pub more : ℕ
+
+-- what the desk holds, and the one event that may be put in place without memory
+pub record Held : Type 0 where
+  pub state : State
+  pub room : Option RoomFor
+
+abbrev pub held : State → Option RoomFor → Held
+held s room = record { state = s; room = room }

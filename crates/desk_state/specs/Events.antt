@@ -1,5 +1,5 @@
 -- What an event changes.
-use Rattle.std.specs.Prelude.{ℕ, ◌+◌, ◌==◌, not, nat_lt, nat_le, Bool, true, false, ◌&&◌, if◌then◌else◌, List, [], ◌∷◌, ◌++◌, map, filter, Option, None, Some}
+use Rattle.std.specs.Prelude.{ℕ, ◌+◌, ◌==◌, not, nat_lt, Bool, true, false, ◌&&◌, if◌then◌else◌, List, [], ◌∷◌, ◌++◌, map, filter, Option, None, Some}
 use Rattle.std.specs.List.{filter_map, cons_option}
 use Rattle.std.specs.Option.{option_map}
 use Rattle.asks.specs.declared.kept.Floor.{Floor}
@@ -18,11 +18,13 @@ use Rattle.desk_state.specs.declared.effect.Effect.{Effect}
 use Rattle.desk_state.specs.declared.effect.Sweep.{Sweep}
 use Rattle.desk_state.specs.declared.effect.OnDeferrals.{OnDeferrals}
 use Rattle.desk_state.specs.declared.effect.OnDeferrals.TheVariants as deferrals
-use Rattle.desk_state.specs.declared.effect.OnReleases.{OnReleases}
-use Rattle.desk_state.specs.declared.effect.OnReleases.TheVariants as releases
+use Rattle.held_releases.specs.declared.change.OnReleases.{OnReleases}
+use Rattle.held_releases.specs.declared.change.OnReleases.TheVariants as releases
 use Rattle.desk_state.specs.declared.effect.OnAlerts.{OnAlerts}
 use Rattle.desk_state.specs.declared.effect.OnAlerts.TheVariants as alerts
 use Rattle.desk_state.specs.State.{State, alert_at, judged}
+pub use Rattle.kept_replies.specs.Requests.{is_since}
+pub use Rattle.held_releases.specs.Changes.{put_release, without_release, releases_after}
 
 -- Each part once an effect is there.
 
@@ -39,10 +41,6 @@ abbrev pub reports_swept : Option Sweep → List Report → List Report
 reports_swept None reports = reports
 reports_swept (Some w) reports = swept w.before w.attached reports
 
--- a request that was accepted at a moment or later
-abbrev pub is_since : ℕ → KeptReply → Bool
-is_since before k = nat_le before k.at
-
 -- what a sweep leaves of the kept replies
 abbrev pub kept_after : Option Sweep → List KeptReply → List KeptReply
 kept_after None kept = kept
@@ -56,22 +54,6 @@ abbrev pub deferrals_after : OnDeferrals → List Deferral → List Deferral
 deferrals_after deferrals.Nothing list = list
 deferrals_after (deferrals.Open d) list = list ++ d ∷ []
 deferrals_after (deferrals.Clear id) list = without id list
-
--- a release in the place of the first of its id
-abbrev pub put_release : Release → List Release → List Release
-put_release r [] = []
-put_release r (q ∷ qs) = if q.id == r.id then r ∷ qs else q ∷ put_release r qs
-
--- the releases but for the first of an id
-abbrev pub without_release : ℕ → List Release → List Release
-without_release id [] = []
-without_release id (q ∷ qs) = if q.id == id then qs else q ∷ without_release id qs
-
-abbrev pub releases_after : OnReleases → List Release → List Release
-releases_after releases.Nothing list = list
-releases_after (releases.File r) list = list ++ r ∷ []
-releases_after (releases.Put r) list = put_release r list
-releases_after (releases.Remove id) list = without_release id list
 
 -- the alerts but for those of a release
 abbrev pub without_alert : ℕ → List Alert → List Alert

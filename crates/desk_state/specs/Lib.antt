@@ -20,3 +20,5 @@ pub mod Allowed
 pub mod Causes
 pub mod Told
 pub mod Contents
+pub mod Holds
+pub mod Install

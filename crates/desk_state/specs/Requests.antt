@@ -1,26 +1,12 @@
 -- Requests by who made them and their numbers: what is kept of them, and the floors below which nothing is.
-use Rattle.std.specs.Prelude.{ℕ, ◌==◌, max, ◌&&◌, Bool, List, [], ◌∷◌, filter, find, not, Option}
-use Rattle.std.specs.Option.{option_map}
+use Rattle.std.specs.Prelude.{ℕ, max, List, [], ◌∷◌, filter, not}
 use Rattle.std.specs.Ordering.{nat_cmp}
 use Rattle.std.specs.declared.cmp.Ordering.{Ordering}
 use Rattle.std.specs.declared.cmp.Ordering.TheVariants.{Less, Equal, Greater}
 use Rattle.std.specs.Cmp.Lexicographic.{slice_cmp}
-use Rattle.std.specs.Str.{bytes_eq}
 use Rattle.asks.specs.declared.kept.Floor.{Floor}
 use Rattle.asks.specs.declared.kept.KeptReply.{KeptReply}
-use Rattle.desk_state.specs.Events.{is_since}
-
--- a kept reply to the request of a person under a number
-abbrev pub is_request : List ℕ → ℕ → KeptReply → Bool
-is_request actor number k = (k.number == number) && bytes_eq k.actor actor
-
--- what is kept of the request of a person under a number
-abbrev pub kept_at : List ℕ → ℕ → List KeptReply → Option KeptReply
-kept_at actor number kept = find (is_request actor number) kept
-
--- the floor of a person
-abbrev pub floor_at : List ℕ → List Floor → Option ℕ
-floor_at actor floors = option_map (λ f. f.number) (find (λ f. bytes_eq f.actor actor) floors)
+pub use Rattle.kept_replies.specs.Requests.{is_request, kept_at, floor_at, is_since}
 
 abbrev pub floor : List ℕ → ℕ → Floor
 floor actor number = record { actor = actor; number = number }

@@ -3,10 +3,8 @@ use Rattle.std.specs.Prelude.{◌≡◌, ℕ, ◌+◌, ◌<◌, ◌≤◌, ◌==
 use Rattle.std.specs.List.{AllByRecursion, AllPairs, filter_map, list_any}
 use Rattle.facts.specs.Same.{is_same, same_id, minute_of_report}
 use Rattle.plan.specs.declared.findings.Finding.{Finding}
-use Rattle.plan.specs.Texts.{HasMoment}
 use Rattle.desk_time.specs.Limits.{IsMoment}
 use Rattle.plan.specs.declared.release.Release.{Release}
-use Rattle.plan.specs.declared.release.Revision.{Revision}
 use Rattle.facts.specs.declared.report.Report.{Report}
 use Rattle.alerts.specs.declared.alert.Alert.{Alert}
 use Rattle.alerts.specs.Alerts.{IsAlert}
@@ -15,7 +13,6 @@ use Rattle.asks.specs.declared.kept.KeptReply.{KeptReply}
 use Rattle.desk_state.specs.declared.entry.What.{What}
 use Rattle.desk_state.specs.declared.entry.What.TheVariants as what
 use Rattle.asks.specs.declared.reply.Refusal.{Refusal}
-use Rattle.plan.specs.Check.{IsPlan}
 use Rattle.deferrals.specs.declared.items.Deferral.{Deferral}
 use Rattle.deferrals.specs.Held.{AreRising}
 use Rattle.rules.specs.Grounds.{Grounds}
@@ -24,11 +21,12 @@ use Rattle.desk_state.specs.declared.effect.Effect.{Effect}
 use Rattle.desk_state.specs.declared.effect.Sweep.{Sweep}
 use Rattle.desk_state.specs.declared.effect.OnDeferrals.{OnDeferrals}
 use Rattle.desk_state.specs.declared.effect.OnDeferrals.TheVariants as on_deferrals
-use Rattle.desk_state.specs.declared.effect.OnReleases.{OnReleases}
-use Rattle.desk_state.specs.declared.effect.OnReleases.TheVariants as on_releases
+use Rattle.held_releases.specs.declared.change.OnReleases.{OnReleases}
+use Rattle.held_releases.specs.declared.change.OnReleases.TheVariants as on_releases
 use Rattle.desk_state.specs.declared.effect.Decision.{Decision}
 use Rattle.desk_state.specs.declared.effect.Decision.TheVariants.{Show, Do}
 use Rattle.release_text.specs.Valid.{IsValid}
+pub use Rattle.held_releases.specs.Bounds.{RevisionInBounds, ReleaseInBounds}
 use Rattle.desk_state.specs.Formed.{AreFormed}
 use Rattle.desk_state.specs.State.{State, grounds_of, failing_of, alert_at}
 use Rattle.desk_state.specs.Legal.{IsHistory}
@@ -91,18 +89,6 @@ pub record AreJudgeable (s : State) : Type 0 where
   pub own : s.alerts ≡ filter_map (λ r. alert_at r.id s.alerts) s.releases
   pub alerts : AllByRecursion (IsAlert s.counters.events) s.alerts
   pub ids : Rise 0 s.releases s.counters.next_release
-
--- a revision whose plan is one, and whose moments can be shown
-pub record RevisionInBounds (v : Revision) : Type 0 where
-  pub is_plan : IsPlan v.plan
-  pub dispatcher : IfSome v.dispatcher (λ signature. IsMoment signature.at)
-  pub captain : IfSome v.captain (λ signature. IsMoment signature.at)
-
--- a release whose moments can be shown, and whose plans have at most 1,000 legs
-pub record ReleaseInBounds (r : Release) : Type 0 where
-  pub moment : HasMoment r.phase
-  pub pending : IfSome r.pending RevisionInBounds
-  pub active : IfSome r.active RevisionInBounds
 
 -- a release that may be held
 pub record Fits (most : ℕ) (r : Release) : Type 0 where

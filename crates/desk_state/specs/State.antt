@@ -16,6 +16,7 @@ use Rattle.asks.specs.declared.call.Ask.TheVariants as ask
 use Rattle.asks.specs.declared.kept.Floor.{Floor}
 use Rattle.asks.specs.declared.kept.KeptReply.{KeptReply}
 use Rattle.rules.specs.Grounds.{Grounds}
+pub use Rattle.held_releases.specs.Changes.{release_at}
 use Rattle.rules.specs.Judgement.{findings_of}
 use Rattle.desk_state.specs.declared.counters.Counters.{Counters}
 use Rattle.desk_state.specs.declared.entry.Entry.{Entry}
@@ -53,9 +54,6 @@ start tables = record { tables = tables; moment = 15_778_080; counters = first_c
 -- what a judgement stands on
 abbrev pub grounds_of : State → Grounds
 grounds_of s = record { tables = s.tables; reports = s.reports; deferrals = s.deferrals; moment = s.moment }
-
-abbrev pub release_at : ℕ → List Release → Option Release
-release_at id releases = find (λ r. r.id == id) releases
 
 abbrev pub alert_at : ℕ → List Alert → Option Alert
 alert_at id alerts = find (λ a. a.release == id) alerts

@@ -6,6 +6,7 @@ use deferrals::Deferral;
 use desk_io::Listed;
 use desk_time::Minute;
 use facts::Report;
+use held_releases::OnReleases;
 use plan::Release;
 
 /// What an event changes of the open deferrals.
@@ -16,18 +17,6 @@ pub enum OnDeferrals {
     Open(Deferral),
     /// The deferral of an id goes.
     Clear { deferral: u64 },
-}
-
-/// What an event changes of the releases.
-#[derive(Debug, Drop)]
-pub enum OnReleases {
-    Nothing,
-    /// A release is filed.
-    File(Release),
-    /// A release takes the place of the one of its id.
-    Put(Release),
-    /// The release of an id goes.
-    Remove { release: u64 },
 }
 
 /// What an event changes of the alerts, before every active release is judged.

@@ -1,18 +1,25 @@
 //! What the desk holds, what a call comes to, and which histories are legal.
 #![tactic(auto)]
 
+mod alerted;
 mod change;
 mod content;
 mod counters;
 mod effect;
 mod entry;
-mod held;
+mod event;
+mod held_alerts;
+mod holdings;
+mod installing;
 mod lanes;
+mod room;
 
+pub use alerted::Alerted;
 pub use change::AlertChange;
-pub use content::{Content, RELEASE_LIMIT};
+pub use content::{Content, ENTRY_LIMIT, EVENT_LIMIT, KEPT_LIMIT};
 pub use counters::Counters;
-pub use effect::{Decision, Effect, OnAlerts, OnDeferrals, OnReleases, Sweep};
+pub use effect::{Decision, Effect, OnAlerts, OnDeferrals, Sweep};
 pub use entry::{Entry, What};
-pub use held::{find_alert, place_of, place_of_id};
+pub use event::Event;
+pub use holdings::Holdings;
 pub use lanes::{Item, Outcome, Said};

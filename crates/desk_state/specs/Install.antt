@@ -1,0 +1,129 @@
+-- How an event is put in place: what it needs so that it takes no memory, and the state once it is there.
+use Rattle.std.specs.Prelude.{◌≡◌, ℕ, ◌<◌, ◌≤◌, true, IsTrue, All, List, [], ◌∷◌, ◌++◌, length, option_to_list, Option, None, Some, IfSome, vec_len}
+use Rattle.std.specs.Vec.{vec_capacity}
+use Rattle.std.specs.List.{AllByRecursion}
+use Rattle.alerts.specs.declared.alert.Alert.{Alert}
+use Rattle.asks.specs.declared.kept.KeptReply.{KeptReply}
+use Rattle.call_json.specs.Forms.{FloorsRise}
+use Rattle.deferrals.specs.Held.{OpenDeferrals, IsNewest}
+use Rattle.deferrals.specs.declared.items.Deferral.{Deferral}
+use Rattle.facts.specs.Reading.{IsRead}
+use Rattle.facts.specs.Reports.{Admissions, room_for}
+use Rattle.facts.specs.declared.report.Report.{Report}
+use Rattle.held_releases.specs.Changes.{MayChange}
+use Rattle.held_releases.specs.declared.change.OnReleases.{OnReleases}
+use Rattle.held_releases.specs.declared.change.OnReleases.TheVariants as on_releases
+use Rattle.desk_state.specs.Contents.{Held, RoomFor, state_of}
+use Rattle.desk_state.specs.Events.{effected, put_changes}
+use Rattle.desk_state.specs.State.{State}
+use Rattle.desk_state.specs.Step.{counted}
+use Rattle.desk_state.specs.declared.change.AlertChange.{AlertChange}
+use Rattle.desk_state.specs.declared.effect.Effect.{Effect}
+use Rattle.desk_state.specs.declared.effect.OnDeferrals.{OnDeferrals}
+use Rattle.desk_state.specs.declared.effect.OnDeferrals.TheVariants as on_deferrals
+use Rattle.desk_state.specs.declared.event.Event.{Event}
+use Rattle.desk_state.specs.declared.holdings.Holdings.{Holdings}
+
+-- ---- the state once it is there
+
+abbrev pub with_event : Event → State → State
+with_event e s = record (effected e.effect s) {
+  counters = counted e.entered.what (effected e.effect s).counters;
+  alerts = put_changes e.changes.items s.alerts;
+  kept = (effected e.effect s).kept ++ option_to_list e.kept;
+  entries = (effected e.effect s).entries ++ e.entered ∷ [];
+}
+
+abbrev pub with_events : Option Event → State → State
+with_events None s = s
+with_events (Some e) s = with_event e s
+
+-- the state once its alerts are judged anew, after so many events
+abbrev pub with_judged : List AlertChange → ℕ → State → State
+with_judged changes events s = record s { counters = record s.counters { events = events }; alerts = put_changes changes s.alerts }
+
+-- ---- what may be made
+
+-- a number after which there is another one
+abbrev pub IsSmall : ℕ → Type 0
+IsSmall n = n < 10_000_000_000_000_000
+
+-- a report that may be admitted: its id is above all others, it is canonical, and its reading that of its text
+pub record MayAdmit (held : List Report) (r : Report) : Type 0 where
+  pub above : All (λ other. other.id < r.id) held
+  pub read : IsRead r
+  pub small : IsSmall r.id
+
+-- a deferral that may be added: its id is above all others, and there are fewer than 50,000
+pub record MayAdd (held : List Deferral) (d : Deferral) : Type 0 where
+  pub newest : IsNewest d.id held
+  pub few : length held < 50_000
+  pub small : IsSmall d.id
+
+abbrev pub MayDefer : List Deferral → OnDeferrals → Type 0
+MayDefer held on_deferrals.Nothing = Unit {0}
+MayDefer held (on_deferrals.Open d) = MayAdd held d
+MayDefer held (on_deferrals.Clear id) = Unit {0}
+
+abbrev pub IsSmallRelease : OnReleases → Type 0
+IsSmallRelease on_releases.Nothing = Unit {0}
+IsSmallRelease (on_releases.File r) = IsSmall r.id
+IsSmallRelease (on_releases.Put r) = Unit {0}
+IsSmallRelease (on_releases.Remove id) = Unit {0}
+
+-- an effect that may be made
+pub record MayBeMade (s : State) (e : Effect) : Type 0 where
+  pub report : IfSome e.report (MayAdmit s.reports)
+  pub deferral : MayDefer s.deferrals e.on_deferrals
+  pub change : MayChange e.on_releases s.releases
+  pub release : IsSmallRelease e.on_releases
+  pub floors : IfSome e.sweep (λ w. FloorsRise w.floors)
+
+-- an alert is that of a release
+abbrev pub IsOf : ℕ → Alert → Type 0
+IsOf id a = a.release ≡ id
+
+-- what stands after a change of the alert of a release is one of it
+abbrev pub IsOwn : AlertChange → Type 0
+IsOwn c = IfSome c.after (IsOf c.release)
+
+-- what is kept has the next id
+abbrev pub IsNextReply : State → KeptReply → Type 0
+IsNextReply s k = k.id ≡ s.counters.next_kept
+
+-- its id is above those of all that is kept
+abbrev pub IsLatest : KeptReply → List KeptReply → Type 0
+IsLatest k kept = All (λ other. other.id < k.id) kept
+
+-- ---- what needs no memory
+
+abbrev pub room_of : Effect → ℕ → RoomFor
+room_of e more = record { effect = e; more = more }
+
+-- the room that an event needs
+abbrev pub room_for_event : Event → RoomFor
+room_for_event e = room_of e.effect (length e.changes.items)
+
+abbrev pub HasReportRoom : Admissions → Option Report → Type 0
+HasReportRoom held report = IfSome report (λ r. held.room ≡ Some (room_for r))
+
+abbrev pub HasOneMore : OpenDeferrals → OnDeferrals → Type 0
+HasOneMore held on_deferrals.Nothing = Unit {0}
+HasOneMore held (on_deferrals.Open d) = held.room ≡ true
+HasOneMore held (on_deferrals.Clear id) = Unit {0}
+
+-- there is room for an entry, for a kept reply, for some more alerts, and for what an effect changes
+pub record HasRoom (p : Holdings) (r : RoomFor) : Type 0 where
+  pub entries : vec_len p.entries < vec_capacity p.entries
+  pub replies : IsTrue p.replies.room
+  pub alerts : r.more ≤ p.alerts.room
+  pub report : HasReportRoom p.reports r.effect.report
+  pub deferral : HasOneMore p.deferrals r.effect.on_deferrals
+  pub release : p.releases.room ≡ Some r.effect.on_releases
+  pub may : MayBeMade (state_of p) r.effect
+
+-- an event for which there is room, with the alerts of its releases and the next reply
+pub record MayPut (h : Held) (e : Event) : Type 0 where
+  pub room : h.room ≡ Some (room_for_event e)
+  pub own : AllByRecursion IsOwn e.changes.items
+  pub kept : IfSome e.kept (IsNextReply h.state)

@@ -1,0 +1,72 @@
+ghost use Rattle.std.specs.Prelude.{◌≡◌, Some, None, OnOk};
+ghost use Rattle.desk_state.specs.Contents.{held};
+ghost use Rattle.desk_state.specs.Holds.{Holds};
+ghost use Rattle.desk_state.specs.Install.{MayBeMade, MayPut, room_of, with_event};
+ghost use Rattle.desk_state.specs.Sound.{Sound};
+
+use crate::content::Content;
+use crate::effect::Effect;
+use crate::event::Event;
+use desk_io::OutOfMemory;
+use std::alloc::Global;
+use std::marker::Model;
+
+/// What the desk holds, once its alerts are judged: each active release has no alert and fails no rule, or one alert
+/// that names exactly the rules that it fails.
+#[derive(Drop)]
+pub struct Alerted {
+    content: Content,
+}
+
+impl Model for Alerted {
+    ghost use Rattle.desk_state.specs.Contents.{Held};
+    ghost use Rattle.desk_state.specs.Sound.{Sound};
+
+    ghost Value = { Held };
+
+    ghost view = { λ a. a.content };
+
+    ghost invariant = { λ a. Sound a.content.state };
+}
+
+impl Alerted {
+    /// What is held, whose alerts are judged.
+    pub fn of(content: Content) -> Alerted
+        requires { Sound content.state }
+        ensures { result ≡ content }
+    {
+        Alerted { content }
+    }
+
+    /// What is held.
+    pub fn content(&self) -> &Content
+        ensures value { result.now ≡ self.now }
+        ensures sound { Sound self.now.state }
+    {
+        &self.content
+    }
+
+    /// Takes all memory that an event needs which changes some alerts. What is held stays as it is.
+    pub fn reserve(
+        &mut self,
+        alloc: Global,
+        effect: &Effect,
+        more: usize,
+    ) -> Result<(), OutOfMemory>
+        requires { MayBeMade self.old.state effect.now }
+        ensures same { self.new.state ≡ self.old.state }
+        ensures room { OnOk result (self.new.room ≡ Some (room_of effect.now more)) }
+    {
+        self.content.reserve(alloc, effect, more)
+    }
+
+    /// Puts an event in place, for which there is room. It takes no memory.
+    pub fn install(&mut self, event: Event)
+        requires may { MayPut self.old event }
+        requires sound { Sound (with_event event self.old.state) }
+        requires holds { Holds (with_event event self.old.state) }
+        ensures { self.new ≡ held (with_event event self.old.state) None }
+    {
+        self.content.install(event);
+    }
+}
