@@ -1,13 +1,26 @@
 -- What is known of a release that is held.
-use Rattle.std.proofs.Common.{ℕ, ◌≤◌, Option, None, Some, IfSome, arith}
+use Rattle.std.proofs.Common.{◌≡◌, ℕ, ◌≤◌, ◌==◌, List, [], ◌∷◌, Option, None, Some, IfSome, arith, sym, subst}
+use Rattle.std.specs.List.{AllByRecursion}
 use Rattle.plan.specs.declared.release.Phase.{Phase}
 use Rattle.plan.specs.declared.release.Release.{Release}
 use Rattle.plan.specs.declared.release.Revision.{Revision}
-use Rattle.desk_state.specs.Sound.{InBounds, Fits, RevisionInBounds}
+use Rattle.desk_state.specs.Holds.{Holds}
+use Rattle.desk_state.specs.Sound.{InBounds, Fits, MayStand, ReleaseInBounds, RevisionInBounds}
 use Rattle.release_text.specs.Valid.{HasLegs}
-use Rattle.desk_state.specs.State.{State}
+use Rattle.desk_state.specs.State.{State, release_at}
 use Rattle.desk_state.specs.Texts.{newest}
+use Rattle.desk_state.proofs.Each.{found_each}
 use Rattle.decisions.specs.Newest.{IsNewest, HasNewest}
+
+all_fit : (most : ℕ) (rs : List Release) → AllByRecursion (MayStand most) rs → AllByRecursion ReleaseInBounds rs → AllByRecursion (Fits most) rs
+all_fit most [] valid kept = tt
+all_fit most (r ∷ rs) valid kept = (record { stands = valid.0; kept = kept.0 }, all_fit most rs valid.1 kept.1)
+
+-- a release that is found may be held
+pub found_fits : (s : State) (id : ℕ) (o : Option Release) → o ≡ release_at id s.releases → Holds s → IfSome o (Fits s.counters.events)
+found_fits s id o is holds =
+    subst (λ (p : Option Release). IfSome p (Fits s.counters.events)) (sym is)
+    (found_each (Fits s.counters.events) (λ r. r.id == id) s.releases (all_fit s.counters.events s.releases holds.valid holds.bounds.releases))
 
 newest_by : (most : ℕ) (phase : Phase) (pending active : Option Revision) → most ≤ 999_999_999_999_999 → IfSome pending (λ v. v.number ≤ most) → IfSome active (λ v. v.number ≤ most)
     → IfSome pending (HasLegs phase) → IfSome active (HasLegs phase) → IfSome pending RevisionInBounds → IfSome active RevisionInBounds

@@ -1,5 +1,5 @@
 -- Floors that rise at one place.
-use Rattle.std.specs.Prelude.{ℕ, ◌+◌, Bool, true, false, max, List, [], ◌∷◌, ◌++◌, take, drop}
+use Rattle.std.specs.Prelude.{ℕ, Bool, true, false, max, List, [], ◌∷◌, ◌++◌, take, drop}
 use Rattle.asks.specs.declared.kept.Floor.{Floor}
 use Rattle.desk_state.specs.Requests.{floor}
 

@@ -1,7 +1,5 @@
 ghost use Rattle.std.specs.Prelude.{IfOk};
-ghost use Rattle.desk_state.specs.Contents.{state_of};
 ghost use Rattle.desk_state.specs.Decide as spec;
-ghost use Rattle.desk_state.specs.Sound.{Sound, InBounds};
 ghost use Rattle.decisions.specs.Answers.{Answers, Passes};
 ghost use Rattle.decisions.specs.Reads.{DecisionAdmitsRead};
 
@@ -14,7 +12,7 @@ use desk_state::{Content, Decision, Effect};
 use std::alloc::Global;
 
 fn alert_of(content: &Content, release: u64) -> Result<&Alert, Stop>
-    ensures { Answers (λ a. a.now) result (spec.alert_of (state_of content.now) release) }
+    ensures { Answers (λ a. a.now) result (spec.alert_of content.now.state release) }
 {
     match content.alert(release) {
         None => Err(Stop::Refused(Refusal::NoSuchAlert)),
@@ -41,9 +39,7 @@ pub(crate) fn acknowledge(
     id: u64,
     version: u64,
 ) -> Result<Decision, Stop>
-    requires sound { Sound (state_of content.now) }
-    requires kept { InBounds (state_of content.now) }
-    ensures value { Answers (λ d. d) result (spec.decide_acknowledge (state_of content.now) actor.now id version) }
+    ensures value { Answers (λ d. d) result (spec.decide_acknowledge content.now.state actor.now id version) }
     ensures read { IfOk result DecisionAdmitsRead }
 {
     let release = held(content, id)?;

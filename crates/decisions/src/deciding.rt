@@ -1,10 +1,8 @@
 ghost use Rattle.std.specs.Prelude.{◌≡◌, ◌≤◌, ◌+◌, false, IfOk};
 ghost use Rattle.asks.specs.Forms.{IsCall};
-ghost use Rattle.desk_state.specs.Contents.{state_of};
 ghost use Rattle.desk_state.specs.Counting.{to_decide};
 ghost use Rattle.desk_state.specs.Decide as spec;
 ghost use Rattle.desk_state.specs.Decide.{decide};
-ghost use Rattle.desk_state.specs.Sound.{Sound, InBounds};
 ghost use Rattle.decisions.specs.Answers.{Answers};
 ghost use Rattle.decisions.specs.Reads.{DecisionAdmitsRead};
 
@@ -14,7 +12,7 @@ use crate::drafts::{amend, cancel, draft, prepare};
 use crate::equipment::{clear, defer, view_deferred};
 use crate::flights::{arrive, depart};
 use crate::people::not_his_role;
-use crate::repeats::{above_floor, floor_at, kept_at, repeated};
+use crate::repeats::{above_floor, repeated};
 use crate::reports::{admit, view_weather};
 use crate::retention::purge;
 use crate::shown::{view_alerts, view_board, view_release};
@@ -33,10 +31,8 @@ fn decide_ask<L: Ledger>(
     call: &Call,
     steps: &mut Steps<L>,
 ) -> Result<Decision, Stop>
-    requires sound { Sound (state_of content.now) }
-    requires kept { InBounds (state_of content.now) }
     requires call { IsCall call.now.ask }
-    ensures value { Answers (λ d. d) result (spec.decide_ask (state_of content.now) call.now.actor call.now.ask) }
+    ensures value { Answers (λ d. d) result (spec.decide_ask content.now.state call.now.actor call.now.ask) }
     ensures read { IfOk result DecisionAdmitsRead }
     ensures steps { steps.new ≤ steps.old + to_decide call.now.ask }
 {
@@ -94,18 +90,16 @@ fn decide_command<L: Ledger>(
     call: &Call,
     steps: &mut Steps<L>,
 ) -> Result<Decision, Stop>
-    requires sound { Sound (state_of content.now) }
-    requires kept { InBounds (state_of content.now) }
     requires call { IsCall call.now.ask }
-    ensures value { Answers (λ d. d) result (spec.decide_numbered false (state_of content.now) call.now) }
+    ensures value { Answers (λ d. d) result (spec.decide_numbered false content.now.state call.now) }
     ensures read { IfOk result DecisionAdmitsRead }
     ensures steps { steps.new ≤ steps.old + to_decide call.now.ask }
 {
-    match kept_at(&content.kept, call.actor.bytes(), call.number) {
+    let actor = call.actor.bytes();
+    match content.replies().kept_at(actor, call.number) {
         Some(reply) => repeated(reply, &ask_digest(alloc, &call.ask)?),
         None => {
-            let floor = floor_at(content.floors.as_slice(), call.actor.bytes());
-            above_floor(floor, call.number)?;
+            above_floor(content.replies().floor_at(actor), call.number)?;
             decide_ask(alloc, content, call, steps)
         }
     }
@@ -121,14 +115,12 @@ pub fn decide<L: Ledger>(
     call: &Call,
     steps: &mut Steps<L>,
 ) -> Result<Decision, Stop>
-    requires sound { Sound (state_of content.now) }
-    requires kept { InBounds (state_of content.now) }
     requires call { IsCall call.now.ask }
-    ensures value { Answers (λ d. d) result (decide (state_of content.now) call.now) }
+    ensures value { Answers (λ d. d) result (decide content.now.state call.now) }
     ensures read { IfOk result DecisionAdmitsRead }
     ensures steps { steps.new ≤ steps.old + to_decide call.now.ask }
 {
-    not_his_role(content.tables.actor(call.actor.bytes()), &call.ask)?;
+    not_his_role(content.tables().actor(call.actor.bytes()), &call.ask)?;
     if is_view(&call.ask) {
         decide_ask(alloc, content, call, steps)
     } else {

@@ -1,9 +1,7 @@
 ghost use Rattle.std.specs.Prelude.{◌≡◌, ◌<◌, ◌≤◌, IfOk, IfSome};
 ghost use Rattle.std.specs.Option.{option_copied};
 ghost use Rattle.plan.specs.Check.{IsPlan, plan_fault};
-ghost use Rattle.desk_state.specs.Contents.{state_of};
 ghost use Rattle.desk_state.specs.Decide as spec;
-ghost use Rattle.desk_state.specs.Sound.{Sound, InBounds};
 ghost use Rattle.desk_state.specs.Texts as texts;
 ghost use Rattle.decisions.specs.Answers.{Answers, Passes};
 ghost use Rattle.decisions.specs.Newest.{IsNewest, HasNewest};
@@ -13,7 +11,8 @@ use crate::chain::{Stop, refused_if};
 use crate::releases::{held, in_phase, not_yours, out_of_phase, pending, with_pending};
 use asks::{Done, Refusal};
 use desk_io::{Copied, Listed, OutOfMemory, Text};
-use desk_state::{Content, Decision, Effect, RELEASE_LIMIT};
+use desk_state::{Content, Decision, Effect};
+use held_releases::RELEASE_LIMIT;
 use ops_tables::Tables;
 use plan::{BadPlan, Phase, Plan, Release, Revision, check_change, check_plan};
 use release_text::{attach, revision_digest};
@@ -116,23 +115,23 @@ fn with_weather(
     revision: &Revision,
 ) -> Result<Revision, OutOfMemory>
     requires { IsPlan revision.now.plan }
-    ensures value { IfOk result (λ v. v ≡ spec.with_weather (state_of content.now) phase revision.now) }
+    ensures value { IfOk result (λ v. v ≡ spec.with_weather content.now.state phase revision.now) }
     ensures is_plan { IfOk result (λ v. IsPlan v.plan) }
 {
     Ok(Revision {
         number: revision.number,
         plan: revision.plan.copy(alloc)?,
         prepared: true,
-        attached: attach(alloc, &content.reports, &revision.plan, phase)?,
+        attached: attach(alloc, content.reports(), &revision.plan, phase)?,
         dispatcher: None,
         captain: None,
     })
 }
 
 fn releases_full(content: &Content) -> Result<(), Stop>
-    ensures { Passes result (spec.releases_full (state_of content.now)) }
+    ensures { Passes result (spec.releases_full content.now.state) }
 {
-    let held = content.releases.len();
+    let held = content.releases().len();
     refused_if(
         held >= RELEASE_LIMIT,
         Refusal::ReleasesFull { held: held as u64 },
@@ -147,12 +146,12 @@ pub(crate) fn draft(
     plan: &Plan,
 ) -> Result<Decision, Stop>
     requires { IsPlan plan.now }
-    ensures value { Answers (λ d. d) result (spec.decide_draft (state_of content.now) actor.now plan.now) }
+    ensures value { Answers (λ d. d) result (spec.decide_draft content.now.state actor.now plan.now) }
     ensures read { IfOk result DecisionAdmitsRead }
 {
-    bad_plan(plan, &content.tables)?;
+    bad_plan(plan, content.tables())?;
     releases_full(content)?;
-    let id = content.counters.next_release;
+    let id = content.counters().next_release;
     let release = drafted(alloc, id, actor, plan)?;
     Ok(Decision::Do(
         Done::Filed {
@@ -170,9 +169,7 @@ pub(crate) fn prepare(
     actor: &Text,
     id: u64,
 ) -> Result<Decision, Stop>
-    requires sound { Sound (state_of content.now) }
-    requires kept { InBounds (state_of content.now) }
-    ensures value { Answers (λ d. d) result (spec.decide_prepare (state_of content.now) actor.now id) }
+    ensures value { Answers (λ d. d) result (spec.decide_prepare content.now.state actor.now id) }
     ensures read { IfOk result DecisionAdmitsRead }
 {
     let release = held(content, id)?;
@@ -197,16 +194,14 @@ pub(crate) fn amend(
     id: u64,
     plan: &Plan,
 ) -> Result<Decision, Stop>
-    requires sound { Sound (state_of content.now) }
-    requires kept { InBounds (state_of content.now) }
     requires plan { IsPlan plan.now }
-    ensures value { Answers (λ d. d) result (spec.decide_amend (state_of content.now) actor.now id plan.now) }
+    ensures value { Answers (λ d. d) result (spec.decide_amend content.now.state actor.now id plan.now) }
     ensures read { IfOk result DecisionAdmitsRead }
 {
     let release = held(content, id)?;
     out_of_phase(may_change(release.phase), release.phase)?;
     not_yours(alloc, &release.holder, actor)?;
-    bad_plan(plan, &content.tables)?;
+    bad_plan(plan, content.tables())?;
     let newest = newest(release);
     bad_change(plan, newest, release.phase)?;
     let number = newest_number(newest, release.phase) + 1;
@@ -225,15 +220,15 @@ pub(crate) fn cancel(
     actor: &Text,
     id: u64,
 ) -> Result<Decision, Stop>
-    requires sound { Sound (state_of content.now) }
-    requires kept { InBounds (state_of content.now) }
-    ensures value { Answers (λ d. d) result (spec.decide_cancel (state_of content.now) actor.now id) }
+    ensures value { Answers (λ d. d) result (spec.decide_cancel content.now.state actor.now id) }
     ensures read { IfOk result DecisionAdmitsRead }
 {
     let release = held(content, id)?;
     out_of_phase(may_change(release.phase), release.phase)?;
     not_yours(alloc, &release.holder, actor)?;
-    let phase = Phase::Cancelled { at: content.moment };
+    let phase = Phase::Cancelled {
+        at: content.moment(),
+    };
     let made = Done::Release(release.id);
     let release = in_phase(alloc, release, phase)?;
     Ok(Decision::Do(made, Effect::put_afresh(release)))

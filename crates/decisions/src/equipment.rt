@@ -1,15 +1,11 @@
 ghost use Rattle.std.specs.Prelude.{◌≡◌, IfOk};
-ghost use Rattle.std.specs.List.{list_any};
-ghost use Rattle.deferrals.specs.Held.{has_id};
-ghost use Rattle.desk_state.specs.Contents.{state_of};
 ghost use Rattle.desk_state.specs.Decide as spec;
-ghost use Rattle.desk_state.specs.Sound.{InBounds};
 ghost use Rattle.decisions.specs.Answers.{Answers, Passes};
 ghost use Rattle.decisions.specs.Reads.{DecisionAdmitsRead};
 
 use crate::chain::{Stop, refused_if};
 use asks::{Done, Refusal, Reply};
-use deferrals::{DEFERRAL_LIMIT, Deferral, open_on};
+use deferrals::{DEFERRAL_LIMIT, Deferral};
 use desk_io::{Copied, OutOfMemory, Text};
 use desk_state::{Content, Decision, Effect};
 use desk_time::Minute;
@@ -18,52 +14,46 @@ use std::alloc::Global;
 use views::deferral_lines;
 
 fn aircraft<'a>(content: &'a Content, tail: &[u8]) -> Result<&'a TypeRow, Stop>
-    ensures { Answers (λ k. k.now) result (spec.aircraft (state_of content.now) tail.now) }
+    ensures { Answers (λ k. k.now) result (spec.aircraft content.now.state tail.now) }
 {
-    match content.tables.type_of(tail) {
+    match content.tables().type_of(tail) {
         None => Err(Stop::Refused(Refusal::UnknownTail)),
         Some(kind) => Ok(kind),
     }
 }
 
 fn unlisted(content: &Content, kind: &TypeRow, item: &[u8]) -> Result<(), Stop>
-    ensures { Passes result (spec.unlisted (state_of content.now) kind.now item.now) }
+    ensures { Passes result (spec.unlisted content.now.state kind.now item.now) }
 {
-    let row = content.tables.item(kind.kind.bytes(), item);
+    let row = content.tables().item(kind.kind.bytes(), item);
     refused_if(row.is_none(), Refusal::UnknownItem)
 }
 
 fn found_later(content: &Content, found: Minute) -> Result<(), Stop>
-    ensures { Passes result (spec.found_later (state_of content.now) found) }
+    ensures { Passes result (spec.found_later content.now.state found) }
 {
     refused_if(
-        content.moment < found,
+        content.moment() < found,
         Refusal::BadFound {
-            moment: content.moment,
+            moment: content.moment(),
         },
     )
 }
 
 fn deferrals_full(content: &Content) -> Result<(), Stop>
-    ensures { Passes result (spec.deferrals_full (state_of content.now)) }
+    ensures { Passes result (spec.deferrals_full content.now.state) }
 {
-    let held = content.deferrals.as_slice().len();
+    let held = content.deferrals().as_slice().len();
     refused_if(
         held >= DEFERRAL_LIMIT,
         Refusal::DeferralsFull { held: held as u64 },
     )
 }
 
-fn has_deferral(deferrals: &[Deferral], id: u64) -> bool
-    ensures { result ≡ list_any (has_id id) deferrals.now }
-{
-    deferrals.iter().any(|deferral| deferral.id == id)
-}
-
 fn not_open(content: &Content, id: u64) -> Result<(), Stop>
-    ensures { Passes result (spec.not_open (state_of content.now) id) }
+    ensures { Passes result (spec.not_open content.now.state id) }
 {
-    let is_open = has_deferral(content.deferrals.as_slice(), id);
+    let is_open = content.deferrals().has(id);
     refused_if(!is_open, Refusal::NoSuchDeferral)
 }
 
@@ -75,14 +65,14 @@ fn new_deferral(
     found: Minute,
 ) -> Result<Deferral, OutOfMemory>
     ensures { IfOk result (λ d. d ≡ record {
-      id = (state_of content.now).counters.next_deferral;
+      id = content.now.state.counters.next_deferral;
       tail = tail.now;
       item = item.now;
       found = found;
     }) }
 {
     Ok(Deferral {
-        id: content.counters.next_deferral,
+        id: content.counters().next_deferral,
         tail: tail.copy(alloc)?,
         item: item.copy(alloc)?,
         found,
@@ -97,7 +87,7 @@ pub(crate) fn defer(
     item: &Text,
     found: Minute,
 ) -> Result<Decision, Stop>
-    ensures value { Answers (λ d. d) result (spec.decide_defer (state_of content.now) tail.now item.now found) }
+    ensures value { Answers (λ d. d) result (spec.decide_defer content.now.state tail.now item.now found) }
     ensures read { IfOk result DecisionAdmitsRead }
 {
     let kind = aircraft(content, tail.bytes())?;
@@ -106,14 +96,14 @@ pub(crate) fn defer(
     deferrals_full(content)?;
     let deferral = new_deferral(alloc, content, tail, item, found)?;
     Ok(Decision::Do(
-        Done::Deferral(content.counters.next_deferral),
+        Done::Deferral(content.counters().next_deferral),
         Effect::defer(deferral),
     ))
 }
 
 /// A deferred item is repaired.
 pub(crate) fn clear(content: &Content, deferral: u64) -> Result<Decision, Stop>
-    ensures value { Answers (λ d. d) result (spec.decide_clear (state_of content.now) deferral) }
+    ensures value { Answers (λ d. d) result (spec.decide_clear content.now.state deferral) }
     ensures read { IfOk result DecisionAdmitsRead }
 {
     not_open(content, deferral)?;
@@ -122,12 +112,12 @@ pub(crate) fn clear(content: &Content, deferral: u64) -> Result<Decision, Stop>
 
 /// The open deferrals of an aircraft.
 pub(crate) fn view_deferred(alloc: Global, content: &Content, tail: &Text) -> Result<Decision, Stop>
-    requires { InBounds (state_of content.now) }
-    ensures value { Answers (λ d. d) result (spec.decide_deferred (state_of content.now) tail.now) }
+    ensures value { Answers (λ d. d) result (spec.decide_deferred content.now.state tail.now) }
     ensures read { IfOk result DecisionAdmitsRead }
 {
+    content.holds();
     let kind = aircraft(content, tail.bytes())?;
-    let open = open_on(alloc, content.deferrals.as_slice(), tail.bytes())?;
-    let text = deferral_lines(alloc, &content.tables, kind.kind.bytes(), &open)?;
+    let open = content.deferrals().open_on(alloc, tail.bytes())?;
+    let text = deferral_lines(alloc, content.tables(), kind.kind.bytes(), &open)?;
     Ok(Decision::Show(Reply::Seen(text)))
 }

@@ -1,8 +1,7 @@
 ghost use Rattle.std.specs.Prelude.{◌≡◌, ◌≤◌, ◌<◌, ◌+◌, IsTrue, IfOk, IfSome};
 ghost use Rattle.std.specs.Option.{option_copied};
-ghost use Rattle.desk_state.specs.Contents.{state_of};
 ghost use Rattle.desk_state.specs.Decide as spec;
-ghost use Rattle.desk_state.specs.Sound.{Sound, InBounds, ReleaseInBounds, RevisionInBounds};
+ghost use Rattle.desk_state.specs.Sound.{ReleaseInBounds, RevisionInBounds};
 ghost use Rattle.decisions.specs.Answers.{Answers, Passes};
 ghost use Rattle.decisions.specs.Reads.{DecisionAdmitsRead};
 
@@ -57,7 +56,7 @@ fn fails_now<L: Ledger>(
     steps: &mut Steps<L>,
 ) -> Result<(), Stop>
     requires { ReleaseInBounds release.now }
-    ensures passes { Passes result (spec.fails_now (state_of content.now) release.now) }
+    ensures passes { Passes result (spec.fails_now content.now.state release.now) }
     ensures steps { steps.new ≤ steps.old + 1 }
 {
     match &release.active {
@@ -113,15 +112,13 @@ pub(crate) fn depart<L: Ledger>(
     leg: u32,
     steps: &mut Steps<L>,
 ) -> Result<Decision, Stop>
-    requires sound { Sound (state_of content.now) }
-    requires kept { InBounds (state_of content.now) }
-    ensures value { Answers (λ d. d) result (spec.decide_depart (state_of content.now) actor.now id leg) }
+    ensures value { Answers (λ d. d) result (spec.decide_depart content.now.state actor.now id leg) }
     ensures read { IfOk result DecisionAdmitsRead }
     ensures steps { steps.new ≤ steps.old + 1 }
 {
     let release = held(content, id)?;
     out_of_phase(may_depart(release.phase, leg), release.phase)?;
-    let person = content.tables.actor(actor.bytes());
+    let person = content.tables().actor(actor.bytes());
     not_yours(alloc, flies_by(person, release), actor)?;
     fails_now(alloc, content, release, steps)?;
     let made = Done::Release(release.id);
@@ -137,14 +134,12 @@ pub(crate) fn arrive(
     id: u64,
     leg: u32,
 ) -> Result<Decision, Stop>
-    requires sound { Sound (state_of content.now) }
-    requires kept { InBounds (state_of content.now) }
-    ensures value { Answers (λ d. d) result (spec.decide_arrive (state_of content.now) actor.now id leg) }
+    ensures value { Answers (λ d. d) result (spec.decide_arrive content.now.state actor.now id leg) }
     ensures read { IfOk result DecisionAdmitsRead }
 {
     let release = held(content, id)?;
     out_of_phase(is_flying(release.phase, leg), release.phase)?;
-    let person = content.tables.actor(actor.bytes());
+    let person = content.tables().actor(actor.bytes());
     not_yours(alloc, flies_by(person, release), actor)?;
-    Ok(arrival(alloc, release, leg, content.moment)?)
+    Ok(arrival(alloc, release, leg, content.moment())?)
 }

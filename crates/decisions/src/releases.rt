@@ -1,8 +1,7 @@
 ghost use Rattle.std.specs.Prelude.{◌≡◌, None, Some, IfOk, IfSome};
 ghost use Rattle.std.specs.Option.{option_copied};
-ghost use Rattle.desk_state.specs.Contents.{state_of};
 ghost use Rattle.desk_state.specs.Decide as spec;
-ghost use Rattle.desk_state.specs.Sound.{Sound, InBounds, Fits, ReleaseInBounds, RevisionInBounds};
+ghost use Rattle.desk_state.specs.Sound.{Fits, ReleaseInBounds, RevisionInBounds};
 ghost use Rattle.desk_state.specs.State.{release_at};
 ghost use Rattle.decisions.specs.Answers.{Answers, Passes};
 ghost use Rattle.decisions.specs.Newest.{HasNewest};
@@ -15,21 +14,18 @@ use plan::{Phase, Release, Revision};
 use std::alloc::Global;
 
 fn find(content: &Content, id: u64) -> Option<&Release>
-    requires sound { Sound (state_of content.now) }
-    requires kept { InBounds (state_of content.now) }
-    ensures value { option_copied result ≡ release_at id (state_of content.now).releases }
-    ensures fits { IfSome (option_copied result) (Fits (state_of content.now).counters.events) }
+    ensures value { option_copied result ≡ release_at id content.now.state.releases }
+    ensures fits { IfSome (option_copied result) (Fits content.now.state.counters.events) }
     ensures newest { IfSome (option_copied result) HasNewest }
 {
+    content.holds();
     content.release(id)
 }
 
 /// The release of an id.
 pub(crate) fn held(content: &Content, id: u64) -> Result<&Release, Stop>
-    requires sound { Sound (state_of content.now) }
-    requires kept { InBounds (state_of content.now) }
-    ensures value { Answers (λ r. r.now) result (spec.held (state_of content.now) id) }
-    ensures fits { IfOk result (λ r. Fits (state_of content.now).counters.events r.now) }
+    ensures value { Answers (λ r. r.now) result (spec.held content.now.state id) }
+    ensures fits { IfOk result (λ r. Fits content.now.state.counters.events r.now) }
     ensures newest { IfOk result (λ r. HasNewest r.now) }
 {
     match find(content, id) {

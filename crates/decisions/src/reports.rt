@@ -2,8 +2,6 @@ ghost use Rattle.std.specs.Prelude.{◌≡◌, ℕ, IfOk};
 ghost use Rattle.codes.specs.Groups.{groups_of, canonical};
 ghost use Rattle.facts.specs.Reading.{read_of, report_of, IsRead};
 ghost use Rattle.facts.specs.Same.{same_id, minute_of_read};
-ghost use Rattle.desk_time.specs.Limits.{IsMoment};
-ghost use Rattle.desk_state.specs.Contents.{state_of};
 ghost use Rattle.desk_state.specs.Decide as spec;
 ghost use Rattle.decisions.specs.Answers.{Answers, Passes};
 ghost use Rattle.decisions.specs.Reads.{DecisionAdmitsRead};
@@ -31,12 +29,12 @@ fn refusal_for(bad: BadReport) -> Refusal
 }
 
 fn received(alloc: Global, content: &Content, text: &[u8]) -> Result<Received, Stop>
-    requires { IsMoment content.now.moment }
-    ensures value { Answers (λ r. r.read) result (spec.reading_or (read_of text.now (state_of content.now).moment)) }
+    ensures value { Answers (λ r. r.read) result (spec.reading_or (read_of text.now content.now.state.moment)) }
     ensures text { IfOk result (λ r. r.text ≡ canonical (groups_of text.now)) }
-    ensures read { IfOk result (λ r. (id : ℕ) → IsRead (report_of id content.now.moment r)) }
+    ensures read { IfOk result (λ r. (id : ℕ) → IsRead (report_of id content.now.state.moment r)) }
 {
-    match receive(alloc, text, content.moment) {
+    content.holds();
+    match receive(alloc, text, content.moment()) {
         Ok(received) => Ok(received),
         Err(ReportFault::Bad(bad)) => Err(Stop::Refused(refusal_for(bad))),
         Err(ReportFault::OutOfMemory) => Err(Stop::OutOfMemory),
@@ -44,18 +42,18 @@ fn received(alloc: Global, content: &Content, text: &[u8]) -> Result<Received, S
 }
 
 fn no_airport(content: &Content, station: Station) -> Result<(), Stop>
-    ensures { Passes result (spec.no_airport (state_of content.now) station) }
+    ensures { Passes result (spec.no_airport content.now.state station) }
 {
     refused_if(
-        content.tables.airport(station).is_none(),
+        content.tables().airport(station).is_none(),
         Refusal::NoSuchStation,
     )
 }
 
 fn reports_full(content: &Content) -> Result<(), Stop>
-    ensures { Passes result (spec.reports_full (state_of content.now)) }
+    ensures { Passes result (spec.reports_full content.now.state) }
 {
-    let held = content.reports.len();
+    let held = content.reports().len();
     refused_if(
         held >= HELD_LIMIT,
         Refusal::ReportsFull { held: held as u64 },
@@ -63,16 +61,16 @@ fn reports_full(content: &Content) -> Result<(), Stop>
 }
 
 fn admit_new(content: &Content, received: Received) -> Result<Decision, Stop>
-    requires { (id : ℕ) → IsRead (report_of id content.now.moment received) }
-    ensures value { Answers (λ d. d) result (spec.admit_new (state_of content.now) received.text received.read) }
+    requires { (id : ℕ) → IsRead (report_of id content.now.state.moment received) }
+    ensures value { Answers (λ d. d) result (spec.admit_new content.now.state received.text received.read) }
     ensures read { IfOk result DecisionAdmitsRead }
 {
     reports_full(content)?;
-    let id = content.counters.next_report;
+    let id = content.counters().next_report;
     let Received { text, read } = received;
     let report = Report {
         id,
-        received: content.moment,
+        received: content.moment(),
         text,
         read,
     };
@@ -80,13 +78,13 @@ fn admit_new(content: &Content, received: Received) -> Result<Decision, Stop>
 }
 
 fn admit_received(content: &Content, received: Received) -> Result<Decision, Stop>
-    requires { (id : ℕ) → IsRead (report_of id content.now.moment received) }
-    ensures value { Answers (λ d. d) result (spec.admit_read (same_id (state_of content.now).reports received.text
-        (minute_of_read received.read)) (state_of content.now) received.text received.read) }
+    requires { (id : ℕ) → IsRead (report_of id content.now.state.moment received) }
+    ensures value { Answers (λ d. d) result (spec.admit_read (same_id content.now.state.reports received.text
+        (minute_of_read received.read)) content.now.state received.text received.read) }
     ensures read { IfOk result DecisionAdmitsRead }
 {
     let same = content
-        .reports
+        .reports()
         .same(received.text.bytes(), received.read.minute());
     match same {
         Some(id) => Ok(Decision::Show(Reply::Done(Done::Report(id)))),
@@ -96,8 +94,7 @@ fn admit_received(content: &Content, received: Received) -> Result<Decision, Sto
 
 /// The text of a report is read at the desk's moment. One that is held keeps its number.
 pub(crate) fn admit(alloc: Global, content: &Content, text: &Text) -> Result<Decision, Stop>
-    requires { IsMoment content.now.moment }
-    ensures value { Answers (λ d. d) result (spec.decide_admit (state_of content.now) text.now) }
+    ensures value { Answers (λ d. d) result (spec.decide_admit content.now.state text.now) }
     ensures read { IfOk result DecisionAdmitsRead }
 {
     let received = received(alloc, content, text.bytes())?;
@@ -111,10 +108,10 @@ pub(crate) fn view_weather(
     content: &Content,
     station: Station,
 ) -> Result<Decision, Stop>
-    ensures value { Answers (λ d. d) result (spec.decide_weather (state_of content.now) station) }
+    ensures value { Answers (λ d. d) result (spec.decide_weather content.now.state station) }
     ensures read { IfOk result DecisionAdmitsRead }
 {
     no_airport(content, station)?;
-    let text = weather_view(alloc, &content.reports, station)?;
+    let text = weather_view(alloc, content.reports(), station)?;
     Ok(Decision::Show(Reply::Seen(text)))
 }

@@ -1,9 +1,7 @@
 ghost use Rattle.std.specs.Prelude.{◌≡◌, IfOk};
 ghost use Rattle.plan.specs.Texts.{HasMoment};
 ghost use Rattle.desk_time.specs.Limits.{IsMoment};
-ghost use Rattle.desk_state.specs.Contents.{state_of};
 ghost use Rattle.desk_state.specs.Decide as spec;
-ghost use Rattle.desk_state.specs.Sound.{Sound, InBounds};
 ghost use Rattle.decisions.specs.Answers.{Answers, Passes};
 ghost use Rattle.decisions.specs.Reads.{DecisionAdmitsRead};
 
@@ -44,16 +42,14 @@ fn kept_until(at: Minute) -> Minute
 
 /// Refuses (22) where that moment hasn't come.
 pub(crate) fn too_young(content: &Content, until: Minute) -> Result<(), Stop>
-    ensures { Passes result (spec.too_young (state_of content.now) until) }
+    ensures { Passes result (spec.too_young content.now.state until) }
 {
-    refused_if(content.moment < until, Refusal::TooYoung { until })
+    refused_if(content.moment() < until, Refusal::TooYoung { until })
 }
 
 /// A release that ended is removed. Refuses by 10, 18, 22.
 pub(crate) fn purge(content: &Content, id: u64) -> Result<Decision, Stop>
-    requires sound { Sound (state_of content.now) }
-    requires kept { InBounds (state_of content.now) }
-    ensures value { Answers (λ d. d) result (spec.decide_purge (state_of content.now) id) }
+    ensures value { Answers (λ d. d) result (spec.decide_purge content.now.state id) }
     ensures read { IfOk result DecisionAdmitsRead }
 {
     let release = held(content, id)?;

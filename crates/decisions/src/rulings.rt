@@ -1,7 +1,6 @@
 ghost use Rattle.std.specs.Prelude.{◌≡◌, ◌+◌};
 ghost use Rattle.plan.specs.Check.{IsPlan};
 ghost use Rattle.rules.specs.Judgement.{findings_of};
-ghost use Rattle.desk_state.specs.Contents.{state_of};
 ghost use Rattle.desk_state.specs.Decide as spec;
 ghost use Rattle.desk_state.specs.State.{grounds_of};
 ghost use Rattle.decisions.specs.Answers.{Passes};
@@ -33,17 +32,17 @@ pub(crate) fn judged<L: Ledger>(
     steps: &mut Steps<L>,
 ) -> Result<(), Stop>
     requires { IsPlan plan.now }
-    ensures passes { Passes result (spec.failing (findings_of plan.now phase (grounds_of (state_of content.now)))) }
+    ensures passes { Passes result (spec.failing (findings_of plan.now phase (grounds_of content.now.state))) }
     ensures steps { steps.new ≡ steps.old + 1 }
 {
     let findings = judge(
         alloc,
         plan,
         phase,
-        &content.reports,
-        &content.deferrals,
-        &content.tables,
-        content.moment,
+        content.reports(),
+        content.deferrals(),
+        content.tables(),
+        content.moment(),
         steps,
     )?;
     failing(findings)

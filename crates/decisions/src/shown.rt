@@ -1,7 +1,5 @@
 ghost use Rattle.std.specs.Prelude.{[], IfOk};
-ghost use Rattle.desk_state.specs.Contents.{state_of};
 ghost use Rattle.desk_state.specs.Decide as spec;
-ghost use Rattle.desk_state.specs.Sound.{Sound, InBounds};
 ghost use Rattle.decisions.specs.Answers.{Answers};
 ghost use Rattle.decisions.specs.Reads.{DecisionAdmitsRead};
 
@@ -14,8 +12,7 @@ use views::{alerts_view, board_view, release_view};
 
 /// The releases.
 pub(crate) fn view_board(alloc: Global, content: &Content) -> Result<Decision, Stop>
-    requires { InBounds (state_of content.now) }
-    ensures value { Answers (λ d. d) result (spec.decide_ask (state_of content.now) [] Ask.ViewBoard) }
+    ensures value { Answers (λ d. d) result (spec.decide_ask content.now.state [] Ask.ViewBoard) }
     ensures read { IfOk result DecisionAdmitsRead }
 {
     let text = board_view(alloc, content)?;
@@ -24,25 +21,16 @@ pub(crate) fn view_board(alloc: Global, content: &Content) -> Result<Decision, S
 
 /// The alerts of all releases.
 pub(crate) fn view_alerts(alloc: Global, content: &Content) -> Result<Decision, Stop>
-    requires sound { Sound (state_of content.now) }
-    requires kept { InBounds (state_of content.now) }
-    ensures value { Answers (λ d. d) result (spec.decide_ask (state_of content.now) [] Ask.ViewAlerts) }
+    ensures value { Answers (λ d. d) result (spec.decide_ask content.now.state [] Ask.ViewAlerts) }
     ensures read { IfOk result DecisionAdmitsRead }
 {
-    let text = alerts_view(
-        alloc,
-        content.moment,
-        content.counters.events,
-        &content.alerts,
-    )?;
+    let text = alerts_view(alloc, content)?;
     Ok(Decision::Show(Reply::Seen(text)))
 }
 
 /// A release and its texts.
 pub(crate) fn view_release(alloc: Global, content: &Content, id: u64) -> Result<Decision, Stop>
-    requires sound { Sound (state_of content.now) }
-    requires kept { InBounds (state_of content.now) }
-    ensures value { Answers (λ d. d) result (spec.decide_release (state_of content.now) id) }
+    ensures value { Answers (λ d. d) result (spec.decide_release content.now.state id) }
     ensures read { IfOk result DecisionAdmitsRead }
 {
     let release = held(content, id)?;

@@ -1,8 +1,6 @@
 ghost use Rattle.std.specs.Prelude.{◌≡◌, ◌≤◌, ◌+◌, IfOk};
 ghost use Rattle.plan.specs.Check.{IsPlan};
-ghost use Rattle.desk_state.specs.Contents.{state_of};
 ghost use Rattle.desk_state.specs.Decide as spec;
-ghost use Rattle.desk_state.specs.Sound.{Sound, InBounds};
 ghost use Rattle.decisions.specs.Answers.{Answers, Passes, in_turn};
 ghost use Rattle.decisions.specs.Reads.{DecisionAdmitsRead};
 
@@ -81,10 +79,10 @@ fn signed(revision: &Revision) -> Result<(), Stop>
 
 fn outdated(content: &Content, release: &Release, revision: &Revision) -> Result<(), Stop>
     requires { IsPlan revision.now.plan }
-    ensures { Passes result (spec.outdated (state_of content.now) release.now revision.now) }
+    ensures { Passes result (spec.outdated content.now.state release.now revision.now) }
 {
     match newer(
-        &content.reports,
+        content.reports(),
         &revision.plan,
         release.phase,
         &revision.attached,
@@ -102,7 +100,7 @@ fn fails<L: Ledger>(
     steps: &mut Steps<L>,
 ) -> Result<(), Stop>
     requires { IsPlan revision.now.plan }
-    ensures passes { Passes result (spec.fails (state_of content.now) release.now revision.now) }
+    ensures passes { Passes result (spec.fails content.now.state release.now revision.now) }
     ensures steps { steps.new ≡ steps.old + 1 }
 {
     judged(
@@ -190,9 +188,7 @@ pub(crate) fn sign<L: Ledger>(
     digest: &[u8; 32],
     steps: &mut Steps<L>,
 ) -> Result<Decision, Stop>
-    requires sound { Sound (state_of content.now) }
-    requires kept { InBounds (state_of content.now) }
-    ensures value { Answers (λ d. d) result (spec.decide_sign (state_of content.now) actor.now id number digest.now) }
+    ensures value { Answers (λ d. d) result (spec.decide_sign content.now.state actor.now id number digest.now) }
     ensures read { IfOk result DecisionAdmitsRead }
     ensures steps { steps.new ≤ steps.old + 1 }
 {
@@ -204,7 +200,7 @@ pub(crate) fn sign<L: Ledger>(
     signed(revision)?;
     outdated(content, release, revision)?;
     fails(alloc, content, release, revision, steps)?;
-    let signature = signed_by(alloc, actor, content.moment, digest)?;
+    let signature = signed_by(alloc, actor, content.moment(), digest)?;
     let made = filed(release, revision);
     let release = with_dispatcher(alloc, release, revision, signature)?;
     Ok(Decision::Do(made, Effect::put(release)))
@@ -221,9 +217,7 @@ pub(crate) fn concur<L: Ledger>(
     digest: &[u8; 32],
     steps: &mut Steps<L>,
 ) -> Result<Decision, Stop>
-    requires sound { Sound (state_of content.now) }
-    requires kept { InBounds (state_of content.now) }
-    ensures value { Answers (λ d. d) result (spec.decide_concur (state_of content.now) actor.now id number digest.now) }
+    ensures value { Answers (λ d. d) result (spec.decide_concur content.now.state actor.now id number digest.now) }
     ensures read { IfOk result DecisionAdmitsRead }
     ensures steps { steps.new ≤ steps.old + 1 }
 {
@@ -235,7 +229,7 @@ pub(crate) fn concur<L: Ledger>(
     misnamed(alloc, revision, number, digest)?;
     outdated(content, release, revision)?;
     fails(alloc, content, release, revision, steps)?;
-    let signature = signed_by(alloc, actor, content.moment, digest)?;
+    let signature = signed_by(alloc, actor, content.moment(), digest)?;
     let made = filed(release, revision);
     let release = made_active(alloc, release, revision, signature)?;
     Ok(Decision::Do(made, Effect::put_afresh(release)))

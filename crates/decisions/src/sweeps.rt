@@ -1,7 +1,6 @@
 ghost use Rattle.std.specs.Prelude.{◌≡◌, ◌++◌, ℕ, length, IfOk, OnOk};
 ghost use Rattle.std.specs.List.Sorted.{IsNonDecreasing};
 ghost use Rattle.desk_time.specs.Limits.{IsMoment};
-ghost use Rattle.desk_state.specs.Contents.{state_of};
 ghost use Rattle.desk_state.specs.Decide as spec;
 ghost use Rattle.desk_state.specs.Events as events;
 ghost use Rattle.desk_state.specs.Requests as requests;
@@ -83,10 +82,10 @@ fn reports_among(
 // The reports that are held and attached to a release.
 #[tactic(auto, using(crate::proofs::AttachedLaws::reports_among))]
 fn attached_reports(alloc: Global, content: &Content) -> Result<Listed<u64>, OutOfMemory>
-    ensures { IfOk result (λ ids. ids ≡ spec.attached_reports (state_of content.now)) }
+    ensures { IfOk result (λ ids. ids ≡ spec.attached_reports content.now.state) }
 {
-    let attached = attached_ids(alloc, &content.releases)?;
-    reports_among(alloc, content.reports.as_slice(), &attached)
+    let attached = attached_ids(alloc, content.releases().as_slice())?;
+    reports_among(alloc, content.reports().as_slice(), &attached)
 }
 
 fn is_since(before: Minute, reply: &KeptReply) -> bool
@@ -111,10 +110,10 @@ fn count_before(before: Minute, kept: &[KeptReply]) -> u64
 // The floors once the replies that were accepted before a moment are gone.
 fn raised(alloc: Global, before: Minute, content: &Content) -> Result<Floors, OutOfMemory>
     ensures { IfOk result (λ floors. floors ≡ requests.raised_by
-        (requests.kept_before before (state_of content.now).kept) (state_of content.now).floors) }
+        (requests.kept_before before content.now.state.kept) content.now.state.floors) }
 {
-    let mut floors = copied_items(content.floors.as_slice(), alloc)?;
-    for reply in &content.kept {
+    let mut floors = copied_items(content.replies().floors(), alloc)?;
+    for reply in content.replies().as_slice() {
         if !is_since(before, reply) {
             raise(alloc, &mut floors, &reply.actor, reply.number)?;
         }
@@ -125,14 +124,16 @@ fn raised(alloc: Global, before: Minute, content: &Content) -> Result<Floors, Ou
 /// Reports and replies of earlier moments are swept away. Refuses by 22.
 pub(crate) fn sweep(alloc: Global, content: &Content, before: Minute) -> Result<Decision, Stop>
     requires { IsMoment before }
-    ensures value { Answers (λ d. d) result (spec.decide_sweep (state_of content.now) before) }
+    ensures value { Answers (λ d. d) result (spec.decide_sweep content.now.state before) }
     ensures read { IfOk result DecisionAdmitsRead }
 {
     too_young(content, before + KEPT_MINUTES)?;
     let attached = attached_reports(alloc, content)?;
-    let leaving = content.reports.leaving(alloc, before, attached.as_slice())?;
+    let leaving = content
+        .reports()
+        .leaving(alloc, before, attached.as_slice())?;
     let reports = leaving.as_slice().len() as u64;
-    let kept = count_before(before, &content.kept);
+    let kept = count_before(before, content.replies().as_slice());
     let floors = raised(alloc, before, content)?;
     Ok(Decision::Do(
         Done::Swept { reports, kept },

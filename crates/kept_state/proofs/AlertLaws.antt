@@ -115,7 +115,7 @@ alerts_held rs m are is =
     each_mapped (IsOpenAlert m.counters.events) (IsHolders (filter_map release_in rs)) (alert_of (filter_map release_in rs)) (holders_are (filter_map release_in rs) m.counters.events) (filter_map alert_in rs)
     (open_alerts rs m are is)
 
-alerts_rise : (rs : List Record) → AreOfDesk rs → Pairs Rises (alerts_in rs)
+pub alerts_rise : (rs : List Record) → AreOfDesk rs → Pairs Rises (alerts_in rs)
 alerts_rise rs are = pairs_mapped Earlier Rises (alert_of (filter_map release_in rs)) (rises_are (filter_map release_in rs)) (filter_map alert_in rs) (alert_pairs rs are)
 
 found_later : (low : ReleaseOf) (rs : List ReleaseOf) (q : ReleaseOf) → (low.id < q.id) × (release_at q.id rs ≡ Some q) → release_at q.id (low ∷ rs) ≡ Some q

@@ -9,6 +9,7 @@ use Rattle.alerts.specs.declared.alert.Alert.{Alert}
 use Rattle.desk_state.specs.declared.change.AlertChange.{AlertChange}
 use Rattle.desk_state.specs.declared.effect.Effect.{Effect}
 use Rattle.desk_state.specs.Events.{effected, is_same_alert, change_between, changes_from, changes_over, alert_changes, put_alert, put_changes}
+pub use Rattle.desk_state.specs.Install.{IsOwn}
 use Rattle.desk_state.specs.Sound.{AreJudgeable, Sound, Rise}
 use Rattle.desk_state.specs.State.{State, alert_at, judged}
 use Rattle.desk_state.proofs.Judging.{IsOf, Of, found_of, judged_is}
@@ -117,10 +118,6 @@ module _ (body : Alert → Body) where
           ∙ sym (exchanged (eqb id q) (eqb a.release q) (option_map body o) (Some (body a)) (found_at release_of body q rest) (not_both a.release id q e))
 
 -- Changes of alerts.
-
--- what becomes of an alert is of the release that it names
-abbrev pub IsOwn : AlertChange → Type 0
-IsOwn c = IfSome c.after (IsOf c.release)
 
 between_own : (id : ℕ) (before after : Option Alert) → IfSome after (IsOf id) → AllByRecursion IsOwn (change_between id before after)
 between_own id None None is = tt

@@ -19,12 +19,20 @@ use Rattle.call_json.specs.Forms.{IsFormed}
 use Rattle.kept_state.specs.Held.{AreOfDesk, alert_in, alert_of, alert_with, deferral_in, meta_in, release_in, reply_in, report_if, report_in, report_of, state_with}
 use Rattle.kept_state.proofs.Fitting.{meta_among}
 use Rattle.kept_state.proofs.Lists.{each_mapped}
-use Rattle.kept_state.proofs.RestoringLaws.{report_valid}
 use Rattle.facts.proofs.ReadLaws.{read_moments}
 use Rattle.desk_state.specs.Formed.{AlertHasForms, AreFormed, DeferralHasForms, ReplyHasForms, ReportHasForms}
 use Rattle.ops_tables.specs.Named.{AreNamed}
 
 -- ---- reports
+
+pub report_valid : (x : Record) → IsRecord x → IfSome (report_in x) IsReport
+unfolding IsRecord
+report_valid (Report r) is = is
+report_valid (Meta m) is = tt
+report_valid (Deferral d) is = tt
+report_valid (Release r) is = tt
+report_valid (Kept k) is = tt
+report_valid (Alert a) is = tt
 
 report_by : (r : KeptReport) (o : Result Read BadReport) → read_of r.text r.received ≡ o → IsReport r → IfSome (report_if r o) ReportHasForms
 report_by r (Ok read) reading is = record {
@@ -37,7 +45,7 @@ report_formed : (r : KeptReport) → IsReport r → IfSome (report_of r) ReportH
 unfolding report_of
 report_formed r is = report_by r (read_of r.text r.received) refl is
 
-reports_formed : (rs : List Record) → AllByRecursion IsRecord rs → AllByRecursion ReportHasForms (filter_map report_of (filter_map report_in rs))
+pub reports_formed : (rs : List Record) → AllByRecursion IsRecord rs → AllByRecursion ReportHasForms (filter_map report_of (filter_map report_in rs))
 reports_formed rs valid = each_mapped IsReport ReportHasForms report_of report_formed (filter_map report_in rs) (each_mapped IsRecord IsReport report_in report_valid rs valid)
 
 -- ---- deferrals, releases, replies

@@ -10,11 +10,9 @@ pub mod ShownLaws
 pub mod JudgedLaws
 pub mod Lists
 pub mod Fitting
-pub mod Loops
 pub mod PartLaws
 pub mod ReleaseLaws
 pub mod AlertLaws
-pub mod Bisection
 pub mod RestoringLaws
 pub mod HeldForms
 pub mod ReopenedForms

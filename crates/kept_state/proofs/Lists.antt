@@ -1,8 +1,8 @@
 -- What holds of each element, and of each two, of a list holds of what is made of them.
-use Rattle.std.proofs.Common.{ℕ, ◌+◌, ◌≤◌, arith, List, [], ◌∷◌, length, Option, None, Some, IfSome}
+use Rattle.std.proofs.Common.{ℕ, suc, ◌+◌, ◌≤◌, arith, List, [], ◌∷◌, length, Option, None, Some, IfSome}
 use Rattle.std.specs.List.{AllByRecursion, AllPairs, filter_map, cons_option}
 use Rattle.std.proofs.lemmas.List.Kept.{AllPairs-cons}
-use Rattle.std.proofs.lemmas.List.Elements.{All-from_recursion}
+use Rattle.std.proofs.lemmas.List.Elements.{All-from_recursion, recursion_from_All}
 use Rattle.desk_io.proofs.Each.{each_weaker}
 
 -- R of each element and each later one
@@ -58,3 +58,10 @@ both P Q (x ∷ xs) one two = ((one.0, two.0), both P Q xs one.1 two.1)
 pub both_pairs : {A : Type 0} (R S : A → A → Type 0) (xs : List A) → Pairs R xs → Pairs S xs → Pairs (λ x y. R x y × S x y) xs
 both_pairs R S [] one two = tt
 both_pairs R S (x ∷ xs) one two = (both (R x) (S x) xs one.0 two.0, both_pairs R S xs one.1 two.1)
+
+pub pairs_from : {A : Type 0} (R : A → A → Type 0) (xs : List A) → AllPairs R xs → Pairs R xs
+pairs_from R [] all = tt
+pairs_from R (x ∷ xs) all = (
+  recursion_from_All (R x) xs (λ i d within. all 0 (suc i) d (omega arith) (omega (arith, within))),
+  pairs_from R xs (λ i j d before within. all (suc i) (suc j) d (omega (arith, before)) (omega (arith, within))),
+)

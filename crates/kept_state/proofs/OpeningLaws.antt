@@ -47,32 +47,32 @@ judged_alerts (change ∷ changes) events held judged lead before after = after
 sound : (s : State) → MayReopen s → Sound (reopened s)
 unfolding reopened
 sound s may = record {
-  alerted = are_alerted s 0 s.counters.next_release may.judgeable.ids may.told;
-  own = all_own s 0 s.counters.next_release may.judgeable.ids;
-  alerts = judged_alerts (alert_changes nothing s) s.counters.events s.alerts (judged_all s) (changes_lead s may.judgeable) may.judgeable.alerts
-      (are_alerts s s.counters.events s.releases may.bounds.moment may.bounds.deferrals.rising may.judgeable.alerts);
-  valid = still_valid (alert_changes nothing s) s.counters.events s.releases may.valid;
-  unlike = may.unlike;
-  single = may.single;
-  ids = may.judgeable.ids;
+  alerted = are_alerted s 0 s.counters.next_release may.holds.judgeable.ids may.holds.told;
+  own = all_own s 0 s.counters.next_release may.holds.judgeable.ids;
+  alerts = judged_alerts (alert_changes nothing s) s.counters.events s.alerts (judged_all s) (changes_lead s may.holds.judgeable) may.holds.judgeable.alerts
+      (are_alerts s s.counters.events s.releases may.holds.bounds.moment may.holds.bounds.deferrals.rising may.holds.judgeable.alerts);
+  valid = still_valid (alert_changes nothing s) s.counters.events s.releases may.holds.valid;
+  unlike = may.holds.unlike;
+  single = may.holds.single;
+  ids = may.holds.judgeable.ids;
 }
 
 bounds : (s : State) → MayReopen s → InBounds (reopened s)
 unfolding reopened
 bounds s may = record {
-  moment = may.bounds.moment;
-  counters = still_counters (alert_changes nothing s) s.counters may.bounds.counters may.room;
-  reports = may.bounds.reports;
-  admitted = may.bounds.admitted;
-  few = may.bounds.few;
-  deferrals = may.bounds.deferrals;
-  releases = may.bounds.releases;
-  held = may.bounds.held;
-  replies = may.bounds.replies;
-  accepted = may.bounds.accepted;
-  many = may.bounds.many;
-  entries = may.bounds.entries;
-  forms = may.bounds.forms;
+  moment = may.holds.bounds.moment;
+  counters = still_counters (alert_changes nothing s) s.counters may.holds.bounds.counters may.room;
+  reports = may.holds.bounds.reports;
+  admitted = may.holds.bounds.admitted;
+  few = may.holds.bounds.few;
+  deferrals = may.holds.bounds.deferrals;
+  releases = may.holds.bounds.releases;
+  held = may.holds.bounds.held;
+  replies = may.holds.bounds.replies;
+  accepted = may.holds.bounds.accepted;
+  many = may.holds.bounds.many;
+  entries = may.holds.bounds.entries;
+  forms = may.holds.bounds.forms;
 }
 
 history : (s : State) → MayReopen s → IsHistory (reopened s) (reopened s)

@@ -3,7 +3,6 @@ use Rattle.std.proofs.Common.{◌≡◌, ℕ, ◌+◌, ◌<◌, ◌≤◌, arith
 use Rattle.std.specs.Prelude.{nat_le}
 use Rattle.std.specs.List.{AllByRecursion, filter_map}
 use Rattle.std.proofs.lemmas.Bool.{ltb-true, ltb-false, leb-false, or_parts}
-use Rattle.desk_time.proofs.Chains as chain
 use Rattle.plan.specs.declared.release.Release.{Release as ReleaseOf}
 use Rattle.plan.specs.declared.release.Revision.{Revision}
 use Rattle.call_json.specs.Forms.{IsRevision}
@@ -37,7 +36,7 @@ revision_is v is = record {
   captain = IfSome_then v.captain is.captain (λ signature signed. signed.at);
 }
 
-release_is : (r : ReleaseOf) → IsKept r → ReleaseInBounds r
+pub release_is : (r : ReleaseOf) → IsKept r → ReleaseInBounds r
 release_is r is = record {
   moment = is.formed.moment;
   pending = IfSome_then r.pending is.formed.pending revision_is;

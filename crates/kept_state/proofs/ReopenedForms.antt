@@ -7,12 +7,12 @@ use Rattle.kept_state.specs.Opening.{MayReopen, reopened}
 pub reopened_formed : (s : State) → MayReopen s → AreFormed (reopened s)
 unfolding reopened
 reopened_formed s may = record {
-  names = may.formed.names;
-  reports = may.formed.reports;
-  deferrals = may.formed.deferrals;
-  releases = may.formed.releases;
-  alerts = all_judged s s.releases (ids_low s may.bounds) may.bounds.releases may.formed.alerts;
-  kept = may.formed.kept;
-  floors = may.formed.floors;
-  rising = may.formed.rising;
+  names = may.holds.formed.names;
+  reports = may.holds.formed.reports;
+  deferrals = may.holds.formed.deferrals;
+  releases = may.holds.formed.releases;
+  alerts = all_judged s s.releases (ids_low s may.holds.bounds) may.holds.bounds.releases may.holds.formed.alerts;
+  kept = may.holds.formed.kept;
+  floors = may.holds.formed.floors;
+  rising = may.holds.formed.rising;
 }

@@ -1,10 +1,17 @@
 -- What is made of records by their kinds is the state that they stand for.
-use Rattle.std.proofs.Common.{◌≡◌, ℕ, ◌+◌, ◌<◌, List, [], ◌∷◌, ◌++◌, append-nil, Option, None, Some, IfSome, refl, sym, ap, ◌∙◌, subst}
-use Rattle.std.specs.List.{filter_map}
+use Rattle.std.proofs.Common.{◌≡◌, ℕ, ◌+◌, ◌<◌, All, List, [], ◌∷◌, ◌++◌, append-nil, Option, None, Some, IfSome, refl, sym, ap, ◌∙◌, subst}
+use Rattle.std.specs.List.{AllByRecursion, AllPairs, filter_map}
 use Rattle.std.specs.Option.{option_map}
 use Rattle.std.proofs.lemmas.List.{append_assoc}
 use Rattle.std.proofs.lemmas.List.Elements.{All-from_recursion, recursion_from_All}
+use Rattle.desk_io.proofs.Each.{each_weaker}
+use Rattle.desk_state.specs.Formed.{ReportHasForms}
+use Rattle.desk_state.specs.Holds.{Holds}
+use Rattle.facts.specs.Reading.{IsRead}
+use Rattle.held_releases.specs.Bounds.{ReleaseInBounds}
+use Rattle.ops_tables.specs.Named.{AreNamed}
 use Rattle.ops_tables.specs.Tables.{TableRows}
+use Rattle.ops_tables.specs.declared.rows.Settings.{Settings}
 use Rattle.records.specs.Faults.{meta_from}
 use Rattle.records.specs.Valid.{IsRecord, IsReport}
 use Rattle.records.specs.declared.record.Meta.{Meta as MetaOf}
@@ -12,11 +19,14 @@ use Rattle.records.specs.declared.record.Record.{Record}
 use Rattle.records.specs.declared.record.Record.TheVariants.{Meta, Report, Deferral, Release, Kept, Alert}
 use Rattle.kept_state.specs.Held.{AreOfDesk, alert_in, deferral_in, meta_in, release_in, reply_in, report_in, state_by, state_in}
 use Rattle.kept_state.specs.Parting.{Kinds, first_of, no_kinds, with_record, with_records}
-use Rattle.kept_state.specs.Restoring.{Holds, MayHold, state_by_held, state_held}
+use Rattle.kept_state.specs.Restoring.{AreMade, MayHold, state_by_held, state_held}
 use Rattle.kept_state.specs.declared.restoring.Held.{Held}
-use Rattle.kept_state.proofs.Lists.{all_pairs, each_mapped, weaker_pairs}
-use Rattle.kept_state.proofs.PartLaws.{AreApart, deferral_pairs, deferrals_few, kept_apart}
-use Rattle.kept_state.proofs.ReleaseLaws.{Below, release_pairs}
+use Rattle.kept_state.proofs.AlertLaws.{Rises, alerts_in, alerts_rise}
+use Rattle.kept_state.proofs.HeldForms.{report_valid, reports_formed}
+use Rattle.kept_state.proofs.Lists.{all_pairs, each_mapped}
+use Rattle.kept_state.proofs.PartLaws.{deferral_pairs, deferrals_few, reports_in, reports_rise}
+use Rattle.kept_state.proofs.ReleaseLaws.{Below, release_is, release_pairs, releases_few}
+use Rattle.kept_state.proofs.StateLaws.{may_reopen}
 
 -- ---- the kinds of records
 
@@ -75,23 +85,32 @@ all_kinds rs = all_joined rs no_kinds 0
 
 -- ---- records that can be held
 
-pub report_valid : (x : Record) → IsRecord x → IfSome (report_in x) IsReport
+reports_read : (rs : List Record) → AllByRecursion IsRecord rs → All IsRead (reports_in rs)
+reports_read rs valid =
+    All-from_recursion IsRead (reports_in rs) (each_weaker ReportHasForms IsRead (λ r formed. formed.read) (reports_in rs) (reports_formed rs valid))
+
+release_bounded : (x : Record) → IsRecord x → IfSome (release_in x) ReleaseInBounds
 unfolding IsRecord
-report_valid (Report r) is = is
-report_valid (Meta m) is = tt
-report_valid (Deferral d) is = tt
-report_valid (Release r) is = tt
-report_valid (Kept k) is = tt
-report_valid (Alert a) is = tt
+release_bounded (Release r) is = release_is r is.1
+release_bounded (Meta m) is = tt
+release_bounded (Report r) is = tt
+release_bounded (Deferral d) is = tt
+release_bounded (Kept k) is = tt
+release_bounded (Alert a) is = tt
 
 kinds_hold : (rs : List Record) → AreOfDesk rs → MayHold (kinds_in rs)
-kinds_hold rs are = record {
-  valid = All-from_recursion IsReport (filter_map report_in rs) (each_mapped IsRecord IsReport report_in report_valid rs (recursion_from_All IsRecord rs are.valid));
-  admitted = all_pairs (λ a b. a.id < b.id) (filter_map report_in rs) (weaker_pairs AreApart (λ a b. a.id < b.id) (λ a b is. is.0) (filter_map report_in rs) (kept_apart rs are));
-  deferred = all_pairs (λ a b. a.id < b.id) (filter_map deferral_in rs) (deferral_pairs rs are);
-  few = deferrals_few rs are;
-  filed = all_pairs Below (filter_map release_in rs) (release_pairs rs are);
-}
+kinds_hold rs are =
+    let valid = recursion_from_All IsRecord rs are.valid in
+    record {
+      valid = each_mapped IsRecord IsReport report_in report_valid rs valid;
+      read = record { rising = reports_rise rs are; read = reports_read rs valid };
+      deferred = all_pairs (λ a b. a.id < b.id) (filter_map deferral_in rs) (deferral_pairs rs are);
+      few = deferrals_few rs are;
+      filed = all_pairs Below (filter_map release_in rs) (release_pairs rs are);
+      bounds = each_mapped IsRecord ReleaseInBounds release_in release_bounded rs valid;
+      held = releases_few rs are;
+      told = all_pairs Rises (alerts_in rs) (alerts_rise rs are);
+    }
 
 -- records that are valid, fit together and rise can be held
 pub may_hold : (rs : List Record) (k : Kinds) → AreOfDesk rs → k ≡ with_records rs no_kinds → MayHold k
@@ -99,13 +118,24 @@ may_hold rs k are is = subst MayHold (sym (is ∙ all_kinds rs)) (kinds_hold rs 
 
 -- ---- the state
 
-held_by : (tables : TableRows) (rs : List Record) (h : Held) (o : Option MetaOf) → Holds (kinds_in rs) h → state_by_held tables o h ≡ state_by tables o rs
-held_by tables rs h None holds = refl
-held_by tables rs h (Some m) holds = rw (holds.reports, holds.deferrals, holds.releases, holds.alerts, holds.kept) refl
+held_by : (tables : TableRows) (settings : Settings) (rs : List Record) (h : Held) (o : Option MetaOf) → AreMade settings (kinds_in rs) h → state_by_held tables o h ≡ state_by tables o rs
+held_by tables settings rs h None made = refl
+held_by tables settings rs h (Some m) made =
+    let list : h.releases.list ≡ filter_map release_in rs = ap (λ r. r.list) made.releases in rw (made.reports, made.deferrals, list, made.alerts, made.kept) refl
 
 -- what is made of records is the state that they stand for
-pub held_state : (tables : TableRows) (rs : List Record) (h : Held) → Holds (with_records rs no_kinds) h → state_held tables h ≡ state_in tables rs
+pub held_state : (tables : TableRows) (settings : Settings) (rs : List Record) (h : Held) → AreMade settings (with_records rs no_kinds) h → state_held tables h ≡ state_in tables rs
 unfolding state_in
-held_state tables rs h holds =
-    let has = subst (λ k. Holds k h) (all_kinds rs) holds in
-    ap (λ o. state_by_held tables o h) has.meta ∙ held_by tables rs h (meta_in rs) has
+held_state tables settings rs h made =
+    let has = subst (λ k. AreMade settings k h) (all_kinds rs) made in
+    ap (λ o. state_by_held tables o h) has.meta ∙ held_by tables settings rs h (meta_in rs) has
+
+-- and may be held
+pub made_holds : (tables : TableRows) (settings : Settings) (rs : List Record) (h : Held) → AreNamed tables → AreOfDesk rs → AreMade settings (with_records rs no_kinds) h → Holds (state_held tables h)
+made_holds tables settings rs h names are made = subst Holds (sym (held_state tables settings rs h made)) (may_reopen tables rs names are).holds
+
+-- the ids of what is kept rise
+pub kept_rise : (tables : TableRows) (h : Held) (m : MetaOf) → h.meta ≡ Some m → Holds (state_held tables h) → AllPairs (λ a b. a.id < b.id) h.kept.items
+kept_rise tables h m is holds =
+    let of : Holds (state_by_held tables (Some m) h) = subst (λ (o : Option MetaOf). Holds (state_by_held tables o h)) is holds in
+    of.bounds.accepted

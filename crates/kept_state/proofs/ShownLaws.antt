@@ -17,12 +17,13 @@ use Rattle.desk_state.specs.declared.change.AlertChange.{AlertChange}
 use Rattle.desk_state.specs.declared.effect.Effect.{Effect}
 use Rattle.desk_state.specs.declared.effect.OnDeferrals.{OnDeferrals}
 use Rattle.desk_state.specs.declared.effect.OnDeferrals.TheVariants as on_deferrals
-use Rattle.desk_state.specs.declared.effect.OnReleases.{OnReleases}
-use Rattle.desk_state.specs.declared.effect.OnReleases.TheVariants as on_releases
+use Rattle.held_releases.specs.declared.change.OnReleases.{OnReleases}
+use Rattle.held_releases.specs.declared.change.OnReleases.TheVariants as on_releases
 use Rattle.desk_state.specs.declared.entry.What.{What}
 use Rattle.desk_state.specs.declared.entry.What.TheVariants as what
 use Rattle.desk_state.specs.Events.{effected, is_same_alert, change_between, changes_from, changes_over, alert_changes}
-use Rattle.desk_state.specs.Sound.{Sound, InBounds, EffectFits, IsNext, DeferralsFit, ReleasesFit, ReleaseInBounds, RevisionInBounds}
+use Rattle.desk_state.specs.Holds.{Holds}
+use Rattle.desk_state.specs.Sound.{AreJudgeable, InBounds, EffectFits, IsNext, DeferralsFit, ReleasesFit, ReleaseInBounds, RevisionInBounds}
 use Rattle.desk_state.specs.State.{State, grounds_of, failing_of, alert_at, alert_for, judged}
 use Rattle.desk_state.specs.Step.{kept_of}
 use Rattle.desk_state.proofs.Each.{found_each}
@@ -125,21 +126,21 @@ over_opened t held (r ∷ rs) shown all =
     (between_opened r.id (alert_at r.id t.alerts) (judged t r) (judged_opened (failing_of (grounds_of t) r) (alert_at r.id t.alerts) r t.moment shown found)))
     (over_opened t held rs shown all)
 
-opened_after : (s : State) (effect : Effect) → Sound s → AllByRecursion Opened (effected effect s).alerts
-opened_after s effect sound = alerts_have Opened (λ a is. is) effect.on_alerts s.alerts (each_weaker (IsAlert s.counters.events) Opened (λ a is. is.moment) s.alerts sound.alerts)
+opened_after : (s : State) (effect : Effect) → AreJudgeable s → AllByRecursion Opened (effected effect s).alerts
+opened_after s effect judgeable = alerts_have Opened (λ a is. is) effect.on_alerts s.alerts (each_weaker (IsAlert s.counters.events) Opened (λ a is. is.moment) s.alerts judgeable.alerts)
 
-pub are_shown : (s : State) (effect : Effect) (w : What) (kept : Option KeptReply) (alerts : List AlertChange) → Sound s → InBounds s → EffectFits s effect
+pub are_shown : (s : State) (effect : Effect) (w : What) (kept : Option KeptReply) (alerts : List AlertChange) → Holds s → EffectFits s effect
     → kept ≡ kept_of (effected effect s) w → alerts ≡ alert_changes effect s → AreShown s effect kept alerts
-are_shown s effect w kept alerts sound bounds fits same changed =
-    let shown = moment_shown effect.moment s.moment fits.moment bounds.moment in
+are_shown s effect w kept alerts holds fits same changed =
+    let shown = moment_shown effect.moment s.moment fits.moment holds.bounds.moment in
     record {
       moment = shown;
-      small = are_small s effect fits bounds;
+      small = are_small s effect fits holds.bounds;
       received = was_received s effect.report fits.report;
       apart = fits.apart;
       found = was_found s effect.on_deferrals fits.deferrals;
       release = shown_release s effect.on_releases fits.releases;
       accepted = subst WasAccepted (sym same) (was_accepted (effected effect s) w shown);
       opened = subst (λ (changes : List AlertChange). All (λ c. WasOpened c.after) changes) (sym changed)
-          (All-from_recursion (λ c. WasOpened c.after) (alert_changes effect s) (over_opened (effected effect s) s.alerts (effected effect s).releases shown (opened_after s effect sound)));
+          (All-from_recursion (λ c. WasOpened c.after) (alert_changes effect s) (over_opened (effected effect s) s.alerts (effected effect s).releases shown (opened_after s effect holds.judgeable)));
     }

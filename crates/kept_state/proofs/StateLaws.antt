@@ -6,8 +6,7 @@ use Rattle.ops_tables.specs.Named.{AreNamed}
 use Rattle.ops_tables.specs.Tables.{TableRows}
 use Rattle.desk_state.specs.Sound.{AreCounters, AreJudgeable, InBounds, IsBoard}
 use Rattle.desk_state.specs.State.{start}
-use Rattle.desk_state.proofs.Boards.{start_board}
-use Rattle.desk_state.proofs.Parts.{judgeable}
+use Rattle.desk_state.proofs.HoldLaws.{start_holds}
 use Rattle.records.specs.Faults.{outruns}
 use Rattle.records.specs.Valid.{IsRecord}
 use Rattle.records.specs.declared.record.Meta.{Meta as MetaOf}
@@ -73,32 +72,22 @@ counted_reopens : (tables : TableRows) (rs : List Record) (m : MetaOf) → AreNa
 counted_reopens tables rs m names are is =
     let counts = counts rs m (meta_among rs m are is) in
     record {
-      bounds = bounds tables rs m are is counts;
-      judgeable = judged_by tables rs m are is;
-      told = alerts_told rs m are is;
-      valid = releases_valid rs m are is;
-      unlike = reports_unlike rs are;
-      single = replies_single rs are;
+      holds = record {
+        bounds = bounds tables rs m are is counts;
+        judgeable = judged_by tables rs m are is;
+        told = alerts_told rs m are is;
+        valid = releases_valid rs m are is;
+        unlike = reports_unlike rs are;
+        single = replies_single rs are;
+        formed = counted_formed tables rs m names are is;
+      };
       room = counts.room;
-      formed = counted_formed tables rs m names are is;
       fresh = refl;
     }
 
 -- the beginning may be judged
 start_reopens : (tables : TableRows) → AreNamed tables → MayReopen (start tables)
-start_reopens tables names =
-    let board = start_board tables names in
-    record {
-      bounds = board.kept;
-      judgeable = judgeable (start tables) board.sound;
-      told = tt;
-      valid = tt;
-      unlike = board.sound.unlike;
-      single = board.sound.single;
-      room = omega arith;
-      formed = board.formed;
-      fresh = refl;
-    }
+start_reopens tables names = record { holds = start_holds tables names; room = omega arith; fresh = refl }
 
 reopens_by : (tables : TableRows) (rs : List Record) (o : Option MetaOf) → AreNamed tables → AreOfDesk rs → meta_in rs ≡ o → MayReopen (state_by tables o rs)
 reopens_by tables rs None names are is = start_reopens tables names

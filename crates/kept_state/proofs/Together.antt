@@ -23,13 +23,11 @@ use Rattle.records.specs.declared.record.Record.{Record}
 use Rattle.records.specs.declared.record.Record.TheVariants.{Meta, Report, Deferral, Release, Kept, Alert}
 use Rattle.kept_state.proofs.AlertLaws.{Rises, found_self, found_taken, rise_pairs}
 use Rattle.kept_state.proofs.Fitting.{Agree, AreFew}
-use Rattle.kept_state.proofs.Lists.{Pairs, both, both_pairs, each_mapped, pairs_mapped, weaker_pairs}
-use Rattle.kept_state.proofs.Loops.{pairs_from}
+use Rattle.kept_state.proofs.Lists.{Pairs, both, both_pairs, each_mapped, pairs_from, pairs_mapped, weaker_pairs}
 use Rattle.kept_state.proofs.PartLaws.{Other, Unlike, swapped, turned}
 use Rattle.kept_state.proofs.ReleaseLaws.{Below}
 use Rattle.kept_state.proofs.Segments.{Across, across_any, across_made, all_made, any_back, any_front, any_made, counted_all, counted_is, counted_joined, counted_none, pairs_joined, pairs_made, with_each, how_many}
 use Rattle.desk_io.proofs.Each.{each_append, each_weaker}
-use Rattle.kept_state.proofs.Loops.{pairs_from}
 
 -- ---- releases by their ids
 

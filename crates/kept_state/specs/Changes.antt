@@ -10,8 +10,8 @@ use Rattle.desk_state.specs.declared.change.AlertChange.{AlertChange}
 use Rattle.desk_state.specs.declared.effect.Effect.{Effect}
 use Rattle.desk_state.specs.declared.effect.OnDeferrals.{OnDeferrals}
 use Rattle.desk_state.specs.declared.effect.OnDeferrals.TheVariants as on_deferrals
-use Rattle.desk_state.specs.declared.effect.OnReleases.{OnReleases}
-use Rattle.desk_state.specs.declared.effect.OnReleases.TheVariants as on_releases
+use Rattle.held_releases.specs.declared.change.OnReleases.{OnReleases}
+use Rattle.held_releases.specs.declared.change.OnReleases.TheVariants as on_releases
 use Rattle.desk_state.specs.declared.effect.Sweep.{Sweep}
 use Rattle.desk_state.specs.declared.entry.Entry.{Entry}
 use Rattle.desk_state.specs.Events.{effected, reports_after, alert_changes}

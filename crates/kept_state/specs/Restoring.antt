@@ -1,7 +1,11 @@
 -- What records say, once it is made to be held.
-use Rattle.std.specs.Prelude.{◌≡◌, ◌<◌, ◌≤◌, All, [], length, Option, None, Some}
-use Rattle.std.specs.List.{AllPairs, filter_map}
+use Rattle.std.specs.Prelude.{◌≡◌, ◌<◌, ◌≤◌, [], length, Option, None, Some}
+use Rattle.std.specs.List.{AllByRecursion, AllPairs, filter_map}
+use Rattle.facts.specs.Reports.{AreHeld}
+use Rattle.held_releases.specs.Bounds.{ReleaseInBounds}
+use Rattle.held_releases.specs.Releases.{held_of}
 use Rattle.ops_tables.specs.Tables.{TableRows}
+use Rattle.ops_tables.specs.declared.rows.Settings.{Settings}
 use Rattle.desk_state.specs.State.{State, start}
 use Rattle.records.specs.Valid.{IsReport}
 use Rattle.records.specs.declared.record.Meta.{Meta as MetaOf}
@@ -9,21 +13,24 @@ use Rattle.kept_state.specs.Held.{alert_of, report_of}
 use Rattle.kept_state.specs.Parting.{Kinds}
 use Rattle.kept_state.specs.declared.restoring.Held.{Held}
 
--- records that can be held: reports that read, and ids that rise
+-- records that can be held: reports that read, releases in bounds, and ids that rise
 pub record MayHold (k : Kinds) : Type 0 where
-  pub valid : All IsReport k.reports
-  pub admitted : AllPairs (λ a b. a.id < b.id) k.reports
+  pub valid : AllByRecursion IsReport k.reports
+  pub read : AreHeld (filter_map report_of k.reports)
   pub deferred : AllPairs (λ a b. a.id < b.id) k.deferrals
   pub few : length k.deferrals ≤ 50_000
   pub filed : AllPairs (λ a b. a.id < b.id) k.releases
+  pub bounds : AllByRecursion ReleaseInBounds k.releases
+  pub held : length k.releases ≤ 20_000
+  pub told : AllPairs (λ a b. a.release < b.release) (filter_map (alert_of k.releases) k.alerts)
 
--- what was made of records
-pub record Holds (k : Kinds) (h : Held) : Type 0 where
+-- what was made of records, with the settings of the airline
+pub record AreMade (settings : Settings) (k : Kinds) (h : Held) : Type 0 where
   pub meta : h.meta ≡ k.meta
   pub reports : h.reports.reports ≡ filter_map report_of k.reports
   pub deferrals : h.deferrals.list ≡ k.deferrals
-  pub releases : h.releases.items ≡ k.releases
-  pub alerts : h.alerts.items ≡ filter_map (alert_of k.releases) k.alerts
+  pub releases : h.releases ≡ held_of settings k.releases
+  pub alerts : h.alerts.list ≡ filter_map (alert_of k.releases) k.alerts
   pub kept : h.kept.items ≡ k.replies
 
 abbrev pub state_by_held : TableRows → Option MetaOf → Held → State
@@ -34,8 +41,8 @@ state_by_held tables (Some m) h = record {
   counters = m.counters;
   reports = h.reports.reports;
   deferrals = h.deferrals.list;
-  releases = h.releases.items;
-  alerts = h.alerts.items;
+  releases = h.releases.list;
+  alerts = h.alerts.list;
   kept = h.kept.items;
   floors = m.floors;
   entries = [];

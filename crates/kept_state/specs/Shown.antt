@@ -1,5 +1,5 @@
 -- Events whose changes can be put into rows: their moments can be shown, and their numbers are small.
-use Rattle.std.specs.Prelude.{ℕ, ◌<◌, List, Option, IfSome, All}
+use Rattle.std.specs.Prelude.{List, Option, IfSome, All}
 use Rattle.alerts.specs.declared.alert.Alert.{Alert}
 use Rattle.asks.specs.declared.kept.KeptReply.{KeptReply}
 use Rattle.facts.specs.declared.report.Report.{Report}
@@ -10,15 +10,12 @@ use Rattle.desk_state.specs.declared.counters.Counters.{Counters}
 use Rattle.desk_state.specs.declared.effect.Effect.{Effect}
 use Rattle.desk_state.specs.declared.effect.OnDeferrals.{OnDeferrals}
 use Rattle.desk_state.specs.declared.effect.OnDeferrals.TheVariants as on_deferrals
-use Rattle.desk_state.specs.declared.effect.OnReleases.{OnReleases}
-use Rattle.desk_state.specs.declared.effect.OnReleases.TheVariants as on_releases
+use Rattle.held_releases.specs.declared.change.OnReleases.{OnReleases}
+use Rattle.held_releases.specs.declared.change.OnReleases.TheVariants as on_releases
 use Rattle.desk_state.specs.Events.{moment_after}
+pub use Rattle.desk_state.specs.Install.{IsSmall, IsSmallRelease}
 use Rattle.desk_state.specs.Sound.{AreApart}
 use Rattle.desk_state.specs.State.{State}
-
--- a number after which there is another one
-abbrev pub IsSmall : ℕ → Type 0
-IsSmall n = n < 10_000_000_000_000_000
 
 abbrev pub WasReceived : Option Report → Type 0
 WasReceived report = IfSome report (λ r. IsMoment r.received)
@@ -41,12 +38,6 @@ IsShownRelease on_releases.Nothing = Unit {0}
 IsShownRelease (on_releases.File r) = ReleaseHasMoments r
 IsShownRelease (on_releases.Put r) = ReleaseHasMoments r
 IsShownRelease (on_releases.Remove id) = Unit {0}
-
-abbrev pub IsSmallRelease : OnReleases → Type 0
-IsSmallRelease on_releases.Nothing = Unit {0}
-IsSmallRelease (on_releases.File r) = IsSmall r.id
-IsSmallRelease (on_releases.Put r) = Unit {0}
-IsSmallRelease (on_releases.Remove id) = Unit {0}
 
 abbrev pub WasAccepted : Option KeptReply → Type 0
 WasAccepted kept = IfSome kept (λ k. IsMoment k.at)

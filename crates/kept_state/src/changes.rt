@@ -2,10 +2,9 @@ ghost use Rattle.std.specs.Prelude.{◌≡◌, ◌++◌, ◌∷◌, All, IfOk, O
 ghost use Rattle.std.specs.Option.{option_copied};
 ghost use Rattle.desk_io.specs.declared.rows.Change.TheVariants as change;
 ghost use Rattle.facts.specs.Swept.{leaving};
-ghost use Rattle.desk_state.specs.Contents.{state_of};
 ghost use Rattle.desk_state.specs.Events.{effected, alert_changes, moment_after};
 ghost use Rattle.desk_state.specs.Requests.{kept_before};
-ghost use Rattle.desk_state.specs.Sound.{Sound, InBounds, EffectFits, AreApart};
+ghost use Rattle.desk_state.specs.Sound.{EffectFits, AreApart};
 ghost use Rattle.desk_state.specs.Step as step;
 ghost use Rattle.desk_state.specs.Step.{kept_of};
 ghost use Rattle.desk_time.specs.Limits.{IsMoment};
@@ -19,9 +18,10 @@ use crate::meta::meta_after;
 use alerts::Alert;
 use asks::KeptReply;
 use desk_io::{Change, OutOfMemory};
-use desk_state::{AlertChange, Content, Effect, Entry, OnDeferrals, OnReleases, Sweep};
+use desk_state::{AlertChange, Content, Effect, Entry, OnDeferrals, Sweep};
 use desk_time::Minute;
 use facts::{Report, Reports};
+use held_releases::OnReleases;
 use plan::Release;
 use records::{Record, RecordRef};
 use std::alloc::Global;
@@ -96,10 +96,10 @@ fn push_reports(
 ) -> Result<(), OutOfMemory>
     requires received { WasReceived effect.now.report }
     requires apart { AreApart effect.now.report effect.now.sweep }
-    ensures { OnOk result (changes.new.items ≡ changes.old.items ++ spec.on_reports (state_of content.now) effect.now) }
+    ensures { OnOk result (changes.new.items ≡ changes.old.items ++ spec.on_reports content.now.state effect.now) }
 {
     push_report(alloc, changes, &effect.report)?;
-    push_swept_reports(alloc, changes, &effect.sweep, &content.reports)
+    push_swept_reports(alloc, changes, &effect.sweep, content.reports())
 }
 
 fn push_deferral(
@@ -206,10 +206,10 @@ fn push_replies(
     kept: Option<&KeptReply>,
 ) -> Result<(), OutOfMemory>
     requires { WasAccepted (option_copied kept) }
-    ensures { OnOk result (changes.new.items ≡ changes.old.items ++ spec.on_replies (state_of content.now) effect.now
+    ensures { OnOk result (changes.new.items ≡ changes.old.items ++ spec.on_replies content.now.state effect.now
         (option_copied kept.entry)) }
 {
-    push_swept_replies(changes, &effect.sweep, content.kept.as_slice())?;
+    push_swept_replies(changes, &effect.sweep, content.replies().as_slice())?;
     push_reply(alloc, changes, kept)
 }
 
@@ -247,10 +247,10 @@ fn put_meta(
     effect: &Effect,
     entered: &Entry,
 ) -> Result<Change, OutOfMemory>
-    requires moment { IsMoment (moment_after effect.now.moment content.now.moment) }
-    requires small { AreSmall content.now.counters effect.now }
+    requires moment { IsMoment (moment_after effect.now.moment content.now.state.moment) }
+    requires small { AreSmall content.now.state.counters effect.now }
     ensures { IfOk result (λ c. c ≡ spec.put_row (Record.Meta (meta_of
-        (step.entered entered.now (effected effect.now (state_of content.now)))))) }
+        (step.entered entered.now (effected effect.now content.now.state))))) }
 {
     put_row(alloc, &meta_after(content, effect, entered))
 }
@@ -264,9 +264,9 @@ fn push_parts(
     kept: Option<&KeptReply>,
     alerts: &[AlertChange],
 ) -> Result<(), OutOfMemory>
-    requires { AreShown (state_of content.now) effect.now (option_copied kept) alerts.now }
+    requires { AreShown content.now.state effect.now (option_copied kept) alerts.now }
     ensures { OnOk result (changes.new.items ≡ changes.old.items ++ spec.part_changes
-        (state_of content.now) effect.now (option_copied kept.entry) alerts.now) }
+        content.now.state effect.now (option_copied kept.entry) alerts.now) }
 {
     push_reports(alloc, changes, content, effect)?;
     push_deferral(alloc, changes, &effect.on_deferrals)?;
@@ -283,10 +283,10 @@ fn shown_changes(
     kept: Option<&KeptReply>,
     alerts: &[AlertChange],
 ) -> Result<Vec<Change>, OutOfMemory>
-    requires { AreShown (state_of content.now) effect.now (option_copied kept) alerts.now }
+    requires { AreShown content.now.state effect.now (option_copied kept) alerts.now }
     ensures { IfOk result (λ changes. changes.items ≡ spec.put_row
-        (Record.Meta (meta_of (step.entered entered.now (effected effect.now (state_of content.now))))) ∷
-        spec.part_changes (state_of content.now) effect.now (option_copied kept.entry) alerts.now) }
+        (Record.Meta (meta_of (step.entered entered.now (effected effect.now content.now.state)))) ∷
+        spec.part_changes content.now.state effect.now (option_copied kept.entry) alerts.now) }
 {
     let mut changes = Vec::new(alloc);
     changes.push(put_meta(alloc, content, effect, entered)?)?;
@@ -305,13 +305,12 @@ pub fn event_changes(
     kept: Option<&KeptReply>,
     alerts: &[AlertChange],
 ) -> Result<Vec<Change>, OutOfMemory>
-    requires sound { Sound (state_of content.now) }
-    requires bounds { InBounds (state_of content.now) }
-    requires fits { EffectFits (state_of content.now) effect.now }
-    requires kept { option_copied kept ≡ kept_of (effected effect.now (state_of content.now)) entered.now.what }
-    requires alerts { alerts.now ≡ alert_changes effect.now (state_of content.now) }
+    requires fits { EffectFits content.now.state effect.now }
+    requires kept { option_copied kept ≡ kept_of (effected effect.now content.now.state) entered.now.what }
+    requires alerts { alerts.now ≡ alert_changes effect.now content.now.state }
     ensures { IfOk result (λ changes. changes.items ≡ spec.event_changes
-        (state_of content.now) effect.now entered.now) }
+        content.now.state effect.now entered.now) }
 {
+    content.holds();
     shown_changes(alloc, content, effect, entered, kept, alerts)
 }

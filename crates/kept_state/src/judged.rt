@@ -1,6 +1,4 @@
-ghost use Rattle.std.specs.Prelude.{◌≡◌, ◌<◌, All, IfOk};
-ghost use Rattle.desk_state.specs.Contents.{state_of};
-ghost use Rattle.desk_time.specs.Limits.{IsMoment};
+ghost use Rattle.std.specs.Prelude.{◌≡◌, All, IfOk};
 ghost use Rattle.records.specs.Lent.{lent};
 ghost use Rattle.kept_state.specs.Judged as spec;
 ghost use Rattle.kept_state.specs.Shown.{WasOpened};
@@ -13,16 +11,16 @@ use records::{MetaRef, Record, RecordRef};
 use std::alloc::Global;
 
 fn meta_after_event(content: &Content) -> RecordRef<'_>
-    requires { content.now.counters.events < 999_999_999_999_999 }
-    ensures { lent result ≡ Record.Meta (spec.meta_after_event (state_of content.now)) }
+    ensures { lent result ≡ Record.Meta (spec.meta_after_event content.now.state) }
 {
+    content.holds();
     RecordRef::Meta(MetaRef {
-        moment: content.moment,
+        moment: content.moment(),
         counters: Counters {
-            events: content.counters.events + 1,
-            ..content.counters
+            events: content.counters().events + 1,
+            ..content.counters()
         },
-        floors: &content.floors,
+        floors: content.replies().listed_floors(),
     })
 }
 
@@ -34,11 +32,10 @@ pub fn judged_changes(
     content: &Content,
     alerts: &[AlertChange],
 ) -> Result<Vec<Change>, OutOfMemory>
-    requires moment { IsMoment content.now.moment }
-    requires room { content.now.counters.events < 999_999_999_999_999 }
-    requires opened { All (λ c. WasOpened c.after) alerts.now }
-    ensures { IfOk result (λ changes. changes.items ≡ spec.judged_changes (state_of content.now) alerts.now) }
+    requires { All (λ c. WasOpened c.after) alerts.now }
+    ensures { IfOk result (λ changes. changes.items ≡ spec.judged_changes content.now.state alerts.now) }
 {
+    content.holds();
     let mut changes = Vec::new(alloc);
     if !alerts.is_empty() {
         changes.push(put_row(alloc, &meta_after_event(content))?)?;

@@ -3,7 +3,6 @@
 
 mod again;
 mod changes;
-mod deferred;
 mod held;
 mod judged;
 mod meta;

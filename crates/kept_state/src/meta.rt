@@ -1,5 +1,4 @@
 ghost use Rattle.std.specs.Prelude.{◌≡◌};
-ghost use Rattle.desk_state.specs.Contents.{state_of};
 ghost use Rattle.desk_state.specs.Events as events;
 ghost use Rattle.desk_state.specs.Step as step;
 ghost use Rattle.records.specs.Lent.{lent};
@@ -7,9 +6,10 @@ ghost use Rattle.kept_state.specs.Rows as spec;
 ghost use Rattle.kept_state.specs.Shown.{IsSmall, IsSmallReport, IsSmallDeferral, IsSmallRelease, AreSmall};
 
 use asks::Floors;
-use desk_state::{Content, Counters, Effect, Entry, OnDeferrals, OnReleases, Sweep, What};
+use desk_state::{Content, Counters, Effect, Entry, OnDeferrals, Sweep, What};
 use desk_time::Minute;
 use facts::Report;
+use held_releases::OnReleases;
 use records::{MetaRef, Record, RecordRef};
 
 fn moment_after(to: Option<Minute>, moment: Minute) -> Minute
@@ -70,9 +70,9 @@ fn floors_after<'a>(sweep: &'a Option<Sweep>, floors: &'a Floors) -> &'a Floors
     }
 }
 
-fn counters_after(counters: &Counters, effect: &Effect, entered: &Entry) -> Counters
-    requires { AreSmall counters.now effect.now }
-    ensures { result ≡ step.counted entered.now.what (events.counters_after effect.now counters.now) }
+fn counters_after(counters: Counters, effect: &Effect, entered: &Entry) -> Counters
+    requires { AreSmall counters effect.now }
+    ensures { result ≡ step.counted entered.now.what (events.counters_after effect.now counters) }
 {
     Counters {
         events: counters.events + 1,
@@ -89,13 +89,13 @@ pub(crate) fn meta_after<'a>(
     effect: &'a Effect,
     entered: &Entry,
 ) -> RecordRef<'a>
-    requires { AreSmall content.now.counters effect.now }
+    requires { AreSmall content.now.state.counters effect.now }
     ensures { lent result ≡ Record.Meta (spec.meta_of (step.entered entered.now
-        (events.effected effect.now (state_of content.now)))) }
+        (events.effected effect.now content.now.state))) }
 {
     RecordRef::Meta(MetaRef {
-        moment: moment_after(effect.moment, content.moment),
-        counters: counters_after(&content.counters, effect, entered),
-        floors: floors_after(&effect.sweep, &content.floors),
+        moment: moment_after(effect.moment, content.moment()),
+        counters: counters_after(content.counters(), effect, entered),
+        floors: floors_after(&effect.sweep, content.replies().listed_floors()),
     })
 }

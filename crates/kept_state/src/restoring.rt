@@ -1,22 +1,23 @@
 ghost use Rattle.std.specs.Prelude.{◌≡◌, IfOk};
-ghost use Rattle.desk_state.specs.Contents.{state_of};
+ghost use Rattle.desk_state.specs.Holds.{Holds};
 ghost use Rattle.kept_state.specs.Held.{AreOfDesk, state_in};
 ghost use Rattle.kept_state.specs.Parting.{kinds_of, no_kinds, with_records};
 ghost use Rattle.kept_state.specs.Restoring as spec;
 
 use crate::again::reports_again;
-use crate::deferred::open_deferrals;
 use crate::parting::{Parts, parts_of};
 use crate::telling::alerts_told;
 use alerts::Alert;
 use asks::KeptReply;
 use deferrals::Deferrals;
 use desk_io::OutOfMemory;
-use desk_state::Content;
+use desk_state::{Content, Holdings};
 use facts::Reports;
-use ops_tables::Tables;
-use plan::Release;
+use held_releases::Releases;
+use kept_replies::Replies;
+use ops_tables::{Settings, Tables};
 use records::{Meta, Record};
+use sorted::ById;
 use std::alloc::Global;
 
 /// What records say, made to be held.
@@ -25,14 +26,14 @@ pub(crate) struct Held {
     pub meta: Option<Meta>,
     pub reports: Reports,
     pub deferrals: Deferrals,
-    pub releases: Vec<Release>,
-    pub alerts: Vec<Alert>,
+    pub releases: Releases,
+    pub alerts: ById<Alert>,
     pub kept: Vec<KeptReply>,
 }
 
-fn held_of(alloc: Global, parts: Parts) -> Result<Held, OutOfMemory>
+fn held_of(alloc: Global, settings: Settings, parts: Parts) -> Result<Held, OutOfMemory>
     requires { spec.MayHold (kinds_of parts) }
-    ensures { IfOk result (λ held. spec.Holds (kinds_of parts) held) }
+    ensures { IfOk result (λ held. spec.AreMade settings (kinds_of parts) held) }
 {
     let Parts {
         meta,
@@ -42,9 +43,10 @@ fn held_of(alloc: Global, parts: Parts) -> Result<Held, OutOfMemory>
         replies,
         alerts,
     } = parts;
-    let reports = reports_again(alloc, reports)?;
-    let deferrals = open_deferrals(alloc, deferrals)?;
-    let alerts = alerts_told(alloc, &releases, alerts)?;
+    let reports = Reports::from_vec(alloc, reports_again(alloc, reports)?)?;
+    let deferrals = Deferrals::from_vec(alloc, deferrals)?;
+    let releases = Releases::from_vec(alloc, settings, releases)?;
+    let alerts = ById::from_vec(alerts_told(alloc, &releases, alerts)?);
     Ok(Held {
         meta,
         reports,
@@ -55,15 +57,17 @@ fn held_of(alloc: Global, parts: Parts) -> Result<Held, OutOfMemory>
     })
 }
 
-fn held_in(alloc: Global, records: Vec<Record>) -> Result<Held, OutOfMemory>
+fn held_in(alloc: Global, settings: Settings, records: Vec<Record>) -> Result<Held, OutOfMemory>
     requires { AreOfDesk records.items }
-    ensures { IfOk result (λ held. spec.Holds (with_records records.items no_kinds) held) }
+    ensures { IfOk result (λ held. spec.AreMade settings (with_records records.items no_kinds) held) }
 {
-    held_of(alloc, parts_of(alloc, records)?)
+    held_of(alloc, settings, parts_of(alloc, records)?)
 }
 
-fn content_with(alloc: Global, tables: Tables, held: Held) -> Content
-    ensures { state_of result ≡ spec.state_held tables held }
+fn content_with(alloc: Global, tables: Tables, held: Held) -> Result<Content, OutOfMemory>
+    requires holds { Holds (spec.state_held tables held) }
+    requires settings { held.releases.settings ≡ tables.settings }
+    ensures { IfOk result (λ content. content.state ≡ spec.state_held tables held) }
 {
     let Held {
         meta,
@@ -74,32 +78,34 @@ fn content_with(alloc: Global, tables: Tables, held: Held) -> Content
         kept,
     } = held;
     match meta {
-        None => Content::new(alloc, tables),
-        Some(meta) => Content {
-            tables,
-            moment: meta.moment,
-            counters: meta.counters,
-            reports,
-            deferrals,
-            releases,
-            alerts,
-            kept,
-            floors: meta.floors,
-            entries: Vec::new(alloc),
-        },
+        None => Ok(Content::new(alloc, tables)),
+        Some(meta) => {
+            let replies = Replies::from_parts(alloc, kept, meta.floors)?;
+            Ok(Content::from_holdings(Holdings {
+                tables,
+                moment: meta.moment,
+                counters: meta.counters,
+                reports,
+                deferrals,
+                releases,
+                alerts,
+                replies,
+                entries: Vec::new(alloc),
+            }))
+        }
     }
 }
 
 /// The state that records stand for under some tables.
-#[tactic(auto, using(crate::proofs::RestoringLaws::held_state))]
 pub fn content_of(
     alloc: Global,
     tables: Tables,
     records: Vec<Record>,
 ) -> Result<Content, OutOfMemory>
     requires { AreOfDesk records.items }
-    ensures { IfOk result (λ content. state_of content ≡ state_in tables records.items) }
+    ensures { IfOk result (λ content. content.state ≡ state_in tables records.items) }
 {
-    let held = held_in(alloc, records)?;
-    Ok(content_with(alloc, tables, held))
+    tables.are_named();
+    let held = held_in(alloc, tables.settings(), records)?;
+    content_with(alloc, tables, held)
 }

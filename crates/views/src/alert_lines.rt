@@ -1,13 +1,12 @@
 ghost use Rattle.std.specs.Prelude.{◌≡◌, ◌++◌, IfOk, OnOk};
-ghost use Rattle.std.specs.List.{AllByRecursion};
 ghost use Rattle.desk_state.specs.Texts as spec;
 ghost use Rattle.desk_time.specs.Limits.{IsMoment};
-ghost use Rattle.alerts.specs.Alerts.{IsAlert};
 
 use crate::findings::{findings_text, mark_text};
 use alerts::Alert;
 use desk_io::{OutOfMemory, Text, push_all};
-use desk_time::{Minute, show};
+use desk_state::Content;
+use desk_time::show;
 use std::alloc::Global;
 
 fn push_alert_head(alloc: Global, out: &mut Vec<u8>, alert: &Alert) -> Result<(), OutOfMemory>
@@ -60,16 +59,11 @@ fn push_alert(alloc: Global, out: &mut Vec<u8>, alert: &Alert) -> Result<(), Out
     push_failing(alloc, out, alert)
 }
 
-fn push_alerts(
-    alloc: Global,
-    out: &mut Vec<u8>,
-    most: u64,
-    alerts: &[Alert],
-) -> Result<(), OutOfMemory>
-    requires { AllByRecursion (IsAlert most) alerts.now }
-    ensures { OnOk result (out.new.items ≡ out.old.items ++ spec.alert_lines alerts.now) }
+fn push_alerts(alloc: Global, out: &mut Vec<u8>, content: &Content) -> Result<(), OutOfMemory>
+    ensures { OnOk result (out.new.items ≡ out.old.items ++ spec.alert_lines content.now.state.alerts) }
 {
-    for alert in alerts {
+    content.holds();
+    for alert in content.alerts() {
         push_alert(alloc, out, alert)?;
     }
     Ok(())
@@ -77,19 +71,16 @@ fn push_alerts(
 
 /// The alerts that stand.
 #[tactic(auto, unfolding(desk_state::specs::Texts::alerts_view))]
-pub fn alerts_view(
-    alloc: Global,
-    moment: Minute,
-    most: u64,
-    alerts: &[Alert],
-) -> Result<Text, OutOfMemory>
-    requires moment { IsMoment moment }
-    requires open { AllByRecursion (IsAlert most) alerts.now }
-    ensures { IfOk result (λ t. t ≡ spec.alerts_view moment alerts.now) }
+pub fn alerts_view(alloc: Global, content: &Content) -> Result<Text, OutOfMemory>
+    ensures { IfOk result (λ t. t ≡ spec.alerts_view content.now.state.moment content.now.state.alerts) }
 {
+    content.holds();
     let mut lines = Vec::new(alloc);
-    push_alerts(alloc, &mut lines, most, alerts)?;
+    push_alerts(alloc, &mut lines, content)?;
     let mut out = Vec::new(alloc);
-    push_all(&mut out, &[b"ALERTS ", &show(moment), b"\n", &lines])?;
+    push_all(
+        &mut out,
+        &[b"ALERTS ", &show(content.moment()), b"\n", &lines],
+    )?;
     Ok(Text::from_vec(out))
 }

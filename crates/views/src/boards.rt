@@ -1,17 +1,13 @@
 ghost use Rattle.std.specs.Prelude.{◌≡◌, ◌++◌, IfOk, OnOk};
-ghost use Rattle.std.specs.List.{AllByRecursion};
 ghost use Rattle.std.specs.Option.{option_copied};
 ghost use Rattle.desk_state.specs.Texts as spec;
-ghost use Rattle.desk_state.specs.Contents.{state_of};
-ghost use Rattle.desk_state.specs.Sound.{ReleaseInBounds, InBounds};
 ghost use Rattle.plan.specs.Texts.{HasMoment};
-ghost use Rattle.desk_time.specs.Limits.{IsMoment};
 
 use crate::findings::{findings_text, mark_text};
 use alerts::Alert;
 use desk_io::{OutOfMemory, Text, push_all};
-use desk_state::{Content, find_alert};
-use desk_time::{Minute, show};
+use desk_state::Content;
+use desk_time::show;
 use facts::push_weather;
 use plan::{Release, Revision, phase_text};
 use std::alloc::Global;
@@ -123,38 +119,32 @@ fn push_release(
     push_desk(alloc, out, release, alert)
 }
 
-fn push_releases(
-    alloc: Global,
-    out: &mut Vec<u8>,
-    alerts: &[Alert],
-    releases: &[Release],
-) -> Result<(), OutOfMemory>
-    requires { AllByRecursion ReleaseInBounds releases.now }
-    ensures { OnOk result (out.new.items ≡ out.old.items ++ spec.release_lines alerts.now releases.now) }
+fn push_releases(alloc: Global, out: &mut Vec<u8>, content: &Content) -> Result<(), OutOfMemory>
+    ensures { OnOk result (out.new.items ≡ out.old.items ++ spec.release_lines content.now.state.alerts
+        content.now.state.releases) }
 {
-    for release in releases {
-        push_release(alloc, out, release, find_alert(alerts, release.id))?;
+    for release in content.releases().as_slice() {
+        push_release(alloc, out, release, content.alert(release.id))?;
     }
     Ok(())
 }
 
-fn push_board_head(out: &mut Vec<u8>, moment: Minute) -> Result<(), OutOfMemory>
-    requires { IsMoment moment }
-    ensures { OnOk result (out.new.items ≡ out.old.items ++ spec.board_head moment) }
+fn push_board_head(out: &mut Vec<u8>, content: &Content) -> Result<(), OutOfMemory>
+    ensures { OnOk result (out.new.items ≡ out.old.items ++ spec.board_head content.now.state.moment) }
 {
-    push_all(out, &[b"BOARD ", &show(moment), b"\n"])
+    content.holds();
+    push_all(out, &[b"BOARD ", &show(content.moment()), b"\n"])
 }
 
 /// The releases in order of their numbers: each with its flight, its aircraft and its phase, the numbers of its
 /// active and of its pending revision, its dispatcher and its alert.
 #[tactic(auto, unfolding(desk_state::specs::Texts::board_view))]
 pub fn board_view(alloc: Global, content: &Content) -> Result<Text, OutOfMemory>
-    requires { InBounds (state_of content.now) }
-    ensures { IfOk result (λ t. t ≡ spec.board_view (state_of content.now)) }
+    ensures { IfOk result (λ t. t ≡ spec.board_view content.now.state) }
 {
     let mut out = Vec::new(alloc);
-    push_board_head(&mut out, content.moment)?;
-    push_releases(alloc, &mut out, &content.alerts, &content.releases)?;
+    push_board_head(&mut out, content)?;
+    push_releases(alloc, &mut out, content)?;
     Ok(Text::from_vec(out))
 }
 
@@ -162,13 +152,12 @@ pub fn board_view(alloc: Global, content: &Content) -> Result<Text, OutOfMemory>
 /// report.
 #[tactic(auto, unfolding(desk_state::specs::Texts::closing))]
 pub fn closing(alloc: Global, content: &Content) -> Result<Text, OutOfMemory>
-    requires { InBounds (state_of content.now) }
-    ensures { IfOk result (λ t. t ≡ spec.closing (state_of content.now)) }
+    ensures { IfOk result (λ t. t ≡ spec.closing content.now.state) }
 {
     let mut out = Vec::new(alloc);
-    push_board_head(&mut out, content.moment)?;
-    push_releases(alloc, &mut out, &content.alerts, &content.releases)?;
-    push_weather(&mut out, &content.reports)?;
+    push_board_head(&mut out, content)?;
+    push_releases(alloc, &mut out, content)?;
+    push_weather(&mut out, content.reports())?;
     push_all(&mut out, &[b"END\n"])?;
     Ok(Text::from_vec(out))
 }

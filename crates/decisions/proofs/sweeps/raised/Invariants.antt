@@ -1,8 +1,7 @@
 use Rattle.std.proofs.Common.{◌≡◌, drop}
-use Rattle.desk_state.specs.Contents.{state_of}
 use Rattle.desk_state.specs.Requests.{raised_by, kept_before}
 use Rattle.decisions.proofs.sweeps.raised.Given as goal
 
 abbrev pub invariant-loop-reply : goal.invariant-loop-reply
 invariant-loop-reply l =
-    raised_by (kept_before l.before (drop l.reply-index (state_of l.content).kept)) l.floors.items ≡ raised_by (kept_before l.before (state_of l.content).kept) (state_of l.content).floors
+    raised_by (kept_before l.before (drop l.reply-index l.content.state.kept)) l.floors.items ≡ raised_by (kept_before l.before l.content.state.kept) l.content.state.floors

@@ -5,4 +5,4 @@ use Rattle.kept_state.specs.Held.{alert_of}
 use Rattle.kept_state.proofs.telling.alerts_told.Given as goal
 
 abbrev pub invariant-loop-alert : goal.invariant-loop-alert
-invariant-loop-alert l = l.alerts.items ++ filter_map (alert_of l.releases) (into_iter_items l.alert-iterator) ≡ filter_map (alert_of l.releases) l.fn.kept.items
+invariant-loop-alert l = l.alerts.items ++ filter_map (alert_of l.releases.list) (into_iter_items l.alert-iterator) ≡ filter_map (alert_of l.releases.list) l.fn.kept.items

@@ -6,6 +6,6 @@ use Rattle.views.proofs.alert_lines.push_alerts.Given as goal
 
 abbrev pub invariant-loop-alert : goal.invariant-loop-alert
 invariant-loop-alert l = record {
-  lines : l.out.items ++ alert_lines (drop l.alert-index l.alerts) ≡ l.fn.out.items ++ alert_lines l.alerts;
-  rest : AllByRecursion (IsAlert l.most) (drop l.alert-index l.alerts);
+  lines : l.out.items ++ alert_lines (drop l.alert-index l.content.state.alerts) ≡ l.fn.out.items ++ alert_lines l.content.state.alerts;
+  rest : AllByRecursion (IsAlert l.content.state.counters.events) (drop l.alert-index l.content.state.alerts);
 }

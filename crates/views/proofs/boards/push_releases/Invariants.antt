@@ -6,6 +6,7 @@ use Rattle.views.proofs.boards.push_releases.Given as goal
 
 abbrev pub invariant-loop-release : goal.invariant-loop-release
 invariant-loop-release l = record {
-  lines : l.out.items ++ release_lines l.alerts (drop l.release-index l.releases) ≡ l.fn.out.items ++ release_lines l.alerts l.releases;
-  rest : AllByRecursion ReleaseInBounds (drop l.release-index l.releases);
+  lines : l.out.items ++ release_lines l.content.state.alerts (drop l.release-index l.content.state.releases)
+      ≡ l.fn.out.items ++ release_lines l.content.state.alerts l.content.state.releases;
+  rest : AllByRecursion ReleaseInBounds (drop l.release-index l.content.state.releases);
 }
