@@ -1,2 +1,5 @@
 pub mod Parts
-pub mod Walks
+pub mod Then
+pub mod Named
+pub mod Ids
+pub mod Judged

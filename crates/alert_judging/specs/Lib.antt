@@ -1,1 +1,2 @@
 pub mod Prospect
+pub mod Touching

@@ -1,18 +1,17 @@
 -- A state that records stand for, once it is judged, and its rows.
 use Rattle.std.proofs.Common.{◌≡◌, ℕ, inl, inr, List, [], ◌∷◌, ◌++◌, map, Option, None, Some, refl, sym, ap, ◌∙◌, subst}
 use Rattle.std.specs.List.{AllByRecursion}
-use Rattle.alerts.specs.declared.alert.Alert.{Alert as AlertOf}
 use Rattle.desk_io.specs.Rows.{Rows, rows_of, changed_by}
 use Rattle.desk_io.specs.declared.rows.Change.{Change}
 use Rattle.keeper.specs.Kept.{AreSame}
 use Rattle.kept_state.specs.Judged.{judged_changes}
 use Rattle.kept_state.specs.Rows.{report_kept, alert_kept, records_of, state_rows, AreKept}
-use Rattle.kept_state.proofs.AlertRows.{IsOwn, changes_own}
+use Rattle.kept_state.proofs.AlertRows.{changes_own}
 use Rattle.kept_state.proofs.JudgedLaws.{judged_lead, with_alerts}
 use Rattle.desk_state.specs.declared.change.AlertChange.{AlertChange}
 use Rattle.desk_state.specs.Effects.{nothing}
 use Rattle.desk_state.specs.Events.{alert_changes, put_changes}
-use Rattle.desk_state.specs.Sound.{EffectFits}
+use Rattle.desk_state.specs.Sound.{EffectFits, IsBoard, Sound}
 use Rattle.desk_state.specs.State.{State, start, judged_all}
 use Rattle.ops_tables.specs.Named.{AreNamed}
 use Rattle.ops_tables.specs.Tables.{TableRows}
@@ -22,7 +21,13 @@ use Rattle.records.specs.declared.record.Record.{Record}
 use Rattle.records.specs.declared.record.Record.TheVariants.{Meta, Report, Deferral, Release, Kept, Alert}
 use Rattle.kept_state.specs.Held.{AreOfDesk, meta_in, state_by, state_in, state_with}
 use Rattle.kept_state.specs.Opening.{MayReopen, counters_with, events_with, reopened}
-use Rattle.kept_state.proofs.OpeningLaws.{changes_lead}
+use Rattle.kept_state.proofs.OpeningLaws.{changes_lead, reopened_board}
+use Rattle.desk_state.specs.Contents.{Held, held}
+use Rattle.desk_state.specs.Holds.{Holds}
+use Rattle.desk_state.specs.declared.counters.Counters.{Counters}
+use Rattle.desk_state.proofs.Boards.{start_board}
+use Rattle.desk_state.specs.Install.{IsOwn, with_judged}
+use Rattle.desk_state.proofs.HoldLaws.{board_holds}
 use Rattle.kept_state.proofs.RecordLaws.{no_records, records_again}
 use Rattle.kept_state.proofs.StateLaws.{may_reopen}
 
@@ -61,14 +66,14 @@ still : (s : State) → MayReopen s → alert_changes nothing s ≡ [] → reope
 unfolding reopened
 still s may none =
     ap (λ changes. record s { counters = counters_with changes s.counters; alerts = judged_all s }) none
-    ∙ ap (λ alerts. record s { alerts = alerts }) (sym (changes_lead s may.judgeable) ∙ ap (λ changes. put_changes changes s.alerts) none)
+    ∙ ap (λ alerts. record s { alerts = alerts }) (sym (changes_lead s may.holds.judgeable) ∙ ap (λ changes. put_changes changes s.alerts) none)
 
 -- where some change
 changed : (s : State) (c : AlertChange) (cs : List AlertChange) → MayReopen s → alert_changes nothing s ≡ c ∷ cs → reopened s ≡ with_alerts s (c ∷ cs)
 unfolding reopened
 changed s c cs may some =
     ap (λ changes. record s { counters = counters_with changes s.counters; alerts = judged_all s }) some
-    ∙ ap (λ alerts. record s { counters = counters_with (c ∷ cs) s.counters; alerts = alerts }) (sym (changes_lead s may.judgeable) ∙ ap (λ changes. put_changes changes s.alerts) some)
+    ∙ ap (λ alerts. record s { counters = counters_with (c ∷ cs) s.counters; alerts = alerts }) (sym (changes_lead s may.holds.judgeable) ∙ ap (λ changes. put_changes changes s.alerts) some)
 
 -- at the beginning no alert changes
 none_changes : (s : State) (c : AlertChange) (cs : List AlertChange) → s ≡ start s.tables → alert_changes nothing s ≡ c ∷ cs → ⊥
@@ -79,7 +84,7 @@ unfolding judged_changes
 kept_as s [] rows may is kept = subst (λ t. AreKept rows t) (sym (still s may is)) kept
 kept_as s (c ∷ cs) rows may is (inl same) =
     subst (λ t. AreKept (changed_by (judged_changes s (c ∷ cs)) rows) t) (sym (changed s c cs may is))
-    (inl (judged_lead s c cs (subst (AllByRecursion IsOwn) is (changes_own nothing s)) may.judgeable rows same))
+    (inl (judged_lead s c cs (subst (AllByRecursion IsOwn) is (changes_own nothing s)) may.holds.judgeable rows same))
 kept_as s (c ∷ cs) rows may is (inr none) = absurd (none_changes s c cs none.1 is)
 
 -- what the judgement changes of the rows leads to those of the judged state
@@ -96,13 +101,32 @@ ends : (s : State) (changes : List AlertChange) → MayReopen s → changes ≡ 
 unfolding reopened
 ends s changes may is =
     ap (λ cs. record s { counters = counters_with cs s.counters; alerts = put_changes cs s.alerts }) is
-    ∙ ap (λ alerts. record s { counters = counters_with (alert_changes nothing s) s.counters; alerts = alerts }) (changes_lead s may.judgeable)
+    ∙ ap (λ alerts. record s { counters = counters_with (alert_changes nothing s) s.counters; alerts = alerts }) (changes_lead s may.holds.judgeable)
 
 -- what is put in place is the judged state
-pub is_reopened : (s t : State) (changes listed : List AlertChange) (events : ℕ) (alerts : List AlertOf) → MayReopen s → changes ≡ alert_changes nothing s → listed ≡ changes
-    → events ≡ events_with listed s.counters.events → alerts ≡ put_changes changes s.alerts → t ≡ record s { counters = record s.counters { events = events }; alerts = alerts } → t ≡ reopened s
-is_reopened s t changes listed events alerts may is same counted put made =
-    made
-    ∙ ap (λ (n : ℕ). record s { counters = record s.counters { events = n }; alerts = alerts }) (counted ∙ ap (λ cs. events_with cs s.counters.events) same)
-    ∙ ap (λ (xs : List AlertOf). record s { counters = counters_with changes s.counters; alerts = xs }) put
-    ∙ ends s changes may is
+pub is_reopened : (s : State) (changes : List AlertChange) → MayReopen s → changes ≡ alert_changes nothing s → with_judged changes (events_with changes s.counters.events) s ≡ reopened s
+is_reopened s changes may is = ends s changes may is
+
+pub judged_own : (s : State) (changes : List AlertChange) → changes ≡ alert_changes nothing s → AllByRecursion IsOwn changes
+judged_own s changes is = subst (AllByRecursion IsOwn) (sym is) (changes_own nothing s)
+
+pub reopened_sound : (s t : State) → MayReopen s → t ≡ reopened s → Sound t
+reopened_sound s t may is = subst Sound (sym is) (reopened_board s may).sound
+
+-- the number of events, as code counts them
+pub counted_so : (s : State) (c : Counters) (changes listed : List AlertChange) (events : ℕ) → c ≡ s.counters → listed ≡ changes → events ≡ events_with listed c.events → events ≡ events_with changes s.counters.events
+counted_so s c changes listed events is same counted = counted ∙ ap (λ xs. events_with xs c.events) same ∙ ap (λ (d : Counters). events_with changes d.events) is
+
+pub judged_holds : (s : State) (changes : List AlertChange) (events : ℕ) → MayReopen s → changes ≡ alert_changes nothing s → events ≡ events_with changes s.counters.events → Holds (with_judged changes events s)
+judged_holds s changes events may is counted =
+    subst (λ (n : ℕ). Holds (with_judged changes n s)) (sym counted) (subst Holds (sym (is_reopened s changes may is)) (board_holds (reopened s) (reopened s) (reopened_board s may)))
+
+pub judged_leads : (s : State) (h : Held) (changes : List AlertChange) (events : ℕ) → MayReopen s → changes ≡ alert_changes nothing s → events ≡ events_with changes s.counters.events
+    → h ≡ held (with_judged changes events s) None → h.state ≡ reopened s
+judged_leads s h changes events may is counted leads =
+    ap (λ (k : Held). k.state) leads ∙ ap (λ (n : ℕ). with_judged changes n s) counted ∙ is_reopened s changes may is
+
+-- ---- the board that is made of it
+
+pub new_board : (tables : TableRows) (s t : State) → AreNamed tables → t ≡ start tables → s ≡ t → IsBoard s t
+new_board tables s t names is same = subst (λ (u : State). IsBoard u t) (sym (same ∙ is)) (subst (IsBoard (start tables)) (sym is) (start_board tables names))

@@ -35,21 +35,28 @@ use Rattle.desk_state.proofs.RepeatLaws.{accepted_again}
 use Rattle.desk_state.proofs.SweepLaws.{sweeps_well}
 use Rattle.desk_state.proofs.Changes.{changes_lead}
 use Rattle.desk_state.proofs.Deciding.{decision_fits}
-use Rattle.desk_state.specs.Contents.{state_of}
-use Rattle.desk_state.specs.declared.content.Content.{Content}
+use Rattle.desk_state.specs.Contents.{Held}
+use Rattle.desk_state.specs.Holds.{Holds}
+use Rattle.desk_state.specs.Install.{IsNextReply, IsOwn, MayBeMade, room_of, with_events}
+use Rattle.desk_state.specs.declared.entry.What.{What}
+use Rattle.desk_state.specs.declared.entry.What.TheVariants as what
+use Rattle.asks.specs.declared.reply.Reply.TheVariants as reply
+use Rattle.desk_state.specs.Allowed.{DecisionOf}
+use Rattle.desk_state.proofs.AllowedLaws.{decision_is}
+use Rattle.desk_state.proofs.EffectForms.{floors_rise}
+use Rattle.kept_state.proofs.AlertRows.{changes_own}
+use Rattle.desk_state.specs.declared.event.Event.{Event}
 use Rattle.board.specs.declared.prepared.Prepared.{Prepared}
 use Rattle.board.specs.declared.steps.Judged.{Judged}
 use Rattle.decisions.specs.Reads.{DecisionAdmitsRead}
 use Rattle.board.proofs.Parts.{may_come}
-use Rattle.board.specs.Room.{MayBeMade}
 use Rattle.std.specs.Global.{Vec}
 use Rattle.desk_io.specs.Rows.{changed_by}
 use Rattle.desk_io.specs.declared.rows.Change.{Change}
 use Rattle.kept_state.specs.Changes.{event_changes}
 use Rattle.kept_state.specs.Rows.{AreKept}
 use Rattle.kept_state.proofs.Leading.{kept_lead}
-use Rattle.board.specs.declared.prepared.Event.{Event}
-use Rattle.board.specs.Prepare.{with_events, installed, IsStepped, KeepsRows, MayInstall, IsReady, Shown, shown}
+use Rattle.board.specs.Prepare.{installed, IsStepped, KeepsRows, MayInstall, IsReady, Shown, shown}
 
 -- the effect of a call fits
 pub decided_fits : (s : State) (call : Call) (made : Done) (effect : Effect) → Ok (Do made effect) ≡ decide s call → Sound s → InBounds s → CallHasForms call → EffectFits s effect
@@ -60,10 +67,30 @@ pub effect_of : (s : State) (call : Call) (d : Decision) (made : Done) (effect :
     → EffectFits s effect
 effect_of s call d made effect is decided sound kept form = decided_fits s call made effect (sym (ap (λ (x : Decision). Ok x) is) ∙ decided) sound kept form
 
-pub effect_may : (s : State) (call : Call) (d : Decision) (made : Done) (effect : Effect) → d ≡ Do made effect → Ok d ≡ decide s call → Sound s → InBounds s → CallHasForms call
+pub effect_may : (s : State) (call : Call) (d : Decision) (made : Done) (effect : Effect) → d ≡ Do made effect → Ok d ≡ decide s call → Sound s → Holds s → CallHasForms call
     → DecisionAdmitsRead d → MayBeMade s effect
-effect_may s call d made effect is decided sound kept form has =
-    may_come s effect (effect_of s call d made effect is decided sound kept form) (subst DecisionAdmitsRead is has) kept
+effect_may s call d made effect is decided sound holds form has =
+    let of : DecisionOf s call (Ok (Do made effect)) = subst (DecisionOf s call) (sym decided ∙ ap (λ (x : Decision). Ok x) is) (decision_is s call sound) in
+    may_come s effect (effect_of s call d made effect is decided sound holds.bounds form) (subst DecisionAdmitsRead is has) (floors_rise s call.actor holds.formed of.1) holds
+
+-- ---- what is planned may be put in place
+
+kept_next : (t : State) (w : What) → IfSome (kept_of t w) (IsNextReply t)
+kept_next t (what.Tick to) = tt
+kept_next t (what.Asked call (reply.Done d)) = refl
+kept_next t (what.Asked call (reply.Seen text)) = tt
+kept_next t (what.Asked call (reply.Refused refusal)) = tt
+
+pub planned_may : (s : State) (held : Held) (p : Prepared) (effect : Effect) (j : Judged) (made : Entry) (kept : Option KeptReply) → held.state ≡ s
+    → p.event ≡ Some (record { effect = effect; changes = j.changes; entered = made; kept = kept }) → held.room ≡ Some (room_of effect (length j.changes.items))
+    → kept ≡ kept_of (effected effect s) made.what → j.changes.items ≡ alert_changes effect s → MayInstall held p.event
+planned_may s held p effect j made kept same event room keeps changes =
+    subst (MayInstall held) (sym event) (record {
+      room = room;
+      own = subst (AllByRecursion IsOwn) (sym changes) (changes_own effect s);
+      kept = subst (λ (o : Option KeptReply). IfSome o (IsNextReply held.state)) (sym keeps)
+          (subst (λ (t : State). IfSome (kept_of (effected effect s) made.what) (IsNextReply t)) (sym same) (kept_next (effected effect s) made.what));
+    })
 
 abbrev with_alerts : State → Entry → Option KeptReply → List Alert → State
 with_alerts t e kept alerts = record t { counters = counted e.what t.counters; alerts = alerts; kept = t.kept ++ option_to_list kept; entries = t.entries ++ e ∷ [] }
@@ -83,21 +110,21 @@ planned_is s p reply effect j made e kept replied told event entered keeps chang
   notices = told ∙ notices;
 }
 
-ready_by : (opening s u : State) (c : Content) (p q : Prepared) → q ≡ p → state_of c ≡ s → IsBoard opening s → installed p s ≡ u → MayInstall c p.event → IsBoard opening u
-    → IsBoard opening (state_of c) × IsReady opening c q
+ready_by : (opening s u : State) (c : Held) (p q : Prepared) → q ≡ p → c.state ≡ s → IsBoard opening s → installed p s ≡ u → MayInstall c p.event → IsBoard opening u
+    → IsBoard opening c.state × IsReady opening c q
 ready_by opening s u c p q same is board leads may after = (
   subst (IsBoard opening) (sym is) board,
   subst (IsReady opening c) (sym same) (record { may = may; keeps = subst (IsBoard opening) (sym (ap (λ (t : State). installed p t) is ∙ leads)) after }),
 )
 
 -- a call that is prepared may be put in place
-pub call_ready : (opening s : State) (c : Content) (p q : Prepared) (lane : ℕ) (call : Call) → q ≡ p → state_of c ≡ s → IsBoard opening s → CallHasForms call
-    → IsStepped s p (answer_call s lane call) → MayInstall c p.event → IsBoard opening (state_of c) × IsReady opening c q
+pub call_ready : (opening s : State) (c : Held) (p q : Prepared) (lane : ℕ) (call : Call) → q ≡ p → c.state ≡ s → IsBoard opening s → CallHasForms call
+    → IsStepped s p (answer_call s lane call) → MayInstall c p.event → IsBoard opening c.state × IsReady opening c q
 call_ready opening s c p q lane call same is board form stepped may =
     ready_by opening s (answer_call s lane call).state c p q same is board stepped.state may (call_keeps opening s (answer_call s lane call).state lane call board form refl)
 
-pub tick_ready : (opening s : State) (c : Content) (p q : Prepared) (lane to : ℕ) → q ≡ p → state_of c ≡ s → IsBoard opening s → s.moment < to → to ≤ 68_374_079
-    → IsStepped s p (tick_to s lane to) → MayInstall c p.event → IsBoard opening (state_of c) × IsReady opening c q
+pub tick_ready : (opening s : State) (c : Held) (p q : Prepared) (lane to : ℕ) → q ≡ p → c.state ≡ s → IsBoard opening s → s.moment < to → to ≤ 68_374_079
+    → IsStepped s p (tick_to s lane to) → MayInstall c p.event → IsBoard opening c.state × IsReady opening c q
 tick_ready opening s c p q lane to same is board later within stepped may =
     ready_by opening s (tick_to s lane to).state c p q same is board stepped.state may (tick_keeps opening s (tick_to s lane to).state lane to board later within refl)
 
@@ -187,8 +214,16 @@ pub installed_told : (takes : ℕ → Bool) (s t u : State) (told notices : List
 installed_told takes s t u told notices one two is =
     subst (λ (v : State). AreDifferences takes s v notices) one (subst (λ (ns : List Notice). AreDifferences takes s u ns) (sym two) is)
 
--- once a step that has room is put in place
-pub install_keeps : (opening t : State) (c : Content) (p : Prepared) (room : Option Prepared) → room ≡ Some p → IfSome room (IsReady opening c) → t ≡ with_events p.event (state_of c)
+-- a step that has room is ready
+pub ready_is : (opening : State) (c : Held) (p : Prepared) (room : Option Prepared) → room ≡ Some p → IfSome room (IsReady opening c) → IsReady opening c p
+ready_is opening c p room has ready = subst (λ (o : Option Prepared). IfSome o (IsReady opening c)) has ready
+
+pub ready_board : (opening : State) (c : Held) (p : Prepared) → IsReady opening c p → IsBoard opening (with_events p.event c.state)
+unfolding installed
+ready_board opening c p is = is.keeps
+
+-- once it is put in place
+pub install_keeps : (opening t : State) (c : Held) (p : Prepared) (room : Option Prepared) → room ≡ Some p → IfSome room (IsReady opening c) → t ≡ with_events p.event c.state
     → IsBoard opening t × Unit {0}
 unfolding installed
 install_keeps opening t c p room has ready leads =

@@ -1,5 +1,4 @@
 pub mod Parts
 pub mod Kept
-pub mod Places
 pub mod Anew
 pub mod Counted

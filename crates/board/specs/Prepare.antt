@@ -1,32 +1,18 @@
 -- A step that is prepared: what is left is to put it in place.
-use Rattle.std.specs.Prelude.{◌≡◌, ◌∷◌, [], ◌++◌, length, option_to_list, Option, None, Some}
+use Rattle.std.specs.Prelude.{◌≡◌, Option, IfSome}
 use Rattle.desk_io.specs.Rows.{Rows, changed_by}
 use Rattle.kept_state.specs.Rows.{AreKept}
 use Rattle.desk_state.specs.State.{State}
-use Rattle.desk_state.specs.Events.{effected, put_changes}
-use Rattle.desk_state.specs.Step.{Stepped, counted, kept_of}
+use Rattle.desk_state.specs.Events.{effected}
+use Rattle.desk_state.specs.Step.{Stepped, kept_of}
 use Rattle.desk_state.specs.Sound.{IsBoard}
-use Rattle.desk_state.specs.Contents.{state_of}
-use Rattle.desk_state.specs.declared.content.Content.{Content}
+use Rattle.desk_state.specs.Contents.{Held}
+use Rattle.desk_state.specs.Install.{MayPut, with_events}
+use Rattle.desk_state.specs.declared.event.Event.{Event}
 use Rattle.desk_state.specs.declared.effect.Effect.{Effect}
-use Rattle.board.specs.Room.{HasRoom, MayBeMade}
 use Rattle.board.specs.declared.prepared.Prepared.{Prepared}
 use Rattle.board.specs.declared.prepared.Installed.{Installed}
-use Rattle.board.specs.declared.prepared.Event.{Event}
 use Rattle.board.specs.declared.steps.Recorded.{Recorded}
-
--- the state once an event is put in place
-abbrev pub with_event : Event → State → State
-with_event e s = record (effected e.effect s) {
-  counters = counted e.entered.what (effected e.effect s).counters;
-  alerts = put_changes e.changes.items s.alerts;
-  kept = (effected e.effect s).kept ++ option_to_list e.kept;
-  entries = (effected e.effect s).entries ++ e.entered ∷ [];
-}
-
-abbrev pub with_events : Option Event → State → State
-with_events None s = s
-with_events (Some e) s = with_event e s
 
 -- the state once what is prepared is put in place
 unfoldable pub installed : Prepared → State → State
@@ -48,18 +34,17 @@ unfoldable pub KeepsRows : State → Prepared → Type 0
 KeepsRows s p = (rows : Rows) → AreKept rows s → AreKept (changed_by p.changes.items rows) (installed p s)
 
 -- an event may be put in place without memory
-abbrev pub MayInstall : Content → Option Event → Type 0
-MayInstall c None = Unit {0}
-MayInstall c (Some e) = HasRoom c (length e.changes.items) e.effect × MayBeMade (state_of c) e.effect
+abbrev pub MayInstall : Held → Option Event → Type 0
+MayInstall held event = IfSome event (MayPut held)
 
 -- what is kept is what belongs to the entry, once the effect is there
 abbrev pub IsRecordedOf : State → Effect → Recorded → Type 0
 IsRecordedOf s effect r = r.kept ≡ kept_of (effected effect s) r.entered.what
 
 -- what is prepared may be put in place, and keeps what holds of a board
-pub record IsReady (opening : State) (c : Content) (p : Prepared) : Type 0 where
-  pub may : MayInstall c p.event
-  pub keeps : IsBoard opening (installed p (state_of c))
+pub record IsReady (opening : State) (held : Held) (p : Prepared) : Type 0 where
+  pub may : MayInstall held p.event
+  pub keeps : IsBoard opening (installed p held.state)
 
 -- What a board shows: the state that it was opened in, its state, and the prepared step that may be
 -- installed without memory.

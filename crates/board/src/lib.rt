@@ -1,11 +1,8 @@
 //! The board: the releases, their alerts, the reports, and the history that led to them.
 #![tactic(auto)]
 
-mod held_alerts;
-mod installing;
 mod prepared;
 mod restoring;
-mod room;
 mod state;
 mod steps;
 

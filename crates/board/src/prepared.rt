@@ -2,22 +2,9 @@ ghost use Rattle.std.specs.Prelude.{◌≡◌, is_some};
 ghost use Rattle.std.specs.Option.{option_copied};
 
 use alerts::Notices;
-use asks::{KeptReply, Reply};
+use asks::Reply;
 use desk_io::Change;
-use desk_state::{AlertChange, Effect, Entry};
-
-/// What an event changes, once all memory is taken.
-#[derive(Drop)]
-pub struct Event {
-    /// What it changes before every active release is judged.
-    pub(crate) effect: Effect,
-    /// The alerts that change, in order of the releases.
-    pub(crate) changes: Vec<AlertChange>,
-    /// The entry of the history.
-    pub(crate) entered: Entry,
-    /// What is kept of an accepted command.
-    pub(crate) kept: Option<KeptReply>,
-}
+use desk_state::Event;
 
 /// A step that only has to be put in place.
 #[derive(Drop)]

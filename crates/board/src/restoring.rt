@@ -1,10 +1,8 @@
-ghost use Rattle.std.specs.Prelude.{OnOk, ◌≡◌, ◌+◌, ◌<◌, ◌≤◌, length, map, vec_len, IfOk};
-ghost use Rattle.std.specs.Vec.{vec_capacity};
+ghost use Rattle.std.specs.Prelude.{OnOk, ◌≡◌, ◌<◌, map, IfOk};
 ghost use Rattle.desk_io.specs.Rows.{Rows, rows_of, changed_by};
 ghost use Rattle.keeper.specs.Kept.{AreSame};
 ghost use Rattle.kept_state.specs.Judged as kept;
 ghost use Rattle.kept_state.specs.Rows.{AreKept};
-ghost use Rattle.desk_state.specs.Contents.{state_of};
 ghost use Rattle.desk_state.specs.Effects.{nothing};
 ghost use Rattle.desk_state.specs.Events.{alert_changes};
 ghost use Rattle.records.specs.Bodies.{row_of};
@@ -12,10 +10,9 @@ ghost use Rattle.kept_state.specs.Held.{AreOfDesk, state_in};
 ghost use Rattle.kept_state.specs.Opening as spec;
 ghost use Rattle.kept_state.specs.Opening.{MayReopen, reopened};
 
-use crate::held_alerts::put_changes;
 use alert_judging::Prospect;
 use desk_io::{Change, OutOfMemory};
-use desk_state::{AlertChange, Content, Effect};
+use desk_state::{AlertChange, Alerted, Content, Effect};
 use kept_state::{content_of, judged_changes};
 use ops_tables::Tables;
 use records::Record;
@@ -26,7 +23,7 @@ use std::sync::ledger::Ledger;
 /// What records stand for, once its active releases are judged.
 #[derive(Drop)]
 pub(crate) struct Reopened {
-    pub content: Content,
+    pub held: Alerted,
     /// What the judgement changed of the rows.
     pub changes: Vec<Change>,
 }
@@ -38,8 +35,8 @@ fn judge_anew<L: Ledger>(
     content: &Content,
     steps: &mut Steps<L>,
 ) -> Result<Vec<AlertChange>, OutOfMemory>
-    requires { MayReopen (state_of content.now) }
-    ensures { IfOk result (λ v. v.items ≡ alert_changes nothing (state_of content.now)) }
+    requires { MayReopen content.now.state }
+    ensures { IfOk result (λ v. v.items ≡ alert_changes nothing content.now.state) }
 {
     let effect = Effect::nothing();
     Prospect {
@@ -60,15 +57,14 @@ fn events_with(alerts: &[AlertChange], events: u64) -> u64
     }
 }
 
-// Puts what a judgement changed in place, for which there is room. It takes no memory.
-fn put_judged(content: &mut Content, alerts: Vec<AlertChange>)
-    requires may { MayReopen (state_of content.old) }
-    requires room { vec_len content.old.alerts + length alerts.items ≤ vec_capacity content.old.alerts }
-    requires judged { alerts.items ≡ alert_changes nothing (state_of content.old) }
-    ensures { state_of content.new ≡ reopened (state_of content.old) }
+// Puts what a judgement changed in place.
+fn put_judged(content: &mut Content, alerts: Vec<AlertChange>) -> Result<(), OutOfMemory>
+    requires may { MayReopen content.old.state }
+    requires judged { alerts.items ≡ alert_changes nothing content.old.state }
+    ensures { OnOk result (content.new.state ≡ reopened content.old.state) }
 {
-    content.counters.events = events_with(&alerts, content.counters.events);
-    put_changes(&mut content.alerts, alerts);
+    let events = events_with(&alerts, content.counters().events);
+    content.put_judged(alerts, events)
 }
 
 // Judges a state anew, and says what that changes of the rows.
@@ -77,15 +73,14 @@ fn reopen<L: Ledger>(
     content: &mut Content,
     steps: &mut Steps<L>,
 ) -> Result<Vec<Change>, OutOfMemory>
-    requires { MayReopen (state_of content.old) }
-    ensures state { OnOk result (state_of content.new ≡ reopened (state_of content.old)) }
-    ensures changes { IfOk result (λ v. v.items ≡ kept.judged_changes (state_of content.old)
-        (alert_changes nothing (state_of content.old))) }
+    requires { MayReopen content.old.state }
+    ensures state { OnOk result (content.new.state ≡ reopened content.old.state) }
+    ensures changes { IfOk result (λ v. v.items ≡ kept.judged_changes content.old.state
+        (alert_changes nothing content.old.state)) }
 {
     let alerts = judge_anew(alloc, content, steps)?;
     let changes = judged_changes(alloc, content, alerts.as_slice())?;
-    content.alerts.reserve(alerts.len())?;
-    put_judged(content, alerts);
+    put_judged(content, alerts)?;
     Ok(changes)
 }
 
@@ -101,7 +96,7 @@ pub(crate) fn restored<L: Ledger>(
     steps: &mut Steps<L>,
 ) -> Result<Reopened, OutOfMemory>
     requires { AreOfDesk records.items }
-    ensures state { IfOk result (λ r. state_of r.content ≡ reopened (state_in tables records.items)) }
+    ensures state { IfOk result (λ r. r.held.state ≡ reopened (state_in tables records.items)) }
     ensures changes { IfOk result (λ r. r.changes.items ≡ kept.judged_changes (state_in tables records.items)
         (alert_changes nothing (state_in tables records.items))) }
     ensures kept { IfOk result (λ r. (rows : Rows) → AreSame rows (rows_of (map row_of records.items))
@@ -110,7 +105,10 @@ pub(crate) fn restored<L: Ledger>(
     tables.are_named();
     let mut content = content_of(alloc, tables, records)?;
     match reopen(alloc, &mut content, steps) {
-        Ok(changes) => Ok(Reopened { content, changes }),
+        Ok(changes) => Ok(Reopened {
+            held: Alerted::of(content),
+            changes,
+        }),
         Err(OutOfMemory) => {
             leave(content);
             Err(OutOfMemory)

@@ -24,14 +24,13 @@ ghost use Rattle.kept_state.specs.Held.{AreOfDesk, state_in};
 ghost use Rattle.kept_state.specs.Opening.{reopened};
 ghost use Rattle.board.specs.Prepare.{shown, installed, IsStepped, IsAnswered, KeepsRows};
 
-use crate::installing::install;
 use crate::prepared::{Installed, Prepared};
 use crate::restoring::{Reopened, restored};
-use crate::steps::{prepare_answer, prepare_tick};
+use crate::steps::{install, prepare_answer, prepare_tick};
 use alerts::Alert;
 use asks::Call;
 use desk_io::{Change, OutOfMemory, Text};
-use desk_state::{Content, Entry};
+use desk_state::{Alerted, Content, Entry};
 use desk_time::{LAST, Minute};
 use ops_tables::Tables;
 use plan::Release;
@@ -47,8 +46,8 @@ use views::closing;
 /// no copy, and the prepared step that may be installed without memory.
 #[derive(Drop)]
 pub struct Board {
-    content: Content,
-    opening: Snapshot<Content>,
+    held: Alerted,
+    opening: Snapshot<Alerted>,
     room: Option<Snapshot<Prepared>>,
 }
 
@@ -64,29 +63,27 @@ impl Model for Board {
     ghost use Rattle.std.specs.Prelude.{IfSome};
     ghost use Rattle.std.specs.Option.{option_map};
     ghost use Rattle.desk_state.specs.Sound.{IsBoard};
-    ghost use Rattle.desk_state.specs.Contents.{state_of};
     ghost use Rattle.board.specs.Prepare.{Shown, shown, IsReady};
 
     ghost Value = { Shown };
 
-    ghost view = { λ b. shown (state_of b.opening.value) (state_of b.content)
-        (option_map (λ kept. kept.value) b.room) };
+    ghost view = { λ b. shown b.opening.value.state b.held.state (option_map (λ kept. kept.value) b.room) };
 
-    ghost invariant = { λ b. IsBoard (state_of b.opening.value) (state_of b.content)
-        × IfSome (option_map (λ kept. kept.value) b.room) (IsReady (state_of b.opening.value) b.content) };
+    ghost invariant = { λ b. IsBoard b.opening.value.state b.held.state
+        × IfSome (option_map (λ kept. kept.value) b.room) (IsReady b.opening.value.state b.held) };
 }
 
 impl Board {
     /// A board under the tables of an airline, on which nothing is held, at 2000-01-01 00:00.
-    #[tactic(auto, using(desk_state::proofs::Boards::start_board))]
+    #[tactic(auto, using(desk_state::proofs::Boards::start_board, desk_state::proofs::HoldLaws::start_sound))]
     pub fn new(alloc: Global, tables: Tables) -> Board
         ensures { result ≡ shown (start tables) (start tables) None }
     {
         tables.are_named();
-        let content = Content::new(alloc, tables);
-        let opening = Snapshot::of(&content);
+        let held = Alerted::of(Content::new(alloc, tables));
+        let opening = Snapshot::of(&held);
         Board {
-            content,
+            held,
             opening,
             room: None,
         }
@@ -98,23 +95,23 @@ impl Board {
     pub fn restore<L: Ledger>(
         alloc: Global,
         tables: Tables,
-        held: Vec<Record>,
+        records: Vec<Record>,
         steps: &mut Steps<L>,
     ) -> Result<Restored, OutOfMemory>
-        requires { AreOfDesk held.items }
-        ensures board { IfOk result (λ r. r.board ≡ shown (reopened (state_in tables held.items))
-            (reopened (state_in tables held.items)) None) }
+        requires { AreOfDesk records.items }
+        ensures board { IfOk result (λ r. r.board ≡ shown (reopened (state_in tables records.items))
+            (reopened (state_in tables records.items)) None) }
         // Nothing where no alert changed.
-        ensures changes { IfOk result (λ r. r.changes.items ≡ judged_changes (state_in tables held.items)
-            (alert_changes nothing (state_in tables held.items))) }
-        ensures rows { IfOk result (λ r. (rows : Rows) → AreSame rows (rows_of (map row_of held.items))
-            → AreKept (changed_by r.changes.items rows) (reopened (state_in tables held.items))) }
+        ensures changes { IfOk result (λ r. r.changes.items ≡ judged_changes (state_in tables records.items)
+            (alert_changes nothing (state_in tables records.items))) }
+        ensures rows { IfOk result (λ r. (rows : Rows) → AreSame rows (rows_of (map row_of records.items))
+            → AreKept (changed_by r.changes.items rows) (reopened (state_in tables records.items))) }
     {
         tables.are_named();
-        let Reopened { content, changes } = restored(alloc, tables, held, steps)?;
-        let opening = Snapshot::of(&content);
+        let Reopened { held, changes } = restored(alloc, tables, records, steps)?;
+        let opening = Snapshot::of(&held);
         let board = Board {
-            content,
+            held,
             opening,
             room: None,
         };
@@ -147,7 +144,7 @@ impl Board {
         ensures steps { steps.new ≤ steps.old + most_judged self.old.state call.now.ask }
     {
         self.room = None;
-        let prepared = prepare_answer(alloc, &mut self.content, lane, call, steps)?;
+        let prepared = prepare_answer(alloc, &mut self.held, lane, call, steps)?;
         self.room = Some(Snapshot::of(&prepared));
         Ok(prepared)
     }
@@ -174,7 +171,7 @@ impl Board {
         ensures steps { steps.new ≤ steps.old + most_ticked self.old.state to }
     {
         self.room = None;
-        let prepared = prepare_tick(alloc, &mut self.content, lane, to, steps)?;
+        let prepared = prepare_tick(alloc, &mut self.held, lane, to, steps)?;
         self.room = Some(Snapshot::of(&prepared));
         Ok(prepared)
     }
@@ -194,7 +191,7 @@ impl Board {
             event,
             changes: _,
         } = prepared;
-        install(&mut self.content, event);
+        install(&mut self.held, event);
         Installed { reply, notices }
     }
 
@@ -265,14 +262,14 @@ impl Board {
         ensures moment { result ≡ self.now.state.moment }
         ensures board { IsBoard self.now.opening self.now.state }
     {
-        self.content.moment
+        self.held.content().moment()
     }
 
     /// How many entries the history has.
     pub fn entries(&self) -> usize
         ensures { result ≡ length self.now.state.entries }
     {
-        self.content.entries.len()
+        self.held.content().entries().len()
     }
 
     /// An entry of the history, counted from 0.
@@ -281,27 +278,27 @@ impl Board {
         ensures entry { slice_get self.now.state.entries i ≡ Some result.now }
         ensures form { IsEntered result.now.what }
     {
-        &self.content.entries[i]
+        &self.held.content().entries()[i]
     }
 
     /// The release of an id.
     pub fn release(&self, id: u64) -> Option<&Release>
         ensures { option_copied result ≡ release_at id self.now.state.releases }
     {
-        self.content.release(id)
+        self.held.content().release(id)
     }
 
     /// The alert of a release.
     pub fn alert(&self, id: u64) -> Option<&Alert>
         ensures { option_copied result ≡ alert_at id self.now.state.alerts }
     {
-        self.content.alert(id)
+        self.held.content().alert(id)
     }
 
     /// The closing text: the releases, and the weather of all stations that have a report.
     pub fn closing(&self, alloc: Global) -> Result<Text, OutOfMemory>
         ensures { IfOk result (λ t. t ≡ closing self.now.state) }
     {
-        closing(alloc, &self.content)
+        closing(alloc, self.held.content())
     }
 }

@@ -1,6 +1,5 @@
 ghost use Rattle.std.specs.Prelude.{◌≡◌, ◌≤◌, ◌+◌, [], length, None, Some, IfOk, OnOk};
 ghost use Rattle.std.specs.Option.{option_map};
-ghost use Rattle.desk_state.specs.Contents.{state_of};
 ghost use Rattle.desk_state.specs.Counting.{count_touched, most_judged, most_ticked};
 ghost use Rattle.desk_state.specs.Effects.{tick};
 ghost use Rattle.desk_state.specs.Events as events;
@@ -8,22 +7,22 @@ ghost use Rattle.desk_state.specs.Events.{effected, alert_changes};
 ghost use Rattle.desk_state.specs.State.{is_full, is_full_for};
 ghost use Rattle.desk_state.specs.Step as step;
 ghost use Rattle.desk_state.specs.Step.{do_call, answer_call, tick_to};
-ghost use Rattle.desk_state.specs.Sound.{Sound, InBounds, IsLater, EffectFits};
+ghost use Rattle.desk_state.specs.Sound.{IsLater, EffectFits, Sound};
 ghost use Rattle.call_json.specs.Forms.{CallHasForms};
-ghost use Rattle.board.specs.Room.{HasRoom, MayBeMade};
+ghost use Rattle.desk_state.specs.Holds.{Holds};
+ghost use Rattle.desk_state.specs.Install.{MayBeMade, room_of, with_events};
 ghost use Rattle.kept_state.specs.Changes as kept_rows;
 ghost use Rattle.desk_state.specs.State.{State};
 ghost use Rattle.board.specs.Prepare.{IsStepped, MayInstall, KeepsRows, IsRecordedOf};
 
-use crate::prepared::{Event, Prepared};
-use crate::room::reserve;
+use crate::prepared::Prepared;
 use alert_judging::{Prospect, notices_of};
 use alerts::Notices;
 use asks::{Call, Done, KeptReply, Refusal, Reply};
 use call_json::ask_digest;
 use decisions::{Stop, decide, mistaken};
 use desk_io::{Change, Copied, OutOfMemory, Text};
-use desk_state::{AlertChange, Content, Decision, Effect, Entry, What};
+use desk_state::{AlertChange, Alerted, Content, Decision, Effect, Entry, Event, What};
 use desk_time::Minute;
 use kept_state::event_changes;
 use rules::Steps;
@@ -77,11 +76,11 @@ fn tick_entry(lane: u32, to: Minute) -> Entry
 }
 
 fn moment_after(content: &Content, effect: &Effect) -> Minute
-    ensures { result ≡ (effected effect.now (state_of content.now)).moment }
+    ensures { result ≡ (effected effect.now content.now.state).moment }
 {
     match effect.moment {
         Some(to) => to,
-        None => content.moment,
+        None => content.moment(),
     }
 }
 
@@ -94,11 +93,11 @@ fn kept_reply(
     done: Done,
 ) -> Result<KeptReply, OutOfMemory>
     requires { CallHasForms call.now }
-    ensures { IfOk result (λ k. k ≡ step.kept_reply (effected effect.now (state_of content.now))
+    ensures { IfOk result (λ k. k ≡ step.kept_reply (effected effect.now content.now.state)
         (step.without_key call.now) done) }
 {
     Ok(KeptReply {
-        id: content.counters.next_kept,
+        id: content.counters().next_kept,
         actor: call.actor.copy(alloc)?,
         number: call.number,
         digest: ask_digest(alloc, &call.ask)?,
@@ -118,7 +117,7 @@ fn record_call(
     requires { CallHasForms call.now }
     ensures entered { IfOk result (λ r. r.entered ≡ step.entry lane
         (What.Asked (step.without_key call.now) (Reply.Done done))) }
-    ensures kept { IfOk result (λ r. r.kept ≡ step.kept_of (effected effect.now (state_of content.now))
+    ensures kept { IfOk result (λ r. r.kept ≡ step.kept_of (effected effect.now content.now.state)
         (What.Asked (step.without_key call.now) (Reply.Done done))) }
 {
     Ok(Recorded {
@@ -179,13 +178,11 @@ fn rows_of(
     judged: &Judged,
     recorded: &Recorded,
 ) -> Result<Vec<Change>, OutOfMemory>
-    requires sound { Sound (state_of content.now) }
-    requires bounds { InBounds (state_of content.now) }
-    requires fits { EffectFits (state_of content.now) effect.now }
-    requires changes { judged.now.changes.items ≡ alert_changes effect.now (state_of content.now) }
-    requires recorded { IsRecordedOf (state_of content.now) effect.now recorded.now }
+    requires fits { EffectFits content.now.state effect.now }
+    requires changes { judged.now.changes.items ≡ alert_changes effect.now content.now.state }
+    requires recorded { IsRecordedOf content.now.state effect.now recorded.now }
     ensures { IfOk result (λ rows. rows.items ≡ kept_rows.event_changes
-        (state_of content.now) effect.now recorded.now.entered) }
+        content.now.state effect.now recorded.now.entered) }
 {
     event_changes(
         alloc,
@@ -198,12 +195,12 @@ fn rows_of(
 }
 
 fn full_reply(content: &Content) -> Reply
-    ensures { result ≡ step.full_reply (state_of content.now) }
+    ensures { result ≡ step.full_reply content.now.state }
 {
     Reply::Refused(Refusal::HistoryFull {
-        entries: content.entries.len() as u64,
-        kept: content.kept.len() as u64,
-        events: content.counters.events,
+        entries: content.entries().len() as u64,
+        kept: content.replies().len() as u64,
+        events: content.counters().events,
     })
 }
 
@@ -211,49 +208,48 @@ fn full_reply(content: &Content) -> Reply
 // held stays as it is.
 fn judge_touched<L: Ledger>(
     alloc: Global,
-    content: &mut Content,
+    held: &mut Alerted,
     effect: &Effect,
     steps: &mut Steps<L>,
 ) -> Result<Judged, OutOfMemory>
-    requires sound { Sound (state_of content.old) }
-    requires kept { InBounds (state_of content.old) }
-    requires fits { EffectFits (state_of content.old) effect.now }
-    ensures same { state_of content.new ≡ state_of content.old }
-    ensures changes { IfOk result (λ j. j.changes.items ≡ alert_changes effect.now (state_of content.old)) }
+    requires fits { EffectFits held.old.state effect.now }
+    requires may { MayBeMade held.old.state effect.now }
+    ensures same { held.new.state ≡ held.old.state }
+    ensures changes { IfOk result (λ j. j.changes.items ≡ alert_changes effect.now held.old.state) }
     ensures notices { IfOk result (λ j. j.notices ≡ events.notices_of
-        (alert_changes effect.now (state_of content.old))) }
-    ensures room { IfOk result (λ j. HasRoom content.new (length j.changes.items) effect.now) }
-    ensures steps { steps.new ≤ steps.old + count_touched (state_of content.old) effect.now }
+        (alert_changes effect.now held.old.state)) }
+    ensures room { IfOk result (λ j. held.new.room ≡ Some (room_of effect.now (length j.changes.items))) }
+    ensures steps { steps.new ≤ steps.old + count_touched held.old.state effect.now }
 {
+    let content = held.content();
     let changes = Prospect { content, effect }.changes(alloc, steps)?;
     let notices = notices_of(alloc, &changes)?;
-    reserve(content, changes.len(), effect)?;
+    held.reserve(alloc, effect, changes.len())?;
     Ok(Judged { changes, notices })
 }
 
 // Judges what an effect touches, and says what the event changes of the rows.
 fn work_out<L: Ledger>(
     alloc: Global,
-    content: &mut Content,
+    held: &mut Alerted,
     effect: &Effect,
     recorded: &Recorded,
     steps: &mut Steps<L>,
 ) -> Result<(Judged, Vec<Change>), OutOfMemory>
-    requires sound { Sound (state_of content.old) }
-    requires bounds { InBounds (state_of content.old) }
-    requires fits { EffectFits (state_of content.old) effect.now }
-    requires recorded { IsRecordedOf (state_of content.old) effect.now recorded.now }
-    ensures same { state_of content.new ≡ state_of content.old }
-    ensures changes { IfOk result (λ w. w.0.changes.items ≡ alert_changes effect.now (state_of content.old)) }
+    requires fits { EffectFits held.old.state effect.now }
+    requires may { MayBeMade held.old.state effect.now }
+    requires recorded { IsRecordedOf held.old.state effect.now recorded.now }
+    ensures same { held.new.state ≡ held.old.state }
+    ensures changes { IfOk result (λ w. w.0.changes.items ≡ alert_changes effect.now held.old.state) }
     ensures notices { IfOk result (λ w. w.0.notices ≡ events.notices_of
-        (alert_changes effect.now (state_of content.old))) }
-    ensures room { IfOk result (λ w. HasRoom content.new (length w.0.changes.items) effect.now) }
+        (alert_changes effect.now held.old.state)) }
+    ensures room { IfOk result (λ w. held.new.room ≡ Some (room_of effect.now (length w.0.changes.items))) }
     ensures rows { IfOk result (λ w. w.1.items ≡ kept_rows.event_changes
-        (state_of content.new) effect.now recorded.now.entered) }
-    ensures steps { steps.new ≤ steps.old + count_touched (state_of content.old) effect.now }
+        held.new.state effect.now recorded.now.entered) }
+    ensures steps { steps.new ≤ steps.old + count_touched held.old.state effect.now }
 {
-    let judged = judge_touched(alloc, content, effect, steps)?;
-    let changes = rows_of(alloc, content, effect, &judged, recorded)?;
+    let judged = judge_touched(alloc, held, effect, steps)?;
+    let changes = rows_of(alloc, held.content(), effect, &judged, recorded)?;
     Ok((judged, changes))
 }
 
@@ -273,25 +269,25 @@ fn replied(done: Option<Done>) -> Option<Reply>
 // Prepares an event, of which it is made what it records.
 fn prepare_event<L: Ledger>(
     alloc: Global,
-    content: &mut Content,
+    held: &mut Alerted,
     done: Option<Done>,
     effect: Effect,
     recorded: Recorded,
     steps: &mut Steps<L>,
 ) -> Result<Prepared, OutOfMemory>
-    requires sound { Sound (state_of content.old) }
-    requires kept { InBounds (state_of content.old) }
-    requires fits { EffectFits (state_of content.old) effect }
-    requires may { MayBeMade (state_of content.old) effect }
-    requires recorded { IsRecordedOf (state_of content.old) effect recorded }
-    ensures same { state_of content.new ≡ state_of content.old }
-    ensures stepped { IfOk result (λ p. IsStepped (state_of content.old) p
-        (step.after_event (state_of content.old) (option_map Reply.Done done) effect recorded.entered)) }
-    ensures may { IfOk result (λ p. MayInstall content.new p.event) }
-    ensures rows { IfOk result (λ p. KeepsRows (state_of content.old) p) }
-    ensures steps { steps.new ≤ steps.old + count_touched (state_of content.old) effect }
+    requires fits { EffectFits held.old.state effect }
+    requires may { MayBeMade held.old.state effect }
+    requires recorded { IsRecordedOf held.old.state effect recorded }
+    ensures same { held.new.state ≡ held.old.state }
+    ensures stepped { IfOk result (λ p. IsStepped held.old.state p
+        (step.after_event held.old.state (option_map Reply.Done done) effect recorded.entered)) }
+    ensures may { IfOk result (λ p. MayInstall held.new p.event) }
+    ensures rows { IfOk result (λ p. KeepsRows held.old.state p) }
+    ensures steps { steps.new ≤ steps.old + count_touched held.old.state effect }
 {
-    match work_out(alloc, content, &effect, &recorded, steps) {
+    let content = held.content();
+    content.holds();
+    match work_out(alloc, held, &effect, &recorded, steps) {
         Ok((judged, changes)) => { Ok(planned(replied(done), effect, judged, recorded, changes)) }
         Err(OutOfMemory) => {
             let_go(effect, recorded);
@@ -303,27 +299,25 @@ fn prepare_event<L: Ledger>(
 // Prepares an accepted call.
 fn prepare_accepted<L: Ledger>(
     alloc: Global,
-    content: &mut Content,
+    held: &mut Alerted,
     lane: u32,
     call: &Call,
     done: Done,
     effect: Effect,
     steps: &mut Steps<L>,
 ) -> Result<Prepared, OutOfMemory>
-    requires sound { Sound (state_of content.old) }
-    requires kept { InBounds (state_of content.old) }
-    requires fits { EffectFits (state_of content.old) effect }
+    requires fits { EffectFits held.old.state effect }
     requires call { CallHasForms call.now }
-    requires may { MayBeMade (state_of content.old) effect }
-    ensures same { state_of content.new ≡ state_of content.old }
-    ensures stepped { IfOk result (λ p. IsStepped (state_of content.old) p
-        (step.accepted (state_of content.old) lane call.now done effect)) }
-    ensures may { IfOk result (λ p. MayInstall content.new p.event) }
-    ensures rows { IfOk result (λ p. KeepsRows (state_of content.old) p) }
-    ensures steps { steps.new ≤ steps.old + count_touched (state_of content.old) effect }
+    requires may { MayBeMade held.old.state effect }
+    ensures same { held.new.state ≡ held.old.state }
+    ensures stepped { IfOk result (λ p. IsStepped held.old.state p
+        (step.accepted held.old.state lane call.now done effect)) }
+    ensures may { IfOk result (λ p. MayInstall held.new p.event) }
+    ensures rows { IfOk result (λ p. KeepsRows held.old.state p) }
+    ensures steps { steps.new ≤ steps.old + count_touched held.old.state effect }
 {
-    match record_call(alloc, content, lane, call, done, &effect) {
-        Ok(recorded) => prepare_event(alloc, content, Some(done), effect, recorded, steps),
+    match record_call(alloc, held.content(), lane, call, done, &effect) {
+        Ok(recorded) => prepare_event(alloc, held, Some(done), effect, recorded, steps),
         Err(OutOfMemory) => {
             leave(effect);
             Err(OutOfMemory)
@@ -337,55 +331,53 @@ fn leave(_: Effect) {}
 #[tactic(auto, unfolding(crate::specs::Prepare::installed))]
 fn prepare_entered<L: Ledger>(
     alloc: Global,
-    content: &mut Content,
+    held: &mut Alerted,
     lane: u32,
     call: &Call,
     done: Done,
     effect: Effect,
     steps: &mut Steps<L>,
 ) -> Result<Prepared, OutOfMemory>
-    requires sound { Sound (state_of content.old) }
-    requires kept { InBounds (state_of content.old) }
-    requires fits { EffectFits (state_of content.old) effect }
+    requires fits { EffectFits held.old.state effect }
     requires call { CallHasForms call.now }
-    requires may { MayBeMade (state_of content.old) effect }
-    ensures same { state_of content.new ≡ state_of content.old }
-    ensures stepped { IfOk result (λ p. IsStepped (state_of content.old) p
-        (step.enter (is_full_for (state_of content.old) call.now.ask)
-        (state_of content.old) lane call.now done effect)) }
-    ensures may { IfOk result (λ p. MayInstall content.new p.event) }
-    ensures rows { IfOk result (λ p. KeepsRows (state_of content.old) p) }
-    ensures steps { steps.new ≤ steps.old + count_touched (state_of content.old) effect }
+    requires may { MayBeMade held.old.state effect }
+    ensures same { held.new.state ≡ held.old.state }
+    ensures stepped { IfOk result (λ p. IsStepped held.old.state p
+        (step.enter (is_full_for held.old.state call.now.ask)
+        held.old.state lane call.now done effect)) }
+    ensures may { IfOk result (λ p. MayInstall held.new p.event) }
+    ensures rows { IfOk result (λ p. KeepsRows held.old.state p) }
+    ensures steps { steps.new ≤ steps.old + count_touched held.old.state effect }
 {
-    if content.is_full_for(&call.ask) {
+    if held.content().is_full_for(&call.ask) {
         leave(effect);
-        return Ok(stay(alloc, full_reply(content)));
+        return Ok(stay(alloc, full_reply(held.content())));
     }
-    prepare_accepted(alloc, content, lane, call, done, effect, steps)
+    prepare_accepted(alloc, held, lane, call, done, effect, steps)
 }
 
 // Prepares a call of a person who may make it, and takes all memory that it needs. What is held stays as it is.
 #[tactic(auto, unfolding(desk_state::specs::Step::do_call, crate::specs::Prepare::installed), using(crate::proofs::Counted::one_counted))]
 fn prepare_call<L: Ledger>(
     alloc: Global,
-    content: &mut Content,
+    held: &mut Alerted,
     lane: u32,
     call: &Call,
     steps: &mut Steps<L>,
 ) -> Result<Prepared, OutOfMemory>
-    requires sound { Sound (state_of content.old) }
-    requires kept { InBounds (state_of content.old) }
     requires call { CallHasForms call.now }
-    ensures same { state_of content.new ≡ state_of content.old }
-    ensures stepped { IfOk result (λ p. IsStepped (state_of content.old) p
-        (do_call (state_of content.old) lane call.now)) }
-    ensures may { IfOk result (λ p. MayInstall content.new p.event) }
-    ensures rows { IfOk result (λ p. KeepsRows (state_of content.old) p) }
-    ensures steps { steps.new ≤ steps.old + most_judged (state_of content.old) call.now.ask }
+    ensures same { held.new.state ≡ held.old.state }
+    ensures stepped { IfOk result (λ p. IsStepped held.old.state p
+        (do_call held.old.state lane call.now)) }
+    ensures may { IfOk result (λ p. MayInstall held.new p.event) }
+    ensures rows { IfOk result (λ p. KeepsRows held.old.state p) }
+    ensures steps { steps.new ≤ steps.old + most_judged held.old.state call.now.ask }
 {
+    let content = held.content();
+    content.holds();
     match decide(alloc, content, call, steps) {
         Ok(Decision::Do(done, effect)) => {
-            prepare_entered(alloc, content, lane, call, done, effect, steps)
+            prepare_entered(alloc, held, lane, call, done, effect, steps)
         }
         Ok(Decision::Show(reply)) => Ok(stay(alloc, reply)),
         Err(Stop::Refused(refusal)) => Ok(stay(alloc, Reply::Refused(refusal))),
@@ -397,72 +389,81 @@ fn prepare_call<L: Ledger>(
 #[tactic(auto, unfolding(desk_state::specs::Step::answer_call, crate::specs::Prepare::installed))]
 pub fn prepare_answer<L: Ledger>(
     alloc: Global,
-    content: &mut Content,
+    held: &mut Alerted,
     lane: u32,
     call: &Call,
     steps: &mut Steps<L>,
 ) -> Result<Prepared, OutOfMemory>
-    requires sound { Sound (state_of content.old) }
-    requires kept { InBounds (state_of content.old) }
     requires call { CallHasForms call.now }
-    ensures same { state_of content.new ≡ state_of content.old }
-    ensures stepped { IfOk result (λ p. IsStepped (state_of content.old) p
-        (answer_call (state_of content.old) lane call.now)) }
-    ensures may { IfOk result (λ p. MayInstall content.new p.event) }
-    ensures rows { IfOk result (λ p. KeepsRows (state_of content.old) p) }
-    ensures steps { steps.new ≤ steps.old + most_judged (state_of content.old) call.now.ask }
+    ensures same { held.new.state ≡ held.old.state }
+    ensures stepped { IfOk result (λ p. IsStepped held.old.state p
+        (answer_call held.old.state lane call.now)) }
+    ensures may { IfOk result (λ p. MayInstall held.new p.event) }
+    ensures rows { IfOk result (λ p. KeepsRows held.old.state p) }
+    ensures steps { steps.new ≤ steps.old + most_judged held.old.state call.now.ask }
 {
-    match mistaken(content.tables.actor(call.actor.bytes()), call.key.bytes()) {
+    match mistaken(
+        held.content().tables().actor(call.actor.bytes()),
+        call.key.bytes(),
+    ) {
         Some(refusal) => Ok(stay(alloc, Reply::Refused(refusal))),
-        None => prepare_call(alloc, content, lane, call, steps),
+        None => prepare_call(alloc, held, lane, call, steps),
     }
 }
 
 #[tactic(auto, using(desk_state::proofs::CountLaws::tick_judges))]
 fn prepare_ticked<L: Ledger>(
     alloc: Global,
-    content: &mut Content,
+    held: &mut Alerted,
     lane: u32,
     to: Minute,
     steps: &mut Steps<L>,
 ) -> Result<Prepared, OutOfMemory>
-    requires sound { Sound (state_of content.old) }
-    requires kept { InBounds (state_of content.old) }
-    requires moment { IsLater content.old.moment to }
-    ensures same { state_of content.new ≡ state_of content.old }
-    ensures stepped { IfOk result (λ p. IsStepped (state_of content.old) p
-        (step.ticked (state_of content.old) lane to)) }
-    ensures may { IfOk result (λ p. MayInstall content.new p.event) }
-    ensures rows { IfOk result (λ p. KeepsRows (state_of content.old) p) }
-    ensures steps { steps.new ≤ steps.old + most_ticked (state_of content.old) to }
+    requires moment { IsLater held.old.state.moment to }
+    ensures same { held.new.state ≡ held.old.state }
+    ensures stepped { IfOk result (λ p. IsStepped held.old.state p
+        (step.ticked held.old.state lane to)) }
+    ensures may { IfOk result (λ p. MayInstall held.new p.event) }
+    ensures rows { IfOk result (λ p. KeepsRows held.old.state p) }
+    ensures steps { steps.new ≤ steps.old + most_ticked held.old.state to }
 {
     let recorded = Recorded {
         entered: tick_entry(lane, to),
         kept: None,
     };
-    prepare_event(alloc, content, None, Effect::tick(to), recorded, steps)
+    prepare_event(alloc, held, None, Effect::tick(to), recorded, steps)
 }
 
 /// Prepares a tick to a later moment, and takes all memory that it needs. What is held stays as it is.
 #[tactic(auto, unfolding(desk_state::specs::Step::tick_to, crate::specs::Prepare::installed))]
 pub fn prepare_tick<L: Ledger>(
     alloc: Global,
-    content: &mut Content,
+    held: &mut Alerted,
     lane: u32,
     to: Minute,
     steps: &mut Steps<L>,
 ) -> Result<Prepared, OutOfMemory>
-    requires sound { Sound (state_of content.old) }
-    requires kept { InBounds (state_of content.old) }
-    requires moment { IsLater content.old.moment to }
-    ensures same { state_of content.new ≡ state_of content.old }
-    ensures stepped { IfOk result (λ p. IsStepped (state_of content.old) p (tick_to (state_of content.old) lane to)) }
-    ensures may { IfOk result (λ p. MayInstall content.new p.event) }
-    ensures rows { IfOk result (λ p. KeepsRows (state_of content.old) p) }
-    ensures steps { steps.new ≤ steps.old + most_ticked (state_of content.old) to }
+    requires moment { IsLater held.old.state.moment to }
+    ensures same { held.new.state ≡ held.old.state }
+    ensures stepped { IfOk result (λ p. IsStepped held.old.state p (tick_to held.old.state lane to)) }
+    ensures may { IfOk result (λ p. MayInstall held.new p.event) }
+    ensures rows { IfOk result (λ p. KeepsRows held.old.state p) }
+    ensures steps { steps.new ≤ steps.old + most_ticked held.old.state to }
 {
-    if content.is_full() {
-        return Ok(stay(alloc, full_reply(content)));
+    if held.content().is_full() {
+        return Ok(stay(alloc, full_reply(held.content())));
     }
-    prepare_ticked(alloc, content, lane, to, steps)
+    prepare_ticked(alloc, held, lane, to, steps)
+}
+
+/// Puts what was prepared in place. It takes no memory.
+pub fn install(held: &mut Alerted, event: Option<Event>)
+    requires may { MayInstall held.old event }
+    requires sound { Sound (with_events event held.old.state) }
+    requires holds { Holds (with_events event held.old.state) }
+    ensures { held.new.state ≡ with_events event held.old.state }
+{
+    if let Some(event) = event {
+        held.install(event);
+    }
 }

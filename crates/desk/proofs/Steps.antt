@@ -8,8 +8,9 @@ use Rattle.asks.specs.declared.reply.Refusal.TheVariants.{Unkept}
 use Rattle.asks.specs.declared.call.Call.{Call}
 use Rattle.asks.specs.declared.reply.Reply.{Reply}
 use Rattle.asks.specs.declared.reply.Reply.TheVariants.{Refused}
-use Rattle.board.specs.Prepare.{with_events, installed, IsStepped, KeepsRows, Shown, shown}
-use Rattle.board.specs.declared.prepared.Event.{Event}
+use Rattle.board.specs.Prepare.{installed, IsStepped, KeepsRows, Shown, shown}
+use Rattle.desk_state.specs.Install.{with_events}
+use Rattle.desk_state.specs.declared.event.Event.{Event}
 use Rattle.board.specs.declared.prepared.Prepared.{Prepared}
 use Rattle.desk_io.specs.Rows.{Rows, rows_of, changed_by}
 use Rattle.desk_io.specs.declared.rows.Change.{Change}

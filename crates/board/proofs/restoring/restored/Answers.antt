@@ -1,10 +1,16 @@
-use Rattle.std.proofs.Common.{◌∙◌, ap}
+use Rattle.std.proofs.Common.{◌∙◌, ap, subst, sym}
 use Rattle.kept_state.specs.Judged.{judged_changes}
 use Rattle.desk_state.specs.Effects.{nothing}
 use Rattle.desk_state.specs.Events.{alert_changes}
-use Rattle.board.proofs.Anew.{rows_kept}
+use Rattle.kept_state.specs.Opening.{MayReopen}
+use Rattle.kept_state.proofs.StateLaws.{may_reopen}
+use Rattle.board.proofs.Anew.{reopened_sound, rows_kept}
 use Rattle.board.proofs.restoring.restored.Goals as goal
 
 pub returns-in-Ok-clause-kept : goal.returns-in-Ok-clause-kept
 returns-in-Ok-clause-kept g c =
     rows_kept c.args.tables c.args.records.items _ c.are_named.ensures c.requires (c.in-Ok.ensures.changes ∙ ap (λ s. judged_changes s (alert_changes nothing s)) c.in_ok-content.ensures)
+
+pub of-requires : goal.of-requires
+of-requires g c =
+    reopened_sound _ _ (subst MayReopen (sym c.in_ok-content.ensures) (may_reopen c.args.tables c.args.records.items c.are_named.ensures c.requires)) c.in-Ok.ensures.state

@@ -1,0 +1,15 @@
+use Rattle.std.proofs.Common.{◌≡◌, sym, subst, Option, None}
+use Rattle.facts.specs.declared.report.Report.{Report}
+use Rattle.desk_state.specs.Touched.{by_report}
+use Rattle.held_releases.specs.Touched.{held_where}
+use Rattle.alert_judging.specs.Touching.{Adds}
+use Rattle.alert_judging.proofs.Ids.{none_added}
+use Rattle.alert_judging.proofs.prospect.Prospect.push_by_report.Goals as goal
+
+pub returns-in-None : goal.returns-in-None
+returns-in-None c =
+    let p = c.args.self.now in
+    let s = p.content.now.state in
+    let ids = c.args.ids.now.items in
+    let is : p.effect.now.report ≡ None = cc in
+    subst (λ (o : Option Report). Adds (λ id. held_where (by_report o) id s.releases) ids ids) (sym is) (none_added ids s.releases)
