@@ -2,3 +2,4 @@ pub mod Parts
 pub mod Kept
 pub mod Anew
 pub mod Counted
+pub mod Crossing
