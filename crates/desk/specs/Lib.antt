@@ -7,3 +7,7 @@ pub mod Opening
 pub mod Seen
 pub mod Again
 pub mod Counted
+pub mod Merge
+pub mod Round
+pub mod Positions
+pub mod Race

@@ -1,14 +1,19 @@
-ghost use Rattle.std.specs.Prelude.{◌≡◌, ◌≤◌, [], IfOk};
+ghost use Rattle.std.specs.Prelude.{◌≡◌, ◌≤◌, [], length, IfOk, OnErr, MatchBool};
 ghost use Rattle.std.specs.List.{AllByRecursion};
 ghost use Rattle.desk_json.specs.Faults.{line_or_fault};
 ghost use Rattle.desk.specs.Run as spec;
 ghost use Rattle.desk.specs.Run.{items_of, lines_of, lane_with};
 ghost use Rattle.desk_state.specs.Repeats.{IsAskable};
+ghost use Rattle.desk.specs.Merge.{HasBegun, TakesTurn};
+ghost use Rattle.desk.specs.Seen.{desk_seen, DeskGoesOn};
 ghost use Rattle.desk.specs.Shown.{IsShown};
 
+use crate::settling::Desk;
+use crate::turns::outcome;
 use desk_io::{LineFeeds, OutOfMemory, Run, runs_between};
 use desk_json::{CallFault, read_line};
 use desk_state::{Item, Outcome};
+use keeper::Keeper;
 use std::alloc::Global;
 use std::marker::Model;
 
@@ -81,6 +86,39 @@ impl Lane {
         ensures form { AllByRecursion IsAskable result.now }
     {
         &self.items
+    }
+
+    /// The lane's next item is answered, if there is one: whether there was. Its outcome has its memory before.
+    pub(crate) fn take_turn<K: Keeper>(
+        &mut self,
+        alloc: Global,
+        desk: &mut Desk<K>,
+        number: u32,
+    ) -> Result<bool, OutOfMemory>
+        ensures taken { IfOk result (λ went. MatchBool went
+            (TakesTurn number self.old self.new (desk_seen K.seen desk.old) (desk_seen K.seen desk.new))
+            ((self.new ≡ self.old) × (desk.new ≡ desk.old))) }
+        ensures same { OnErr result (self.new ≡ self.old) }
+        ensures err { OnErr result (HasBegun number self.old desk.old.board.state desk.new.board.state) }
+        ensures on { DeskGoesOn (desk_seen K.seen desk.old) (desk_seen K.seen desk.new) }
+    {
+        let done = self.outcomes.len();
+        if done >= self.items.len() {
+            return Ok(false);
+        }
+        self.outcomes.reserve(1)?;
+        let outcome = outcome(alloc, desk, number, &self.items[done])?;
+        match self.outcomes.push(outcome) {
+            Ok(()) => Ok(true),
+            Err(_) => unreachable!(),
+        }
+    }
+
+    /// How many of the items have come to something.
+    pub(crate) fn done(&self) -> usize
+        ensures { result ≡ length self.now.outcomes }
+    {
+        self.outcomes.len()
     }
 
     /// Keeps what has come of the items.

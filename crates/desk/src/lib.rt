@@ -2,13 +2,20 @@
 #![tactic(auto)]
 
 mod answering;
+mod gates;
 mod lanes;
 mod opening;
+mod racing;
+mod round;
 mod run;
+mod running;
 mod settling;
+mod turns;
 
 pub use answering::{Answered, answer};
+pub use gates::{Gate, OpenGate};
 pub use lanes::Lane;
 pub use opening::{OpenFault, OpenWhy, leave, open};
 pub use run::{said_text, text_from};
+pub use running::{Finished, Raced, race, run_lanes};
 pub use settling::Desk;

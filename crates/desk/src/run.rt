@@ -44,26 +44,27 @@ fn bad_line(alloc: Global, board: &Board, fault: &BadCall) -> Result<Answered, O
     })
 }
 
-fn answer_item<K: Keeper, L: Ledger>(
+pub(crate) fn answer_item<K: Keeper, L: Ledger>(
     alloc: Global,
     desk: &mut Desk<K>,
+    lane: u32,
     item: &Item,
     steps: &mut Steps<L>,
 ) -> Result<Answered, OutOfMemory>
     requires { IsAskable item.now }
     ensures given { IfOk result
-        (λ a. AnswersItem LANE item.now (desk_seen K.seen desk.old) (desk_seen K.seen desk.new) a) }
+        (λ a. AnswersItem lane item.now (desk_seen K.seen desk.old) (desk_seen K.seen desk.new) a) }
     ensures shown { IfOk result (λ a. IsShown a.outcome) }
-    ensures err { OnErr result (MayHaveBegun LANE item.now desk.old.board.state desk.new.board.state) }
+    ensures err { OnErr result (MayHaveBegun lane item.now desk.old.board.state desk.new.board.state) }
     ensures on { DeskGoesOn (desk_seen K.seen desk.old) (desk_seen K.seen desk.new) }
 {
     match item {
-        Item::Call { at, call } => answer(alloc, desk, LANE, *at, call, steps),
+        Item::Call { at, call } => answer(alloc, desk, lane, *at, call, steps),
         Item::Bad(fault) => bad_line(alloc, &desk.board, fault),
     }
 }
 
-fn outcome_of(answered: Answered) -> Outcome
+pub(crate) fn outcome_of(answered: Answered) -> Outcome
     ensures { result ≡ answered.outcome }
 {
     let Answered { outcome, .. } = answered;
@@ -87,7 +88,7 @@ fn outcomes_of<K: Keeper, L: Ledger>(
 {
     let mut outcomes = Vec::new(alloc);
     for item in items {
-        let answered = answer_item(alloc, desk, item, steps)?;
+        let answered = answer_item(alloc, desk, LANE, item, steps)?;
         outcomes.push(outcome_of(answered))?;
     }
     Ok(outcomes)
@@ -143,7 +144,11 @@ fn push_outcomes(alloc: Global, out: &mut Vec<u8>, outcomes: &[Outcome]) -> Resu
     Ok(())
 }
 
-fn push_closing(alloc: Global, board: &Board, out: &mut Vec<u8>) -> Result<(), OutOfMemory>
+pub(crate) fn push_closing(
+    alloc: Global,
+    board: &Board,
+    out: &mut Vec<u8>,
+) -> Result<(), OutOfMemory>
     ensures { OnOk result (out.new.items ≡ out.old.items ++ closing board.now.state) }
 {
     let text = board.closing(alloc)?;

@@ -1,0 +1,62 @@
+-- What lies under the lock of lanes that run at once, and what holds of it whenever the lock is free.
+use Rattle.std.specs.Prelude.{◌≡◌, ◌⊎◌, ℕ, MatchBool, Bool, List, [], map, None, false}
+use Rattle.desk_state.specs.State.{State, start}
+use Rattle.desk_state.specs.declared.lanes.Item.{Item}
+use Rattle.keeper.specs.Seen.{KeeperSeen}
+use Rattle.ops_tables.specs.Tables.{TableRows}
+use Rattle.desk.specs.Merge.{AreMerged, AreMergedInPart}
+use Rattle.desk.specs.Run.{LaneShown}
+use Rattle.desk.specs.Seen.{DeskSeen, DeskGoesOn}
+
+abbrev pub items_in : LaneShown → List Item
+items_in lane = lane.items
+
+-- where lanes began to run: the desk, and their items
+pub record Began : Type 0 where
+  pub desk : DeskSeen
+  pub items : List (List Item)
+
+-- the state of the desk under the lock, the lanes, and whether memory ran out
+pub record RoundShown : Type 0 where
+  pub state : State
+  pub lanes : List LaneShown
+  pub ended : Bool
+
+abbrev pub round_of : State → List LaneShown → Bool → RoundShown
+round_of s lanes ended = record { state = s; lanes = lanes; ended = ended }
+
+-- what has come of the lanes, unless memory ran out among them
+abbrev pub AreTaken : Began → DeskSeen → List LaneShown → Bool → Type 0
+AreTaken began desk lanes ended =
+    MatchBool ended (AreMergedInPart began.desk.keeper.health.faults desk.keeper.health.faults began.desk.state lanes desk.state)
+    (AreMerged began.desk.keeper.health.faults desk.keeper.health.faults began.desk.state lanes desk.state)
+
+-- The desk goes on from the one that began: it was opened in the same state, and what was kept for its state is kept for it. The lanes have
+-- their items, and what has come of them so far is merged into the one history that leads from the state that began to the desk's.
+pub record IsRound (began : Began) (desk : DeskSeen) (lanes : List LaneShown) (ended : Bool) : Type 0 where
+  pub on : DeskGoesOn began.desk desk
+  pub items : map items_in lanes ≡ began.items
+  pub taken : AreTaken began desk lanes ended
+
+-- no lanes under no tables
+abbrev no_tables : TableRows
+no_tables = record {
+  settings = record { hold_minutes = 0; marginal_ceiling = 0; single_ceiling = 0; double_ceiling = 0; marginal_vis16 = 0; single_vis16 = 0; double_vis16 = 0; late_off = 0; late_on = 0 };
+  airports = [];
+  approaches = [];
+  alternates = [];
+  types = [];
+  tails = [];
+  uses = [];
+  distances = [];
+  routes = [];
+  mel = [];
+  pairs = [];
+  actors = [];
+}
+
+abbrev no_keeper : KeeperSeen
+no_keeper = record { rows = None; commits = 0; health = record { faults = 0; sound = false } }
+
+abbrev pub nowhere : Began
+nowhere = record { desk = record { opening = start no_tables; state = start no_tables; keeper = no_keeper }; items = [] }

@@ -1,0 +1,207 @@
+ghost use Rattle.std.specs.Prelude.{◌≡◌, true, map, IfOk};
+ghost use Rattle.std.specs.Bool.{OnTrue};
+ghost use Rattle.std.specs.List.{AllByRecursion, list_all};
+ghost use Rattle.desk.specs.Merge.{AreMerged, AreMergedInPart, IsFresh, is_done};
+ghost use Rattle.desk.specs.Positions.{AreOneHistory};
+ghost use Rattle.desk.specs.Race.{IsRace, IsRaceInPart, race_text};
+ghost use Rattle.desk.specs.Round.{AreTaken, items_in};
+ghost use Rattle.desk.specs.Seen.{desk_seen, DeskGoesOn};
+
+use crate::gates::Gate;
+use crate::lanes::Lane;
+use crate::racing::{lanes_of, race_text};
+use crate::round::{Beginning, Round};
+use crate::settling::Desk;
+use desk_io::{OutOfMemory, Text};
+use keeper::Keeper;
+use std::alloc::Global;
+use std::marker::Brand;
+use std::sync::{Mutex, Wait};
+use std::thread;
+use std::thread::Threads;
+
+/// What several threads do in turns, lane by lane. Lanes and lines are counted from 0.
+trait Turns {
+    /// How many lines of the lane are done, and how many there are.
+    fn lines(&self, place: usize) -> (usize, usize);
+
+    /// Does the next line of the lane, and says whether it did.
+    fn turn(&mut self, alloc: Global, place: usize) -> bool;
+}
+
+impl<J: Beginning, K: Keeper> Turns for Round<J, K> {
+    fn lines(&self, place: usize) -> (usize, usize) {
+        Round::lines(self, place)
+    }
+
+    fn turn(&mut self, alloc: Global, place: usize) -> bool {
+        Round::turn(self, alloc, place)
+    }
+}
+
+// A number from 1 for what is counted from 0.
+fn numbered(place: usize) -> u32 {
+    place.min(4_294_967_294) as u32 + 1
+}
+
+// What is left of a lane, line by line, with the lock taken for each.
+fn work<M: Turns, G: Gate, R: Wait>(
+    rt: &R,
+    alloc: Global,
+    shared: &Mutex<M>,
+    place: usize,
+    gate: &G,
+) {
+    let (done, all) = shared.lock(rt).lines(place);
+    for line in done..all {
+        gate.before(numbered(place), numbered(line));
+        let went = shared.lock(rt).turn(alloc, place);
+        gate.after(numbered(place), numbered(line));
+        if !went {
+            return;
+        }
+    }
+}
+
+// As many threads as there are lanes take turns, and then this one does what they left.
+fn in_threads<M: Turns + Send, G: Gate + Sync, R: Threads + Wait + Sync>(
+    rt: &R,
+    alloc: Global,
+    turns: M,
+    count: usize,
+    gate: &G,
+) -> M {
+    let held: Mutex<M> = Mutex::new(turns);
+    let shared = &held;
+    let done = thread::map_indices(
+        rt,
+        alloc,
+        count,
+        &|place| work(rt, alloc, shared, place, gate),
+    );
+    drop(done);
+    for place in 0..count {
+        work(rt, alloc, shared, place, gate);
+    }
+    held.into_inner()
+}
+
+/// What is left of lanes that ran at once.
+#[derive(Drop)]
+pub struct Finished<K> {
+    pub desk: Desk<K>,
+    pub lanes: Vec<Lane>,
+    /// Each item was answered: memory never ran out.
+    pub whole: bool,
+}
+
+// Whether each lane has an outcome for each item.
+fn are_done(lanes: &[Lane]) -> bool
+    ensures { result ≡ list_all is_done lanes.now }
+{
+    for lane in lanes {
+        if lane.done() != lane.items().len() {
+            return false;
+        }
+    }
+    true
+}
+
+fn run_from<J: Beginning + Send + Sync, K: Keeper + Send, G: Gate + Sync, R: Threads + Wait + Sync>(
+    rt: &R,
+    alloc: Global,
+    desk: Desk<K>,
+    lanes: Vec<Lane>,
+    gate: &G,
+) -> Finished<K>
+    requires desk { J.began.desk ≡ desk_seen K.seen desk }
+    requires items { J.began.items ≡ map items_in lanes.items }
+    requires fresh { AllByRecursion IsFresh lanes.items }
+    ensures on { DeskGoesOn J.began.desk (desk_seen K.seen result.desk) }
+    ensures items { map items_in result.lanes.items ≡ J.began.items }
+    ensures merged { OnTrue result.whole (AreMerged J.began.desk.keeper.health.faults
+        (K.seen result.desk.keeper).health.faults J.began.desk.state result.lanes.items result.desk.board.state) }
+    ensures done { OnTrue result.whole (list_all is_done result.lanes.items ≡ true) }
+    ensures part { AreMergedInPart J.began.desk.keeper.health.faults (K.seen result.desk.keeper).health.faults
+        J.began.desk.state result.lanes.items result.desk.board.state }
+{
+    let count = lanes.len();
+    let round = in_threads(rt, alloc, Round::<J, K>::new(desk, lanes), count, gate);
+    let (desk, lanes, ended) = round.into_parts();
+    let whole = !ended && are_done(lanes.as_slice());
+    Finished { desk, lanes, whole }
+}
+
+/// Lanes run on a desk at once, a thread for each where one can be had, and the lock is taken for each item. What has
+/// come of them is merged into the board's one history. Where memory ran out nothing more is done.
+pub fn run_lanes<K: Keeper + Send, G: Gate + Sync, R: Threads + Wait + Sync>(
+    rt: &R,
+    alloc: Global,
+    desk: Desk<K>,
+    lanes: Vec<Lane>,
+    gate: &G,
+) -> Finished<K>
+    requires fresh { AllByRecursion IsFresh lanes.items }
+    // Each lane has its items.
+    ensures items { map items_in result.lanes.items ≡ map items_in lanes.items }
+    // Each item has its outcome, in the one history that leads from the state of the desk to the one that it is left in.
+    ensures merged { OnTrue result.whole (AreMerged (K.seen desk.keeper).health.faults
+        (K.seen result.desk.keeper).health.faults desk.board.state result.lanes.items result.desk.board.state) }
+    ensures done { OnTrue result.whole (list_all is_done result.lanes.items ≡ true) }
+    // So what is said of each item follows from where it stands there.
+    ensures history { OnTrue result.whole (AreOneHistory (K.seen desk.keeper).health.faults
+        (K.seen result.desk.keeper).health.faults desk.board.state result.lanes.items result.desk.board.state) }
+    // What had come of them is merged too where memory ran out, and then nothing was done but at most one tick.
+    ensures part { AreMergedInPart (K.seen desk.keeper).health.faults (K.seen result.desk.keeper).health.faults
+        desk.board.state result.lanes.items result.desk.board.state }
+    ensures on { DeskGoesOn (desk_seen K.seen desk) (desk_seen K.seen result.desk) }
+{
+    let _ = desk.board.now();
+    run_from::<Brand, K, G, R>(rt, alloc, desk, lanes, gate)
+}
+
+/// What is left of a race: the desk, and the text, or want of memory.
+#[derive(Drop)]
+pub struct Raced<K> {
+    pub desk: Desk<K>,
+    pub text: Result<Text, OutOfMemory>,
+}
+
+fn told_of<K: Keeper>(alloc: Global, finished: Finished<K>) -> Raced<K>
+    ensures desk { result.desk ≡ finished.desk }
+    ensures whole { IfOk result.text (λ _. finished.whole ≡ true) }
+    ensures text { IfOk result.text (λ t. t ≡ race_text finished.desk.board.state finished.lanes.items) }
+{
+    let Finished { desk, lanes, whole } = finished;
+    let text = if whole {
+        race_text(alloc, &desk.board, &lanes)
+    } else {
+        Err(OutOfMemory)
+    };
+    Raced { desk, text }
+}
+
+/// Scripts are the lanes of a race on a desk: they run at once, and the text is told once each of their lines has its
+/// outcome.
+pub fn race<K: Keeper + Send, G: Gate + Sync, R: Threads + Wait + Sync>(
+    rt: &R,
+    alloc: Global,
+    desk: Desk<K>,
+    scripts: &[Text],
+    gate: &G,
+) -> Raced<K>
+    ensures race { IfOk result.text (λ t. IsRace (K.seen desk.keeper).health.faults
+        (K.seen result.desk.keeper).health.faults desk.board.state scripts.now result.desk.board.state t) }
+    // Where memory ran out: what had come of the lines was answered whole, and nothing was done but at most one tick.
+    ensures part { IsRaceInPart (K.seen desk.keeper).health.faults (K.seen result.desk.keeper).health.faults
+        desk.board.state scripts.now result.desk.board.state }
+    ensures on { DeskGoesOn (desk_seen K.seen desk) (desk_seen K.seen result.desk) }
+{
+    match lanes_of(alloc, scripts) {
+        Ok(lanes) => told_of(alloc, run_lanes(rt, alloc, desk, lanes, gate)),
+        Err(OutOfMemory) => Raced {
+            desk,
+            text: Err(OutOfMemory),
+        },
+    }
+}
