@@ -1,12 +1,15 @@
 -- The work on a desk that was opened, over the rows before it was.
 use Rattle.std.proofs.Common.{◌≡◌, ℕ, ◌≤◌, List, map, Some, ap, ◌∙◌, subst, sym, arith}
-use Rattle.std.specs.Prelude.{Ok, Err}
+use Rattle.std.specs.Prelude.{IfOk, Result, Ok, Err}
 use Rattle.std.specs.List.{concat}
 use Rattle.board.specs.Prepare.{Shown}
 use Rattle.desk.proofs.Choices.{rise_lower, rise_within}
+use Rattle.desk.proofs.Merged.{merged_lower, part_lower as merged_part_lower}
+use Rattle.desk.proofs.Positions.{history_lower}
 use Rattle.desk.specs.Keeping.{KeepsState, numbers_of}
 use Rattle.desk.specs.Opening.{IsOpened}
 use Rattle.desk.specs.InPart.{IsRunInPart}
+use Rattle.desk.specs.Race.{IsRace, IsRaceInPart}
 use Rattle.desk.specs.Run.{IsRun}
 use Rattle.desk.specs.declared.settling.Desk.{Desk}
 use Rattle.desk.specs.Seen.{DeskAt, DeskGoesOn, desk_at, desk_seen}
@@ -18,7 +21,7 @@ use Rattle.ops_tables.specs.Tables.{TableRows}
 use Rattle.service.proofs.Visits.{serving_from}
 use Rattle.commands.specs.Faults.{Outcome}
 use Rattle.commands.specs.Seen.{Service, lent as lent_over}
-use Rattle.commands.specs.Working.{Opens, Runs, Serves}
+use Rattle.commands.specs.Working.{Opens, Races, Runs, Serves, told_of}
 use Rattle.commands.specs.declared.fault.Fault.TheVariants.{OutOfMemory}
 use Rattle.commands.specs.declared.working.Ended.{Ended}
 
@@ -56,6 +59,33 @@ works_lower script desk less (Err other) under runs = absurd runs
 
 pub runs_lower : (script : List ℕ) → Lowers (Runs script)
 runs_lower script = works_lower script
+
+races_by : (scripts : List (List ℕ)) (desk : Over DeskAt) (less : ℕ) (answer : Outcome) → less ≤ desk.before.faults → Races scripts desk answer
+    → Races scripts (record desk { before = record desk.before { faults = less } }) answer
+races_by scripts desk less (Ok text) under race = record {
+  lanes = race.lanes;
+  items = race.items;
+  done = race.done;
+  merged = merged_lower less desk.before.faults desk.after.faults desk.before.state desk.after.state race.lanes under race.merged;
+  history = history_lower less desk.before.faults desk.after.faults desk.before.state desk.after.state race.lanes under race.history;
+  says = race.says;
+}
+races_by scripts desk less (Err OutOfMemory) under race = record {
+  lanes = race.lanes;
+  items = race.items;
+  part = merged_part_lower less desk.before.faults desk.after.faults desk.before.state desk.after.state race.lanes under race.part;
+}
+races_by scripts desk less (Err other) under race = absurd race
+
+pub races_lower : (scripts : List (List ℕ)) → Lowers (Races scripts)
+races_lower scripts = races_by scripts
+
+-- the text of a race, or want of memory
+pub races_told : {E : Type 0} (scripts : List (List ℕ)) (desk : Over DeskAt) (text : Result (List ℕ) E)
+    → IfOk text (λ t. IsRace desk.before.faults desk.after.faults desk.before.state scripts desk.after.state t) → IsRaceInPart desk.before.faults desk.after.faults desk.before.state scripts desk.after.state
+    → Races scripts desk (told_of text)
+races_told scripts desk (Ok text) race part = race
+races_told scripts desk (Err e) race part = part
 
 pub serves_lower : {L : Type 0} (service : Service L) (port most : ℕ) → Lowers (Serves service port most)
 serves_lower service port most = λ desk less answer under works.

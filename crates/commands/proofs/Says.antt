@@ -28,17 +28,17 @@ use Rattle.table_files.specs.Files.{files, name_of}
 use Rattle.table_files.specs.Whole.{ReadsTables, RoseAt, StopsAtMissing, Told}
 use Rattle.table_files.specs.declared.faults.TableFault.{TableFault}
 use Rattle.table_files.specs.declared.faults.TableFault.TheVariants as table
-use Rattle.words.specs.declared.task.DeskTask.TheVariants.{Run, Serve}
+use Rattle.words.specs.declared.task.DeskTask.TheVariants.{Run, Race, Serve}
 use Rattle.words.specs.declared.task.Task.{Task}
 use Rattle.words.specs.declared.task.Task.TheVariants.{Weather, Desk}
-use Rattle.commands.proofs.Reading.{held_last, none_long, none_missing}
-use Rattle.commands.specs.Answers.{AreKeptOver, HasDoor, HasSources, IsDone, IsUntouched, RunsUnder, Says, Writes}
+use Rattle.commands.proofs.Reading.{after_files, among_here, held_last, none_long, none_missing}
+use Rattle.commands.specs.Answers.{AreKeptOver, HasDoor, HasSources, IsDone, IsUntouched, RacesUnder, RunsUnder, Says, Writes}
 use Rattle.commands.specs.Complete.{AreFaultless, AreGood, AreShort, IsTooLong}
 use Rattle.commands.specs.Faults.{Gives, Outcome, of_opening, of_tables, status_of_fault}
 use Rattle.commands.specs.Seen.{Lent, Service, lent as lent_over, service}
-use Rattle.commands.specs.Sources.{ReadsFiles, ReadsSource, SourceFails, TablesFail, sources_of}
+use Rattle.commands.specs.Sources.{ReadsFiles, ReadsSource, ReadsSources, SourceFails, SourcesFail, TablesFail, first_of, sources_of}
 use Rattle.commands.specs.Weather.{weather_text}
-use Rattle.commands.specs.Working.{EndSays, Opens, Runs, Serves, desk_over}
+use Rattle.commands.specs.Working.{EndSays, Opens, Races, Runs, Serves, desk_over}
 use Rattle.commands.specs.declared.fault.Fault.{Fault}
 use Rattle.commands.specs.declared.fault.Fault.TheVariants.{Usage, ReadFault, WriteFault, KeeperFault, BadTable, BadRow, BadPair, OutOfMemory, DoorFault, InputTooLong, ClockFault}
 
@@ -89,6 +89,11 @@ module _ (of : Charges) (shelf : Over ShelfSeen) (names : List (List ℕ)) (miss
   source_tells name among OutOfMemory says = tt
   source_tells name among other says = absurd says
 
+  -- the first of several sources that wasn't read
+  sources_tell : (last : List (List ℕ)) → ((P : List ℕ → Type 0) → All P names → All P last) → (fault : Fault) → SourcesFail shelf last fault → Tells of fault
+  sources_tell last within OutOfMemory fails = tt
+  sources_tell last within other fails = source_tells fails.name (λ P all. among_here P fails.earlier fails.name fails.later (subst (All P) fails.order (within P all))) other fails.fails
+
   module _ (rest : List (List ℕ)) (are : names ≡ map name_of files ++ rest) (bad : (AreGood shelf.before.sources → ⊥) → of.tables) where
     tables_tell : (stop : TableFault) → ReadsTables shelf.before.sources (Err stop) → RoseAt shelf.before.health shelf.after.health stop → (IsSound shelf.before.health → StopsAtMissing shelf.before.sources stop)
         → Tells of (of_tables stop)
@@ -113,6 +118,11 @@ module _ (of : Charges) where
   runs_tell script desk (Err OutOfMemory) runs = tt
   runs_tell script desk (Err other) runs = absurd runs
 
+  races_tell : (scripts : List (List ℕ)) (desk : Over DeskAt) (answer : Outcome) → Races scripts desk answer → TellsBy of answer
+  races_tell scripts desk (Ok text) races = tt
+  races_tell scripts desk (Err OutOfMemory) races = tt
+  races_tell scripts desk (Err other) races = absurd races
+
   why_tells : (told : Option Rows) (failed : Type 0) (why : OpenWhy) → (failed → of.keeper) → ((AreFaultless told → ⊥) × (AreLeft told → ⊥) → of.rows) → IsWhy told failed why
       → (AreLeft told → IsOfKeeper failed why) → TellsBy of (Err (of_opening why))
   why_tells told failed why.KeeperFault keeper rows is left = keeper is
@@ -126,7 +136,7 @@ module _ (of : Charges) where
   end_tells ends.ClockFault s answer says clock door = subst (TellsBy of) (sym says) (clock refl)
   end_tells ends.OutOfMemory s answer says clock door = subst (TellsBy of) (sym says) tt
 
-pub is_formed : (command : Option (Task × List ℕ)) → IsSome command → command ≡ None → ⊥
+pub is_formed : (command : Option (Task × List (List ℕ))) → IsSome command → command ≡ None → ⊥
 is_formed None formed is = absurd (cc)
 is_formed (Some command) formed is = absurd (cc)
 
@@ -151,7 +161,7 @@ module _ {K C D L : Type 0} (k : K → KeeperSeen) (c : C → ClockSeen) (d : D 
   serving = service c d l clock_old clock_new door_old door_new
 
   -- what its fault tells of a command
-  abbrev pub charges : Option (Task × List ℕ) → Charges
+  abbrev pub charges : Option (Task × List (List ℕ)) → Charges
   charges command = record {
     words = command ≡ None;
     tables = AreGood shelf.before.sources → ⊥;
@@ -167,20 +177,20 @@ module _ {K C D L : Type 0} (k : K → KeeperSeen) (c : C → ClockSeen) (d : D 
   IsStill = (c clock_new).health.faults ≡ (c clock_old).health.faults
 
   -- what goes on of the clock and the door, and what is told
-  pub record Served (command : Option (Task × List ℕ)) (answer : Outcome) : Type 0 where
+  pub record Served (command : Option (Task × List (List ℕ))) (answer : Outcome) : Type 0 where
     pub clock : ClockGoesOn (c clock_old) (c clock_new)
     pub door : (d door_old).health.faults ≤ (d door_new).health.faults
     pub still : IfOk answer (λ text. IsStill)
     pub tells : TellsBy (charges command) answer
 
   -- and of the keeper and the board
-  pub record Follows (command : Option (Task × List ℕ)) (board : Option Shown) (answer : Outcome) : Type 0 where
+  pub record Follows (command : Option (Task × List (List ℕ))) (board : Option Shown) (answer : Outcome) : Type 0 where
     pub keeper : KeeperGoesOn (k lent) (k kept)
     pub are_kept : AreKeptOver rows_over board
     pub holds : IfSome board (λ b. IsBoard b.opening b.state)
     pub served : Served command answer
 
-  idle_served : (command : Option (Task × List ℕ)) (answer : Outcome) → serving.idle → TellsBy (charges command) answer → Served command answer
+  idle_served : (command : Option (Task × List (List ℕ))) (answer : Outcome) → serving.idle → TellsBy (charges command) answer → Served command answer
   idle_served command answer idle tells =
       record {
         clock = subst (λ x. ClockGoesOn (c clock_old) (c x)) (sym idle.0) (clock_stays (c clock_old));
@@ -189,7 +199,7 @@ module _ {K C D L : Type 0} (k : K → KeeperSeen) (c : C → ClockSeen) (d : D 
         tells = tells;
       }
 
-  untouched_follows : (command : Option (Task × List ℕ)) (board : Option Shown) (answer : Outcome) → IsUntouched rows_over board → serving.idle → TellsBy (charges command) answer → Follows command board answer
+  untouched_follows : (command : Option (Task × List (List ℕ))) (board : Option Shown) (answer : Outcome) → IsUntouched rows_over board → serving.idle → TellsBy (charges command) answer → Follows command board answer
   untouched_follows command board answer is idle tells =
       record {
         keeper = subst (λ x. KeeperGoesOn (k lent) (k x)) (sym is.same) (keeper_stays (k lent));
@@ -199,7 +209,7 @@ module _ {K C D L : Type 0} (k : K → KeeperSeen) (c : C → ClockSeen) (d : D 
       }
 
   -- a fault is told, and nothing else comes of it
-  told_follows : (command : Option (Task × List ℕ)) (board : Option Shown) (answer : Outcome) (fault : Fault) → (answer ≡ Err fault) × IsUntouched rows_over board → serving.idle
+  told_follows : (command : Option (Task × List (List ℕ))) (board : Option Shown) (answer : Outcome) (fault : Fault) → (answer ≡ Err fault) × IsUntouched rows_over board → serving.idle
       → Tells (charges command) fault → Follows command board answer
   told_follows command board answer fault says idle tells = untouched_follows command board answer says.1 idle (subst (TellsBy (charges command)) (sym says.0) tells)
 
@@ -210,7 +220,7 @@ module _ {K C D L : Type 0} (k : K → KeeperSeen) (c : C → ClockSeen) (d : D 
   end_still ends.OutOfMemory s answer says still = subst (λ a. IfOk a (λ text. IsStill)) (sym says) tt
 
   -- what follows of the work on a desk, of which this is known
-  opens_follow : (command : Option (Task × List ℕ)) (tables : TableRows) (Works : Over DeskAt → Outcome → Type 0) (board : Option Shown) (answer : Outcome) → KeeperGoesOn (k lent) (k kept)
+  opens_follow : (command : Option (Task × List (List ℕ))) (tables : TableRows) (Works : Over DeskAt → Outcome → Type 0) (board : Option Shown) (answer : Outcome) → KeeperGoesOn (k lent) (k kept)
       → Opens tables Works rows_over board answer → (board ≡ None → serving.idle) → ((desk : Over DeskAt) → Works desk answer → Served command answer) → Follows command board answer
   opens_follow command tables Works None answer goes un idle served =
       let tells = why_tells (charges command) (k lent).rows _ un.why (λ failed. failed) (λ rows. rows) un.is (λ rows. un.left rows.0 rows.1 rows.2) in
@@ -218,55 +228,74 @@ module _ {K C D L : Type 0} (k : K → KeeperSeen) (c : C → ClockSeen) (d : D 
   opens_follow command tables Works (Some b) answer goes opens idle served =
       record { keeper = goes; are_kept = (tables, opens.0); holds = opens.0.holds; served = served (desk_over rows_over b) opens.1 }
 
-  reports_follow : (name : List ℕ) (board : Option Shown) (answer : Outcome) (read : Result (List ℕ) Fault) → ReadsSource shelf name read
+  reports_follow : (names : List (List ℕ)) (board : Option Shown) (answer : Outcome) (read : Result (List ℕ) Fault) → ReadsSource shelf (first_of names) read
       → MatchResult read (λ file. Gives (λ text. text ≡ weather_text file) answer × IsUntouched rows_over board) (λ fault. (answer ≡ Err fault) × IsUntouched rows_over board) → serving.idle
-      → Follows (Some (Weather, name)) board answer
-  reports_follow name board answer (Ok file) reads does idle = untouched_follows (Some (Weather, name)) board answer does.1 idle (gives_tells (charges (Some (Weather, name))) _ answer does.0)
-  reports_follow name board answer (Err fault) reads does idle =
-      told_follows (Some (Weather, name)) board answer fault does idle
-      (source_tells (charges (Some (Weather, name))) shelf (name ∷ []) (λ misses. misses) (λ long. long) name (λ P all. All-head P name [] all) fault reads)
+      → Follows (Some (Weather, names)) board answer
+  reports_follow names board answer (Ok file) reads does idle = untouched_follows (Some (Weather, names)) board answer does.1 idle (gives_tells (charges (Some (Weather, names))) _ answer does.0)
+  reports_follow names board answer (Err fault) reads does idle =
+      told_follows (Some (Weather, names)) board answer fault does idle
+      (source_tells (charges (Some (Weather, names))) shelf (first_of names ∷ []) (λ misses. misses) (λ long. long) (first_of names) (λ P all. All-head P (first_of names) [] all) fault reads)
 
-  script_follows : (name : List ℕ) (tables : TableRows) (board : Option Shown) (answer : Outcome) (read : Result (List ℕ) Fault) → ReadsSource shelf name read
+  script_follows : (names : List (List ℕ)) (tables : TableRows) (board : Option Shown) (answer : Outcome) (read : Result (List ℕ) Fault) → ReadsSource shelf (first_of names) read
       → MatchResult read (λ script. KeeperGoesOn (k lent) (k kept) × Opens tables (Runs script) rows_over board answer) (λ fault. (answer ≡ Err fault) × IsUntouched rows_over board) → serving.idle
-      → Follows (Some (Desk Run, name)) board answer
-  script_follows name tables board answer (Ok script) reads does idle =
-      opens_follow (Some (Desk Run, name)) tables (Runs script) board answer does.0 does.1 (λ none. idle)
-      (λ desk ran. idle_served (Some (Desk Run, name)) answer idle (runs_tell (charges (Some (Desk Run, name))) script desk answer ran))
-  script_follows name tables board answer (Err fault) reads does idle =
-      told_follows (Some (Desk Run, name)) board answer fault does idle
-      (source_tells (charges (Some (Desk Run, name))) shelf (sources_of (Some (Desk Run, name))) (λ misses. misses) (λ long. long) name (λ P all. held_last P (map name_of files) name all) fault reads)
+      → Follows (Some (Desk Run, names)) board answer
+  script_follows names tables board answer (Ok script) reads does idle =
+      opens_follow (Some (Desk Run, names)) tables (Runs script) board answer does.0 does.1 (λ none. idle)
+      (λ desk ran. idle_served (Some (Desk Run, names)) answer idle (runs_tell (charges (Some (Desk Run, names))) script desk answer ran))
+  script_follows names tables board answer (Err fault) reads does idle =
+      told_follows (Some (Desk Run, names)) board answer fault does idle
+      (source_tells (charges (Some (Desk Run, names))) shelf (sources_of (Some (Desk Run, names))) (λ misses. misses) (λ long. long) (first_of names) (λ P all. held_last P (map name_of files) (first_of names) all) fault reads)
 
-  run_follows : (name : List ℕ) (board : Option Shown) (answer : Outcome) (read : Result TableRows Fault) → ReadsFiles shelf read
-      → MatchResult read (λ tables. RunsUnder tables shelf rows_over name board answer) (λ fault. (answer ≡ Err fault) × IsUntouched rows_over board) → serving.idle
-      → Follows (Some (Desk Run, name)) board answer
-  run_follows name board answer (Ok tables) reads does idle = script_follows name tables board answer does.0 does.1 does.2 idle
-  run_follows name board answer (Err fault) reads does idle =
-      told_follows (Some (Desk Run, name)) board answer fault does idle
-      (files_tell (charges (Some (Desk Run, name))) shelf (sources_of (Some (Desk Run, name))) (λ misses. misses) (λ long. long) (name ∷ []) refl (λ bad. bad) fault reads)
+  run_follows : (names : List (List ℕ)) (board : Option Shown) (answer : Outcome) (read : Result TableRows Fault) → ReadsFiles shelf read
+      → MatchResult read (λ tables. RunsUnder tables shelf rows_over (first_of names) board answer) (λ fault. (answer ≡ Err fault) × IsUntouched rows_over board) → serving.idle
+      → Follows (Some (Desk Run, names)) board answer
+  run_follows names board answer (Ok tables) reads does idle = script_follows names tables board answer does.0 does.1 does.2 idle
+  run_follows names board answer (Err fault) reads does idle =
+      told_follows (Some (Desk Run, names)) board answer fault does idle
+      (files_tell (charges (Some (Desk Run, names))) shelf (sources_of (Some (Desk Run, names))) (λ misses. misses) (λ long. long) (first_of names ∷ []) refl (λ bad. bad) fault reads)
 
-  serve_follows : (port most : ℕ) (name : List ℕ) (board : Option Shown) (answer : Outcome) (read : Result TableRows Fault) → ReadsFiles shelf read
+  lanes_follow : (names : List (List ℕ)) (tables : TableRows) (board : Option Shown) (answer : Outcome) (read : Result (List (List ℕ)) Fault) → ReadsSources shelf names read
+      → MatchResult read (λ scripts. KeeperGoesOn (k lent) (k kept) × Opens tables (Races scripts) rows_over board answer) (λ fault. (answer ≡ Err fault) × IsUntouched rows_over board) → serving.idle
+      → Follows (Some (Desk Race, names)) board answer
+  lanes_follow names tables board answer (Ok scripts) reads does idle =
+      opens_follow (Some (Desk Race, names)) tables (Races scripts) board answer does.0 does.1 (λ none. idle)
+      (λ desk raced. idle_served (Some (Desk Race, names)) answer idle (races_tell (charges (Some (Desk Race, names))) scripts desk answer raced))
+  lanes_follow names tables board answer (Err fault) reads does idle =
+      told_follows (Some (Desk Race, names)) board answer fault does idle
+      (sources_tell (charges (Some (Desk Race, names))) shelf (sources_of (Some (Desk Race, names))) (λ misses. misses) (λ long. long) names (λ P all. after_files P name_of files names all) fault reads)
+
+  race_follows : (names : List (List ℕ)) (board : Option Shown) (answer : Outcome) (read : Result TableRows Fault) → ReadsFiles shelf read
+      → MatchResult read (λ tables. RacesUnder tables shelf rows_over names board answer) (λ fault. (answer ≡ Err fault) × IsUntouched rows_over board) → serving.idle
+      → Follows (Some (Desk Race, names)) board answer
+  race_follows names board answer (Ok tables) reads does idle = lanes_follow names tables board answer does.0 does.1 does.2 idle
+  race_follows names board answer (Err fault) reads does idle =
+      told_follows (Some (Desk Race, names)) board answer fault does idle
+      (files_tell (charges (Some (Desk Race, names))) shelf (sources_of (Some (Desk Race, names))) (λ misses. misses) (λ long. long) names refl (λ bad. bad) fault reads)
+
+  serve_follows : (port most : ℕ) (names : List (List ℕ)) (board : Option Shown) (answer : Outcome) (read : Result TableRows Fault) → ReadsFiles shelf read
       → MatchResult read (λ tables. KeeperGoesOn (k lent) (k kept) × Opens tables (Serves serving port most) rows_over board answer) (λ fault. (answer ≡ Err fault) × IsUntouched rows_over board)
-      → (board ≡ None → serving.idle) → Follows (Some (Desk (Serve port most), name)) board answer
-  serve_follows port most name board answer (Ok tables) reads does idle =
-      opens_follow (Some (Desk (Serve port most), name)) tables (Serves serving port most) board answer does.0 does.1 idle (λ desk serves.
+      → (board ≡ None → serving.idle) → Follows (Some (Desk (Serve port most), names)) board answer
+  serve_follows port most names board answer (Ok tables) reads does idle =
+      opens_follow (Some (Desk (Serve port most), names)) tables (Serves serving port most) board answer does.0 does.1 idle (λ desk serves.
       record {
         clock = serves.clock;
         door = serves.door;
         still = end_still serves.end desk.after.state answer serves.says serves.still;
-        tells = end_tells (charges (Some (Desk (Serve port most), name))) serves.end desk.after.state answer serves.says
+        tells = end_tells (charges (Some (Desk (Serve port most), names))) serves.end desk.after.state answer serves.says
             (λ is. clock_failed _ _ most serves.served.visits serves.end serves.served.ends is)
             (λ is. (door_failed _ _ most serves.served.visits serves.end serves.served.ends is, λ has. serves.steady_door has.0 has.1 is));
       })
-  serve_follows port most name board answer (Err fault) reads does idle =
-      told_follows (Some (Desk (Serve port most), name)) board answer fault does (idle does.1.none)
-      (files_tell (charges (Some (Desk (Serve port most), name))) shelf (sources_of (Some (Desk (Serve port most), name))) (λ misses. misses) (λ long. long) [] refl (λ bad. bad) fault reads)
+  serve_follows port most names board answer (Err fault) reads does idle =
+      told_follows (Some (Desk (Serve port most), names)) board answer fault does (idle does.1.none)
+      (files_tell (charges (Some (Desk (Serve port most), names))) shelf (sources_of (Some (Desk (Serve port most), names))) (λ misses. misses) (λ long. long) [] refl (λ bad. bad) fault reads)
 
-  done_follows : (task : Task) (name : List ℕ) (board : Option Shown) (answer : Outcome) → IsDone shelf serving rows_over task name board answer → Follows (Some (task, name)) board answer
-  done_follows Weather name board answer does = reports_follow name board answer does.0.0 does.0.1 does.0.2 does.1
-  done_follows (Desk Run) name board answer does = run_follows name board answer does.0.0 does.0.1 does.0.2 does.1
-  done_follows (Desk (Serve port most)) name board answer does = serve_follows port most name board answer does.0.0 does.0.1 does.0.2 does.1
+  done_follows : (task : Task) (names : List (List ℕ)) (board : Option Shown) (answer : Outcome) → IsDone shelf serving rows_over task names board answer → Follows (Some (task, names)) board answer
+  done_follows Weather names board answer does = reports_follow names board answer does.0.0 does.0.1 does.0.2 does.1
+  done_follows (Desk Run) names board answer does = run_follows names board answer does.0.0 does.0.1 does.0.2 does.1
+  done_follows (Desk Race) names board answer does = race_follows names board answer does.0.0 does.0.1 does.0.2 does.1
+  done_follows (Desk (Serve port most)) names board answer does = serve_follows port most names board answer does.0.0 does.0.1 does.0.2 does.1
 
-  pub follows : (command : Option (Task × List ℕ)) (board : Option Shown) (answer : Outcome) → Says shelf serving rows_over command board answer → Follows command board answer
+  pub follows : (command : Option (Task × List (List ℕ))) (board : Option Shown) (answer : Outcome) → Says shelf serving rows_over command board answer → Follows command board answer
   follows command board answer (inr says) = untouched_follows command board answer says.1 says.2 (subst (TellsBy (charges command)) (sym says.0) tt)
   follows None board answer (inl says) = untouched_follows None board answer says.1 says.2 (subst (TellsBy (charges None)) (sym says.0) refl)
   follows (Some command) board answer (inl does) = done_follows command.0 command.1 board answer does

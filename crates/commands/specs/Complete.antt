@@ -33,7 +33,7 @@ abbrev pub AreFaultless : Option Rows → Type 0
 AreFaultless told = (why : RowsFault) → why ≢ fault.OutOfMemory → OnLoaded told (λ rows. IsFaultOf rows why) → ⊥
 
 -- The words form a command, and all that it reads is valid: the tables, its sources, the rows.
-pub record IsValid (shelf : ShelfSeen) (rows : Option Rows) (command : Option (Task × List ℕ)) : Type 0 where
+pub record IsValid (shelf : ShelfSeen) (rows : Option Rows) (command : Option (Task × List (List ℕ))) : Type 0 where
   pub formed : IsSome command
   pub tables : AreGood shelf.sources
   pub short : AreShort shelf.sources (sources_of command)

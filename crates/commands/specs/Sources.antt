@@ -6,10 +6,10 @@ use Rattle.desk_io.specs.Seen.{Holds, ShelfSeen}
 use Rattle.desk_io.specs.Told.{OnSource}
 use Rattle.ops_tables.specs.Tables.{TableRows}
 use Rattle.table_files.specs.Files.{files, name_of}
-use Rattle.table_files.specs.Whole.{ReadsTables, RoseAt, StopsAtMissing}
+use Rattle.table_files.specs.Whole.{ReadsTables, RoseAt, StopsAtMissing, Told}
 use Rattle.table_files.specs.declared.faults.TableFault.{TableFault}
 use Rattle.words.specs.declared.task.DeskTask.{DeskTask}
-use Rattle.words.specs.declared.task.DeskTask.TheVariants.{Run, Serve}
+use Rattle.words.specs.declared.task.DeskTask.TheVariants.{Run, Race, Serve}
 use Rattle.words.specs.declared.task.Task.{Task}
 use Rattle.words.specs.declared.task.Task.TheVariants.{Weather, Desk}
 use Rattle.commands.specs.Faults.{of_tables}
@@ -18,18 +18,24 @@ use Rattle.commands.specs.declared.fault.Fault.TheVariants.{ReadFault, OutOfMemo
 
 -- ---- the sources
 
+-- the name of the source of a task that reads one
+abbrev pub first_of : List (List ℕ) → List ℕ
+first_of [] = []
+first_of (name ∷ rest) = name
+
 -- the sources that a task on a desk reads after the tables
-abbrev pub sources_on_desk : DeskTask → List ℕ → List (List ℕ)
-sources_on_desk Run name = name ∷ []
-sources_on_desk (Serve port connections) name = []
+abbrev pub sources_on_desk : DeskTask → List (List ℕ) → List (List ℕ)
+sources_on_desk Run names = first_of names ∷ []
+sources_on_desk Race names = names
+sources_on_desk (Serve port connections) names = []
 
 -- the sources that a task reads, in the order of reading
-abbrev pub sources_for : Task → List ℕ → List (List ℕ)
-sources_for Weather name = name ∷ []
-sources_for (Desk task) name = map name_of files ++ sources_on_desk task name
+abbrev pub sources_for : Task → List (List ℕ) → List (List ℕ)
+sources_for Weather names = first_of names ∷ []
+sources_for (Desk task) names = map name_of files ++ sources_on_desk task names
 
 -- the sources that a command reads
-abbrev pub sources_of : Option (Task × List ℕ) → List (List ℕ)
+abbrev pub sources_of : Option (Task × List (List ℕ)) → List (List ℕ)
 sources_of None = []
 sources_of (Some command) = sources_for command.0 command.1
 
@@ -38,7 +44,7 @@ abbrev pub links_for : Task → ℕ
 links_for (Desk (Serve port connections)) = connections
 links_for _ = 0
 
-abbrev pub links_of : Option (Task × List ℕ) → ℕ
+abbrev pub links_of : Option (Task × List (List ℕ)) → ℕ
 links_of None = 0
 links_of (Some command) = links_for command.0
 
@@ -53,10 +59,40 @@ SourceFails shelf name (InputTooLong file) = (file ≡ name) × OnSource shelf.b
 SourceFails shelf name OutOfMemory = Unit {0}
 SourceFails shelf name _ = ⊥
 
+-- the whole source of that name
+abbrev pub IsWhole : Told → List ℕ → List ℕ → Type 0
+IsWhole sources name text = (length text ≤ 67_108_864) × OnSource sources name (λ bytes. bytes ≡ text)
+
 -- the whole source of that name, or why it wasn't read
 abbrev pub ReadsSource : Over ShelfSeen → List ℕ → Result (List ℕ) Fault → Type 0
-ReadsSource shelf name (Ok text) = (length text ≤ 67_108_864) × OnSource shelf.before.sources name (λ bytes. bytes ≡ text)
+ReadsSource shelf name (Ok text) = IsWhole shelf.before.sources name text
 ReadsSource shelf name (Err fault) = SourceFails shelf name fault
+
+-- all sources of those names, in their order
+abbrev pub AreWhole : Told → List (List ℕ) → List (List ℕ) → Type 0
+AreWhole sources [] [] = Unit {0}
+AreWhole sources [] (text ∷ texts) = ⊥
+AreWhole sources (name ∷ names) [] = ⊥
+AreWhole sources (name ∷ names) (text ∷ texts) = IsWhole sources name text × AreWhole sources names texts
+
+-- The first source of those names that wasn't read, and why: all before it were.
+pub record FailsAt (shelf : Over ShelfSeen) (names : List (List ℕ)) (fault : Fault) : Type 0 where
+  pub earlier : List (List ℕ)
+  pub name : List ℕ
+  pub later : List (List ℕ)
+  pub order : names ≡ earlier ++ name ∷ later
+  pub texts : List (List ℕ)
+  pub read : AreWhole shelf.before.sources earlier texts
+  pub fails : SourceFails shelf name fault
+
+abbrev pub SourcesFail : Over ShelfSeen → List (List ℕ) → Fault → Type 0
+SourcesFail shelf names OutOfMemory = Unit {0}
+SourcesFail shelf names fault = FailsAt shelf names fault
+
+-- the whole sources of those names, or the first fault of one
+abbrev pub ReadsSources : Over ShelfSeen → List (List ℕ) → Result (List (List ℕ)) Fault → Type 0
+ReadsSources shelf names (Ok texts) = AreWhole shelf.before.sources names texts
+ReadsSources shelf names (Err fault) = SourcesFail shelf names fault
 
 -- why there are no tables: their first fault
 pub record TablesFail (shelf : Over ShelfSeen) (fault : Fault) : Type 0 where

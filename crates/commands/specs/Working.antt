@@ -1,9 +1,10 @@
 -- The desk that a command opens, and the work on it.
-use Rattle.std.specs.Prelude.{◌≡◌, ◌≢◌, ℕ, ◌≤◌, List, Option, None, Some, Ok, Err}
+use Rattle.std.specs.Prelude.{◌≡◌, ◌≢◌, ℕ, ◌≤◌, List, Option, None, Some, Result, Ok, Err}
 use Rattle.board.specs.Prepare.{Shown}
 use Rattle.desk.specs.Keeping.{KeepsState}
 use Rattle.desk.specs.InPart.{IsRunInPart}
 use Rattle.desk.specs.Opening.{AreLoaded, IsLeft, IsOfKeeper, IsWhy, MayHaveAsked, TellsRowsOf}
+use Rattle.desk.specs.Race.{IsRace, IsRaceInPart}
 use Rattle.desk.specs.Run.{IsRun}
 use Rattle.desk.specs.Seen.{DeskAt}
 use Rattle.desk.specs.declared.opening.OpenWhy.{OpenWhy}
@@ -50,6 +51,17 @@ abbrev pub Runs : List ℕ → Over DeskAt → Outcome → Type 0
 Runs script desk (Ok text) = IsRun desk.before.faults desk.after.faults desk.before.state script desk.after.state text
 Runs script desk (Err OutOfMemory) = IsRunInPart desk.before.faults desk.after.faults desk.before.state script desk.after.state
 Runs script desk (Err other) = ⊥
+
+-- a text, or want of memory
+abbrev pub told_of : {E : Type 0} → Result (List ℕ) E → Outcome
+told_of (Ok text) = Ok text
+told_of (Err e) = Err OutOfMemory
+
+-- Scripts were the lanes of a race on a desk: to their ends, with the text of that, or up to where memory ran out.
+abbrev pub Races : List (List ℕ) → Over DeskAt → Outcome → Type 0
+Races scripts desk (Ok text) = IsRace desk.before.faults desk.after.faults desk.before.state scripts desk.after.state text
+Races scripts desk (Err OutOfMemory) = IsRaceInPart desk.before.faults desk.after.faults desk.before.state scripts desk.after.state
+Races scripts desk (Err other) = ⊥
 
 -- ---- the desk
 

@@ -1,13 +1,14 @@
 ghost use Rattle.std.specs.Prelude.{◌≡◌, ◌<◌, None, map, string_bytes};
-ghost use Rattle.commands.specs.Answers.{RunsScript, RunsUnder, Says, SaysReports, ServesLinks};
+ghost use Rattle.commands.specs.Answers.{RacesScripts, RacesUnder, RunsScript, RunsUnder, Says, SaysReports, ServesLinks};
 ghost use Rattle.commands.specs.Seen.{lent, service};
+ghost use Rattle.commands.specs.Sources.{first_of};
 ghost use Rattle.desk_io.specs.Over.{over};
 ghost use Rattle.words.specs.Words.{command_of};
 
 use crate::fault::Fault;
-use crate::sources::{read_files, read_source};
-use crate::working::{Ended, boardless, read_reports, run_over, serve_over};
-use desk::leave;
+use crate::sources::{read_files, read_source, read_sources};
+use crate::working::{Ended, boardless, race_over, read_reports, run_over, serve_over};
+use desk::{Gate, leave};
 use desk_io::{OutOfMemory, Shelf};
 use desk_net::{Clock, Door};
 use keeper::Keeper;
@@ -17,6 +18,7 @@ use std::alloc::Global;
 use std::marker::Brand;
 use std::sync::Wait;
 use std::sync::ledger::{Blank, Ledger};
+use std::thread::Threads;
 use words::{DeskTask, Task, command};
 
 // The reports of a file.
@@ -68,6 +70,48 @@ fn run<S: Shelf, K: Keeper, L: Ledger>(
     }
 }
 
+// The lanes of a race, once the tables are read.
+fn race_under<R: Threads + Wait + Sync, S: Shelf, K: Keeper + Send, G: Gate + Sync, L: Ledger>(
+    rt: &R,
+    alloc: Global,
+    tables: Tables,
+    names: &[String],
+    shelf: &mut S,
+    keeper: K,
+    gate: &G,
+    steps: &mut Steps<L>,
+) -> Ended<K>
+    ensures { RacesUnder tables (over S.seen shelf.old shelf.new) (lent K.seen keeper result.keeper)
+        (map string_bytes names.now) result.board result.answer }
+{
+    match read_sources(alloc, shelf, names) {
+        Ok(scripts) => race_over(rt, alloc, tables, &scripts, keeper, gate, steps),
+        Err(fault) => {
+            leave(tables);
+            boardless(Err(fault), keeper)
+        }
+    }
+}
+
+// Scripts at once on the desk of the rows.
+fn race<R: Threads + Wait + Sync, S: Shelf, K: Keeper + Send, G: Gate + Sync, L: Ledger>(
+    rt: &R,
+    alloc: Global,
+    names: &[String],
+    shelf: &mut S,
+    keeper: K,
+    gate: &G,
+    steps: &mut Steps<L>,
+) -> Ended<K>
+    ensures { RacesScripts (over S.seen shelf.old shelf.new) (lent K.seen keeper result.keeper)
+        (map string_bytes names.now) result.board result.answer }
+{
+    match read_files(alloc, shelf) {
+        Ok(tables) => race_under(rt, alloc, tables, names, shelf, keeper, gate, steps),
+        Err(fault) => boardless(Err(fault), keeper),
+    }
+}
+
 // Connections to the desk of the rows.
 fn serve<R: Wait, S: Shelf, K: Keeper, C: Clock, D: Door, L: Ledger>(
     rt: &R,
@@ -101,7 +145,25 @@ fn serve<R: Wait, S: Shelf, K: Keeper, C: Clock, D: Door, L: Ledger>(
     }
 }
 
-fn answer_with<R: Wait, S: Shelf, K: Keeper, C: Clock, D: Door, L: Ledger>(
+// The name of the source of a task that reads one.
+fn first_of(names: &[String]) -> &str
+    ensures { result.now ≡ first_of (map string_bytes names.now) }
+{
+    match names {
+        [] => "",
+        [name, ..] => name.as_str(),
+    }
+}
+
+fn answer_with<
+    R: Threads + Wait + Sync,
+    S: Shelf,
+    K: Keeper + Send,
+    C: Clock,
+    D: Door,
+    G: Gate + Sync,
+    L: Ledger,
+>(
     rt: &R,
     alloc: Global,
     words: &[String],
@@ -109,6 +171,7 @@ fn answer_with<R: Wait, S: Shelf, K: Keeper, C: Clock, D: Door, L: Ledger>(
     clock: &mut C,
     door: &mut D,
     keeper: K,
+    gate: &G,
     blank: Blank,
 ) -> Ended<K>
     requires name { blank.name ≡ L.name }
@@ -123,8 +186,13 @@ fn answer_with<R: Wait, S: Shelf, K: Keeper, C: Clock, D: Door, L: Ledger>(
     match command(alloc, words) {
         Err(OutOfMemory) => boardless(Err(Fault::OutOfMemory), keeper),
         Ok(None) => boardless(Err(Fault::Usage), keeper),
-        Ok(Some((Task::Weather, name))) => weather(alloc, name, shelf, keeper),
-        Ok(Some((Task::Desk(DeskTask::Run), name))) => run(alloc, name, shelf, keeper, &mut steps),
+        Ok(Some((Task::Weather, names))) => weather(alloc, first_of(names), shelf, keeper),
+        Ok(Some((Task::Desk(DeskTask::Run), names))) => {
+            run(alloc, first_of(names), shelf, keeper, &mut steps)
+        }
+        Ok(Some((Task::Desk(DeskTask::Race), names))) => {
+            race(rt, alloc, names, shelf, keeper, gate, &mut steps)
+        }
         Ok(Some((Task::Desk(DeskTask::Serve { port, connections }), _))) => serve(
             rt,
             alloc,
@@ -139,8 +207,15 @@ fn answer_with<R: Wait, S: Shelf, K: Keeper, C: Clock, D: Door, L: Ledger>(
     }
 }
 
-/// What the program says to the words. Only what serves may wait.
-pub(crate) fn answer_to<R: Wait, S: Shelf, K: Keeper, C: Clock, D: Door>(
+/// What the program says to the words. Only what serves and what races may wait.
+pub(crate) fn answer_to<
+    R: Threads + Wait + Sync,
+    S: Shelf,
+    K: Keeper + Send,
+    C: Clock,
+    D: Door,
+    G: Gate + Sync,
+>(
     rt: &R,
     alloc: Global,
     words: &[String],
@@ -148,11 +223,22 @@ pub(crate) fn answer_to<R: Wait, S: Shelf, K: Keeper, C: Clock, D: Door>(
     clock: &mut C,
     door: &mut D,
     keeper: K,
+    gate: &G,
 ) -> Ended<K>
     ensures { Says (over S.seen shelf.old shelf.new)
         (service C.seen D.seen D.Link.seen clock.old clock.new door.old door.new)
         (lent K.seen keeper result.keeper) (command_of (map string_bytes words.now))
         result.board result.answer }
 {
-    answer_with::<R, S, K, C, D, Brand>(rt, alloc, words, shelf, clock, door, keeper, Blank::new(1))
+    answer_with::<R, S, K, C, D, G, Brand>(
+        rt,
+        alloc,
+        words,
+        shelf,
+        clock,
+        door,
+        keeper,
+        gate,
+        Blank::new(1),
+    )
 }

@@ -4,7 +4,7 @@ ghost use Rattle.commands.specs.Faults as spec;
 use desk::OpenWhy;
 use desk_io::{OutOfMemory, Row, Text, push_all};
 use records::RowWhy;
-use std::alloc::Global;
+use std::alloc::{AllocFailed, Global};
 use table_files::{BadTable, TableFault, TableWhy};
 
 /// Why a command doesn't come to its end.
@@ -40,6 +40,16 @@ impl From<OutOfMemory> for Fault {
     ghost from_gives = { λ _ e. e ≡ NoMemory };
 
     fn from(_: OutOfMemory) -> Self {
+        Fault::OutOfMemory
+    }
+}
+
+impl<T: Drop> From<AllocFailed<T>> for Fault {
+    ghost use Rattle.commands.specs.declared.fault.Fault.TheVariants.{OutOfMemory as NoMemory};
+
+    ghost from_gives = { λ _ e. e ≡ NoMemory };
+
+    fn from(_: AllocFailed<T>) -> Self {
         Fault::OutOfMemory
     }
 }

@@ -8,4 +8,5 @@ mod top;
 mod weather;
 mod working;
 
+pub use desk::{Gate, OpenGate};
 pub use top::{Ending, desk_main};

@@ -16,14 +16,16 @@ use crate::commands::answer_to;
 use crate::fault::{Fault, tell};
 use crate::working::Ended;
 use board::Board;
+use desk::Gate;
 use desk_io::{PutFault, Shelf, Sink, Text};
 use desk_net::{Clock, Door};
 use keeper::Keeper;
 use std::alloc::Global;
 use std::sync::Wait;
+use std::thread::Threads;
 
-/// How the program ends, and what is left: the board of `run` and `serve`, where a desk was opened, the keeper and the
-/// clock.
+/// How the program ends, and what is left: the board of `run`, `race` and `serve`, where a desk was opened, the keeper
+/// and the clock.
 #[derive(Drop)]
 pub struct Ending<K, C> {
     pub status: u8,
@@ -47,12 +49,14 @@ fn write<O: Sink>(alloc: Global, answer: Result<Text, Fault>, out: &mut O) -> u8
 }
 
 /// Does what the words ask, and answers the status of the program. `run SCRIPT` reads the twelve tables and then the
-/// script, and loads the rows of the keeper; then the script is run on the desk of these rows. `weather FILE` reads
+/// script, and loads the rows of the keeper; then the script is run on the desk of these rows. `race` with 2 to 16
+/// scripts does so with all of them at once, a thread for each where one can be had. `weather FILE` reads
 /// the file alone, and asks nothing of the keeper. `serve PORT CONNECTIONS` reads the tables and loads the rows, and
 /// then so many connections are served at the port, one after another. The first fault in this order is answered.
 ///
 /// - 0: all of this was read to its end, and what is said of it was written: of `run SCRIPT` a reply for
-///   each line and the closing text, of `weather FILE` a line for each report, of `serve` the closing text.
+///   each line and the closing text, of `race` the history, what came of each line and the closing text, of
+///   `weather FILE` a line for each report, of `serve` the closing text.
 /// - 2: exactly where the words form no command; `error 2 Usage` is written.
 /// - 3: only where the shelf's count of faults rose, or is full; `error 3 ReadFault NAME`.
 /// - 4: only where the sink's count of faults rose, or is full; it gained a front of the text.
@@ -61,7 +65,7 @@ fn write<O: Sink>(alloc: Global, answer: Result<Text, Fault>, out: &mut O) -> u8
 ///   `error 6 BadTable NAME NUMBER WHY`.
 /// - 7: exactly where the rows that were loaded aren't those of a desk: `error 7 BadRow KIND KEY WHY` or
 ///   `error 7 BadPair KIND KEY KIND KEY`, their first fault.
-/// - 8: want of memory; the sink gained nothing. What a front of a script changed stays, and at most a tick more.
+/// - 8: want of memory; the sink gained nothing. What a front of each script changed stays, and at most a tick more.
 /// - 9: only where the door's count of faults rose, or is full; `error 9 DoorFault`.
 /// - 10: exactly where the source of that name has more than 64 MiB; `error 10 InputTooLong NAME`.
 /// - 11: only where the clock's count of faults rose, or is full; `error 11 ClockFault`.
@@ -69,7 +73,15 @@ fn write<O: Sink>(alloc: Global, answer: Result<Text, Fault>, out: &mut O) -> u8
 /// 3, 4, 5, 9 and 11 tell that the shelf, the sink, the keeper, the door or the clock isn't sound, or that the shelf
 /// lacks a source, or that fewer links come to the door than are to be served. Where no door is to be opened, or no desk
 /// was, the door and the clock are given back as they were.
-pub fn desk_main<R: Wait, S: Shelf, O: Sink, C: Clock + Drop, K: Keeper, D: Door>(
+pub fn desk_main<
+    R: Threads + Wait + Sync,
+    S: Shelf,
+    O: Sink,
+    C: Clock + Drop,
+    K: Keeper + Send,
+    D: Door,
+    G: Gate + Sync,
+>(
     rt: &R,
     alloc: Global,
     words: &[String],
@@ -78,6 +90,7 @@ pub fn desk_main<R: Wait, S: Shelf, O: Sink, C: Clock + Drop, K: Keeper, D: Door
     mut clock: C,
     keeper: K,
     door: &mut D,
+    gate: &G,
 ) -> Ending<K, C>
     // Over an outside that is sound, with the sources that the words name and a link to come for each connection,
     // nothing fails but memory: all was read and said, or the words, a source, a table or a row are at fault.
@@ -122,7 +135,7 @@ pub fn desk_main<R: Wait, S: Shelf, O: Sink, C: Clock + Drop, K: Keeper, D: Door
         answer,
         board,
         keeper,
-    } = answer_to(rt, alloc, words, shelf, &mut clock, door, keeper);
+    } = answer_to(rt, alloc, words, shelf, &mut clock, door, keeper, gate);
     let status = write(alloc, answer, out);
     Ending {
         status,

@@ -2,7 +2,7 @@ ghost use Rattle.std.specs.Prelude.{◌≡◌, None};
 ghost use Rattle.commands.specs.Faults.{Gives};
 ghost use Rattle.commands.specs.Seen.{lent, service};
 ghost use Rattle.commands.specs.Weather.{weather_text};
-ghost use Rattle.commands.specs.Working.{EndSays, Opens, Runs, Serves};
+ghost use Rattle.commands.specs.Working.{EndSays, Opens, Races, Runs, Serves, told_of};
 ghost use Rattle.desk.specs.Seen.{desk_at, desk_seen, DeskGoesOn};
 ghost use Rattle.desk_io.specs.Over.{over};
 ghost use Rattle.desk_state.specs.Sound.{IsBoard};
@@ -11,8 +11,8 @@ ghost use Rattle.keeper.specs.Seen.{KeeperGoesOn};
 use crate::fault::Fault;
 use crate::weather::text_of_weather;
 use board::Board;
-use desk::{Desk, OpenFault, open, text_from};
-use desk_io::Text;
+use desk::{Desk, Gate, OpenFault, Raced, open, race, text_from};
+use desk_io::{OutOfMemory, Text};
 use desk_net::{Clock, Door};
 use keeper::Keeper;
 use ops_tables::Tables;
@@ -21,6 +21,7 @@ use service::{ServeEnd, serve_door};
 use std::alloc::Global;
 use std::sync::Wait;
 use std::sync::ledger::Ledger;
+use std::thread::Threads;
 
 /// What was said, and what is left: the board, where a desk was opened, and the keeper.
 #[derive(Drop)]
@@ -94,6 +95,38 @@ pub(crate) fn run_over<K: Keeper, L: Ledger>(
         Ok(mut desk) => {
             let answer = run(alloc, &mut desk, script, steps);
             left(answer, desk)
+        }
+        Err(OpenFault { keeper, why }) => boardless(Err(Fault::from(why)), keeper),
+    }
+}
+
+// What a race came to: its text, or want of memory.
+fn told_of(text: Result<Text, OutOfMemory>) -> Result<Text, Fault>
+    ensures { result ≡ told_of text }
+{
+    match text {
+        Ok(text) => Ok(text),
+        Err(OutOfMemory) => Err(Fault::OutOfMemory),
+    }
+}
+
+/// A desk is opened over the tables and the rows of a keeper, and the scripts are the lanes of a race on it.
+pub(crate) fn race_over<R: Threads + Wait + Sync, K: Keeper + Send, G: Gate + Sync, L: Ledger>(
+    rt: &R,
+    alloc: Global,
+    tables: Tables,
+    scripts: &[Text],
+    keeper: K,
+    gate: &G,
+    steps: &mut Steps<L>,
+) -> Ended<K>
+    ensures opens { Opens tables (Races scripts.now) (lent K.seen keeper result.keeper) result.board result.answer }
+    ensures keeper { KeeperGoesOn (K.seen keeper) (K.seen result.keeper) }
+{
+    match open(alloc, tables, keeper, steps) {
+        Ok(desk) => {
+            let Raced { desk, text } = race(rt, alloc, desk, scripts, gate);
+            left(told_of(text), desk)
         }
         Err(OpenFault { keeper, why }) => boardless(Err(Fault::from(why)), keeper),
     }

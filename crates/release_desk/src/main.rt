@@ -1,7 +1,7 @@
 //! The program of the dispatch release desk.
 #![tactic(auto)]
 
-use commands::desk_main;
+use commands::{OpenGate, desk_main};
 use desk_io::{FileShelf, StdoutSink};
 use desk_net::{SystemClock, TcpDoor};
 use sqlite_keeper::SqliteKeeper;
@@ -27,6 +27,7 @@ fn keeper_of(rt: HostRuntime) -> Result<SqliteKeeper, AllocError> {
     Ok(SqliteKeeper::new(rt, path))
 }
 
+#[tactic(auto, using(crate::proofs::KeeperCrossing::SqliteKeeper_send))]
 fn main(rt: HostRuntime) -> ExitCode {
     let (Ok(words), Ok(keeper)) = (words_of(&rt), keeper_of(rt)) else {
         return ExitCode::from(8);
@@ -44,6 +45,7 @@ fn main(rt: HostRuntime) -> ExitCode {
         clock,
         keeper,
         &mut door,
+        &OpenGate,
     );
     ExitCode::from(ending.status)
 }

@@ -1,5 +1,5 @@
 -- A name of a command and words after it are read, and nothing in them fails.
-use Rattle.std.proofs.Common.{◌≡◌, ℕ, ◌≤◌, ◌++◌, ◌==◌, ◌||◌, length, Option, Some, None, List, [], ◌∷◌, codes, true, false, not, Bool, refl, sym, ap, ◌∙◌, subst, fold, true≢false, append_assoc, append-nil, arith, nat_lt, is_some}
+use Rattle.std.proofs.Common.{◌≡◌, ℕ, ◌≤◌, ◌++◌, ◌==◌, ◌||◌, length, Option, Some, None, List, [], ◌∷◌, codes, true, false, not, Bool, refl, sym, ap, ◌∙◌, subst, fold, true≢false, append_assoc, append-nil, arith, nat_lt, is_some, cond}
 use Rattle.std.specs.List.{list_all}
 use Rattle.std.specs.Str.{bytes_eq}
 use Rattle.std.proofs.lemmas.Bool.{and_parts, le-ltb}
@@ -13,7 +13,8 @@ use Rattle.clap.specs.declared.builder.action.ArgAction.TheVariants.{Append}
 use Rattle.clap.specs.declared.builder.value_parser.ValueParser.TheVariants as vp
 use Rattle.clap.proofs.OnLiterals.{clap_on_literals}
 use Rattle.words.specs.Names.{desk_app, rest_rule, asked_in}
-use Rattle.words.specs.Words.{is_word, is_name, are_named, asked_by, command_of}
+use Rattle.words.specs.declared.task.Task.{Task}
+use Rattle.words.specs.Words.{is_word, is_name, are_named, task_of, task_in}
 
 pub simple : is_simple_and_free desk_app ≡ true
 unfolding clap_on_literals
@@ -124,7 +125,7 @@ leaf_level name us plain h =
 -- ---- the words from the name on
 
 abbrev names : Names
-names = (codes "run", []) ∷ (codes "weather", []) ∷ (codes "serve", []) ∷ []
+names = (codes "run", []) ∷ (codes "weather", []) ∷ (codes "serve", []) ∷ (codes "race", []) ∷ []
 
 abbrev at_stop : Option (Text × List Text) → Walk
 at_stop stop = record { held = nothing_held; waiting = idle; position = 1; is_trailing = false; stopped = stop }
@@ -169,37 +170,57 @@ serve_fine us plain h =
     ∙ ap rest_of_top (stop_walk us (codes "serve") [])
     ∙ ap (λ (k : Kinds). or_else k []) (leaf_level (codes "serve") us plain h)
 
+race_fine : (us : List Text) → list_all is_word us ≡ true → length us ≤ usize_max → fault_of desk_app (codes "race" ∷ us) ≡ []
+unfolding clap_on_literals walked walk_fault defaults_fault
+race_fine us plain h =
+    let walk_is : Walk = fold (walked [] names) (at_stop (Some (codes "race", []))) us in
+    ap (λ k. or_else k (rest_of_top walk_is)) (stop_fine (built desk_app).top us (codes "race") [])
+    ∙ ap rest_of_top (stop_walk us (codes "race") [])
+    ∙ ap (λ (k : Kinds). or_else k []) (leaf_level (codes "race") us plain h)
+
 -- ---- what is found
 
-leaf_asked : (name : Text) (us : List Text) → list_all is_word us ≡ true → asked_in (Some (name, rows_after (rule ∷ []) [] us)) ≡ asked_by name us
+none_either : (b : Bool) → None ≡ cond {A = Option Task} b None None
+none_either true = refl
+none_either false = refl
+
+leaf_asked : (name : Text) (us : List Text) → list_all is_word us ≡ true → asked_in (Some (name, rows_after (rule ∷ []) [] us)) ≡ task_of name us
 leaf_asked name us plain = ap (λ (w : Walk). asked_in (Some (name, finished (rule ∷ []) w.held))) (leaf_walk us [] plain) ∙ last us
   where
-    last : (us : List Text) → asked_in (Some (name, finished (rule ∷ []) (at_words us).held)) ≡ asked_by name us
-    last [] = refl
+    last : (us : List Text) → asked_in (Some (name, finished (rule ∷ []) (at_words us).held)) ≡ task_of name us
+    last [] = none_either (bytes_eq name (codes "race"))
     last (u ∷ us) = refl
 
-run_found : (us : List Text) → list_all is_word us ≡ true → asked_in (subcommand_of desk_app (codes "run" ∷ us)) ≡ asked_by (codes "run") us
+run_found : (us : List Text) → list_all is_word us ≡ true → asked_in (subcommand_of desk_app (codes "run" ∷ us)) ≡ task_of (codes "run") us
 unfolding clap_on_literals walked
 run_found us plain = ap (λ (w : Walk). asked_in (entered (built desk_app) w.stopped)) (stop_walk us (codes "run") []) ∙ leaf_asked (codes "run") us plain
 
-weather_found : (us : List Text) → list_all is_word us ≡ true → asked_in (subcommand_of desk_app (codes "weather" ∷ us)) ≡ asked_by (codes "weather") us
+weather_found : (us : List Text) → list_all is_word us ≡ true → asked_in (subcommand_of desk_app (codes "weather" ∷ us)) ≡ task_of (codes "weather") us
 unfolding clap_on_literals walked
 weather_found us plain = ap (λ (w : Walk). asked_in (entered (built desk_app) w.stopped)) (stop_walk us (codes "weather") []) ∙ leaf_asked (codes "weather") us plain
 
-serve_found : (us : List Text) → list_all is_word us ≡ true → asked_in (subcommand_of desk_app (codes "serve" ∷ us)) ≡ asked_by (codes "serve") us
+serve_found : (us : List Text) → list_all is_word us ≡ true → asked_in (subcommand_of desk_app (codes "serve" ∷ us)) ≡ task_of (codes "serve") us
 unfolding clap_on_literals walked
 serve_found us plain = ap (λ (w : Walk). asked_in (entered (built desk_app) w.stopped)) (stop_walk us (codes "serve") []) ∙ leaf_asked (codes "serve") us plain
 
+race_found : (us : List Text) → list_all is_word us ≡ true → asked_in (subcommand_of desk_app (codes "race" ∷ us)) ≡ task_of (codes "race") us
+unfolding clap_on_literals walked
+race_found us plain = ap (λ (w : Walk). asked_in (entered (built desk_app) w.stopped)) (stop_walk us (codes "race") []) ∙ leaf_asked (codes "race") us plain
+
 -- ---- whichever name it is
 
-by_name : (P : Text → Type 0) (name : Text) → is_name name ≡ true → P (codes "run") → P (codes "weather") → P (codes "serve") → P name
-by_name P name is run weather serve = one (bytes_eq name (codes "run")) refl is
+by_name : (P : Text → Type 0) (name : Text) → is_name name ≡ true → P (codes "run") → P (codes "weather") → P (codes "serve") → P (codes "race") → P name
+by_name P name is run weather serve race = one (bytes_eq name (codes "run")) refl is
   where
-    two : (b : Bool) → bytes_eq name (codes "weather") ≡ b → (b || bytes_eq name (codes "serve")) ≡ true → P name
-    two true same is = subst P (sym ((bytes_eq-Decides name (codes "weather")).0 same)) weather
-    two false same is = subst P (sym ((bytes_eq-Decides name (codes "serve")).0 is)) serve
+    three : (b : Bool) → bytes_eq name (codes "serve") ≡ b → (b || bytes_eq name (codes "race")) ≡ true → P name
+    three true same is = subst P (sym ((bytes_eq-Decides name (codes "serve")).0 same)) serve
+    three false same is = subst P (sym ((bytes_eq-Decides name (codes "race")).0 is)) race
 
-    one : (b : Bool) → bytes_eq name (codes "run") ≡ b → (b || (bytes_eq name (codes "weather") || bytes_eq name (codes "serve"))) ≡ true → P name
+    two : (b : Bool) → bytes_eq name (codes "weather") ≡ b → (b || (bytes_eq name (codes "serve") || bytes_eq name (codes "race"))) ≡ true → P name
+    two true same is = subst P (sym ((bytes_eq-Decides name (codes "weather")).0 same)) weather
+    two false same is = three (bytes_eq name (codes "serve")) refl is
+
+    one : (b : Bool) → bytes_eq name (codes "run") ≡ b → (b || (bytes_eq name (codes "weather") || (bytes_eq name (codes "serve") || bytes_eq name (codes "race")))) ≡ true → P name
     one true same is = subst P (sym ((bytes_eq-Decides name (codes "run")).0 same)) run
     one false same is = two (bytes_eq name (codes "weather")) refl is
 
@@ -209,12 +230,12 @@ none_fail [] few named = absurd (true≢false (sym named))
 none_fail (name ∷ us) few named =
     let parts = and_parts (is_name name) (list_all is_word us) named in
     let fits : length us ≤ usize_max = omega (arith, few) in
-    by_name (λ n. fault_of desk_app (n ∷ us) ≡ []) name parts.0 (run_fine us parts.1 fits) (weather_fine us parts.1 fits) (serve_fine us parts.1 fits)
+    by_name (λ n. fault_of desk_app (n ∷ us) ≡ []) name parts.0 (run_fine us parts.1 fits) (weather_fine us parts.1 fits) (serve_fine us parts.1 fits) (race_fine us parts.1 fits)
 
 -- what is found of them is the command that they form
-pub asked_found : (words : List Text) → are_named words ≡ true → asked_in (subcommand_of desk_app words) ≡ command_of words
+pub asked_found : (words : List Text) → are_named words ≡ true → asked_in (subcommand_of desk_app words) ≡ task_in words
 asked_found [] named = absurd (true≢false (sym named))
 asked_found (name ∷ us) named =
     let parts = and_parts (is_name name) (list_all is_word us) named in
     rw named (
-    by_name (λ n. asked_in (subcommand_of desk_app (n ∷ us)) ≡ asked_by n us) name parts.0 (run_found us parts.1) (weather_found us parts.1) (serve_found us parts.1))
+    by_name (λ n. asked_in (subcommand_of desk_app (n ∷ us)) ≡ task_of n us) name parts.0 (run_found us parts.1) (weather_found us parts.1) (serve_found us parts.1) (race_found us parts.1))

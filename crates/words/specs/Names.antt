@@ -4,7 +4,7 @@ use Rattle.clap.specs.Lexer.{usize_max}
 use Rattle.clap.specs.Simple.{App, new_app, new_rule, with_rule, with_subcommand}
 use Rattle.clap.specs.Walk.{Row, Rule, Text, all_of}
 use Rattle.desk_time.specs.Digits.{◌>>=◌}
-use Rattle.words.specs.Words.{asked_by}
+use Rattle.words.specs.Words.{task_of}
 use Rattle.words.specs.declared.task.Task.{Task}
 
 -- the words after a name, as many as there are
@@ -27,9 +27,11 @@ top = let a = new_app (codes "desk") in record a {
 }
 
 abbrev pub desk_app : App
-desk_app = with_subcommand (with_subcommand (with_subcommand top (leaf (codes "run")).top) (leaf (codes "weather")).top) (leaf (codes "serve")).top
+desk_app =
+    with_subcommand (with_subcommand (with_subcommand (with_subcommand top (leaf (codes "run")).top) (leaf (codes "weather")).top) (leaf (codes "serve")).top)
+    (leaf (codes "race")).top
 
--- what the reader found: a name, and the words after it
-abbrev pub asked_in : Option (Text × List Row) → Option (Task × List ℕ)
+-- what the name that the reader found asks for, with the words after it
+abbrev pub asked_in : Option (Text × List Row) → Option Task
 asked_in None = None
-asked_in (Some found) = all_of (codes "words") found.1 >>= λ rest. asked_by found.0 rest
+asked_in (Some found) = all_of (codes "words") found.1 >>= λ rest. task_of found.0 rest

@@ -1,12 +1,13 @@
 -- Which words form a command.
-use Rattle.std.specs.Prelude.{ℕ, Bool, false, not, ◌==◌, ◌&&◌, ◌||◌, nat_le, if◌then◌else◌, List, [], ◌∷◌, Option, None, Some, codes}
+use Rattle.std.specs.Prelude.{ℕ, Bool, false, not, ◌==◌, ◌&&◌, ◌||◌, nat_le, if◌then◌else◌, List, [], ◌∷◌, length, drop, Option, None, Some, codes}
 use Rattle.std.specs.List.{list_all}
+use Rattle.std.specs.Option.{option_map}
 use Rattle.std.specs.Str.{bytes_eq}
 use Rattle.desk_time.specs.Digits.{◌>>=◌}
 use Rattle.desk_time.specs.Numbers.{number_in}
 use Rattle.words.specs.declared.task.Task.{Task}
 use Rattle.words.specs.declared.task.Task.TheVariants.{Weather, Desk}
-use Rattle.words.specs.declared.task.DeskTask.TheVariants.{Run, Serve}
+use Rattle.words.specs.declared.task.DeskTask.TheVariants.{Run, Race, Serve}
 
 -- a word is not empty and doesn't begin with a dash
 abbrev pub is_word : List ℕ → Bool
@@ -15,16 +16,15 @@ is_word (c ∷ cs) = not (c == 45)
 
 -- the name of a command
 abbrev pub is_name : List ℕ → Bool
-is_name word = bytes_eq word (codes "run") || (bytes_eq word (codes "weather") || bytes_eq word (codes "serve"))
+is_name word = bytes_eq word (codes "run") || (bytes_eq word (codes "weather") || (bytes_eq word (codes "serve") || bytes_eq word (codes "race")))
 
 -- the name of a command, and words after it
 abbrev pub are_named : List (List ℕ) → Bool
 are_named [] = false
 are_named (name ∷ rest) = is_name name && list_all is_word rest
 
-abbrev pub with_source : List ℕ → List ℕ → Option (Task × List ℕ)
-with_source name source =
-    if bytes_eq name (codes "run") then Some (Desk Run, source) else (if bytes_eq name (codes "weather") then Some (Weather, source) else None)
+abbrev pub with_source : List ℕ → Option Task
+with_source name = if bytes_eq name (codes "run") then Some (Desk Run) else (if bytes_eq name (codes "weather") then Some Weather else None)
 
 abbrev pub from_one : ℕ → Option ℕ
 from_one n = if nat_le 1 n then Some n else None
@@ -33,21 +33,37 @@ from_one n = if nat_le 1 n then Some n else None
 abbrev pub count_of : ℕ → List ℕ → Option ℕ
 count_of most word = number_in most word >>= λ n. from_one n
 
-abbrev pub serve_of : List ℕ → List ℕ → Option (Task × List ℕ)
-serve_of port connections = count_of 65_535 port >>= λ p. count_of 1_000 connections >>= λ c. Some (Desk (Serve p c), [])
+abbrev pub serve_of : List ℕ → List ℕ → Option Task
+serve_of port connections = count_of 65_535 port >>= λ p. count_of 1_000 connections >>= λ c. Some (Desk (Serve p c))
 
--- what a name asks for with the words after it: one source, or a port and a number of connections
-abbrev pub asked_by : List ℕ → List (List ℕ) → Option (Task × List ℕ)
-asked_by name (source ∷ []) = with_source name source
-asked_by name (port ∷ connections ∷ []) = if bytes_eq name (codes "serve") then serve_of port connections else None
-asked_by name _ = None
+-- so many lanes: from 2 to 16
+abbrev pub race_of : ℕ → Option Task
+race_of lanes = if nat_le 2 lanes && nat_le lanes 16 then Some (Desk Race) else None
 
--- what words ask for, the first of which is a name
-abbrev pub asked : List (List ℕ) → Option (Task × List ℕ)
-asked [] = None
-asked (name ∷ rest) = asked_by name rest
+-- one source, or a port and a number of connections
+abbrev pub with_words : List ℕ → List (List ℕ) → Option Task
+with_words name (source ∷ []) = with_source name
+with_words name (port ∷ connections ∷ []) = if bytes_eq name (codes "serve") then serve_of port connections else None
+with_words name _ = None
 
--- What is to be done, and the name of a source, empty where there is none. Words form a command exactly where the first is
--- the name of one, no other is empty or begins with a dash, and they are what goes with that name.
-abbrev pub command_of : List (List ℕ) → Option (Task × List ℕ)
-command_of words = if are_named words then asked words else None
+-- what a name asks for with the words after it
+abbrev pub task_of : List ℕ → List (List ℕ) → Option Task
+task_of name rest = if bytes_eq name (codes "race") then race_of (length rest) else with_words name rest
+
+abbrev pub task_asked : List (List ℕ) → Option Task
+task_asked [] = None
+task_asked (name ∷ rest) = task_of name rest
+
+-- What words ask for. They form a command exactly where the first is the name of one, no other is empty or begins with a dash, and they are
+-- what goes with that name.
+abbrev pub task_in : List (List ℕ) → Option Task
+task_in words = if are_named words then task_asked words else None
+
+-- the names of the sources that are read for a task, among the words after its name: all of them, but none where connections are served
+abbrev pub named : Task → List (List ℕ) → List (List ℕ)
+named (Desk (Serve port connections)) rest = []
+named _ rest = rest
+
+-- what is to be done, and the names of the sources that are read for it
+abbrev pub command_of : List (List ℕ) → Option (Task × List (List ℕ))
+command_of words = option_map (λ task. (task, named task (drop 1 words))) (task_in words)

@@ -1,17 +1,16 @@
-ghost use Rattle.std.specs.Prelude.{◌≡◌, ◌≤◌, [], map, IfSome};
-ghost use Rattle.std.specs.Option.{option_map};
+ghost use Rattle.std.specs.Prelude.{◌≡◌, ◌≤◌, map, IfSome};
 ghost use Rattle.words.specs.Words as spec;
 
 use crate::{DeskTask, Task};
 use desk_time::read_number;
 
-fn with_source<'a>(name: &str, source: &'a str) -> Option<(Task, &'a str)>
-    ensures { option_map (λ c. (c.0, c.1.now)) result ≡ spec.with_source name.now source.entry.now }
+fn with_source(name: &str) -> Option<Task>
+    ensures { result ≡ spec.with_source name.now }
 {
     if name == "run" {
-        Some((Task::Desk(DeskTask::Run), source))
+        Some(Task::Desk(DeskTask::Run))
     } else if name == "weather" {
-        Some((Task::Weather, source))
+        Some(Task::Weather)
     } else {
         None
     }
@@ -30,20 +29,41 @@ fn count_of(most: u64, word: &str) -> Option<u64>
 }
 
 fn serve_of(port: &str, connections: &str) -> Option<Task>
-    ensures { option_map (λ t. (t, [])) result ≡ spec.serve_of port.now connections.now }
+    ensures { result ≡ spec.serve_of port.now connections.now }
 {
     let port = count_of(65_535, port)? as u16;
     let connections = count_of(1_000, connections)? as u32;
     Some(Task::Desk(DeskTask::Serve { port, connections }))
 }
 
-/// What a name asks for with the words after it.
-pub(crate) fn asked_by<'a>(name: &str, rest: &[&'a str]) -> Option<(Task, &'a str)>
-    ensures { option_map (λ c. (c.0, c.1.now)) result ≡ spec.asked_by name.now (map (λ w. w.now) rest.entry.now) }
+fn race_of(lanes: usize) -> Option<Task>
+    ensures { result ≡ spec.race_of lanes }
+{
+    if 2 <= lanes && lanes <= 16 {
+        Some(Task::Desk(DeskTask::Race))
+    } else {
+        None
+    }
+}
+
+fn with_words(name: &str, rest: &[&str]) -> Option<Task>
+    ensures { result ≡ spec.with_words name.now (map (λ w. w.now) rest.entry.now) }
 {
     match rest {
-        [source] => with_source(name, source),
-        [port, connections] if name == "serve" => Some((serve_of(port, connections)?, "")),
+        [_] => with_source(name),
+        [port, connections] if name == "serve" => serve_of(port, connections),
         _ => None,
+    }
+}
+
+/// What a name asks for with the words after it.
+#[tactic(auto, using(crate::proofs::Found::race_of_words))]
+pub(crate) fn task_of(name: &str, rest: &[&str]) -> Option<Task>
+    ensures { result ≡ spec.task_of name.now (map (λ w. w.now) rest.entry.now) }
+{
+    if name == "race" {
+        race_of(rest.len())
+    } else {
+        with_words(name, rest)
     }
 }

@@ -1,14 +1,14 @@
-ghost use Rattle.std.specs.Prelude.{◌≡◌, false, true, map, string_bytes, IfOk, IfErr};
+ghost use Rattle.std.specs.Prelude.{◌≡◌, false, true, drop, map, string_bytes, IfOk, IfErr};
 ghost use Rattle.std.specs.List.{list_all};
 ghost use Rattle.std.specs.Option.{option_map};
 ghost use Rattle.clap.specs.Words.{app_of, kind_of, subcommand_rows_of};
 ghost use Rattle.clap.specs.declared.builder.command.Command.TheViews.{out-Command};
 ghost use Rattle.words.specs.Names as names;
 ghost use Rattle.words.specs.Words as spec;
-ghost use Rattle.words.specs.Words.{command_of};
+ghost use Rattle.words.specs.Words.{command_of, task_in};
 
-use crate::Task;
-use crate::asked::asked_by;
+use crate::asked::task_of;
+use crate::{DeskTask, Task};
 use clap::error::ErrorKind;
 use clap::{Arg, ArgMatches, Command, Error};
 use desk_io::OutOfMemory;
@@ -26,7 +26,7 @@ fn is_word(word: &str) -> bool
 fn is_name(word: &str) -> bool
     ensures { result ≡ spec.is_name word.now }
 {
-    word == "run" || word == "weather" || word == "serve"
+    word == "run" || word == "weather" || word == "serve" || word == "race"
 }
 
 fn are_words(words: &[String]) -> bool
@@ -70,13 +70,14 @@ fn desk<'a>(alloc: Global) -> Result<Command<'a>, AllocError>
         .subcommand_required(true)
         .subcommand(leaf(alloc, "run")?)?
         .subcommand(leaf(alloc, "weather")?)?
-        .subcommand(leaf(alloc, "serve")?)
+        .subcommand(leaf(alloc, "serve")?)?
+        .subcommand(leaf(alloc, "race")?)
 }
 
 // A name and words after it are read, unless memory runs out.
 fn read<'a>(alloc: Global, words: &'a [String]) -> Result<ArgMatches<'a>, Error>
     requires { spec.are_named (map string_bytes words.now) ≡ true }
-    ensures asked { IfOk result (λ m. names.asked_in (subcommand_rows_of m) ≡ command_of (map string_bytes words.now)) }
+    ensures asked { IfOk result (λ m. names.asked_in (subcommand_rows_of m) ≡ task_in (map string_bytes words.now)) }
     ensures fails { IfErr result (λ e. kind_of e ≡ ErrorKind.OutOfMemory) }
 {
     // As many values as clap can count.
@@ -84,17 +85,17 @@ fn read<'a>(alloc: Global, words: &'a [String]) -> Result<ArgMatches<'a>, Error>
     desk(alloc)?.try_get_matches_from(words)
 }
 
-// What was found: a name, and the words after it.
-fn asked_in<'a>(matches: &ArgMatches<'a>) -> Option<(Task, &'a str)>
-    ensures { option_map (λ c. (c.0, c.1.now)) result ≡ names.asked_in (subcommand_rows_of matches.now) }
+// What was found: what a name asks for, with the words after it.
+fn asked_in(matches: &ArgMatches<'_>) -> Option<Task>
+    ensures { result ≡ names.asked_in (subcommand_rows_of matches.now) }
 {
     let (name, found) = matches.subcommand()?;
-    asked_by(name, found.get_strs("words")?)
+    task_of(name, found.get_strs("words")?)
 }
 
-/// The command that the words form: what is to be done, and the name of a source, empty where there is none.
-pub fn command(alloc: Global, words: &[String]) -> Result<Option<(Task, &str)>, OutOfMemory>
-    ensures { IfOk result (λ c. option_map (λ c. (c.0, c.1.now)) c ≡ command_of (map string_bytes words.now)) }
+// What the words ask for.
+fn task_in(alloc: Global, words: &[String]) -> Result<Option<Task>, OutOfMemory>
+    ensures { IfOk result (λ task. task ≡ spec.task_in (map string_bytes words.now)) }
 {
     if !are_named(words) {
         return Ok(None);
@@ -103,5 +104,36 @@ pub fn command(alloc: Global, words: &[String]) -> Result<Option<(Task, &str)>, 
         Ok(matches) => Ok(asked_in(&matches)),
         // It is want of memory.
         Err(_) => Err(OutOfMemory),
+    }
+}
+
+// The words but the first.
+fn rest_of(words: &[String]) -> &[String]
+    ensures { map string_bytes result.now ≡ drop 1 (map string_bytes words.now) }
+{
+    match words {
+        [] => words,
+        [_, rest @ ..] => rest,
+    }
+}
+
+// The names of the sources that are read for a task.
+fn named(task: Task, words: &[String]) -> &[String]
+    ensures { map string_bytes result.now ≡ spec.named task (drop 1 (map string_bytes words.now)) }
+{
+    match task {
+        Task::Desk(DeskTask::Serve { .. }) => &[],
+        _ => rest_of(words),
+    }
+}
+
+/// The command that the words form: what is to be done, and the names of the sources that are read for it.
+pub fn command(alloc: Global, words: &[String]) -> Result<Option<(Task, &[String])>, OutOfMemory>
+    ensures { IfOk result (λ c. option_map (λ c. (c.0, map string_bytes c.1.now)) c
+        ≡ command_of (map string_bytes words.now)) }
+{
+    match task_in(alloc, words)? {
+        Some(task) => Ok(Some((task, named(task, words)))),
+        None => Ok(None),
     }
 }

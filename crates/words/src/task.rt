@@ -12,6 +12,8 @@ pub enum Task {
 pub enum DeskTask {
     /// The script is run.
     Run,
+    /// The lanes run at once.
+    Race,
     /// So many connections are served at a port.
     Serve { port: u16, connections: u32 },
 }

@@ -1,11 +1,10 @@
 use Rattle.std.proofs.Common.{◌∙◌, Option, List, ap, sym, codes}
-use Rattle.std.specs.Option.{option_map}
 use Rattle.desk_time.specs.Digits.{◌>>=◌}
 use Rattle.clap.specs.Matches.{found_of}
 use Rattle.clap.specs.Walk.{Text}
 use Rattle.clap.proofs.WalkLemmas.{raw_values-rows}
 use Rattle.words.specs.Names.{asked_in}
-use Rattle.words.specs.Words.{asked_by}
+use Rattle.words.specs.Words.{task_of}
 use Rattle.words.proofs.Found.{found_is}
 use Rattle.words.proofs.reading.asked_in.Goals as goal
 
@@ -13,12 +12,12 @@ pub returns : goal.returns
 returns c =
     let met = c.in_ok-name in
     let rest = c.in_ok-get_strs.ensures ∙ raw_values-rows (found_of met.found.now) (codes "words") in
-    c.asked_by.ensures ∙ ap (λ (o : Option (List Text)). o >>= λ rest. asked_by met.name.now rest) rest
+    c.task_of.ensures ∙ ap (λ (o : Option (List Text)). o >>= λ rest. task_of met.name.now rest) rest
     ∙ sym (ap asked_in (found_is _ met.name.now _ met.ensures.name met.ensures.rows))
 
 pub returns-in_err-get_strs : goal.returns-in_err-get_strs
 returns-in_err-get_strs c =
     let met = c.in_ok-name in
     let none = c.in_err-get_strs.ensures ∙ raw_values-rows (found_of met.found.now) (codes "words") in
-    ap (option_map _) c.from_residual-in_err-get_strs.ensures ∙ ap (λ (o : Option (List Text)). o >>= λ rest. asked_by met.name.now rest) none
+    c.from_residual-in_err-get_strs.ensures ∙ ap (λ (o : Option (List Text)). o >>= λ rest. task_of met.name.now rest) none
     ∙ sym (ap asked_in (found_is _ met.name.now _ met.ensures.name met.ensures.rows))

@@ -20,6 +20,8 @@ returns c =
     let run = c.in_ok-leaf.ensures in
     let weather = c.in_ok-leaf-2.ensures in
     let serve = c.in_ok-leaf-3.ensures in
+    let race = c.in_ok-leaf-4.ensures in
     let one = c.in_ok-subcommand.ensures.shape run.local ∙ ap₂ with_subcommand top_is (ap (λ (a : App). a.top) run.app) in
     let two = c.in_ok-subcommand-2.ensures.shape weather.local ∙ ap₂ with_subcommand one (ap (λ (a : App). a.top) weather.app) in
-    IfOk-weaker c.subcommand-3.result _ _ (λ r h. h.shape serve.local ∙ ap₂ with_subcommand two (ap (λ (a : App). a.top) serve.app)) c.subcommand-3.ensures
+    let three = c.in_ok-subcommand-3.ensures.shape serve.local ∙ ap₂ with_subcommand two (ap (λ (a : App). a.top) serve.app) in
+    IfOk-weaker c.subcommand-4.result _ _ (λ r h. h.shape race.local ∙ ap₂ with_subcommand three (ap (λ (a : App). a.top) race.app)) c.subcommand-4.ensures
