@@ -12,6 +12,7 @@ use crate::texts::text_of;
 use desk_io::{OutOfMemory, Row, Shelf, copied_items};
 use serde_json::Value;
 use std::sync::Wait;
+use std::thread::Threads;
 
 // What may stand in a case, in each of its steps, and in what the cases of a file have in common.
 const PARTS: [&str; 14] = [
@@ -53,7 +54,7 @@ fn outside_of<'a, F: Shelf>(
 }
 
 // Plays a case or a step over rows, and answers those that it leaves.
-fn play_over<'a, R: Wait, F: Shelf>(
+fn play_over<'a, R: Threads + Wait + Sync, F: Shelf>(
     rt: &R,
     place: &Play<'a>,
     files: &mut F,
@@ -78,7 +79,7 @@ fn rows_at<'a, F: Shelf>(place: &Play<'a>, files: &mut F) -> Result<Vec<Row>, Ca
     }
 }
 
-fn play_steps<'a, R: Wait, F: Shelf>(
+fn play_steps<'a, R: Threads + Wait + Sync, F: Shelf>(
     rt: &R,
     place: &Play<'a>,
     files: &mut F,
@@ -94,7 +95,7 @@ fn play_steps<'a, R: Wait, F: Shelf>(
     Ok(())
 }
 
-fn play_once<'a, R: Wait, F: Shelf>(
+fn play_once<'a, R: Threads + Wait + Sync, F: Shelf>(
     rt: &R,
     place: &Play<'a>,
     files: &mut F,
@@ -113,7 +114,7 @@ fn play_once<'a, R: Wait, F: Shelf>(
     }
 }
 
-fn play_range<'a, R: Wait, F: Shelf>(
+fn play_range<'a, R: Threads + Wait + Sync, F: Shelf>(
     rt: &R,
     place: &Play<'a>,
     files: &mut F,
@@ -145,7 +146,7 @@ fn check_common<'a>(place: &Play<'a>) -> Result<(), CaseFault<'a>> {
     }
 }
 
-fn play_all<'a, R: Wait, F: Shelf>(
+fn play_all<'a, R: Threads + Wait + Sync, F: Shelf>(
     rt: &R,
     place: &Play<'a>,
     files: &mut F,
@@ -168,7 +169,7 @@ fn play_all<'a, R: Wait, F: Shelf>(
 }
 
 /// Plays a case, and answers whether nothing differs.
-pub fn passes<R: Wait, F: Shelf>(
+pub fn passes<R: Threads + Wait + Sync, F: Shelf>(
     rt: &R,
     place: &Play<'_>,
     files: &mut F,

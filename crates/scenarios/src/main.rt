@@ -59,6 +59,7 @@ use std::alloc::Global;
 use std::env;
 use std::process::ExitCode;
 use std::sync::Wait;
+use std::thread::Threads;
 
 // How many cases passed, and how many didn't.
 #[derive(Clone, Copy)]
@@ -91,7 +92,7 @@ fn refuse(
 }
 
 // Plays the cases of a file, and counts them.
-fn play_cases<R: Wait, F: Shelf>(
+fn play_cases<R: Threads + Wait + Sync, F: Shelf>(
     rt: &R,
     alloc: Global,
     files: &mut F,
@@ -110,7 +111,7 @@ fn play_cases<R: Wait, F: Shelf>(
     Ok(())
 }
 
-fn play_data<R: Wait, F: Shelf>(
+fn play_data<R: Threads + Wait + Sync, F: Shelf>(
     rt: &R,
     alloc: Global,
     files: &mut F,
@@ -130,7 +131,7 @@ fn play_data<R: Wait, F: Shelf>(
 }
 
 // Plays the cases of the file of a name.
-fn play_file<R: Wait, F: Shelf>(
+fn play_file<R: Threads + Wait + Sync, F: Shelf>(
     rt: &R,
     alloc: Global,
     files: &mut F,
@@ -156,7 +157,7 @@ fn play_file<R: Wait, F: Shelf>(
 }
 
 // Plays the cases of the file of a name, and writes what differs.
-fn play_named<R: Wait, F: Shelf, O: Sink>(
+fn play_named<R: Threads + Wait + Sync, F: Shelf, O: Sink>(
     rt: &R,
     alloc: Global,
     files: &mut F,
@@ -172,7 +173,7 @@ fn play_named<R: Wait, F: Shelf, O: Sink>(
     Ok(())
 }
 
-fn play_files<R: Wait, F: Shelf, O: Sink>(
+fn play_files<R: Threads + Wait + Sync, F: Shelf, O: Sink>(
     rt: &R,
     alloc: Global,
     files: &mut F,

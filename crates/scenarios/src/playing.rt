@@ -1,10 +1,11 @@
 use crate::outside::{CaseClock, CaseDoor, CaseKeeper, CaseShelf};
-use commands::{Ending, desk_main};
+use commands::{Ending, OpenGate, desk_main};
 use desk_io::{MemorySink, Shelf, Sink};
 use desk_net::{Clock, Door};
 use keeper::Keeper;
 use std::alloc::Global;
 use std::sync::Wait;
+use std::thread::Threads;
 
 /// What the program is called with.
 #[derive(Drop)]
@@ -39,7 +40,7 @@ struct Came<K, C> {
 }
 
 // What words come to. The promises of the program's call end here, over type parameters, so that they are paid for once.
-fn came_of<R: Wait, S: Shelf, O: Sink, C: Clock + Drop, K: Keeper, D: Door>(
+fn came_of<R: Threads + Wait + Sync, S: Shelf, O: Sink, C: Clock + Drop, K: Keeper + Send, D: Door>(
     rt: &R,
     alloc: Global,
     words: &[String],
@@ -54,7 +55,7 @@ fn came_of<R: Wait, S: Shelf, O: Sink, C: Clock + Drop, K: Keeper, D: Door>(
         board,
         keeper,
         clock,
-    } = desk_main(rt, alloc, words, shelf, out, clock, keeper, door);
+    } = desk_main(rt, alloc, words, shelf, out, clock, keeper, door, &OpenGate);
     Came {
         status,
         board: board.is_some(),
@@ -64,7 +65,7 @@ fn came_of<R: Wait, S: Shelf, O: Sink, C: Clock + Drop, K: Keeper, D: Door>(
 }
 
 /// Calls the program.
-pub fn play<R: Wait>(rt: &R, alloc: Global, outside: Outside) -> Played {
+pub fn play<R: Threads + Wait + Sync>(rt: &R, alloc: Global, outside: Outside) -> Played {
     let Outside {
         words,
         mut shelf,
