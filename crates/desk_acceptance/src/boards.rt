@@ -1,6 +1,7 @@
 ghost use Rattle.std.specs.Prelude.{◌≡◌, ◌<◌, ◌≤◌, IfOk, IfSome};
 ghost use Rattle.call_json.specs.Forms.{CallHasForms};
 
+use crate::few::{applied, ticked};
 use crate::texts::{AFTERNOON, CANCELLED, STOPPED, WATCHED};
 use alerts::{Notice, NoticeKind, Notices};
 use asks::Call;
@@ -49,10 +50,10 @@ fn make<L: Ledger>(
 {
     let before = told.len();
     if board.now() < at {
-        let ticked = board.tick(alloc, 3, at, steps)?;
-        push_letters(told, &ticked.notices)?;
+        let step = ticked(alloc, board, at, steps)?;
+        push_letters(told, &step.notices)?;
     }
-    let installed = board.apply(alloc, 3, call, steps)?;
+    let installed = applied(alloc, board, call, steps)?;
     push_letters(told, &installed.notices)?;
     if told.len() == before {
         told.push(b'.')?;

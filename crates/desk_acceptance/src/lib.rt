@@ -1,7 +1,10 @@
-//! Tests of what a board alone can tell: its history, and what is told of alerts at each step.
+//! Tests of what a board alone can tell: its history, what is told of alerts at each step, and how many plans a step
+//! judges at most.
 #![tactic(auto)]
 
 #[cfg(test)]
 mod boards;
+#[cfg(test)]
+mod few;
 #[cfg(test)]
 mod texts;
