@@ -1,0 +1,113 @@
+// The desk over HTTP: who asks, views, and asks under numbers that rise by themselves.
+
+const HUNDREDTHS_FROM = Date.UTC(2000, 0, 1);
+const WAITS = [1000, 2000, 4000, 8000];
+const TIMEOUT = 20000;
+
+// No answer of the desk came.
+export class Unreached extends Error {}
+
+// The desk's refusal of a view.
+export class Refused extends Error {
+  constructor(reply) {
+    super(reply.why ?? reply.error);
+    this.reply = reply;
+  }
+}
+
+// The name, the key and the role are kept for this tab alone.
+export const session = {
+  get: () => JSON.parse(sessionStorage.getItem('person') ?? 'null'),
+  set: (person) => sessionStorage.setItem('person', JSON.stringify(person)),
+  clear: () => sessionStorage.clear(),
+};
+
+async function answer(path, options) {
+  let reply;
+  try {
+    const response = await fetch(path, { ...options, cache: 'no-store', signal: AbortSignal.timeout(TIMEOUT) });
+    reply = await response.json();
+  } catch (fault) {
+    throw new Unreached(fault.message);
+  }
+  if (reply.error && reply.error !== 'NoRoute') throw new Unreached(reply.error);
+  return reply;
+}
+
+const post = ({ name, key }, number, ask) => answer('/call',
+  { method: 'POST', headers: { 'Content-Type': 'application/json' }, body: JSON.stringify({ actor: name, ask, key, number }) });
+
+// The text of a view.
+export async function view(path) {
+  const { name, key } = session.get();
+  const reply = await answer(path, { headers: { 'Desk-Actor': name, 'Desk-Key': key } });
+  if (reply.seen === undefined) throw new Refused(reply);
+  return reply.seen;
+}
+
+// A number above each that this person has used here: hundredths of a second since 2000, so that other windows rise with it.
+function nextNumber(name, above = 0) {
+  const used = Number(localStorage.getItem(`number.${name}`) ?? 0);
+  const next = Math.max(used + 1, above + 1, Math.floor((Date.now() - HUNDREDTHS_FROM) / 10));
+  localStorage.setItem(`number.${name}`, String(next));
+  return next;
+}
+
+// Asks under one number until an answer comes, so that nothing is done twice. A number that was another command's, or that
+// was swept away, has done nothing: then the next one is taken.
+async function settled(person, first, ask, onWait) {
+  let number = first;
+  for (let tries = 0; ; tries += 1) {
+    sessionStorage.setItem('open', JSON.stringify({ number, ask }));
+    try {
+      const reply = await post(person, number, ask);
+      if (reply.refused !== 4 && reply.refused !== 27) {
+        sessionStorage.removeItem('open');
+        return reply;
+      }
+      number = nextNumber(person.name, reply.floor);
+    } catch (fault) {
+      if (!(fault instanceof Unreached)) throw fault;
+      onWait();
+      await new Promise((done) => { setTimeout(done, WAITS[Math.min(tries, WAITS.length - 1)]); });
+    }
+  }
+}
+
+let last = Promise.resolve();
+
+// The reply to an ask: `done`, `refused` or `bad`. One ask goes after another.
+export function call(ask, onWait) {
+  const person = session.get();
+  const mine = last.then(() => settled(person, nextNumber(person.name), ask, onWait));
+  last = mine.catch(() => {});
+  return mine;
+}
+
+// An ask of this tab that had no answer when the page was left is asked again under its number.
+export async function resumed(onWait) {
+  const open = JSON.parse(sessionStorage.getItem('open') ?? 'null');
+  return open && { ask: open.ask, reply: await settled(session.get(), open.number, open.ask, onWait) };
+}
+
+// Asks that the desk refuses in any case, each of one role: no release, deferral or report is like these.
+const ASKS_OF_ROLES = {
+  D: { do: 'acknowledge', release: 0, version: 0 },
+  C: { do: 'concur', digest: '0'.repeat(64), release: 0, revision: 0 },
+  M: { do: 'clear', deferral: 0 },
+  F: { do: 'admit', text: '' },
+  S: { do: 'purge', release: 0 },
+};
+
+// Signs in: the role is the one whose ask isn't refused for the role. Answers the refusal where the desk knows no such person.
+export async function signIn(name, key) {
+  for (const [role, ask] of Object.entries(ASKS_OF_ROLES)) {
+    const reply = await post({ name, key }, nextNumber(name), ask);
+    if (reply.refused === 1 || reply.refused === 2 || reply.bad) return reply;
+    if (reply.refused !== 3) {
+      session.set({ name, key, role });
+      return null;
+    }
+  }
+  return { refused: 3 };
+}

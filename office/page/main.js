@@ -1,0 +1,143 @@
+// The page: who is signed in, which part of it is shown, and the looks at the desk every few seconds.
+import { at, h, hint, notice, show } from './dom.js';
+import { Refused, resumed, session, signIn, Unreached } from './desk.js';
+import { onWait } from './asking.js';
+import { boardPage } from './board.js';
+import { quiet, showSound, turnSound, watch } from './alarm.js';
+import { age, forget, look, lookCloser, picture } from './picture.js';
+import { planPage } from './plan_form.js';
+import { releasePage } from './release.js';
+import { equipmentPage, recordsPage, weatherPage } from './other_pages.js';
+import { clock, refusal } from './words.js';
+
+const EVERY = 3000;
+const AGAIN = 1000;
+const OLD = 15;
+// A desk that is started again is away for a moment; only what lasts longer is told.
+const SHORT = 4000;
+const ROLES = { D: 'dispatcher', C: 'captain', F: 'feed', M: 'maintenance', S: 'records' };
+const PAGES = [['board', 'Board', 'DCFMS'], ['new', 'New release', 'D'], ['weather', 'Weather', 'DCFMS'], ['equipment', 'Equipment', 'DCFMS'],
+  ['records', 'Records', 'S'], ['wall', 'Wall', 'DCFMS']];
+
+// Shows the page anew after a look at the desk, in which something was new or nothing.
+let fill = (_) => {};
+let round = 0;
+
+function pageOf(place) {
+  const [name, argument, more] = location.hash.replace(/^#\/?/, '').split('/').map(decodeURIComponent);
+  document.documentElement.className = name === 'wall' ? 'wall' : '';
+  for (const link of at('nav').children) link.ariaCurrent = link.hash === `#/${name || 'board'}` ? 'page' : null;
+  if (name === 'release' && /^\d{1,10}$/.test(argument)) return releasePage(place, Number(argument), more === 'amend');
+  const others = { new: planPage, weather: weatherPage, equipment: equipmentPage, records: recordsPage };
+  return others[name] ? others[name](place, argument) : boardPage(place, name === 'wall');
+}
+
+// Each page has a place of its own, so that what an earlier one is still waiting for isn't shown in it.
+function route() {
+  const place = h('div');
+  show(at('main'), place);
+  if (session.get()) fill = pageOf(place);
+  else signInPage(place);
+}
+
+// How old the picture is, and whether the desk can be reached.
+function showAge() {
+  const isAway = picture.trouble && Date.now() - picture.trouble > SHORT;
+  at('moment').textContent = picture.moment ? `${clock(picture.moment)} ${picture.moment.slice(0, 10)}` : '';
+  at('age').textContent = picture.at ? `picture ${age()} s old` : 'no picture yet';
+  at('picture').className = age() > OLD || isAway ? 'old' : '';
+  at('trouble').hidden = !isAway;
+  const since = isAway && `${new Date(picture.trouble).toISOString().slice(11, 19)}Z`;
+  const text = isAway ? `The desk can’t be reached since ${since}. What is shown is from ${clock(picture.moment) || 'before'}; it is tried again every second.` : '';
+  if (at('trouble').textContent !== text) at('trouble').textContent = text;
+}
+
+async function rounds(mine) {
+  while (mine === round) {
+    try {
+      const isNew = await look();
+      const isCloser = await lookCloser();
+      if (mine !== round) return null;
+      watch();
+      fill(isNew || isCloser);
+    } catch (fault) {
+      if (!(fault instanceof Refused)) throw fault;
+      return leave(refusal(fault.reply));
+    }
+    showAge();
+    await new Promise((done) => { setTimeout(done, picture.trouble ? AGAIN : EVERY); });
+  }
+  return null;
+}
+
+function start() {
+  const { name, role } = session.get();
+  show(at('person'), h('b', {}, name), ` ${ROLES[role]}`);
+  show(at('nav'), PAGES.filter(([, , roles]) => roles.includes(role)).map(([page, text]) => h('a', { href: `#/${page}` }, text)));
+  at('top').hidden = false;
+  showSound();
+  round += 1;
+  rounds(round);
+  route();
+  resumed(onWait).then((it) => it && notice(it.reply.done ? `Done: ${it.ask.do}.` : refusal(it.reply), it.reply.done ? 'good' : 'bad'));
+}
+
+function leave(why = '') {
+  round += 1;
+  session.clear();
+  forget();
+  quiet();
+  for (const id of ['top', 'trouble']) at(id).hidden = true;
+  history.replaceState(null, '', '#/board');
+  fill = () => {};
+  signInPage(at('main'), why);
+}
+
+function signInPage(place, why = '') {
+  const said = h('p', { class: 'refusal', role: 'alert', id: 'sign-in-refusal' }, why);
+  const yes = h('button', { class: 'first', id: 'enter' }, 'Sign in');
+  const enter = async (event) => {
+    event.preventDefault();
+    said.textContent = '';
+    yes.disabled = true;
+    try {
+      const reply = await signIn(at('name').value.trim(), at('key').value.trim());
+      if (reply) said.textContent = refusal(reply);
+      else start();
+    } catch (fault) {
+      if (!(fault instanceof Unreached)) throw fault;
+      said.textContent = 'The desk can’t be reached.';
+    }
+    yes.disabled = false;
+  };
+  const field = (id, label, props) => h('p', { class: 'field' }, h('label', { for: id }, label), h('input', { id, required: true, ...props }));
+  show(place, h('form', { class: 'sign-in', onsubmit: enter }, h('h1', {}, 'Dispatch desk'),
+    field('name', 'Name', { maxlength: 16, autocomplete: 'username', autocapitalize: 'none', spellcheck: 'false' }),
+    field('key', 'Key', { type: 'password', maxlength: 64, autocomplete: 'current-password' }), said, yes,
+    hint('Name and key are kept for this tab alone. This page itself is not proved. Each signature names the digest that the desk made of the text, '
+      + 'and the desk judges by its proved rules, whatever a page shows.')));
+  at('name').focus();
+}
+
+// Keys where nothing is typed: j and k go along the board, b shows it, n a new release, / finds.
+function key(event) {
+  const isBusy = event.ctrlKey || event.altKey || event.metaKey || at('confirm').open || event.target.matches('input, textarea');
+  if (isBusy || !session.get()) return;
+  const links = [...document.querySelectorAll('a.row')];
+  const step = { j: 1, k: -1 }[event.key];
+  if (step) links[Math.min(Math.max(links.indexOf(document.activeElement) + step, 0), links.length - 1)]?.focus();
+  else if (event.key === 'b') location.hash = '#/board';
+  else if (event.key === 'n' && session.get().role === 'D') location.hash = '#/new';
+  else if (event.key === '/' && at('find')) at('find').focus();
+  else return;
+  event.preventDefault();
+}
+
+addEventListener('hashchange', () => { route(); at('main').focus({ preventScroll: true }); scrollTo(0, 0); });
+addEventListener('keydown', key);
+addEventListener('unhandledrejection', (event) => event.reason instanceof Unreached && event.preventDefault()); // the banner tells
+setInterval(() => session.get() && showAge(), 1000);
+at('sound').addEventListener('click', turnSound);
+at('leave').addEventListener('click', () => leave());
+if (session.get()) start();
+else route();

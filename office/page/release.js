@@ -1,0 +1,125 @@
+// A release: its texts, what is attached to them, its alert, and what its people can do.
+import { h, hint, notice, show, title } from './dom.js';
+import { kept, seen } from './asking.js';
+import { Refused, Unreached } from './desk.js';
+import { actions, digestLine, refused } from './actions.js';
+import { alertKind, badge, findingsList } from './board.js';
+import { picture, releaseOf, rowOf } from './picture.js';
+import { planPage } from './plan_form.js';
+import { emptyPlan } from './plans.js';
+import * as texts from './texts.js';
+import { amount, clock, near, phaseText, reading, refusal } from './words.js';
+
+// How the digest of a text, made here, compares with the one that the desk names.
+async function check({ text, digest }) {
+  const bytes = await crypto.subtle?.digest('SHA-256', new TextEncoder().encode(text));
+  if (!bytes) return 'none';
+  const made = [...new Uint8Array(bytes)].map((byte) => byte.toString(16).padStart(2, '0')).join('');
+  return made === digest ? 'same' : 'other';
+}
+
+// What the desk has read of the stations of a plan, and the open deferrals of its aircraft.
+async function around(plan) {
+  const stations = [];
+  for (const station of texts.stationsOf(plan)) {
+    const { text, why } = await seen(`/weather/${station}`);
+    stations.push({ station, why, said: why ? [] : texts.weather(text) });
+  }
+  const { text, why } = await seen(`/deferred/${plan.tail}`);
+  return { stations, deferred: why ? null : texts.deferred(text) };
+}
+
+function alertPart(row, release) {
+  if (!row?.alert) return null;
+  const whole = picture.alerts.find((it) => it.id === row.id);
+  const plan = release.active?.plan;
+  const { findings, version } = row.alert;
+  return h('section', { class: `alert ${alertKind(row.alert)}`, 'aria-label': 'Alert' },
+    h('p', {}, badge(row.alert), ` version ${version}`, whole && `, open since ${near(whole.opened, picture.moment)}`),
+    findings.length ? findingsList(findings, plan, true) : h('p', {}, 'Nothing fails now, but what was signed was once not good. Amend it, or see the alert.'),
+    whole?.ever.length > findings.length && h('details', {}, h('summary', {}, 'All that has failed since it opened'), findingsList(whole.ever, plan)));
+}
+
+// A revision as the paper that is signed.
+function paper(id, revision, isPending) {
+  if (!revision) return null;
+  const { number, dispatcher, signed, captain, concurred } = revision;
+  const signs = isPending ? 'Waits for signatures. Not valid for dispatch.' : `Dispatcher ${dispatcher}, ${signed}. Captain ${captain}, ${concurred}.`;
+  return h('article', { class: `paper ${isPending ? 'pending' : 'signed'}` },
+    h('h2', {}, `Revision ${number}, ${isPending ? 'to be signed' : 'signed by both'}`), h('p', { class: 'signs' }, signs),
+    h('pre', { class: 'text', tabindex: '0' }, revision.text), digestLine(revision),
+    h('p', { class: 'printed' }, `Release ${id}, printed from the desk’s view of ${picture.moment}. The digest is the SHA-256 of the text.`));
+}
+
+function legs(plan) {
+  const other = (it) => `${it.station} ${it.minutes} min${it.fuel === undefined ? '' : ` ${amount(it.fuel)} lb`}`;
+  const fuel = (leg) => `burn ${amount(leg.burn)}, extra ${amount(leg.extra)}, minimum ${amount(leg.minimum)}, on board ${amount(leg.onboard)} lb`;
+  return h('section', {}, h('h2', {}, 'Legs'), plan.legs.map((leg, number) => h('p', {},
+    h('b', {}, `${number + 1} ${leg.from}–${leg.to}`), ` ${near(leg.etd, picture.moment)} to ${clock(leg.eta)}, ${leg.minutes} min. `,
+    `Alternates: ${leg.alternates.map(other).join(', ') || 'none'}. `, leg.takeoff_alternate && `Takeoff alternate: ${other(leg.takeoff_alternate)}. `,
+    `Fuel: ${fuel(leg)}.`)));
+}
+
+// What the desk has read as the latest of each station, and the report itself where it is attached.
+function weather(stations, reports) {
+  const one = (it) => {
+    const raw = reports.find((report) => report.id === it.id);
+    return h('div', {}, h('p', {}, h('b', {}, it.kind), ` ${reading(it, picture.moment)}`),
+      raw ? h('p', { class: 'raw' }, raw.text) : h('p', { class: 'newer' }, `Report ${it.id} came in since, and isn’t attached.`));
+  };
+  return stations.length > 0 && h('section', {}, h('h2', {}, 'Weather of its stations'), stations.map(({ station, why, said }) => h('div', { class: 'station' },
+    h('h3', {}, station), why && h('p', {}, why), !why && said.length === 0 && hint('No report.'), said.map(one))));
+}
+
+export function deferredList(items, more = (_) => null) {
+  const due = (it) => (it.due === '-' ? 'not in the list of this type' : `due ${near(it.due, picture.moment)}`);
+  return items.length ? h('ul', { class: 'deferred' }, items.map((it) => h('li', {}, h('b', {}, `${it.id}: ${it.item}`),
+    ` found ${near(it.found, picture.moment)}, ${due(it)} `, more(it)))) : hint('None.');
+}
+
+export function releasePage(place, id, isAmending) {
+  const page = { id, refresh };
+  let shown = '';
+  let text = '';
+  const draw = (row, release, plan, { stations, deferred }) => {
+    const { phase, pending, active } = release;
+    const names = plan ? `${plan.flight} ${plan.tail}` : row && `${row.flight} ${row.tail}`;
+    const isStale = pending && stations.some(({ said }) => said.some((it) => !pending.reports.some((report) => report.id === it.id)));
+    show(place,
+      title(`Release ${id}${names ? ` · ${names}` : ''}`, h('span', { class: `phase ${phase.name.toLowerCase()}` }, phaseText(phase, picture.moment)),
+        row && h('span', { class: 'hint' }, `held by ${row.holder}`)),
+      alertPart(row, release), actions(page, row, release, isStale), refused(page, plan),
+      h('div', { class: 'columns' },
+        h('div', {}, paper(id, pending, true), paper(id, active, false),
+          row?.pending > 0 && !pending && h('p', { class: 'note' }, `Revision ${row.pending} is filed and waits to be prepared; its text is made then.`)),
+        h('div', { class: 'aside' }, plan && legs(plan), weather(stations, [...(pending?.reports ?? []), ...(active?.reports ?? [])]),
+          deferred && h('section', {}, h('h2', {}, `Deferred equipment of ${plan.tail}`), deferredList(deferred)))));
+  };
+  const failed = (fault) => {
+    if (fault instanceof Refused) show(place, title(`Release ${id}`), h('p', {}, refusal(fault.reply)));
+    else if (fault instanceof Unreached) notice('The desk can’t be reached.', 'bad');
+    else throw fault;
+  };
+  // Looks at the release, and where it or the board is new at all that the page shows; shows it where that has changed.
+  async function refresh(isAnew = false, isNew = true) {
+    const row = rowOf(id);
+    const release = await releaseOf(id);
+    if (!isAnew && !isNew && release.text === text) return;
+    text = release.text;
+    for (const it of [release.pending, release.active]) if (it) it.check = await check(it);
+    const plan = (release.pending ?? release.active)?.plan;
+    const more = plan && !release.phase.ended ? await around(plan) : { stations: [], deferred: null };
+    const all = JSON.stringify([row, release, more, kept('refused', id), kept('signed', id)]);
+    if (isAnew || all !== shown) draw(row, release, plan, more);
+    shown = all;
+  }
+  // The form of an amendment, over the newest plan that this tab knows.
+  const amend = async () => {
+    const row = rowOf(id);
+    const release = await releaseOf(id);
+    const filed = kept('filed', id);
+    planPage(place, row, filed?.revision === row?.pending ? filed.plan : (release.pending ?? release.active)?.plan ?? emptyPlan());
+  };
+  (isAmending ? amend() : refresh()).catch(failed);
+  return isAmending ? () => {} : (isNew) => refresh(false, isNew).catch(failed);
+}

@@ -1,0 +1,86 @@
+// The page's modules without a browser: what they read in views that the program has written, and what they say in words.
+//
+// usage: node tests/office/page.mjs
+import assert from 'node:assert/strict';
+import { readFileSync } from 'node:fs';
+
+const root = new URL('../../', import.meta.url);
+const read = (name) => readFileSync(new URL(name, root), 'utf8');
+// None of these imports another, so each can be loaded from its text, whatever version of node this is.
+const [texts, words, plans] = await Promise.all(['texts', 'words', 'plans'].map((name) => import(`data:text/javascript,${encodeURIComponent(read(`office/page/${name}.js`))}`)));
+
+// Views as the examples print them.
+const seen = ['one_flight', 'morning'].flatMap((name) => read(`examples/${name}/expected`).split('\n'))
+  .filter((line) => line.startsWith('{"seen"')).map((line) => JSON.parse(line).seen);
+const boards = seen.filter((text) => text.startsWith('BOARD')).map(texts.board);
+assert.deepEqual(boards[0], { moment: '2026-11-12T15:35Z', releases: [{ id: 1, flight: 'VM214', tail: 'N237VM', rev: 1, pending: 0, holder: 'okafor', alert: undefined,
+  phase: { name: 'FLYING', leg: 1, since: undefined, again: false, active: true, ended: false } }] });
+assert.equal(boards[1].releases[0].phase.since, '2026-11-12T16:31Z');
+const alerts = seen.filter((text) => text.startsWith('ALERTS')).map(texts.alerts);
+assert.deepEqual(alerts[1], [{ id: 1, holder: 'okafor', version: 2, opened: '2026-11-12T15:41Z', seen: false, findings: [], ever: ['121.625/1/1'] }]);
+assert.deepEqual(alerts.at(-1), []);
+
+// The plan that a release's text says is the plan that was filed.
+const filed = read('examples/one_flight/script').split('\n').filter(Boolean).map(JSON.parse).filter((line) => line.ask.plan).map((line) => line.ask.plan);
+const release = texts.release(seen.find((text) => text.startsWith('RELEASE')));
+assert.deepEqual(release.active.plan, filed.at(-1));
+assert.equal(release.active.captain, 'hayes');
+assert.equal(release.active.number, 2);
+assert.equal(release.pending, null);
+assert.deepEqual(release.active.reports.map((it) => it.id), [2, 3, 5]);
+assert.deepEqual(texts.stationsOf(filed[0]), ['KPDX', 'KSEA', 'KGEG']);
+
+// Rows of the board in every phase.
+const rows = ['1 - - CANCELLED 2026-11-12T16:55Z rev 0 pending 0 okafor -', '2 VM2 N1 DRAFTED rev 0 pending 3 okafor -',
+  '3 VM3 N1 STOPPED 2 2026-11-12T16:31Z AGAIN rev 3 pending 0 okafor ALERT v12 ack 121.593/2/0 121.628-DUE/1/7', '4 VM4 N1 READY 1 rev 1 pending 0 okafor ALERT v1 open none'];
+const [cancelled, drafted, stopped, ready] = texts.board(`BOARD 2026-11-12T17:00Z\n${rows.join('\n')}\n`).releases;
+assert.ok(cancelled.phase.ended && !drafted.phase.active && stopped.phase.again && ready.alert.findings.length === 0);
+assert.deepEqual(stopped.alert, { version: 12, seen: true, findings: ['121.593/2/0', '121.628-DUE/1/7'] });
+
+// Weather in words, as the table of units in USING has it.
+const said = (line) => words.reading(texts.weather(line)[0], '2026-11-12T16:00Z');
+assert.equal(said('KSEA METAR 5 2026-11-12T15:17Z ceiling 1200 vis 6437376 unread 0\n'), 'observed 15:17Z: ceiling 1,200 ft, visibility 4 SM');
+assert.equal(said('KSEA METAR 5 2026-11-11T15:17Z ceiling 100000 vis 402335 unread 1\n'), 'observed 11-11 15:17Z: no ceiling, visibility below 1/4 SM, 1 unread group');
+assert.equal(said('KSEA METAR 5 2026-11-12T15:17Z ceiling - vis 9656065 unread 0\n'), 'observed 15:17Z: ceiling unknown, visibility above 6 SM');
+assert.equal(said('EGLL METAR 5 2026-11-12T15:17Z ceiling 5000 vis 4800000 unread 0\n'), 'observed 15:17Z: no cloud below 5,000 ft, visibility 4,800 m');
+assert.equal(said('KSEA METAR 5 2026-11-12T15:17Z ceiling 300 vis 2414016 unread 0\n'), 'observed 15:17Z: ceiling 300 ft, visibility 1 1/2 SM');
+assert.match(said('KSEA TAF 2 2026-11-12T11:20Z 2026-11-12T12:00Z 2026-11-13T18:00Z parts 1\n'), /issued 11:20Z, valid 12:00Z to 11-13 18:00Z, 1 part$/);
+assert.match(said('KSEA TAF 2 2026-11-12T11:20Z 2026-11-12T11:20Z 2026-11-12T11:20Z NIL\n'), /NIL/);
+
+// Every rule and every refusal that USING names has its words.
+const using = read('docs/USING.md');
+const part = (name) => using.split(`\n## ${name}\n`)[1].split('\n## ')[0];
+const codes = [...part('Findings').matchAll(/^\| `([^`]+)` \|/gm)].map(([, code]) => code);
+assert.equal(codes.length, 19);
+for (const code of codes) {
+  for (const plan of [undefined, filed[0]]) {
+    const finding = words.finding(`${code}/1/1`, plan);
+    assert.doesNotMatch(`${finding.leg} ${finding.text} ${finding.section}`, /undefined|NaN|unknown|doesn’t know/);
+    assert.ok(finding.advice);
+    assert.ok(code.startsWith('DESK') || finding.section.startsWith(`14 CFR ${code.slice(0, 7)}`), code);
+  }
+}
+assert.equal(words.finding('121.625/1/1', filed[0]).text, 'alternate 1 (KPDX) is below its alternate minima at 17:08Z, when the aircraft would be there');
+const reply = { group: 3, what: 'BadSky', held: 7, holder: 'okafor', leg: 1, stage: 2, current: 2, digest: '0'.repeat(64), report: 6, findings: [], phase: 'READY 1', version: 2,
+  until: '2026-11-12T15:17Z', now: '2026-11-12T15:17Z', entries: 1, kept: 1, events: 1, faults: 1, floor: 4 };
+for (const [, number, why] of part('Refusals').matchAll(/^\| (\d+) \| (\w+) \|/gm)) {
+  // these two the page settles by itself, with another number
+  if (why !== 'NumberReused' && why !== 'NumberSwept') assert.doesNotMatch(words.refusal({ ...reply, refused: Number(number), why }), /The desk says|undefined/, why);
+}
+
+// Plans: what is sound is found sound, and each fault at its place.
+for (const plan of filed) assert.equal(plans.faults(plan).size, 0);
+const broken = structuredClone(filed[0]);
+broken.legs[0].alternates.push({ fuel: 1, minutes: 5, station: 'KPDX' });
+Object.assign(broken.legs[1], { from: 'KBOI', etd: '2026-11-12T16:00Z', minutes: 300, burn: 1000001 });
+assert.deepEqual([...plans.faults(broken).keys()].sort(),
+  ['legs.0.alternates.1.station', 'legs.1.burn', 'legs.1.etd', 'legs.1.from', 'legs.1.minutes']);
+assert.deepEqual(plans.pasted(JSON.stringify({ do: 'draft', plan: filed[0] })).plan, filed[0]);
+assert.ok(plans.pasted('{}').fault && plans.pasted('x').fault && plans.pasted(JSON.stringify({ ...filed[0], legs: [{}] })).fault);
+const now = Date.parse('2026-11-12T14:00Z');
+assert.equal(plans.moment('1530', '', now), '2026-11-12T15:30Z');
+assert.equal(plans.moment('02:10', '', now), '2026-11-13T02:10Z');
+assert.equal(plans.moment('0005', '2026-12-31T23:30Z', now), '2027-01-01T00:05Z');
+assert.equal(plans.moment('2026-11-12t15:30z', '', now), '2026-11-12T15:30Z');
+assert.equal(plans.moment('2570', '', now), '2570');
+console.log(`page: ${seen.length} views of the examples are read as they are, ${codes.length} rules and all refusals have their words`);
