@@ -1,12 +1,10 @@
--- What the indexes say of the list of reports, and what one more report makes of them.
-use Rattle.std.proofs.Common.{◌≡◌, refl, sym, ap, ◌∙◌, subst, ℕ, zero, suc, ◌+◌, ◌<◌, Bool, true, false, ◌&&◌, cond, List, [], ◌∷◌, ◌++◌, length, drop, Option, Some, None, arith, length-append, ◌==◌, nat_lt, Ordering, Less, Equal, Greater, bytes_eq, slice_get, find, option_map, option_and_then, unwrap_or}
-use Rattle.std.specs.Ordering.{nat_cmp, is_eq, ordering_then}
-use Rattle.std.specs.Cmp.{IsTotalOrder}
+-- What the index of stations says of the list of reports, and what one more report makes of it.
+use Rattle.std.proofs.Common.{◌≡◌, refl, sym, ap, ◌∙◌, subst, ℕ, zero, suc, ◌+◌, ◌<◌, Bool, true, false, ◌&&◌, cond, List, [], ◌∷◌, ◌++◌, length, Option, Some, None, arith, length-append, nat_lt, bytes_eq, slice_get, option_and_then}
+use Rattle.std.specs.Ordering.{nat_cmp}
 use Rattle.std.specs.Cmp.Lexicographic.{slice_cmp}
-use Rattle.std.specs.Map.{lookup, keys_of}
+use Rattle.std.specs.Map.{keys_of}
 use Rattle.std.specs.BTreeMap.{insert_entry, is_at}
-use Rattle.std.proofs.lemmas.Bool.{ltb-true, ltb-false, eqb-true, and_parts}
-use Rattle.std.proofs.lemmas.Cmp.{nat_cmp_total, on_total, then_total, tied_itself, ranked}
+use Rattle.std.proofs.lemmas.Bool.{ltb-true, ltb-false}
 use Rattle.std.proofs.lemmas.Map.Text.{is_eq-slice_cmp}
 use Rattle.std.proofs.lemmas.Slice.Eq.{bytes_eq-Decides}
 use Rattle.stations.specs.Station.{Station}
@@ -16,10 +14,10 @@ use Rattle.facts.specs.declared.latest.Kind.TheVariants as kind
 use Rattle.facts.specs.declared.report.Read.{Read}
 use Rattle.facts.specs.declared.report.Read.TheVariants as read
 use Rattle.facts.specs.declared.report.Report.{Report}
-use Rattle.facts.specs.Same.{minute_of_report, station_of_report, is_same, same_id}
+use Rattle.facts.specs.Same.{minute_of_report, station_of_report}
 use Rattle.facts.specs.Latest.{is_kind, where_of, later, latest}
 use Rattle.facts.specs.Lines.{with_station, stations_of}
-use Rattle.facts.specs.Index.{place_of, place_in, places_or, later_of, later_place, places_with, IsAtPlace, of_station, IsLatestIndex, fingerprint, key_of, key_cmp, first_from, IsFirstIndex, id_from}
+use Rattle.facts.specs.Index.{place_of, place_in, places_or, later_of, later_place, places_with, IsAtPlace, of_station, IsLatestIndex}
 use Rattle.facts.proofs.StationLaws.{keys_with, stations_of_push}
 
 -- the latest of a station
@@ -159,102 +157,7 @@ latest_with rs r before after places is new put each = record {
       (each station ∙ (λ i. cond (is_eq-slice_cmp station (station_of_report r) i) (Some (new i)) (of_station before station)));
 }
 
--- the first of each key
-
-key_total : IsTotalOrder key_cmp
-key_total = then_total (on_total (λ (p : ℕ × ℕ). p.0) nat_cmp_total) (on_total (λ (p : ℕ × ℕ). p.1) nat_cmp_total)
-
-tied_numbers : (x y : ℕ) (o : Ordering) → o ≡ nat_cmp x y → is_eq o ≡ true → x ≡ y
-tied_numbers x y Less e h = absurd cc
-tied_numbers x y Equal e h = ranked x y Equal e
-tied_numbers x y Greater e h = absurd cc
-
-tied_first : (a b : Ordering) → is_eq (ordering_then a b) ≡ true → (is_eq a ≡ true) × (is_eq b ≡ true)
-tied_first Less b h = absurd cc
-tied_first Equal b h = (refl, h)
-tied_first Greater b h = absurd cc
-
-tied_keys : (x y : ℕ × ℕ) → is_at (key_cmp x) y ≡ true → x ≡ y
-tied_keys x y h =
-    let both = tied_first (nat_cmp x.0 y.0) (nat_cmp x.1 y.1) h in
-    λ i. (tied_numbers x.0 y.0 (nat_cmp x.0 y.0) refl both.0 i, tied_numbers x.1 y.1 (nat_cmp x.1 y.1) refl both.1 i)
-
--- one more report has its key's first place where there was none
-first_push : (key : ℕ × ℕ) (place : ℕ) (rs : List Report) (r : Report)
-    → first_from key place (rs ++ r ∷ []) ≡ cond (is_at (key_cmp key) (key_of r)) (Some (unwrap_or (first_from key place rs) (place + length rs))) (first_from key place rs)
-first_push key place [] r = ap (λ n. cond (is_at (key_cmp key) (key_of r)) (Some n) None) (let e : place ≡ place + 0 = omega arith in e)
-first_push key place (q ∷ rs) r = by (is_at (key_cmp key) (key_of q)) (is_at (key_cmp key) (key_of r)) (first_push key (suc place) rs r)
-  where
-    by : (b c : Bool) → first_from key (suc place) (rs ++ r ∷ []) ≡ cond c (Some (unwrap_or (first_from key (suc place) rs) (suc place + length rs))) (first_from key (suc place) rs)
-        → cond b (Some place) (first_from key (suc place) (rs ++ r ∷ [])) ≡ cond c (Some (unwrap_or (cond b (Some place) (first_from key (suc place) rs)) (place + suc (length rs)))) (cond b (Some place) (first_from key (suc place) rs))
-    by true true rest = refl
-    by true false rest = refl
-    by false c rest = rest ∙ ap (λ n. cond c (Some (unwrap_or (first_from key (suc place) rs) n)) (first_from key (suc place) rs)) (let e : suc place + length rs ≡ place + suc (length rs) = omega arith in e)
-
--- the index with one more report
-pub first_with : (rs : List Report) (r : Report) (before after : List ((ℕ × ℕ) × ℕ)) (first : ℕ) → IsFirstIndex before rs
-    → first ≡ unwrap_or (lookup (is_at (key_cmp (key_of r))) before) (length rs)
-    → ((q : ℕ × ℕ) → lookup (is_at (key_cmp q)) after ≡ cond (is_at (key_cmp q) (key_of r)) (Some first) (lookup (is_at (key_cmp q)) before))
-    → IsFirstIndex after (rs ++ r ∷ [])
-first_with rs r before after first is new each key =
-    by (is_at (key_cmp key) (key_of r)) refl
-    ∙ ap (λ n. cond (is_at (key_cmp key) (key_of r)) (Some (unwrap_or (first_from key 0 rs) n)) (first_from key 0 rs)) (let e : length rs ≡ 0 + length rs = omega arith in e)
-    ∙ sym (first_push key 0 rs r)
-  where
-    by : (b : Bool) → is_at (key_cmp key) (key_of r) ≡ b → lookup (is_at (key_cmp key)) after ≡ cond b (Some (unwrap_or (first_from key 0 rs) (length rs))) (first_from key 0 rs)
-    by true e =
-        let same = tied_keys key (key_of r) e in
-        each key ∙ ap (λ b. cond b (Some first) (lookup (is_at (key_cmp key)) before)) e
-        ∙ ap Some (new ∙ ap (λ o. unwrap_or o (length rs)) (is (key_of r) ∙ ap (λ m. first_from m 0 rs) (sym same)))
-    by false e = each key ∙ ap (λ b. cond b (Some first) (lookup (is_at (key_cmp key)) before)) e ∙ is key
-
-same_key : (text : List ℕ) (minute : ℕ) (r : Report) → is_same text minute r ≡ true → is_at (key_cmp (minute, fingerprint text)) (key_of r) ≡ true
-same_key text minute r e =
-    let both = and_parts (bytes_eq r.text text) (minute_of_report r == minute) e in
-    let text_is = (bytes_eq-Decides r.text text).0 both.0 in
-    let minute_is : minute_of_report r ≡ minute = eqb-true (minute_of_report r) minute both.1 in
-    let key : (minute, fingerprint text) ≡ key_of r = λ i. (sym minute_is i, fingerprint (sym text_is i)) in
-    subst (λ m. is_at (key_cmp (minute, fingerprint text)) m ≡ true) key (ap is_eq (tied_itself key_total (minute, fingerprint text)))
-
-other_key : (text : List ℕ) (minute : ℕ) (r : Report) (c : Bool) → is_same text minute r ≡ c → is_at (key_cmp (minute, fingerprint text)) (key_of r) ≡ false → c ≡ false
-other_key text minute r false e f = refl
-other_key text minute r true e f = absurd (let h = same_key text minute r e in cc)
-
-found_none : (text : List ℕ) (minute place : ℕ) (rs : List Report) → first_from (minute, fingerprint text) place rs ≡ None → find (is_same text minute) rs ≡ None
-found_none text minute place [] e = refl
-found_none text minute place (r ∷ rs) e = by (is_at (key_cmp (minute, fingerprint text)) (key_of r)) refl e (found_none text minute (suc place) rs)
-  where
-    by : (b : Bool) → is_at (key_cmp (minute, fingerprint text)) (key_of r) ≡ b → cond b (Some place) (first_from (minute, fingerprint text) (suc place) rs) ≡ None
-        → (first_from (minute, fingerprint text) (suc place) rs ≡ None → find (is_same text minute) rs ≡ None)
-        → cond (is_same text minute r) (Some r) (find (is_same text minute) rs) ≡ None
-    by true f e rest = absurd cc
-    by false f e rest = rw (other_key text minute r (is_same text minute r) refl f) (rest e)
-
-found_some : (text : List ℕ) (minute place n : ℕ) (rs : List Report) → first_from (minute, fingerprint text) place rs ≡ Some (place + n) → find (is_same text minute) (drop n rs) ≡ find (is_same text minute) rs
-found_some text minute place zero rs e = refl
-found_some text minute place (suc n) [] e = absurd cc
-found_some text minute place (suc n) (r ∷ rs) e = by (is_at (key_cmp (minute, fingerprint text)) (key_of r)) refl e (found_some text minute (suc place) n rs)
-  where
-    by : (b : Bool) → is_at (key_cmp (minute, fingerprint text)) (key_of r) ≡ b → cond b (Some place) (first_from (minute, fingerprint text) (suc place) rs) ≡ Some (place + suc n)
-        → (first_from (minute, fingerprint text) (suc place) rs ≡ Some (suc place + n) → find (is_same text minute) (drop n rs) ≡ find (is_same text minute) rs)
-        → find (is_same text minute) (drop n rs) ≡ cond (is_same text minute r) (Some r) (find (is_same text minute) rs)
-    by true f e rest = absurd (let same : place ≡ place + suc n = ap (λ o. unwrap_or o 0) e in omega arith)
-    by false f e rest =
-        let there = rest (e ∙ ap Some (let g : place + suc n ≡ suc place + n = omega arith in g)) in
-        rw (other_key text minute r (is_same text minute r) refl f) there
-
-by_place : (rs : List Report) (text : List ℕ) (minute : ℕ) (o : Option ℕ) → first_from (minute, fingerprint text) 0 rs ≡ o → id_from rs text minute o ≡ same_id rs text minute
-unfolding same_id
-by_place rs text minute None e = sym (ap (option_map (λ r. r.id)) (found_none text minute 0 rs e))
-by_place rs text minute (Some at) e =
-    ap (option_map (λ r. r.id)) (found_some text minute 0 at rs (e ∙ ap Some (let g : at ≡ 0 + at = omega arith in g)))
-
--- the number of the first same report, by the place that the index gives
-pub first_is_same : (entries : List ((ℕ × ℕ) × ℕ)) (rs : List Report) (text : List ℕ) (minute : ℕ) → IsFirstIndex entries rs
-    → id_from rs text minute (lookup (is_at (key_cmp (minute, fingerprint text))) entries) ≡ same_id rs text minute
-first_is_same entries rs text minute is = by_place rs text minute (lookup (is_at (key_cmp (minute, fingerprint text))) entries) (sym (is (minute, fingerprint text)))
-
--- the indexes once a report is admitted
+-- the index once a report is admitted
 
 pub latest_admitted : (rs seen : List Report) (r : Report) (before after : List (Station × Places)) (old places : Places) (key : List ℕ) (place : ℕ) → IsLatestIndex before rs
     → key ≡ station_of_report r → seen ≡ rs → place ≡ length rs → old ≡ places_or (of_station before key) → places ≡ places_with seen old r r.read place
@@ -268,16 +171,6 @@ latest_admitted rs seen r before after old places key place is named same last h
     (put ∙ ap (λ s. insert_entry (slice_cmp nat_cmp) before s places) named)
     (λ q. each q ∙ ap (λ s. cond (is_at (slice_cmp nat_cmp q) s) (Some places) (of_station before q)) named)
 
-pub first_admitted : (rs : List Report) (r : Report) (before after : List ((ℕ × ℕ) × ℕ)) (had : Option ℕ) (key : ℕ × ℕ) (first place : ℕ) → IsFirstIndex before rs
-    → key ≡ key_of r → place ≡ length rs → had ≡ lookup (is_at (key_cmp key)) before → first ≡ unwrap_or had place
-    → ((q : ℕ × ℕ) → lookup (is_at (key_cmp q)) after ≡ cond (is_at (key_cmp q) key) (Some first) (lookup (is_at (key_cmp q)) before))
-    → IsFirstIndex after (rs ++ r ∷ [])
-first_admitted rs r before after had key first place is keyed last found new each =
-    let found_there = found ∙ ap (λ m. lookup (is_at (key_cmp m)) before) keyed in
-    first_with rs r before after first is
-    (new ∙ (λ i. unwrap_or (found_there i) (last i)))
-    (λ q. each q ∙ ap (λ m. cond (is_at (key_cmp q) m) (Some first) (lookup (is_at (key_cmp q)) before)) keyed)
-
 -- no reports, and no entries
 
 nothing_indexed : IsLatestIndex [] []
@@ -286,6 +179,3 @@ nothing_indexed = record { stations = refl; latest = λ kind station. refl }
 
 pub none_latest : (entries : List (Station × Places)) (rs : List Report) → entries ≡ [] → rs ≡ [] → IsLatestIndex entries rs
 none_latest entries rs e f = subst (λ xs. IsLatestIndex xs rs) (sym e) (subst (IsLatestIndex []) (sym f) nothing_indexed)
-
-pub none_first : (entries : List ((ℕ × ℕ) × ℕ)) (rs : List Report) → entries ≡ [] → rs ≡ [] → IsFirstIndex entries rs
-none_first entries rs e f key = ap (lookup (is_at (key_cmp key))) e ∙ sym (ap (first_from key 0) f)

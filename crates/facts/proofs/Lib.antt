@@ -4,6 +4,9 @@ pub mod Crossing
 pub mod StationLaws
 pub mod Utf8Laws
 pub mod IndexLaws
+pub mod KeyOrder
+pub mod KeyLaws
+pub mod SameLaws
 pub mod LeavingLaws
 pub mod ReindexLaws
 pub mod SweepLaws

@@ -1,11 +1,11 @@
 -- The indexes of the reports that stay, and which of them are the latest by their places.
-use Rattle.std.proofs.Common.{◌≡◌, refl, sym, ap, ◌∙◌, subst, ℕ, zero, suc, ◌+◌, ◌-◌, ◌<◌, ◌≤◌, Bool, true, false, cond, ◌||◌, List, [], ◌∷◌, ◌++◌, length, take, drop, filter, get_or, Option, Some, None, arith, ◌==◌, nat_lt, nat_le, AllPairs, Result, Ok, Err, MatchResult, is_ok, nat_cmp, bytes_eq, option_map, option_and_then, unwrap_or, ltb-true, ltb-false, lt-ltb, le-ltb, eqb-true, eq-eqb}
+use Rattle.std.proofs.Common.{◌≡◌, refl, sym, ap, ◌∙◌, subst, ℕ, zero, suc, ◌+◌, ◌<◌, ◌≤◌, Bool, true, false, cond, ◌||◌, List, [], ◌∷◌, ◌++◌, length, take, drop, get_or, Option, Some, None, arith, ◌==◌, nat_lt, nat_le, AllPairs, Result, Ok, Err, MatchResult, is_ok, nat_cmp, bytes_eq, option_map, ltb-true, ltb-false, eqb-true, eq-eqb}
 use Rattle.std.specs.Cmp.Lexicographic.{slice_cmp}
 use Rattle.std.specs.List.{slice_get, list_any}
 use Rattle.std.specs.List.Sorted.{IsNonDecreasing, IsBinarySearchResult}
-use Rattle.std.specs.Map.{lookup, keys_of}
+use Rattle.std.specs.Map.{keys_of}
 use Rattle.std.specs.BTreeMap.{is_at}
-use Rattle.std.proofs.lemmas.List.{take_more, drop_more, drop_all, length-take-le}
+use Rattle.std.proofs.lemmas.List.{take_more, drop_more, length-take-le}
 use Rattle.std.proofs.lemmas.List.Filters.{FiltersInPlace}
 use Rattle.std.proofs.lemmas.List.Sorted.{searched}
 use Rattle.std.proofs.lemmas.Map.Text.{is_eq-slice_cmp}
@@ -19,9 +19,8 @@ use Rattle.facts.specs.declared.report.Report.{Report}
 use Rattle.facts.specs.Same.{minute_of_report, station_of_report}
 use Rattle.facts.specs.Latest.{latest}
 use Rattle.facts.specs.Lines.{stations_of}
-use Rattle.facts.specs.Index.{place_of, place_in, places_or, places_with, no_places, IsAtPlace, of_station, IsLatestIndex, key_of, key_cmp, first_from, IsFirstIndex}
-use Rattle.sorted.specs.Sorted.{if_below}
-use Rattle.facts.specs.Swept.{kind_of, has_id, is_latest, is_kept, stays, swept, is_place, stands_latest, stays_at}
+use Rattle.facts.specs.Index.{place_of, place_in, places_or, places_with, no_places, IsAtPlace, of_station, IsLatestIndex}
+use Rattle.facts.specs.Swept.{kind_of, has_id, is_latest, is_kept, stays, is_place, stands_latest, stays_at}
 use Rattle.facts.proofs.IndexLaws.{place_or, updated}
 use Rattle.facts.proofs.StationLaws.{are_stations}
 
@@ -112,94 +111,6 @@ kept_is keep id r is rising = by r (searched keep id r is (λ i j le within. ris
         → is_ok r ≡ list_any (λ k. k == id) keep
     by (Ok i) h = sym (any_at keep id i h.0 h.1)
     by (Err i) h = sym (any_none keep id (λ k within e. above_or_below keep id i k h.1 h.2 within e))
-
--- the first of each key
-
-module _ (key : ℕ × ℕ) where
-  pub place_one : (place n : ℕ) (r : Report) (rs : List Report) (o : Option ℕ)
-      → cond (is_at (key_cmp key) (key_of r)) (option_map (λ _. place) (option_map (λ _. unwrap_or (first_from key (suc place) rs) n) o)) (option_map (λ _. unwrap_or (first_from key (suc place) rs) n) o)
-      ≡ option_map (λ _. unwrap_or (first_from key place (r ∷ rs)) n) o
-  place_one place n r rs o = by (is_at (key_cmp key) (key_of r)) o
-    where
-      by : (b : Bool) (o : Option ℕ) → cond b (option_map (λ _. place) (option_map (λ _. unwrap_or (first_from key (suc place) rs) n) o)) (option_map (λ _. unwrap_or (first_from key (suc place) rs) n) o)
-          ≡ option_map (λ _. unwrap_or (cond b (Some place) (first_from key (suc place) rs)) n) o
-      by true None = refl
-      by true (Some x) = refl
-      by false None = refl
-      by false (Some x) = refl
-
-  first_within : (place at : ℕ) (rs : List Report) → first_from key place rs ≡ Some at → at < place + length rs
-  first_within place at [] e = absurd cc
-  first_within place at (r ∷ rs) e = by (is_at (key_cmp key) (key_of r)) e (first_within (suc place) at rs)
-    where
-      by : (b : Bool) → cond b (Some place) (first_from key (suc place) rs) ≡ Some at → (first_from key (suc place) rs ≡ Some at → at < suc place + length rs) → at < place + suc (length rs)
-      by true e rest = let same : place ≡ at = ap (λ o. unwrap_or o 0) e in omega arith
-      by false e rest = let more = rest e in omega arith
-
-  first_none : (p : Report → Bool) (place at : ℕ) (rs : List Report) → first_from key place rs ≡ None → first_from key at (filter p rs) ≡ None
-  first_none p place at [] e = refl
-  first_none p place at (r ∷ rs) e = by (is_at (key_cmp key) (key_of r)) refl (p r) e (first_none p (suc place) at rs) (first_none p (suc place) (suc at) rs)
-    where
-      by : (b : Bool) → is_at (key_cmp key) (key_of r) ≡ b → (c : Bool) → cond b (Some place) (first_from key (suc place) rs) ≡ None
-          → (first_from key (suc place) rs ≡ None → first_from key at (filter p rs) ≡ None) → (first_from key (suc place) rs ≡ None → first_from key (suc at) (filter p rs) ≡ None)
-          → first_from key at (cond c (r ∷ filter p rs) (filter p rs)) ≡ None
-      by true f c e here next = absurd cc
-      by false f true e here next = rw f (next e)
-      by false f false e here next = here e
-
-  placed : (n : ℕ) (f o : Option ℕ) → ((at : ℕ) → f ≡ Some at → at < n) → if_below n (option_map (λ _. unwrap_or f n) o) ≡ option_and_then (λ _. f) o
-  placed n f None within = refl
-  placed n None (Some x) within = rw (le-ltb n n (omega arith)) refl
-  placed n (Some at) (Some x) within = let low = within at refl in rw (lt-ltb at n low) refl
-
-  -- the places that are places of reports
-  pub placed_below : (rs : List Report) (o : Option ℕ) → if_below (length rs) (option_map (λ _. unwrap_or (first_from key 0 rs) (length rs)) o) ≡ option_and_then (λ _. first_from key 0 rs) o
-  placed_below rs o = placed (length rs) (first_from key 0 rs) o (λ at e. let h = first_within 0 at rs e in omega arith)
-
-  first_left : (p : Report → Bool) (rs : List Report) (o : Option ℕ) → o ≡ first_from key 0 rs → option_and_then (λ _. first_from key 0 (filter p rs)) o ≡ first_from key 0 (filter p rs)
-  first_left p rs None e = sym (first_none p 0 0 rs (sym e))
-  first_left p rs (Some x) e = refl
-
--- the index of what stays
-pub first_swept : (before : ℕ) (keep : List ℕ) (entries after : List ((ℕ × ℕ) × ℕ)) (rs left : List Report) → IsFirstIndex entries rs → left ≡ swept before keep rs
-    → ((key : ℕ × ℕ) → lookup (is_at (key_cmp key)) after ≡ option_and_then (λ _. first_from key 0 left) (lookup (is_at (key_cmp key)) entries)) → IsFirstIndex after left
-unfolding swept
-first_swept before keep entries after rs left is same each key =
-    each key ∙ ap (λ xs. option_and_then (λ _. first_from key 0 xs) (lookup (is_at (key_cmp key)) entries)) same
-    ∙ first_left key (stays before keep rs) rs (lookup (is_at (key_cmp key)) entries) (is key) ∙ ap (first_from key 0) (sym same)
-
--- Each key that was there has its first place among the reports from a place on, and their number where none has it.
-abbrev pub HasFirsts : List ((ℕ × ℕ) × ℕ) → List ((ℕ × ℕ) × ℕ) → List Report → ℕ → Type 0
-HasFirsts before entries rs n =
-    (key : ℕ × ℕ) → lookup (is_at (key_cmp key)) entries ≡ option_map (λ _. unwrap_or (first_from key n (drop n rs)) (length rs)) (lookup (is_at (key_cmp key)) before)
-
-pub no_firsts : (before entries : List ((ℕ × ℕ) × ℕ)) (rs : List Report) → ((key : ℕ × ℕ) → lookup (is_at (key_cmp key)) entries ≡ option_map (λ _. length rs) (lookup (is_at (key_cmp key)) before)) → HasFirsts before entries rs (length rs)
-no_firsts before entries rs each key =
-    each key ∙ ap (λ xs. option_map (λ _. unwrap_or (first_from key (length rs) xs) (length rs)) (lookup (is_at (key_cmp key)) before)) (sym (drop_all (length rs) rs (omega arith)))
-
-one_first : (before now after : List ((ℕ × ℕ) × ℕ)) (rs : List Report) (n : ℕ) (r : Report) → HasFirsts before now rs (n + 1) → n < length rs → r ≡ get_or rs n r
-    → ((key : ℕ × ℕ) → lookup (is_at (key_cmp key)) after ≡ cond (is_at (key_cmp key) (key_of r)) (option_map (λ _. n) (lookup (is_at (key_cmp key)) now)) (lookup (is_at (key_cmp key)) now))
-    → HasFirsts before after rs n
-one_first before now after rs n r is within at each key =
-    let next : n + 1 ≡ suc n = omega arith in
-    let was = is key ∙ ap (λ m. option_map (λ _. unwrap_or (first_from key m (drop (n + 1) rs)) (length rs)) (lookup (is_at (key_cmp key)) before)) next in
-    let rest : drop n rs ≡ r ∷ drop (n + 1) rs = drop_more rs n r within ∙ ap (λ x. x ∷ drop (n + 1) rs) (sym at) in
-    each key
-    ∙ ap (λ o. cond (is_at (key_cmp key) (key_of r)) (option_map (λ _. n) o) o) was
-    ∙ place_one key n (length rs) r (drop (n + 1) rs) (lookup (is_at (key_cmp key)) before)
-    ∙ ap (λ xs. option_map (λ _. unwrap_or (first_from key n xs) (length rs)) (lookup (is_at (key_cmp key)) before)) (sym rest)
-
--- the loop's step
-pub more_firsts : (before now after : List ((ℕ × ℕ) × ℕ)) (rs : List Report) (n : ℕ) (r : Report) (k : ℕ × ℕ) → HasFirsts before now rs n → 0 < n → n ≤ length rs → r ≡ get_or rs (n - 1) r → k ≡ key_of r
-    → ((key : ℕ × ℕ) → lookup (is_at (key_cmp key)) after ≡ cond (is_at (key_cmp key) k) (option_map (λ _. n - 1) (lookup (is_at (key_cmp key)) now)) (lookup (is_at (key_cmp key)) now))
-    → HasFirsts before after rs (n - 1)
-more_firsts before now after rs n r k is some within at keyed each =
-    let same : n ≡ n - 1 + 1 = omega arith in
-    one_first before now after rs (n - 1) r (subst (HasFirsts before now rs) same is) (omega arith) at
-    (λ key. each key ∙ ap (λ m. cond (is_at (key_cmp key) m) (option_map (λ _. n - 1) (lookup (is_at (key_cmp key)) now)) (lookup (is_at (key_cmp key)) now)) keyed)
-
-pub all_firsts : (before now : List ((ℕ × ℕ) × ℕ)) (rs : List Report) (n : ℕ) → HasFirsts before now rs n → n ≤ 0 → HasFirsts before now rs 0
-all_firsts before now rs n is none = let same : n ≡ 0 = omega arith in subst (HasFirsts before now rs) same is
 
 -- the latest of the first reports, so many
 

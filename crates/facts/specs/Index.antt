@@ -1,13 +1,14 @@
--- Where the latest reports of each station stand, and the first report of each text and moment.
-use Rattle.std.specs.Prelude.{◌≡◌, ℕ, suc, ◌<◌, ◌+◌, ◌*◌, ◌%◌, ◌^◌, if◌then◌else◌, List, [], ◌∷◌, Option, None, Some, length, drop}
+-- Where the latest reports of each station stand, and the keys by which a report of a text and a moment is found.
+use Rattle.std.specs.Prelude.{◌≡◌, ℕ, ◌<◌, ◌+◌, ◌*◌, ◌%◌, ◌^◌, ◌==◌, ◌&&◌, Bool, if◌then◌else◌, List, [], ◌∷◌, Option, None, Some, length}
 use Rattle.std.specs.declared.cmp.Ordering.{Ordering}
 use Rattle.std.specs.Ordering.{nat_cmp, ordering_then}
 use Rattle.std.specs.Cmp.Lexicographic.{slice_cmp}
-use Rattle.std.specs.List.{slice_get, find}
-use Rattle.std.specs.Option.{option_map}
+use Rattle.std.specs.List.{slice_get, find, list_any}
+use Rattle.std.specs.Option.{option_or}
 use Rattle.std.specs.Map.{lookup, keys_of}
 use Rattle.std.specs.BTreeMap.{is_at}
 use Rattle.std.specs.Prelude.{nat_lt}
+use Rattle.sorted.specs.Keys.{is_held}
 use Rattle.stations.specs.Station.{Station}
 use Rattle.facts.specs.declared.index.Places.{Places}
 use Rattle.facts.specs.declared.latest.Kind.{Kind}
@@ -72,30 +73,55 @@ fingerprint_from n (b ∷ bs) = fingerprint_from (((n * 1099511628211) % 2 ^ 64 
 unfoldable pub fingerprint : List ℕ → ℕ
 fingerprint text = fingerprint_from 1 text
 
--- the moment and the fingerprint of a report's text
-abbrev pub key_of : Report → ℕ × ℕ
-key_of r = (minute_of_report r, fingerprint r.text)
+-- the moment of a report, the fingerprint of its text, and its number
+abbrev pub Key : Type 0
+Key = ℕ × ℕ × ℕ
+
+abbrev pub key_of : Report → Key
+key_of r = (minute_of_report r, fingerprint r.text, r.id)
+
+-- two marks, by the first and then by the second
+abbrev pub key_cmp : ℕ × ℕ → ℕ × ℕ → Ordering
+key_cmp x y = ordering_then (nat_cmp x.0 y.0) (nat_cmp x.1 y.1)
+
+-- keys, by all three
+abbrev pub key_order : Key → Key → Ordering
+key_order x y = ordering_then (ordering_then (nat_cmp x.0 y.0) (nat_cmp x.1 y.1)) (nat_cmp x.2 y.2)
 
 -- the station of a report, and that key, each as an entry without a value
 abbrev pub station_entry : Report → Station × Unit {0}
 station_entry r = (station_of_report r, tt)
 
-abbrev pub key_entry : Report → (ℕ × ℕ) × Unit {0}
+abbrev pub key_entry : Report → Key × Unit {0}
 key_entry r = (key_of r, tt)
 
-abbrev pub key_cmp : ℕ × ℕ → ℕ × ℕ → Ordering
-key_cmp x y = ordering_then (nat_cmp x.0 y.0) (nat_cmp x.1 y.1)
+abbrev pub id_of : Report → ℕ
+id_of r = r.id
 
--- the place of the first report of that key, where the first of all has that place
-abbrev pub first_from : ℕ × ℕ → ℕ → List Report → Option ℕ
-first_from key place [] = None
-first_from key place (r ∷ rs) = if is_at (key_cmp key) (key_of r) then Some place else first_from key (suc place) rs
+-- a report has that number
+abbrev pub has_number : ℕ → Report → Bool
+has_number id r = r.id == id
 
--- the first place of each key
-abbrev pub IsFirstIndex : List ((ℕ × ℕ) × ℕ) → List Report → Type 0
-IsFirstIndex entries rs = (key : ℕ × ℕ) → lookup (is_at (key_cmp key)) entries ≡ first_from key 0 rs
+-- There is a key for exactly each report.
+pub record AreKeysOf (rs : List Report) (keys : List Key) : Type 0 where
+  pub each : (q : Key) → is_held key_order q keys ≡ list_any (λ r. is_at (key_order q) (key_of r)) rs
 
--- the number of the first report of that text and moment from a place on
-abbrev pub id_from : List Report → List ℕ → ℕ → Option ℕ → Option ℕ
-id_from rs text minute None = None
-id_from rs text minute (Some place) = option_map (λ r. r.id) (find (is_same text minute) (drop place rs))
+-- the key of a report of that moment whose text has that fingerprint
+abbrev pub is_under : ℕ → ℕ → Key → Bool
+is_under minute mark key = (key.0 == minute) && (key.1 == mark)
+
+-- the number of a report where it is of that text and moment
+abbrev pub id_if : List ℕ → ℕ → Option Report → Option ℕ
+id_if text minute None = None
+id_if text minute (Some r) = if is_same text minute r then Some r.id else None
+
+-- of the reports that keys lead to the number of the first of a text and moment, as long as the keys are those of that
+-- moment and of one fingerprint
+abbrev pub first_same : List ℕ → ℕ → ℕ → List Report → List Key → Option ℕ
+first_same text minute mark rs [] = None
+first_same text minute mark rs (key ∷ keys) =
+    if is_under minute mark key then option_or (id_if text minute (find (has_number key.2) rs)) (first_same text minute mark rs keys) else None
+
+-- a key of a report that is there
+abbrev pub leads_to : List Report → Key → Bool
+leads_to rs key = list_any (has_number key.2) rs

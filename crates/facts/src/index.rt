@@ -1,11 +1,10 @@
 ghost use Rattle.std.specs.Prelude.{◌≡◌, Some};
-ghost use Rattle.std.specs.Map.{lookup};
-ghost use Rattle.std.specs.BTreeMap.{is_at};
+ghost use Rattle.std.specs.List.{slice_get};
+ghost use Rattle.std.specs.Option.{option_and_then, option_copied};
 ghost use Rattle.facts.specs.Index as spec;
 
 use crate::latest::Kind;
 use crate::report::{Read, Report};
-use desk_time::Minute;
 use sorted::Sorted;
 
 /// Where the latest reports of a station stand among all reports.
@@ -83,14 +82,11 @@ pub(crate) fn places_at(stations: &Sorted<[u8; 4], Places>, station: [u8; 4]) ->
     }
 }
 
-/// The place of the first report of that key.
-pub(crate) fn first_place(
-    firsts: &Sorted<(Minute, u64), usize>,
-    key: (Minute, u64),
-) -> Option<usize>
-    ensures { result ≡ lookup (is_at (spec.key_cmp key)) firsts.now.entries }
+/// The report at a place, where there is one.
+pub(crate) fn at_place(reports: &[Report], place: Option<usize>) -> Option<&Report>
+    ensures { option_copied result ≡ option_and_then (slice_get reports.now) place }
 {
-    firsts.get(&key).copied()
+    reports.get(place?)
 }
 
 /// A number of a text that texts seldom share.
@@ -105,11 +101,4 @@ pub fn fingerprint(text: &[u8]) -> u64
             .wrapping_add(*byte as u64);
     }
     number
-}
-
-/// The moment of a report and the fingerprint of its text.
-pub(crate) fn key_of(report: &Report) -> (Minute, u64)
-    ensures { result ≡ spec.key_of report.now }
-{
-    (report.minute(), fingerprint(report.text.bytes()))
 }

@@ -1,11 +1,12 @@
 ghost use Rattle.std.specs.Prelude.{◌≡◌, map, IfOk};
 ghost use Rattle.std.specs.List.Sorted.{IsStrictlySortedBy};
 ghost use Rattle.std.specs.Map.{keys_of};
-ghost use Rattle.facts.specs.Index.{IsFirstIndex, IsLatestIndex, key_entry, station_entry};
+ghost use Rattle.facts.specs.Index.{AreKeysOf, IsLatestIndex, key_entry, station_entry};
 
-use crate::index::{Places, key_of};
+use crate::index::Places;
 use crate::report::Report;
-use crate::sweeping::{index_firsts, index_latest};
+use crate::same::key_of;
+use crate::sweeping::index_latest;
 use desk_io::OutOfMemory;
 use desk_time::Minute;
 use sorted::{Keys, Sorted};
@@ -21,7 +22,7 @@ fn listed_stations(alloc: Global, held: &[Report]) -> Result<Vec<([u8; 4], ())>,
     Ok(keys)
 }
 
-fn listed_keys(alloc: Global, held: &[Report]) -> Result<Vec<((Minute, u64), ())>, OutOfMemory>
+fn listed_keys(alloc: Global, held: &[Report]) -> Result<Vec<((Minute, u64, u64), ())>, OutOfMemory>
     ensures { IfOk result (λ keys. keys.items ≡ map key_entry held.now) }
 {
     let mut keys = Vec::with_capacity(alloc, held.len())?;
@@ -64,15 +65,13 @@ pub(crate) fn latest_index(
     Ok(stations)
 }
 
-/// The first place of each key among these reports. The keys are sorted once.
-pub(crate) fn first_index(
+/// The keys of these reports, which are sorted once.
+pub(crate) fn keys_of_reports(
     alloc: Global,
     held: &[Report],
-) -> Result<Sorted<(Minute, u64), usize>, OutOfMemory>
-    ensures { IfOk result (λ firsts. IsFirstIndex firsts.entries held.now) }
+) -> Result<Keys<(Minute, u64, u64)>, OutOfMemory>
+    ensures { IfOk result (λ keys. AreKeysOf held.now keys.keys) }
 {
-    let keys = Keys::from_vec(listed_keys(alloc, held)?);
-    let mut firsts = valued(alloc, keys.as_slice(), 0)?;
-    index_firsts(&mut firsts, held);
-    Ok(firsts)
+    let keys = listed_keys(alloc, held)?;
+    Ok(Keys::from_vec(keys))
 }

@@ -8,6 +8,7 @@ mod lines;
 mod reader;
 mod report;
 mod reports;
+mod same;
 mod sweeping;
 
 pub use index::fingerprint;

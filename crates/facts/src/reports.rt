@@ -1,11 +1,10 @@
-ghost use Rattle.std.specs.Prelude.{◌≡◌, ◌==◌, ◌<◌, ◌+◌, List, ℕ, All, Some, OnOk, OnErr, IfOk, IfSome, drop, length, map};
-ghost use Rattle.std.specs.List.{find, slice_get};
-ghost use Rattle.std.specs.Option.{option_copied, option_map, option_and_then};
+ghost use Rattle.std.specs.Prelude.{◌≡◌, ◌==◌, ◌<◌, ◌+◌, List, ℕ, All, Some, OnOk, OnErr, IfOk, IfSome, length, map};
+ghost use Rattle.std.specs.Option.{option_copied};
 ghost use Rattle.desk_time.specs.Limits.{IsMoment};
-ghost use Rattle.facts.specs.Same.{is_same, same_id};
+ghost use Rattle.facts.specs.Same.{same_id};
 ghost use Rattle.facts.specs.Reading.{HasMoments, TafHasMoments, IsRead};
 ghost use Rattle.facts.specs.Reports.{room_for, no_reports, admissions_of, reserved, admitted, AreHeld};
-ghost use Rattle.facts.specs.Index.{IsLatestIndex, IsFirstIndex, id_from};
+ghost use Rattle.facts.specs.Index.{IsLatestIndex};
 ghost use Rattle.facts.specs.Lines.{AreStations, stations_of};
 ghost use Rattle.facts.specs.Swept.{with_swept, leaving};
 ghost use Rattle.std.specs.Map.{keys_of};
@@ -19,15 +18,16 @@ ghost use Rattle.facts.specs.Latest.{
   IsLatestTaf,
 };
 
-use crate::index::{Places, fingerprint, first_place, key_of, place_of, places_at, places_with};
-use crate::indexing::{first_index, latest_index};
+use crate::index::{Places, at_place, place_of, places_at, places_with};
+use crate::indexing::{keys_of_reports, latest_index};
 use crate::latest::Kind;
 use crate::report::Report;
-use crate::sweeping::{index_firsts, index_latest, leaving_ids, sweep_held};
+use crate::same::{keep_leading, key_of, same_in};
+use crate::sweeping::{index_latest, leaving_ids, sweep_held};
 use desk_io::{Listed, OutOfMemory};
 use desk_time::Minute;
 use metar::Metar;
-use sorted::Sorted;
+use sorted::{Keys, Sorted};
 use stations::Station;
 use std::alloc::Global;
 use std::marker::Model;
@@ -42,8 +42,8 @@ pub struct Reports {
     held: Vec<Report>,
     // The places of the latest, by station.
     stations: Sorted<[u8; 4], Places>,
-    // The first place of each moment and fingerprint.
-    firsts: Sorted<(Minute, u64), usize>,
+    // A key for each report.
+    keys: Keys<(Minute, u64, u64)>,
     room: Option<Snapshot<Report>>,
 }
 
@@ -52,43 +52,15 @@ impl Model for Reports {
     ghost use Rattle.std.specs.Vec.{vec_capacity};
     ghost use Rattle.std.specs.Option.{option_map};
     ghost use Rattle.facts.specs.Reports.{Admissions, room_for, AreHeld};
-    ghost use Rattle.facts.specs.Index.{IsLatestIndex, IsFirstIndex, id_from};
+    ghost use Rattle.facts.specs.Index.{IsLatestIndex, AreKeysOf};
 
     ghost Value = { Admissions };
 
     ghost view = { λ r. record { reports = r.held.items; room = option_map (λ kept. room_for kept.value) r.room } };
 
     ghost invariant = { λ r. (IsSome r.room → (vec_len r.held < vec_capacity r.held) × (1 ≤ r.stations.room)
-        × (1 ≤ r.firsts.room)) × AreHeld r.held.items × IsLatestIndex r.stations.entries r.held.items
-        × IsFirstIndex r.firsts.entries r.held.items };
-}
-
-fn is_same(report: &Report, text: &[u8], minute: Minute) -> bool
-    ensures { result ≡ is_same text.now minute report.now }
-{
-    report.text.bytes() == text && report.minute() == minute
-}
-
-fn from_place(reports: &[Report], place: usize) -> &[Report]
-    ensures { result.now ≡ drop place reports.now }
-{
-    if place < reports.len() {
-        &reports[place..]
-    } else {
-        &[]
-    }
-}
-
-fn first_same<'a>(reports: &'a [Report], text: &[u8], minute: Minute) -> Option<&'a Report>
-    ensures { option_copied result ≡ find (is_same text.now minute) reports.now }
-{
-    reports.iter().find(|report| is_same(report, text, minute))
-}
-
-fn at_place(reports: &[Report], place: Option<usize>) -> Option<&Report>
-    ensures { option_copied result ≡ option_and_then (slice_get reports.now) place }
-{
-    reports.get(place?)
+        × (1 ≤ r.keys.room)) × AreHeld r.held.items × IsLatestIndex r.stations.entries r.held.items
+        × AreKeysOf r.held.items r.keys.keys };
 }
 
 #[tactic(auto, using(crate::proofs::IndexLaws::stands_latest))]
@@ -105,26 +77,6 @@ fn latest<'a>(
     at_place(reports, place_of(kind, places))
 }
 
-fn id_from(reports: &[Report], text: &[u8], minute: Minute, place: Option<usize>) -> Option<u64>
-    ensures { result ≡ id_from reports.now text.now minute place }
-{
-    Some(first_same(from_place(reports, place?), text, minute)?.id)
-}
-
-#[tactic(auto, using(crate::proofs::IndexLaws::first_is_same))]
-fn same_in(
-    reports: &[Report],
-    firsts: &Sorted<(Minute, u64), usize>,
-    text: &[u8],
-    minute: Minute,
-) -> Option<u64>
-    requires { IsFirstIndex firsts.now.entries reports.now }
-    ensures { result ≡ same_id reports.now text.now minute }
-{
-    let place = first_place(firsts, (minute, fingerprint(text)));
-    id_from(reports, text, minute, place)
-}
-
 impl Reports {
     /// No reports, and room for none. It takes no memory.
     pub fn new(alloc: Global) -> Reports
@@ -133,7 +85,7 @@ impl Reports {
         Reports {
             held: Vec::new(alloc),
             stations: Sorted::new(alloc),
-            firsts: Sorted::new(alloc),
+            keys: Keys::new(alloc),
             room: None,
         }
     }
@@ -144,11 +96,11 @@ impl Reports {
         ensures { IfOk result (λ reports. reports ≡ admissions_of held.items) }
     {
         let stations = latest_index(alloc, held.as_slice())?;
-        let firsts = first_index(alloc, held.as_slice())?;
+        let keys = keys_of_reports(alloc, held.as_slice())?;
         Ok(Reports {
             held,
             stations,
-            firsts,
+            keys,
             room: None,
         })
     }
@@ -182,7 +134,7 @@ impl Reports {
     {
         self.held.reserve(1)?;
         self.stations.reserve(1)?;
-        self.firsts.reserve(1)?;
+        self.keys.reserve(1)?;
         self.room = Some(Snapshot::of(report));
         Ok(())
     }
@@ -198,10 +150,8 @@ impl Reports {
         let station = report.station().bytes();
         let before = places_at(&self.stations, station);
         let places = places_with(&self.held, before, &report, place);
-        let key = key_of(&report);
-        let first = first_place(&self.firsts, key).unwrap_or(place);
         self.stations.put_reserved(station, places);
-        self.firsts.put_reserved(key, first);
+        self.keys.put_reserved(key_of(&report));
         self.held.push_reserved(report);
         self.room = None;
     }
@@ -231,7 +181,7 @@ impl Reports {
         let count = self.len();
         sweep_held(&mut self.held, &self.stations, before, keep);
         index_latest(&mut self.stations, &self.held);
-        index_firsts(&mut self.firsts, &self.held);
+        keep_leading(&mut self.keys, &self.held);
         self.room = None;
         (count - self.held.len()) as u64
     }
@@ -300,10 +250,10 @@ impl Reports {
     }
 
     /// The number of the first report of that canonical text that was observed or issued at that moment.
-    /// It is found in an index, and takes no memory.
+    /// It is found by halves, and takes no memory.
     pub fn same(&self, text: &[u8], minute: Minute) -> Option<u64>
         ensures { result ≡ same_id self.now.reports text.now minute }
     {
-        same_in(&self.held, &self.firsts, text, minute)
+        same_in(&self.held, &self.keys, text, minute)
     }
 }

@@ -1,15 +1,13 @@
-ghost use Rattle.std.specs.Prelude.{ℕ, ◌≡◌, ◌==◌, ◌<◌, ◌∷◌, ◌++◌, [], AllPairs, IsTrue, IfOk, OnOk, if◌then◌else◌, length, map};
+ghost use Rattle.std.specs.Prelude.{◌≡◌, ◌==◌, ◌<◌, ◌∷◌, ◌++◌, [], AllPairs, IsTrue, IfOk, OnOk, if◌then◌else◌, map};
 ghost use Rattle.std.specs.List.{list_any};
 ghost use Rattle.std.specs.List.Sorted.{IsNonDecreasing};
-ghost use Rattle.std.specs.Map.{lookup, keys_of};
-ghost use Rattle.std.specs.BTreeMap.{is_at};
-ghost use Rattle.std.specs.Option.{option_map, option_and_then, unwrap_or};
-ghost use Rattle.facts.specs.Index.{IsLatestIndex, key_cmp, first_from};
+ghost use Rattle.std.specs.Map.{keys_of};
+ghost use Rattle.facts.specs.Index.{IsLatestIndex};
 ghost use Rattle.facts.specs.Lines.{stations_of};
 ghost use Rattle.facts.specs.Swept as spec;
 ghost use Rattle.facts.specs.Swept.{swept, leaving};
 
-use crate::index::{Places, key_of, place_of, places_at, places_with};
+use crate::index::{Places, place_of, places_at, places_with};
 use crate::latest::Kind;
 use crate::report::{Read, Report};
 use desk_io::{Listed, OutOfMemory};
@@ -152,25 +150,4 @@ pub(crate) fn index_latest(stations: &mut Sorted<[u8; 4], Places>, held: &[Repor
         let places = places_with(&held[..place], places, report, place);
         stations.replace(&station, places);
     }
-}
-
-fn place_firsts(firsts: &mut Sorted<(Minute, u64), usize>, held: &[Report])
-    ensures { (key : ℕ × ℕ) → lookup (is_at (key_cmp key)) firsts.new.entries
-        ≡ option_map (λ _. unwrap_or (first_from key 0 held.now) (length held.now))
-        (lookup (is_at (key_cmp key)) firsts.old.entries) }
-{
-    firsts.set_all(held.len());
-    for place in (0..held.len()).rev() {
-        firsts.replace(&key_of(&held[place]), place);
-    }
-}
-
-/// Makes the place of each key that is there its first among these reports, and takes away the keys that
-/// none has. It takes no memory.
-pub(crate) fn index_firsts(firsts: &mut Sorted<(Minute, u64), usize>, held: &[Report])
-    ensures { (key : ℕ × ℕ) → lookup (is_at (key_cmp key)) firsts.new.entries
-        ≡ option_and_then (λ _. first_from key 0 held.now) (lookup (is_at (key_cmp key)) firsts.old.entries) }
-{
-    place_firsts(firsts, held);
-    firsts.keep_below(held.len());
 }

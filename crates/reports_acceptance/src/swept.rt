@@ -1,7 +1,7 @@
 use crate::held::latest;
 use codes::ReportFault;
 use desk_time::{FIRST, LAST, Minute};
-use facts::Reports;
+use facts::{Reports, fingerprint};
 use small_airline::{DAY, admit, reports_of};
 use std::alloc::Global;
 use std::test::Fail;
@@ -110,5 +110,26 @@ fn a_sweep_of_nothing_leaves_all(rt: HostRuntime) -> Result<(), Fail> {
     let mut reports = three_days(alloc)?;
     let all = [1, 2, 3, 4, 5, 6, 7, 8, 9, 10];
     assert!(rt; leaves(&mut reports, FIRST, &[], 0, &all) && have_latest(&reports));
+    Ok(())
+}
+
+const ONE: &[u8] = b"METAR KJFK 121651Z 10SM CLR RMK ALAAAAHBANHALD";
+
+const OTHER: &[u8] = b"METAR KJFK 121651Z 10SM CLR RMK DAAFCCAAMAAFAA";
+
+fn are_found(reports: &Reports, one: Option<u64>, other: Option<u64>) -> bool {
+    reports.same(ONE, DAY + 1011) == one && reports.same(OTHER, DAY + 1011) == other
+}
+
+#[test]
+fn texts_of_one_moment_and_fingerprint_are_told_apart(rt: HostRuntime) -> Result<(), Fail> {
+    let alloc = rt.alloc();
+    assert!(rt; fingerprint(ONE) == fingerprint(OTHER));
+    let mut reports = reports_of(alloc, &[(1, ONE), (2, OTHER), (3, ONE), (4, OTHER)])?;
+    assert!(rt; are_found(&reports, Some(1), Some(2)));
+    assert!(rt; leaves(&mut reports, LAST, &[3], 2, &[3, 4]));
+    assert!(rt; are_found(&reports, Some(3), Some(4)));
+    assert!(rt; leaves(&mut reports, LAST, &[], 1, &[4]));
+    assert!(rt; are_found(&reports, None, Some(4)));
     Ok(())
 }

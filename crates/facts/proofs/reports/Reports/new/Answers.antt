@@ -1,5 +1,6 @@
 use Rattle.facts.proofs.Admission.{none_held}
-use Rattle.facts.proofs.IndexLaws.{none_latest, none_first}
+use Rattle.facts.proofs.IndexLaws.{none_latest}
+use Rattle.facts.proofs.SameLaws.{none_keyed}
 use Rattle.facts.proofs.reports.Reports.new.Goals as goal
 
 pub invariant_of-result : goal.invariant_of-result
@@ -7,5 +8,5 @@ invariant_of-result c = (
   λ e. absurd cc,
   none_held _ c.new.ensures.items,
   none_latest _ _ c.new-2.ensures c.new.ensures.items,
-  none_first _ _ c.new-3.ensures c.new.ensures.items,
+  none_keyed _ _ c.new-3.ensures c.new.ensures.items,
 )

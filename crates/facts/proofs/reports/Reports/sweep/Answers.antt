@@ -1,18 +1,21 @@
-use Rattle.std.proofs.Common.{◌∙◌, sym, ap, subst, length, arith, option_and_then}
-use Rattle.std.specs.Map.{lookup}
-use Rattle.std.specs.BTreeMap.{is_at}
+use Rattle.std.proofs.Common.{◌∙◌, ◌<◌, sym, ap, subst, length, arith, filter, AllPairs}
 use Rattle.facts.specs.Reports.{AreHeld}
 use Rattle.facts.specs.Latest.{latest}
 use Rattle.facts.specs.Lines.{stations_of}
-use Rattle.facts.specs.Index.{IsLatestIndex, key_cmp, first_from}
+use Rattle.facts.specs.Index.{IsLatestIndex, leads_to}
 use Rattle.facts.proofs.SweepLaws.{latest_swept, stations_swept, held_swept, fewer_swept}
-use Rattle.facts.proofs.ReindexLaws.{first_swept}
+use Rattle.facts.proofs.SameLaws.{keys_swept}
 use Rattle.facts.proofs.reports.Reports.sweep.Goals as goal
 
 -- the stations of the index are those of what stays
 pub index_latest-requires : goal.index_latest-requires
 index_latest-requires c =
     c.self.invariant.2.stations ∙ sym (stations_swept c.args.before c.args.keep.now c.self.inside.held.items) ∙ ap stations_of (sym (c.deref.ensures.value ∙ c.sweep_held.ensures))
+
+-- and their numbers rise
+pub keep_leading-requires : goal.keep_leading-requires
+keep_leading-requires c =
+    subst (λ rs. AllPairs (λ a b. a.id < b.id) rs) (sym (c.deref-2.ensures.value ∙ c.sweep_held.ensures)) (held_swept c.args.before c.args.keep.now c.self.inside.held.items c.self.invariant.1).rising
 
 pub overflow_sub-result : goal.overflow_sub-result
 overflow_sub-result c =
@@ -26,8 +29,8 @@ invariant_of-self c = (
   λ e. absurd cc,
   subst AreHeld (sym c.sweep_held.ensures) (held_swept c.args.before c.args.keep.now c.self.inside.held.items c.self.invariant.1),
   subst (IsLatestIndex c.index_latest.new.stations.entries) c.deref.ensures.value c.index_latest.ensures,
-  first_swept c.args.before c.args.keep.now c.self.inside.firsts.entries c.index_firsts.new.firsts.entries c.self.inside.held.items c.sweep_held.new.held.items c.self.invariant.3 c.sweep_held.ensures
-      (λ key. c.index_firsts.ensures key ∙ ap (λ xs. option_and_then (λ _. first_from key 0 xs) (lookup (is_at (key_cmp key)) c.self.inside.firsts.entries)) c.deref-2.ensures.value),
+  keys_swept c.args.before c.args.keep.now c.self.inside.held.items c.sweep_held.new.held.items c.self.inside.keys.keys c.keep_leading.new.keys.keys c.self.invariant.1.rising c.self.invariant.3 c.sweep_held.ensures
+      (c.keep_leading.ensures ∙ ap (λ xs. filter (leads_to xs) c.self.inside.keys.keys) c.deref-2.ensures.value),
 )
 
 pub returns-clause-count : goal.returns-clause-count

@@ -1,0 +1,5 @@
+use Rattle.std.proofs.Common.{◌∙◌}
+use Rattle.facts.proofs.same.report_of.Goals as goal
+
+pub returns : goal.returns
+returns c pairs = c.at_place.ensures ∙ c.place_of.ensures pairs
