@@ -7,4 +7,4 @@ mod prospect;
 mod touching;
 
 pub use changes::notices_of;
-pub use prospect::Prospect;
+pub use prospect::{Prospect, touched_changes};

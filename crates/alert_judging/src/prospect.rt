@@ -16,7 +16,7 @@ use crate::changes::push_change;
 use alerts::{Alert, after};
 use deferrals::Deferral;
 use desk_io::{Copied, OutOfMemory};
-use desk_state::{AlertChange, Content, Effect, OnAlerts, OnDeferrals};
+use desk_state::{AlertChange, Alerted, Content, Effect, OnAlerts, OnDeferrals};
 use desk_time::Minute;
 use facts::Report;
 use held_releases::OnReleases;
@@ -288,10 +288,8 @@ impl<'a> Prospect<'a> {
         Ok(out)
     }
 
-    /// The changes of the alerts by the effect and by the judgement of every active release, in order of the releases,
-    /// where the alerts are judged and the effect may be made. Only the releases that the effect touches are judged,
-    /// which are found by halves: the others' rules find the same as before.
-    pub fn changes<L: Ledger>(
+    // The changes of the alerts, where these are judged. Only the releases that the effect touches are judged.
+    fn changes<L: Ledger>(
         &self,
         alloc: Global,
         steps: &mut Steps<L>,
@@ -320,4 +318,21 @@ impl<'a> Prospect<'a> {
         let ids = self.all_ids(alloc)?;
         self.changes_named(alloc, &ids, steps)
     }
+}
+
+/// The changes of the alerts by an effect that may be made and by the judgement of every active release, in order of
+/// the releases. Only the releases that the effect touches are judged, which are found by halves: the others' rules
+/// find the same as before.
+pub fn touched_changes<L: Ledger>(
+    alloc: Global,
+    held: &Alerted,
+    effect: &Effect,
+    steps: &mut Steps<L>,
+) -> Result<Vec<AlertChange>, OutOfMemory>
+    requires { EffectFits held.now.state effect.now }
+    ensures value { IfOk result (λ v. v.items ≡ alert_changes effect.now held.now.state) }
+    ensures steps { steps.new ≤ steps.old + count_touched held.now.state effect.now }
+{
+    let content = held.content();
+    Prospect { content, effect }.changes(alloc, steps)
 }

@@ -74,10 +74,19 @@ fn push_spaced(text: &mut Vec<u8>, groups: &[Group<'_>]) -> Result<(), OutOfMemo
     Ok(())
 }
 
+// Room for the groups, with a byte behind each.
+fn room_for(groups: &[Group<'_>]) -> usize {
+    let mut room = 0_usize;
+    for group in groups {
+        room = room.saturating_add(group.bytes().len()).saturating_add(1);
+    }
+    room
+}
+
 fn joined(alloc: Global, groups: &[Group<'_>]) -> Result<Vec<u8>, OutOfMemory>
     ensures { IfOk result (λ v. v.items ≡ joined groups.now) }
 {
-    let mut text = Vec::new(alloc);
+    let mut text = Vec::with_capacity(alloc, room_for(groups))?;
     if let [first, rest @ ..] = groups {
         text.extend_from_slice(first.bytes())?;
         push_spaced(&mut text, rest)?;

@@ -1,4 +1,7 @@
 ghost use Rattle.std.specs.Prelude.{◌≡◌, ◌+◌, ◌≤◌, ℕ, length, if◌then◌else◌, OnOk};
+ghost use Rattle.std.specs.Ordering.{nat_cmp};
+ghost use Rattle.std.specs.Cmp.Lexicographic.{slice_cmp};
+ghost use Rattle.call_json.specs.Forms.{FloorsRise};
 ghost use Rattle.decisions.specs.Floors as spec;
 ghost use Rattle.desk_state.specs.Requests as requests;
 
@@ -7,20 +10,21 @@ use desk_io::{Copied, OutOfMemory, Text};
 use std::alloc::Global;
 use std::cmp::Ordering;
 
-// The place of the first floor of a person of that name or of one that comes after it, and whether it is of that name.
+// The place of the floor of a person, or that at which it would stand, found by halves, and whether it is there.
 fn place_of(floors: &[Floor], actor: &[u8]) -> (usize, bool)
+    requires { FloorsRise floors.now }
     ensures within { result.0 + (if result.1 then 1 else 0) ≤ length floors.now }
     ensures place { (number : ℕ) → requests.raised_to actor.now number floors.now
         ≡ spec.raised_at result.0 result.1 actor.now number floors.now }
 {
-    for (i, floor) in floors.iter().enumerate() {
-        match actor.cmp(floor.actor.bytes()) {
-            Ordering::Less => return (i, false),
-            Ordering::Equal => return (i, true),
-            Ordering::Greater => {}
-        }
+    match floors.binary_search_by(
+        |floor: &Floor| -> Ordering
+            ensures { result ≡ slice_cmp nat_cmp floor.now.actor actor.entry.now }
+        { floor.actor.bytes().cmp(actor) },
+    ) {
+        Ok(i) => (i, true),
+        Err(i) => (i, false),
     }
-    (floors.len(), false)
 }
 
 /// Makes the floor of a person at least a number. The floors stay in byte order of the names.
@@ -30,6 +34,7 @@ pub(crate) fn raise(
     actor: &Text,
     number: u64,
 ) -> Result<(), OutOfMemory>
+    requires { FloorsRise floors.old.items }
     ensures { OnOk result (floors.new.items ≡ requests.raised_to actor.now number floors.old.items) }
 {
     let (place, found) = place_of(floors, actor.bytes());

@@ -1,5 +1,6 @@
-ghost use Rattle.std.specs.Prelude.{◌≡◌, ◌++◌, ℕ, length, IfOk, OnOk};
+ghost use Rattle.std.specs.Prelude.{◌≡◌, ◌++◌, ◌∷◌, [], ℕ, length, IfOk, OnOk};
 ghost use Rattle.std.specs.List.Sorted.{IsNonDecreasing};
+ghost use Rattle.call_json.specs.Forms.{FloorsRise};
 ghost use Rattle.desk_time.specs.Limits.{IsMoment};
 ghost use Rattle.desk_state.specs.Decide as spec;
 ghost use Rattle.desk_state.specs.Events as events;
@@ -11,7 +12,7 @@ ghost use Rattle.decisions.specs.Reads.{DecisionAdmitsRead};
 use crate::chain::Stop;
 use crate::floors::raise;
 use crate::retention::too_young;
-use asks::{Done, Floors, KeptReply};
+use asks::{Done, Floor, Floors, KeptReply};
 use desk_io::{Listed, OutOfMemory, copied_items};
 use desk_state::{Content, Decision, Effect};
 use desk_time::Minute;
@@ -107,6 +108,24 @@ fn count_before(before: Minute, kept: &[KeptReply]) -> u64
     count
 }
 
+// The floors once a reply is gone, where it was accepted before a moment.
+fn raise_by(
+    alloc: Global,
+    before: Minute,
+    floors: &mut Vec<Floor>,
+    reply: &KeptReply,
+) -> Result<(), OutOfMemory>
+    requires { FloorsRise floors.old.items }
+    ensures { OnOk result (floors.new.items
+        ≡ requests.raised_by (requests.kept_before before (reply.now ∷ [])) floors.old.items) }
+{
+    if is_since(before, reply) {
+        Ok(())
+    } else {
+        raise(alloc, floors, &reply.actor, reply.number)
+    }
+}
+
 // The floors once the replies that were accepted before a moment are gone.
 fn raised(alloc: Global, before: Minute, content: &Content) -> Result<Floors, OutOfMemory>
     ensures { IfOk result (λ floors. floors ≡ requests.raised_by
@@ -114,9 +133,7 @@ fn raised(alloc: Global, before: Minute, content: &Content) -> Result<Floors, Ou
 {
     let mut floors = copied_items(content.replies().floors(), alloc)?;
     for reply in content.replies().as_slice() {
-        if !is_since(before, reply) {
-            raise(alloc, &mut floors, &reply.actor, reply.number)?;
-        }
+        raise_by(alloc, before, &mut floors, reply)?;
     }
     Ok(Listed::from_vec(floors))
 }

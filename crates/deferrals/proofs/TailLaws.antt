@@ -1,5 +1,5 @@
 -- The open deferrals of an aircraft are those that the run of its number names.
-use Rattle.std.proofs.Common.{◌≡◌, refl, sym, ap, ◌∙◌, subst, ℕ, suc, ◌<◌, ◌≤◌, Bool, true, false, cond, ◌&&◌, ◌||◌, ◌==◌, not, eqb, nat_lt, nat_le, List, [], ◌∷◌, ◌++◌, length, filter, map, Less, Bor, arith, eqb-true, ltb-true, ltb-false}
+use Rattle.std.proofs.Common.{◌≡◌, refl, sym, ap, ◌∙◌, subst, ℕ, suc, ◌<◌, ◌≤◌, Bool, true, false, cond, ◌&&◌, ◌||◌, ◌==◌, not, eqb, nat_lt, nat_le, List, [], ◌∷◌, ◌++◌, length, get_or, filter, map, position, Some, Less, Bor, arith, eqb-true, ltb-true, ltb-false}
 use Rattle.std.specs.List.{AllByRecursion, list_any, remove}
 use Rattle.std.specs.List.Sorted.{IsStrictlySortedBy}
 use Rattle.std.specs.Map.{keys_of}
@@ -8,19 +8,21 @@ use Rattle.std.proofs.lemmas.Bool.{and_parts, ne_eqb}
 use Rattle.std.proofs.lemmas.Bool.Decides.{nat_tests}
 use Rattle.std.proofs.lemmas.List.{length-map}
 use Rattle.std.proofs.lemmas.List.Elements.{recursion_from_All}
+use Rattle.std.proofs.lemmas.List.Folds.{list_any-append}
 use Rattle.std.proofs.lemmas.List.Quantifiers.{all_pairs_push, all_pairs_remove}
 use Rattle.std.proofs.lemmas.List.Sums.{length-filter, count_by-le-length}
 use Rattle.std.proofs.lemmas.Slice.Eq.{bytes_eq-Decides}
 use Rattle.std.specs.Ordering.{is_eq}
 use Rattle.std.proofs.lemmas.Cmp.{tied_itself}
-use Rattle.desk_io.proofs.Each.{each_push, each_weaker}
+use Rattle.desk_io.proofs.Each.{each_weaker}
 use Rattle.sorted.specs.Keys.{is_held, pair_cmp}
 use Rattle.sorted.specs.Sorted.{within}
 use Rattle.sorted.proofs.PairLaws.{pair_at, pair_total, within_first, second_below}
 use Rattle.deferrals.specs.declared.items.Deferral.{Deferral}
 use Rattle.deferrals.specs.Held.{AreRising, IsNewest, has_id, without}
 use Rattle.deferrals.specs.Limits.{is_of, open_on}
-use Rattle.deferrals.specs.ByTail.{tail_number, key_of, entry_of, AreFound, open_as, open_by}
+use Rattle.deferrals.specs.ByTail.{tail_number, key_of, entry_of, AreKeysOf, open_as, open_by}
+use Rattle.deferrals.proofs.Without.{only_one, its_id}
 
 -- each is below all later ones, by recursion
 abbrev pub Rise : List Deferral → Type 0
@@ -107,6 +109,26 @@ either : (b c : Bool) → c ≡ true → (b || c) ≡ true
 either true c is = refl
 either false c is = is
 
+first_of : (b c : Bool) → b ≡ true → (b || c) ≡ true
+first_of true c is = refl
+first_of false c is = absurd cc
+
+own_held : (ds : List Deferral) → AllByRecursion (λ d. list_any (λ e. is_at (pair_cmp (key_of d)) (key_of e)) ds ≡ true) ds
+own_held [] = tt
+own_held (d ∷ ds) = (
+  first_of (is_at (pair_cmp (key_of d)) (key_of d)) (list_any (λ e. is_at (pair_cmp (key_of d)) (key_of e)) ds) (ap is_eq (tied_itself pair_total (key_of d))),
+  each_weaker (λ e. list_any (λ x. is_at (pair_cmp (key_of e)) (key_of x)) ds ≡ true) (λ e. list_any (λ x. is_at (pair_cmp (key_of e)) (key_of x)) (d ∷ ds) ≡ true)
+      (λ e held. either (is_at (pair_cmp (key_of e)) (key_of d)) (list_any (λ x. is_at (pair_cmp (key_of e)) (key_of x)) ds) held) ds (own_held ds),
+)
+
+-- the key of each is held
+abbrev AreFound : List (ℕ × ℕ) → List Deferral → Type 0
+AreFound keys ds = AllByRecursion (λ d. is_held pair_cmp (key_of d) keys ≡ true) ds
+
+are_found : (keys : List (ℕ × ℕ)) (ds : List Deferral) → AreKeysOf ds keys → AreFound keys ds
+are_found keys ds held =
+    each_weaker (λ d. list_any (λ e. is_at (pair_cmp (key_of d)) (key_of e)) ds ≡ true) (λ d. is_held pair_cmp (key_of d) keys ≡ true) (λ d own. held.each (key_of d) ∙ own) ds (own_held ds)
+
 module _ (n top : ℕ) where
   -- all of the run have that first number
   firsts : (keys : List (ℕ × ℕ)) → AllByRecursion (λ k. k.0 ≡ n) (filter (within pair_cmp (n, 0) (n, top)) keys)
@@ -158,58 +180,83 @@ module _ (n top : ℕ) where
   )
 
   -- the run names all open deferrals of the aircraft
-  pub found_on : (tail : List ℕ) (ds : List Deferral) (keys ks : List (ℕ × ℕ)) → AreRising ds → n ≡ tail_number tail → AllByRecursion (λ d. d.id ≤ top) ds → AreFound keys ds
+  pub found_on : (tail : List ℕ) (ds : List Deferral) (keys ks : List (ℕ × ℕ)) → AreRising ds → n ≡ tail_number tail → AllByRecursion (λ d. d.id ≤ top) ds → AreKeysOf ds keys
       → IsStrictlySortedBy pair_cmp ks → ks ≡ filter (within pair_cmp (n, 0) (n, top)) keys → open_by tail ds ks ≡ open_on tail ds
   found_on tail ds keys ks rising is least found sorted run =
       all_by tail ds ks (rise_from ds rising) (ids_rise ks sorted (subst (λ xs. AllByRecursion (λ k. k.0 ≡ n) xs) (sym run) (firsts keys)))
-      ∙ all_named tail ds ks (subst (λ xs. AllByRecursion (λ d. is_of tail d ≡ true → named xs d ≡ true) ds) (sym run) (each_named tail ds keys is least found))
+      ∙ all_named tail ds ks (subst (λ xs. AllByRecursion (λ d. is_of tail d ≡ true → named xs d ≡ true) ds) (sym run) (each_named tail ds keys is least (are_found keys ds found)))
 
-first_of : (b c : Bool) → b ≡ true → (b || c) ≡ true
-first_of true c is = refl
-first_of false c is = absurd cc
+-- One more is put in, all are listed, or one is taken: the keys are still those of the deferrals.
 
--- one more is found once its key is put in
-pub found_pushed : (keys fresh : List (ℕ × ℕ)) (ds all : List Deferral) (d : Deferral) (k : ℕ × ℕ) → AreFound keys ds
-    → ((q : ℕ × ℕ) → is_held pair_cmp q fresh ≡ (is_at (pair_cmp q) k || is_held pair_cmp q keys)) → k ≡ key_of d → all ≡ ds ++ d ∷ [] → AreFound fresh all
-found_pushed keys fresh ds all d k found each is pushed =
-    let old = each_weaker (λ e. is_held pair_cmp (key_of e) keys ≡ true) (λ e. is_held pair_cmp (key_of e) fresh ≡ true)
-    (λ e held. each (key_of e) ∙ either (is_at (pair_cmp (key_of e)) k) (is_held pair_cmp (key_of e) keys) held) ds found in
-    let here = ap (is_at (pair_cmp (key_of d))) is ∙ ap is_eq (tied_itself pair_total (key_of d)) in
-    subst (AreFound fresh) (sym pushed)
-    (each_push (λ e. is_held pair_cmp (key_of e) fresh ≡ true) ds d old (each (key_of d) ∙ first_of (is_at (pair_cmp (key_of d)) k) (is_held pair_cmp (key_of d) keys) here))
+last_first : (a b : Bool) → (a || b) ≡ (b || (a || false))
+last_first true true = refl
+last_first true false = refl
+last_first false true = refl
+last_first false false = refl
 
--- the keys of all of them
-listed_held : (ds : List Deferral) → AllByRecursion (λ d. is_held pair_cmp (key_of d) (keys_of (map entry_of ds)) ≡ true) ds
-listed_held [] = tt
-listed_held (d ∷ ds) = (
-  first_of (is_at (pair_cmp (key_of d)) (key_of d)) (is_held pair_cmp (key_of d) (keys_of (map entry_of ds))) (ap is_eq (tied_itself pair_total (key_of d))),
-  each_weaker (λ e. is_held pair_cmp (key_of e) (keys_of (map entry_of ds)) ≡ true) (λ e. is_held pair_cmp (key_of e) (keys_of (map entry_of (d ∷ ds))) ≡ true)
-      (λ e held. either (is_at (pair_cmp (key_of e)) (key_of d)) (is_held pair_cmp (key_of e) (keys_of (map entry_of ds))) held) ds (listed_held ds),
-)
+pub keys_pushed : (keys fresh : List (ℕ × ℕ)) (ds all : List Deferral) (d : Deferral) (k : ℕ × ℕ) → AreKeysOf ds keys
+    → ((q : ℕ × ℕ) → is_held pair_cmp q fresh ≡ (is_at (pair_cmp q) k || is_held pair_cmp q keys)) → k ≡ key_of d → all ≡ ds ++ d ∷ [] → AreKeysOf all fresh
+keys_pushed keys fresh ds all d k held put is pushed = subst (λ es. AreKeysOf es fresh) (sym pushed) (record {
+  each = λ q.
+      put q ∙ ap (λ b. is_at (pair_cmp q) k || b) (held.each q)
+      ∙ ap (λ j. is_at (pair_cmp q) j || list_any (λ e. is_at (pair_cmp q) (key_of e)) ds) is
+      ∙ last_first (is_at (pair_cmp q) (key_of d)) (list_any (λ e. is_at (pair_cmp q) (key_of e)) ds)
+      ∙ sym (list_any-append (λ e. is_at (pair_cmp q) (key_of e)) ds (d ∷ []));
+})
 
-pub found_listed : (keys : List (ℕ × ℕ)) (listed : List ((ℕ × ℕ) × Unit {0})) (ds : List Deferral) → listed ≡ map entry_of ds
-    → ((q : ℕ × ℕ) → is_held pair_cmp q keys ≡ is_held pair_cmp q (keys_of listed)) → AreFound keys ds
-found_listed keys listed ds is each =
-    each_weaker (λ d. is_held pair_cmp (key_of d) (keys_of (map entry_of ds)) ≡ true) (λ d. is_held pair_cmp (key_of d) keys ≡ true)
-    (λ d held. each (key_of d) ∙ ap (λ es. is_held pair_cmp (key_of d) (keys_of es)) is ∙ held) ds (listed_held ds)
+listed_held : (q : ℕ × ℕ) (ds : List Deferral) → is_held pair_cmp q (keys_of (map entry_of ds)) ≡ list_any (λ e. is_at (pair_cmp q) (key_of e)) ds
+listed_held q [] = refl
+listed_held q (d ∷ ds) = ap (λ b. is_at (pair_cmp q) (key_of d) || b) (listed_held q ds)
 
-still : (at a b c : Bool) → at ≡ (a && b) → b ≡ false → c ≡ true → (not at && c) ≡ true
-still at true b c is e h = rw (is ∙ e, h) refl
-still at false b c is e h = rw (is, h) refl
+pub keys_listed : (keys : List (ℕ × ℕ)) (listed : List ((ℕ × ℕ) × Unit {0})) (ds : List Deferral) → listed ≡ map entry_of ds
+    → ((q : ℕ × ℕ) → is_held pair_cmp q keys ≡ is_held pair_cmp q (keys_of listed)) → AreKeysOf ds keys
+keys_listed keys listed ds is each = record { each = λ q. each q ∙ ap (λ es. is_held pair_cmp q (keys_of es)) is ∙ listed_held q ds }
 
--- the others are found once the key of one is taken
-pub found_taken : (keys fresh : List (ℕ × ℕ)) (ds left : List Deferral) (n id : ℕ) → AreFound keys ds
-    → ((q : ℕ × ℕ) → is_held pair_cmp q fresh ≡ (not (is_at (pair_cmp q) (n, id)) && is_held pair_cmp q keys)) → left ≡ without id ds → AreFound fresh left
-found_taken keys fresh ds left n id found each gone = subst (AreFound fresh) (sym gone) (others ds found)
-  where
-    others : (es : List Deferral) → AreFound keys es → AreFound fresh (without id es)
-    others [] all = tt
-    others (d ∷ es) all = by (has_id id d) refl (others es all.1)
-      where
-        by : (b : Bool) → has_id id d ≡ b → AreFound fresh (without id es) → AreFound fresh (cond (not b) (d ∷ without id es) (without id es))
-        by true e rest = rest
-        by false e rest =
-            (each (key_of d) ∙ still (is_at (pair_cmp (key_of d)) (n, id)) (tail_number d.tail == n) (d.id == id) (is_held pair_cmp (key_of d) keys) (pair_at (key_of d) (n, id)) e all.0, rest)
+none_and : (b c : Bool) → c ≡ false → (b && c) ≡ false
+none_and true c e = e
+none_and false c e = refl
+
+its_key : (at c a w : Bool) → c ≡ at → (not at && a) ≡ w → (not at && (c || a)) ≡ w
+its_key true c a w e rest = rest
+its_key false c a w e rest = rw e rest
+
+other_key : (at c a w : Bool) → (c ≡ true → at ≡ false) → (not at && a) ≡ w → (not at && (c || a)) ≡ (c || w)
+other_key at true a w apart rest = rw (apart refl) refl
+other_key at false a w apart rest = rest
+
+module _ (q : ℕ × ℕ) (id : ℕ) (x : Deferral) (is_id : x.id ≡ id) where
+  apart : (d : Deferral) → has_id id d ≡ false → is_at (pair_cmp q) (key_of d) ≡ true → is_at (pair_cmp q) (key_of x) ≡ false
+  apart d e at =
+      let same : q.1 ≡ d.id = eqb-true q.1 d.id (and_parts (q.0 == tail_number d.tail) (q.1 == d.id) (sym (pair_at q (key_of d)) ∙ at)).1 in
+      pair_at q (key_of x) ∙ none_and (q.0 == tail_number x.tail) (q.1 == x.id) (ap (λ n. n == x.id) same ∙ ap (λ n. d.id == n) is_id ∙ e)
+
+  others : (ds : List Deferral) → AllByRecursion (λ d. has_id id d ≡ true → d ≡ x) ds
+      → (not (is_at (pair_cmp q) (key_of x)) && list_any (λ e. is_at (pair_cmp q) (key_of e)) ds) ≡ list_any (λ e. is_at (pair_cmp q) (key_of e)) (without id ds)
+  others [] all = none_and (not (is_at (pair_cmp q) (key_of x))) false refl
+  others (d ∷ ds) all = by (has_id id d) refl (others ds all.1)
+    where
+      by : (b : Bool) → has_id id d ≡ b
+          → (not (is_at (pair_cmp q) (key_of x)) && list_any (λ e. is_at (pair_cmp q) (key_of e)) ds) ≡ list_any (λ e. is_at (pair_cmp q) (key_of e)) (without id ds)
+          → (not (is_at (pair_cmp q) (key_of x)) && (is_at (pair_cmp q) (key_of d) || list_any (λ e. is_at (pair_cmp q) (key_of e)) ds))
+          ≡ list_any (λ e. is_at (pair_cmp q) (key_of e)) (cond (not b) (d ∷ without id ds) (without id ds))
+      by true e rest =
+          its_key (is_at (pair_cmp q) (key_of x)) (is_at (pair_cmp q) (key_of d)) (list_any (λ y. is_at (pair_cmp q) (key_of y)) ds) (list_any (λ y. is_at (pair_cmp q) (key_of y)) (without id ds))
+          (ap (λ y. is_at (pair_cmp q) (key_of y)) (all.0 e)) rest
+      by false e rest =
+          other_key (is_at (pair_cmp q) (key_of x)) (is_at (pair_cmp q) (key_of d)) (list_any (λ y. is_at (pair_cmp q) (key_of y)) ds) (list_any (λ y. is_at (pair_cmp q) (key_of y)) (without id ds))
+          (apart d e) rest
+
+pub keys_taken : (keys fresh : List (ℕ × ℕ)) (ds left : List Deferral) (id i : ℕ) (x : Deferral) (k : ℕ × ℕ) → AreRising ds → position (has_id id) ds ≡ Some i → get_or ds i x ≡ x → k ≡ key_of x → AreKeysOf ds keys
+    → ((q : ℕ × ℕ) → is_held pair_cmp q fresh ≡ (not (is_at (pair_cmp q) k) && is_held pair_cmp q keys)) → left ≡ without id ds → AreKeysOf left fresh
+keys_taken keys fresh ds left id i x k rising at is of_it held each gone = subst (λ es. AreKeysOf es fresh) (sym gone) (record {
+  each = λ q.
+      each q ∙ ap (λ j. not (is_at (pair_cmp q) j) && is_held pair_cmp q keys) of_it
+      ∙ ap (λ b. not (is_at (pair_cmp q) (key_of x)) && b) (held.each q)
+      ∙ others q id x (its_id id ds i x at is) ds (recursion_from_All (λ d. has_id id d ≡ true → d ≡ x) ds (only_one id ds i x rising at is));
+})
+
+pub no_keys : (ds : List Deferral) (keys : List (ℕ × ℕ)) → ds ≡ [] → keys ≡ [] → AreKeysOf ds keys
+no_keys ds keys none empty = record { each = λ q. ap (list_any (is_at (pair_cmp q))) empty ∙ sym (ap (list_any (λ e. is_at (pair_cmp q) (key_of e))) none) }
 
 -- ids still rise with a newer one at the end, and without one
 pub rising_pushed : (ds seen all : List Deferral) (d : Deferral) → AreRising ds → ds ≡ seen → IsNewest d.id seen → all ≡ ds ++ d ∷ [] → AreRising all

@@ -1,10 +1,10 @@
 -- A list without the one element of an id.
-use Rattle.std.proofs.Common.{◌≡◌, ◌≢◌, ℕ, zero, suc, ◌<◌, Bool, true, false, not, cond, nat_lt, List, [], ◌∷◌, length, get_or, refl, ap, sym, ◌∙◌, arith, ltb-false, Option, Some, None, is_some, IfNone, IfSome, inl, inr}
+use Rattle.std.proofs.Common.{◌≡◌, ◌≢◌, ℕ, zero, suc, ◌<◌, Bool, true, false, not, cond, eqb, eqb-true, eq-eqb, nat_lt, List, [], ◌∷◌, length, get_or, refl, ap, sym, ◌∙◌, arith, ltb-false, Option, Some, None, is_some, IfNone, IfSome, inl, inr}
 use Rattle.std.specs.List.{All, find, slice_get, filter, remove, position, position_or_len, list_any}
 use Rattle.std.proofs.lemmas.Bool.Decides.{nat_tests}
 use Rattle.std.proofs.lemmas.Bool.{cases_lt}
 use Rattle.std.proofs.lemmas.List.Elements.{All-head, All-tail}
-use Rattle.std.proofs.lemmas.Option.{slice_get_past}
+use Rattle.std.proofs.lemmas.Option.{get_or_from_slice_get, slice_get-get_or, slice_get_past}
 use Rattle.std.proofs.lemmas.List.Folds.{find_at, list_any_none, list_any_at}
 use Rattle.std.proofs.lemmas.List.Sums.{fails_before_first}
 use Rattle.std.proofs.lemmas.List.Quantifiers.{position-Some}
@@ -59,6 +59,17 @@ passes id list i rising h k d within ne =
     let here : has_id id (get_or list i d) ≡ true = (position-Some (has_id id) list i d h).1 in
     let other : (get_or list k d).id ≢ (get_or list i d).id = different list i k d rising i_within within ne in
     grind (arith, nat_tests)
+
+-- of deferrals whose ids rise only the one at a place has its id
+pub only_one : (id : ℕ) (list : List Deferral) (i : ℕ) (x : Deferral) → AreRising list → position (has_id id) list ≡ Some i → get_or list i x ≡ x → All (λ d. has_id id d ≡ true → d ≡ x) list
+only_one id list i x rising at is k d within has = by (eqb k i) refl
+  where
+    by : (b : Bool) → eqb k i ≡ b → get_or list k d ≡ x
+    by true e = ap (λ j. get_or list j d) (eqb-true k i e) ∙ get_or_from_slice_get list i x d (slice_get-get_or list i x (found_within (has_id id) list i at) ∙ ap Some is)
+    by false e = absurd (let other = passes id list i rising at k d within (λ same. let t = eq-eqb k i same in cc) in let not_it = ap not has in cc)
+
+pub its_id : (id : ℕ) (list : List Deferral) (i : ℕ) (x : Deferral) → position (has_id id) list ≡ Some i → get_or list i x ≡ x → x.id ≡ id
+its_id id list i x at is = eqb-true x.id id (ap (has_id id) (sym is) ∙ (position-Some (has_id id) list i x at).1)
 
 -- what the place of an id says of a list whose ids rise
 pub place_answer : (id : ℕ) (list : List Deferral) (place : Option ℕ) → place ≡ position (has_id id) list

@@ -1,6 +1,7 @@
 -- How the open deferrals of an aircraft are found without going over all.
-use Rattle.std.specs.Prelude.{◌≡◌, ℕ, ◌+◌, ◌*◌, ◌%◌, ◌^◌, ◌&&◌, true, List, [], ◌∷◌, ◌++◌, filter, if◌then◌else◌, Option, None, Some}
-use Rattle.std.specs.List.{AllByRecursion}
+use Rattle.std.specs.Prelude.{◌≡◌, ℕ, ◌+◌, ◌*◌, ◌%◌, ◌^◌, ◌&&◌, List, [], ◌∷◌, ◌++◌, filter, if◌then◌else◌, Option, None, Some}
+use Rattle.std.specs.List.{list_any}
+use Rattle.std.specs.BTreeMap.{is_at}
 use Rattle.sorted.specs.Keys.{is_held, pair_cmp}
 use Rattle.deferrals.specs.declared.items.Deferral.{Deferral}
 use Rattle.deferrals.specs.Held.{has_id}
@@ -22,9 +23,9 @@ key_of deferral = (tail_number deferral.tail, deferral.id)
 abbrev pub entry_of : Deferral → (ℕ × ℕ) × Unit {0}
 entry_of deferral = (key_of deferral, tt)
 
--- the key of each deferral is held
-abbrev pub AreFound : List (ℕ × ℕ) → List Deferral → Type 0
-AreFound keys list = AllByRecursion (λ deferral. is_held pair_cmp (key_of deferral) keys ≡ true) list
+-- there is a key for exactly each deferral
+pub record AreKeysOf (list : List Deferral) (keys : List (ℕ × ℕ)) : Type 0 where
+  pub each : (q : ℕ × ℕ) → is_held pair_cmp q keys ≡ list_any (λ deferral. is_at (pair_cmp q) (key_of deferral)) list
 
 -- the deferral of that id, where it is one of the aircraft
 abbrev pub open_as : List ℕ → ℕ → List Deferral → List Deferral

@@ -3,7 +3,7 @@ ghost use Rattle.std.specs.List.{slice_get};
 ghost use Rattle.std.specs.Map.{keys_of};
 ghost use Rattle.std.specs.Option.{option_copied};
 ghost use Rattle.deferrals.specs.ByTail as spec;
-ghost use Rattle.deferrals.specs.ByTail.{AreFound};
+ghost use Rattle.deferrals.specs.ByTail.{AreKeysOf};
 ghost use Rattle.deferrals.specs.Held.{AreRising, has_id};
 ghost use Rattle.deferrals.specs.Limits.{is_of, open_on};
 
@@ -51,7 +51,7 @@ fn listed_keys(alloc: Global, held: &[Deferral]) -> Result<Vec<(TailKey, ())>, O
 
 /// The keys of deferrals, which are sorted once.
 pub(crate) fn all_keys(alloc: Global, held: &[Deferral]) -> Result<Keys<TailKey>, OutOfMemory>
-    ensures { IfOk result (λ keys. AreFound keys.keys held.now) }
+    ensures { IfOk result (λ keys. AreKeysOf held.now keys.keys) }
 {
     Ok(Keys::from_vec(listed_keys(alloc, held)?))
 }
@@ -137,7 +137,7 @@ fn last_id(held: &[Deferral]) -> u64
     }
 }
 
-/// The open deferrals of an aircraft, in order of their ids, where the key of each is held.
+/// The open deferrals of an aircraft, in order of their ids, by their keys.
 pub(crate) fn open_among<'a>(
     alloc: Global,
     held: &'a [Deferral],
@@ -145,7 +145,7 @@ pub(crate) fn open_among<'a>(
     tail: &[u8],
 ) -> Result<Vec<&'a Deferral>, OutOfMemory>
     requires rising { AreRising held.now }
-    requires found { AreFound by_tail.now.keys held.now }
+    requires keys { AreKeysOf held.now by_tail.now.keys }
     ensures { IfOk result (λ v. map (λ d. d.now) v.items ≡ open_on tail.now held.now) }
 {
     let number = tail_number(tail);

@@ -1,12 +1,10 @@
-ghost use Rattle.std.specs.Prelude.{◌≡◌, ◌≤◌, ◌<◌, ◌++◌, ◌∷◌, [], length, map, true, false, find, remove, is_some, IfNone, IfSome, IfOk, OnOk, OnErr};
+ghost use Rattle.std.specs.Prelude.{◌≡◌, ◌≤◌, ◌<◌, ◌++◌, ◌∷◌, [], length, map, true, false, find, position, remove, is_some, IfNone, IfSome, IfOk, OnOk, OnErr};
 ghost use Rattle.std.specs.List.{list_any};
 ghost use Rattle.std.specs.Option.{option_copied};
 ghost use Rattle.deferrals.specs.Held.{AreRising, IsNewest, has_id, without};
 ghost use Rattle.deferrals.specs.Limits.{open_on};
 
-use crate::by_tail::{
-    TailKey, all_keys, deferral_of, key_of, open_among, position_of, tail_number,
-};
+use crate::by_tail::{TailKey, all_keys, deferral_of, key_of, open_among, position_of};
 use crate::items::Deferral;
 use desk_io::OutOfMemory;
 use sorted::Keys;
@@ -21,14 +19,14 @@ pub const DEFERRAL_LIMIT: usize = 50_000;
 #[derive(Drop)]
 pub struct Deferrals {
     held: Vec<Deferral>,
-    // the keys of all of them
+    // A key for each.
     by_tail: Keys<TailKey>,
     room: bool,
 }
 
 impl Model for Deferrals {
     ghost use Rattle.std.specs.Prelude.{◌≡◌, ◌≤◌, ◌<◌, true, vec_len, vec_capacity};
-    ghost use Rattle.deferrals.specs.ByTail.{AreFound};
+    ghost use Rattle.deferrals.specs.ByTail.{AreKeysOf};
     ghost use Rattle.deferrals.specs.Held.{OpenDeferrals, AreRising};
 
     ghost Value = { OpenDeferrals };
@@ -36,13 +34,14 @@ impl Model for Deferrals {
     ghost view = { λ d. record { list = d.held.items; room = d.room } };
 
     ghost invariant = { λ d. (vec_len d.held ≤ 50_000) × AreRising d.held.items
-        × AreFound d.by_tail.keys d.held.items × (d.room ≡ true → 1 ≤ d.by_tail.room)
+        × AreKeysOf d.held.items d.by_tail.keys × (d.room ≡ true → 1 ≤ d.by_tail.room)
         × (d.room ≡ true → vec_len d.held < vec_capacity d.held) };
 }
 
 // The place of the one with that id.
 fn place_of(held: &[Deferral], id: u64) -> Option<usize>
     requires { AreRising held.now }
+    ensures place { result ≡ position (has_id id) held.now }
     ensures answer { list_any (has_id id) held.now ≡ is_some result }
     ensures none { IfNone result (without id held.now ≡ held.now) }
     ensures found { IfSome result (λ i. (i < length held.now) × (without id held.now ≡ remove held.now i)) }
@@ -141,7 +140,7 @@ impl Deferrals {
             None => false,
             Some(place) => {
                 let gone = self.held.remove(place);
-                let _ = self.by_tail.take(&(tail_number(gone.tail.bytes()), id));
+                let _ = self.by_tail.take(&key_of(&gone));
                 true
             }
         }

@@ -34,7 +34,7 @@ use Rattle.held_releases.proofs.RunLaws.{last_above}
 
 -- The first of some minutes after a moment is one of them.
 
-abbrev has_minute : List ℕ → ℕ → Bool
+abbrev pub has_minute : List ℕ → ℕ → Bool
 has_minute minutes due = list_any (λ m. m == due) minutes
 
 of_lesser : (a b : Option ℕ) (due : ℕ) (P : Type 0) → lesser a b ≡ Some due → (a ≡ Some due → P) → (b ≡ Some due → P) → P
@@ -53,7 +53,7 @@ after_is moment minute due is = by (nat_lt moment minute) refl is
     by true e is = let same : minute ≡ due = grind (arith, is) in (same, let less = ltb-true moment minute e in omega (arith, less, same))
     by false e is = absurd cc
 
-first_among : (moment : ℕ) (minutes : List ℕ) (due : ℕ) → first_after moment minutes ≡ Some due → (has_minute minutes due ≡ true) × (moment < due)
+pub first_among : (moment : ℕ) (minutes : List ℕ) (due : ℕ) → first_after moment minutes ≡ Some due → (has_minute minutes due ≡ true) × (moment < due)
 first_among moment [] due is = absurd cc
 first_among moment (minute ∷ minutes) due is =
     of_lesser (cond (nat_lt moment minute) (Some minute) None) (first_after moment minutes) due ((has_minute (minute ∷ minutes) due ≡ true) × (moment < due)) is
@@ -61,7 +61,7 @@ first_among moment (minute ∷ minutes) due is =
     (λ later. let it = first_among moment minutes due later in (or_right (minute == due) (has_minute minutes due) it.0, it.1))
 
 -- and its key is among those of the minutes
-minutes_have : (id due : ℕ) (keys : List (ℕ × ℕ)) (minutes : List ℕ) → has_minute minutes due ≡ true → is_held key_cmp (due, id) (minutes_onto id keys minutes) ≡ true
+pub minutes_have : (id due : ℕ) (keys : List (ℕ × ℕ)) (minutes : List ℕ) → has_minute minutes due ≡ true → is_held key_cmp (due, id) (minutes_onto id keys minutes) ≡ true
 minutes_have id due keys [] is = absurd cc
 minutes_have id due keys (minute ∷ minutes) is = by (minute == due) (minutes_have id due (keys ++ (minute, id) ∷ []) minutes) refl is
   where
@@ -130,18 +130,18 @@ module _ (settings : Settings) (moment minute : ℕ) where
       let same : Some one ≡ Some two = sym first ∙ second in
       grind (arith, same)
 
-  module _ (top : ℕ) (list : List Release) (rising : AreRising id_of list) (is_top : top ≡ id_or_none (slice_get list (length list - 1))) where
+  module _ (first top : ℕ) (next : first ≤ moment + 1) (list : List Release) (rising : AreRising id_of list) (is_top : top ≡ id_or_none (slice_get list (length list - 1))) where
     abbrev run : ℕ × ℕ → Bool
-    run = within key_cmp (moment, 0) (minute, top)
+    run = within key_cmp (first, 0) (minute, top)
 
-    run_is : (k : ℕ × ℕ) → run k ≡ (nat_le moment k.0 && (nat_lt k.0 minute || ((k.0 == minute) && nat_le k.1 top)))
+    run_is : (k : ℕ × ℕ) → run k ≡ (nat_le first k.0 && (nat_lt k.0 minute || ((k.0 == minute) && nat_le k.1 top)))
     run_is k = grind (arith, nat_tests)
 
     early : (k : ℕ × ℕ) → run k ≡ true → k.0 ≤ minute
     early k is = let e = sym (run_is k) ∙ is in grind (arith, nat_tests, e)
 
     inside : (due id : ℕ) → moment < due → due ≤ minute → id ≤ top → run (due, id) ≡ true
-    inside due id later within least = run_is (due, id) ∙ grind (arith, nat_tests, later, within, least)
+    inside due id later within least = run_is (due, id) ∙ grind (arith, nat_tests, next, later, within, least)
 
     complete : AllByRecursion (λ r. touched_by settings moment minute r ≡ true → Leads (dues_onto settings) run (λ k r. due_at settings moment k.0 r) r) list
     complete =

@@ -7,3 +7,6 @@ pub mod EntryLaws
 pub mod RunLaws
 pub mod HeldLaws
 pub mod DueLaws
+pub mod BeginLaws
+pub mod FoundLaws
+pub mod TellLaws

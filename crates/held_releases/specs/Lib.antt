@@ -1,7 +1,9 @@
 pub mod Touched
+pub mod Tells
 pub mod Bounds
 pub mod Changes
 pub mod Entries
 pub mod Index
+pub mod Found
 pub mod Chosen
 pub mod Releases

@@ -1,4 +1,5 @@
-ghost use Rattle.std.specs.Prelude.{◌≡◌, ◌≤◌, ◌&&◌, ◌||◌, not, length, ℕ, IfOk};
+ghost use Rattle.std.specs.Prelude.{◌≡◌, ◌≤◌, ◌||◌, length, ℕ, IfOk};
+ghost use Rattle.std.specs.Map.{keys_of};
 ghost use Rattle.facts.specs.Index.{key_cmp};
 ghost use Rattle.sorted.specs.Keys.{is_held};
 
@@ -8,17 +9,6 @@ use std::alloc::Global;
 
 /// A number of what touches a release, and the release's id.
 pub(crate) type Key = (u64, u64);
-
-/// Takes keys out of a set. It takes no memory.
-pub(crate) fn leave(held: &mut Keys<Key>, leaving: &[Key])
-    ensures each { (q : ℕ × ℕ) → is_held key_cmp q held.new.keys
-        ≡ (not (is_held key_cmp q leaving.now) && is_held key_cmp q held.old.keys) }
-    ensures room { held.old.room ≤ held.new.room }
-{
-    for key in leaving {
-        let _ = held.take(key);
-    }
-}
 
 /// Puts keys into a set that has room for them. It takes no memory.
 pub(crate) fn enter(held: &mut Keys<Key>, coming: &[Key])
@@ -31,14 +21,21 @@ pub(crate) fn enter(held: &mut Keys<Key>, coming: &[Key])
     }
 }
 
-/// The set of some keys. They are put in by their order, each at the end.
-pub(crate) fn set_of(alloc: Global, mut keys: Vec<Key>) -> Result<Keys<Key>, OutOfMemory>
-    ensures { IfOk result (λ set. (q : ℕ × ℕ) → is_held key_cmp q set.keys
-        ≡ is_held key_cmp q keys.items) }
+// The keys as entries without values.
+fn entries_of(alloc: Global, keys: &[Key]) -> Result<Vec<(Key, ())>, OutOfMemory>
+    ensures { IfOk result (λ entries. keys_of entries.items ≡ keys.now) }
 {
-    keys.sort_unstable();
-    let mut set = Keys::new(alloc);
-    set.reserve(keys.as_slice().len())?;
-    enter(&mut set, keys.as_slice());
-    Ok(set)
+    let mut entries = Vec::with_capacity(alloc, keys.len())?;
+    for key in keys {
+        entries.push((*key, ()))?;
+    }
+    Ok(entries)
+}
+
+/// The set of some keys, which are sorted once.
+pub(crate) fn set_of(alloc: Global, keys: &[Key]) -> Result<Keys<Key>, OutOfMemory>
+    ensures { IfOk result (λ set. (q : ℕ × ℕ) → is_held key_cmp q set.keys ≡ is_held key_cmp q keys.now) }
+{
+    let entries = entries_of(alloc, keys)?;
+    Ok(Keys::from_vec(entries))
 }

@@ -1,6 +1,7 @@
 ghost use Rattle.std.specs.Prelude.{◌≡◌, ◌≤◌, ◌&&◌, ◌||◌, [], length, not, ℕ, IfOk, IfSome, OnOk};
 ghost use Rattle.std.specs.List.{AllByRecursion};
 ghost use Rattle.std.specs.Option.{option_copied};
+ghost use Rattle.std.specs.BTreeMap.{is_at};
 ghost use Rattle.facts.specs.Index.{key_cmp};
 ghost use Rattle.sorted.specs.Keys.{is_held};
 ghost use Rattle.held_releases.specs.Bounds.{ReleaseInBounds};
@@ -11,7 +12,7 @@ ghost use Rattle.held_releases.specs.Index.{IsIndexOf, IsMove};
 
 use crate::change::OnReleases;
 use crate::entries::{push_dues, push_stations, push_tail};
-use crate::keys::{Key, enter, leave, set_of};
+use crate::keys::{Key, enter, set_of};
 use desk_io::OutOfMemory;
 use ops_tables::Settings;
 use plan::Release;
@@ -89,7 +90,7 @@ fn all_keys(
     Ok(keys)
 }
 
-/// The index of releases.
+/// The index of releases. Their keys are sorted once.
 pub(crate) fn index_of(
     alloc: Global,
     by: By,
@@ -99,7 +100,8 @@ pub(crate) fn index_of(
     requires { AllByRecursion ReleaseInBounds list.now }
     ensures { IfOk result (λ set. IsIndexOf (spec.onto_by by settings) set.keys list.now) }
 {
-    set_of(alloc, all_keys(alloc, by, settings, list)?)
+    let keys = all_keys(alloc, by, settings, list)?;
+    set_of(alloc, keys.as_slice())
 }
 
 // The release that a change takes away, or puts another in the place of.
@@ -140,12 +142,35 @@ pub(crate) fn move_of(
     Ok(Move { leaving, coming })
 }
 
-/// Takes the keys that leave out of an index that has room for those that come, and puts these in. It takes no memory.
+// Takes a key out of an index, but where it comes. It takes no memory.
+fn leave_unless(index: &mut Keys<Key>, key: &Key, coming: &[Key])
+    ensures each { (q : ℕ × ℕ) → is_held key_cmp q index.new.keys
+        ≡ ((not (is_at (key_cmp q) key.now) || is_held key_cmp q coming.now) && is_held key_cmp q index.old.keys) }
+    ensures room { index.old.room ≤ index.new.room }
+{
+    if !coming.contains(key) {
+        let _ = index.take(key);
+    }
+}
+
+// Takes keys out of an index, but for those that come. It takes no memory.
+fn leave_others(index: &mut Keys<Key>, leaving: &[Key], coming: &[Key])
+    ensures each { (q : ℕ × ℕ) → is_held key_cmp q index.new.keys
+        ≡ ((not (is_held key_cmp q leaving.now) || is_held key_cmp q coming.now) && is_held key_cmp q index.old.keys) }
+    ensures room { index.old.room ≤ index.new.room }
+{
+    for key in leaving {
+        leave_unless(index, key, coming);
+    }
+}
+
+/// Takes the keys that leave out of an index that has room for those that come, and puts these in. Keys that leave and
+/// come stay where they are. It takes no memory.
 pub(crate) fn turn(index: &mut Keys<Key>, by: &Move)
     requires { length by.now.coming.items ≤ index.old.room }
     ensures { (q : ℕ × ℕ) → is_held key_cmp q index.new.keys ≡ (is_held key_cmp q by.now.coming.items
         || (not (is_held key_cmp q by.now.leaving.items) && is_held key_cmp q index.old.keys)) }
 {
-    leave(index, &by.leaving);
+    leave_others(index, &by.leaving, &by.coming);
     enter(index, &by.coming);
 }

@@ -4,8 +4,11 @@ ghost use Rattle.std.specs.Option.{option_copied};
 ghost use Rattle.sorted.specs.ById.{AreRising};
 ghost use Rattle.held_releases.specs.Bounds.{ReleaseInBounds};
 ghost use Rattle.held_releases.specs.Changes.{MayChange, release_at, releases_after};
+ghost use Rattle.held_releases.specs.Found.{FindsBy};
+ghost use Rattle.held_releases.specs.Index.{IsIndexOf, onto_by};
 ghost use Rattle.held_releases.specs.Releases as spec;
 ghost use Rattle.held_releases.specs.Releases.{AreHeld, IsReady};
+ghost use Rattle.held_releases.specs.Tells.{TellsAt, TellsBy, TellsOn};
 ghost use Rattle.held_releases.specs.Touched.{held_where, is_among, touched_at, touched_by, touched_on};
 
 use crate::change::OnReleases;
@@ -134,6 +137,26 @@ fn install(
 }
 
 impl Releases {
+    // The index by one thing or another.
+    fn keys(&self, by: By) -> &Keys<Key>
+        ensures { IsIndexOf (onto_by by self.now.settings) result.now.keys self.now.list }
+    {
+        match by {
+            By::Station => &self.stations,
+            By::Tail => &self.tails,
+            By::Due => &self.dues,
+        }
+    }
+
+    // That index: a key is in it exactly where one of the releases is found by it, as it is active, has the key's id
+    // and names the station or has the aircraft of that number, or a rule of time begins to fail for it at that minute.
+    fn index(&self, by: By) -> &Keys<Key>
+        ensures keys { IsIndexOf (onto_by by self.now.settings) result.now.keys self.now.list }
+        ensures found { FindsBy by self.now.settings result.now.keys self.now.list }
+    {
+        self.keys(by)
+    }
+
     /// No releases, and no room. It takes no memory.
     pub fn new(alloc: Global, settings: Settings) -> Releases
         ensures { result ≡ spec.held_of settings [] }
@@ -249,28 +272,35 @@ impl Releases {
         }
     }
 
-    /// Adds the ids of the releases that a station touches, each once. They are found by halves.
+    /// Adds the ids of the releases that a station touches, each once: those that are active, and whose active plan
+    /// has it in a leg that isn't flown. They are found by halves.
+    #[tactic(auto, using(crate::proofs::TellLaws::tells_at))]
     pub fn push_touched_at(&self, ids: &mut Vec<u64>, station: Station) -> Result<(), OutOfMemory>
         ensures touched { OnOk result ((id : ℕ) → is_among ids.new.items id
             ≡ (is_among ids.old.items id || held_where (touched_at station) id self.now.list)) }
         ensures few { OnOk result (length ids.new.items
             ≤ length ids.old.items + length (filter (touched_at station) self.now.list)) }
+        ensures tells { TellsAt station }
     {
-        find_at(ids, &self.held, &self.stations, station)
+        find_at(ids, &self.held, self.index(By::Station), station)
     }
 
-    /// Adds the ids of the releases that an aircraft touches, each once. They are found by halves.
+    /// Adds the ids of the releases that an aircraft touches, each once: those that are active, and whose active plan
+    /// is flown by it. They are found by halves.
+    #[tactic(auto, using(crate::proofs::TellLaws::tells_on))]
     pub fn push_touched_on(&self, ids: &mut Vec<u64>, tail: &[u8]) -> Result<(), OutOfMemory>
         ensures touched { OnOk result ((id : ℕ) → is_among ids.new.items id
             ≡ (is_among ids.old.items id || held_where (touched_on tail.now) id self.now.list)) }
         ensures few { OnOk result (length ids.new.items
             ≤ length ids.old.items + length (filter (touched_on tail.now) self.now.list)) }
+        ensures tells { TellsOn tail.now }
     {
-        find_on(ids, &self.held, &self.tails, tail)
+        find_on(ids, &self.held, self.index(By::Tail), tail)
     }
 
-    /// Adds the ids of the releases for which a rule of time begins to fail after a moment and not later than a minute,
-    /// each once. They are found by halves.
+    /// Adds the ids of the active releases for which a rule of time begins to fail after a moment and not later than a
+    /// minute, each once. They are found by halves.
+    #[tactic(auto, using(crate::proofs::TellLaws::tells_by))]
     pub fn push_touched_by(
         &self,
         ids: &mut Vec<u64>,
@@ -281,7 +311,15 @@ impl Releases {
             ≡ (is_among ids.old.items id || held_where (touched_by self.now.settings moment minute) id self.now.list)) }
         ensures few { OnOk result (length ids.new.items
             ≤ length ids.old.items + length (filter (touched_by self.now.settings moment minute) self.now.list)) }
+        ensures tells { TellsBy self.now.settings moment minute }
     {
-        find_by(ids, &self.held, &self.dues, self.settings, moment, minute)
+        find_by(
+            ids,
+            &self.held,
+            self.index(By::Due),
+            self.settings,
+            moment,
+            minute,
+        )
     }
 }

@@ -202,7 +202,7 @@ pub(crate) fn find_on(
 }
 
 /// Adds the ids of the releases for which a rule of time begins to fail after a moment and not later than a minute.
-/// They are found in their index.
+/// They are found in their index, in the run of its keys that begins with the next minute.
 pub(crate) fn find_by(
     ids: &mut Vec<u64>,
     held: &ById<Release>,
@@ -219,11 +219,12 @@ pub(crate) fn find_by(
         ≤ length ids.old.items + length (filter (touched_by settings moment minute) held.now.list)) }
 {
     let _ = index.as_slice();
+    let first = moment.saturating_add(1);
     let last = last_id(held.as_slice());
     push_by(
         ids,
         held,
-        index.run(&(moment, 0), &(minute, last)),
+        index.run(&(first, 0), &(minute, last)),
         settings,
         moment,
     )

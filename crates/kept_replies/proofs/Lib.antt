@@ -1,4 +1,6 @@
-pub mod KeyOrder
+pub mod SetLaws
+pub mod PersonLaws
 pub mod FoundLaws
 pub mod FloorLaws
+pub mod AskedLaws
 pub mod HeldLaws

@@ -35,6 +35,10 @@ has_id id k = k.id == id
 pub record AreKeysOf (kept : List KeptReply) (keys : List Key) : Type 0 where
   pub each : (q : Key) → is_held key_cmp q keys ≡ list_any (λ k. is_at (key_cmp q) (key_of k)) kept
 
+-- under each fingerprint there is a key for exactly each reply
+pub record AreKeysUnder (kept : List KeptReply) (under : ℕ → List Key) : Type 0 where
+  pub each : (q : Key) → is_held key_cmp q (under q.0) ≡ list_any (λ k. is_at (key_cmp q) (key_of k)) kept
+
 -- the key of a request under a number by someone whose name has that fingerprint
 abbrev pub is_under : ℕ → ℕ → Key → Bool
 is_under mark number key = (key.0 == mark) && (key.1 == number)

@@ -1,3 +1,4 @@
 pub mod Requests
 pub mod Index
+pub mod ByPerson
 pub mod Replies

@@ -3,7 +3,8 @@ use Rattle.std.specs.Prelude.{ℕ, ◌≤◌, Bool, true, false, IsTrue, List, [
 use Rattle.asks.specs.declared.kept.Floor.{Floor}
 use Rattle.asks.specs.declared.kept.KeptReply.{KeptReply}
 use Rattle.kept_replies.specs.Requests.{FloorsRise, is_since}
-use Rattle.kept_replies.specs.Index.{Key, AreKeysOf}
+use Rattle.kept_replies.specs.ByPerson.{PersonKeys, keys_under}
+use Rattle.kept_replies.specs.Index.{AreKeysUnder}
 
 pub record HeldReplies : Type 0 where
   -- in order of their ids
@@ -30,7 +31,7 @@ abbrev pub with_swept : ℕ → List Floor → HeldReplies → HeldReplies
 with_swept before floors r = record { list = filter (is_since before) r.list; floors = floors; room = r.room }
 
 -- The keys are those of the replies, the floors rise, and where there is room, each vector has it.
-pub record AreHeld (kept : List KeptReply) (kept_room : ℕ) (keys : List Key) (keys_room : ℕ) (floors : List Floor) (room : Bool) : Type 0 where
-  pub index : AreKeysOf kept keys
+pub record AreHeld (kept : List KeptReply) (kept_room : ℕ) (keys : PersonKeys) (floors : List Floor) (room : Bool) : Type 0 where
+  pub index : AreKeysUnder kept (keys_under keys)
   pub floors_rise : FloorsRise floors
-  pub has_room : IsTrue room → (1 ≤ kept_room) × (1 ≤ keys_room)
+  pub has_room : IsTrue room → (1 ≤ kept_room) × IsTrue keys.room

@@ -4,14 +4,15 @@ ghost use Rattle.sorted.specs.ById.{AreRising};
 ghost use Rattle.kept_replies.specs.Index.{id_of};
 ghost use Rattle.kept_replies.specs.Replies as spec;
 ghost use Rattle.kept_replies.specs.Requests as asked;
-ghost use Rattle.kept_replies.specs.Requests.{FloorsRise};
+ghost use Rattle.kept_replies.specs.Requests.{FloorsRise, IsFoundFor, IsToldOf};
 
+use crate::by_person::ByPerson;
 use crate::floors::floor_at;
-use crate::requests::{all_keys, keep_leading, keep_since, kept_at, key_of};
+use crate::requests::{keep_since, kept_at, key_of, keys_by_person};
 use asks::{Floor, Floors, KeptReply};
 use desk_io::{Listed, OutOfMemory};
 use desk_time::Minute;
-use sorted::{ById, Keys};
+use sorted::ById;
 use std::alloc::Global;
 use std::marker::Model;
 
@@ -22,7 +23,7 @@ use std::marker::Model;
 pub struct Replies {
     held: ById<KeptReply>,
     // A key for each reply.
-    requests: Keys<(u64, u64, u64)>,
+    requests: ByPerson,
     floors: Floors,
     room: bool,
 }
@@ -34,7 +35,7 @@ impl Model for Replies {
 
     ghost view = { λ r. record { list = r.held.list; floors = r.floors; room = r.room } };
 
-    ghost invariant = { λ r. AreHeld r.held.list r.held.room r.requests.keys r.requests.room r.floors r.room };
+    ghost invariant = { λ r. AreHeld r.held.list r.held.room r.requests r.floors r.room };
 }
 
 impl Replies {
@@ -44,7 +45,7 @@ impl Replies {
     {
         Replies {
             held: ById::new(alloc),
-            requests: Keys::new(alloc),
+            requests: ByPerson::new(alloc),
             floors: Listed::new(alloc),
             room: false,
         }
@@ -60,7 +61,7 @@ impl Replies {
         requires floors { FloorsRise floors }
         ensures { IfOk result (λ r. r ≡ spec.replies_of kept.items floors) }
     {
-        let requests = all_keys(alloc, kept.as_slice())?;
+        let requests = keys_by_person(alloc, kept.as_slice())?;
         Ok(Replies {
             held: ById::from_vec(kept),
             requests,
@@ -109,25 +110,27 @@ impl Replies {
 
     /// What is kept of the request of a person under a number. It is found by halves, and takes no memory.
     pub fn kept_at(&self, actor: &[u8], number: u64) -> Option<&KeptReply>
-        ensures { option_copied result ≡ asked.kept_at actor.now number self.now.list }
+        ensures value { option_copied result ≡ asked.kept_at actor.now number self.now.list }
+        ensures found { IsFoundFor actor.now number self.now.list (option_copied result) }
     {
         kept_at(&self.held, &self.requests, actor, number)
     }
 
     /// The floor of a person. It is found by halves, and takes no memory.
     pub fn floor_at(&self, actor: &[u8]) -> Option<u64>
-        ensures { result ≡ asked.floor_at actor.now self.now.floors }
+        ensures value { result ≡ asked.floor_at actor.now self.now.floors }
+        ensures told { IsToldOf actor.now self.now.floors result }
     {
         floor_at(self.floors.as_slice(), actor)
     }
 
     /// Makes room for one more reply.
-    pub fn reserve(&mut self) -> Result<(), OutOfMemory>
+    pub fn reserve(&mut self, alloc: Global) -> Result<(), OutOfMemory>
         ensures ok { OnOk result (self.new ≡ spec.with_room self.old) }
         ensures err { OnErr result (self.new ≡ self.old) }
     {
         self.held.reserve(1)?;
-        self.requests.reserve(1)?;
+        self.requests.reserve(alloc)?;
         self.room = true;
         Ok(())
     }
@@ -151,7 +154,7 @@ impl Replies {
     {
         let _ = self.held.as_slice();
         keep_since(&mut self.held, before);
-        keep_leading(&mut self.requests, &self.held);
+        self.requests.keep_leading(&self.held);
         self.floors = floors;
     }
 }

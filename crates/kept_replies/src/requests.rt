@@ -3,10 +3,12 @@ ghost use Rattle.std.specs.List.{find};
 ghost use Rattle.std.specs.Map.{keys_of};
 ghost use Rattle.std.specs.Option.{option_copied};
 ghost use Rattle.kept_replies.specs.Index as spec;
-ghost use Rattle.kept_replies.specs.Index.{AreKeysOf, entry_of, has_id, leads_to};
+ghost use Rattle.kept_replies.specs.Index.{AreKeysOf, AreKeysUnder, entry_of, has_id, leads_to};
+ghost use Rattle.kept_replies.specs.ByPerson.{keys_under};
 ghost use Rattle.kept_replies.specs.Requests as asked;
 ghost use Rattle.kept_replies.specs.Requests.{is_since};
 
+use crate::by_person::ByPerson;
 use asks::KeptReply;
 use desk_io::OutOfMemory;
 use desk_time::Minute;
@@ -65,11 +67,11 @@ fn first_to<'a>(
 /// What is kept of the request of a person under a number, found by halves.
 pub(crate) fn kept_at<'a>(
     kept: &'a ById<KeptReply>,
-    requests: &Keys<(u64, u64, u64)>,
+    requests: &ByPerson,
     actor: &[u8],
     number: u64,
 ) -> Option<&'a KeptReply>
-    requires { AreKeysOf kept.now.list requests.now.keys }
+    requires { AreKeysUnder kept.now.list (keys_under requests.now) }
     ensures { option_copied result ≡ asked.kept_at actor.now number kept.now.list }
 {
     let _ = kept.as_slice();
@@ -91,11 +93,11 @@ pub(crate) fn keep_since(kept: &mut ById<KeptReply>, before: Minute)
 }
 
 /// Takes away the keys that lead to no reply.
-pub(crate) fn keep_leading(requests: &mut Keys<(u64, u64, u64)>, kept: &ById<KeptReply>)
-    ensures keys { requests.new.keys ≡ filter (leads_to kept.now.list) requests.old.keys }
-    ensures room { requests.old.room ≤ requests.new.room }
+pub(crate) fn keep_leading(set: &mut Keys<(u64, u64, u64)>, kept: &ById<KeptReply>)
+    ensures keys { set.new.keys ≡ filter (leads_to kept.now.list) set.old.keys }
+    ensures room { set.old.room ≤ set.new.room }
 {
-    requests.retain(
+    set.retain(
         |entry: &((u64, u64, u64), ())| -> bool
             ensures { result ≡ leads_to kept.entry.now.list entry.now.0 }
         {
@@ -115,13 +117,18 @@ fn listed_keys(alloc: Global, kept: &[KeptReply]) -> Result<Vec<((u64, u64, u64)
     Ok(keys)
 }
 
-/// The keys of replies.
-pub(crate) fn all_keys(
-    alloc: Global,
-    kept: &[KeptReply],
-) -> Result<Keys<(u64, u64, u64)>, OutOfMemory>
+// The keys of replies, each once.
+fn all_keys(alloc: Global, kept: &[KeptReply]) -> Result<Keys<(u64, u64, u64)>, OutOfMemory>
     ensures { IfOk result (λ requests. AreKeysOf kept.now requests.keys) }
 {
     let keys = listed_keys(alloc, kept)?;
     Ok(Keys::from_vec(keys))
+}
+
+/// The keys of replies by person. They are sorted once, so that each comes at the end of its set.
+pub(crate) fn keys_by_person(alloc: Global, kept: &[KeptReply]) -> Result<ByPerson, OutOfMemory>
+    ensures { IfOk result (λ requests. AreKeysUnder kept.now (keys_under requests)) }
+{
+    let keys = all_keys(alloc, kept)?;
+    ByPerson::from_keys(alloc, keys.as_slice())
 }

@@ -59,10 +59,9 @@ fn first_due(times: &Times, legs: &[Leg]) -> Option<Minute>
     least
 }
 
-/// The least minute after a moment at which a rule of time begins to fail by those settings, as `next_due` has it. It
-/// takes no memory.
+// The least minute after a moment at which a rule of time begins to fail. It takes no memory.
 #[tactic(auto, using(crate::proofs::NextDue::first_is_next))]
-pub fn next_due_by(plan: &Plan, phase: Phase, settings: Settings, moment: Minute) -> Option<Minute>
+fn due_in(plan: &Plan, phase: Phase, settings: Settings, moment: Minute) -> Option<Minute>
     requires plan { IsPlan plan.now }
     requires phase { HasMoment phase }
     ensures { result ≡ spec.next_due plan.now phase settings moment }
@@ -76,19 +75,23 @@ pub fn next_due_by(plan: &Plan, phase: Phase, settings: Settings, moment: Minute
     first_due(&times, plan.legs.as_slice())
 }
 
-fn due_in(plan: &Plan, phase: Phase, tables: &Tables, moment: Minute) -> Option<Minute>
-    requires plan { IsPlan plan.now }
-    requires phase { HasMoment phase }
-    ensures { result ≡ spec.next_due plan.now phase tables.now.settings moment }
-{
-    next_due_by(plan, phase, tables.settings(), moment)
-}
-
 /// The least minute after a moment at which a rule of time begins to fail for a plan in a phase: a domestic flight
 /// has then stopped for more than an hour (14 CFR 121.593) or a flag flight for more than six (14 CFR 121.595), and
 /// hasn't been released again, or the next leg departs or the leg in flight arrives later than the settings allow.
 /// There is none where none will begin to fail. Until then a judgement by the same reports and deferrals finds the
 /// same, and the same minute is next. It takes no memory.
+pub fn next_due_by(plan: &Plan, phase: Phase, settings: Settings, moment: Minute) -> Option<Minute>
+    requires plan { IsPlan plan.now }
+    requires phase { HasMoment phase }
+    ensures value { result ≡ spec.next_due plan.now phase settings moment }
+    ensures due { IsNextDue plan.now phase settings moment result }
+    ensures stays { Stays plan.now phase settings moment result }
+    ensures lasts { Lasts plan.now phase settings moment result }
+{
+    due_in(plan, phase, settings, moment)
+}
+
+/// `next_due_by` the settings of the tables.
 pub fn next_due(plan: &Plan, phase: Phase, tables: &Tables, moment: Minute) -> Option<Minute>
     requires plan { IsPlan plan.now }
     requires phase { HasMoment phase }
@@ -97,7 +100,7 @@ pub fn next_due(plan: &Plan, phase: Phase, tables: &Tables, moment: Minute) -> O
     ensures stays { Stays plan.now phase tables.now.settings moment result }
     ensures lasts { Lasts plan.now phase tables.now.settings moment result }
 {
-    due_in(plan, phase, tables, moment)
+    next_due_by(plan, phase, tables.settings(), moment)
 }
 
 fn push_past(minutes: &mut Listed<Minute>, limit: Option<Limit>) -> Result<(), OutOfMemory>

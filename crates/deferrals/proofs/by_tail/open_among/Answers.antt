@@ -10,5 +10,5 @@ returns c =
     let ds = c.args.held.now in
     let run = c.run-run in
     let law = found_on c.tail_number-number.result c.last_id.result c.args.tail.now ds c.args.by_tail.now.keys (keys_of run.result.now) c.requires.rising c.tail_number-number.ensures
-    (rw c.last_id.ensures (last_above ds c.requires.rising)) c.requires.found run.ensures.sorted run.ensures.value in
+    (rw c.last_id.ensures (last_above ds c.requires.rising)) c.requires.keys run.ensures.sorted run.ensures.value in
     IfOk-weaker c.open_by.result _ _ (λ v is. is ∙ law) c.open_by.ensures

@@ -1,15 +1,12 @@
-use Rattle.std.proofs.Common.{sym, subst}
+use Rattle.std.proofs.Common.{subst}
 use Rattle.rules.specs.Due.{IsNextDue, Stays, Lasts}
-use Rattle.rules.proofs.NextDue.{next_due_is, lasts}
-use Rattle.rules.proofs.UntilDue.{stays}
 use Rattle.rules.proofs.due.next_due.Goals as goal
 
 pub returns-clause-due : goal.returns-clause-due
-returns-clause-due c = subst (IsNextDue c.args.plan.now c.args.phase c.args.tables.now.settings c.args.moment) (sym c.due_in.ensures) (next_due_is _ _ _ _)
+returns-clause-due c = subst (λ settings. IsNextDue c.args.plan.now c.args.phase settings c.args.moment c.next_due_by.result) c.settings.ensures.value c.next_due_by.ensures.due
 
 pub returns-clause-stays : goal.returns-clause-stays
-returns-clause-stays c =
-    subst (Stays c.args.plan.now c.args.phase c.args.tables.now.settings c.args.moment) (sym c.due_in.ensures) (stays _ _ _ _ _ (next_due_is _ _ _ _))
+returns-clause-stays c = subst (λ settings. Stays c.args.plan.now c.args.phase settings c.args.moment c.next_due_by.result) c.settings.ensures.value c.next_due_by.ensures.stays
 
 pub returns-clause-lasts : goal.returns-clause-lasts
-returns-clause-lasts c = subst (Lasts c.args.plan.now c.args.phase c.args.tables.now.settings c.args.moment) (sym c.due_in.ensures) (lasts _ _ _ _)
+returns-clause-lasts c = subst (λ settings. Lasts c.args.plan.now c.args.phase settings c.args.moment c.next_due_by.result) c.settings.ensures.value c.next_due_by.ensures.lasts
