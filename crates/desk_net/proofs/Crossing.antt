@@ -21,5 +21,5 @@ MemoryDoor_send = search (sendable, crosses) depth 60 fits 5000
 pub SystemClock_send : (R : RattleType) → IsSend R → IsSend (system.the_row R)
 SystemClock_send R r = search (sendable, crosses) depth 60 fits 5000
 
-pub TcpLink_send : (S : RattleType) → IsSend S → IsSend (tcp.the_row S)
-TcpLink_send S s = search (sendable, crosses) depth 60 fits 5000
+pub TcpLink_send : (S C : RattleType) → IsSend S → IsSend C → IsSend (tcp.the_row S C)
+TcpLink_send S C s c = search (sendable, crosses) depth 60 fits 5000

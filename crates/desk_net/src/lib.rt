@@ -14,4 +14,4 @@ pub use memory_door::MemoryDoor;
 pub use memory_link::MemoryLink;
 pub use outside::{Clock, Door, Link};
 pub use system_clock::SystemClock;
-pub use tcp::{TcpDoor, TcpLink};
+pub use tcp::{END_BYTES, END_SECONDS, TcpDoor, TcpLink, WAIT_SECONDS};

@@ -100,6 +100,14 @@ impl Link for MemoryLink {
         Ok(())
     }
 
+    // It does nothing.
+    fn end(&mut self)
+        ensures same { link_seen self.new ≡ link_seen self.old }
+        ensures cut { self.new.cut ≡ self.old.cut }
+        ensures fail { self.new.calls.fail.items ≡ self.old.calls.fail.items }
+        ensures calls { self.new.calls.made ≡ self.old.calls.made }
+    {}
+
     fn faults(&self) -> u64 {
         self.calls.faults()
     }

@@ -53,6 +53,11 @@ pub trait Link {
         ensures on { LinkGoesOn (seen self.old) (seen self.new) }
         ensures cause { HasCause PutFailed (seen self.old).health (seen self.new).health result };
 
+    /// Ends the connection once nothing more is to be written, so that all that was written arrives. It changes nothing
+    /// that is told, and what fails in it is no fault, since no bytes are asked for.
+    fn end(&mut self)
+        ensures same { seen self.new ≡ seen self.old };
+
     /// How often it has failed. The count never falls.
     fn faults(&self) -> u64
         ensures { result ≡ (seen self.now).health.faults };

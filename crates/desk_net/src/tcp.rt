@@ -1,4 +1,4 @@
-ghost use Rattle.std.specs.Prelude.{◌≡◌, ◌<◌, ◌≤◌, length, None, Some, IsSome, IsSomeAnd, IfOk, IsOk, IsErr, OnOk, OnErr};
+ghost use Rattle.std.specs.Prelude.{◌≡◌, ◌<◌, ◌≤◌, false, true, length, None, Some, IsSome, IsSomeAnd, IfOk, IsOk, IsErr, OnOk, OnErr};
 ghost use Rattle.std.specs.Io.KnownBytes.{Appends, ReadConsumes};
 ghost use Rattle.desk_io.specs.Health.{GoesOn, GoesOnWhere, HasCause, HasFailed, HasFailedWhere, unsound};
 ghost use Rattle.desk_net.specs.System.{IsLocal, port_at};
@@ -6,9 +6,57 @@ ghost use Rattle.desk_io.specs.declared.faults.PutFault.TheVariants.{Failed as P
 
 use crate::{Door, Link};
 use desk_io::{Failed, OutOfMemory, PutFault, counted};
-use std::io;
 use std::io::{Read, Write};
-use std::net::{Ipv4Addr, Net, OpenListener, SocketAddr, SocketAddrV4, TcpListener};
+use std::net::{
+    Ipv4Addr, Net, OpenListener, OpenStream, Shutdown, SocketAddr, SocketAddrV4, TcpListener,
+};
+use std::time::{Duration, Instant};
+use std::{io, time};
+
+/// How many seconds a read or a write of a link waits for its peer.
+pub const WAIT_SECONDS: u64 = 30;
+
+/// How many seconds a link that ends goes on reading.
+pub const END_SECONDS: u64 = 2;
+
+/// How many bytes a link that ends drops before it reads no more.
+pub const END_BYTES: usize = 4_194_304;
+
+// A read or a write that waits longer is an error of the stream.
+fn limit_waits<S: OpenStream>(stream: &S) -> io::Result<()> {
+    let limit = Duration::from_secs(WAIT_SECONDS);
+    stream.set_read_timeout(Some(limit))?;
+    stream.set_write_timeout(Some(limit))
+}
+
+// How many bytes came in one read, which are dropped; none at the stream's end.
+fn drop_some<S: Read>(stream: &mut S) -> io::Result<usize> {
+    let mut into = [0; 4_096];
+    stream.read(&mut into)
+}
+
+// Reads on until the peer has ended too, and drops what comes, within both limits.
+fn drop_rest<S: Read + OpenStream, C: time::Clock>(stream: &mut S, clock: &C) -> io::Result<()> {
+    let start = Instant::now(clock)?;
+    let mut room = END_BYTES;
+    while room > 0 {
+        let rest = Duration::from_secs(END_SECONDS).saturating_sub(start.elapsed(clock)?);
+        // where no time is left this is an error
+        stream.set_read_timeout(Some(rest))?;
+        let count = drop_some(stream)?;
+        if count == 0 {
+            return Ok(());
+        }
+        room = room.saturating_sub(count);
+    }
+    Ok(())
+}
+
+// Ends the writing, so that the peer sees the end behind all that was written, and then the reading.
+fn end_stream<S: Read + OpenStream, C: time::Clock>(stream: &mut S, clock: &C) -> io::Result<()> {
+    stream.shutdown(Shutdown::Write)?;
+    drop_rest(stream, clock)
+}
 
 fn read_some<S: Read>(stream: &mut S, into: &mut [u8]) -> io::Result<usize>
     ensures bound { IfOk result (λ n. n ≤ length into.old) }
@@ -24,25 +72,33 @@ fn write_out<S: Write>(stream: &mut S, bytes: &[u8]) -> io::Result<()>
     stream.write_all(bytes)
 }
 
-/// A connection over TCP (RFC 9293). It tells nothing of its bytes, and each error is a counted fault. The
-/// connection is closed where the link is dropped. A read and a write may wait for the peer without limit. It
-/// takes no memory.
+/// A connection over TCP (RFC 9293). It tells nothing of its bytes, and each error is a counted fault, as is a read
+/// or a write that waits for the peer for more than `WAIT_SECONDS`. The connection is closed where the link is dropped.
+/// It takes no memory.
 #[derive(Drop)]
-pub struct TcpLink<S: Read + Write + Drop> {
+pub struct TcpLink<S: Read + Write + OpenStream + Drop, C: time::Clock + Drop> {
     stream: S,
+    clock: C,
+    ended: bool,
     faults: u64,
 }
 
-impl<S: Read + Write + Drop> TcpLink<S> {
-    /// A link over an open stream.
-    pub fn new(stream: S) -> Self
-        ensures { result.faults ≡ 0 }
+impl<S: Read + Write + OpenStream + Drop, C: time::Clock + Drop> TcpLink<S, C> {
+    /// A link over an open stream, whose limits of time it sets. An error says that they can't be set.
+    pub fn new(stream: S, clock: C) -> io::Result<Self>
+        ensures { IfOk result (λ link. (link.faults ≡ 0) × (link.ended ≡ false)) }
     {
-        TcpLink { stream, faults: 0 }
+        limit_waits(&stream)?;
+        Ok(TcpLink {
+            stream,
+            clock,
+            ended: false,
+            faults: 0,
+        })
     }
 }
 
-impl<S: Read + Write + Drop> Link for TcpLink<S> {
+impl<S: Read + Write + OpenStream + Drop, C: time::Clock + Drop> Link for TcpLink<S, C> {
     ghost seen = { λ l. record { stream = None; health = unsound l.faults } };
 
     fn read(&mut self, into: &mut [u8]) -> Result<usize, Failed>
@@ -67,6 +123,20 @@ impl<S: Read + Write + Drop> Link for TcpLink<S> {
         match counted(answer, &mut self.faults) {
             Ok(()) => Ok(()),
             Err(Failed) => Err(PutFault::Failed),
+        }
+    }
+
+    // It ends its writing, reads on and drops what comes until the peer ends too, for at most `END_SECONDS` and until
+    // `END_BYTES` have come: a connection that is closed while bytes are on their way is reset, and what was written is
+    // lost to a peer that still sends. A second call does nothing, and an error is no fault.
+    fn end(&mut self)
+        ensures faults { self.new.faults ≡ self.old.faults }
+        ensures ended { self.new.ended ≡ true }
+        ensures once { self.old.ended ≡ true → self.new.stream ≡ self.old.stream }
+    {
+        if !self.ended {
+            self.ended = true;
+            let _ = end_stream(&mut self.stream, &self.clock);
         }
     }
 
@@ -99,14 +169,14 @@ fn listen<R: Net>(net: &R, at: SocketAddr) -> io::Result<(R::Listener, SocketAdd
 /// is a counted fault, as is an accept at a door that isn't open. An accept may wait for a caller without limit.
 /// It takes no memory.
 #[derive(Drop)]
-pub struct TcpDoor<R: Net + Drop> {
+pub struct TcpDoor<R: Net + time::Clock + Copy> {
     net: R,
     listener: Option<R::Listener>,
     at: Option<SocketAddr>,
     faults: u64,
 }
 
-impl<R: Net + Drop> TcpDoor<R> {
+impl<R: Net + time::Clock + Copy> TcpDoor<R> {
     /// A door that isn't open yet.
     pub fn new(net: R) -> Self
         ensures faults { result.faults ≡ 0 }
@@ -132,18 +202,19 @@ impl<R: Net + Drop> TcpDoor<R> {
         Ok(())
     }
 
-    fn next_stream(&self) -> io::Result<R::Stream>
+    fn next_link(&self) -> io::Result<TcpLink<R::Stream, R>>
         ensures shut { self.now.listener ≡ None → IsErr result }
+        ensures fresh { IfOk result (λ link. link.faults ≡ 0) }
     {
         match &self.listener {
             None => Err(io::Error::from(io::ErrorKind::NotConnected)),
-            Some(listener) => Ok(listener.accept()?.0),
+            Some(listener) => TcpLink::new(listener.accept()?.0, self.net),
         }
     }
 }
 
-impl<R: Net + Drop> Door for TcpDoor<R> {
-    type Link = TcpLink<R::Stream>;
+impl<R: Net + time::Clock + Copy> Door for TcpDoor<R> {
+    type Link = TcpLink<R::Stream, R>;
 
     ghost seen = { λ d. record { links = None; opened_at = port_at d.at; health = unsound d.faults } };
 
@@ -160,26 +231,24 @@ impl<R: Net + Drop> Door for TcpDoor<R> {
         counted(answer, &mut self.faults)
     }
 
-    fn accept(&mut self) -> Result<TcpLink<R::Stream>, Failed>
+    fn accept(&mut self) -> Result<TcpLink<R::Stream, R>, Failed>
         ensures on { GoesOnWhere (Unit {0}) (unsound self.old.faults) (unsound self.new.faults) }
         ensures cause { OnErr result (HasFailedWhere (Unit {0}) (unsound self.old.faults) (unsound self.new.faults)) }
         ensures at { self.new.at ≡ self.old.at }
         ensures shut { self.old.listener ≡ None → IsErr result }
         ensures fresh { IfOk result (λ link. link.faults ≡ 0) }
     {
-        let answer = self.next_stream();
-        match counted(answer, &mut self.faults) {
-            Ok(stream) => Ok(TcpLink::new(stream)),
-            Err(Failed) => Err(Failed),
-        }
+        let answer = self.next_link();
+        counted(answer, &mut self.faults)
     }
 
-    // It closes the connection, and takes no memory.
-    fn done(&mut self, _link: TcpLink<R::Stream>) -> Result<(), OutOfMemory>
+    // It ends the link, where that wasn't done, and closes the connection. It takes no memory.
+    fn done(&mut self, mut link: TcpLink<R::Stream, R>) -> Result<(), OutOfMemory>
         ensures at { self.new.at ≡ self.old.at }
         ensures health { unsound self.new.faults ≡ unsound self.old.faults }
         ensures always { IsOk result }
     {
+        link.end();
         Ok(())
     }
 

@@ -1,10 +1,11 @@
 use desk_io::{OutOfMemory, PutFault};
-use desk_net::{Door, Link, MemoryDoor, MemoryLink, TcpDoor};
+use desk_net::{Door, END_SECONDS, Link, MemoryDoor, MemoryLink, TcpDoor, TcpLink, WAIT_SECONDS};
 use std::alloc::Global;
-use std::io;
 use std::io::{Read, Write};
 use std::net::{Ipv4Addr, Net, OpenStream, Shutdown, TcpStream};
 use std::test::Fail;
+use std::time::{Duration, Instant};
+use std::{io, time};
 
 fn link_of(alloc: Global, input: &[u8]) -> Result<MemoryLink, OutOfMemory> {
     let input = Vec::from_slice(alloc, input)?;
@@ -43,7 +44,7 @@ fn a_door_gives_its_links_in_order(rt: HostRuntime) -> Result<(), Fail> {
 }
 
 // Opens the door at the first port that is free, of forty.
-fn open<R: Net + Drop>(door: &mut TcpDoor<R>) -> Option<u16> {
+fn open<R: Net + time::Clock + Copy>(door: &mut TcpDoor<R>) -> Option<u16> {
     for port in 28_461..28_501 {
         if door.bind(port).is_ok() {
             return Some(port);
@@ -107,5 +108,53 @@ fn a_link_ends_and_fails_as_its_caller_goes(rt: HostRuntime) -> Result<(), Fail>
     assert!(rt; link.read(&mut into) == Ok(0) && link.read(&mut into) == Ok(0));
     drop(caller);
     assert!(rt; fails_at_last(&mut link) && link.faults() == 1);
+    Ok(())
+}
+
+#[test]
+fn a_link_waits_half_a_minute_for_its_caller(rt: HostRuntime) -> Result<(), Fail> {
+    let mut door = TcpDoor::new(&rt);
+    let Some(port) = open(&mut door) else {
+        panic!(rt; "no port is free");
+    };
+    let stream = TcpStream::connect(&rt, (Ipv4Addr::LOCALHOST, port))?;
+    let twin = stream.try_clone()?;
+    assert!(rt; twin.read_timeout()? == None && twin.write_timeout()? == None);
+    let _link = TcpLink::new(stream, &rt)?;
+    let limit = Some(Duration::from_secs(WAIT_SECONDS));
+    assert!(rt; twin.read_timeout()? == limit && twin.write_timeout()? == limit);
+    Ok(())
+}
+
+// Of what this caller sends a few bytes are read before it gets its answer and the connection ends.
+#[test]
+fn a_caller_that_still_sends_gets_its_answer(rt: HostRuntime) -> Result<(), Fail> {
+    let mut door = TcpDoor::new(&rt);
+    let Some(port) = open(&mut door) else {
+        panic!(rt; "no port is free");
+    };
+    let mut caller = call(&rt, port, &[b'a'; 20_000])?;
+    assert!(rt; echo(&mut door) && door.faults() == 0);
+    let mut heard = Vec::new(rt.alloc());
+    caller.read_to_end(&mut heard)?;
+    assert!(rt; heard.as_slice() == b"aaaa".as_slice());
+    Ok(())
+}
+
+#[test]
+fn a_silent_caller_holds_the_end_for_two_seconds(rt: HostRuntime) -> Result<(), Fail> {
+    let mut door = TcpDoor::new(&rt);
+    let Some(port) = open(&mut door) else {
+        panic!(rt; "no port is free");
+    };
+    let mut caller = TcpStream::connect(&rt, (Ipv4Addr::LOCALHOST, port))?;
+    caller.write_all(b"word".as_slice())?;
+    let start = Instant::now(&rt)?;
+    assert!(rt; echo(&mut door));
+    let held = start.elapsed(&rt)?.as_secs();
+    assert!(rt; END_SECONDS - 1 <= held && held <= END_SECONDS + 8);
+    let mut heard = Vec::new(rt.alloc());
+    caller.read_to_end(&mut heard)?;
+    assert!(rt; heard.as_slice() == b"word".as_slice());
     Ok(())
 }

@@ -2,7 +2,9 @@ use desk_io::{Failed, PutFault};
 use desk_net::{Link, MemoryLink, TcpLink};
 use std::io;
 use std::io::{Read, Write};
+use std::net::OpenStream;
 use std::test::Fail;
+use std::time::Duration;
 
 // Whether a read gives those bytes.
 fn gives<L: Link>(link: &mut L, room: usize, want: Option<&[u8]>) -> bool {
@@ -36,11 +38,20 @@ fn a_link_gives_its_input_in_pieces(rt: HostRuntime) -> Result<(), Fail> {
 }
 
 // A stream that gives "ab", then fails, then gives "c", then ends. It takes two bytes a call, and fails at the
-// fourth.
+// fourth. It can limit how long a read waits, and may be unable to limit a write.
 #[derive(Drop)]
 struct Stumbling {
     reads: u8,
     writes: u8,
+    limits_writes: bool,
+}
+
+fn made(limits_writes: bool) -> Stumbling {
+    Stumbling {
+        reads: 0,
+        writes: 0,
+        limits_writes,
+    }
 }
 
 impl Read for Stumbling {
@@ -74,12 +85,24 @@ impl Write for Stumbling {
     }
 }
 
+impl OpenStream for Stumbling {
+    fn set_read_timeout(&self, _limit: Option<Duration>) -> io::Result<()> {
+        Ok(())
+    }
+
+    fn set_write_timeout(&self, _limit: Option<Duration>) -> io::Result<()> {
+        if self.limits_writes {
+            Ok(())
+        } else {
+            Err(io::Error::from(io::ErrorKind::Unsupported))
+        }
+    }
+}
+
 #[test]
-fn an_error_of_the_stream_is_a_fault(rt: HostRuntime) {
-    let mut link = TcpLink::new(Stumbling {
-        reads: 0,
-        writes: 0,
-    });
+fn an_error_of_the_stream_is_a_fault(rt: HostRuntime) -> Result<(), Fail> {
+    assert!(rt; TcpLink::new(made(false), &rt).is_err());
+    let mut link = TcpLink::new(made(true), &rt)?;
     assert!(rt; gives(&mut link, 16, Some(b"ab".as_slice())));
     assert!(rt; gives(&mut link, 16, None));
     assert!(rt; link.faults() == 1);
@@ -89,5 +112,8 @@ fn an_error_of_the_stream_is_a_fault(rt: HostRuntime) {
     assert!(rt; link.write(b"6789".as_slice()) == Err(PutFault::Failed));
     assert!(rt; link.faults() == 2);
     assert!(rt; link.write(b"".as_slice()) == Ok(()));
+    // its end can't be told, which is no fault
+    link.end();
     assert!(rt; link.faults() == 2);
+    Ok(())
 }
