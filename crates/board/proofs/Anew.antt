@@ -1,5 +1,5 @@
 -- A state that records stand for, once it is judged, and its rows.
-use Rattle.std.proofs.Common.{◌≡◌, ℕ, inl, inr, List, [], ◌∷◌, ◌++◌, map, Option, None, Some, refl, sym, ap, ◌∙◌, subst}
+use Rattle.std.proofs.Common.{◌≡◌, ℕ, Bool, inl, inr, List, [], ◌∷◌, ◌++◌, map, Option, None, Some, refl, sym, ap, ◌∙◌, subst}
 use Rattle.std.specs.List.{AllByRecursion}
 use Rattle.desk_io.specs.Rows.{Rows, rows_of, changed_by}
 use Rattle.desk_io.specs.declared.rows.Change.{Change}
@@ -121,9 +121,9 @@ pub judged_holds : (s : State) (changes : List AlertChange) (events : ℕ) → M
 judged_holds s changes events may is counted =
     subst (λ (n : ℕ). Holds (with_judged changes n s)) (sym counted) (subst Holds (sym (is_reopened s changes may is)) (board_holds (reopened s) (reopened s) (reopened_board s may)))
 
-pub judged_leads : (s : State) (h : Held) (changes : List AlertChange) (events : ℕ) → MayReopen s → changes ≡ alert_changes nothing s → events ≡ events_with changes s.counters.events
-    → h ≡ held (with_judged changes events s) None → h.state ≡ reopened s
-judged_leads s h changes events may is counted leads =
+pub judged_leads : (s : State) (h : Held) (changes : List AlertChange) (events : ℕ) (listed : Bool) → MayReopen s → changes ≡ alert_changes nothing s → events ≡ events_with changes s.counters.events
+    → h ≡ held (with_judged changes events s) None listed → h.state ≡ reopened s
+judged_leads s h changes events listed may is counted leads =
     ap (λ (k : Held). k.state) leads ∙ ap (λ (n : ℕ). with_judged changes n s) counted ∙ is_reopened s changes may is
 
 -- ---- the board that is made of it

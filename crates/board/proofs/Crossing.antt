@@ -1,7 +1,7 @@
 -- The board, and what it holds, may go to another thread.
 use denote.RattleType.{RattleType}
 use denote.Param.{value_of}
-use denote.Param.Send.{IsSend, sendable, struct_send}
+use denote.Param.Send.{IsSend, owning_send, sendable, struct_send}
 use denote.Struct.Declared.{shape}
 use Rattle.std.proofs.Crossing.{crosses}
 use Rattle.std.proofs.MapsCrossing as maps
@@ -48,6 +48,8 @@ use Rattle.held_releases.specs.contracts.releases.Releases as Releases
 use Rattle.kept_replies.specs.contracts.replies.Replies as Replies
 use Rattle.desk_state.specs.contracts.entry.What as What
 use Rattle.desk_state.specs.contracts.entry.Entry as Entry
+use Rattle.desk_state.specs.contracts.past.Past as Past
+use Rattle.desk_state.specs.contracts.history.History as History
 use Rattle.desk_state.specs.contracts.counters.Counters as Counters
 use Rattle.desk_state.specs.contracts.holdings.Holdings as Holdings
 use Rattle.desk_state.specs.contracts.content.Content as Content
@@ -135,6 +137,12 @@ What_field_send = search (sendable, crosses, Call_field_send, Reply_field_send) 
 Entry_send : IsSend Entry.the_row
 Entry_send = search (sendable, crosses, What_field_send) depth 60 fits 9000
 
+Past_send : IsSend Past.the_row
+Past_send = owning_send Past.the_type tt (λ d. tt) (λ k x w. tt)
+
+History_field_send : IsSend (History.the_field).row
+History_field_send = search (sendable, crosses, Entry_send, Past_send) depth 60 fits 9000
+
 Counters_field_send : IsSend (Counters.the_field).row
 Counters_field_send = search (sendable, crosses) depth 60 fits 9000
 
@@ -185,7 +193,7 @@ Tables_send = search (sendable, Loading_send) depth 60 fits 9000
 -- ---- what the desk holds
 
 Holdings_send : IsSend (Holdings.the_field).row
-Holdings_send = search (sendable, crosses, Tables_send, Counters_field_send, Reports_send, Deferrals_field_send, Releases_field_send, Alert_send, Replies_field_send, Entry_send) depth 60 fits 9000
+Holdings_send = search (sendable, crosses, Tables_send, Counters_field_send, Reports_send, Deferrals_field_send, Releases_field_send, Alert_send, Replies_field_send, History_field_send) depth 60 fits 9000
 
 Content_send : IsSend (Content.the_field).row
 Content_send = search (sendable, crosses, Holdings_send) depth 60 fits 9000

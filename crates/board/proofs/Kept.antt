@@ -1,5 +1,5 @@
 -- What is prepared is the step, and a step keeps what holds of a board.
-use Rattle.std.proofs.Common.{◌≡◌, ℕ, get_or, length, ◌<◌, ◌≤◌, Bool, arith, List, [], ◌∷◌, ◌++◌, Option, None, Some, IfSome, Ok, refl, ap, sym, ◌∙◌, subst, inl}
+use Rattle.std.proofs.Common.{◌≡◌, ℕ, ap₂, length, ◌<◌, ◌≤◌, Bool, arith, List, [], ◌∷◌, ◌++◌, Option, None, Some, IfSome, Ok, refl, ap, sym, ◌∙◌, subst, inl}
 use Rattle.alerts.specs.declared.alert.Alert.{Alert}
 use Rattle.asks.specs.declared.call.Call.{Call}
 use Rattle.asks.specs.declared.reply.Done.{Done}
@@ -19,8 +19,9 @@ use Rattle.desk_state.specs.Step.{Stepped, entered, kept_of, counted, after_even
 use Rattle.desk_state.specs.Sound.{Sound, InBounds, EffectFits, DecisionFits, IsEntered, IsBoard}
 use Rattle.desk_state.proofs.Boards.{call_keeps, tick_keeps, reply_shown, tick_shown}
 use Rattle.alerts.specs.declared.notices.Notice.{Notice}
-use Rattle.std.specs.List.{AllByRecursion}
+use Rattle.std.specs.List.{AllByRecursion, slice_get}
 use Rattle.std.proofs.lemmas.List.Elements.{All-from_recursion}
+use Rattle.std.proofs.lemmas.Option.{get_or_from_slice_get, slice_get_within}
 use Rattle.desk_state.specs.Allowed.{MayLeadTo, MayTickTo}
 use Rattle.desk_state.specs.Causes.{RefusesFor}
 use Rattle.desk_state.proofs.CauseLaws.{refused_for}
@@ -189,11 +190,11 @@ ticked_uses opening before held p lane to is board later within stepped =
     (tick_leads held.state (installed p held.state) lane to p.reply board.sound ((omega (arith, low, later), within), omega (arith, later)) stepped.state stepped.reply))
 
 -- an entry of the history has its form
-pub entry_form : (before held : Shown) (i : ℕ) (e : Entry) → held ≡ before → AllByRecursion (λ x. IsEntered x.what) held.state.entries → i < length before.state.entries
-    → e ≡ get_or held.state.entries i e → IsEntered e.what
-entry_form before held i e is all less same =
-    let within : i < length held.state.entries = subst (λ (b : Shown). i < length b.state.entries) (sym is) less in
-    subst (λ (x : Entry). IsEntered x.what) (sym same) (All-from_recursion (λ x. IsEntered x.what) held.state.entries all i e within)
+pub entry_form : (es held : List Entry) (i : ℕ) (e : Entry) → es ≡ held → AllByRecursion (λ x. IsEntered x.what) held → slice_get es i ≡ Some e → IsEntered e.what
+entry_form es held i e is all at =
+    let here : slice_get held i ≡ Some e = subst (λ (xs : List Entry). slice_get xs i ≡ Some e) is at in
+    subst (λ (x : Entry). IsEntered x.what) (get_or_from_slice_get held i e e here)
+    (All-from_recursion (λ x. IsEntered x.what) held all i e (slice_get_within held i e here))
 
 -- what is told of what is prepared are the differences of the alerts
 pub prepared_told : (opening : State) (before held : Shown) (p : Prepared) (lane : ℕ) (call : Call) → held ≡ before → IsBoard opening held.state → CallHasForms call
@@ -230,14 +231,15 @@ install_keeps opening t c p room has ready leads =
     let is : IsReady opening c p = subst (λ (o : Option Prepared). IfSome o (IsReady opening c)) has ready in
     (subst (IsBoard opening) (sym leads) is.keeps, tt)
 
-pub install_shows : (before : Shown) (opening s t : State) (room : Option Prepared) (p : Prepared) → shown opening s room ≡ before → t ≡ with_events p.event s
-    → shown opening t None ≡ shown before.opening (installed p before.state) None
+pub install_shows : (before : Shown) (opening s t : State) (room : Option Prepared) (p : Prepared) (was listed : Bool) → shown opening s room was ≡ before
+    → t ≡ with_events p.event s → listed ≡ was → shown opening t None listed ≡ shown before.opening (installed p before.state) None before.listed
 unfolding installed
-install_shows before opening s t room p is leads =
-    ap (λ (u : State). shown opening u None) leads ∙ ap (λ (b : Shown). shown b.opening (with_events p.event b.state) None) is
+install_shows before opening s t room p was listed is leads same =
+    ap₂ (λ (u : State) (l : Bool). shown opening u None l) leads same ∙ ap (λ (b : Shown). shown b.opening (with_events p.event b.state) None b.listed) is
 
-pub room_is : (before : Shown) (opening s : State) (room : Option Prepared) (p : Prepared) → shown opening s room ≡ before → before.room ≡ Some p → room ≡ Some p
-room_is before opening s room p is has = ap (λ (b : Shown). b.room) is ∙ has
+pub room_is : (before : Shown) (opening s : State) (room : Option Prepared) (p : Prepared) (listed : Bool) → shown opening s room listed ≡ before → before.room ≡ Some p
+    → room ≡ Some p
+room_is before opening s room p listed is has = ap (λ (b : Shown). b.room) is ∙ has
 
 -- what is installed leads where what was prepared does
 pub applied_leads : (lane : ℕ) (call : Call) (s u t : State) (told reply : Option Reply) → u ≡ t → reply ≡ told → MayLeadTo lane call s u told → MayLeadTo lane call s t reply

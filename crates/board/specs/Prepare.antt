@@ -1,5 +1,5 @@
 -- A step that is prepared: what is left is to put it in place.
-use Rattle.std.specs.Prelude.{◌≡◌, Option, IfSome}
+use Rattle.std.specs.Prelude.{◌≡◌, Bool, Option, IfSome}
 use Rattle.desk_io.specs.Rows.{Rows, changed_by}
 use Rattle.kept_state.specs.Rows.{AreKept}
 use Rattle.desk_state.specs.State.{State}
@@ -46,12 +46,13 @@ pub record IsReady (opening : State) (held : Held) (p : Prepared) : Type 0 where
   pub may : MayInstall held p.event
   pub keeps : IsBoard opening (installed p held.state)
 
--- What a board shows: the state that it was opened in, its state, and the prepared step that may be
--- installed without memory.
+-- What a board shows: the state that it was opened in, its state, the prepared step that may be installed without
+-- memory, and whether it holds the entries of its history and doesn't count them alone.
 pub record Shown : Type 0 where
   pub opening : State
   pub state : State
   pub room : Option Prepared
+  pub listed : Bool
 
-abbrev pub shown : State → State → Option Prepared → Shown
-shown opening s room = record { opening = opening; state = s; room = room }
+abbrev pub shown : State → State → Option Prepared → Bool → Shown
+shown opening s room listed = record { opening = opening; state = s; room = room; listed = listed }

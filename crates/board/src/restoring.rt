@@ -1,4 +1,4 @@
-ghost use Rattle.std.specs.Prelude.{OnOk, ◌≡◌, ◌<◌, map, IfOk};
+ghost use Rattle.std.specs.Prelude.{OnOk, ◌≡◌, ◌<◌, false, map, IfOk};
 ghost use Rattle.desk_io.specs.Rows.{Rows, rows_of, changed_by};
 ghost use Rattle.keeper.specs.Kept.{AreSame};
 ghost use Rattle.kept_state.specs.Judged as kept;
@@ -61,7 +61,8 @@ fn events_with(alerts: &[AlertChange], events: u64) -> u64
 fn put_judged(content: &mut Content, alerts: Vec<AlertChange>) -> Result<(), OutOfMemory>
     requires may { MayReopen content.old.state }
     requires judged { alerts.items ≡ alert_changes nothing content.old.state }
-    ensures { OnOk result (content.new.state ≡ reopened content.old.state) }
+    ensures state { OnOk result (content.new.state ≡ reopened content.old.state) }
+    ensures listed { OnOk result (content.new.listed ≡ content.old.listed) }
 {
     let events = events_with(&alerts, content.counters().events);
     content.put_judged(alerts, events)
@@ -75,6 +76,7 @@ fn reopen<L: Ledger>(
 ) -> Result<Vec<Change>, OutOfMemory>
     requires { MayReopen content.old.state }
     ensures state { OnOk result (content.new.state ≡ reopened content.old.state) }
+    ensures listed { OnOk result (content.new.listed ≡ content.old.listed) }
     ensures changes { IfOk result (λ v. v.items ≡ kept.judged_changes content.old.state
         (alert_changes nothing content.old.state)) }
 {
@@ -97,6 +99,7 @@ pub(crate) fn restored<L: Ledger>(
 ) -> Result<Reopened, OutOfMemory>
     requires { AreOfDesk records.items }
     ensures state { IfOk result (λ r. r.held.state ≡ reopened (state_in tables records.items)) }
+    ensures listed { IfOk result (λ r. r.held.listed ≡ false) }
     ensures changes { IfOk result (λ r. r.changes.items ≡ kept.judged_changes (state_in tables records.items)
         (alert_changes nothing (state_in tables records.items))) }
     ensures kept { IfOk result (λ r. (rows : Rows) → AreSame rows (rows_of (map row_of records.items))

@@ -1,4 +1,4 @@
-ghost use Rattle.std.specs.Prelude.{◌≡◌, ◌≤◌, ◌<◌, ◌+◌, length, map, slice_get, None, Some, IfOk, IfSome, OnOk, OnErr};
+ghost use Rattle.std.specs.Prelude.{◌≡◌, ◌≤◌, ◌<◌, ◌+◌, ◌==◌, ◌||◌, false, length, map, slice_get, None, Some, IsTrue, IfOk, IfSome, OnOk, OnErr};
 ghost use Rattle.std.specs.Option.{option_copied};
 ghost use Rattle.desk_state.specs.State.{start, release_at, alert_at};
 ghost use Rattle.desk_state.specs.Step.{answer_call, tick_to};
@@ -67,7 +67,8 @@ impl Model for Board {
 
     ghost Value = { Shown };
 
-    ghost view = { λ b. shown b.opening.value.state b.held.state (option_map (λ kept. kept.value) b.room) };
+    ghost view = { λ b. shown b.opening.value.state b.held.state (option_map (λ kept. kept.value) b.room)
+        b.held.listed };
 
     ghost invariant = { λ b. IsBoard b.opening.value.state b.held.state
         × IfSome (option_map (λ kept. kept.value) b.room) (IsReady b.opening.value.state b.held) };
@@ -77,7 +78,7 @@ impl Board {
     /// A board under the tables of an airline, on which nothing is held, at 2000-01-01 00:00.
     #[tactic(auto, using(desk_state::proofs::Boards::start_board, desk_state::proofs::HoldLaws::start_sound))]
     pub fn new(alloc: Global, tables: Tables) -> Board
-        ensures { result ≡ shown (start tables) (start tables) None }
+        ensures { result ≡ shown (start tables) (start tables) None false }
     {
         tables.are_named();
         let held = Alerted::of(Content::new(alloc, tables));
@@ -100,7 +101,7 @@ impl Board {
     ) -> Result<Restored, OutOfMemory>
         requires { AreOfDesk records.items }
         ensures board { IfOk result (λ r. r.board ≡ shown (reopened (state_in tables records.items))
-            (reopened (state_in tables records.items)) None) }
+            (reopened (state_in tables records.items)) None false) }
         // Nothing where no alert changed.
         ensures changes { IfOk result (λ r. r.changes.items ≡ judged_changes (state_in tables records.items)
             (alert_changes nothing (state_in tables records.items))) }
@@ -139,8 +140,8 @@ impl Board {
         ensures told { IfOk result (λ p. AreDifferences (takes_alert self.old.state call.now.ask) self.old.state
             (installed p self.old.state) p.notices) }
         ensures rows { IfOk result (λ p. KeepsRows self.old.state p) }
-        ensures ok { IfOk result (λ p. self.new ≡ shown self.old.opening self.old.state (Some p)) }
-        ensures err { OnErr result (self.new ≡ shown self.old.opening self.old.state None) }
+        ensures ok { IfOk result (λ p. self.new ≡ shown self.old.opening self.old.state (Some p) self.old.listed) }
+        ensures err { OnErr result (self.new ≡ shown self.old.opening self.old.state None self.old.listed) }
         ensures steps { steps.new ≤ steps.old + most_judged self.old.state call.now.ask }
     {
         self.room = None;
@@ -166,8 +167,8 @@ impl Board {
         ensures told { IfOk result (λ p. AreDifferences takes_none self.old.state
             (installed p self.old.state) p.notices) }
         ensures rows { IfOk result (λ p. KeepsRows self.old.state p) }
-        ensures ok { IfOk result (λ p. self.new ≡ shown self.old.opening self.old.state (Some p)) }
-        ensures err { OnErr result (self.new ≡ shown self.old.opening self.old.state None) }
+        ensures ok { IfOk result (λ p. self.new ≡ shown self.old.opening self.old.state (Some p) self.old.listed) }
+        ensures err { OnErr result (self.new ≡ shown self.old.opening self.old.state None self.old.listed) }
         ensures steps { steps.new ≤ steps.old + most_ticked self.old.state to }
     {
         self.room = None;
@@ -182,7 +183,7 @@ impl Board {
         requires { self.old.room ≡ Some prepared }
         ensures reply { result.reply ≡ prepared.reply }
         ensures notices { result.notices ≡ prepared.notices }
-        ensures state { self.new ≡ shown self.old.opening (installed prepared self.old.state) None }
+        ensures state { self.new ≡ shown self.old.opening (installed prepared self.old.state) None self.old.listed }
     {
         self.room = None;
         let Prepared {
@@ -210,7 +211,7 @@ impl Board {
         ensures answered { IfOk result (λ i. IsAnswered i (answer_call self.old.state lane call.now)) }
         ensures shown { IfOk result (λ i. IfSome i.reply ReplyHasMoment) }
         ensures state { OnOk result (self.new ≡ shown self.old.opening
-            (answer_call self.old.state lane call.now).state None) }
+            (answer_call self.old.state lane call.now).state None self.old.listed) }
         ensures own { IfOk result (λ i. MayLeadTo lane call.now self.old.state
             (answer_call self.old.state lane call.now).state i.reply) }
         ensures cause { IfOk result (λ i. RefusesFor self.old.state call.now i.reply) }
@@ -221,7 +222,7 @@ impl Board {
             (answer_call self.old.state lane call.now).state call.now i.reply) }
         ensures told { IfOk result (λ i. AreDifferences (takes_alert self.old.state call.now.ask) self.old.state
             (answer_call self.old.state lane call.now).state i.notices) }
-        ensures err { OnErr result (self.new ≡ shown self.old.opening self.old.state None) }
+        ensures err { OnErr result (self.new ≡ shown self.old.opening self.old.state None self.old.listed) }
         ensures steps { steps.new ≤ steps.old + most_judged self.old.state call.now.ask }
     {
         let prepared = self.prepare_change(alloc, lane, call, steps)?;
@@ -246,8 +247,9 @@ impl Board {
         ensures told { IfOk result (λ i. AreDifferences takes_none self.old.state
             (tick_to self.old.state lane to).state i.notices) }
         ensures shown { IfOk result (λ i. IfSome i.reply ReplyHasMoment) }
-        ensures state { OnOk result (self.new ≡ shown self.old.opening (tick_to self.old.state lane to).state None) }
-        ensures err { OnErr result (self.new ≡ shown self.old.opening self.old.state None) }
+        ensures state { OnOk result (self.new ≡ shown self.old.opening (tick_to self.old.state lane to).state None
+            self.old.listed) }
+        ensures err { OnErr result (self.new ≡ shown self.old.opening self.old.state None self.old.listed) }
         ensures steps { steps.new ≤ steps.old + most_ticked self.old.state to }
     {
         let prepared = self.prepare_tick(alloc, lane, to, steps)?;
@@ -269,16 +271,33 @@ impl Board {
     pub fn entries(&self) -> usize
         ensures { result ≡ length self.now.state.entries }
     {
-        self.held.content().entries().len()
+        self.held.content().history().len()
     }
 
-    /// An entry of the history, counted from 0.
+    /// Whether it holds the entries of its history, and doesn't count them alone.
+    pub fn is_listed(&self) -> bool
+        ensures { result ≡ self.now.listed }
+    {
+        self.held.content().history().is_listed()
+    }
+
+    /// An entry of the history, counted from 0, on a board that holds them.
     pub fn entry(&self, i: usize) -> &Entry
-        requires { i < length self.now.state.entries }
+        requires bound { i < length self.now.state.entries }
+        requires listed { IsTrue self.now.listed }
         ensures entry { slice_get self.now.state.entries i ≡ Some result.now }
         ensures form { IsEntered result.now.what }
     {
-        &self.held.content().entries()[i]
+        self.held.content().history().get(i)
+    }
+
+    /// Holds the entries of the history from now on, where there is none yet. A board counts them otherwise.
+    pub fn hold_entries(&mut self, alloc: Global)
+        ensures { self.new ≡ shown self.old.opening self.old.state None
+            (self.old.listed || (length self.old.state.entries == 0)) }
+    {
+        self.room = None;
+        self.held.hold_entries(alloc);
     }
 
     /// The release of an id.
@@ -293,6 +312,20 @@ impl Board {
         ensures { option_copied result ≡ alert_at id self.now.state.alerts }
     {
         self.held.content().alert(id)
+    }
+
+    /// How many releases are held.
+    pub fn releases_held(&self) -> usize
+        ensures { result ≡ length self.now.state.releases }
+    {
+        self.held.content().releases().len()
+    }
+
+    /// How many reports are held.
+    pub fn reports_held(&self) -> usize
+        ensures { result ≡ length self.now.state.reports }
+    {
+        self.held.content().reports().len()
     }
 
     /// The closing text: the releases, and the weather of all stations that have a report.

@@ -16,7 +16,7 @@ ghost use Rattle.desk_state.specs.State.{State};
 ghost use Rattle.board.specs.Prepare.{IsStepped, MayInstall, KeepsRows, IsRecordedOf};
 
 use crate::prepared::Prepared;
-use alert_judging::{Prospect, notices_of};
+use alert_judging::{notices_of, touched_changes};
 use alerts::Notices;
 use asks::{Call, Done, KeptReply, Refusal, Reply};
 use call_json::ask_digest;
@@ -198,7 +198,7 @@ fn full_reply(content: &Content) -> Reply
     ensures { result ≡ step.full_reply content.now.state }
 {
     Reply::Refused(Refusal::HistoryFull {
-        entries: content.entries().len() as u64,
+        entries: content.history().len() as u64,
         kept: content.replies().len() as u64,
         events: content.counters().events,
     })
@@ -215,14 +215,14 @@ fn judge_touched<L: Ledger>(
     requires fits { EffectFits held.old.state effect.now }
     requires may { MayBeMade held.old.state effect.now }
     ensures same { held.new.state ≡ held.old.state }
+    ensures listed { held.new.listed ≡ held.old.listed }
     ensures changes { IfOk result (λ j. j.changes.items ≡ alert_changes effect.now held.old.state) }
     ensures notices { IfOk result (λ j. j.notices ≡ events.notices_of
         (alert_changes effect.now held.old.state)) }
     ensures room { IfOk result (λ j. held.new.room ≡ Some (room_of effect.now (length j.changes.items))) }
     ensures steps { steps.new ≤ steps.old + count_touched held.old.state effect.now }
 {
-    let content = held.content();
-    let changes = Prospect { content, effect }.changes(alloc, steps)?;
+    let changes = touched_changes(alloc, held, effect, steps)?;
     let notices = notices_of(alloc, &changes)?;
     held.reserve(alloc, effect, changes.len())?;
     Ok(Judged { changes, notices })
@@ -240,6 +240,7 @@ fn work_out<L: Ledger>(
     requires may { MayBeMade held.old.state effect.now }
     requires recorded { IsRecordedOf held.old.state effect.now recorded.now }
     ensures same { held.new.state ≡ held.old.state }
+    ensures listed { held.new.listed ≡ held.old.listed }
     ensures changes { IfOk result (λ w. w.0.changes.items ≡ alert_changes effect.now held.old.state) }
     ensures notices { IfOk result (λ w. w.0.notices ≡ events.notices_of
         (alert_changes effect.now held.old.state)) }
@@ -279,6 +280,7 @@ fn prepare_event<L: Ledger>(
     requires may { MayBeMade held.old.state effect }
     requires recorded { IsRecordedOf held.old.state effect recorded }
     ensures same { held.new.state ≡ held.old.state }
+    ensures listed { held.new.listed ≡ held.old.listed }
     ensures stepped { IfOk result (λ p. IsStepped held.old.state p
         (step.after_event held.old.state (option_map Reply.Done done) effect recorded.entered)) }
     ensures may { IfOk result (λ p. MayInstall held.new p.event) }
@@ -310,6 +312,7 @@ fn prepare_accepted<L: Ledger>(
     requires call { CallHasForms call.now }
     requires may { MayBeMade held.old.state effect }
     ensures same { held.new.state ≡ held.old.state }
+    ensures listed { held.new.listed ≡ held.old.listed }
     ensures stepped { IfOk result (λ p. IsStepped held.old.state p
         (step.accepted held.old.state lane call.now done effect)) }
     ensures may { IfOk result (λ p. MayInstall held.new p.event) }
@@ -342,6 +345,7 @@ fn prepare_entered<L: Ledger>(
     requires call { CallHasForms call.now }
     requires may { MayBeMade held.old.state effect }
     ensures same { held.new.state ≡ held.old.state }
+    ensures listed { held.new.listed ≡ held.old.listed }
     ensures stepped { IfOk result (λ p. IsStepped held.old.state p
         (step.enter (is_full_for held.old.state call.now.ask)
         held.old.state lane call.now done effect)) }
@@ -367,6 +371,7 @@ fn prepare_call<L: Ledger>(
 ) -> Result<Prepared, OutOfMemory>
     requires call { CallHasForms call.now }
     ensures same { held.new.state ≡ held.old.state }
+    ensures listed { held.new.listed ≡ held.old.listed }
     ensures stepped { IfOk result (λ p. IsStepped held.old.state p
         (do_call held.old.state lane call.now)) }
     ensures may { IfOk result (λ p. MayInstall held.new p.event) }
@@ -396,6 +401,7 @@ pub fn prepare_answer<L: Ledger>(
 ) -> Result<Prepared, OutOfMemory>
     requires call { CallHasForms call.now }
     ensures same { held.new.state ≡ held.old.state }
+    ensures listed { held.new.listed ≡ held.old.listed }
     ensures stepped { IfOk result (λ p. IsStepped held.old.state p
         (answer_call held.old.state lane call.now)) }
     ensures may { IfOk result (λ p. MayInstall held.new p.event) }
@@ -421,6 +427,7 @@ fn prepare_ticked<L: Ledger>(
 ) -> Result<Prepared, OutOfMemory>
     requires moment { IsLater held.old.state.moment to }
     ensures same { held.new.state ≡ held.old.state }
+    ensures listed { held.new.listed ≡ held.old.listed }
     ensures stepped { IfOk result (λ p. IsStepped held.old.state p
         (step.ticked held.old.state lane to)) }
     ensures may { IfOk result (λ p. MayInstall held.new p.event) }
@@ -445,6 +452,7 @@ pub fn prepare_tick<L: Ledger>(
 ) -> Result<Prepared, OutOfMemory>
     requires moment { IsLater held.old.state.moment to }
     ensures same { held.new.state ≡ held.old.state }
+    ensures listed { held.new.listed ≡ held.old.listed }
     ensures stepped { IfOk result (λ p. IsStepped held.old.state p (tick_to held.old.state lane to)) }
     ensures may { IfOk result (λ p. MayInstall held.new p.event) }
     ensures rows { IfOk result (λ p. KeepsRows held.old.state p) }
@@ -461,7 +469,8 @@ pub fn install(held: &mut Alerted, event: Option<Event>)
     requires may { MayInstall held.old event }
     requires sound { Sound (with_events event held.old.state) }
     requires holds { Holds (with_events event held.old.state) }
-    ensures { held.new.state ≡ with_events event held.old.state }
+    ensures state { held.new.state ≡ with_events event held.old.state }
+    ensures listed { held.new.listed ≡ held.old.listed }
 {
     if let Some(event) = event {
         held.install(event);

@@ -106,7 +106,9 @@ fn entry_letter(entry: &Entry) -> u8 {
 
 fn push_entries(board: &Board, entries: &mut Vec<u8>) -> Result<(), OutOfMemory> {
     for i in 0..board.entries() {
-        entries.push(entry_letter(board.entry(i)))?;
+        if board.is_listed() {
+            entries.push(entry_letter(board.entry(i)))?;
+        }
     }
     Ok(())
 }
@@ -126,6 +128,7 @@ fn play<L: Ledger>(
 {
     let mut steps = Steps::<L>::new(blank);
     let mut board = Board::new(alloc, tables);
+    board.hold_entries(alloc);
     let made = make_all(alloc, &mut board, script, &mut steps, told);
     let shown = push_entries(&board, entries);
     made.and(shown)

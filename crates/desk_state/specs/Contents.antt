@@ -1,5 +1,5 @@
 -- What the parts in code stand for, and what contracts see of them.
-use Rattle.std.specs.Prelude.{ℕ, Option}
+use Rattle.std.specs.Prelude.{ℕ, Bool, Option}
 use Rattle.desk_state.specs.State.{State}
 use Rattle.desk_state.specs.declared.effect.Effect.{Effect}
 use Rattle.desk_state.specs.declared.holdings.Holdings.{Holdings}
@@ -16,7 +16,7 @@ state_of p = record {
   alerts = p.alerts.list;
   kept = p.replies.list;
   floors = p.replies.floors;
-  entries = p.entries.items;
+  entries = p.history.list;
 }
 
 -- an effect, and how many alerts change, for which memory was taken
@@ -24,10 +24,12 @@ pub record RoomFor : Type 0 where
   pub effect : Effect
   pub more : ℕ
 
--- what the desk holds, and the one event that may be put in place without memory
+-- what the desk holds, the one event that may be put in place without memory, and whether the entries of the history
+-- are held and not only counted
 pub record Held : Type 0 where
   pub state : State
   pub room : Option RoomFor
+  pub listed : Bool
 
-abbrev pub held : State → Option RoomFor → Held
-held s room = record { state = s; room = room }
+abbrev pub held : State → Option RoomFor → Bool → Held
+held s room listed = record { state = s; room = room; listed = listed }

@@ -1,6 +1,5 @@
 -- How an event is put in place: what it needs so that it takes no memory, and the state once it is there.
-use Rattle.std.specs.Prelude.{◌≡◌, ℕ, ◌<◌, ◌≤◌, true, IsTrue, All, List, [], ◌∷◌, ◌++◌, length, option_to_list, Option, None, Some, IfSome, vec_len}
-use Rattle.std.specs.Vec.{vec_capacity}
+use Rattle.std.specs.Prelude.{◌≡◌, ℕ, ◌<◌, ◌≤◌, true, IsTrue, All, List, [], ◌∷◌, ◌++◌, length, option_to_list, Option, None, Some, IfSome}
 use Rattle.std.specs.List.{AllByRecursion}
 use Rattle.alerts.specs.declared.alert.Alert.{Alert}
 use Rattle.asks.specs.declared.kept.KeptReply.{KeptReply}
@@ -114,7 +113,7 @@ HasOneMore held (on_deferrals.Clear id) = Unit {0}
 
 -- there is room for an entry, for a kept reply, for some more alerts, and for what an effect changes
 pub record HasRoom (p : Holdings) (r : RoomFor) : Type 0 where
-  pub entries : vec_len p.entries < vec_capacity p.entries
+  pub history : IsTrue p.history.room
   pub replies : IsTrue p.replies.room
   pub alerts : r.more ≤ p.alerts.room
   pub report : HasReportRoom p.reports r.effect.report

@@ -19,6 +19,7 @@ pub mod Repeats
 pub mod Allowed
 pub mod Causes
 pub mod Told
+pub mod History
 pub mod Contents
 pub mod Holds
 pub mod Install

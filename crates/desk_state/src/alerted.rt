@@ -1,4 +1,4 @@
-ghost use Rattle.std.specs.Prelude.{◌≡◌, Some, None, OnOk};
+ghost use Rattle.std.specs.Prelude.{◌≡◌, ◌||◌, ◌==◌, length, Some, None, OnOk};
 ghost use Rattle.desk_state.specs.Contents.{held};
 ghost use Rattle.desk_state.specs.Holds.{Holds};
 ghost use Rattle.desk_state.specs.Install.{MayBeMade, MayPut, room_of, with_event};
@@ -46,6 +46,13 @@ impl Alerted {
         &self.content
     }
 
+    /// Holds the entries of the history from now on, where there is none yet.
+    pub fn hold_entries(&mut self, alloc: Global)
+        ensures { self.new ≡ held self.old.state None (self.old.listed || (length self.old.state.entries == 0)) }
+    {
+        self.content.hold_entries(alloc);
+    }
+
     /// Takes all memory that an event needs which changes some alerts. What is held stays as it is.
     pub fn reserve(
         &mut self,
@@ -55,6 +62,7 @@ impl Alerted {
     ) -> Result<(), OutOfMemory>
         requires { MayBeMade self.old.state effect.now }
         ensures same { self.new.state ≡ self.old.state }
+        ensures listed { self.new.listed ≡ self.old.listed }
         ensures room { OnOk result (self.new.room ≡ Some (room_of effect.now more)) }
     {
         self.content.reserve(alloc, effect, more)
@@ -65,7 +73,7 @@ impl Alerted {
         requires may { MayPut self.old event }
         requires sound { Sound (with_event event self.old.state) }
         requires holds { Holds (with_event event self.old.state) }
-        ensures { self.new ≡ held (with_event event self.old.state) None }
+        ensures { self.new ≡ held (with_event event self.old.state) None self.old.listed }
     {
         self.content.install(event);
     }

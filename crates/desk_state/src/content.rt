@@ -1,4 +1,4 @@
-ghost use Rattle.std.specs.Prelude.{◌≡◌, Some, None, OnOk};
+ghost use Rattle.std.specs.Prelude.{◌≡◌, ◌||◌, ◌==◌, length, false, Some, None, OnOk};
 ghost use Rattle.std.specs.List.{AllByRecursion};
 ghost use Rattle.std.specs.Option.{option_copied};
 ghost use Rattle.desk_state.specs.Contents.{held, state_of};
@@ -9,9 +9,9 @@ ghost use Rattle.desk_state.specs.State.{start, is_full, is_sweep, is_full_for, 
 use crate::change::AlertChange;
 use crate::counters::Counters;
 use crate::effect::Effect;
-use crate::entry::Entry;
 use crate::event::Event;
 use crate::held_alerts::put_changes;
+use crate::history::History;
 use crate::holdings::Holdings;
 use crate::installing::install;
 use crate::room::reserve;
@@ -63,7 +63,8 @@ impl Model for Content {
 
     ghost Value = { Held };
 
-    ghost view = { λ c. held (state_of c.holdings) (option_map (λ r. room_of r.effect.value r.more) c.room) };
+    ghost view = { λ c. held (state_of c.holdings) (option_map (λ r. room_of r.effect.value r.more) c.room)
+        c.holdings.history.listed };
 
     ghost invariant = { λ c. Holds (state_of c.holdings) × (c.holdings.releases.settings ≡ c.holdings.tables.settings)
         × IfSome (option_map (λ r. room_of r.effect.value r.more) c.room) (HasRoom c.holdings) };
@@ -82,7 +83,7 @@ impl Content {
     /// Nothing, at the first moment, under some tables. It takes no memory.
     #[tactic(auto, using(crate::proofs::HoldLaws::start_holds))]
     pub fn new(alloc: Global, tables: Tables) -> Content
-        ensures { result ≡ held (start tables) None }
+        ensures { result ≡ held (start tables) None false }
     {
         tables.are_named();
         Content {
@@ -95,7 +96,7 @@ impl Content {
     pub fn from_holdings(holdings: Holdings) -> Content
         requires holds { Holds (state_of holdings) }
         requires settings { holdings.releases.settings ≡ holdings.tables.settings }
-        ensures { result ≡ held (state_of holdings) None }
+        ensures { result ≡ held (state_of holdings) None holdings.history.listed }
     {
         Content {
             holdings,
@@ -169,17 +170,26 @@ impl Content {
     }
 
     /// The history.
-    pub fn entries(&self) -> &[Entry]
-        ensures { result.now ≡ self.now.state.entries }
+    pub fn history(&self) -> &History
+        ensures list { result.now.list ≡ self.now.state.entries }
+        ensures listed { result.now.listed ≡ self.now.listed }
     {
-        &self.holdings.entries
+        &self.holdings.history
+    }
+
+    /// Holds the entries of the history from now on, where there is none yet.
+    pub fn hold_entries(&mut self, alloc: Global)
+        ensures { self.new ≡ held self.old.state None (self.old.listed || (length self.old.state.entries == 0)) }
+    {
+        self.room = None;
+        self.holdings.history.hold_entries(alloc);
     }
 
     /// Whether no event may come any more.
     pub fn is_full(&self) -> bool
         ensures { result ≡ is_full self.now.state }
     {
-        self.holdings.entries.len() >= ENTRY_LIMIT || self.holdings.counters.events >= EVENT_LIMIT
+        self.holdings.history.len() >= ENTRY_LIMIT || self.holdings.counters.events >= EVENT_LIMIT
     }
 
     /// Whether no command of an ask may come any more. Where too many replies are kept only a sweep may.
@@ -212,6 +222,7 @@ impl Content {
     ) -> Result<(), OutOfMemory>
         requires { MayBeMade self.old.state effect.now }
         ensures same { self.new.state ≡ self.old.state }
+        ensures listed { self.new.listed ≡ self.old.listed }
         ensures room { OnOk result (self.new.room ≡ Some (room_of effect.now more)) }
     {
         self.room = None;
@@ -227,7 +238,7 @@ impl Content {
     pub fn install(&mut self, event: Event)
         requires may { MayPut self.old event }
         requires holds { Holds (with_event event self.old.state) }
-        ensures { self.new ≡ held (with_event event self.old.state) None }
+        ensures { self.new ≡ held (with_event event self.old.state) None self.old.listed }
     {
         self.room = None;
         install(&mut self.holdings, event);
@@ -237,7 +248,8 @@ impl Content {
     pub fn put_judged(&mut self, changes: Vec<AlertChange>, events: u64) -> Result<(), OutOfMemory>
         requires own { AllByRecursion IsOwn changes.items }
         requires holds { Holds (with_judged changes.items events self.old.state) }
-        ensures ok { OnOk result (self.new ≡ held (with_judged changes.items events self.old.state) None) }
+        ensures ok { OnOk result (self.new
+            ≡ held (with_judged changes.items events self.old.state) None self.old.listed) }
     {
         self.room = None;
         self.holdings.alerts.reserve(changes.len())?;

@@ -1,9 +1,9 @@
-ghost use Rattle.std.specs.Prelude.{◌≡◌};
+ghost use Rattle.std.specs.Prelude.{◌≡◌, false};
 ghost use Rattle.desk_state.specs.State.{start};
 ghost use Rattle.desk_state.specs.Contents.{state_of};
 
 use crate::counters::Counters;
-use crate::entry::Entry;
+use crate::history::History;
 use alerts::Alert;
 use deferrals::Deferrals;
 use desk_time::{FIRST, Minute};
@@ -32,8 +32,7 @@ pub struct Holdings {
     /// What accepted commands have done, in their order, and the greatest numbers of persons of whose requests nothing
     /// is kept any more.
     pub replies: Replies,
-    /// The history.
-    pub entries: Vec<Entry>,
+    pub history: History,
 }
 
 impl Holdings {
@@ -41,6 +40,7 @@ impl Holdings {
     pub fn new(alloc: Global, tables: Tables) -> Holdings
         ensures state { state_of result ≡ start tables }
         ensures settings { result.releases.settings ≡ result.tables.settings }
+        ensures listed { result.history.listed ≡ false }
     {
         let releases = Releases::new(alloc, tables.settings());
         Holdings {
@@ -58,7 +58,7 @@ impl Holdings {
             releases,
             alerts: ById::new(alloc),
             replies: Replies::new(alloc),
-            entries: Vec::new(alloc),
+            history: History::new(),
         }
     }
 }

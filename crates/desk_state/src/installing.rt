@@ -99,7 +99,7 @@ fn change(holdings: &mut Holdings, effect: Effect)
         { alerts = holdings.old.alerts.list } }
     ensures settings { holdings.new.releases.settings ≡ holdings.old.releases.settings }
     ensures alerts { holdings.new.alerts ≡ holdings.old.alerts }
-    ensures entries { holdings.new.entries ≡ holdings.old.entries }
+    ensures history { holdings.new.history ≡ holdings.old.history }
     ensures room { holdings.new.replies.room ≡ holdings.old.replies.room }
     ensures events { holdings.new.counters.events ≡ holdings.old.counters.events }
     ensures accepted { holdings.new.counters.next_kept ≡ holdings.old.counters.next_kept }
@@ -158,6 +158,7 @@ pub(crate) fn install(holdings: &mut Holdings, event: Event)
     requires kept { IfSome event.kept (IsNextReply (state_of holdings.old)) }
     ensures state { state_of holdings.new ≡ with_event event (state_of holdings.old) }
     ensures settings { holdings.new.releases.settings ≡ holdings.old.releases.settings }
+    ensures listed { holdings.new.history.listed ≡ holdings.old.history.listed }
 {
     let Event {
         effect,
@@ -169,5 +170,5 @@ pub(crate) fn install(holdings: &mut Holdings, event: Event)
     count(&mut holdings.counters, &entered);
     put_changes(&mut holdings.alerts, changes);
     keep(&mut holdings.replies, kept);
-    holdings.entries.push_reserved(entered);
+    holdings.history.push_reserved(entered);
 }

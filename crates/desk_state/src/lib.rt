@@ -9,9 +9,11 @@ mod effect;
 mod entry;
 mod event;
 mod held_alerts;
+mod history;
 mod holdings;
 mod installing;
 mod lanes;
+mod past;
 mod room;
 
 pub use alerted::Alerted;
@@ -21,5 +23,6 @@ pub use counters::Counters;
 pub use effect::{Decision, Effect, OnAlerts, OnDeferrals, Sweep};
 pub use entry::{Entry, What};
 pub use event::Event;
+pub use history::History;
 pub use holdings::Holdings;
 pub use lanes::{Item, Outcome, Said};

@@ -40,10 +40,11 @@ pub(crate) fn reserve(
     requires { MayBeMade (state_of holdings.old) effect.now }
     ensures same { state_of holdings.new ≡ state_of holdings.old }
     ensures settings { holdings.new.releases.settings ≡ holdings.old.releases.settings }
+    ensures listed { holdings.new.history.listed ≡ holdings.old.history.listed }
     ensures room { OnOk result (HasRoom holdings.new (room_of effect.now more)) }
 {
-    holdings.entries.reserve(1)?;
-    holdings.replies.reserve()?;
+    holdings.history.reserve()?;
+    holdings.replies.reserve(alloc)?;
     holdings.alerts.reserve(more)?;
     reserve_report(&mut holdings.reports, effect.report.as_ref())?;
     reserve_deferral(&mut holdings.deferrals, &effect.on_deferrals)?;

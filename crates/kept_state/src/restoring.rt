@@ -1,4 +1,4 @@
-ghost use Rattle.std.specs.Prelude.{◌≡◌, IfOk};
+ghost use Rattle.std.specs.Prelude.{◌≡◌, false, IfOk};
 ghost use Rattle.desk_state.specs.Holds.{Holds};
 ghost use Rattle.kept_state.specs.Held.{AreOfDesk, state_in};
 ghost use Rattle.kept_state.specs.Parting.{kinds_of, no_kinds, with_records};
@@ -11,7 +11,7 @@ use alerts::Alert;
 use asks::KeptReply;
 use deferrals::Deferrals;
 use desk_io::OutOfMemory;
-use desk_state::{Content, Holdings};
+use desk_state::{Content, History, Holdings};
 use facts::Reports;
 use held_releases::Releases;
 use kept_replies::Replies;
@@ -67,7 +67,8 @@ fn held_in(alloc: Global, settings: Settings, records: Vec<Record>) -> Result<He
 fn content_with(alloc: Global, tables: Tables, held: Held) -> Result<Content, OutOfMemory>
     requires holds { Holds (spec.state_held tables held) }
     requires settings { held.releases.settings ≡ tables.settings }
-    ensures { IfOk result (λ content. content.state ≡ spec.state_held tables held) }
+    ensures state { IfOk result (λ content. content.state ≡ spec.state_held tables held) }
+    ensures listed { IfOk result (λ content. content.listed ≡ false) }
 {
     let Held {
         meta,
@@ -90,20 +91,21 @@ fn content_with(alloc: Global, tables: Tables, held: Held) -> Result<Content, Ou
                 releases,
                 alerts,
                 replies,
-                entries: Vec::new(alloc),
+                history: History::new(),
             }))
         }
     }
 }
 
-/// The state that records stand for under some tables.
+/// The state that records stand for under some tables. Its history is counted.
 pub fn content_of(
     alloc: Global,
     tables: Tables,
     records: Vec<Record>,
 ) -> Result<Content, OutOfMemory>
     requires { AreOfDesk records.items }
-    ensures { IfOk result (λ content. content.state ≡ state_in tables records.items) }
+    ensures state { IfOk result (λ content. content.state ≡ state_in tables records.items) }
+    ensures listed { IfOk result (λ content. content.listed ≡ false) }
 {
     tables.are_named();
     let held = held_in(alloc, tables.settings(), records)?;

@@ -10,9 +10,9 @@ put_judged-requires-clause-holds c =
     judged_holds c.args.content.now.state c.args.alerts.items c.events_with-events.result c.requires.may c.requires.judged
     (counted_so c.args.content.now.state c.counters.result c.args.alerts.items c.deref.result.now c.events_with-events.result c.counters.ensures c.deref.ensures.value c.events_with-events.ensures)
 
-pub returns : goal.returns
-returns c =
+pub returns-clause-state : goal.returns-clause-state
+returns-clause-state c =
     on_ok_weaker c.put_judged.result
-    (λ leads. judged_leads c.args.content.now.state _ c.args.alerts.items c.events_with-events.result c.requires.may c.requires.judged
+    (λ leads. judged_leads c.args.content.now.state _ c.args.alerts.items c.events_with-events.result _ c.requires.may c.requires.judged
     (counted_so c.args.content.now.state c.counters.result c.args.alerts.items c.deref.result.now c.events_with-events.result c.counters.ensures c.deref.ensures.value c.events_with-events.ensures) leads)
     c.put_judged.ensures.ok

@@ -9,8 +9,8 @@ use Rattle.board.proofs.restoring.restored.Goals as goal
 
 pub returns-in-Ok-clause-kept : goal.returns-in-Ok-clause-kept
 returns-in-Ok-clause-kept g c =
-    rows_kept c.args.tables c.args.records.items _ c.are_named.ensures c.requires (c.in-Ok.ensures.changes ∙ ap (λ s. judged_changes s (alert_changes nothing s)) c.in_ok-content.ensures)
+    rows_kept c.args.tables c.args.records.items _ c.are_named.ensures c.requires (c.in-Ok.ensures.changes ∙ ap (λ s. judged_changes s (alert_changes nothing s)) c.in_ok-content.ensures.state)
 
 pub of-requires : goal.of-requires
 of-requires g c =
-    reopened_sound _ _ (subst MayReopen (sym c.in_ok-content.ensures) (may_reopen c.args.tables c.args.records.items c.are_named.ensures c.requires)) c.in-Ok.ensures.state
+    reopened_sound _ _ (subst MayReopen (sym c.in_ok-content.ensures.state) (may_reopen c.args.tables c.args.records.items c.are_named.ensures c.requires)) c.in-Ok.ensures.state

@@ -9,6 +9,6 @@ content_with-requires-clause-holds c = made_holds _ _ c.args.records.items c.in_
 pub content_with-requires-clause-settings : goal.content_with-requires-clause-settings
 content_with-requires-clause-settings c = ap (λ r. r.settings) c.in_ok-held.ensures.releases ∙ c.settings.ensures.value
 
-pub returns : goal.returns
-returns c =
-    IfOk-weaker c.content_with.result _ _ (λ content is. is ∙ held_state _ _ c.args.records.items c.in_ok-held.held c.in_ok-held.ensures) c.content_with.ensures
+pub returns-clause-state : goal.returns-clause-state
+returns-clause-state c =
+    IfOk-weaker c.content_with.result _ _ (λ content is. is ∙ held_state _ _ c.args.records.items c.in_ok-held.held c.in_ok-held.ensures) c.content_with.ensures.state
