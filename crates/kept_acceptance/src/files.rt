@@ -57,6 +57,29 @@ fn rows_in_a_file_are_found_by_the_next_keeper(rt: HostRuntime) -> Result<(), Fa
     Ok(())
 }
 
+// Whether a keeper that is let go at the end of a run leaves all its rows in the file: they are found without the log.
+fn leaves_all(rt: HostRuntime, name: &str) -> Result<bool, KeepFault> {
+    let mut keeper = keeper_at(rt, name)?;
+    if !gives(rt.alloc(), &mut keeper, "")? {
+        return Ok(false);
+    }
+    commit(rt.alloc(), &mut keeper, FIRST_ROWS)?;
+    let left = keeper.leave()?.is_some();
+    let log = format!(in rt.alloc(); "{name}-wal")?;
+    let _ = fs::remove_file(&rt, log.as_str());
+    let mut next = keeper_at(rt, name)?;
+    Ok(left && gives(rt.alloc(), &mut next, FIRST_ROWS)?)
+}
+
+#[test]
+fn a_file_that_is_left_has_all_without_its_log(rt: HostRuntime) -> Result<(), Fail> {
+    let name = "kept_acceptance_left";
+    clear(rt, name)?;
+    assert!(rt; leaves_all(rt, name)?);
+    clear(rt, name)?;
+    Ok(())
+}
+
 // Whether a commit before a load and one of a row that can't stand in the file fail, and change nothing.
 fn refuses(rt: HostRuntime, name: &str) -> Result<bool, KeepFault> {
     let alloc = rt.alloc();

@@ -6,12 +6,14 @@ ghost use Rattle.keeper.specs.declared.keeping.KeepFault.TheVariants.{Failed as 
 ghost use Rattle.sqlite.specs.Files.{over_files};
 ghost use Rattle.sqlite_keeper.specs.Transactions.{IsClean};
 ghost use Rattle.sqlite_keeper.specs.Keeping.{CommitsOver, IsReady, LoadsOver};
+ghost use Rattle.sqlite_keeper.specs.Leaving.{LeavesAll};
 
+use crate::leaving::copied;
 use crate::table::{all_rows, make_all, make_table};
 use crate::trouble::Trouble;
 use desk_io::{Change, Row};
 use keeper::{KeepFault, Keeper};
-use sqlite::{Connection, File, FileStore};
+use sqlite::{Connection, File, FileStore, Files};
 use std::alloc::Global;
 
 /// Keeps rows in the table `kept` of a file of SQLite. It tells no rows, and each failure but want of
@@ -112,6 +114,19 @@ impl KeeperOver<Connection<FileStore<File>>> {
         };
         let rows = all_rows(alloc, conn)?;
         Ok(rows)
+    }
+
+    /// Lets the file go at the end of a run: what was committed is brought from the log beside it into the file itself,
+    /// and the file and the log are given back. There are none where none were opened. Where this fails nothing is
+    /// lost, since the log has it still.
+    pub fn leave(self) -> Result<Option<Files<File>>, KeepFault>
+        ensures { IfOk result (λ files. LeavesAll self.conn files) }
+    {
+        let KeeperOver { conn, .. } = self;
+        match conn {
+            None => Ok(None),
+            Some(conn) => Ok(Some(copied(conn)?)),
+        }
     }
 
     fn make(&mut self, changes: &[Change]) -> Result<(), KeepFault>

@@ -2,6 +2,7 @@
 #![tactic(auto)]
 
 mod file;
+mod leaving;
 mod table;
 mod trouble;
 

@@ -125,7 +125,8 @@ leaf_level name us plain h =
 -- ---- the words from the name on
 
 abbrev names : Names
-names = (codes "run", []) ∷ (codes "weather", []) ∷ (codes "serve", []) ∷ (codes "race", []) ∷ []
+names =
+    (codes "run", []) ∷ (codes "race", []) ∷ (codes "serve", []) ∷ (codes "weather", []) ∷ (codes "import", []) ∷ (codes "make", []) ∷ []
 
 abbrev at_stop : Option (Text × List Text) → Walk
 at_stop stop = record { held = nothing_held; waiting = idle; position = 1; is_trailing = false; stopped = stop }
@@ -154,13 +155,13 @@ run_fine us plain h =
     ∙ ap rest_of_top (stop_walk us (codes "run") [])
     ∙ ap (λ (k : Kinds). or_else k []) (leaf_level (codes "run") us plain h)
 
-weather_fine : (us : List Text) → list_all is_word us ≡ true → length us ≤ usize_max → fault_of desk_app (codes "weather" ∷ us) ≡ []
+race_fine : (us : List Text) → list_all is_word us ≡ true → length us ≤ usize_max → fault_of desk_app (codes "race" ∷ us) ≡ []
 unfolding clap_on_literals walked walk_fault defaults_fault
-weather_fine us plain h =
-    let walk_is : Walk = fold (walked [] names) (at_stop (Some (codes "weather", []))) us in
-    ap (λ k. or_else k (rest_of_top walk_is)) (stop_fine (built desk_app).top us (codes "weather") [])
-    ∙ ap rest_of_top (stop_walk us (codes "weather") [])
-    ∙ ap (λ (k : Kinds). or_else k []) (leaf_level (codes "weather") us plain h)
+race_fine us plain h =
+    let walk_is : Walk = fold (walked [] names) (at_stop (Some (codes "race", []))) us in
+    ap (λ k. or_else k (rest_of_top walk_is)) (stop_fine (built desk_app).top us (codes "race") [])
+    ∙ ap rest_of_top (stop_walk us (codes "race") [])
+    ∙ ap (λ (k : Kinds). or_else k []) (leaf_level (codes "race") us plain h)
 
 serve_fine : (us : List Text) → list_all is_word us ≡ true → length us ≤ usize_max → fault_of desk_app (codes "serve" ∷ us) ≡ []
 unfolding clap_on_literals walked walk_fault defaults_fault
@@ -170,13 +171,29 @@ serve_fine us plain h =
     ∙ ap rest_of_top (stop_walk us (codes "serve") [])
     ∙ ap (λ (k : Kinds). or_else k []) (leaf_level (codes "serve") us plain h)
 
-race_fine : (us : List Text) → list_all is_word us ≡ true → length us ≤ usize_max → fault_of desk_app (codes "race" ∷ us) ≡ []
+weather_fine : (us : List Text) → list_all is_word us ≡ true → length us ≤ usize_max → fault_of desk_app (codes "weather" ∷ us) ≡ []
 unfolding clap_on_literals walked walk_fault defaults_fault
-race_fine us plain h =
-    let walk_is : Walk = fold (walked [] names) (at_stop (Some (codes "race", []))) us in
-    ap (λ k. or_else k (rest_of_top walk_is)) (stop_fine (built desk_app).top us (codes "race") [])
-    ∙ ap rest_of_top (stop_walk us (codes "race") [])
-    ∙ ap (λ (k : Kinds). or_else k []) (leaf_level (codes "race") us plain h)
+weather_fine us plain h =
+    let walk_is : Walk = fold (walked [] names) (at_stop (Some (codes "weather", []))) us in
+    ap (λ k. or_else k (rest_of_top walk_is)) (stop_fine (built desk_app).top us (codes "weather") [])
+    ∙ ap rest_of_top (stop_walk us (codes "weather") [])
+    ∙ ap (λ (k : Kinds). or_else k []) (leaf_level (codes "weather") us plain h)
+
+import_fine : (us : List Text) → list_all is_word us ≡ true → length us ≤ usize_max → fault_of desk_app (codes "import" ∷ us) ≡ []
+unfolding clap_on_literals walked walk_fault defaults_fault
+import_fine us plain h =
+    let walk_is : Walk = fold (walked [] names) (at_stop (Some (codes "import", []))) us in
+    ap (λ k. or_else k (rest_of_top walk_is)) (stop_fine (built desk_app).top us (codes "import") [])
+    ∙ ap rest_of_top (stop_walk us (codes "import") [])
+    ∙ ap (λ (k : Kinds). or_else k []) (leaf_level (codes "import") us plain h)
+
+make_fine : (us : List Text) → list_all is_word us ≡ true → length us ≤ usize_max → fault_of desk_app (codes "make" ∷ us) ≡ []
+unfolding clap_on_literals walked walk_fault defaults_fault
+make_fine us plain h =
+    let walk_is : Walk = fold (walked [] names) (at_stop (Some (codes "make", []))) us in
+    ap (λ k. or_else k (rest_of_top walk_is)) (stop_fine (built desk_app).top us (codes "make") [])
+    ∙ ap rest_of_top (stop_walk us (codes "make") [])
+    ∙ ap (λ (k : Kinds). or_else k []) (leaf_level (codes "make") us plain h)
 
 -- ---- what is found
 
@@ -195,34 +212,56 @@ run_found : (us : List Text) → list_all is_word us ≡ true → asked_in (subc
 unfolding clap_on_literals walked
 run_found us plain = ap (λ (w : Walk). asked_in (entered (built desk_app) w.stopped)) (stop_walk us (codes "run") []) ∙ leaf_asked (codes "run") us plain
 
-weather_found : (us : List Text) → list_all is_word us ≡ true → asked_in (subcommand_of desk_app (codes "weather" ∷ us)) ≡ task_of (codes "weather") us
+race_found : (us : List Text) → list_all is_word us ≡ true → asked_in (subcommand_of desk_app (codes "race" ∷ us)) ≡ task_of (codes "race") us
 unfolding clap_on_literals walked
-weather_found us plain = ap (λ (w : Walk). asked_in (entered (built desk_app) w.stopped)) (stop_walk us (codes "weather") []) ∙ leaf_asked (codes "weather") us plain
+race_found us plain = ap (λ (w : Walk). asked_in (entered (built desk_app) w.stopped)) (stop_walk us (codes "race") []) ∙ leaf_asked (codes "race") us plain
 
 serve_found : (us : List Text) → list_all is_word us ≡ true → asked_in (subcommand_of desk_app (codes "serve" ∷ us)) ≡ task_of (codes "serve") us
 unfolding clap_on_literals walked
 serve_found us plain = ap (λ (w : Walk). asked_in (entered (built desk_app) w.stopped)) (stop_walk us (codes "serve") []) ∙ leaf_asked (codes "serve") us plain
 
-race_found : (us : List Text) → list_all is_word us ≡ true → asked_in (subcommand_of desk_app (codes "race" ∷ us)) ≡ task_of (codes "race") us
+weather_found : (us : List Text) → list_all is_word us ≡ true → asked_in (subcommand_of desk_app (codes "weather" ∷ us)) ≡ task_of (codes "weather") us
 unfolding clap_on_literals walked
-race_found us plain = ap (λ (w : Walk). asked_in (entered (built desk_app) w.stopped)) (stop_walk us (codes "race") []) ∙ leaf_asked (codes "race") us plain
+weather_found us plain = ap (λ (w : Walk). asked_in (entered (built desk_app) w.stopped)) (stop_walk us (codes "weather") []) ∙ leaf_asked (codes "weather") us plain
+
+import_found : (us : List Text) → list_all is_word us ≡ true → asked_in (subcommand_of desk_app (codes "import" ∷ us)) ≡ task_of (codes "import") us
+unfolding clap_on_literals walked
+import_found us plain = ap (λ (w : Walk). asked_in (entered (built desk_app) w.stopped)) (stop_walk us (codes "import") []) ∙ leaf_asked (codes "import") us plain
+
+make_found : (us : List Text) → list_all is_word us ≡ true → asked_in (subcommand_of desk_app (codes "make" ∷ us)) ≡ task_of (codes "make") us
+unfolding clap_on_literals walked
+make_found us plain = ap (λ (w : Walk). asked_in (entered (built desk_app) w.stopped)) (stop_walk us (codes "make") []) ∙ leaf_asked (codes "make") us plain
 
 -- ---- whichever name it is
 
-by_name : (P : Text → Type 0) (name : Text) → is_name name ≡ true → P (codes "run") → P (codes "weather") → P (codes "serve") → P (codes "race") → P name
-by_name P name is run weather serve race = one (bytes_eq name (codes "run")) refl is
+by_name : (P : Text → Type 0) (name : Text) → is_name name ≡ true
+    → P (codes "run") → P (codes "race") → P (codes "serve") → P (codes "weather") → P (codes "import") → P (codes "make") → P name
+by_name P name is run race serve weather imports make = one (bytes_eq name (codes "run")) refl is
   where
-    three : (b : Bool) → bytes_eq name (codes "serve") ≡ b → (b || bytes_eq name (codes "race")) ≡ true → P name
-    three true same is = subst P (sym ((bytes_eq-Decides name (codes "serve")).0 same)) serve
-    three false same is = subst P (sym ((bytes_eq-Decides name (codes "race")).0 is)) race
+    five : (b : Bool) → bytes_eq name (codes "import") ≡ b
+        → (b || bytes_eq name (codes "make")) ≡ true → P name
+    five true same is = subst P (sym ((bytes_eq-Decides name (codes "import")).0 same)) imports
+    five false same is = subst P (sym ((bytes_eq-Decides name (codes "make")).0 is)) make
 
-    two : (b : Bool) → bytes_eq name (codes "weather") ≡ b → (b || (bytes_eq name (codes "serve") || bytes_eq name (codes "race"))) ≡ true → P name
-    two true same is = subst P (sym ((bytes_eq-Decides name (codes "weather")).0 same)) weather
+    four : (b : Bool) → bytes_eq name (codes "weather") ≡ b
+        → (b || (bytes_eq name (codes "import") || bytes_eq name (codes "make"))) ≡ true → P name
+    four true same is = subst P (sym ((bytes_eq-Decides name (codes "weather")).0 same)) weather
+    four false same is = five (bytes_eq name (codes "import")) refl is
+
+    three : (b : Bool) → bytes_eq name (codes "serve") ≡ b
+        → (b || (bytes_eq name (codes "weather") || (bytes_eq name (codes "import") || bytes_eq name (codes "make")))) ≡ true → P name
+    three true same is = subst P (sym ((bytes_eq-Decides name (codes "serve")).0 same)) serve
+    three false same is = four (bytes_eq name (codes "weather")) refl is
+
+    two : (b : Bool) → bytes_eq name (codes "race") ≡ b
+        → (b || (bytes_eq name (codes "serve") || (bytes_eq name (codes "weather") || (bytes_eq name (codes "import") || bytes_eq name (codes "make"))))) ≡ true → P name
+    two true same is = subst P (sym ((bytes_eq-Decides name (codes "race")).0 same)) race
     two false same is = three (bytes_eq name (codes "serve")) refl is
 
-    one : (b : Bool) → bytes_eq name (codes "run") ≡ b → (b || (bytes_eq name (codes "weather") || (bytes_eq name (codes "serve") || bytes_eq name (codes "race")))) ≡ true → P name
+    one : (b : Bool) → bytes_eq name (codes "run") ≡ b
+        → (b || (bytes_eq name (codes "race") || (bytes_eq name (codes "serve") || (bytes_eq name (codes "weather") || (bytes_eq name (codes "import") || bytes_eq name (codes "make")))))) ≡ true → P name
     one true same is = subst P (sym ((bytes_eq-Decides name (codes "run")).0 same)) run
-    one false same is = two (bytes_eq name (codes "weather")) refl is
+    one false same is = two (bytes_eq name (codes "race")) refl is
 
 -- a name and words give no fault, so a parse of them fails for memory alone
 pub none_fail : (words : List Text) → length words ≤ usize_max → are_named words ≡ true → fault_of desk_app words ≡ []
@@ -230,7 +269,8 @@ none_fail [] few named = absurd (true≢false (sym named))
 none_fail (name ∷ us) few named =
     let parts = and_parts (is_name name) (list_all is_word us) named in
     let fits : length us ≤ usize_max = omega (arith, few) in
-    by_name (λ n. fault_of desk_app (n ∷ us) ≡ []) name parts.0 (run_fine us parts.1 fits) (weather_fine us parts.1 fits) (serve_fine us parts.1 fits) (race_fine us parts.1 fits)
+    by_name (λ n. fault_of desk_app (n ∷ us) ≡ []) name parts.0
+    (run_fine us parts.1 fits) (race_fine us parts.1 fits) (serve_fine us parts.1 fits) (weather_fine us parts.1 fits) (import_fine us parts.1 fits) (make_fine us parts.1 fits)
 
 -- what is found of them is the command that they form
 pub asked_found : (words : List Text) → are_named words ≡ true → asked_in (subcommand_of desk_app words) ≡ task_in words
@@ -238,4 +278,5 @@ asked_found [] named = absurd (true≢false (sym named))
 asked_found (name ∷ us) named =
     let parts = and_parts (is_name name) (list_all is_word us) named in
     rw named (
-    by_name (λ n. asked_in (subcommand_of desk_app (n ∷ us)) ≡ task_of n us) name parts.0 (run_found us parts.1) (weather_found us parts.1) (serve_found us parts.1) (race_found us parts.1))
+    by_name (λ n. asked_in (subcommand_of desk_app (n ∷ us)) ≡ task_of n us) name parts.0
+    (run_found us parts.1) (race_found us parts.1) (serve_found us parts.1) (weather_found us parts.1) (import_found us parts.1) (make_found us parts.1))

@@ -26,10 +26,14 @@ top = let a = new_app (codes "desk") in record a {
   };
 }
 
+-- one name more
+abbrev pub with_name : List ℕ → App → App
+with_name name app = with_subcommand app (leaf name).top
+
 abbrev pub desk_app : App
 desk_app =
-    with_subcommand (with_subcommand (with_subcommand (with_subcommand top (leaf (codes "run")).top) (leaf (codes "weather")).top) (leaf (codes "serve")).top)
-    (leaf (codes "race")).top
+    with_name (codes "make") (with_name (codes "import") (with_name (codes "weather")
+    (with_name (codes "serve") (with_name (codes "race") (with_name (codes "run") top)))))
 
 -- what the name that the reader found asks for, with the words after it
 abbrev pub asked_in : Option (Text × List Row) → Option Task

@@ -1,5 +1,5 @@
 -- Which words form a command.
-use Rattle.std.specs.Prelude.{ℕ, Bool, false, not, ◌==◌, ◌&&◌, ◌||◌, nat_le, if◌then◌else◌, List, [], ◌∷◌, length, drop, Option, None, Some, codes}
+use Rattle.std.specs.Prelude.{ℕ, Bool, false, not, ◌==◌, ◌&&◌, ◌||◌, ◌≤◌, nat_le, if◌then◌else◌, List, [], ◌∷◌, length, drop, Option, None, Some, codes}
 use Rattle.std.specs.List.{list_all}
 use Rattle.std.specs.Option.{option_map}
 use Rattle.std.specs.Str.{bytes_eq}
@@ -7,7 +7,7 @@ use Rattle.desk_time.specs.Digits.{◌>>=◌}
 use Rattle.desk_time.specs.Numbers.{number_in}
 use Rattle.words.specs.declared.task.Task.{Task}
 use Rattle.words.specs.declared.task.Task.TheVariants.{Weather, Desk}
-use Rattle.words.specs.declared.task.DeskTask.TheVariants.{Run, Race, Serve}
+use Rattle.words.specs.declared.task.DeskTask.TheVariants.{Run, Race, Serve, Import, Make}
 
 -- a word is not empty and doesn't begin with a dash
 abbrev pub is_word : List ℕ → Bool
@@ -16,7 +16,9 @@ is_word (c ∷ cs) = not (c == 45)
 
 -- the name of a command
 abbrev pub is_name : List ℕ → Bool
-is_name word = bytes_eq word (codes "run") || (bytes_eq word (codes "weather") || (bytes_eq word (codes "serve") || bytes_eq word (codes "race")))
+is_name word =
+    bytes_eq word (codes "run") || (bytes_eq word (codes "race") || (bytes_eq word (codes "serve")
+    || (bytes_eq word (codes "weather") || (bytes_eq word (codes "import") || bytes_eq word (codes "make")))))
 
 -- the name of a command, and words after it
 abbrev pub are_named : List (List ℕ) → Bool
@@ -24,7 +26,10 @@ are_named [] = false
 are_named (name ∷ rest) = is_name name && list_all is_word rest
 
 abbrev pub with_source : List ℕ → Option Task
-with_source name = if bytes_eq name (codes "run") then Some (Desk Run) else (if bytes_eq name (codes "weather") then Some Weather else None)
+with_source name =
+    if bytes_eq name (codes "run") then Some (Desk Run)
+    else (if bytes_eq name (codes "weather") then Some Weather
+    else (if bytes_eq name (codes "import") then Some (Desk Import) else None))
 
 abbrev pub from_one : ℕ → Option ℕ
 from_one n = if nat_le 1 n then Some n else None
@@ -40,10 +45,18 @@ serve_of port connections = count_of 65_535 port >>= λ p. count_of 1_000 connec
 abbrev pub race_of : ℕ → Option Task
 race_of lanes = if nat_le 2 lanes && nat_le lanes 16 then Some (Desk Race) else None
 
--- one source, or a port and a number of connections
+-- a number of 32 bits, and how many flights are made of it
+abbrev pub make_of : List ℕ → List ℕ → Option Task
+make_of number count = number_in 4_294_967_295 number >>= λ n. count_of 20_000 count >>= λ c. Some (Desk (Make n c))
+
+abbrev pub with_numbers : List ℕ → List ℕ → List ℕ → Option Task
+with_numbers name one two =
+    if bytes_eq name (codes "serve") then serve_of one two else (if bytes_eq name (codes "make") then make_of one two else None)
+
+-- one source, or two numbers
 abbrev pub with_words : List ℕ → List (List ℕ) → Option Task
 with_words name (source ∷ []) = with_source name
-with_words name (port ∷ connections ∷ []) = if bytes_eq name (codes "serve") then serve_of port connections else None
+with_words name (one ∷ two ∷ []) = with_numbers name one two
 with_words name _ = None
 
 -- what a name asks for with the words after it
@@ -59,11 +72,17 @@ task_asked (name ∷ rest) = task_of name rest
 abbrev pub task_in : List (List ℕ) → Option Task
 task_in words = if are_named words then task_asked words else None
 
--- the names of the sources that are read for a task, among the words after its name: all of them, but none where connections are served
+-- the names of the sources that are read for a task, among the words after its name: all of them, but none where these are numbers
 abbrev pub named : Task → List (List ℕ) → List (List ℕ)
 named (Desk (Serve port connections)) rest = []
+named (Desk (Make number count)) rest = []
 named _ rest = rest
 
 -- what is to be done, and the names of the sources that are read for it
 abbrev pub command_of : List (List ℕ) → Option (Task × List (List ℕ))
 command_of words = option_map (λ task. (task, named task (drop 1 words))) (task_in words)
+
+-- no more than 20,000 flights are made
+abbrev pub IsWithin : Task → Type 0
+IsWithin (Desk (Make number count)) = count ≤ 20_000
+IsWithin _ = Unit {0}

@@ -1,16 +1,20 @@
 ghost use Rattle.std.specs.Prelude.{◌≡◌, ◌≤◌, map, IfSome};
 ghost use Rattle.words.specs.Words as spec;
+ghost use Rattle.words.specs.Words.{IsWithin};
 
 use crate::{DeskTask, Task};
 use desk_time::read_number;
 
 fn with_source(name: &str) -> Option<Task>
-    ensures { result ≡ spec.with_source name.now }
+    ensures value { result ≡ spec.with_source name.now }
+    ensures within { IfSome result IsWithin }
 {
     if name == "run" {
         Some(Task::Desk(DeskTask::Run))
     } else if name == "weather" {
         Some(Task::Weather)
+    } else if name == "import" {
+        Some(Task::Desk(DeskTask::Import))
     } else {
         None
     }
@@ -29,15 +33,40 @@ fn count_of(most: u64, word: &str) -> Option<u64>
 }
 
 fn serve_of(port: &str, connections: &str) -> Option<Task>
-    ensures { result ≡ spec.serve_of port.now connections.now }
+    ensures value { result ≡ spec.serve_of port.now connections.now }
+    ensures within { IfSome result IsWithin }
 {
     let port = count_of(65_535, port)? as u16;
     let connections = count_of(1_000, connections)? as u32;
     Some(Task::Desk(DeskTask::Serve { port, connections }))
 }
 
+fn make_of(number: &str, count: &str) -> Option<Task>
+    ensures value { result ≡ spec.make_of number.now count.now }
+    ensures within { IfSome result IsWithin }
+{
+    let number = read_number(4_294_967_295, number.as_bytes())? as u32;
+    let count = count_of(20_000, count)? as u32;
+    Some(Task::Desk(DeskTask::Make { number, count }))
+}
+
+// What a name asks for with two words after it.
+fn with_numbers(name: &str, one: &str, two: &str) -> Option<Task>
+    ensures value { result ≡ spec.with_numbers name.now one.now two.now }
+    ensures within { IfSome result IsWithin }
+{
+    if name == "serve" {
+        serve_of(one, two)
+    } else if name == "make" {
+        make_of(one, two)
+    } else {
+        None
+    }
+}
+
 fn race_of(lanes: usize) -> Option<Task>
-    ensures { result ≡ spec.race_of lanes }
+    ensures value { result ≡ spec.race_of lanes }
+    ensures within { IfSome result IsWithin }
 {
     if 2 <= lanes && lanes <= 16 {
         Some(Task::Desk(DeskTask::Race))
@@ -47,11 +76,12 @@ fn race_of(lanes: usize) -> Option<Task>
 }
 
 fn with_words(name: &str, rest: &[&str]) -> Option<Task>
-    ensures { result ≡ spec.with_words name.now (map (λ w. w.now) rest.entry.now) }
+    ensures value { result ≡ spec.with_words name.now (map (λ w. w.now) rest.entry.now) }
+    ensures within { IfSome result IsWithin }
 {
     match rest {
         [_] => with_source(name),
-        [port, connections] if name == "serve" => serve_of(port, connections),
+        [one, two] => with_numbers(name, one, two),
         _ => None,
     }
 }
@@ -59,7 +89,8 @@ fn with_words(name: &str, rest: &[&str]) -> Option<Task>
 /// What a name asks for with the words after it.
 #[tactic(auto, using(crate::proofs::Found::race_of_words))]
 pub(crate) fn task_of(name: &str, rest: &[&str]) -> Option<Task>
-    ensures { result ≡ spec.task_of name.now (map (λ w. w.now) rest.entry.now) }
+    ensures value { result ≡ spec.task_of name.now (map (λ w. w.now) rest.entry.now) }
+    ensures within { IfSome result IsWithin }
 {
     if name == "race" {
         race_of(rest.len())

@@ -1,11 +1,11 @@
-ghost use Rattle.std.specs.Prelude.{◌≡◌, false, true, drop, map, string_bytes, IfOk, IfErr};
+ghost use Rattle.std.specs.Prelude.{◌≡◌, false, true, drop, map, string_bytes, IfOk, IfErr, IfSome};
 ghost use Rattle.std.specs.List.{list_all};
 ghost use Rattle.std.specs.Option.{option_map};
 ghost use Rattle.clap.specs.Words.{app_of, kind_of, subcommand_rows_of};
 ghost use Rattle.clap.specs.declared.builder.command.Command.TheViews.{out-Command};
 ghost use Rattle.words.specs.Names as names;
 ghost use Rattle.words.specs.Words as spec;
-ghost use Rattle.words.specs.Words.{command_of, task_in};
+ghost use Rattle.words.specs.Words.{command_of, task_in, IsWithin};
 
 use crate::asked::task_of;
 use crate::{DeskTask, Task};
@@ -26,7 +26,12 @@ fn is_word(word: &str) -> bool
 fn is_name(word: &str) -> bool
     ensures { result ≡ spec.is_name word.now }
 {
-    word == "run" || word == "weather" || word == "serve" || word == "race"
+    word == "run"
+        || word == "race"
+        || word == "serve"
+        || word == "weather"
+        || word == "import"
+        || word == "make"
 }
 
 fn are_words(words: &[String]) -> bool
@@ -69,9 +74,11 @@ fn desk<'a>(alloc: Global) -> Result<Command<'a>, AllocError>
         .disable_version_flag(true)
         .subcommand_required(true)
         .subcommand(leaf(alloc, "run")?)?
-        .subcommand(leaf(alloc, "weather")?)?
+        .subcommand(leaf(alloc, "race")?)?
         .subcommand(leaf(alloc, "serve")?)?
-        .subcommand(leaf(alloc, "race")?)
+        .subcommand(leaf(alloc, "weather")?)?
+        .subcommand(leaf(alloc, "import")?)?
+        .subcommand(leaf(alloc, "make")?)
 }
 
 // A name and words after it are read, unless memory runs out.
@@ -87,7 +94,8 @@ fn read<'a>(alloc: Global, words: &'a [String]) -> Result<ArgMatches<'a>, Error>
 
 // What was found: what a name asks for, with the words after it.
 fn asked_in(matches: &ArgMatches<'_>) -> Option<Task>
-    ensures { result ≡ names.asked_in (subcommand_rows_of matches.now) }
+    ensures value { result ≡ names.asked_in (subcommand_rows_of matches.now) }
+    ensures within { IfSome result IsWithin }
 {
     let (name, found) = matches.subcommand()?;
     task_of(name, found.get_strs("words")?)
@@ -95,7 +103,8 @@ fn asked_in(matches: &ArgMatches<'_>) -> Option<Task>
 
 // What the words ask for.
 fn task_in(alloc: Global, words: &[String]) -> Result<Option<Task>, OutOfMemory>
-    ensures { IfOk result (λ task. task ≡ spec.task_in (map string_bytes words.now)) }
+    ensures value { IfOk result (λ task. task ≡ spec.task_in (map string_bytes words.now)) }
+    ensures within { IfOk result (λ task. IfSome task IsWithin) }
 {
     if !are_named(words) {
         return Ok(None);
@@ -122,15 +131,17 @@ fn named(task: Task, words: &[String]) -> &[String]
     ensures { map string_bytes result.now ≡ spec.named task (drop 1 (map string_bytes words.now)) }
 {
     match task {
-        Task::Desk(DeskTask::Serve { .. }) => &[],
+        Task::Desk(DeskTask::Serve { .. } | DeskTask::Make { .. }) => &[],
         _ => rest_of(words),
     }
 }
 
 /// The command that the words form: what is to be done, and the names of the sources that are read for it.
 pub fn command(alloc: Global, words: &[String]) -> Result<Option<(Task, &[String])>, OutOfMemory>
-    ensures { IfOk result (λ c. option_map (λ c. (c.0, map string_bytes c.1.now)) c
+    ensures value { IfOk result (λ c. option_map (λ c. (c.0, map string_bytes c.1.now)) c
         ≡ command_of (map string_bytes words.now)) }
+    // So many flights as it makes can be made.
+    ensures within { IfOk result (λ c. IfSome c (λ c. IsWithin c.0)) }
 {
     match task_in(alloc, words)? {
         Some(task) => Ok(Some((task, named(task, words)))),

@@ -16,4 +16,8 @@ pub enum DeskTask {
     Race,
     /// So many connections are served at a port.
     Serve { port: u16, connections: u32 },
+    /// The reports of a file are imported.
+    Import,
+    /// So many flights are made of a number.
+    Make { number: u32, count: u32 },
 }

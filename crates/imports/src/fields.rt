@@ -1,0 +1,24 @@
+ghost use Rattle.std.specs.Prelude.{◌≡◌, IsTrue, IsUtf8};
+ghost use Rattle.call_json.specs.Forms.{IsShort};
+ghost use Rattle.imports.specs.Records as spec;
+
+use std::str;
+
+/// Whether a field is a text.
+pub(crate) fn is_text(field: &[u8]) -> bool
+    ensures value { result ≡ spec.is_text field.now }
+    ensures form { IsTrue result → IsUtf8 field.now }
+{
+    match str::from_utf8(field) {
+        Ok(_) => true,
+        Err(_) => false,
+    }
+}
+
+/// Whether a field is a text of at most 64 bytes.
+pub(crate) fn is_short(field: &[u8]) -> bool
+    ensures value { result ≡ spec.is_short field.now }
+    ensures form { IsTrue result → IsShort field.now }
+{
+    is_text(field) && field.len() <= 64
+}

@@ -1,0 +1,3 @@
+pub mod PlanForms
+pub mod FormLaws
+pub mod MakerLaws

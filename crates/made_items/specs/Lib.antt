@@ -1,0 +1,4 @@
+pub mod Numbers
+pub mod Plans
+pub mod Calls
+pub mod Makers
