@@ -1,0 +1,10 @@
+use Rattle.std.proofs.Common.{arith, sym}
+use Rattle.bells.specs.Ringing.{hung}
+use Rattle.bells.proofs.RungLaws.{rung_next}
+use Rattle.bells.proofs.seat.ring_seat.Goals as goal
+
+pub loop-notice-preserved : goal.loop-notice-preserved
+loop-notice-preserved g c =
+    let within = c.loop-notice-test.true in
+    rung_next c.args.notices.now c.loop-notice.notice-index c.notice-item.result (hung g.B.Bell.seen c.args.seat.now) (hung g.B.Bell.seen c.loop-notice.seat)
+    (hung g.B.Bell.seen c.ring_one.new.seat) (omega (arith, within)) (sym c.notice-item.is) c.loop-notice.invariant c.ring_one.ensures

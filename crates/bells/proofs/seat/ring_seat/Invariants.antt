@@ -1,0 +1,7 @@
+use Rattle.std.proofs.Common.{take}
+use Rattle.bells.specs.Ringing.{IsRung, hung}
+use Rattle.bells.proofs.seat.ring_seat.Given as goal
+
+abbrev pub invariant-loop-notice : goal.invariant-loop-notice
+invariant-loop-notice g l =
+    IsRung (take l.notice-index l.notices) (hung g.B.Bell.seen l.initial.seat) (hung g.B.Bell.seen l.seat)

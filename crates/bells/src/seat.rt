@@ -1,0 +1,68 @@
+ghost use Rattle.std.specs.Prelude.{◌≡◌, ◌∷◌, []};
+ghost use Rattle.bells.specs.Ringing as spec;
+ghost use Rattle.bells.specs.Ringing.{AreRung, IsRung, hung, hung_all};
+
+use crate::Bell;
+use alerts::Notice;
+use desk_io::Failed;
+
+/// A bell that a ringer has: its place among those handed in, how many notices it heard, and whether it stays.
+#[derive(Drop)]
+pub(crate) struct Seat<B> {
+    pub place: u64,
+    pub bell: B,
+    pub heard: u64,
+    pub stays: bool,
+}
+
+/// A bell that failed, and hears no more.
+#[derive(Drop)]
+pub struct Dropped<B> {
+    /// Its place among the bells handed in, from 0.
+    pub place: u64,
+    pub bell: B,
+    /// How many notices it heard, as far as the count goes.
+    pub heard: u64,
+}
+
+// A bell of a desk, or of `*`, hears this notice.
+fn concerns(desk: &[u8], notice: &Notice) -> bool
+    ensures { result ≡ spec.concerns desk.now notice.now }
+{
+    desk == b"*".as_slice() || desk == notice.desk.bytes()
+}
+
+#[tactic(auto, using(crate::proofs::RungLaws::passed, crate::proofs::RungLaws::unheard, crate::proofs::RungLaws::rings, crate::proofs::RungLaws::fails))]
+fn ring_one<B: Bell>(seat: &mut Seat<B>, notice: &Notice)
+    ensures { IsRung (notice.now ∷ []) (hung B.seen seat.old) (hung B.seen seat.new) }
+{
+    if !seat.stays {
+        return;
+    }
+    if !concerns(seat.bell.desk().bytes(), notice) {
+        return;
+    }
+    match seat.bell.ring(notice) {
+        Ok(()) => seat.heard = seat.heard.saturating_add(1),
+        Err(Failed) => seat.stays = false,
+    }
+}
+
+// The bell hears those of the notices that concern it, in order, until it fails. Then it is dropped, and hears no
+// more.
+fn ring_seat<B: Bell>(seat: &mut Seat<B>, notices: &[Notice])
+    ensures { IsRung notices.now (hung B.seen seat.old) (hung B.seen seat.new) }
+{
+    for notice in notices {
+        ring_one(seat, notice);
+    }
+}
+
+/// Each bell hears those of the notices that concern it.
+pub(crate) fn ring_seats<B: Bell>(seats: &mut [Seat<B>], notices: &[Notice])
+    ensures { AreRung notices.now (hung_all B.seen seats.old) (hung_all B.seen seats.new) }
+{
+    for seat in seats.iter_mut() {
+        ring_seat(seat, notices);
+    }
+}
