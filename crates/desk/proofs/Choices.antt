@@ -1,9 +1,7 @@
 -- The counts at which a keeper fails, and what comes of items under them.
-use Rattle.std.proofs.Common.{◌≡◌, ℕ, ◌<◌, ◌≤◌, List, [], ◌∷◌, ◌++◌, length, map, drop, get_or, ◌+◌, append-nil, append_assoc, Option, None, Some, IfSome, refl, ap, sym, ◌∙◌, subst, arith}
+use Rattle.std.proofs.Common.{◌≡◌, ℕ, ◌<◌, ◌≤◌, List, [], ◌∷◌, ◌++◌, length, map, append-nil, append_assoc, Option, None, Some, IfSome, refl, ap, sym, ◌∙◌, subst, arith}
 use Rattle.std.specs.Prelude.{option_to_list, nat_lt, Bool, true, false, Result, Ok, Err, IfOk}
-use Rattle.std.specs.List.{concat, AllByRecursion}
-use Rattle.desk.specs.Shown.{IsShown}
-use Rattle.std.proofs.lemmas.List.{drop_more, drop_all}
+use Rattle.std.specs.List.{concat}
 use Rattle.asks.specs.declared.call.Call.{Call}
 use Rattle.asks.specs.declared.kept.KeptReply.{KeptReply}
 use Rattle.asks.specs.declared.reply.Reply.{Reply}
@@ -18,7 +16,6 @@ use Rattle.desk_state.specs.Lanes.{outcomes, after_items}
 use Rattle.desk_state.specs.State.{State, is_full}
 use Rattle.desk_state.specs.Step.{Stepped, stay, answer_call, tick_to, tick_unless, ticked, full_reply}
 use Rattle.desk_state.specs.Requests.{kept_at}
-use Rattle.desk_state.specs.Texts.{closing}
 use Rattle.desk_state.specs.declared.lanes.Item.{Item}
 use Rattle.desk_state.specs.declared.lanes.Item.TheVariants as item
 use Rattle.desk_state.specs.declared.lanes.Outcome.{Outcome}
@@ -26,7 +23,6 @@ use Rattle.desk_state.specs.declared.lanes.Said.TheVariants as said
 use Rattle.asks.specs.declared.bad_call.BadCall.{BadCall}
 use Rattle.desk.specs.Keeping.{Choice, Given, GivenBetween, given, no_choice, adds, kept_or, unkept_if, once_ticked, made_after, made_by, answer_with, item_with, bad_given, commits_after_item, outcomes_with, after_with, Rise, numbers_of, AreNow, Counted, CountedOnce, IsGiven, AreGiven, AreGivenSoFar}
 use Rattle.desk.specs.declared.answering.Answered.{Answered}
-use Rattle.desk.specs.Run.{items_of, lines_of, texts_of, run_from, run_with, after_run, IsRun}
 
 -- ---- the counts
 
@@ -43,7 +39,7 @@ rise_on low [] ms middle high one two = rise_lower low middle ms high one two
 rise_on low (n ∷ ns) ms middle high one two = (one.0, rise_on n ns ms middle high one.1 two)
 
 -- numbers that rise from a number to the same number are none
-rise_none : (n : ℕ) (ns : List ℕ) → Rise n ns n → ns ≡ []
+pub rise_none : (n : ℕ) (ns : List ℕ) → Rise n ns n → ns ≡ []
 rise_none n [] rise = refl
 rise_none n (m ∷ ms) rise = absurd (let more = rise_within m ms n rise.1 in let less = rise.0 in omega (arith, more, less))
 
@@ -127,19 +123,6 @@ pub given_next : (lane before middle after : ℕ) (s : State) (items : List Item
 given_next lane before middle after s items t u left rest i made more c o is so_far counted outcome state pushed =
     given_on lane before middle after s items t u i rest made more c o (subst (λ is. AreGivenSoFar lane before middle s items t is made) is so_far) counted outcome state pushed
 
-pub item_left : (items : List Item) (place : ℕ) (i : Item) → place < length items → i ≡ get_or items place i → drop place items ≡ i ∷ drop (place + 1) items
-item_left items place i within at = drop_more items place i within ∙ ap (λ (first : Item). first ∷ drop (place + 1) items) (sym at)
-
-pub none_left : (items : List Item) (place : ℕ) → length items ≤ place → drop place items ≡ []
-none_left items place past = drop_all place items past
-
-shown_on : (made : List Outcome) (o : Outcome) → AllByRecursion IsShown made → IsShown o → AllByRecursion IsShown (made ++ o ∷ [])
-shown_on [] o all is = (is, tt)
-shown_on (x ∷ made) o all is = (all.0, shown_on made o all.1 is)
-
-pub shown_next : (made more : List Outcome) (o p : Outcome) → more ≡ made ++ o ∷ [] → o ≡ p → AllByRecursion IsShown made → IsShown p → AllByRecursion IsShown more
-shown_next made more o p pushed same all is = subst (AllByRecursion IsShown) (sym pushed) (shown_on made o all (subst IsShown (sym same) is))
-
 -- after the last item
 pub all_given : (lane before after : ℕ) (s : State) (items : List Item) (t : State) (left : List Item) (made : List Outcome) → left ≡ [] → AreGivenSoFar lane before after s items t left made
     → AreGiven lane before after s items t made
@@ -208,7 +191,7 @@ quiet_item lane s (item.Call at call) = quiet_call lane s at call
 quiet_one : (lane : ℕ) (s : State) (i : Item) (c : Choice) → c ≡ no_choice → IsAnswered lane s i (item_with c lane s i)
 quiet_one lane s i c is = subst (λ (d : Choice). IsAnswered lane s i (item_with d lane s i)) (sym is) (quiet_item lane s i)
 
-quiet_outcomes : (lane : ℕ) (s : State) (items : List Item) (cs : List Choice) → concat (map numbers_of cs) ≡ [] → outcomes_with lane s items cs ≡ outcomes lane s items
+pub quiet_outcomes : (lane : ℕ) (s : State) (items : List Item) (cs : List Choice) → concat (map numbers_of cs) ≡ [] → outcomes_with lane s items cs ≡ outcomes lane s items
 quiet_outcomes lane s [] cs quiet = refl
 quiet_outcomes lane s (i ∷ rest) [] quiet = refl
 quiet_outcomes lane s (i ∷ rest) (c ∷ cs) quiet =
@@ -218,7 +201,7 @@ quiet_outcomes lane s (i ∷ rest) (c ∷ cs) quiet =
     ∙ ap (λ (u : State). (lanes.answer_item lane s i).outcome ∷ outcomes_with lane u rest cs) one.state
     ∙ ap (λ os. (lanes.answer_item lane s i).outcome ∷ os) (quiet_outcomes lane (lanes.answer_item lane s i).state rest cs first.1)
 
-quiet_after : (lane : ℕ) (s : State) (items : List Item) (cs : List Choice) → concat (map numbers_of cs) ≡ [] → after_with lane s items cs ≡ after_items lane s items
+pub quiet_after : (lane : ℕ) (s : State) (items : List Item) (cs : List Choice) → concat (map numbers_of cs) ≡ [] → after_with lane s items cs ≡ after_items lane s items
 quiet_after lane s [] cs quiet = refl
 quiet_after lane s (i ∷ rest) [] quiet = refl
 quiet_after lane s (i ∷ rest) (c ∷ cs) quiet =
@@ -311,43 +294,7 @@ again_after_tick lane s at call k c t o told called later reached may is given =
     let again = late_is lane s at call k c later may is (ap (λ (u : State). u.moment) (sym given.its_state) ∙ reached) in
     (given.its_outcome ∙ again.outcome, given.its_state ∙ again.state)
 
--- ---- the text of a run
-
-steady_text : (before after : ℕ) (s : State) (script : List ℕ) (choices : List Choice) → Counted before choices after → after ≡ before → run_with choices s script ≡ run_from s script
-unfolding run_with run_from after_run
-steady_text before after s script choices counted same =
-    let items : List Item = items_of (lines_of script) in
-    let quiet = rise_none before (concat (map numbers_of choices)) (subst (λ (n : ℕ). Counted before choices n) same counted) in
-    ap (λ os. texts_of os ++ closing (after_with 1 s items choices)) (quiet_outcomes 1 s items choices quiet)
-    ∙ ap (λ (u : State). texts_of (outcomes 1 s items) ++ closing u) (quiet_after 1 s items choices quiet)
-
-run_says : (before after : ℕ) (s : State) (script : List ℕ) (t : State) (made : List Outcome) → (all : AreGiven 1 before after s (items_of (lines_of script)) t made)
-    → texts_of made ++ closing t ≡ run_with all.choices s script
-unfolding run_with after_run
-run_says before after s script t made all =
-    ap (λ os. texts_of os ++ closing t) all.outcomes
-    ∙ ap (λ (u : State). texts_of (outcomes_with 1 s (items_of (lines_of script)) all.choices) ++ closing u) all.state
-
-run_ends : (before after : ℕ) (s : State) (script : List ℕ) (t : State) (made : List Outcome) → (all : AreGiven 1 before after s (items_of (lines_of script)) t made) → t ≡ after_run all.choices s script
-unfolding after_run
-run_ends before after s script t made all = all.state
-
-is_run : (before after : ℕ) (s : State) (script : List ℕ) (t : State) (made : List Outcome) (text : List ℕ) → AreGiven 1 before after s (items_of (lines_of script)) t made
-    → text ≡ texts_of made ++ closing t → IsRun before after s script t text
-is_run before after s script t made text all is =
-    let says = is ∙ run_says before after s script t made all in
-    record {
-      choices = all.choices;
-      counted = all.counted;
-      says = says;
-      state = run_ends before after s script t made all;
-      steady = λ same. says ∙ steady_text before after s script all.choices all.counted same;
-    }
-
-pub is_run_of : (before after : ℕ) (s : State) (script : List ℕ) (t : State) (made : List Outcome) (text : List ℕ) (items : List Item) → items ≡ items_of (lines_of script)
-    → AreGiven 1 before after s items t made → text ≡ texts_of made ++ closing t → IsRun before after s script t text
-is_run_of before after s script t made text items are all is =
-    is_run before after s script t made text (subst (λ is. AreGiven 1 before after s is t made) are all) is
+-- ---- a line that is no call
 
 no_call : (faults lane asked : ℕ) (s : State) (fault : BadCall) (o : Outcome) (ticked called : List Notice) → o ≡ (bad_given s fault).outcome → ticked ≡ [] → called ≡ []
     → GivenBetween faults faults (λ c. asked ≡ commits_after_item c lane s (item.Bad fault) asked) (λ c. item_with c lane s (item.Bad fault)) s o ticked called
@@ -359,7 +306,6 @@ no_call faults lane asked s fault o ticked called outcome none nothing = record 
   is = record { its_outcome = outcome; its_state = refl; its_tick = none; its_call = nothing };
 }
 
--- a line that is no call
 bad_between : (faults lane asked : ℕ) (s : State) (i : Item) (fault : BadCall) (o : Outcome) (ticked called : List Notice) → i ≡ item.Bad fault → o ≡ (bad_given s fault).outcome → ticked ≡ [] → called ≡ []
     → GivenBetween faults faults (λ c. asked ≡ commits_after_item c lane s i asked) (λ c. item_with c lane s i) s o ticked called
 bad_between faults lane asked s i fault o ticked called bad outcome none nothing =

@@ -1,5 +1,5 @@
 -- An answer judges no more plans than its tick and its call together.
-use Rattle.std.proofs.Common.{◌≡◌, ℕ, ◌+◌, ◌≤◌, Bool, true, false, Option, None, Some, ap, ◌∙◌, subst, arith}
+use Rattle.std.proofs.Common.{◌≡◌, ℕ, ◌+◌, ◌≤◌, Bool, true, false, Option, None, Some, ap, arith}
 use Rattle.asks.specs.declared.call.Ask.{Ask}
 use Rattle.asks.specs.declared.reply.Reply.{Reply}
 use Rattle.desk_state.specs.Counting.{most_judged, most_ticked}

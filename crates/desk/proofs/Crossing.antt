@@ -3,6 +3,8 @@ use denote.RattleType.{RattleType}
 use denote.Param.Send.{IsSend, sendable}
 use Rattle.std.proofs.Crossing.{crosses}
 use Rattle.asks.specs.contracts.bad_call.BadCall as BadCall
+use Rattle.bells.proofs.Crossing.{Ringer_field_send}
+use Rattle.bells.specs.declared.bell.Bell as Bell
 use Rattle.board.proofs.Crossing.{Board_field_send, Call_field_send, Reply_field_send}
 use Rattle.desk_state.specs.contracts.lanes.Item as Item
 use Rattle.desk_state.specs.contracts.lanes.Outcome as Outcome
@@ -28,8 +30,9 @@ Outcome_send = search (sendable, crosses, Said_send) depth 60 fits 9000
 pub Lane_send : IsSend (Lane.the_field).row
 Lane_send = search (sendable, crosses, Item_send, Outcome_send) depth 60 fits 9000
 
-pub Desk_send : (K : RattleType) → IsSend K → IsSend (Desk.the_field K).row
-Desk_send K s = search (sendable, crosses, Board_field_send) depth 60 fits 5000
+pub Desk_send : (K B : RattleType) → IsSend K → IsSend B → IsSend (Desk.the_field K B).row
+Desk_send K B s b = search (sendable, crosses, Board_field_send, Ringer_field_send) depth 60 fits 5000
 
-pub Round_send : (J K : RattleType) → IsSend J → IsSend K → (a : Beginning.Ghosts J.Denot) → (b : Keeper.Ghosts K.Denot) → IsSend (Round.the_row J K a b)
-Round_send J K j k a b = search (sendable, crosses, Desk_send, Lane_send) depth 60 fits 5000
+pub Round_send : (J K B : RattleType) → IsSend J → IsSend K → IsSend B → (a : Beginning.Ghosts J.Denot) → (b : Keeper.Ghosts K.Denot) → (d : Bell.Ghosts B.Denot)
+    → IsSend (Round.the_row J K B a b d)
+Round_send J K B j k h a b d = search (sendable, crosses, Desk_send, Lane_send) depth 60 fits 5000

@@ -1,7 +1,6 @@
 -- What an item of a lane adds to the history: a tick or none, and then an entry of its own or none.
-use Rattle.std.proofs.Common.{◌≡◌, ℕ, zero, suc, ◌+◌, ◌-◌, ◌<◌, ◌≤◌, ◌⊎◌, inl, inr, Bool, true, false, not, ◌&&◌, ◌||◌, MatchBool, List, [], ◌∷◌, ◌++◌, length, take, map, append-nil, append_assoc, length-append, Option, None, Some, IfSome, Result, Ok, Err, refl, ap, sym, ◌∙◌, subst, arith}
+use Rattle.std.proofs.Common.{◌≡◌, ℕ, zero, suc, ◌+◌, ◌-◌, ◌<◌, ◌≤◌, ◌⊎◌, inl, inr, Bool, true, false, MatchBool, List, [], ◌∷◌, ◌++◌, length, take, append-nil, append_assoc, length-append, Option, None, Some, IfSome, Result, Ok, Err, refl, ap, sym, ◌∙◌, subst, arith}
 use Rattle.std.specs.Prelude.{nat_le, nat_lt, slice_get, option_to_list}
-use Rattle.std.specs.List.{concat}
 use Rattle.std.proofs.lemmas.Bool.{lt-ltb, le-ltb}
 use Rattle.std.proofs.lemmas.Bool.Decides.{nat_tests}
 use Rattle.std.proofs.lemmas.List.{append_cancel_left}
@@ -29,19 +28,18 @@ use Rattle.desk_state.specs.Repeats.{IsAskable}
 use Rattle.desk_state.specs.Requests.{kept_at}
 use Rattle.desk_state.specs.Sound.{IsBoard}
 use Rattle.desk_state.specs.State.{State, is_full, is_full_for}
-use Rattle.desk_state.specs.Step.{Stepped, entry, stay, accepted, enter, finish, do_call, changes, changes_by, do_unless, answer_call, full_reply, ticked, tick_unless, tick_to, without_key}
+use Rattle.desk_state.specs.Step.{Stepped, entry, stay, accepted, enter, finish, do_call, changes, changes_by, do_unless, answer_call, full_reply, tick_unless, tick_to, without_key}
 use Rattle.desk_state.specs.declared.effect.Decision.{Decision}
 use Rattle.desk_state.specs.declared.effect.Decision.TheVariants.{Show, Do}
 use Rattle.desk_state.specs.declared.effect.Effect.{Effect}
 use Rattle.desk_state.specs.declared.entry.Entry.{Entry}
-use Rattle.desk_state.specs.declared.entry.What.{What}
 use Rattle.desk_state.specs.declared.entry.What.TheVariants as what
 use Rattle.desk_state.specs.declared.lanes.Item.{Item}
 use Rattle.desk_state.specs.declared.lanes.Item.TheVariants as item
 use Rattle.desk_state.specs.declared.lanes.Said.{Said}
 use Rattle.desk_state.specs.declared.lanes.Said.TheVariants as said
-use Rattle.desk.specs.Keeping.{Choice, Counted, Rise, Given, given, adds, kept_or, unkept_if, made_with, ticked_with, once_ticked, made_after, made_by, answer_with, item_with, numbers_of}
-use Rattle.desk.specs.Positions.{after_entries, prefix, IsUnkept, IsUnkeptWithin, IsAnswered, IsRefusedBy, IsSaidIn, Accepts, IsEntryOf, ComesAt}
+use Rattle.desk.specs.Keeping.{Choice, Counted, Rise, Given, given, adds, kept_or, unkept_if, made_with, once_ticked, made_after, made_by, answer_with, item_with}
+use Rattle.desk.specs.Positions.{after_entries, prefix, IsUnkept, IsAnswered, IsRefusedBy, IsSaidIn, Accepts, IsEntryOf, ComesAt}
 
 -- ---- a history that goes on
 

@@ -57,6 +57,10 @@ after_next lane before middle after s items t u left rest i made c is so_far cou
     ends_in_part lane before after after s items u u rest (made ++ o ∷ [])
     (given_next lane before middle after s items t u left rest i made (made ++ o ∷ []) c o is so_far counted refl state refl) (omega arith) (none_begun lane rest u u refl)
 
+-- memory ran out between two items
+pub stopped : (lane before after : ℕ) (s : State) (items : List Item) (t : State) (left : List Item) (made : List Outcome) → AreGivenSoFar lane before after s items t left made → AreGivenInPart lane before after s items t
+stopped lane before after s items t left made so_far = ends_in_part lane before after after s items t t left made so_far (omega arith) (none_begun lane left t t refl)
+
 -- before the first item
 pub none_so_far : (lane before : ℕ) (s : State) (items : List Item) {made : List Outcome} → made ≡ [] → AreGivenSoFar lane before before s items s items made
 none_so_far lane before s items none = record {

@@ -5,7 +5,6 @@ use Rattle.std.proofs.lemmas.List.Elements.{All-from_recursion}
 use Rattle.board.specs.Prepare.{Shown}
 use Rattle.desk_io.specs.Rows.{Rows}
 use Rattle.desk_io.specs.declared.rows.Row.{Row}
-use Rattle.keeper.specs.Order as order
 use Rattle.kept_state.specs.Rows.{records_of}
 use Rattle.kept_state.proofs.RecordsAgain.{state_again}
 use Rattle.kept_state.proofs.DeskRecords.{records_formed}

@@ -1,26 +1,26 @@
 -- One more turn of a lane is merged into what has come before it.
-use Rattle.std.proofs.Common.{◌≡◌, ℕ, zero, suc, ◌<◌, ◌≤◌, ◌+◌, ◌==◌, Bool, true, false, List, [], ◌∷◌, ◌++◌, length, map, filter, take, get_or, set, length-append, append-nil, Option, None, Some, refl, ap, sym, ◌∙◌, subst, arith, if◌then◌else◌, inl, inr, ◌⊎◌}
+use Rattle.std.proofs.Common.{◌≡◌, ℕ, zero, suc, ◌<◌, ◌≤◌, ◌+◌, ◌==◌, Bool, true, false, List, [], ◌∷◌, ◌++◌, length, map, take, get_or, set, length-append, append-nil, Option, None, Some, refl, ap, sym, ◌∙◌, subst, arith, if◌then◌else◌, inl, inr}
+use Rattle.std.specs.Bool.{OnTrue}
 use Rattle.std.specs.List.{AllByRecursion, concat}
-use Rattle.std.specs.Prelude.{slice_get, All, MatchBool}
+use Rattle.std.specs.Prelude.{slice_get, MatchBool}
 use Rattle.std.proofs.lemmas.Bool.Decides.{nat_tests}
 use Rattle.std.proofs.lemmas.List.{map-append, take_more, set-get_or}
 use Rattle.std.proofs.lemmas.List.Elements.{filter-append}
 use Rattle.std.proofs.lemmas.Option.{slice_get_within, slice_get_read, get_or_from_slice_get}
-use Rattle.std.proofs.Math.Seq.{map-set_same}
 use Rattle.desk_state.specs.Repeats.{IsAskable}
 use Rattle.desk_state.specs.State.{State}
 use Rattle.desk_state.specs.declared.lanes.Item.{Item}
 use Rattle.desk_state.specs.declared.lanes.Outcome.{Outcome}
 use Rattle.desk.proofs.Choices.{counted_on, rise_lower}
 use Rattle.desk.proofs.SeenLaws.{desk_on, desk_stays}
-use Rattle.desk.specs.InPart.{MayHaveBegun}
-use Rattle.desk.specs.Keeping.{Choice, Counted, Rise, numbers_of, item_with}
-use Rattle.desk.specs.Merge.{Turn, Event, turn_given, event_of, after_turns, events_of, choices_of, of_lane, LaneHas, IsAmong, AreMerged, AreMergedInPart, TakesTurn, HasBegun, HasBegunOne, IsFresh}
+use Rattle.desk.specs.Keeping.{Counted, Rise, numbers_of}
+use Rattle.desk.specs.Merge.{Turn, Event, turn_given, event_of, after_turns, events_of, choices_of, of_lane, LaneHas, IsAmong, AreMerged, AreMergedInPart, TakesTurn, HasBegun, IsFresh}
 use Rattle.desk.specs.Race.{lanes_of, IsRaceInPart}
 use Rattle.desk.specs.Round.{Began, IsRound, AreTaken, items_in}
 use Rattle.desk.specs.Run.{LaneShown, lane_with}
 use Rattle.desk.specs.Seen.{DeskSeen, DeskGoesOn, desk_seen}
 use Rattle.desk.specs.declared.settling.Desk.{Desk}
+use Rattle.bells.specs.Seen.{BellSeen}
 use Rattle.keeper.specs.Seen.{KeeperSeen}
 
 -- ---- one more turn
@@ -219,10 +219,10 @@ round_ends began old new lanes place lane round found begun goes = record {
   taken = merged_ends began.desk.keeper.health.faults old.keeper.health.faults new.keeper.health.faults began.desk.state lanes old.state new.state place lane round.taken goes.keeper.health.later found begun;
 }
 
-module _ {K : Type 0} (seen : K → KeeperSeen) (began : Began) (d d' : Desk K) (lanes : List LaneShown) (place : ℕ) (lane grown : LaneShown) (ended : Bool) (open_yet : ended ≡ false) (round : IsRound began (desk_seen seen d) lanes ended)
-    (within : place < length lanes) (at : lane ≡ get_or lanes place lane) (goes : DeskGoesOn (desk_seen seen d) (desk_seen seen d')) where
-  still_open : IsRound began (desk_seen seen d) lanes false
-  still_open = subst (λ (b : Bool). IsRound began (desk_seen seen d) lanes b) open_yet round
+module _ {K B : Type 0} (seen : K → KeeperSeen) (heard : B → BellSeen) (began : Began) (d d' : Desk K B) (lanes : List LaneShown) (place : ℕ) (lane grown : LaneShown) (ended : Bool) (open_yet : ended ≡ false) (round : IsRound began (desk_seen seen heard d) lanes ended)
+    (within : place < length lanes) (at : lane ≡ get_or lanes place lane) (goes : DeskGoesOn (desk_seen seen heard d) (desk_seen seen heard d')) where
+  still_open : IsRound began (desk_seen seen heard d) lanes false
+  still_open = subst (λ (b : Bool). IsRound began (desk_seen seen heard d) lanes b) open_yet round
 
   found_at : slice_get lanes place ≡ Some lane
   found_at = slice_get_read lanes (length lanes) place lane refl within at
@@ -231,25 +231,31 @@ module _ {K : Type 0} (seen : K → KeeperSeen) (began : Began) (d d' : Desk K) 
   same_lanes same = ap (λ (l : LaneShown). set lanes place l) (same ∙ at) ∙ set-get_or lanes place lane
 
   -- where a lane's next item was answered, or it had none
-  pub round_went : (went : Bool) → MatchBool went (TakesTurn (place + 1) lane grown (desk_seen seen d) (desk_seen seen d')) ((grown ≡ lane) × (d' ≡ d)) → IsRound began (desk_seen seen d') (set lanes place grown) ended
+  pub round_went : (went : Bool) → MatchBool went (TakesTurn (place + 1) lane grown (desk_seen seen heard d) (desk_seen seen heard d')) ((grown ≡ lane) × (d' ≡ d)) → IsRound began (desk_seen seen heard d') (set lanes place grown) ended
   round_went true takes =
-      subst (λ (b : Bool). IsRound began (desk_seen seen d') (set lanes place grown) b) (sym open_yet)
-      (round_turns began (desk_seen seen d) (desk_seen seen d') lanes place lane grown still_open found_at takes goes)
+      subst (λ (b : Bool). IsRound began (desk_seen seen heard d') (set lanes place grown) b) (sym open_yet)
+      (round_turns began (desk_seen seen heard d) (desk_seen seen heard d') lanes place lane grown still_open found_at takes goes)
   round_went false still =
-      subst (λ (ls : List LaneShown). IsRound began (desk_seen seen d') ls ended) (sym (same_lanes still.0))
-      (subst (λ (x : Desk K). IsRound began (desk_seen seen x) lanes ended) (sym still.1) round)
+      subst (λ (ls : List LaneShown). IsRound began (desk_seen seen heard d') ls ended) (sym (same_lanes still.0))
+      (subst (λ (x : Desk K B). IsRound began (desk_seen seen heard x) lanes ended) (sym still.1) round)
 
   -- where memory ran out
-  pub round_stops : grown ≡ lane → HasBegun (place + 1) lane d.board.state d'.board.state → IsRound began (desk_seen seen d') (set lanes place grown) true
+  pub round_stops : grown ≡ lane → HasBegun (place + 1) lane d.board.state d'.board.state → IsRound began (desk_seen seen heard d') (set lanes place grown) true
   round_stops same begun =
-      subst (λ (ls : List LaneShown). IsRound began (desk_seen seen d') ls true) (sym (same_lanes same))
-      (round_ends began (desk_seen seen d) (desk_seen seen d') lanes place lane still_open found_at begun goes)
+      subst (λ (ls : List LaneShown). IsRound began (desk_seen seen heard d') ls true) (sym (same_lanes same))
+      (round_ends began (desk_seen seen heard d) (desk_seen seen heard d') lanes place lane still_open found_at begun goes)
 
 -- what was taken is merged, whether memory ran out or not
 pub taken_part : (began : Began) (desk : DeskSeen) (lanes : List LaneShown) (ended : Bool) → AreTaken began desk lanes ended
     → AreMergedInPart began.desk.keeper.health.faults desk.keeper.health.faults began.desk.state lanes desk.state
 taken_part began desk lanes true taken = taken
 taken_part began desk lanes false taken = merged_whole began.desk.keeper.health.faults desk.keeper.health.faults began.desk.state lanes desk.state taken
+
+-- where memory never ran out it is merged whole
+pub taken_whole : (began : Began) (desk : DeskSeen) (lanes : List LaneShown) (ended whole : Bool) → OnTrue whole (ended ≡ false) → AreTaken began desk lanes ended
+    → OnTrue whole (AreMerged began.desk.keeper.health.faults desk.keeper.health.faults began.desk.state lanes desk.state)
+taken_whole began desk lanes ended false never taken = never
+taken_whole began desk lanes ended true never taken = subst (λ (b : Bool). AreTaken began desk lanes b) never taken
 
 -- what is merged, where the keeper's faults are counted from before
 pub merged_lower : (less low high : ℕ) (s t : State) (lanes : List LaneShown) → less ≤ low → AreMerged low high s lanes t → AreMerged less high s lanes t

@@ -1,5 +1,5 @@
 -- The rows that a desk is opened over.
-use Rattle.std.proofs.Common.{◌≡◌, ℕ, List, [], ◌∷◌, map, Option, None, Some, refl, ap, sym, ◌∙◌, ◌⊎◌, inl, inr}
+use Rattle.std.proofs.Common.{◌≡◌, ℕ, false, List, [], ◌∷◌, map, Option, None, Some, refl, ap, sym, ◌∙◌, ◌⊎◌, inl, inr}
 use Rattle.std.specs.Prelude.{IsTrue, Result, Ok, Err, IfErr, IfOk, OnErr, OnOk, MatchResult}
 use Rattle.board.specs.Prepare.{Shown, shown}
 use Rattle.desk_io.specs.Rows.{Rows, rows_of, changed_by}
@@ -52,7 +52,7 @@ match_ok P Q R (Ok x) follows is = follows x is
 match_ok P Q R (Err e) follows is = tt
 
 pub restored_keeps : {E : Type 0} (before after : Option Rows) (records : List Record) (changes : List Change) (s : State) (board : Shown) (r : Result Shown E) → IfOk r (λ b. b ≡ board)
-    → OnOk r (Leads before changes after) → AreLoaded before records → board ≡ shown s s None
+    → OnOk r (Leads before changes after) → AreLoaded before records → board ≡ shown s s None false
     → ((rows : Rows) → AreSame rows (rows_of (map row_of records)) → AreKept (changed_by changes rows) s) → IfOk r (λ b. KeepsState after b.state)
 restored_keeps before after records changes s board (Ok b) is leads loaded shows kept =
     still_keeps after s b.state (ap (λ (x : Shown). x.state) (is ∙ shows)) (opened_keeps before after records changes s loaded leads kept)

@@ -1,15 +1,14 @@
 -- Lanes that are merged into one history: what is said of each of their items follows from where it stands there.
-use Rattle.std.proofs.Common.{◌≡◌, ℕ, zero, suc, ◌+◌, ◌-◌, ◌<◌, ◌≤◌, ◌==◌, ◌⊎◌, inl, inr, Bool, true, false, MatchBool, List, [], ◌∷◌, ◌++◌, length, map, take, get_or, Option, None, Some, refl, ap, sym, ◌∙◌, subst, arith}
-use Rattle.std.specs.Prelude.{nat_le, nat_lt, slice_get, ◌&&◌}
+use Rattle.std.proofs.Common.{◌≡◌, ℕ, zero, suc, ◌+◌, ◌-◌, ◌<◌, ◌≤◌, ◌⊎◌, inl, inr, Bool, true, false, MatchBool, List, [], ◌∷◌, ◌++◌, length, map, get_or, Option, None, Some, refl, ap, sym, ◌∙◌, subst, arith}
+use Rattle.std.specs.Prelude.{nat_le, nat_lt, slice_get}
 use Rattle.std.specs.Bool.{OnTrue}
 use Rattle.std.specs.List.{AllByRecursion, concat, list_all}
 use Rattle.std.proofs.lemmas.Bool.Decides.{nat_tests}
 use Rattle.std.proofs.lemmas.Bool.{and_parts}
 use Rattle.std.proofs.lemmas.List.{length-append}
-use Rattle.std.proofs.lemmas.Option.{slice_get_within, slice_get_cases}
+use Rattle.std.proofs.lemmas.Option.{slice_get_cases}
 use Rattle.asks.specs.declared.call.Call.{Call}
 use Rattle.asks.specs.declared.reply.Reply.{Reply}
-use Rattle.desk_state.specs.Lanes.{said_of}
 use Rattle.desk_state.specs.Legal.{Legal}
 use Rattle.desk_state.specs.Repeats.{IsAskable}
 use Rattle.desk_state.specs.Sound.{IsBoard}
@@ -23,11 +22,11 @@ use Rattle.desk_state.specs.declared.lanes.Item.TheVariants as item
 use Rattle.desk_state.specs.declared.lanes.Outcome.{Outcome}
 use Rattle.desk_state.specs.declared.lanes.Said.{Said}
 use Rattle.desk.proofs.Growing.{Grows, Did, IsMade, IsWithin, did, grows_on, grows_long, grows_mid, grows_made, prefix_is, entry_stands}
-use Rattle.desk.proofs.Lines.{LineAt, line_at, at_line, before_in, before_rises, get_map, map_get, take_get, some_is}
+use Rattle.desk.proofs.Lines.{line_at, at_line, before_in, before_rises, get_map, map_get, take_get, some_is}
 use Rattle.desk.proofs.Staged.{Stage, stage, turns_grow, Origin, OfTick, OfCall, origin}
 use Rattle.desk.proofs.Choices.{rise_within}
-use Rattle.desk.specs.Keeping.{Counted, Given, numbers_of}
-use Rattle.desk.specs.Merge.{Turn, Event, turn_given, event_of, after_turns, events_of, choices_of, of_lane, LaneHas, IsAmong, AreMerged, is_done}
+use Rattle.desk.specs.Keeping.{Given, numbers_of}
+use Rattle.desk.specs.Merge.{Turn, Event, turn_given, event_of, after_turns, events_of, choices_of, of_lane, LaneHas, AreMerged, is_done}
 use Rattle.desk.specs.Positions.{prefix, IsUnkept, IsUnkeptWithin, IsAnswered, IsRefusedBy, IsSaidIn, Accepts, IsEntryOf, ComesAt, IsLine, Owns, AreInHistory, AreOneHistory}
 use Rattle.desk.specs.Run.{LaneShown}
 

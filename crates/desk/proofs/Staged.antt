@@ -1,20 +1,17 @@
 -- Each turn of lanes in the state that the turns before it left, and the entries that it adds.
-use Rattle.std.proofs.Common.{◌≡◌, ℕ, zero, suc, ◌+◌, ◌-◌, ◌<◌, ◌≤◌, ◌⊎◌, inl, inr, Bool, true, false, List, [], ◌∷◌, ◌++◌, length, map, append-nil, length-append, Option, None, Some, refl, ap, sym, ◌∙◌, subst, arith}
+use Rattle.std.proofs.Common.{◌≡◌, ℕ, zero, suc, ◌+◌, ◌-◌, ◌<◌, ◌≤◌, ◌⊎◌, inl, inr, Bool, true, false, List, [], ◌∷◌, ◌++◌, length, map, append-nil, length-append, Some, refl, ap, sym, ◌∙◌, subst, arith}
 use Rattle.std.specs.Prelude.{nat_lt, slice_get}
 use Rattle.std.specs.List.{AllByRecursion, concat}
 use Rattle.std.proofs.lemmas.Bool.Decides.{nat_tests}
 use Rattle.std.proofs.lemmas.List.{append_cancel_left}
-use Rattle.std.proofs.lemmas.Option.{slice_get_within}
 use Rattle.desk_state.specs.Repeats.{IsAskable}
 use Rattle.desk_state.specs.Sound.{IsBoard}
 use Rattle.desk_state.specs.State.{State}
 use Rattle.desk_state.specs.Step.{entry}
 use Rattle.desk_state.specs.declared.entry.Entry.{Entry}
 use Rattle.desk_state.specs.declared.entry.What.TheVariants as what
-use Rattle.desk_state.specs.declared.lanes.Item.{Item}
-use Rattle.desk_state.specs.declared.lanes.Said.{Said}
 use Rattle.desk.proofs.Choices.{rise_within}
-use Rattle.desk.proofs.Growing.{Grows, Did, IsMade, MadeOf, TickedTo, did, grows_none, grows_on, grows_long, grows_mid, grows_made, grows_item, grown_on, entries_are, get_past, get_front}
+use Rattle.desk.proofs.Growing.{Grows, Did, IsMade, TickedTo, did, grows_none, grows_on, grows_long, grows_mid, grows_made, grows_item, grown_on, entries_are, get_past, get_front}
 use Rattle.desk.proofs.Lines.{some_is}
 use Rattle.desk.specs.Keeping.{Choice, Counted, Rise, Given, numbers_of}
 use Rattle.desk.specs.Merge.{Turn, Event, turn_given, event_of, after_turns, events_of, choices_of, IsAmong}

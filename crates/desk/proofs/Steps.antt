@@ -1,5 +1,5 @@
 -- A prepared step that is kept, or isn't.
-use Rattle.std.proofs.Common.{◌≡◌, ℕ, ◌+◌, ◌<◌, Bool, true, false, List, [], ◌∷◌, ◌++◌, length, Option, None, Some, is_some, IfOk, Result, Ok, Err, refl, ap, sym, ◌∙◌, subst, arith, inl, inr, ◌⊎◌}
+use Rattle.std.proofs.Common.{◌≡◌, ℕ, Bool, true, false, List, [], ◌∷◌, ◌++◌, length, Option, None, Some, is_some, IfOk, Result, Ok, Err, refl, ap, sym, ◌∙◌, subst, arith, inl, inr}
 use Rattle.std.specs.Prelude.{nat_lt}
 use Rattle.std.proofs.lemmas.Bool.{lt-ltb, le-ltb}
 use Rattle.std.proofs.lemmas.List.{length-append}
@@ -12,7 +12,7 @@ use Rattle.board.specs.Prepare.{installed, IsStepped, KeepsRows, Shown, shown}
 use Rattle.desk_state.specs.Install.{with_events}
 use Rattle.desk_state.specs.declared.event.Event.{Event}
 use Rattle.board.specs.declared.prepared.Prepared.{Prepared}
-use Rattle.desk_io.specs.Rows.{Rows, rows_of, changed_by}
+use Rattle.desk_io.specs.Rows.{Rows, changed_by}
 use Rattle.desk_io.specs.declared.rows.Change.{Change}
 use Rattle.keeper.specs.Kept.{AreSame, Leads}
 use Rattle.kept_state.specs.Rows.{AreKept}
@@ -122,12 +122,12 @@ stepped_is s p t is =
     ∙ ap (λ (after : State). record { reply = t.reply; state = after; notices = p.notices }) is.state
     ∙ ap (λ (notices : List Notice). record { reply = t.reply; state = t.state; notices = notices }) is.notices
 
-pub settled_is : {E : Type 0} (result : Result Settled E) (after : State) (b : Shown) (opening s : State) (room : Option Prepared) (p : Prepared) (t : Stepped) → b ≡ shown opening s room
-    → IsStepped s p t → IfOk result (λ r. IsSettled r after (kept_or r.fault b.state (stepped_by b.state p))) → IfOk result (λ r. IsSettled r after (kept_or r.fault s t))
-settled_is result after b opening s room p t is stepped settled =
+pub settled_is : {E : Type 0} (result : Result Settled E) (after : State) (b : Shown) (opening s : State) (room : Option Prepared) (listed : Bool) (p : Prepared) (t : Stepped)
+    → b ≡ shown opening s room listed → IsStepped s p t → IfOk result (λ r. IsSettled r after (kept_or r.fault b.state (stepped_by b.state p))) → IfOk result (λ r. IsSettled r after (kept_or r.fault s t))
+settled_is result after b opening s room listed p t is stepped settled =
     subst (λ (x : Stepped). IfOk result (λ r. IsSettled r after (kept_or r.fault s x))) (stepped_is s p t stepped)
     (subst (λ (c : Shown). IfOk result (λ r. IsSettled r after (kept_or r.fault c.state (stepped_by c.state p)))) is settled)
 
 -- the same rows, of the state that a board shows
-pub keeps_as : (b : Shown) (opening s : State) (room : Option Prepared) (p : Prepared) → b ≡ shown opening s room → KeepsRows s p → KeepsRows b.state p
-keeps_as b opening s room p is kept = subst (λ (c : Shown). KeepsRows c.state p) (sym is) kept
+pub keeps_as : (b : Shown) (opening s : State) (room : Option Prepared) (listed : Bool) (p : Prepared) → b ≡ shown opening s room listed → KeepsRows s p → KeepsRows b.state p
+keeps_as b opening s room listed p is kept = subst (λ (c : Shown). KeepsRows c.state p) (sym is) kept

@@ -4,6 +4,7 @@ pub mod Shown
 pub mod Keeping
 pub mod Settled
 pub mod Opening
+pub mod Heard
 pub mod Seen
 pub mod Again
 pub mod Counted
@@ -11,3 +12,5 @@ pub mod Merge
 pub mod Round
 pub mod Positions
 pub mod Race
+pub mod Items
+pub mod Made

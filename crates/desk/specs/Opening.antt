@@ -1,5 +1,5 @@
 -- Which desk is opened over the rows of a keeper, or why none is.
-use Rattle.std.specs.Prelude.{◌≡◌, ◌⊎◌, ◌<◌, ◌≤◌, ℕ, List, [], ◌∷◌, length, Option, None, Some, IsTrue}
+use Rattle.std.specs.Prelude.{◌≡◌, ◌⊎◌, ◌<◌, ◌≤◌, ℕ, Bool, List, [], ◌∷◌, length, Option, None, Some, IsTrue}
 use Rattle.board.specs.Prepare.{Shown, shown}
 use Rattle.desk_io.specs.Planned.{after}
 use Rattle.desk_io.specs.Rows.{Rows}
@@ -84,8 +84,8 @@ abbrev pub under : TableRows → State → State
 under tables s = record s { tables = tables; entries = [] }
 
 -- the board that records stand for under some tables, once its releases are judged
-abbrev pub board_of : TableRows → List Record → Shown
-board_of tables records = shown (reopened (state_in tables records)) (reopened (state_in tables records)) None
+abbrev pub board_of : TableRows → List Record → Bool → Shown
+board_of tables records listed = shown (reopened (state_in tables records)) (reopened (state_in tables records)) None listed
 
 -- ---- what is asked of a keeper
 
@@ -117,4 +117,4 @@ MayHaveAsked told tables before now = (now ≡ before) ⊎ AreAsked told tables 
 pub record IsOpened (told : Option Rows) (tables : TableRows) (board : Shown) : Type 0 where
   pub records : List Record
   pub loaded : AreLoaded told records
-  pub shows : board ≡ board_of tables records
+  pub shows : board ≡ board_of tables records board.listed

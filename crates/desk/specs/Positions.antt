@@ -1,7 +1,6 @@
 -- What is said of lanes that are merged into one history by the positions of their outcomes: each is the answer in the state after the entries
 -- that stand before it.
-use Rattle.std.specs.Prelude.{◌≡◌, ◌⊎◌, ℕ, ◌+◌, ◌-◌, ◌<◌, ◌≤◌, true, false, nat_le, MatchBool, List, [], ◌∷◌, ◌++◌, length, take, slice_get, Option, None, Some}
-use Rattle.asks.specs.declared.bad_call.BadCall.{BadCall}
+use Rattle.std.specs.Prelude.{◌≡◌, ◌⊎◌, ℕ, ◌+◌, ◌-◌, ◌<◌, ◌≤◌, true, nat_le, MatchBool, List, [], ◌∷◌, ◌++◌, length, take, slice_get, Option, None, Some}
 use Rattle.asks.specs.declared.call.Call.{Call}
 use Rattle.asks.specs.declared.reply.Reply.{Reply}
 use Rattle.asks.specs.declared.reply.Reply.TheVariants.{Refused}

@@ -1,11 +1,12 @@
 -- What lies under the lock of lanes that run at once, and what holds of it whenever the lock is free.
-use Rattle.std.specs.Prelude.{◌≡◌, ◌⊎◌, ℕ, MatchBool, Bool, List, [], map, None, false}
+use Rattle.std.specs.Prelude.{◌≡◌, ℕ, ◌+◌, MatchBool, Bool, List, [], ◌∷◌, ◌++◌, length, map, set, slice_get, Some, None, false}
 use Rattle.desk_state.specs.State.{State, start}
 use Rattle.desk_state.specs.declared.lanes.Item.{Item}
 use Rattle.keeper.specs.Seen.{KeeperSeen}
 use Rattle.ops_tables.specs.Tables.{TableRows}
+use Rattle.desk.specs.Keeping.{Choice, item_with}
 use Rattle.desk.specs.Merge.{AreMerged, AreMergedInPart}
-use Rattle.desk.specs.Run.{LaneShown}
+use Rattle.desk.specs.Run.{LaneShown, lane_with}
 use Rattle.desk.specs.Seen.{DeskSeen, DeskGoesOn}
 
 abbrev pub items_in : LaneShown → List Item
@@ -38,6 +39,17 @@ pub record IsRound (began : Began) (desk : DeskSeen) (lanes : List LaneShown) (e
   pub items : map items_in lanes ≡ began.items
   pub taken : AreTaken began desk lanes ended
 
+-- The next item of the lane at a place, from 0, is answered in the state in which the desk is then, under some choice of where the keeper fails:
+-- its outcome comes to the lane, the state is the one after it, and the other lanes stay.
+pub record IsTaken (place : ℕ) (old new : RoundShown) : Type 0 where
+  pub lane : LaneShown
+  pub item : Item
+  pub choice : Choice
+  pub found : slice_get old.lanes place ≡ Some lane
+  pub next : slice_get lane.items (length lane.outcomes) ≡ Some item
+  pub state_is : new.state ≡ (item_with choice (place + 1) old.state item).state
+  pub lanes_are : new.lanes ≡ set old.lanes place (lane_with lane.items (lane.outcomes ++ (item_with choice (place + 1) old.state item).outcome ∷ []))
+
 -- no lanes under no tables
 abbrev no_tables : TableRows
 no_tables = record {
@@ -59,4 +71,4 @@ abbrev no_keeper : KeeperSeen
 no_keeper = record { rows = None; commits = 0; health = record { faults = 0; sound = false } }
 
 abbrev pub nowhere : Began
-nowhere = record { desk = record { opening = start no_tables; state = start no_tables; keeper = no_keeper }; items = [] }
+nowhere = record { desk = record { opening = start no_tables; state = start no_tables; keeper = no_keeper; bells = []; listed = false }; items = [] }

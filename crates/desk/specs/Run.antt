@@ -49,23 +49,16 @@ abbrev pub texts_of : List Outcome → List ℕ
 texts_of [] = []
 texts_of (o ∷ rest) = outcome_text o ++ texts_of rest
 
--- the text of a run of a script from a state, where all is kept; its lines are the items of lane 1
-unfoldable pub run_from : State → List ℕ → List ℕ
-run_from s bytes = texts_of (outcomes 1 s (items_of (lines_of bytes))) ++ closing (after_items 1 s (items_of (lines_of bytes)))
-
--- the state after the lines of a script, under choices
-unfoldable pub after_run : List Choice → State → List ℕ → State
-after_run choices s bytes = after_with 1 s (items_of (lines_of bytes)) choices
-
--- the text of a run, where the keeper fails as choices say
-unfoldable pub run_with : List Choice → State → List ℕ → List ℕ
-run_with choices s bytes = texts_of (outcomes_with 1 s (items_of (lines_of bytes)) choices) ++ closing (after_run choices s bytes)
-
--- a run of a script from a state to another, under some choices that the keeper's counts before and after it allow
-pub record IsRun (before after : ℕ) (s : State) (script : List ℕ) (t : State) (text : List ℕ) : Type 0 where
+-- A run of items in lane 1 from a state to another, under some choices that the keeper's counts before and after it allow: a line for
+-- each item, and the closing text.
+pub record IsRunOf (before after : ℕ) (s : State) (items : List Item) (t : State) (text : List ℕ) : Type 0 where
   pub choices : List Choice
   pub counted : Counted before choices after
-  pub says : text ≡ run_with choices s script
-  pub state : t ≡ after_run choices s script
+  pub says : text ≡ texts_of (outcomes_with 1 s items choices) ++ closing t
+  pub state : t ≡ after_with 1 s items choices
   -- where the count stands still, all was kept
-  pub steady : after ≡ before → text ≡ run_from s script
+  pub steady : after ≡ before → text ≡ texts_of (outcomes 1 s items) ++ closing (after_items 1 s items)
+
+-- a run of a script, whose items are those of its lines
+abbrev pub IsRun : ℕ → ℕ → State → List ℕ → State → List ℕ → Type 0
+IsRun before after s script t text = IsRunOf before after s (items_of (lines_of script)) t text

@@ -19,6 +19,7 @@ ghost use Rattle.desk.specs.Shown.{IsShown, CanBeSaid};
 use crate::settling::{Desk, Settled, settle, stayed};
 use alerts::Notices;
 use asks::{Call, Refusal, Reply};
+use bells::Bell;
 use desk_io::OutOfMemory;
 use desk_state::{Outcome, Said};
 use desk_time::{LAST, Minute};
@@ -45,9 +46,9 @@ pub(crate) struct AnsweredWith {
     pub call: Option<u64>,
 }
 
-fn make_call<K: Keeper, L: Ledger>(
+fn make_call<K: Keeper, B: Bell, L: Ledger>(
     alloc: Global,
-    desk: &mut Desk<K>,
+    desk: &mut Desk<K, B>,
     lane: u32,
     call: &Call,
     steps: &mut Steps<L>,
@@ -58,7 +59,7 @@ fn make_call<K: Keeper, L: Ledger>(
     ensures shown { IfOk result (λ r. IfSome r.reply ReplyHasMoment) }
     ensures replied { IfOk result (λ r. is_some r.reply ≡ true) }
     ensures err { OnErr result (desk.new.board.state ≡ desk.old.board.state) }
-    ensures on { DeskGoesOn (desk_seen K.seen desk.old) (desk_seen K.seen desk.new) }
+    ensures on { DeskGoesOn (desk_seen K.seen B.seen desk.old) (desk_seen K.seen B.seen desk.new) }
     ensures count { IfOk result (λ r. CountedOnce (K.seen desk.old.keeper).health.faults r.fault
         (K.seen desk.new.keeper).health.faults) }
     ensures asked { IfOk result (λ r. (K.seen desk.new.keeper).commits ≡ spec.asked_if
@@ -67,13 +68,14 @@ fn make_call<K: Keeper, L: Ledger>(
         → desk.new.keeper ≡ desk.old.keeper }
     ensures steps { steps.new ≤ steps.old + most_judged desk.old.board.state call.now.ask }
 {
+    let _ = desk.board.now();
     let prepared = desk.board.prepare_change(alloc, lane, call, steps)?;
     settle(alloc, desk, prepared)
 }
 
-fn make_tick<K: Keeper, L: Ledger>(
+fn make_tick<K: Keeper, B: Bell, L: Ledger>(
     alloc: Global,
-    desk: &mut Desk<K>,
+    desk: &mut Desk<K, B>,
     lane: u32,
     to: Minute,
     steps: &mut Steps<L>,
@@ -84,7 +86,7 @@ fn make_tick<K: Keeper, L: Ledger>(
         (spec.ticked_with r.fault lane desk.old.board.state to)) }
     ensures shown { IfOk result (λ r. IfSome r.reply ReplyHasMoment) }
     ensures err { OnErr result (desk.new.board.state ≡ desk.old.board.state) }
-    ensures on { DeskGoesOn (desk_seen K.seen desk.old) (desk_seen K.seen desk.new) }
+    ensures on { DeskGoesOn (desk_seen K.seen B.seen desk.old) (desk_seen K.seen B.seen desk.new) }
     ensures count { IfOk result (λ r. CountedOnce (K.seen desk.old.keeper).health.faults r.fault
         (K.seen desk.new.keeper).health.faults) }
     ensures asked { IfOk result (λ r. (K.seen desk.new.keeper).commits ≡ spec.asked_if
@@ -92,14 +94,15 @@ fn make_tick<K: Keeper, L: Ledger>(
     ensures told { IfOk result (λ r. IfSome r.fault (λ n. r.reply ≡ Some (Reply.Refused (Refusal.Unkept n)))) }
     ensures steps { steps.new ≤ steps.old + most_ticked desk.old.board.state to }
 {
+    let _ = desk.board.now();
     let prepared = desk.board.prepare_tick(alloc, lane, to, steps)?;
     settle(alloc, desk, prepared)
 }
 
 // A call once its tick was made, or was refused with a reply.
-fn once_ticked<K: Keeper, L: Ledger>(
+fn once_ticked<K: Keeper, B: Bell, L: Ledger>(
     alloc: Global,
-    desk: &mut Desk<K>,
+    desk: &mut Desk<K, B>,
     lane: u32,
     refused: Option<Reply>,
     call: &Call,
@@ -114,7 +117,7 @@ fn once_ticked<K: Keeper, L: Ledger>(
     ensures count { IfOk result (λ r. CountedOnce (K.seen desk.old.keeper).health.faults r.fault
         (K.seen desk.new.keeper).health.faults) }
     ensures err { OnErr result (desk.new.board.state ≡ desk.old.board.state) }
-    ensures on { DeskGoesOn (desk_seen K.seen desk.old) (desk_seen K.seen desk.new) }
+    ensures on { DeskGoesOn (desk_seen K.seen B.seen desk.old) (desk_seen K.seen B.seen desk.new) }
     ensures asked { IfOk result (λ r. (K.seen desk.new.keeper).commits ≡ spec.asked_once refused lane
         desk.old.board.state call.now (K.seen desk.old.keeper).commits) }
     ensures stays { IfOk result (λ r. IfSome refused
@@ -171,9 +174,9 @@ fn joined(position: u64, ticked: Notices, tick: Option<u64>, settled: Settled) -
     }
 }
 
-fn answer_made<K: Keeper, L: Ledger>(
+fn answer_made<K: Keeper, B: Bell, L: Ledger>(
     alloc: Global,
-    desk: &mut Desk<K>,
+    desk: &mut Desk<K, B>,
     lane: u32,
     call: &Call,
     steps: &mut Steps<L>,
@@ -186,7 +189,7 @@ fn answer_made<K: Keeper, L: Ledger>(
     ensures count { IfOk result (λ j. Counted (K.seen desk.old.keeper).health.faults (choice_of j ∷ [])
         (K.seen desk.new.keeper).health.faults) }
     ensures err { OnErr result (desk.new.board.state ≡ desk.old.board.state) }
-    ensures on { DeskGoesOn (desk_seen K.seen desk.old) (desk_seen K.seen desk.new) }
+    ensures on { DeskGoesOn (desk_seen K.seen B.seen desk.old) (desk_seen K.seen B.seen desk.new) }
     ensures exact { IfOk result (λ j. AreNow (K.seen desk.new.keeper).health.faults (choice_of j)) }
     ensures asked { IfOk result (λ j. (K.seen desk.new.keeper).commits ≡ spec.asked_once None lane
         desk.old.board.state call.now (K.seen desk.old.keeper).commits) }
@@ -199,9 +202,9 @@ fn answer_made<K: Keeper, L: Ledger>(
     Ok(joined(position, Notices::new(alloc), None, settled))
 }
 
-fn answer_late<K: Keeper, L: Ledger>(
+fn answer_late<K: Keeper, B: Bell, L: Ledger>(
     alloc: Global,
-    desk: &mut Desk<K>,
+    desk: &mut Desk<K, B>,
     lane: u32,
     at: Minute,
     call: &Call,
@@ -217,7 +220,7 @@ fn answer_late<K: Keeper, L: Ledger>(
     ensures count { IfOk result (λ j. Counted (K.seen desk.old.keeper).health.faults (choice_of j ∷ [])
         (K.seen desk.new.keeper).health.faults) }
     ensures err { OnErr result (MayHaveTicked lane at desk.old.board.state desk.new.board.state) }
-    ensures on { DeskGoesOn (desk_seen K.seen desk.old) (desk_seen K.seen desk.new) }
+    ensures on { DeskGoesOn (desk_seen K.seen B.seen desk.old) (desk_seen K.seen B.seen desk.new) }
     ensures asked { IfOk result (λ j. (K.seen desk.new.keeper).commits ≡ spec.asked_late j.tick lane
         desk.old.board.state at call.now (K.seen desk.old.keeper).commits) }
     ensures exact { IfOk result (λ j. AreNow (K.seen desk.new.keeper).health.faults (choice_of j)) }
@@ -236,9 +239,9 @@ fn answer_late<K: Keeper, L: Ledger>(
 /// A call of a lane at a moment: the desk ticks to it first, where it is later, and keeps what each of the two changes
 /// before it is made.
 #[tactic(auto, unfolding(crate::specs::Keeping::answer_with, crate::specs::Keeping::commits_after))]
-pub(crate) fn answer_with<K: Keeper, L: Ledger>(
+pub(crate) fn answer_with<K: Keeper, B: Bell, L: Ledger>(
     alloc: Global,
-    desk: &mut Desk<K>,
+    desk: &mut Desk<K, B>,
     lane: u32,
     at: Minute,
     call: &Call,
@@ -252,7 +255,7 @@ pub(crate) fn answer_with<K: Keeper, L: Ledger>(
     ensures count { IfOk result (λ j. Counted (K.seen desk.old.keeper).health.faults (choice_of j ∷ [])
         (K.seen desk.new.keeper).health.faults) }
     ensures err { OnErr result (MayHaveTicked lane at desk.old.board.state desk.new.board.state) }
-    ensures on { DeskGoesOn (desk_seen K.seen desk.old) (desk_seen K.seen desk.new) }
+    ensures on { DeskGoesOn (desk_seen K.seen B.seen desk.old) (desk_seen K.seen B.seen desk.new) }
     ensures exact { IfOk result (λ j. AreNow (K.seen desk.new.keeper).health.faults (choice_of j)) }
     ensures asked { IfOk result (λ j. (K.seen desk.new.keeper).commits ≡ spec.commits_after (choice_of j) lane
         desk.old.board.state at call.now (K.seen desk.old.keeper).commits) }
@@ -270,9 +273,9 @@ pub(crate) fn answer_with<K: Keeper, L: Ledger>(
 /// A call of a lane at a moment, over a keeper: the desk ticks to it first, where it is later, and keeps what each of
 /// the two changes before it is made. What the keeper fails to keep isn't made, and is refused with its count of
 /// faults (26 `Unkept`). Where memory runs out the step at hand changes nothing, and a tick that came first may stand.
-pub fn answer<K: Keeper, L: Ledger>(
+pub fn answer<K: Keeper, B: Bell, L: Ledger>(
     alloc: Global,
-    desk: &mut Desk<K>,
+    desk: &mut Desk<K, B>,
     lane: u32,
     moment: Minute,
     call: &Call,
@@ -283,7 +286,8 @@ pub fn answer<K: Keeper, L: Ledger>(
     // Under some choice that the keeper's counts allow: the numbers of refusals rise strictly. A commit is asked for
     // by the tick and by the call, where each adds an entry, and by nothing else.
     ensures given { IfOk result
-        (λ a. AnswersCall lane moment call.now (desk_seen K.seen desk.old) (desk_seen K.seen desk.new) a) }
+        (λ a. AnswersCall lane moment call.now (desk_seen K.seen B.seen desk.old)
+        (desk_seen K.seen B.seen desk.new) a) }
     // Over a sound keeper nothing is refused for its sake.
     ensures quiet { IsSound (K.seen desk.old.keeper).health
         → IfOk result (λ a. IsSaid (lanes.answer lane desk.old.board.state moment call.now) desk.new.board.state a) }
@@ -300,7 +304,7 @@ pub fn answer<K: Keeper, L: Ledger>(
     ensures kept { IfOk result (λ a. AllMayComeAgain desk.new.board.state) }
     ensures shown { IfOk result (λ a. IsShown a.outcome) }
     ensures err { OnErr result (MayHaveTicked lane moment desk.old.board.state desk.new.board.state) }
-    ensures on { DeskGoesOn (desk_seen K.seen desk.old) (desk_seen K.seen desk.new) }
+    ensures on { DeskGoesOn (desk_seen K.seen B.seen desk.old) (desk_seen K.seen B.seen desk.new) }
     // What changes nothing isn't kept.
     ensures still { moment ≤ desk.old.board.state.moment → adds desk.old.board.state
         (answer_call desk.old.board.state lane call.now) ≡ false → desk.new.keeper ≡ desk.old.keeper }

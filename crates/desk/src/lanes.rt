@@ -10,6 +10,7 @@ ghost use Rattle.desk.specs.Shown.{IsShown};
 
 use crate::settling::Desk;
 use crate::turns::outcome;
+use bells::Bell;
 use desk_io::{LineFeeds, OutOfMemory, Run, runs_between};
 use desk_json::{CallFault, read_line};
 use desk_state::{Item, Outcome};
@@ -37,7 +38,8 @@ impl Model for Lane {
     ghost invariant = { λ l. AllByRecursion IsAskable l.items.items × AllByRecursion IsShown l.outcomes.items };
 }
 
-fn read_item(alloc: Global, line: &[u8]) -> Result<Item, OutOfMemory>
+/// The item of a line.
+pub(crate) fn read_item(alloc: Global, line: &[u8]) -> Result<Item, OutOfMemory>
     ensures value { IfOk result (λ i. i ≡ spec.item_of (line_or_fault line.now)) }
     ensures form { IfOk result IsAskable }
 {
@@ -89,18 +91,18 @@ impl Lane {
     }
 
     /// The lane's next item is answered, if there is one: whether there was. Its outcome has its memory before.
-    pub(crate) fn take_turn<K: Keeper>(
+    pub(crate) fn take_turn<K: Keeper, B: Bell>(
         &mut self,
         alloc: Global,
-        desk: &mut Desk<K>,
+        desk: &mut Desk<K, B>,
         number: u32,
     ) -> Result<bool, OutOfMemory>
         ensures taken { IfOk result (λ went. MatchBool went
-            (TakesTurn number self.old self.new (desk_seen K.seen desk.old) (desk_seen K.seen desk.new))
+            (TakesTurn number self.old self.new (desk_seen K.seen B.seen desk.old) (desk_seen K.seen B.seen desk.new))
             ((self.new ≡ self.old) × (desk.new ≡ desk.old))) }
         ensures same { OnErr result (self.new ≡ self.old) }
         ensures err { OnErr result (HasBegun number self.old desk.old.board.state desk.new.board.state) }
-        ensures on { DeskGoesOn (desk_seen K.seen desk.old) (desk_seen K.seen desk.new) }
+        ensures on { DeskGoesOn (desk_seen K.seen B.seen desk.old) (desk_seen K.seen B.seen desk.new) }
     {
         let done = self.outcomes.len();
         if done >= self.items.len() {
@@ -119,13 +121,5 @@ impl Lane {
         ensures { result ≡ length self.now.outcomes }
     {
         self.outcomes.len()
-    }
-
-    /// Keeps what has come of the items.
-    pub(crate) fn end(&mut self, outcomes: Vec<Outcome>)
-        requires { AllByRecursion IsShown outcomes.items }
-        ensures { self.new ≡ lane_with self.old.items outcomes.items }
-    {
-        self.outcomes = outcomes;
     }
 }

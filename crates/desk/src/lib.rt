@@ -2,8 +2,11 @@
 #![tactic(auto)]
 
 mod answering;
+mod coming;
 mod gates;
+mod imported;
 mod lanes;
+mod made;
 mod opening;
 mod racing;
 mod round;
@@ -14,7 +17,9 @@ mod turns;
 
 pub use answering::{Answered, answer};
 pub use gates::{Gate, OpenGate};
+pub use imported::text_of_import;
 pub use lanes::Lane;
+pub use made::make_from;
 pub use opening::{OpenFault, OpenWhy, leave, open};
 pub use run::{said_text, text_from};
 pub use running::{Finished, Raced, race, run_lanes};

@@ -1,4 +1,4 @@
-ghost use Rattle.std.specs.Prelude.{◌≡◌, ◌⊎◌, map, IfOk, IfErr, OnOk, OnErr, IsTrue, MatchResult};
+ghost use Rattle.std.specs.Prelude.{◌≡◌, ◌⊎◌, false, map, IfOk, IfErr, OnOk, OnErr, IsTrue, MatchResult};
 ghost use Rattle.board.specs.declared.state.Restored.{Restored as ARestored};
 ghost use Rattle.desk_io.specs.Health.{HasFailed};
 ghost use Rattle.desk_io.specs.Rows.{Rows, rows_of, changed_by};
@@ -18,6 +18,7 @@ ghost use Rattle.desk.specs.Opening.{AreLoaded, board_of, IsLeft, IsOpened, Tell
 ghost use Rattle.desk.specs.declared.opening.OpenWhy.TheVariants.{OutOfMemory as OpenMemory};
 
 use crate::settling::Desk;
+use bells::{Bell, Ringer};
 use board::{Board, Restored};
 use desk_io::{Change, OutOfMemory, Row};
 use keeper::{KeepFault, Keeper};
@@ -47,10 +48,11 @@ impl From<OutOfMemory> for OpenWhy {
     }
 }
 
-/// Why a desk can't be opened, and the keeper of its rows, which are as before.
+/// Why a desk can't be opened, the keeper of its rows, which are as before, and who would have rung its bells.
 #[derive(Drop)]
-pub struct OpenFault<K> {
+pub struct OpenFault<K, B> {
     pub keeper: K,
+    pub ringer: Ringer<B>,
     pub why: OpenWhy,
 }
 
@@ -163,7 +165,7 @@ fn restore<K: Keeper, L: Ledger>(
 ) -> Result<Board, OpenWhy>
     requires loaded { AreLoaded (K.seen keeper.old).rows records.items }
     requires desk { AreOfDesk records.items }
-    ensures board { IfOk result (λ b. b ≡ board_of tables records.items) }
+    ensures board { IfOk result (λ b. b ≡ board_of tables records.items false) }
     ensures kept { IfOk result (λ b. KeepsState (K.seen keeper.new).rows b.state) }
     ensures err { OnErr result ((K.seen keeper.new).rows ≡ (K.seen keeper.old).rows) }
     ensures why { IfErr result (IsOfKeeper (HasFailed (K.seen keeper.old).health (K.seen keeper.new).health)) }
@@ -177,16 +179,17 @@ fn restore<K: Keeper, L: Ledger>(
     finish(alloc, keeper, restored)
 }
 
-fn open_over<K: Keeper, L: Ledger>(
+fn open_over<K: Keeper, B: Bell, L: Ledger>(
     alloc: Global,
     tables: Tables,
     records: Vec<Record>,
     mut keeper: K,
+    ringer: Ringer<B>,
     steps: &mut Steps<L>,
-) -> Result<Desk<K>, OpenFault<K>>
+) -> Result<Desk<K, B>, OpenFault<K, B>>
     requires loaded { AreLoaded (K.seen keeper).rows records.items }
     requires desk { AreOfDesk records.items }
-    ensures board { IfOk result (λ d. d.board ≡ board_of tables records.items) }
+    ensures board { IfOk result (λ d. d.board ≡ board_of tables records.items false) }
     ensures kept { IfOk result (λ d. KeepsState (K.seen d.keeper).rows d.board.state) }
     ensures same { IfErr result (λ f. (K.seen f.keeper).rows ≡ (K.seen keeper).rows) }
     ensures why { IfErr result (λ f. IsOfKeeper (HasFailed (K.seen keeper).health (K.seen f.keeper).health) f.why) }
@@ -196,20 +199,30 @@ fn open_over<K: Keeper, L: Ledger>(
         ⊎ ((K.seen f.keeper).commits ≡ commits_to_open tables records.items (K.seen keeper).commits)) }
     ensures on { MatchResult result (λ d. KeeperGoesOn (K.seen keeper) (K.seen d.keeper))
         (λ f. KeeperGoesOn (K.seen keeper) (K.seen f.keeper)) }
+    ensures ringer { MatchResult result (λ d. d.ringer ≡ ringer) (λ f. f.ringer ≡ ringer) }
 {
     match restore(alloc, tables, records, &mut keeper, steps) {
-        Ok(board) => Ok(Desk { board, keeper }),
-        Err(why) => Err(OpenFault { keeper, why }),
+        Ok(board) => Ok(Desk {
+            board,
+            keeper,
+            ringer,
+        }),
+        Err(why) => Err(OpenFault {
+            keeper,
+            ringer,
+            why,
+        }),
     }
 }
 
 // The same, without what is special of rows that a desk has left.
-fn open_desk<K: Keeper, L: Ledger>(
+fn open_desk<K: Keeper, B: Bell, L: Ledger>(
     alloc: Global,
     tables: Tables,
     mut keeper: K,
+    ringer: Ringer<B>,
     steps: &mut Steps<L>,
-) -> Result<Desk<K>, OpenFault<K>>
+) -> Result<Desk<K, B>, OpenFault<K, B>>
     ensures opened { IfOk result (λ d. IsOpened (K.seen keeper).rows tables d.board) }
     ensures kept { IfOk result (λ d. KeepsState (K.seen d.keeper).rows d.board.state) }
     ensures same { IfErr result (λ f. (K.seen f.keeper).rows ≡ (K.seen keeper).rows) }
@@ -221,26 +234,32 @@ fn open_desk<K: Keeper, L: Ledger>(
         (K.seen f.keeper).commits) }
     ensures on { MatchResult result (λ d. KeeperGoesOn (K.seen keeper) (K.seen d.keeper))
         (λ f. KeeperGoesOn (K.seen keeper) (K.seen f.keeper)) }
+    ensures ringer { MatchResult result (λ d. d.ringer ≡ ringer) (λ f. f.ringer ≡ ringer) }
 {
     match records_of(alloc, &mut keeper) {
-        Ok(records) => open_over(alloc, tables, records, keeper, steps),
+        Ok(records) => open_over(alloc, tables, records, keeper, ringer, steps),
         Err(why) => {
             leave(tables);
-            Err(OpenFault { keeper, why })
+            Err(OpenFault {
+                keeper,
+                ringer,
+                why,
+            })
         }
     }
 }
 
 /// Opens a desk over the rows of a keeper: these are loaded and checked, and the board that they stand for is restored
-/// under the tables. What that changed of the rows is kept. After an error they are as before.
+/// under the tables. What that changed of the rows is kept. After an error they are as before. No bell is rung.
 ///
 /// Rows that a desk has left are opened under any tables, and stand for the state in which it left them.
-pub fn open<K: Keeper, L: Ledger>(
+pub fn open<K: Keeper, B: Bell, L: Ledger>(
     alloc: Global,
     tables: Tables,
     keeper: K,
+    ringer: Ringer<B>,
     steps: &mut Steps<L>,
-) -> Result<Desk<K>, OpenFault<K>>
+) -> Result<Desk<K, B>, OpenFault<K, B>>
     ensures opened { IfOk result (λ d. IsOpened (K.seen keeper).rows tables d.board) }
     ensures kept { IfOk result (λ d. KeepsState (K.seen d.keeper).rows d.board.state) }
     ensures same { IfErr result (λ f. (K.seen f.keeper).rows ≡ (K.seen keeper).rows) }
@@ -254,10 +273,11 @@ pub fn open<K: Keeper, L: Ledger>(
         (K.seen f.keeper).commits) }
     ensures on { MatchResult result (λ d. KeeperGoesOn (K.seen keeper) (K.seen d.keeper))
         (λ f. KeeperGoesOn (K.seen keeper) (K.seen f.keeper)) }
+    ensures ringer { MatchResult result (λ d. d.ringer ≡ ringer) (λ f. f.ringer ≡ ringer) }
     // Over the rows of a desk that was left there is no fault of rows.
     ensures left { (s : State) → IsLeft s → TellsRowsOf (K.seen keeper).rows s
         → MatchResult result (λ d. d.board.state ≡ reopened (under tables s))
         (λ f. IsOfKeeper (HasFailed (K.seen keeper).health (K.seen f.keeper).health) f.why) }
 {
-    open_desk(alloc, tables, keeper, steps)
+    open_desk(alloc, tables, keeper, ringer, steps)
 }

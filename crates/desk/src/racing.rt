@@ -1,4 +1,4 @@
-ghost use Rattle.std.specs.Prelude.{◌≡◌, ◌++◌, IfOk, OnOk};
+ghost use Rattle.std.specs.Prelude.{◌≡◌, ◌++◌, IsTrue, IfOk, OnOk};
 ghost use Rattle.std.specs.List.{AllByRecursion};
 ghost use Rattle.desk_state.specs.Sound.{IsEntered};
 ghost use Rattle.desk_state.specs.Texts.{closing};
@@ -52,6 +52,7 @@ fn push_entry(alloc: Global, out: &mut Vec<u8>, entry: &Entry) -> Result<(), Out
 }
 
 fn push_entries(alloc: Global, out: &mut Vec<u8>, board: &Board) -> Result<(), OutOfMemory>
+    requires { IsTrue board.now.listed }
     ensures { OnOk result (out.new.items ≡ out.old.items ++ spec.entries_text board.now.state.entries) }
 {
     for i in 0..board.entries() {
@@ -61,6 +62,7 @@ fn push_entries(alloc: Global, out: &mut Vec<u8>, board: &Board) -> Result<(), O
 }
 
 fn push_history(alloc: Global, out: &mut Vec<u8>, board: &Board) -> Result<(), OutOfMemory>
+    requires { IsTrue board.now.listed }
     ensures { OnOk result (out.new.items ≡ out.old.items ++ spec.history_text board.now.state.entries) }
 {
     let count = board.entries().to_string(alloc)?;
@@ -116,6 +118,7 @@ fn push_lanes(alloc: Global, out: &mut Vec<u8>, lanes: &[Lane]) -> Result<(), Ou
 /// The text of a race: the history, what came of each lane, and the closing text.
 #[tactic(auto, unfolding(crate::specs::Race::race_text))]
 pub(crate) fn race_text(alloc: Global, board: &Board, lanes: &[Lane]) -> Result<Text, OutOfMemory>
+    requires { IsTrue board.now.listed }
     ensures { IfOk result (λ t. t ≡ race_text board.now.state lanes.now) }
 {
     let mut out = Vec::new(alloc);

@@ -1,11 +1,12 @@
-ghost use Rattle.std.specs.Prelude.{◌≡◌, map, false};
+ghost use Rattle.std.specs.Prelude.{◌≡◌, map, MatchBool, false};
 ghost use Rattle.std.specs.List.{AllByRecursion};
 ghost use Rattle.desk.specs.Merge.{IsFresh};
-ghost use Rattle.desk.specs.Round.{AreTaken, items_in};
+ghost use Rattle.desk.specs.Round.{AreTaken, IsTaken, items_in};
 ghost use Rattle.desk.specs.Seen.{desk_seen, DeskGoesOn};
 
 use crate::lanes::Lane;
 use crate::settling::Desk;
+use bells::Bell;
 use desk_io::OutOfMemory;
 use keeper::Keeper;
 use std::alloc::Global;
@@ -27,15 +28,15 @@ impl Beginning for Brand {
 /// What lies under the lock of lanes that run at once: the desk, and the lanes with what has come of them so far.
 /// Whenever the lock is free these are merged into the board's one history, and what is kept is kept for its state.
 #[derive(Drop)]
-pub struct Round<J: Beginning, K: Keeper> {
-    desk: Desk<K>,
+pub struct Round<J: Beginning, K: Keeper, B: Bell> {
+    desk: Desk<K, B>,
     lanes: Vec<Lane>,
     // Memory ran out, and nothing more is done.
     ended: bool,
     of: PhantomData<J>,
 }
 
-impl<J: Beginning, K: Keeper> Model for Round<J, K> {
+impl<J: Beginning, K: Keeper, B: Bell> Model for Round<J, K, B> {
     ghost use Rattle.desk.specs.Round.{RoundShown, round_of, IsRound};
     ghost use Rattle.desk.specs.Seen.{desk_seen};
 
@@ -43,13 +44,13 @@ impl<J: Beginning, K: Keeper> Model for Round<J, K> {
 
     ghost view = { λ r. round_of r.desk.board.state r.lanes.items r.ended };
 
-    ghost invariant = { λ r. IsRound J.began (desk_seen K.seen r.desk) r.lanes.items r.ended };
+    ghost invariant = { λ r. IsRound J.began (desk_seen K.seen B.seen r.desk) r.lanes.items r.ended };
 }
 
-impl<J: Beginning, K: Keeper> Round<J, K> {
+impl<J: Beginning, K: Keeper, B: Bell> Round<J, K, B> {
     /// The desk and lanes of which nothing has come yet.
-    pub fn new(desk: Desk<K>, lanes: Vec<Lane>) -> Round<J, K>
-        requires desk { J.began.desk ≡ desk_seen K.seen desk }
+    pub fn new(desk: Desk<K, B>, lanes: Vec<Lane>) -> Round<J, K, B>
+        requires desk { J.began.desk ≡ desk_seen K.seen B.seen desk }
         requires items { J.began.items ≡ map items_in lanes.items }
         requires fresh { AllByRecursion IsFresh lanes.items }
     {
@@ -69,8 +70,11 @@ impl<J: Beginning, K: Keeper> Round<J, K> {
         }
     }
 
-    /// The next item of the lane at a place is answered, if there is one and memory never ran out: whether it was.
-    pub fn turn(&mut self, alloc: Global, place: usize) -> bool {
+    /// The next item of the lane at a place is answered, if there is one and memory never ran out: whether it was. It
+    /// is answered in the state that the desk has now; where it wasn't, no more has come of the lanes.
+    pub fn turn(&mut self, alloc: Global, place: usize) -> bool
+        ensures taken { MatchBool result (IsTaken place self.old self.new) (self.new.lanes ≡ self.old.lanes) }
+    {
         if self.ended || place >= self.lanes.len() || place >= 4_294_967_295 {
             return false;
         }
@@ -85,10 +89,10 @@ impl<J: Beginning, K: Keeper> Round<J, K> {
     }
 
     /// Its parts, and whether memory ran out.
-    pub fn into_parts(self) -> (Desk<K>, Vec<Lane>, bool)
-        ensures on { DeskGoesOn J.began.desk (desk_seen K.seen result.0) }
+    pub fn into_parts(self) -> (Desk<K, B>, Vec<Lane>, bool)
+        ensures on { DeskGoesOn J.began.desk (desk_seen K.seen B.seen result.0) }
         ensures items { map items_in result.1.items ≡ J.began.items }
-        ensures taken { AreTaken J.began (desk_seen K.seen result.0) result.1.items result.2 }
+        ensures taken { AreTaken J.began (desk_seen K.seen B.seen result.0) result.1.items result.2 }
     {
         let Round {
             desk,

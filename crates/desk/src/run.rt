@@ -1,22 +1,22 @@
 ghost use Rattle.std.specs.Prelude.{◌≡◌, ◌++◌, [], IfOk, OnErr, OnOk};
-ghost use Rattle.std.specs.List.{AllByRecursion};
 ghost use Rattle.desk_state.specs.Texts.{closing};
 ghost use Rattle.desk.specs.InPart.{AreGivenInPart, IsRunInPart, MayHaveBegun};
-ghost use Rattle.desk.specs.Keeping.{bad_given, AreGiven};
+ghost use Rattle.desk.specs.Keeping.{bad_given};
 ghost use Rattle.desk.specs.Run as spec;
-ghost use Rattle.desk.specs.Run.{texts_of, IsRun};
+ghost use Rattle.desk.specs.Run.{IsRun, IsRunOf};
 ghost use Rattle.desk.specs.Seen.{desk_seen, DeskGoesOn};
 ghost use Rattle.desk.specs.Settled.{AnswersItem};
 ghost use Rattle.desk_state.specs.Repeats.{IsAskable};
 ghost use Rattle.desk.specs.Shown.{IsShown, CanBeSaid};
 
 use crate::answering::{Answered, answer};
-use crate::lanes::Lane;
+use crate::coming::{Items, Lines};
 use crate::settling::Desk;
 use alerts::Notices;
 use asks::BadCall;
+use bells::Bell;
 use board::Board;
-use desk_io::{Copied, OutOfMemory, Text};
+use desk_io::{Copied, LineFeeds, OutOfMemory, Text, runs_between};
 use desk_json::{bad_text, reply_text};
 use desk_state::{Item, Outcome, Said};
 use keeper::Keeper;
@@ -25,7 +25,7 @@ use std::alloc::Global;
 use std::sync::ledger::Ledger;
 
 // The lane of a script's calls.
-const LANE: u32 = 1;
+pub(crate) const LANE: u32 = 1;
 
 fn bad_line(alloc: Global, board: &Board, fault: &BadCall) -> Result<Answered, OutOfMemory>
     ensures outcome { IfOk result (λ a. a.outcome ≡ (bad_given board.now.state fault.now).outcome) }
@@ -44,19 +44,19 @@ fn bad_line(alloc: Global, board: &Board, fault: &BadCall) -> Result<Answered, O
     })
 }
 
-pub(crate) fn answer_item<K: Keeper, L: Ledger>(
+pub(crate) fn answer_item<K: Keeper, B: Bell, L: Ledger>(
     alloc: Global,
-    desk: &mut Desk<K>,
+    desk: &mut Desk<K, B>,
     lane: u32,
     item: &Item,
     steps: &mut Steps<L>,
 ) -> Result<Answered, OutOfMemory>
     requires { IsAskable item.now }
     ensures given { IfOk result
-        (λ a. AnswersItem lane item.now (desk_seen K.seen desk.old) (desk_seen K.seen desk.new) a) }
+        (λ a. AnswersItem lane item.now (desk_seen K.seen B.seen desk.old) (desk_seen K.seen B.seen desk.new) a) }
     ensures shown { IfOk result (λ a. IsShown a.outcome) }
     ensures err { OnErr result (MayHaveBegun lane item.now desk.old.board.state desk.new.board.state) }
-    ensures on { DeskGoesOn (desk_seen K.seen desk.old) (desk_seen K.seen desk.new) }
+    ensures on { DeskGoesOn (desk_seen K.seen B.seen desk.old) (desk_seen K.seen B.seen desk.new) }
 {
     match item {
         Item::Call { at, call } => answer(alloc, desk, lane, *at, call, steps),
@@ -69,49 +69,6 @@ pub(crate) fn outcome_of(answered: Answered) -> Outcome
 {
     let Answered { outcome, .. } = answered;
     outcome
-}
-
-// What comes of items.
-fn outcomes_of<K: Keeper, L: Ledger>(
-    alloc: Global,
-    desk: &mut Desk<K>,
-    items: &[Item],
-    steps: &mut Steps<L>,
-) -> Result<Vec<Outcome>, OutOfMemory>
-    requires { AllByRecursion IsAskable items.now }
-    ensures given { IfOk result (λ v. AreGiven LANE (K.seen desk.old.keeper).health.faults
-        (K.seen desk.new.keeper).health.faults desk.old.board.state items.now desk.new.board.state v.items) }
-    ensures shown { IfOk result (λ v. AllByRecursion IsShown v.items) }
-    ensures err { OnErr result (AreGivenInPart LANE (K.seen desk.old.keeper).health.faults
-        (K.seen desk.new.keeper).health.faults desk.old.board.state items.now desk.new.board.state) }
-    ensures on { DeskGoesOn (desk_seen K.seen desk.old) (desk_seen K.seen desk.new) }
-{
-    let mut outcomes = Vec::new(alloc);
-    for item in items {
-        let answered = answer_item(alloc, desk, LANE, item, steps)?;
-        outcomes.push(outcome_of(answered))?;
-    }
-    Ok(outcomes)
-}
-
-/// Answers the items of a lane in their turn.
-pub(crate) fn run_lane<K: Keeper, L: Ledger>(
-    alloc: Global,
-    desk: &mut Desk<K>,
-    lane: &mut Lane,
-    steps: &mut Steps<L>,
-) -> Result<(), OutOfMemory>
-    ensures given { OnOk result (AreGiven LANE (K.seen desk.old.keeper).health.faults
-        (K.seen desk.new.keeper).health.faults desk.old.board.state lane.old.items desk.new.board.state
-        lane.new.outcomes) }
-    ensures err { OnErr result (AreGivenInPart LANE (K.seen desk.old.keeper).health.faults
-        (K.seen desk.new.keeper).health.faults desk.old.board.state lane.old.items desk.new.board.state) }
-    ensures items { lane.new.items ≡ lane.old.items }
-    ensures on { DeskGoesOn (desk_seen K.seen desk.old) (desk_seen K.seen desk.new) }
-{
-    let outcomes = outcomes_of(alloc, desk, lane.items(), steps)?;
-    lane.end(outcomes);
-    Ok(())
 }
 
 /// The JSON of what is said, in one line without its end.
@@ -134,16 +91,6 @@ fn push_outcome(alloc: Global, out: &mut Vec<u8>, outcome: &Outcome) -> Result<(
     Ok(())
 }
 
-fn push_outcomes(alloc: Global, out: &mut Vec<u8>, outcomes: &[Outcome]) -> Result<(), OutOfMemory>
-    requires { AllByRecursion IsShown outcomes.now }
-    ensures { OnOk result (out.new.items ≡ out.old.items ++ texts_of outcomes.now) }
-{
-    for outcome in outcomes {
-        push_outcome(alloc, out, outcome)?;
-    }
-    Ok(())
-}
-
 pub(crate) fn push_closing(
     alloc: Global,
     board: &Board,
@@ -156,20 +103,32 @@ pub(crate) fn push_closing(
     Ok(())
 }
 
-fn text_of(alloc: Global, board: &Board, outcomes: &[Outcome]) -> Result<Vec<u8>, OutOfMemory>
-    requires { AllByRecursion IsShown outcomes.now }
-    ensures { IfOk result (λ v. v.items ≡ texts_of outcomes.now ++ closing board.now.state) }
+/// The text of a run of items: each is answered when its turn comes, and of what it came to its line is kept alone.
+pub(crate) fn text_of_items<K: Keeper, B: Bell, L: Ledger, I: Items>(
+    alloc: Global,
+    desk: &mut Desk<K, B>,
+    items: &mut I,
+    steps: &mut Steps<L>,
+) -> Result<Vec<u8>, OutOfMemory>
+    ensures run { IfOk result (λ v. IsRunOf (K.seen desk.old.keeper).health.faults
+        (K.seen desk.new.keeper).health.faults desk.old.board.state (I.left items.old) desk.new.board.state v.items) }
+    ensures err { OnErr result (AreGivenInPart LANE (K.seen desk.old.keeper).health.faults
+        (K.seen desk.new.keeper).health.faults desk.old.board.state (I.left items.old) desk.new.board.state) }
+    ensures on { DeskGoesOn (desk_seen K.seen B.seen desk.old) (desk_seen K.seen B.seen desk.new) }
 {
     let mut out = Vec::new(alloc);
-    push_outcomes(alloc, &mut out, outcomes)?;
-    push_closing(alloc, board, &mut out)?;
+    while let Some(item) = items.next(alloc)? {
+        let answered = answer_item(alloc, desk, LANE, &item, steps)?;
+        push_outcome(alloc, &mut out, &answered.outcome)?;
+    }
+    push_closing(alloc, &desk.board, &mut out)?;
     Ok(out)
 }
 
 /// The text of a run that goes on from what a desk holds: a reply for each line that has a byte, and the closing text.
-pub fn text_from<K: Keeper, L: Ledger>(
+pub fn text_from<K: Keeper, B: Bell, L: Ledger>(
     alloc: Global,
-    desk: &mut Desk<K>,
+    desk: &mut Desk<K, B>,
     script: &[u8],
     steps: &mut Steps<L>,
 ) -> Result<Vec<u8>, OutOfMemory>
@@ -178,9 +137,9 @@ pub fn text_from<K: Keeper, L: Ledger>(
     // Where memory ran out: a front of the lines was answered whole, and after it nothing was done but at most a tick.
     ensures err { OnErr result (IsRunInPart (K.seen desk.old.keeper).health.faults
         (K.seen desk.new.keeper).health.faults desk.old.board.state script.now desk.new.board.state) }
-    ensures on { DeskGoesOn (desk_seen K.seen desk.old) (desk_seen K.seen desk.new) }
+    ensures on { DeskGoesOn (desk_seen K.seen B.seen desk.old) (desk_seen K.seen B.seen desk.new) }
 {
-    let mut lane = Lane::of(alloc, script)?;
-    run_lane(alloc, desk, &mut lane, steps)?;
-    text_of(alloc, &desk.board, lane.outcomes())
+    let lines = runs_between::<LineFeeds>(alloc, script)?;
+    let mut items = Lines::of(&lines);
+    text_of_items(alloc, desk, &mut items, steps)
 }

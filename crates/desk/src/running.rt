@@ -1,4 +1,4 @@
-ghost use Rattle.std.specs.Prelude.{◌≡◌, true, map, IfOk};
+ghost use Rattle.std.specs.Prelude.{◌≡◌, false, true, map, IsTrue, IfOk};
 ghost use Rattle.std.specs.Bool.{OnTrue};
 ghost use Rattle.std.specs.List.{AllByRecursion, list_all};
 ghost use Rattle.desk.specs.Merge.{AreMerged, AreMergedInPart, IsFresh, is_done};
@@ -12,6 +12,7 @@ use crate::lanes::Lane;
 use crate::racing::{lanes_of, race_text};
 use crate::round::{Beginning, Round};
 use crate::settling::Desk;
+use bells::Bell;
 use desk_io::{OutOfMemory, Text};
 use keeper::Keeper;
 use std::alloc::Global;
@@ -29,7 +30,7 @@ trait Turns {
     fn turn(&mut self, alloc: Global, place: usize) -> bool;
 }
 
-impl<J: Beginning, K: Keeper> Turns for Round<J, K> {
+impl<J: Beginning, K: Keeper, B: Bell> Turns for Round<J, K, B> {
     fn lines(&self, place: usize) -> (usize, usize) {
         Round::lines(self, place)
     }
@@ -88,8 +89,8 @@ fn in_threads<M: Turns + Send, G: Gate + Sync, R: Threads + Wait + Sync>(
 
 /// What is left of lanes that ran at once.
 #[derive(Drop)]
-pub struct Finished<K> {
-    pub desk: Desk<K>,
+pub struct Finished<K, B> {
+    pub desk: Desk<K, B>,
     pub lanes: Vec<Lane>,
     /// Each item was answered: memory never ran out.
     pub whole: bool,
@@ -107,17 +108,25 @@ fn are_done(lanes: &[Lane]) -> bool
     true
 }
 
-fn run_from<J: Beginning + Send + Sync, K: Keeper + Send, G: Gate + Sync, R: Threads + Wait + Sync>(
-    rt: &R,
-    alloc: Global,
-    desk: Desk<K>,
-    lanes: Vec<Lane>,
-    gate: &G,
-) -> Finished<K>
-    requires desk { J.began.desk ≡ desk_seen K.seen desk }
+// Whether memory never ran out and each item was answered.
+fn are_whole(ended: bool, lanes: &[Lane]) -> bool
+    ensures ended { OnTrue result (ended ≡ false) }
+    ensures done { OnTrue result (list_all is_done lanes.now ≡ true) }
+{
+    !ended && are_done(lanes)
+}
+
+fn run_from<
+    J: Beginning + Send + Sync,
+    K: Keeper + Send,
+    B: Bell + Send,
+    G: Gate + Sync,
+    R: Threads + Wait + Sync,
+>(rt: &R, alloc: Global, desk: Desk<K, B>, lanes: Vec<Lane>, gate: &G) -> Finished<K, B>
+    requires desk { J.began.desk ≡ desk_seen K.seen B.seen desk }
     requires items { J.began.items ≡ map items_in lanes.items }
     requires fresh { AllByRecursion IsFresh lanes.items }
-    ensures on { DeskGoesOn J.began.desk (desk_seen K.seen result.desk) }
+    ensures on { DeskGoesOn J.began.desk (desk_seen K.seen B.seen result.desk) }
     ensures items { map items_in result.lanes.items ≡ J.began.items }
     ensures merged { OnTrue result.whole (AreMerged J.began.desk.keeper.health.faults
         (K.seen result.desk.keeper).health.faults J.began.desk.state result.lanes.items result.desk.board.state) }
@@ -126,21 +135,21 @@ fn run_from<J: Beginning + Send + Sync, K: Keeper + Send, G: Gate + Sync, R: Thr
         J.began.desk.state result.lanes.items result.desk.board.state }
 {
     let count = lanes.len();
-    let round = in_threads(rt, alloc, Round::<J, K>::new(desk, lanes), count, gate);
+    let round = in_threads(rt, alloc, Round::<J, K, B>::new(desk, lanes), count, gate);
     let (desk, lanes, ended) = round.into_parts();
-    let whole = !ended && are_done(lanes.as_slice());
+    let whole = are_whole(ended, lanes.as_slice());
     Finished { desk, lanes, whole }
 }
 
 /// Lanes run on a desk at once, a thread for each where one can be had, and the lock is taken for each item. What has
 /// come of them is merged into the board's one history. Where memory ran out nothing more is done.
-pub fn run_lanes<K: Keeper + Send, G: Gate + Sync, R: Threads + Wait + Sync>(
+pub fn run_lanes<K: Keeper + Send, B: Bell + Send, G: Gate + Sync, R: Threads + Wait + Sync>(
     rt: &R,
     alloc: Global,
-    desk: Desk<K>,
+    desk: Desk<K, B>,
     lanes: Vec<Lane>,
     gate: &G,
-) -> Finished<K>
+) -> Finished<K, B>
     requires fresh { AllByRecursion IsFresh lanes.items }
     // Each lane has its items.
     ensures items { map items_in result.lanes.items ≡ map items_in lanes.items }
@@ -154,20 +163,21 @@ pub fn run_lanes<K: Keeper + Send, G: Gate + Sync, R: Threads + Wait + Sync>(
     // What had come of them is merged too where memory ran out, and then nothing was done but at most one tick.
     ensures part { AreMergedInPart (K.seen desk.keeper).health.faults (K.seen result.desk.keeper).health.faults
         desk.board.state result.lanes.items result.desk.board.state }
-    ensures on { DeskGoesOn (desk_seen K.seen desk) (desk_seen K.seen result.desk) }
+    ensures on { DeskGoesOn (desk_seen K.seen B.seen desk) (desk_seen K.seen B.seen result.desk) }
 {
     let _ = desk.board.now();
-    run_from::<Brand, K, G, R>(rt, alloc, desk, lanes, gate)
+    run_from::<Brand, K, B, G, R>(rt, alloc, desk, lanes, gate)
 }
 
 /// What is left of a race: the desk, and the text, or want of memory.
 #[derive(Drop)]
-pub struct Raced<K> {
-    pub desk: Desk<K>,
+pub struct Raced<K, B> {
+    pub desk: Desk<K, B>,
     pub text: Result<Text, OutOfMemory>,
 }
 
-fn told_of<K: Keeper>(alloc: Global, finished: Finished<K>) -> Raced<K>
+fn told_of<K: Keeper, B: Bell>(alloc: Global, finished: Finished<K, B>) -> Raced<K, B>
+    requires { IsTrue finished.desk.board.listed }
     ensures desk { result.desk ≡ finished.desk }
     ensures whole { IfOk result.text (λ _. finished.whole ≡ true) }
     ensures text { IfOk result.text (λ t. t ≡ race_text finished.desk.board.state finished.lanes.items) }
@@ -181,21 +191,22 @@ fn told_of<K: Keeper>(alloc: Global, finished: Finished<K>) -> Raced<K>
     Raced { desk, text }
 }
 
-/// Scripts are the lanes of a race on a desk: they run at once, and the text is told once each of their lines has its
-/// outcome.
-pub fn race<K: Keeper + Send, G: Gate + Sync, R: Threads + Wait + Sync>(
+/// Scripts are the lanes of a race on a desk whose board holds the entries of its history: they run at once, and the
+/// text is told once each of their lines has its outcome.
+pub fn race<K: Keeper + Send, B: Bell + Send, G: Gate + Sync, R: Threads + Wait + Sync>(
     rt: &R,
     alloc: Global,
-    desk: Desk<K>,
+    desk: Desk<K, B>,
     scripts: &[Text],
     gate: &G,
-) -> Raced<K>
+) -> Raced<K, B>
+    requires listed { IsTrue desk.board.listed }
     ensures race { IfOk result.text (λ t. IsRace (K.seen desk.keeper).health.faults
         (K.seen result.desk.keeper).health.faults desk.board.state scripts.now result.desk.board.state t) }
     // Where memory ran out: what had come of the lines was answered whole, and nothing was done but at most one tick.
     ensures part { IsRaceInPart (K.seen desk.keeper).health.faults (K.seen result.desk.keeper).health.faults
         desk.board.state scripts.now result.desk.board.state }
-    ensures on { DeskGoesOn (desk_seen K.seen desk) (desk_seen K.seen result.desk) }
+    ensures on { DeskGoesOn (desk_seen K.seen B.seen desk) (desk_seen K.seen B.seen result.desk) }
 {
     match lanes_of(alloc, scripts) {
         Ok(lanes) => told_of(alloc, run_lanes(rt, alloc, desk, lanes, gate)),

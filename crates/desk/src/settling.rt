@@ -1,24 +1,27 @@
 ghost use Rattle.std.specs.Prelude.{◌≡◌, ◌≤◌, [], None, Some, false, is_some, IfOk, IfSome, OnErr};
 ghost use Rattle.asks.specs.Forms.{ReplyHasMoment};
+ghost use Rattle.bells.specs.Ringing.{AreRung, hung_all};
 ghost use Rattle.board.specs.Prepare.{KeepsRows, installed};
 ghost use Rattle.desk_io.specs.Planned.{after};
 ghost use Rattle.keeper.specs.Seen.{KeeperGoesOn};
 ghost use Rattle.desk.specs.Keeping.{asked_if, kept_or, CountedOnce, KeptUnless};
-ghost use Rattle.desk.specs.Seen.{desk_seen, DeskGoesOn};
+ghost use Rattle.desk.specs.Seen.{desk_seen, StepGoesOn};
 ghost use Rattle.desk.specs.Settled.{stepped_by, IsSettled};
 
 use alerts::Notices;
 use asks::{Refusal, Reply};
+use bells::{Bell, Ringer};
 use board::{Board, Installed, Prepared};
 use desk_io::{Change, OutOfMemory};
 use keeper::{KeepFault, Keeper};
 use std::alloc::Global;
 
-/// A desk: its board, and the keeper of its rows.
+/// A desk: its board, the keeper of its rows, and who rings its bells.
 #[derive(Drop)]
-pub struct Desk<K> {
+pub struct Desk<K, B> {
     pub board: Board,
     pub keeper: K,
+    pub ringer: Ringer<B>,
 }
 
 /// What came of a step, and the keeper's count of faults where it wasn't kept.
@@ -89,15 +92,19 @@ pub(crate) fn stayed(alloc: Global, reply: Reply) -> Settled
     }
 }
 
-fn install(board: &mut Board, prepared: Prepared) -> Settled
+// Puts a step in place, and rings for what it tells.
+fn install<B: Bell>(board: &mut Board, ringer: &mut Ringer<B>, prepared: Prepared) -> Settled
     requires { board.old.room ≡ Some prepared }
     ensures settled { IsSettled result board.new.state (stepped_by board.old.state prepared) }
     ensures fault { result.fault ≡ None }
     ensures opening { board.new.opening ≡ board.old.opening }
+    ensures listed { board.new.listed ≡ board.old.listed }
     ensures state { board.new.state ≡ installed prepared board.old.state }
     ensures reply { result.reply ≡ prepared.reply }
+    ensures rung { AreRung result.notices (hung_all B.seen ringer.old) (hung_all B.seen ringer.new) }
 {
     let Installed { reply, notices } = board.install(prepared);
+    ringer.ring_all(notices.as_slice());
     Settled {
         reply,
         notices,
@@ -108,10 +115,12 @@ fn install(board: &mut Board, prepared: Prepared) -> Settled
 // A step that isn't put in place.
 fn let_go(_: Prepared) {}
 
-/// Keeps what a prepared step changes, and puts the step in place. One that changes something and isn't kept is refused.
-pub(crate) fn settle<K: Keeper>(
+/// Keeps what a prepared step changes, puts the step in place, and rings for what it tells. One that changes something
+/// and isn't kept is refused.
+#[tactic(auto, using(crate::proofs::HeardLaws::nothing_rung))]
+pub(crate) fn settle<K: Keeper, B: Bell>(
     alloc: Global,
-    desk: &mut Desk<K>,
+    desk: &mut Desk<K, B>,
     prepared: Prepared,
 ) -> Result<Settled, OutOfMemory>
     requires room { desk.old.board.room ≡ Some prepared }
@@ -121,7 +130,10 @@ pub(crate) fn settle<K: Keeper>(
         (kept_or r.fault desk.old.board.state (stepped_by desk.old.board.state prepared))) }
     ensures shown { IfOk result (λ r. IfSome r.reply ReplyHasMoment) }
     ensures err { OnErr result (desk.new.board.state ≡ desk.old.board.state) }
-    ensures on { DeskGoesOn (desk_seen K.seen desk.old) (desk_seen K.seen desk.new) }
+    ensures on { StepGoesOn (desk_seen K.seen B.seen desk.old) (desk_seen K.seen B.seen desk.new) }
+    ensures rung { IfOk result (λ r. AreRung r.notices (hung_all B.seen desk.old.ringer)
+        (hung_all B.seen desk.new.ringer)) }
+    ensures unrung { OnErr result (hung_all B.seen desk.new.ringer ≡ hung_all B.seen desk.old.ringer) }
     ensures count { IfOk result (λ r. CountedOnce (K.seen desk.old.keeper).health.faults r.fault
         (K.seen desk.new.keeper).health.faults) }
     ensures told { IfOk result (λ r. IfSome r.fault (λ n. r.reply ≡ Some (Reply.Refused (Refusal.Unkept n)))) }
@@ -131,10 +143,10 @@ pub(crate) fn settle<K: Keeper>(
     ensures still { is_some prepared.event ≡ false → desk.new.keeper ≡ desk.old.keeper }
 {
     if !prepared.changed() {
-        return Ok(install(&mut desk.board, prepared));
+        return Ok(install(&mut desk.board, &mut desk.ringer, prepared));
     }
     match keep(alloc, &mut desk.keeper, prepared.changes()) {
-        Ok(None) => Ok(install(&mut desk.board, prepared)),
+        Ok(None) => Ok(install(&mut desk.board, &mut desk.ringer, prepared)),
         Ok(Some(faults)) => {
             let_go(prepared);
             Ok(unkept(alloc, faults))

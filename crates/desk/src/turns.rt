@@ -7,6 +7,7 @@ ghost use Rattle.desk_state.specs.Repeats.{IsAskable};
 
 use crate::run::{answer_item, outcome_of};
 use crate::settling::Desk;
+use bells::Bell;
 use desk_io::OutOfMemory;
 use desk_state::{Item, Outcome};
 use keeper::Keeper;
@@ -15,9 +16,9 @@ use std::alloc::Global;
 use std::marker::Brand;
 use std::sync::ledger::{Blank, Ledger};
 
-fn answer_with<K: Keeper, L: Ledger>(
+fn answer_with<K: Keeper, B: Bell, L: Ledger>(
     alloc: Global,
-    desk: &mut Desk<K>,
+    desk: &mut Desk<K, B>,
     lane: u32,
     item: &Item,
     blank: Blank,
@@ -26,10 +27,11 @@ fn answer_with<K: Keeper, L: Ledger>(
     requires parts { blank.parts ≡ L.parts }
     requires some { 0 < blank.parts }
     requires askable { IsAskable item.now }
-    ensures turn { IfOk result (λ o. IsTurn lane item.now (desk_seen K.seen desk.old) (desk_seen K.seen desk.new) o) }
+    ensures turn { IfOk result
+        (λ o. IsTurn lane item.now (desk_seen K.seen B.seen desk.old) (desk_seen K.seen B.seen desk.new) o) }
     ensures shown { IfOk result IsShown }
     ensures err { OnErr result (MayHaveBegun lane item.now desk.old.board.state desk.new.board.state) }
-    ensures on { DeskGoesOn (desk_seen K.seen desk.old) (desk_seen K.seen desk.new) }
+    ensures on { DeskGoesOn (desk_seen K.seen B.seen desk.old) (desk_seen K.seen B.seen desk.new) }
 {
     let mut steps = Steps::<L>::new(blank);
     let answered = answer_item(alloc, desk, lane, item, &mut steps)?;
@@ -37,17 +39,18 @@ fn answer_with<K: Keeper, L: Ledger>(
 }
 
 /// What comes of an item of a lane. How many plans are judged isn't counted.
-pub(crate) fn outcome<K: Keeper>(
+pub(crate) fn outcome<K: Keeper, B: Bell>(
     alloc: Global,
-    desk: &mut Desk<K>,
+    desk: &mut Desk<K, B>,
     lane: u32,
     item: &Item,
 ) -> Result<Outcome, OutOfMemory>
     requires { IsAskable item.now }
-    ensures turn { IfOk result (λ o. IsTurn lane item.now (desk_seen K.seen desk.old) (desk_seen K.seen desk.new) o) }
+    ensures turn { IfOk result
+        (λ o. IsTurn lane item.now (desk_seen K.seen B.seen desk.old) (desk_seen K.seen B.seen desk.new) o) }
     ensures shown { IfOk result IsShown }
     ensures err { OnErr result (MayHaveBegun lane item.now desk.old.board.state desk.new.board.state) }
-    ensures on { DeskGoesOn (desk_seen K.seen desk.old) (desk_seen K.seen desk.new) }
+    ensures on { DeskGoesOn (desk_seen K.seen B.seen desk.old) (desk_seen K.seen B.seen desk.new) }
 {
-    answer_with::<K, Brand>(alloc, desk, lane, item, Blank::new(1))
+    answer_with::<K, B, Brand>(alloc, desk, lane, item, Blank::new(1))
 }

@@ -2,9 +2,11 @@ ghost use Rattle.std.specs.Prelude.{◌≡◌, ◌≤◌, IfOk, length};
 ghost use Rattle.std.specs.List.{AllByRecursion};
 ghost use Rattle.desk.specs.Merge.{IsFresh};
 
+use crate::counting::Counting;
 use crate::meeting::Meeting;
+use bells::{MemoryBell, Ringer};
 use board::Board;
-use desk::{Desk, Finished, Lane, run_lanes};
+use desk::{Desk, Finished, Gate, Lane, run_lanes};
 use desk_io::OutOfMemory;
 use desk_state::What;
 use keeper::MemoryKeeper;
@@ -25,11 +27,24 @@ F1 5 17:00 "do":"admit","text":"METAR KJFK 121651Z 10SM CLR RMK 5"
 F1 6 17:00 "do":"admit","text":"METAR KJFK 121651Z 10SM CLR RMK 6"
 "#;
 
-fn two_lanes(alloc: Global) -> Result<Vec<Lane>, OutOfMemory>
+// The second line of each changes nothing: a view, a refusal, a call that came before.
+const VIEW: &str = r#"F1 1 17:00 "do":"admit","text":"METAR KJFK 121651Z 10SM CLR RMK 1"
+D1 1 17:00 "do":"board"
+"#;
+
+const REFUSAL: &str = r#"F1 1 17:00 "do":"admit","text":"METAR KJFK 121651Z 10SM CLR RMK 1"
+C7 1 17:00 "do":"admit","text":"METAR KJFK 121651Z 10SM CLR RMK 2"
+"#;
+
+const REPEAT: &str = r#"F1 1 17:00 "do":"admit","text":"METAR KJFK 121651Z 10SM CLR RMK 1"
+F1 1 17:00 "do":"admit","text":"METAR KJFK 121651Z 10SM CLR RMK 1"
+"#;
+
+fn two_lanes(alloc: Global, one: &str) -> Result<Vec<Lane>, OutOfMemory>
     ensures fresh { IfOk result (λ v. AllByRecursion IsFresh v.items) }
     ensures few { IfOk result (λ v. length v.items ≤ 16) }
 {
-    let one = Lane::of(alloc, &script_of(alloc, ONE, "")?)?;
+    let one = Lane::of(alloc, &script_of(alloc, one, "")?)?;
     let two = Lane::of(alloc, &script_of(alloc, TWO, "")?)?;
     let mut lanes = Vec::new(alloc);
     lanes.push(one)?;
@@ -37,42 +52,61 @@ fn two_lanes(alloc: Global) -> Result<Vec<Lane>, OutOfMemory>
     Ok(lanes)
 }
 
-// The numbers of the calls in the history, and 0 for a tick.
+// What came of lanes: the numbers of the calls in the history, and 0 for a tick, and the position of the first lane's
+// second line.
+#[derive(Drop)]
+struct Came {
+    numbers: Vec<u64>,
+    second: Option<u64>,
+}
+
 fn numbers_in(alloc: Global, board: &Board) -> Result<Vec<u64>, OutOfMemory> {
     let mut numbers = Vec::new(alloc);
     for i in 0..board.entries() {
-        match &board.entry(i).what {
-            What::Tick { .. } => numbers.push(0)?,
-            What::Asked { call, .. } => numbers.push(call.number)?,
+        if board.is_listed() {
+            match &board.entry(i).what {
+                What::Tick { .. } => numbers.push(0)?,
+                What::Asked { call, .. } => numbers.push(call.number)?,
+            }
         }
     }
     Ok(numbers)
 }
 
-fn numbers_of(alloc: Global, finished: Finished<MemoryKeeper>) -> Result<Vec<u64>, OutOfMemory> {
+fn second_in(lanes: &[Lane]) -> Option<u64> {
+    Some(lanes.first()?.outcomes().get(1)?.position)
+}
+
+fn came_of(
+    alloc: Global,
+    finished: Finished<MemoryKeeper, MemoryBell>,
+) -> Result<Came, OutOfMemory> {
+    let second = second_in(&finished.lanes);
     let numbers = numbers_in(alloc, &finished.desk.board);
-    if finished.whole {
-        numbers
-    } else {
-        Err(OutOfMemory)
+    match numbers {
+        Ok(numbers) if finished.whole => Ok(Came { numbers, second }),
+        _ => Err(OutOfMemory),
     }
 }
 
-// The order in which the calls of two lanes come whose first items meet, where the second item of one is held.
-#[tactic(auto, using(keeper::proofs::Crossing::MemoryKeeper_send))]
-fn order<R: Threads + Wait + Sync>(
+// What comes of two lanes at a gate, of which this is the first.
+#[tactic(auto, using(keeper::proofs::Crossing::MemoryKeeper_send, bells::proofs::Crossing::MemoryBell_send))]
+fn run<G: Gate + Sync, R: Threads + Wait + Sync>(
     rt: &R,
     alloc: Global,
-    meeting: &Meeting,
-) -> Result<Vec<u64>, TableFault> {
-    let lanes = two_lanes(alloc)?;
-    let tables = small_tables(alloc)?;
+    one: &str,
+    gate: &G,
+) -> Result<Came, TableFault> {
+    let lanes = two_lanes(alloc, one)?;
+    let mut board = Board::new(alloc, small_tables(alloc)?);
+    board.hold_entries(alloc);
     let desk = Desk {
-        board: Board::new(alloc, tables),
+        board,
         keeper: MemoryKeeper::new(Vec::new(alloc), Vec::new(alloc)),
+        ringer: Ringer::none(alloc),
     };
-    let finished = run_lanes(rt, alloc, desk, lanes, meeting);
-    Ok(numbers_of(alloc, finished)?)
+    let finished = run_lanes(rt, alloc, desk, lanes, gate);
+    Ok(came_of(alloc, finished)?)
 }
 
 // Whether there is one tick and then six calls, of which these are the last two.
@@ -80,18 +114,46 @@ fn ends_in(numbers: &[u64], fifth: u64, sixth: u64) -> bool {
     numbers.len() == 7 && numbers[0] == 0 && numbers[5] == fifth && numbers[6] == sixth
 }
 
-// Two lanes meet at their first items. The calls 2 and 3 come after 4, 5 and 6 where the first lane is held, and 5 and 6
-// after 1, 2 and 3 where the second is.
+// Two lanes meet at their first items. The calls 2 and 3 come after 4, 5 and 6 where the first lane is held, and 5 and
+// 6 after 1, 2 and 3 where the second is.
 #[test]
 fn two_lanes_meet(rt: HostRuntime) -> Result<(), Fail> {
     for (held, fifth, sixth) in [(1, 2, 3), (2, 5, 6)] {
         let meeting = Meeting::new(held);
-        let numbers = order(&rt, rt.alloc(), &meeting)?;
+        let came = run(&rt, rt.alloc(), ONE, &meeting)?;
         assert!(rt; !meeting.gave_up(), "lane {held} is held: the lanes met");
         assert!(rt;
-            ends_in(&numbers, fifth, sixth),
+            ends_in(&came.numbers, fifth, sixth),
             "lane {held} is held: its calls come last"
         );
     }
+    Ok(())
+}
+
+// A line that changes nothing is answered when its turn comes: after a tick, its lane's first call and the three of the
+// other.
+#[test]
+fn a_held_line_is_answered_late(rt: HostRuntime) -> Result<(), Fail> {
+    for one in [VIEW, REFUSAL, REPEAT] {
+        let meeting = Meeting::new(1);
+        let came = run(&rt, rt.alloc(), one, &meeting)?;
+        assert!(rt; !meeting.gave_up(), "the lanes met");
+        assert!(rt; came.numbers.len() == 5, "the second line has no entry");
+        assert!(rt; came.second == Some(5), "all five stand before it");
+    }
+    Ok(())
+}
+
+// The gate is called before and after each of three lines of a lane, and after it without the lock.
+#[test]
+fn each_line_passes_the_gate(rt: HostRuntime) -> Result<(), Fail> {
+    let counting = Counting::new();
+    let came = run(&rt, rt.alloc(), ONE, &counting)?;
+    assert!(rt;
+        !counting.gave_up(),
+        "the lanes met after their first lines"
+    );
+    assert!(rt; counting.has_counted(6), "six calls a lane, in order");
+    assert!(rt; came.numbers.len() == 7, "a tick and six calls");
     Ok(())
 }

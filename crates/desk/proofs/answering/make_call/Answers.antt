@@ -1,18 +1,24 @@
+use Rattle.desk.proofs.HeardLaws.{call_settles}
 use Rattle.desk.proofs.Steps.{settled_is, keeps_as, no_event, replies_to, asked_as}
 use Rattle.desk.proofs.answering.make_call.Goals as goal
 
 pub settle-requires-clause-keeps : goal.settle-requires-clause-keeps
-settle-requires-clause-keeps g c = keeps_as _ _ _ _ _ c.in_ok-prepared.ensures.ok c.in_ok-prepared.ensures.rows
+settle-requires-clause-keeps g c = keeps_as _ _ _ _ _ _ c.in_ok-prepared.ensures.ok c.in_ok-prepared.ensures.rows
 
 pub returns-clause-settled : goal.returns-clause-settled
-returns-clause-settled g c = settled_is _ _ _ _ _ _ _ _ c.in_ok-prepared.ensures.ok c.in_ok-prepared.ensures.stepped c.settle.ensures.settled
+returns-clause-settled g c = settled_is _ _ _ _ _ _ _ _ _ c.in_ok-prepared.ensures.ok c.in_ok-prepared.ensures.stepped c.settle.ensures.settled
 
 pub returns-clause-still : goal.returns-clause-still
 returns-clause-still g c = λ none. c.settle.ensures.still (no_event _ _ _ c.in_ok-prepared.ensures.stepped none)
 
 pub returns-clause-replied : goal.returns-clause-replied
 returns-clause-replied g c =
-    replies_to _ _ _ _ _ (settled_is _ _ _ _ _ _ _ _ c.in_ok-prepared.ensures.ok c.in_ok-prepared.ensures.stepped c.settle.ensures.settled)
+    replies_to _ _ _ _ _ (settled_is _ _ _ _ _ _ _ _ _ c.in_ok-prepared.ensures.ok c.in_ok-prepared.ensures.stepped c.settle.ensures.settled)
 
 pub returns-clause-asked : goal.returns-clause-asked
 returns-clause-asked g c = asked_as _ _ _ _ _ _ c.in_ok-prepared.ensures.stepped c.settle.ensures.asked
+
+pub returns-clause-on : goal.returns-clause-on
+returns-clause-on g c =
+    let settled = settled_is _ _ _ _ _ _ _ _ _ c.in_ok-prepared.ensures.ok c.in_ok-prepared.ensures.stepped c.settle.ensures.settled in
+    call_settles _ _ _ _ _ _ _ _ _ c.in_ok-prepared.ensures.ok c.now.ensures.board.history c.settle.ensures.on c.settle.ensures.rung c.settle.ensures.err c.settle.ensures.unrung _ _ settled

@@ -9,6 +9,9 @@ use Rattle.desk.proofs.running.race.Goals as goal
 pub run_lanes-requires-clause-fresh : goal.run_lanes-requires-clause-fresh
 run_lanes-requires-clause-fresh g c κs within = made_fresh c.in-Ok.lanes.items c.args.scripts.now c.in-Ok.ensures
 
+pub told_of-requires : goal.told_of-requires
+told_of-requires g c = c.run_lanes.ensures.on.listed c.requires.listed
+
 pub returns-in-Err-clause-part : goal.returns-in-Err-clause-part
 returns-in-Err-clause-part g c = race_none (g.K.Keeper.seen c.args.desk.keeper).health.faults c.args.desk.board.state c.args.scripts.now
 

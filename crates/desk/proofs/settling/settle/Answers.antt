@@ -8,6 +8,7 @@ returns-then-not-changed-clause-on g c = record {
   opening = c.install.ensures.opening;
   rows = still_keeps _ _ _ (c.install.ensures.state ∙ stays c.args.prepared c.args.desk.now.board.state (sym c.changed.ensures ∙ c.if-not-changed.true));
   keeper = keeper_stays _;
+  listed = λ held. c.install.ensures.listed ∙ held;
 }
 
 pub returns-in-Ok-None-clause-on : goal.returns-in-Ok-None-clause-on
@@ -17,6 +18,7 @@ returns-in-Ok-None-clause-on g c =
       opening = c.install-in-Ok-None.ensures.opening;
       rows = now_keeps _ _ _ _ c.args.prepared _ c.changes.ensures rows c.requires.keeps c.install-in-Ok-None.ensures.state;
       keeper = c.keep.ensures.on;
+      listed = λ held. c.install-in-Ok-None.ensures.listed ∙ held;
     }
 
 pub returns-in-Ok-Some-clause-settled : goal.returns-in-Ok-Some-clause-settled

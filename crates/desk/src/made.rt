@@ -1,0 +1,183 @@
+ghost use Rattle.std.specs.Prelude.{◌≡◌, ◌≤◌, ◌++◌, IfOk, OnOk, OnErr};
+ghost use Rattle.call_json.specs.Forms.{CallHasForms};
+ghost use Rattle.desk.specs.InPart.{MayHaveBegun};
+ghost use Rattle.desk.specs.Keeping.{AreGiven};
+ghost use Rattle.desk.specs.Made as spec;
+ghost use Rattle.desk.specs.Made.{came_of, made_item, made_items, IsMade, IsMadeInPart, IsMadeOf};
+ghost use Rattle.desk.specs.Seen.{desk_seen, DeskGoesOn};
+
+use crate::answering::answer;
+use crate::run::{LANE, outcome_of};
+use crate::settling::Desk;
+use asks::{Call, Done, Reply};
+use bells::Bell;
+use board::Board;
+use desk_io::{OutOfMemory, push_all};
+use desk_state::{Outcome, Said};
+use keeper::Keeper;
+use made_items::{MADE_AT, Maker};
+use rules::Steps;
+use std::alloc::Global;
+use std::sync::ledger::Ledger;
+
+fn done_of(said: &Said) -> Option<Done>
+    ensures { result ≡ spec.done_of said.now }
+{
+    match said {
+        Said::Reply(Reply::Done(done)) => Some(*done),
+        _ => None,
+    }
+}
+
+fn is_done(said: &Said) -> bool
+    ensures { result ≡ spec.is_done said.now }
+{
+    matches!(said, Said::Reply(Reply::Done(_)))
+}
+
+fn is_refused(said: &Said) -> bool
+    ensures { result ≡ spec.is_refused said.now }
+{
+    matches!(said, Said::Reply(Reply::Refused(_)))
+}
+
+fn done_in(outcomes: &[Outcome]) -> usize
+    ensures { result ≡ spec.done_in outcomes.now }
+{
+    outcomes.iter().filter(|o| is_done(&o.said)).count()
+}
+
+fn refused_in(outcomes: &[Outcome]) -> usize
+    ensures { result ≡ spec.refused_in outcomes.now }
+{
+    outcomes.iter().filter(|o| is_refused(&o.said)).count()
+}
+
+// What comes of a call that is made.
+fn answer_made<K: Keeper, B: Bell, L: Ledger>(
+    alloc: Global,
+    desk: &mut Desk<K, B>,
+    call: Call,
+    steps: &mut Steps<L>,
+) -> Result<Outcome, OutOfMemory>
+    requires { CallHasForms call }
+    ensures given { IfOk result (λ o. IsMadeOf (K.seen desk.old.keeper).health.faults
+        (K.seen desk.new.keeper).health.faults desk.old.board.state call desk.new.board.state o) }
+    ensures err { OnErr result (MayHaveBegun 1 (made_item call) desk.old.board.state desk.new.board.state) }
+    ensures on { DeskGoesOn (desk_seen K.seen B.seen desk.old) (desk_seen K.seen B.seen desk.new) }
+{
+    let answered = answer(alloc, desk, LANE, MADE_AT, &call, steps)?;
+    Ok(outcome_of(answered))
+}
+
+// What comes of the calls that are made of a number.
+fn outcomes_made<K: Keeper, B: Bell, L: Ledger>(
+    alloc: Global,
+    desk: &mut Desk<K, B>,
+    number: u32,
+    count: u32,
+    steps: &mut Steps<L>,
+) -> Result<Vec<Outcome>, OutOfMemory>
+    requires { count ≤ 20_000 }
+    ensures given { IfOk result (λ v. AreGiven 1 (K.seen desk.old.keeper).health.faults
+        (K.seen desk.new.keeper).health.faults desk.old.board.state (made_items number count (came_of v.items))
+        desk.new.board.state v.items) }
+    ensures err { OnErr result (IsMadeInPart (K.seen desk.old.keeper).health.faults
+        (K.seen desk.new.keeper).health.faults desk.old.board.state number count desk.new.board.state) }
+    ensures on { DeskGoesOn (desk_seen K.seen B.seen desk.old) (desk_seen K.seen B.seen desk.new) }
+{
+    let mut maker = Maker::of(number, count);
+    let mut outcomes = Vec::new(alloc);
+    while let Some(call) = maker.next(alloc)? {
+        let outcome = answer_made(alloc, desk, call, steps)?;
+        maker.note(done_of(&outcome.said));
+        outcomes.push(outcome)?;
+    }
+    Ok(outcomes)
+}
+
+fn push_first(alloc: Global, out: &mut Vec<u8>, number: u32, count: u32) -> Result<(), OutOfMemory>
+    ensures { OnOk result (out.new.items ≡ out.old.items ++ spec.first_line number count) }
+{
+    let number = number.to_string(alloc)?;
+    let count = count.to_string(alloc)?;
+    push_all(
+        out,
+        &[b"MAKE ", number.as_bytes(), b" ", count.as_bytes(), b"\n"],
+    )
+}
+
+// Three words, each with its number.
+fn push_counts(
+    alloc: Global,
+    out: &mut Vec<u8>,
+    one: &[u8],
+    a: usize,
+    two: &[u8],
+    b: usize,
+    three: &[u8],
+    c: usize,
+) -> Result<(), OutOfMemory>
+    ensures { OnOk result (out.new.items ≡ out.old.items ++ spec.three_counts one.now a two.now b three.now c) }
+{
+    let first = a.to_string(alloc)?;
+    let second = b.to_string(alloc)?;
+    let third = c.to_string(alloc)?;
+    push_all(out, &[one, first.as_bytes(), two, second.as_bytes()])?;
+    push_all(out, &[three, third.as_bytes(), b"\n"])
+}
+
+fn text_of_made(
+    alloc: Global,
+    board: &Board,
+    number: u32,
+    count: u32,
+    outcomes: &[Outcome],
+) -> Result<Vec<u8>, OutOfMemory>
+    ensures { IfOk result (λ v. v.items ≡ spec.made_text number count outcomes.now board.now.state) }
+{
+    let mut out = Vec::new(alloc);
+    push_first(alloc, &mut out, number, count)?;
+    push_counts(
+        alloc,
+        &mut out,
+        b"ITEMS ",
+        outcomes.len(),
+        b" DONE ",
+        done_in(outcomes),
+        b" REFUSED ",
+        refused_in(outcomes),
+    )?;
+    push_counts(
+        alloc,
+        &mut out,
+        b"HISTORY ",
+        board.entries(),
+        b" RELEASES ",
+        board.releases_held(),
+        b" REPORTS ",
+        board.reports_held(),
+    )?;
+    Ok(out)
+}
+
+/// Makes the calls of a number, with so many flights, one by one, each once it is known what came of those before it,
+/// and tells how many were made, done and refused, and what is held at the end.
+pub fn make_from<K: Keeper, B: Bell, L: Ledger>(
+    alloc: Global,
+    desk: &mut Desk<K, B>,
+    number: u32,
+    count: u32,
+    steps: &mut Steps<L>,
+) -> Result<Vec<u8>, OutOfMemory>
+    requires { count ≤ 20_000 }
+    ensures made { IfOk result (λ v. IsMade (K.seen desk.old.keeper).health.faults
+        (K.seen desk.new.keeper).health.faults desk.old.board.state number count desk.new.board.state v.items) }
+    // Where memory ran out: a front of the items was answered whole, and after it nothing was done but at most a tick.
+    ensures err { OnErr result (IsMadeInPart (K.seen desk.old.keeper).health.faults
+        (K.seen desk.new.keeper).health.faults desk.old.board.state number count desk.new.board.state) }
+    ensures on { DeskGoesOn (desk_seen K.seen B.seen desk.old) (desk_seen K.seen B.seen desk.new) }
+{
+    let outcomes = outcomes_made(alloc, desk, number, count, steps)?;
+    text_of_made(alloc, &desk.board, number, count, &outcomes)
+}
