@@ -1,6 +1,5 @@
-pub mod Lines
-pub mod Answered
-pub mod Endings
-pub mod Joins
+pub mod ResponseLaws
+pub mod AloneLaws
 pub mod RouteForms
 pub mod Visits
+pub mod TurningLaws

@@ -4,49 +4,41 @@ use Rattle.std.specs.Prelude.{if◌then◌else◌}
 use Rattle.std.specs.List.{AllByRecursion, list_any}
 use Rattle.std.proofs.lemmas.List.{map-append}
 use Rattle.std.proofs.lemmas.List.Elements.{filter-append}
+use Rattle.connections.proofs.Joins.{with_goes}
+use Rattle.connections.proofs.Lines.{wrote_as}
+use Rattle.connections.specs.Connections.{IsConnection, Kind, Last}
+use Rattle.connections.specs.declared.serving.Served.{Served}
+use Rattle.connections.specs.declared.serving.Served.TheVariants as served
 use Rattle.desk.specs.Seen.{DeskAt}
 use Rattle.desk_io.proofs.HealthLaws.{failed_first, failed_last}
 use Rattle.desk_io.specs.Health.{HasFailed, RoseOrFull}
 use Rattle.desk_io.specs.Over.{Over}
-use Rattle.desk_net.specs.Clocks.{Dial}
 use Rattle.desk_net.specs.Doors.{Links, Accepts, TakesBack, HasNext}
 use Rattle.desk_net.specs.Seen.{ClockGoesOn, ClockSeen, DoorSeen, LinkSeen}
 use Rattle.desk_net.specs.Streams.{unread}
 use Rattle.desk_state.specs.State.{State}
-use Rattle.service.specs.Connections.{GoesOn, IsConnection}
+use Rattle.service.specs.Alone.{GoesAlone}
+use Rattle.service.specs.Connections.{in_lane}
 use Rattle.service.specs.Doors.{Visit, IsVisit, AreVisits, AreTaken, AreAtPort, HasLinks, came_of, back_of, HadMemory, IsWell, is_clock_fault, ended_by_clock, AreFewer, EndsServing, IsServing, counts_as, met_after, end_of, end_at_door}
 use Rattle.service.specs.declared.doors.Met.{Met}
 use Rattle.service.specs.declared.doors.ServeEnd.{ServeEnd}
 use Rattle.service.specs.declared.doors.ServeEnd.TheVariants as ends
-use Rattle.service.specs.declared.serving.Served.{Served}
-use Rattle.service.specs.declared.serving.Served.TheVariants as served
-use Rattle.service.proofs.Joins.{joined}
-use Rattle.service.proofs.Lines.{wrote_as}
+use Rattle.service.proofs.AloneLaws.{goes_failed, goes_lower}
 use Rattle.std.proofs.lemmas.Bool.{or_right}
-use Rattle.service.proofs.Endings.{same_both}
 
 -- ---- a connection seen from before
-
-nothing_yet : (lane : ℕ) (dial : Option Dial) (less before : ℕ) (s : State) (bytes : Option (List ℕ)) → less ≤ before → GoesOn lane dial dial less before s bytes bytes s []
-nothing_yet lane dial less before s bytes under =
-    record { xs = []; requests = same_both bytes; timed = tt; turned = refl; going = tt; counted = under; says = refl; state = refl }
 
 -- a visit, counted from before
 visit_from : {L : Type 0} (link : L → LinkSeen) (lane : ℕ) (early late : ClockSeen) (less before after : ℕ) (s : State) (v : Visit L) (t : State)
     → less ≤ before → IsVisit link lane early late before after s v t → IsVisit link lane early late less after s v t
-visit_from link lane early late less before after s v t under is =
-    let rose = HasFailed (link v.came).health (link v.went).health in
-    let failed = HasFailed early.health late.health in
-    let bytes = unread (link v.came).stream in
-    let rest = unread (link v.went).stream in
-    record {
-      answered = wrote_as (link v.came).stream (link v.went).stream _ _
-          (λ piece one. joined lane early.dial early.dial late.dial rose failed rose failed less before after s s t bytes bytes rest v.served [] piece (λ why. why) (λ why. why)
-          (nothing_yet lane early.dial less before s bytes under) one) is.answered;
-      clock = is.clock;
-      still = is.still;
-      goes_on = is.goes_on;
-    }
+visit_from link lane early late less before after s v t under is = record {
+  answered = wrote_as (link v.came).stream (link v.went).stream _ _
+      (λ piece one. with_goes (in_lane lane) (GoesAlone lane early late before after s t) (GoesAlone lane early late less after s t) (goes_lower lane early late less before after s t under)
+      (HasFailed (link v.came).health (link v.went).health) (unread (link v.came).stream) (unread (link v.went).stream) v.served piece one) is.answered;
+  clock = is.clock;
+  still = is.still;
+  goes_on = is.goes_on;
+}
 
 pub visits_from : {L : Type 0} (link : L → LinkSeen) (lane : ℕ) (early late : ClockSeen) (less before after : ℕ) (s : State) (vs : List (Visit L)) (t : State)
     → less ≤ before → AreVisits link lane early late before after s vs t → AreVisits link lane early late less after s vs t
@@ -152,29 +144,33 @@ left_out T E None (Some mid) new came went how e one two = absurd one
 left_out T E (Some old) None new came went how e one two = absurd one
 left_out T E (Some old) (Some mid) None came went how e one two = absurd two
 
--- a connection ends by a fault of the clock only where its count rose
-ends_clock : (lane : ℕ) (early late : Option Dial) (link clock : Type 0) (before after : ℕ) (s : State) (bytes rest : Option (List ℕ)) (how : Served) (t : State) (text : List ℕ) → how ≡ served.ClockFault
-    → IsConnection lane early late link clock before after s bytes rest how t text → clock
-ends_clock lane early late link clock before after s bytes rest how t text is one =
-    (subst (λ (h : Served). IsConnection lane early late link clock before after s bytes rest h t text) is one).ends.1
+-- ---- what ends a connection
+
+-- a connection ends by a fault of the clock only where the clock has failed
+ends_clock : (lane : ℕ) (early late : ClockSeen) (link : Type 0) (before after : ℕ) (s t : State) (bytes rest : Option (List ℕ)) (how : Served) (text : List ℕ) → how ≡ served.ClockFault
+    → IsConnection (in_lane lane) (GoesAlone lane early late before after s t) link bytes rest how text → HasFailed early.health late.health
+ends_clock lane early late link before after s t bytes rest how text is one =
+    let by : IsConnection (in_lane lane) (GoesAlone lane early late before after s t) link bytes rest served.ClockFault text =
+    subst (λ (h : Served). IsConnection (in_lane lane) (GoesAlone lane early late before after s t) link bytes rest h text) is one in
+    goes_failed lane early late before after s t (by.xs ++ by.more) (subst (λ (last : Last). GoesAlone lane early late before after s t (by.xs ++ by.more) last) by.ends.1 by.goes_on)
 
 -- where the clock hasn't failed none ends by it
-pub not_by_clock : (lane : ℕ) (early late : Option Dial) (link clock : Type 0) (before after : ℕ) (s : State) (bytes rest : Option (List ℕ)) (how : Served) (t : State) (text : List ℕ)
-    → IsConnection lane early late link clock before after s bytes rest how t text → (clock → ⊥) → how ≢ served.ClockFault
-not_by_clock lane early late link clock before after s bytes rest how t text one never = λ is. never (ends_clock lane early late link clock before after s bytes rest how t text is one)
+pub not_by_clock : (lane : ℕ) (early late : ClockSeen) (link : Type 0) (before after : ℕ) (s t : State) (bytes rest : Option (List ℕ)) (how : Served) (text : List ℕ)
+    → IsConnection (in_lane lane) (GoesAlone lane early late before after s t) link bytes rest how text → (HasFailed early.health late.health → ⊥) → how ≢ served.ClockFault
+not_by_clock lane early late link before after s t bytes rest how text one never = λ is. never (ends_clock lane early late link before after s t bytes rest how text is one)
 
--- where the link hasn't failed none ends by it
-pub not_by_link : (lane : ℕ) (early late : Option Dial) (link clock : Type 0) (before after : ℕ) (s : State) (bytes rest : Option (List ℕ)) (how : Served) (t : State) (text : List ℕ)
-    → IsConnection lane early late link clock before after s bytes rest how t text → (link → ⊥) → (how ≢ served.ReadFault) × (how ≢ served.WriteFault)
-not_by_link lane early late link clock before after s bytes rest how t text one never = (
-  λ is. never (subst (λ (h : Served). IsConnection lane early late link clock before after s bytes rest h t text) is one).ends.1,
-  λ is. never (subst (λ (h : Served). IsConnection lane early late link clock before after s bytes rest h t text) is one).ends.0,
+-- where the link hasn't failed none ends by it, whoever answers
+pub not_by_link : {X : Type 0} (k : Kind X) (goes : List X → Last → Type 0) (link : Type 0) (bytes rest : Option (List ℕ)) (how : Served) (text : List ℕ)
+    → IsConnection k goes link bytes rest how text → (link → ⊥) → (how ≢ served.ReadFault) × (how ≢ served.WriteFault)
+not_by_link k goes link bytes rest how text one never = (
+  λ is. never (subst (λ (h : Served). IsConnection k goes link bytes rest h text) is one).ends.1,
+  λ is. never (subst (λ (h : Served). IsConnection k goes link bytes rest h text) is one).ends.0,
 )
 
 visit_clock : {L : Type 0} (link : L → LinkSeen) (lane : ℕ) (early late : ClockSeen) (before after : ℕ) (s : State) (v : Visit L) (t : State)
     → IsVisit link lane early late before after s v t → v.served ≡ served.ClockFault → HasFailed early.health late.health
 visit_clock link lane early late before after s v t is how =
-    ends_clock lane early.dial late.dial _ (HasFailed early.health late.health) before after s (unread (link v.came).stream) (unread (link v.went).stream) v.served t is.answered.0 how is.answered.2
+    ends_clock lane early late _ before after s t (unread (link v.came).stream) (unread (link v.went).stream) v.served is.answered.0 how is.answered.2
 
 -- ---- what connections have met
 

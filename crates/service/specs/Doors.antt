@@ -1,6 +1,10 @@
 -- Connections of a door, one after another.
 use Rattle.std.specs.Prelude.{◌≡◌, ◌≢◌, ◌⊎◌, ◌<◌, ◌≤◌, ℕ, ◌+◌, Bool, true, false, List, [], ◌∷◌, ◌++◌, length, map, filter, Option, None, Some, if◌then◌else◌}
 use Rattle.std.specs.List.{AllByRecursion, list_any}
+use Rattle.connections.specs.Connections.{IsConnection}
+use Rattle.connections.specs.Writing.{Wrote}
+use Rattle.connections.specs.declared.serving.Served.{Served}
+use Rattle.connections.specs.declared.serving.Served.TheVariants as served
 use Rattle.desk.specs.Seen.{DeskAt}
 use Rattle.desk_io.specs.Health.{HasFailed, IsStill, RoseOrFull}
 use Rattle.desk_io.specs.Over.{Over}
@@ -8,13 +12,11 @@ use Rattle.desk_net.specs.Doors.{Links}
 use Rattle.desk_net.specs.Seen.{ClockGoesOn, ClockSeen, DoorSeen, LinkGoesOn, LinkSeen}
 use Rattle.desk_net.specs.Streams.{unread}
 use Rattle.desk_state.specs.State.{State}
-use Rattle.service.specs.Connections.{IsConnection}
-use Rattle.service.specs.Serving.{Wrote}
+use Rattle.service.specs.Alone.{GoesAlone}
+use Rattle.service.specs.Connections.{in_lane}
 use Rattle.service.specs.declared.doors.ServeEnd.{ServeEnd}
 use Rattle.service.specs.declared.doors.ServeEnd.TheVariants as ends
 use Rattle.service.specs.declared.doors.Met.{Met}
-use Rattle.service.specs.declared.serving.Served.{Served}
-use Rattle.service.specs.declared.serving.Served.TheVariants as served
 
 -- a link as it came and as it was when its connection ended, how it ended, and whether the link was given back
 pub record Visit (L : Type 0) : Type 0 where
@@ -29,7 +31,7 @@ pub record Visit (L : Type 0) : Type 0 where
 pub record IsVisit {L : Type 0} (link : L → LinkSeen) (lane : ℕ) (early late : ClockSeen) (before after : ℕ) (s : State) (v : Visit L) (t : State) : Type 0 where
   pub answered :
       Wrote (link v.came).stream (link v.went).stream
-      (IsConnection lane early.dial late.dial (HasFailed (link v.came).health (link v.went).health) (HasFailed early.health late.health) before after s (unread (link v.came).stream) (unread (link v.went).stream) v.served t)
+      (IsConnection (in_lane lane) (GoesAlone lane early late before after s t) (HasFailed (link v.came).health (link v.went).health) (unread (link v.came).stream) (unread (link v.went).stream) v.served)
   pub clock : ClockGoesOn early late
   pub still : v.served ≢ served.ClockFault → v.served ≢ served.OutOfMemory → IsStill early.health late.health
   pub goes_on : LinkGoesOn (link v.came) (link v.went)

@@ -2,7 +2,7 @@ pub mod Statuses
 pub mod Requested
 pub mod Forms
 pub mod Exchanges
-pub mod Steps
 pub mod Connections
-pub mod Serving
+pub mod Alone
 pub mod Doors
+pub mod Turning

@@ -1,4 +1,5 @@
 ghost use Rattle.std.specs.Prelude.{◌≡◌, ◌≢◌, ◌≤◌, Ok, IfOk, IfErr, IsOk};
+ghost use Rattle.connections.specs.declared.serving.Served.TheVariants as ended;
 ghost use Rattle.desk.specs.Seen.{desk_at, desk_seen, DeskGoesOn};
 ghost use Rattle.desk_io.specs.Health.{IsSound, IsStill};
 ghost use Rattle.desk_io.specs.Over.{over};
@@ -7,9 +8,10 @@ ghost use Rattle.desk_net.specs.Seen.{ClockGoesOn};
 ghost use Rattle.service.specs.Doors as spec;
 ghost use Rattle.service.specs.Doors.{HasLinks, IsServing, NoneCame, Visits};
 ghost use Rattle.service.specs.declared.doors.ServeEnd.TheVariants as ends;
-ghost use Rattle.service.specs.declared.serving.Served.TheVariants as ended;
 
-use crate::serving::{Served, serve_link};
+use crate::serving::serve_link;
+use bells::Bell;
+use connections::Served;
 use desk::Desk;
 use desk_io::{Failed, OutOfMemory};
 use desk_net::{Clock, Door};
@@ -82,10 +84,10 @@ fn end_at_door(met: Met) -> ServeEnd
 }
 
 // Serves the next link of the door and gives it back. One that can't be given back counts as want of memory.
-fn serve_next_link<R: Wait, K: Keeper, C: Clock, D: Door, L: Ledger>(
+fn serve_next_link<R: Wait, K: Keeper, B: Bell, C: Clock, D: Door, L: Ledger>(
     rt: &R,
     alloc: Global,
-    desk: &mut Desk<K>,
+    desk: &mut Desk<K, B>,
     lane: u32,
     door: &mut D,
     clock: &mut C,
@@ -95,7 +97,7 @@ fn serve_next_link<R: Wait, K: Keeper, C: Clock, D: Door, L: Ledger>(
         (over C.seen clock.old clock.new) (over (desk_at K.seen) desk.old desk.new) served) }
     ensures none { IfErr result (λ _. NoneCame (over D.seen door.old door.new)
         (over C.seen clock.old clock.new) (over (desk_at K.seen) desk.old desk.new)) }
-    ensures desk { DeskGoesOn (desk_seen K.seen desk.old) (desk_seen K.seen desk.new) }
+    ensures desk { DeskGoesOn (desk_seen K.seen B.seen desk.old) (desk_seen K.seen B.seen desk.new) }
     ensures clock { ClockGoesOn (C.seen clock.old) (C.seen clock.new) }
     ensures still { result ≢ Ok ended.ClockFault → result ≢ Ok ended.OutOfMemory → IsStill (C.seen clock.old).health
         (C.seen clock.new).health }
@@ -112,12 +114,12 @@ fn serve_next_link<R: Wait, K: Keeper, C: Clock, D: Door, L: Ledger>(
     }
 }
 
-/// Serves so many connections at a port, one after another, each in the lane of its number from 1, and gives each link back.
-/// A link's own fault ends its connection alone; a fault of the door ends the serving.
-pub fn serve_door<R: Wait, K: Keeper, C: Clock, D: Door, L: Ledger>(
+/// Serves so many connections at a port, one after another, each in the lane of its number from 1, and gives each link
+/// back. A link's own fault ends its connection alone; a fault of the door ends the serving.
+pub fn serve_door<R: Wait, K: Keeper, B: Bell, C: Clock, D: Door, L: Ledger>(
     rt: &R,
     alloc: Global,
-    desk: &mut Desk<K>,
+    desk: &mut Desk<K, B>,
     door: &mut D,
     clock: &mut C,
     port: u16,
@@ -126,7 +128,7 @@ pub fn serve_door<R: Wait, K: Keeper, C: Clock, D: Door, L: Ledger>(
 ) -> ServeEnd
     ensures serves { IsServing D.Link.seen (over D.seen door.old door.new) (over C.seen clock.old clock.new)
         (over (desk_at K.seen) desk.old desk.new) port connections result }
-    ensures desk { DeskGoesOn (desk_seen K.seen desk.old) (desk_seen K.seen desk.new) }
+    ensures desk { DeskGoesOn (desk_seen K.seen B.seen desk.old) (desk_seen K.seen B.seen desk.new) }
     ensures clock { ClockGoesOn (C.seen clock.old) (C.seen clock.new) }
     // A fault of the clock isn't passed over: where all was served well, the count stands still.
     ensures still { result ≡ ends.Done → IsStill (C.seen clock.old).health (C.seen clock.new).health }

@@ -1,18 +1,23 @@
-ghost use Rattle.std.specs.Prelude.{◌≡◌, ◌≢◌, Err, IfOk, IsErrOf};
-ghost use Rattle.http.specs.StatusCode.{IsStatusCode};
+ghost use Rattle.std.specs.Prelude.{◌≡◌, ◌≢◌, Err, IfOk};
 ghost use Rattle.call_json.specs.Forms.{CallHasForms};
+ghost use Rattle.connections.specs.Connections.{Answers};
+ghost use Rattle.connections.specs.declared.answers.Unanswered.TheVariants.{ClockFault as ByClock};
 ghost use Rattle.desk.specs.Seen.{desk_at, desk_seen, DeskGoesOn};
 ghost use Rattle.desk_io.specs.Health.{IsSound, IsStill};
 ghost use Rattle.desk_io.specs.Over.{over};
 ghost use Rattle.desk_net.specs.Seen.{ClockGoesOn};
+ghost use Rattle.http.specs.StatusCode.{IsStatusCode};
+ghost use Rattle.service.specs.Alone.{GoesOver};
+ghost use Rattle.service.specs.Connections.{Responds, in_lane};
 ghost use Rattle.service.specs.Forms.{RequestedHasForms};
-ghost use Rattle.service.specs.Requested.{requested_by as request_of};
-ghost use Rattle.service.specs.Steps.{Answers, AnswersText};
-ghost use Rattle.service.specs.declared.exchange.NoAnswer.TheVariants.{ClockFault as ByClock, OutOfMemory as NoMemory};
+ghost use Rattle.service.specs.Requested as spec;
 
 use crate::requested::{Requested, requested_by};
+use crate::responding::{response_to, response_without, text_of};
 use crate::responses::Response;
 use asks::Call;
+use bells::Bell;
+use connections::Unanswered;
 use desk::{Desk, answer};
 use desk_http::Wire;
 use desk_io::{OutOfMemory, Text};
@@ -22,90 +27,86 @@ use rules::Steps;
 use std::alloc::Global;
 use std::sync::ledger::Ledger;
 
-/// Why a request has no response.
-#[derive(Clone, Copy, Debug, PartialEq, Eq)]
-pub enum NoAnswer {
-    /// The clock failed, and counted it.
-    ClockFault,
-    /// Memory ran out.
-    OutOfMemory,
-}
-
-impl From<OutOfMemory> for NoAnswer {
-    ghost from_gives = { λ _ e. e ≡ NoMemory };
-
-    fn from(_: OutOfMemory) -> Self {
-        NoAnswer::OutOfMemory
+// A call is made at the clock's moment.
+fn respond_to_call<K: Keeper, B: Bell, C: Clock, L: Ledger>(
+    alloc: Global,
+    desk: &mut Desk<K, B>,
+    lane: u32,
+    clock: &mut C,
+    wire: &Wire,
+    call: &Call,
+    steps: &mut Steps<L>,
+) -> Result<Response, Unanswered>
+    requires asked { spec.requested_by wire.now ≡ Requested.Call call.now }
+    requires forms { CallHasForms call.now }
+    ensures responds { Responds lane
+        (GoesOver lane (over C.seen clock.old clock.new) (over (desk_at K.seen) desk.old desk.new)) wire.now result }
+    ensures code { IfOk result (λ r. IsStatusCode r.status) }
+    ensures desk { DeskGoesOn (desk_seen K.seen B.seen desk.old) (desk_seen K.seen B.seen desk.new) }
+    ensures clock { ClockGoesOn (C.seen clock.old) (C.seen clock.new) }
+    ensures still { result ≢ Err ByClock → IsStill (C.seen clock.old).health (C.seen clock.new).health }
+    ensures steady { IsSound (C.seen clock.old).health → result ≢ Err ByClock }
+{
+    let Ok(at) = clock.now() else {
+        return Err(Unanswered::ClockFault);
+    };
+    match answer(alloc, desk, lane, at, call, steps) {
+        Ok(answered) => response_to(alloc, &answered.outcome.said),
+        Err(OutOfMemory) => Err(Unanswered::OutOfMemory),
     }
 }
 
-// A call is made at the clock's moment.
-fn reply_to<K: Keeper, C: Clock, L: Ledger>(
-    alloc: Global,
-    desk: &mut Desk<K>,
-    lane: u32,
-    clock: &mut C,
-    call: &Call,
-    steps: &mut Steps<L>,
-) -> Result<Response, NoAnswer>
-    requires { CallHasForms call.now }
-    ensures answers { Answers lane (over C.seen clock.old clock.new) (over (desk_at K.seen) desk.old desk.new)
-        (Requested.Call call.now) result }
-    ensures code { IfOk result (λ r. IsStatusCode r.status) }
-    ensures desk { DeskGoesOn (desk_seen K.seen desk.old) (desk_seen K.seen desk.new) }
-    ensures clock { ClockGoesOn (C.seen clock.old) (C.seen clock.new) }
-    ensures still { result ≢ Err ByClock → IsStill (C.seen clock.old).health (C.seen clock.new).health }
-{
-    let Ok(at) = clock.now() else {
-        return Err(NoAnswer::ClockFault);
-    };
-    let answered = answer(alloc, desk, lane, at, call, steps)?;
-    Ok(Response::of_said(alloc, &answered.outcome.said)?)
-}
-
 // What is answered to what a request asks.
-fn respond<K: Keeper, C: Clock, L: Ledger>(
+fn respond<K: Keeper, B: Bell, C: Clock, L: Ledger>(
     alloc: Global,
-    desk: &mut Desk<K>,
+    desk: &mut Desk<K, B>,
     lane: u32,
     clock: &mut C,
+    wire: &Wire,
     requested: &Requested,
     steps: &mut Steps<L>,
-) -> Result<Response, NoAnswer>
-    requires { RequestedHasForms requested.now }
-    ensures answers { Answers lane (over C.seen clock.old clock.new) (over (desk_at K.seen) desk.old desk.new)
-        requested.now result }
+) -> Result<Response, Unanswered>
+    requires asked { requested.now ≡ spec.requested_by wire.now }
+    requires forms { RequestedHasForms requested.now }
+    ensures responds { Responds lane
+        (GoesOver lane (over C.seen clock.old clock.new) (over (desk_at K.seen) desk.old desk.new)) wire.now result }
     ensures code { IfOk result (λ r. IsStatusCode r.status) }
-    ensures desk { DeskGoesOn (desk_seen K.seen desk.old) (desk_seen K.seen desk.new) }
+    ensures desk { DeskGoesOn (desk_seen K.seen B.seen desk.old) (desk_seen K.seen B.seen desk.new) }
     ensures clock { ClockGoesOn (C.seen clock.old) (C.seen clock.new) }
     ensures still { result ≢ Err ByClock → IsStill (C.seen clock.old).health (C.seen clock.new).health }
+    ensures steady { IsSound (C.seen clock.old).health → result ≢ Err ByClock }
 {
-    match requested {
-        Requested::Call(call) => reply_to(alloc, desk, lane, clock, call, steps),
-        Requested::Bad(fault) => Ok(Response::of_bad(alloc, fault)?),
-        Requested::NoRoute => Ok(Response::no_route(alloc)?),
-        Requested::WrongMethod => Ok(Response::wrong_method(alloc)?),
+    if let Requested::Call(call) = requested {
+        return respond_to_call(alloc, desk, lane, clock, wire, call, steps);
+    }
+    match response_without(alloc, requested) {
+        Ok(response) => Ok(response),
+        Err(OutOfMemory) => Err(Unanswered::OutOfMemory),
     }
 }
 
 /// The bytes that answer a request.
-pub fn exchange<K: Keeper, C: Clock, L: Ledger>(
+pub fn exchange<K: Keeper, B: Bell, C: Clock, L: Ledger>(
     alloc: Global,
-    desk: &mut Desk<K>,
+    desk: &mut Desk<K, B>,
     lane: u32,
     clock: &mut C,
     wire: &Wire,
     steps: &mut Steps<L>,
-) -> Result<Text, NoAnswer>
-    ensures answers { AnswersText lane (over C.seen clock.old clock.new) (over (desk_at K.seen) desk.old desk.new)
-        (request_of wire.now) result }
-    ensures desk { DeskGoesOn (desk_seen K.seen desk.old) (desk_seen K.seen desk.new) }
+) -> Result<Text, Unanswered>
+    ensures answers { Answers (in_lane lane)
+        (GoesOver lane (over C.seen clock.old clock.new) (over (desk_at K.seen) desk.old desk.new)) wire.now result }
+    ensures desk { DeskGoesOn (desk_seen K.seen B.seen desk.old) (desk_seen K.seen B.seen desk.new) }
     ensures clock { ClockGoesOn (C.seen clock.old) (C.seen clock.new) }
     ensures still { result ≢ Err ByClock → IsStill (C.seen clock.old).health (C.seen clock.new).health }
     // Over a sound clock only want of memory leaves a request without a response.
-    ensures steady_clock { IsSound (C.seen clock.old).health → IsErrOf result ByClock → ⊥ }
+    ensures steady { IsSound (C.seen clock.old).health → result ≢ Err ByClock }
 {
-    let requested = requested_by(alloc, wire)?;
-    let response = respond(alloc, desk, lane, clock, &requested, steps)?;
-    Ok(response.bytes(alloc)?)
+    match requested_by(alloc, wire) {
+        Ok(requested) => {
+            let responded = respond(alloc, desk, lane, clock, wire, &requested, steps);
+            text_of(alloc, responded)
+        }
+        Err(OutOfMemory) => Err(Unanswered::OutOfMemory),
+    }
 }

@@ -4,10 +4,13 @@
 mod doors;
 mod exchange;
 mod requested;
+mod responding;
 mod responses;
 mod serving;
 mod statuses;
+mod turns;
 
 pub use doors::{ServeEnd, serve_door};
-pub use serving::{Served, serve_link};
+pub use serving::serve_link;
 pub use statuses::status_of;
+pub use turns::serve_turns;

@@ -4,7 +4,6 @@ ghost use Rattle.desk.specs.Shown.{CanBeSaid};
 ghost use Rattle.desk_json.specs.Replies.{bad_text as text_of_bad};
 ghost use Rattle.http.specs.StatusCode.{IsStatusCode};
 ghost use Rattle.service.specs.Exchanges as spec;
-ghost use Rattle.service.specs.Connections as ends;
 ghost use Rattle.service.specs.Statuses as statuses;
 
 use crate::statuses::status_of;
@@ -70,48 +69,4 @@ impl Response {
         let body = Text::of(alloc, b"{\"error\":\"WrongMethod\"}")?;
         Ok(Response { status: 405, body })
     }
-}
-
-// The answers that end a connection are fixed bytes, so that they take no memory.
-
-#[tactic(auto, unfolding(desk_http::specs::Responses::response))]
-pub fn bad_head_answer() -> &'static [u8]
-    ensures { result.now ≡ spec.bytes_of ends.bad_head_answer }
-{
-    b"HTTP/1.1 400 Bad Request\r\nContent-Type: application/json\r\nContent-Length: 19\r\n\r\n{\"error\":\"BadHead\"}"
-}
-
-#[tactic(auto, unfolding(desk_http::specs::Responses::response))]
-pub fn too_large_answer() -> &'static [u8]
-    ensures { result.now ≡ spec.bytes_of ends.too_large_answer }
-{
-    b"HTTP/1.1 413 Payload Too Large\r\nContent-Type: application/json\r\nContent-Length: 20\r\n\r\n{\"error\":\"TooLarge\"}"
-}
-
-#[tactic(auto, unfolding(desk_http::specs::Responses::response))]
-pub fn no_length_answer() -> &'static [u8]
-    ensures { result.now ≡ spec.bytes_of ends.no_length_answer }
-{
-    b"HTTP/1.1 411 Length Required\r\nContent-Type: application/json\r\nContent-Length: 20\r\n\r\n{\"error\":\"NoLength\"}"
-}
-
-#[tactic(auto, unfolding(desk_http::specs::Responses::response))]
-pub fn wrong_method_answer() -> &'static [u8]
-    ensures { result.now ≡ spec.bytes_of ends.wrong_method_answer }
-{
-    b"HTTP/1.1 405 Method Not Allowed\r\nContent-Type: application/json\r\nContent-Length: 23\r\n\r\n{\"error\":\"WrongMethod\"}"
-}
-
-#[tactic(auto, unfolding(desk_http::specs::Responses::response))]
-pub fn clock_fault_answer() -> &'static [u8]
-    ensures { result.now ≡ spec.bytes_of ends.clock_fault_answer }
-{
-    b"HTTP/1.1 503 Service Unavailable\r\nContent-Type: application/json\r\nContent-Length: 22\r\n\r\n{\"error\":\"ClockFault\"}"
-}
-
-#[tactic(auto, unfolding(desk_http::specs::Responses::response))]
-pub fn out_of_memory_answer() -> &'static [u8]
-    ensures { result.now ≡ spec.bytes_of ends.out_of_memory_answer }
-{
-    b"HTTP/1.1 500 Internal Server Error\r\nContent-Type: application/json\r\nContent-Length: 23\r\n\r\n{\"error\":\"OutOfMemory\"}"
 }

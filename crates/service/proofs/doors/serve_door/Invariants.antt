@@ -11,7 +11,7 @@ invariant-loop-before g l = record {
       l.before l.met (g.K.Keeper.seen l.fn.desk.keeper).health.faults (g.K.Keeper.seen l.desk.keeper).health.faults l.fn.desk.board.state l.desk.board.state;
   within : l.before ≤ l.connections;
   port : (g.D.Door.seen l.door).opened_at ≡ Some l.port;
-  desk : DeskGoesOn (desk_seen g.K.Keeper.seen l.fn.desk) (desk_seen g.K.Keeper.seen l.desk);
+  desk : DeskGoesOn (desk_seen g.K.Keeper.seen g.B.Bell.seen l.fn.desk) (desk_seen g.K.Keeper.seen g.B.Bell.seen l.desk);
   still : l.met.memory ≡ false → l.met.clock ≡ false → (g.C.Clock.seen l.clock).health.faults ≡ (g.C.Clock.seen l.fn.clock).health.faults;
   clock : ClockGoesOn (g.C.Clock.seen l.fn.clock) (g.C.Clock.seen l.clock);
   door : (g.D.Door.seen l.fn.door).health.faults ≤ (g.D.Door.seen l.door).health.faults;

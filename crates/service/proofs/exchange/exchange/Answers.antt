@@ -1,7 +1,16 @@
-use Rattle.service.proofs.Answered.{no_response}
+use Rattle.desk.specs.Seen.{desk_at}
+use Rattle.desk_io.specs.Over.{over}
+use Rattle.service.proofs.ResponseLaws.{answers_of, text_for, text_otherwise}
+use Rattle.service.specs.Alone.{GoesOver}
 use Rattle.service.proofs.exchange.exchange.Goals as goal
 
-pub returns-in_err-response-clause-answers : goal.returns-in_err-response-clause-answers
-returns-in_err-response-clause-answers g c =
-    let is = c.from_residual-in_err-response.ensures in
-    no_response _ _ _ _ _ _ _ _ c.in_ok-requested.requested _ _ _ c.in_ok-requested.ensures.asked is.0 is.1 c.in_err-response.ensures.answers
+pub returns-in-Ok-clause-answers : goal.returns-in-Ok-clause-answers
+returns-in-Ok-clause-answers g c =
+    answers_of c.args.lane (GoesOver c.args.lane (over g.C.Clock.seen c.args.clock.now c.respond-responded.new.clock) (over (desk_at g.K.Keeper.seen) c.args.desk.now c.respond-responded.new.desk)) c.args.wire.now
+    c.respond-responded.result c.text_of.result c.respond-responded.ensures.responds c.text_of.ensures
+
+pub returns-in-Ok-clause-steady : goal.returns-in-Ok-clause-steady
+returns-in-Ok-clause-steady g c = λ sound. text_otherwise c.respond-responded.result c.text_of.result c.text_of.ensures (c.respond-responded.ensures.steady sound)
+
+pub returns-in-Ok-clause-still : goal.returns-in-Ok-clause-still
+returns-in-Ok-clause-still g c = λ other. c.respond-responded.ensures.still (text_for c.respond-responded.result c.text_of.result c.text_of.ensures other)

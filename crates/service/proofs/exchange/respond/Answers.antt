@@ -1,15 +1,17 @@
-use Rattle.std.proofs.Common.{◌≡◌}
-use Rattle.service.specs.declared.requested.Requested.TheVariants as requested
-use Rattle.service.proofs.Answered.{bad_answered, method_answered, route_answered}
+use Rattle.std.proofs.Common.{rules, ◌≡◌, false, refl}
+use Rattle.desk.proofs.SeenLaws.{desk_stays}
+use Rattle.desk_net.proofs.SeenLaws.{clock_stays}
+use Rattle.service.proofs.AloneLaws.{uncalled_responds}
+use Rattle.service.specs.Connections.{makes_call}
 use Rattle.service.proofs.exchange.respond.Goals as goal
 
-pub returns-in_ok-of_bad-in-Bad-clause-answers : goal.returns-in_ok-of_bad-in-Bad-clause-answers
-returns-in_ok-of_bad-in-Bad-clause-answers g c = let is = c.in_ok-of_bad-in-Bad.ensures in bad_answered _ _ _ _ _ c.in-Bad.fault _ c.in-Bad.is is.status is.body
-
-pub returns-in_ok-no_route-in-NoRoute-clause-answers : goal.returns-in_ok-no_route-in-NoRoute-clause-answers
-returns-in_ok-no_route-in-NoRoute-clause-answers g c =
-    let is : c.args.requested.now ≡ requested.NoRoute = cc in route_answered _ _ _ _ _ _ is c.in_ok-no_route-in-NoRoute.ensures
-
-pub returns-in_ok-wrong_method-in-WrongMethod-clause-answers : goal.returns-in_ok-wrong_method-in-WrongMethod-clause-answers
-returns-in_ok-wrong_method-in-WrongMethod-clause-answers g c =
-    let is : c.args.requested.now ≡ requested.WrongMethod = cc in method_answered _ _ _ _ _ _ is c.in_ok-wrong_method-in-WrongMethod.ensures
+pub returns-in-Ok : goal.returns-in-Ok
+returns-in-Ok g c =
+    let none : makes_call c.args.requested.now ≡ false = search rules in record {
+      responds = uncalled_responds _ _ _ _ _ c.args.requested.now _ c.requires.asked none c.in-Ok.ensures.ok;
+      code = c.in-Ok.ensures.code;
+      desk = desk_stays _;
+      clock = clock_stays _;
+      still = λ other. refl;
+      steady = λ sound is. absurd (cc);
+    }

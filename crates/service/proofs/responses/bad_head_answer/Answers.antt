@@ -1,8 +1,0 @@
-use Rattle.std.proofs.Common.{refl}
-use Rattle.std.specs.Fmt.{digits}
-use Rattle.desk_http.specs.Responses.{response}
-use Rattle.service.proofs.responses.bad_head_answer.Goals as goal
-
-pub returns : goal.returns
-unfolding response digits
-returns c = refl

@@ -1,0 +1,12 @@
+use Rattle.service.specs.Turning.{GoesInTurns}
+use Rattle.service.proofs.ResponseLaws.{answers_of, text_otherwise}
+use Rattle.turn_lock.specs.Passes.{pass_seen}
+use Rattle.service.proofs.turns.exchange_in_turn.Goals as goal
+
+pub returns-in-Ok-clause-answers : goal.returns-in-Ok-clause-answers
+returns-in-Ok-clause-answers g c =
+    answers_of c.args.lane (GoesInTurns g.A.Opened.desk.opening g.A.Opened.clock.dial c.args.lane (pass_seen c.args.pass) (pass_seen c.respond_in_turn-responded.result.1)) c.args.wire.now
+    c.respond_in_turn-responded.result.0 c.text_of.result c.respond_in_turn-responded.ensures.responds c.text_of.ensures
+
+pub returns-in-Ok-clause-steady : goal.returns-in-Ok-clause-steady
+returns-in-Ok-clause-steady g c = λ sound. text_otherwise c.respond_in_turn-responded.result.0 c.text_of.result c.text_of.ensures (c.respond_in_turn-responded.ensures.steady sound)

@@ -1,0 +1,16 @@
+use Rattle.std.proofs.Common.{rules, ◌≡◌, false, refl}
+use Rattle.service.specs.Connections.{makes_call}
+use Rattle.service.proofs.TurningLaws.{uncalled_responds}
+use Rattle.turn_lock.proofs.ElementLaws.{prefix_self}
+use Rattle.service.proofs.turns.respond_in_turn.Goals as goal
+
+pub returns-in-Ok : goal.returns-in-Ok
+returns-in-Ok g c =
+    let none : makes_call c.args.requested.now ≡ false = search rules in record {
+      pass = (refl, c.requires.lock.1);
+      numbers = refl;
+      seen = prefix_self _;
+      responds = uncalled_responds _ _ _ _ _ c.args.requested.now _ c.requires.asked none c.in-Ok.ensures.ok;
+      code = c.in-Ok.ensures.code;
+      steady = λ sound is. absurd (cc);
+    }

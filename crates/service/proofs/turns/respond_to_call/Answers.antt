@@ -1,0 +1,14 @@
+use Rattle.std.proofs.Common.{subst}
+use Rattle.service.proofs.TurningLaws.{call_fails, call_responds}
+use Rattle.shared_desk.specs.Turns.{ComesOnce, said_in}
+use Rattle.service.proofs.turns.respond_to_call.Goals as goal
+
+pub returns-in-Ok-clause-responds : goal.returns-in-Ok-clause-responds
+returns-in-Ok-clause-responds g c =
+    let once = subst (ComesOnce _ _ _ _ _ _) c.in-Ok.is c.answer_in_turn-answered.ensures.comes in
+    call_responds _ _ _ _ _ _ c.args.call.now (said_in c.in-Ok.answered) c.response_to.result c.requires.asked once c.response_to.ensures.ok c.response_to.ensures.err
+
+pub returns-in-Err-clause-responds : goal.returns-in-Err-clause-responds
+returns-in-Err-clause-responds g c =
+    let once = subst (ComesOnce _ _ _ _ _ _) c.in-Err.is c.answer_in_turn-answered.ensures.comes in
+    call_fails _ _ _ _ _ _ c.args.call.now c.in-Err.why c.requires.asked once

@@ -1,0 +1,203 @@
+ghost use Rattle.std.specs.Prelude.{◌≡◌, ◌≢◌, Err, IfOk, Some};
+ghost use mathlib.Core.List.{IsPrefix};
+ghost use Rattle.connections.specs.Connections.{Answers, IsConnection, IsStep};
+ghost use Rattle.connections.specs.Writing.{WroteTo};
+ghost use Rattle.connections.specs.declared.answers.Unanswered.TheVariants.{ClockFault as ByClock};
+ghost use Rattle.connections.specs.declared.serving.Served.TheVariants as ended;
+ghost use Rattle.desk_http.specs.Requests.{unused};
+ghost use Rattle.call_json.specs.Forms.{CallHasForms};
+ghost use Rattle.desk_io.specs.Health.{IsSound};
+ghost use Rattle.desk_io.specs.Over.{over};
+ghost use Rattle.desk_net.specs.Seen.{LinkGoesOn};
+ghost use Rattle.desk_net.specs.Streams.{unread};
+ghost use Rattle.http.specs.StatusCode.{IsStatusCode};
+ghost use Rattle.service.specs.Connections.{Responds, in_lane};
+ghost use Rattle.service.specs.Forms.{RequestedHasForms};
+ghost use Rattle.service.specs.Requested as spec;
+ghost use Rattle.service.specs.Turning.{GoesInTurns};
+ghost use Rattle.turn_lock.specs.Passes.{lock_id, pass_lock, pass_number, pass_numbers, pass_seen};
+
+use crate::requested::{Requested, requested_by};
+use crate::responding::{response_to, response_without, text_of};
+use crate::responses::Response;
+use asks::Call;
+use bells::Bell;
+use connections::{Served, Unanswered, end_without, write_answer};
+use desk_http::{Buffer, Wire, next_request};
+use desk_io::{OutOfMemory, Text};
+use desk_net::{Clock, Link};
+use keeper::Keeper;
+use rules::Steps;
+use shared_desk::{Opened, Shared, answer_in_turn};
+use std::alloc::Global;
+use std::sync::Wait;
+use std::sync::ledger::Ledger;
+use turn_lock::{Pass, TurnLock};
+
+// What a call is answered, in a turn of its own.
+fn respond_to_call<R: Wait, K: Keeper, B: Bell, C: Clock, A: Opened, L: Ledger>(
+    rt: &R,
+    alloc: Global,
+    lock: &TurnLock<Shared<K, B, C, A>>,
+    pass: Pass<Shared<K, B, C, A>>,
+    lane: u32,
+    wire: &Wire,
+    call: &Call,
+    steps: &mut Steps<L>,
+) -> (Result<Response, Unanswered>, Pass<Shared<K, B, C, A>>)
+    requires lock { (pass_lock pass ≡ lock_id lock.now) × (pass_number pass ≡ lane) }
+    requires asked { spec.requested_by wire.now ≡ Requested.Call call.now }
+    requires forms { CallHasForms call.now }
+    ensures pass { (pass_lock result.1 ≡ pass_lock pass) × (pass_number result.1 ≡ lane) }
+    ensures numbers { pass_numbers result.1 ≡ pass_numbers pass }
+    ensures seen { IsPrefix (pass_seen pass) (pass_seen result.1) }
+    ensures responds { Responds lane
+        (GoesInTurns A.desk.opening A.clock.dial lane (pass_seen pass) (pass_seen result.1)) wire.now result.0 }
+    ensures code { IfOk result.0 (λ r. IsStatusCode r.status) }
+    ensures steady { IsSound A.clock.health → result.0 ≢ Err ByClock }
+{
+    let (answered, pass) = answer_in_turn(rt, alloc, lock, pass, lane, call, steps);
+    match answered {
+        Ok(answered) => (response_to(alloc, &answered.outcome.said), pass),
+        Err(why) => (Err(why), pass),
+    }
+}
+
+// What is answered to what a request asks. Only a call takes a turn.
+fn respond_in_turn<R: Wait, K: Keeper, B: Bell, C: Clock, A: Opened, L: Ledger>(
+    rt: &R,
+    alloc: Global,
+    lock: &TurnLock<Shared<K, B, C, A>>,
+    pass: Pass<Shared<K, B, C, A>>,
+    lane: u32,
+    wire: &Wire,
+    requested: &Requested,
+    steps: &mut Steps<L>,
+) -> (Result<Response, Unanswered>, Pass<Shared<K, B, C, A>>)
+    requires lock { (pass_lock pass ≡ lock_id lock.now) × (pass_number pass ≡ lane) }
+    requires asked { requested.now ≡ spec.requested_by wire.now }
+    requires forms { RequestedHasForms requested.now }
+    ensures pass { (pass_lock result.1 ≡ pass_lock pass) × (pass_number result.1 ≡ lane) }
+    ensures numbers { pass_numbers result.1 ≡ pass_numbers pass }
+    ensures seen { IsPrefix (pass_seen pass) (pass_seen result.1) }
+    ensures responds { Responds lane
+        (GoesInTurns A.desk.opening A.clock.dial lane (pass_seen pass) (pass_seen result.1)) wire.now result.0 }
+    ensures code { IfOk result.0 (λ r. IsStatusCode r.status) }
+    ensures steady { IsSound A.clock.health → result.0 ≢ Err ByClock }
+{
+    if let Requested::Call(call) = requested {
+        return respond_to_call(rt, alloc, lock, pass, lane, wire, call, steps);
+    }
+    match response_without(alloc, requested) {
+        Ok(response) => (Ok(response), pass),
+        Err(OutOfMemory) => (Err(Unanswered::OutOfMemory), pass),
+    }
+}
+
+// The bytes that answer a request.
+fn exchange_in_turn<R: Wait, K: Keeper, B: Bell, C: Clock, A: Opened, L: Ledger>(
+    rt: &R,
+    alloc: Global,
+    lock: &TurnLock<Shared<K, B, C, A>>,
+    pass: Pass<Shared<K, B, C, A>>,
+    lane: u32,
+    wire: &Wire,
+    steps: &mut Steps<L>,
+) -> (Result<Text, Unanswered>, Pass<Shared<K, B, C, A>>)
+    requires lock { (pass_lock pass ≡ lock_id lock.now) × (pass_number pass ≡ lane) }
+    ensures pass { (pass_lock result.1 ≡ pass_lock pass) × (pass_number result.1 ≡ lane) }
+    ensures numbers { pass_numbers result.1 ≡ pass_numbers pass }
+    ensures seen { IsPrefix (pass_seen pass) (pass_seen result.1) }
+    ensures answers { Answers (in_lane lane)
+        (GoesInTurns A.desk.opening A.clock.dial lane (pass_seen pass) (pass_seen result.1)) wire.now result.0 }
+    ensures steady { IsSound A.clock.health → result.0 ≢ Err ByClock }
+{
+    match requested_by(alloc, wire) {
+        Ok(requested) => {
+            let (responded, pass) = respond_in_turn(
+                rt, alloc, lock, pass, lane, wire, &requested, steps,
+            );
+            (text_of(alloc, responded), pass)
+        }
+        Err(OutOfMemory) => (Err(Unanswered::OutOfMemory), pass),
+    }
+}
+
+// The next request, or the end.
+fn serve_next_in_turn<R: Wait, K: Keeper, B: Bell, N: Link, C: Clock, A: Opened, L: Ledger>(
+    rt: &R,
+    alloc: Global,
+    lock: &TurnLock<Shared<K, B, C, A>>,
+    pass: Pass<Shared<K, B, C, A>>,
+    lane: u32,
+    link: &mut N,
+    buffer: &mut Buffer,
+    steps: &mut Steps<L>,
+) -> (Option<Served>, Pass<Shared<K, B, C, A>>)
+    requires lock { (pass_lock pass ≡ lock_id lock.now) × (pass_number pass ≡ lane) }
+    ensures pass { (pass_lock result.1 ≡ pass_lock pass) × (pass_number result.1 ≡ lane) }
+    ensures numbers { pass_numbers result.1 ≡ pass_numbers pass }
+    ensures seen { IsPrefix (pass_seen pass) (pass_seen result.1) }
+    ensures serves { WroteTo (over N.seen link.old link.new) (λ failed. IsStep (in_lane lane)
+        (GoesInTurns A.desk.opening A.clock.dial lane (pass_seen pass) (pass_seen result.1)) failed
+        (unused buffer.old (unread (N.seen link.old).stream)) (unused buffer.new (unread (N.seen link.new).stream))
+        (unread (N.seen link.new).stream) result.0) }
+    ensures link { LinkGoesOn (N.seen link.old) (N.seen link.new) }
+    ensures steady { IsSound A.clock.health → result.0 ≢ Some ended.ClockFault }
+{
+    match next_request(alloc, link, buffer) {
+        Ok(wire) => {
+            let (answered, pass) = exchange_in_turn(rt, alloc, lock, pass, lane, &wire, steps);
+            (write_answer(link, &answered, wire.last), pass)
+        }
+        Err(fault) => (Some(end_without(link, fault)), pass),
+    }
+}
+
+/// Serves a connection: its requests are answered in their turn, each call in a turn of the lock and at the moment that
+/// the clock gives for it, until it ends.
+///
+/// What was written is the responses to the requests of the link's bytes. Each reply has a place in the list that the
+/// pass has seen then, in order and not before what it had seen; it is the answer there, and what it adds stands there.
+/// The lane has added nothing else, but the miss of a clock that failed, or at most a tick where memory ran out.
+pub fn serve_turns<R: Wait, K: Keeper, B: Bell, N: Link, C: Clock, A: Opened, L: Ledger>(
+    rt: &R,
+    alloc: Global,
+    lock: &TurnLock<Shared<K, B, C, A>>,
+    mut pass: Pass<Shared<K, B, C, A>>,
+    lane: u32,
+    link: &mut N,
+    steps: &mut Steps<L>,
+) -> (Served, Pass<Shared<K, B, C, A>>)
+    requires lock { (pass_lock pass ≡ lock_id lock.now) × (pass_number pass ≡ lane) }
+    ensures pass { (pass_lock result.1 ≡ pass_lock pass) × (pass_number result.1 ≡ lane) }
+    ensures numbers { pass_numbers result.1 ≡ pass_numbers pass }
+    ensures seen { IsPrefix (pass_seen pass) (pass_seen result.1) }
+    ensures serves { WroteTo (over N.seen link.old link.new) (λ failed. IsConnection (in_lane lane)
+        (GoesInTurns A.desk.opening A.clock.dial lane (pass_seen pass) (pass_seen result.1)) failed
+        (unread (N.seen link.old).stream) (unread (N.seen link.new).stream) result.0) }
+    ensures link { LinkGoesOn (N.seen link.old) (N.seen link.new) }
+    // Neither ends it where it is sound.
+    ensures steady_clock { IsSound A.clock.health → result.0 ≢ ended.ClockFault }
+    ensures steady_link { IsSound (N.seen link.old).health
+        → (result.0 ≢ ended.ReadFault) × (result.0 ≢ ended.WriteFault) }
+{
+    let mut buffer = Buffer::new(alloc);
+    for _ in rt.forever() {
+        let (ended, next) = serve_next_in_turn(
+            rt,
+            alloc,
+            lock,
+            pass,
+            lane,
+            link,
+            &mut buffer,
+            steps,
+        );
+        pass = next;
+        if let Some(served) = ended {
+            return (served, pass);
+        }
+    }
+    unreachable!()
+}

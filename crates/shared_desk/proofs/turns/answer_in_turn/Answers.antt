@@ -1,0 +1,27 @@
+use Rattle.std.proofs.Common.{rules, ◌≡◌, ◌++◌, inl, sym, ap, ◌∙◌, subst}
+use Rattle.turn_lock.proofs.ElementLaws.{prefix_trans}
+use Rattle.turn_lock.specs.Elements.{elements_of}
+use Rattle.turn_lock.specs.Passes.{pass_seen, turn_taken}
+use Rattle.shared_desk.specs.Events.{lane_of}
+use Rattle.shared_desk.specs.Shared.{events_of}
+use Rattle.shared_desk.specs.Turns.{ComesOnce}
+use Rattle.shared_desk.proofs.SharedLaws.{comes_for_pass}
+use Rattle.shared_desk.proofs.turns.answer_in_turn.Goals as goal
+
+pub returns-clause-seen : goal.returns-clause-seen
+returns-clause-seen g c =
+    let grown = c.answer-answered.ensures.list in
+    let taken : events_of c.value.result.now ≡ turn_taken c.take-turn.result = search rules in
+    let seen : pass_seen c.give.result ≡ events_of c.answer-answered.new.self = search rules in
+    prefix_trans (pass_seen c.args.pass) (turn_taken c.take-turn.result) (pass_seen c.give.result) c.take-turn.ensures.seen
+    (grown.0, sym (seen ∙ (grown.1 ∙ ap (λ l. l ++ grown.0) taken)))
+
+pub returns-clause-comes : goal.returns-clause-comes
+returns-clause-comes g c =
+    let taken : events_of c.value.result.now ≡ turn_taken c.take-turn.result = search rules in
+    let seen : pass_seen c.give.result ≡ events_of c.answer-answered.new.self = search rules in
+    let own : elements_of lane_of c.args.lane (turn_taken c.take-turn.result) ≡ elements_of lane_of c.args.lane (pass_seen c.args.pass) = c.take-turn.ensures.own c.args.lane (inl (sym c.requires.lane)) in
+    comes_for_pass g.A.Opened.desk.opening g.A.Opened.clock.dial c.args.lane (pass_seen c.args.pass) (turn_taken c.take-turn.result) (pass_seen c.give.result) c.args.call.now c.answer-answered.result
+    c.take-turn.ensures.seen own
+    (subst (λ l. ComesOnce g.A.Opened.desk.opening g.A.Opened.clock.dial c.args.lane (turn_taken c.take-turn.result) l c.args.call.now c.answer-answered.result) (sym seen)
+    (subst (λ l. ComesOnce g.A.Opened.desk.opening g.A.Opened.clock.dial c.args.lane l (events_of c.answer-answered.new.self) c.args.call.now c.answer-answered.result) taken c.answer-answered.ensures.comes))

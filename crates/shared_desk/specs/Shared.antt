@@ -1,0 +1,64 @@
+-- What is seen of a shared desk, and what holds of it at every turn.
+use Rattle.std.specs.Prelude.{◌≡◌, ℕ, ◌+◌, ◌^◌, ◌<◌, true, List, length, Option, None, Some}
+use Rattle.std.specs.List.{AllByRecursion}
+use Rattle.bells.specs.Seen.{BellSeen}
+use Rattle.desk.specs.Keeping.{Rise}
+use Rattle.desk.specs.Seen.{DeskGoesOn, DeskSeen, desk_seen}
+use Rattle.desk.specs.declared.settling.Desk.{Desk}
+use Rattle.desk_net.specs.Clocks.{Dial, StandsAt, dial}
+use Rattle.desk_net.specs.Seen.{ClockGoesOn, ClockSeen}
+use Rattle.desk_state.specs.Legal.{Legal}
+use Rattle.desk_state.specs.declared.entry.What.{What}
+use Rattle.desk_state.specs.declared.entry.What.TheVariants as what
+use Rattle.keeper.specs.Seen.{KeeperSeen}
+use Rattle.shared_desk.specs.Events.{are_ordered, faults_of, merged}
+use Rattle.shared_desk.specs.declared.misses.Event.{Event}
+use Rattle.shared_desk.specs.declared.misses.Miss.{Miss}
+use Rattle.shared_desk.specs.declared.misses.MissOf.TheVariants as of
+
+-- a shared desk: the desk, its clock and the misses
+pub record SharedDesk (K B C : Type 0) : Type 0 where
+  pub desk : Desk K B
+  pub clock : C
+  pub misses : List Miss
+
+pub record SharedSeen : Type 0 where
+  pub desk : DeskSeen
+  pub clock : ClockSeen
+  pub misses : List Miss
+
+abbrev pub seen_by : {K B C : Type 0} → (K → KeeperSeen) → (B → BellSeen) → (C → ClockSeen) → SharedDesk K B C → SharedSeen
+seen_by keeper bell clock s = record { desk = desk_seen keeper bell s.desk; clock = clock s.clock; misses = s.misses }
+
+-- the same of its parts
+abbrev pub parts_seen : {K B C : Type 0} → (K → KeeperSeen) → (B → BellSeen) → (C → ClockSeen) → Desk K B → C → List Miss → SharedSeen
+parts_seen keeper bell clock desk c misses = record { desk = desk_seen keeper bell desk; clock = clock c; misses = misses }
+
+-- its one list
+abbrev pub events_of : {K B C : Type 0} → SharedDesk K B C → List Event
+events_of s = merged 0 s.desk.board.state.entries s.misses
+
+abbrev pub events_in : SharedSeen → List Event
+events_in s = merged 0 s.desk.state.entries s.misses
+
+-- one of the moments that a clock tells
+abbrev pub IsTold : Option Dial → ℕ → Type 0
+IsTold None at = Unit {0}
+IsTold (Some d) at = (place : ℕ) × StandsAt (Some (dial d.moments place)) at
+
+-- a tick is to a moment that the clock tells
+abbrev pub IsTimed : Option Dial → What → Type 0
+IsTimed clock (what.Tick to) = IsTold clock to
+IsTimed clock (what.Asked call reply) = Unit {0}
+
+-- A desk that goes on from how it was opened. The numbers of the misses of each object rise, from its count at the opening to its count now,
+-- and every tick is to one of the clock's moments.
+pub record IsSharedSince (desk : DeskSeen) (clock : ClockSeen) (s : SharedSeen) : Type 0 where
+  pub desk_on : DeskGoesOn desk s.desk
+  pub clock_on : ClockGoesOn clock s.clock
+  pub legal : Legal desk.opening s.desk.state.entries s.desk.state
+  pub ordered : are_ordered 0 (length s.desk.state.entries) s.misses ≡ true
+  pub kept : Rise desk.keeper.health.faults (faults_of of.Keeper s.misses) s.desk.keeper.health.faults
+  pub timely : Rise clock.health.faults (faults_of of.Clock s.misses) s.clock.health.faults
+  pub timed : AllByRecursion (λ e. IsTimed clock.dial e.what) s.desk.state.entries
+  pub small : length s.desk.state.entries + length s.misses < 2 ^ 63

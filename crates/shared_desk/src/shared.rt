@@ -1,0 +1,126 @@
+ghost use Rattle.std.specs.Prelude.{◌≡◌, ◌≢◌, [], Err, IfOk};
+ghost use Rattle.call_json.specs.Forms.{CallHasForms};
+ghost use Rattle.desk.specs.Seen.{desk_seen};
+ghost use Rattle.desk.specs.Shown.{IsShown};
+ghost use Rattle.desk_io.specs.Health.{IsSound, IsStill};
+ghost use Rattle.shared_desk.specs.Events.{lane_of};
+ghost use Rattle.shared_desk.specs.Shared.{events_of, seen_by};
+ghost use Rattle.shared_desk.specs.Turns.{ComesOnce, GoesInTurn};
+ghost use Rattle.connections.specs.declared.answers.Unanswered.TheVariants.{ClockFault as ByClock};
+ghost use Rattle.turn_lock.specs.Elements.{Continues};
+
+use crate::answering::answer_over;
+use crate::misses::{Event, Miss};
+use crate::opened::Opened;
+use asks::Call;
+use bells::Bell;
+use connections::Unanswered;
+use desk::{Answered, Desk};
+use desk_net::Clock;
+use keeper::Keeper;
+use rules::Steps;
+use std::alloc::Global;
+use std::marker::{Model, PhantomData};
+use std::sync::ledger::Ledger;
+use turn_lock::Listed;
+
+/// A desk with its clock, and the misses so far.
+#[derive(Drop)]
+pub struct Shared<K: Keeper, B: Bell, C: Clock, A: Opened> {
+    desk: Desk<K, B>,
+    clock: C,
+    misses: Vec<Miss>,
+    of: PhantomData<A>,
+}
+
+impl<K: Keeper, B: Bell, C: Clock, A: Opened> Model for Shared<K, B, C, A> {
+    ghost use Rattle.shared_desk.specs.Shared.{parts_seen, IsSharedSince, SharedDesk};
+
+    ghost Value = { SharedDesk K B C };
+
+    ghost view = { λ s. record { desk = s.desk; clock = s.clock; misses = s.misses.items } };
+
+    ghost invariant = { λ s. IsSharedSince A.desk A.clock
+        (parts_seen K.seen B.seen C.seen s.desk s.clock s.misses.items) };
+}
+
+impl<K: Keeper, B: Bell, C: Clock, A: Opened> Listed for Shared<K, B, C, A> {
+    ghost use Rattle.shared_desk.specs.Events.{lane_of};
+    ghost use Rattle.shared_desk.specs.Shared.{events_of};
+
+    type Element = Event;
+
+    ghost list = { events_of };
+
+    ghost bears = { lane_of };
+
+    fn length(&self) -> u64 {
+        (self.desk.board.entries() + self.misses.len()) as u64
+    }
+}
+
+impl<K: Keeper, B: Bell, C: Clock, A: Opened> Shared<K, B, C, A> {
+    /// A desk that was just opened, with its clock. It takes no memory.
+    pub fn new(alloc: Global, desk: Desk<K, B>, clock: C) -> Shared<K, B, C, A>
+        requires desk { desk_seen K.seen B.seen desk ≡ A.desk }
+        requires clock { C.seen clock ≡ A.clock }
+        requires opened { desk.board.state ≡ desk.board.opening }
+        requires none { desk.board.state.entries ≡ [] }
+        ensures { result ≡ record { desk = desk; clock = clock; misses = [] } }
+    {
+        Shared {
+            desk,
+            clock,
+            misses: Vec::new(alloc),
+            of: PhantomData,
+        }
+    }
+
+    /// The desk and its clock.
+    pub fn into_parts(self) -> (Desk<K, B>, C)
+        ensures { result ≡ (self.desk, self.clock) }
+    {
+        let Shared { desk, clock, .. } = self;
+        (desk, clock)
+    }
+
+    /// A call of a lane at the clock's moment. What it adds stands at the end of the one list.
+    pub fn answer<L: Ledger>(
+        &mut self,
+        alloc: Global,
+        lane: u32,
+        call: &Call,
+        steps: &mut Steps<L>,
+    ) -> Result<Answered, Unanswered>
+        requires { CallHasForms call.now }
+        ensures goes { GoesInTurn lane call.now (seen_by K.seen B.seen C.seen self.old)
+            (seen_by K.seen B.seen C.seen self.new) result }
+        ensures comes { ComesOnce A.desk.opening A.clock.dial lane (events_of self.old) (events_of self.new) call.now
+            result }
+        ensures list { Continues lane_of lane (events_of self.old) (events_of self.new) }
+        ensures shown { IfOk result (λ a. IsShown a.outcome) }
+        ensures still { result ≢ Err ByClock
+            → IsStill (C.seen self.old.clock).health (C.seen self.new.clock).health }
+        // A clock that is sound never leaves a call without an answer.
+        ensures steady { IsSound A.clock.health → result ≢ Err ByClock }
+    {
+        if self.misses.len() >= MOST {
+            return Err(Unanswered::OutOfMemory);
+        }
+        let _ = self.desk.board.now();
+        let answered = answer_over(
+            alloc,
+            &mut self.desk,
+            &mut self.clock,
+            &mut self.misses,
+            lane,
+            call,
+            steps,
+        );
+        let _ = self.desk.board.now();
+        answered
+    }
+}
+
+// So many misses are never reached, and the number of all events stays one of 64 bits.
+const MOST: usize = 1 << 62;
