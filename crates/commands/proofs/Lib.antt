@@ -1,3 +1,4 @@
 pub mod Reading
 pub mod Opened
 pub mod Says
+pub mod RungLaws

@@ -1,27 +1,36 @@
 -- The work on a desk that was opened, over the rows before it was.
-use Rattle.std.proofs.Common.{◌≡◌, ℕ, ◌≤◌, List, map, Some, ap, ◌∙◌, subst, sym, arith}
+use Rattle.std.proofs.Common.{◌≡◌, ℕ, ◌≤◌, Bool, true, List, [], map, Option, None, Some, ap, ◌∙◌, subst, sym, arith}
 use Rattle.std.specs.Prelude.{IfOk, Result, Ok, Err}
 use Rattle.std.specs.List.{concat}
-use Rattle.board.specs.Prepare.{Shown}
+use Rattle.bells.specs.Seen.{BellSeen}
+use Rattle.board.specs.Prepare.{Shown, shown}
 use Rattle.desk.proofs.Choices.{rise_lower, rise_within}
-use Rattle.desk.proofs.Merged.{merged_lower, part_lower as merged_part_lower}
+use Rattle.desk.proofs.Merged.{merged_lower, part_lower}
 use Rattle.desk.proofs.Positions.{history_lower}
 use Rattle.desk.specs.Keeping.{KeepsState, numbers_of}
-use Rattle.desk.specs.Opening.{IsOpened}
-use Rattle.desk.specs.InPart.{IsRunInPart}
+use Rattle.desk.specs.Opening.{IsLeft, IsOfKeeper, IsOpened, IsWhy, MayHaveAsked, TellsRowsOf, board_of}
+use Rattle.desk.specs.declared.opening.OpenWhy.{OpenWhy}
+use Rattle.desk.specs.InPart.{AreGivenInPart}
+use Rattle.desk.specs.Items.{items_of_lines}
+use Rattle.desk.specs.Made.{made_items}
 use Rattle.desk.specs.Race.{IsRace, IsRaceInPart}
-use Rattle.desk.specs.Run.{IsRun}
+use Rattle.desk.specs.Run.{items_of, lines_of, IsRun}
 use Rattle.desk.specs.declared.settling.Desk.{Desk}
 use Rattle.desk.specs.Seen.{DeskAt, DeskGoesOn, desk_at, desk_seen}
+use Rattle.desk_io.specs.Health.{HasFailed}
 use Rattle.desk_io.specs.Over.{Over, over}
+use Rattle.desk_io.specs.Rows.{Rows}
+use Rattle.keeper.proofs.SeenLaws.{keeper_on}
 use Rattle.keeper.specs.Seen.{KeeperSeen, KeeperGoesOn}
 use Rattle.desk_state.specs.Sound.{IsBoard}
 use Rattle.desk_state.specs.State.{State}
+use Rattle.desk_state.specs.declared.lanes.Item.{Item}
+use Rattle.imports.specs.Records.{Line}
 use Rattle.ops_tables.specs.Tables.{TableRows}
 use Rattle.service.proofs.Visits.{serving_from}
-use Rattle.commands.specs.Faults.{Outcome}
+use Rattle.commands.specs.Faults.{Outcome, of_opening}
 use Rattle.commands.specs.Seen.{Service, lent as lent_over}
-use Rattle.commands.specs.Working.{Opens, Races, Runs, Serves, told_of}
+use Rattle.commands.specs.Working.{Imports, Makes, Opens, Races, Runs, Serves, told_of}
 use Rattle.commands.specs.declared.fault.Fault.TheVariants.{OutOfMemory}
 use Rattle.commands.specs.declared.working.Ended.{Ended}
 
@@ -37,8 +46,8 @@ run_lower less before after s script t text under run =
       steady = λ same. run.steady (omega (arith, same, under, within));
     }
 
-part_lower : (less before after : ℕ) (s : State) (script : List ℕ) (t : State) → less ≤ before → IsRunInPart before after s script t → IsRunInPart less after s script t
-part_lower less before after s script t under part = record {
+items_lower : (less before after : ℕ) (s : State) (items : List Item) (t : State) → less ≤ before → AreGivenInPart 1 before after s items t → AreGivenInPart 1 less after s items t
+items_lower less before after s items t under part = record {
   front = part.front;
   left = part.left;
   choices = part.choices;
@@ -54,7 +63,7 @@ Lowers Works = (desk : Over DeskAt) (less : ℕ) (answer : Outcome) → less ≤
 works_lower : (script : List ℕ) (desk : Over DeskAt) (less : ℕ) (answer : Outcome) → less ≤ desk.before.faults → Runs script desk answer
     → Runs script (record desk { before = record desk.before { faults = less } }) answer
 works_lower script desk less (Ok text) under runs = run_lower less desk.before.faults desk.after.faults desk.before.state script desk.after.state text under runs
-works_lower script desk less (Err OutOfMemory) under runs = part_lower less desk.before.faults desk.after.faults desk.before.state script desk.after.state under runs
+works_lower script desk less (Err OutOfMemory) under runs = items_lower less desk.before.faults desk.after.faults desk.before.state (items_of (lines_of script)) desk.after.state under runs
 works_lower script desk less (Err other) under runs = absurd runs
 
 pub runs_lower : (script : List ℕ) → Lowers (Runs script)
@@ -73,7 +82,7 @@ races_by scripts desk less (Ok text) under race = record {
 races_by scripts desk less (Err OutOfMemory) under race = record {
   lanes = race.lanes;
   items = race.items;
-  part = merged_part_lower less desk.before.faults desk.after.faults desk.before.state desk.after.state race.lanes under race.part;
+  part = part_lower less desk.before.faults desk.after.faults desk.before.state desk.after.state race.lanes under race.part;
 }
 races_by scripts desk less (Err other) under race = absurd race
 
@@ -100,9 +109,81 @@ serves_lower service port most = λ desk less answer under works.
       steady_door = works.steady_door;
     }
 
-module _ {K : Type 0} (seen : K → KeeperSeen) (tables : TableRows) (Works : Over DeskAt → Outcome → Type 0) (lower : Lowers Works) (lent : K) where
-  opened_over : (desk done : Desk K) (answer : Outcome) → IsOpened (seen lent).rows tables desk.board → KeeperGoesOn (seen lent) (seen desk.keeper) → KeepsState (seen desk.keeper).rows desk.board.state
-      → DeskGoesOn (desk_seen seen desk) (desk_seen seen done) → Works (over (desk_at seen) desk done) answer → IsBoard done.board.opening done.board.state
+import_lower : (lines : List Line) (desk : Over DeskAt) (less : ℕ) (answer : Outcome) → less ≤ desk.before.faults → Imports lines desk answer
+    → Imports lines (record desk { before = record desk.before { faults = less } }) answer
+import_lower lines desk less (Ok text) under run =
+    let before = desk.before.faults in
+    let after = desk.after.faults in
+    let within = rise_within before (concat (map numbers_of run.choices)) after run.counted in
+    record {
+      choices = run.choices;
+      counted = rise_lower less before (concat (map numbers_of run.choices)) after under run.counted;
+      says = run.says;
+      state = run.state;
+      steady = λ same. run.steady (omega (arith, same, under, within));
+    }
+import_lower lines desk less (Err OutOfMemory) under part = items_lower less desk.before.faults desk.after.faults desk.before.state (items_of_lines lines) desk.after.state under part
+import_lower lines desk less (Err other) under run = absurd run
+
+pub imports_lower : (lines : List Line) → Lowers (Imports lines)
+imports_lower lines = import_lower lines
+
+make_lower : (number count : ℕ) (desk : Over DeskAt) (less : ℕ) (answer : Outcome) → less ≤ desk.before.faults → Makes number count desk answer
+    → Makes number count (record desk { before = record desk.before { faults = less } }) answer
+make_lower number count desk less (Ok text) under made = record {
+  outcomes = made.outcomes;
+  given = record {
+    choices = made.given.choices;
+    counted = rise_lower less desk.before.faults (concat (map numbers_of made.given.choices)) desk.after.faults under made.given.counted;
+    outcomes = made.given.outcomes;
+    state = made.given.state;
+  };
+  says = made.says;
+}
+make_lower number count desk less (Err OutOfMemory) under part = record {
+  came = part.came;
+  given = items_lower less desk.before.faults desk.after.faults desk.before.state (made_items number count part.came) desk.after.state under part.given;
+}
+make_lower number count desk less (Err other) under made = absurd made
+
+pub makes_lower : (number count : ℕ) → Lowers (Makes number count)
+makes_lower number count = make_lower number count
+
+-- the keeper that is given back goes on from the one that was lent
+pub keeper_worked : {K : Type 0} (seen : K → KeeperSeen) (lent opened done given : K) → given ≡ done → KeeperGoesOn (seen lent) (seen opened) → KeeperGoesOn (seen opened) (seen done)
+    → KeeperGoesOn (seen lent) (seen given)
+keeper_worked seen lent opened done given is one two = subst (λ k. KeeperGoesOn (seen lent) (seen k)) (sym is) (keeper_on (seen lent) (seen opened) (seen done) one two)
+
+-- where no desk is opened, nothing is worked on
+pub not_opened : {K B : Type 0} (seen : K → KeeperSeen) (tables : TableRows) (Works : Over DeskAt → Outcome → Type 0) (lent kept : K) (why : OpenWhy) (said : Ended K B)
+    → said.answer ≡ Err (of_opening why) → said.board ≡ None → said.keeper ≡ kept → IsWhy (seen lent).rows (HasFailed (seen lent).health (seen kept).health) why
+    → ((s : State) → IsLeft s → TellsRowsOf (seen lent).rows s → IsOfKeeper (HasFailed (seen lent).health (seen kept).health) why)
+    → (seen kept).rows ≡ (seen lent).rows → MayHaveAsked (seen lent).rows tables (seen lent).commits (seen kept).commits
+    → Opens tables Works (lent_over seen lent said.keeper) said.board said.answer
+not_opened seen tables Works lent kept why said answer_is board_is keeper_is is left rows asked =
+    subst (λ k. Opens tables Works (lent_over seen lent k) said.board said.answer) (sym keeper_is)
+    (subst (λ b. Opens tables Works (lent_over seen lent kept) b said.answer) (sym board_is)
+    (record { why = why; says = answer_is; is = is; left = left; rows = rows; asked = asked }))
+
+-- a desk that was opened has no history yet
+pub opened_fresh : (told : Option Rows) (tables : TableRows) (b : Shown) → IsOpened told tables b → IsBoard b.opening b.state → b.state.entries ≡ []
+opened_fresh told tables b opened holds =
+    ap (λ (x : Shown). x.state.entries) opened.shows ∙ sym (ap (λ (x : Shown). x.opening.entries) opened.shows) ∙ holds.history.empty
+
+-- it is one that was opened, when its board holds its entries too
+pub held_opened : (told : Option Rows) (tables : TableRows) (b c : Shown) → IsOpened told tables b → c ≡ shown b.opening b.state None true → IsOpened told tables c
+held_opened told tables b c opened is = record {
+  records = opened.records;
+  loaded = opened.loaded;
+  shows =
+      is
+      ∙ ap (λ (x : Shown). shown x.opening x.state None true) opened.shows
+      ∙ ap (λ (listed : Bool). board_of tables opened.records listed) (sym (ap (λ (x : Shown). x.listed) is));
+}
+
+module _ {K B : Type 0} (seen : K → KeeperSeen) (heard : B → BellSeen) (tables : TableRows) (Works : Over DeskAt → Outcome → Type 0) (lower : Lowers Works) (lent : K) where
+  opened_over : (desk done : Desk K B) (answer : Outcome) → IsOpened (seen lent).rows tables desk.board → KeeperGoesOn (seen lent) (seen desk.keeper) → KeepsState (seen desk.keeper).rows desk.board.state
+      → DeskGoesOn (desk_seen seen heard desk) (desk_seen seen heard done) → Works (over (desk_at seen) desk done) answer → IsBoard done.board.opening done.board.state
       → Opens tables Works (lent_over seen lent done.keeper) (Some done.board) answer
   opened_over desk done answer opened lasts kept goes works holds =
       let first = ap (λ (b : Shown). b.state) opened.shows ∙ sym (ap (λ (b : Shown). b.opening) opened.shows) ∙ sym goes.opening in
@@ -119,9 +200,9 @@ module _ {K : Type 0} (seen : K → KeeperSeen) (tables : TableRows) (Works : Ov
       )
 
   -- what is given back is the desk on which the work was done
-  pub worked : (desk done : Desk K) (answer : Outcome) (said : Ended K) → said.answer ≡ answer → said.board ≡ Some done.board → said.keeper ≡ done.keeper
+  pub worked : (desk done : Desk K B) (answer : Outcome) (said : Ended K B) → said.answer ≡ answer → said.board ≡ Some done.board → said.keeper ≡ done.keeper
       → IsOpened (seen lent).rows tables desk.board → KeeperGoesOn (seen lent) (seen desk.keeper) → KeepsState (seen desk.keeper).rows desk.board.state
-      → DeskGoesOn (desk_seen seen desk) (desk_seen seen done) → Works (over (desk_at seen) desk done) answer → IsBoard done.board.opening done.board.state
+      → DeskGoesOn (desk_seen seen heard desk) (desk_seen seen heard done) → Works (over (desk_at seen) desk done) answer → IsBoard done.board.opening done.board.state
       → Opens tables Works (lent_over seen lent said.keeper) said.board said.answer
   worked desk done answer said answer_is board_is keeper_is opened lasts kept goes works holds =
       subst (λ k. Opens tables Works (lent_over seen lent k) said.board said.answer) (sym keeper_is)

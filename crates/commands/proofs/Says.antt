@@ -23,22 +23,23 @@ use Rattle.records.specs.declared.faults.RowsFault.TheVariants as fault
 use Rattle.service.specs.Doors.{EndsServing, Visit}
 use Rattle.service.specs.declared.doors.ServeEnd.{ServeEnd}
 use Rattle.service.specs.declared.doors.ServeEnd.TheVariants as ends
+use Rattle.imports.specs.Records.{Line}
 use Rattle.ops_tables.specs.Tables.{TableRows}
 use Rattle.table_files.specs.Files.{files, name_of}
 use Rattle.table_files.specs.Whole.{ReadsTables, RoseAt, StopsAtMissing, Told}
 use Rattle.table_files.specs.declared.faults.TableFault.{TableFault}
 use Rattle.table_files.specs.declared.faults.TableFault.TheVariants as table
-use Rattle.words.specs.declared.task.DeskTask.TheVariants.{Run, Race, Serve}
+use Rattle.words.specs.declared.task.DeskTask.TheVariants.{Run, Race, Serve, Import, Make}
 use Rattle.words.specs.declared.task.Task.{Task}
 use Rattle.words.specs.declared.task.Task.TheVariants.{Weather, Desk}
-use Rattle.commands.proofs.Reading.{after_files, among_here, held_last, none_long, none_missing}
-use Rattle.commands.specs.Answers.{AreKeptOver, HasDoor, HasSources, IsDone, IsUntouched, RacesUnder, RunsUnder, Says, Writes}
-use Rattle.commands.specs.Complete.{AreFaultless, AreGood, AreShort, IsTooLong}
+use Rattle.commands.proofs.Reading.{after_files, among_here, held_last, is_headerless, none_long, none_missing}
+use Rattle.commands.specs.Answers.{AreKeptOver, HasDoor, HasSources, ImportsUnder, IsDone, IsUntouched, RacesUnder, RunsUnder, Says, Writes}
+use Rattle.commands.specs.Complete.{AreFaultless, AreGood, AreHeaded, AreShort, IsTooLong}
 use Rattle.commands.specs.Faults.{Gives, Outcome, of_opening, of_tables, status_of_fault}
 use Rattle.commands.specs.Seen.{Lent, Service, lent as lent_over, service}
-use Rattle.commands.specs.Sources.{ReadsFiles, ReadsSource, ReadsSources, SourceFails, SourcesFail, TablesFail, first_of, sources_of}
+use Rattle.commands.specs.Sources.{ReadsFiles, ReadsImport, ReadsSource, ReadsSources, SourceFails, SourcesFail, TablesFail, first_of, sources_of}
 use Rattle.commands.specs.Weather.{weather_text}
-use Rattle.commands.specs.Working.{EndSays, Opens, Races, Runs, Serves, desk_over}
+use Rattle.commands.specs.Working.{EndSays, Imports, Makes, Opens, Races, Runs, Serves, desk_over}
 use Rattle.commands.specs.declared.fault.Fault.{Fault}
 use Rattle.commands.specs.declared.fault.Fault.TheVariants.{Usage, ReadFault, WriteFault, KeeperFault, BadTable, BadRow, BadPair, OutOfMemory, DoorFault, InputTooLong, ClockFault}
 
@@ -123,6 +124,16 @@ module _ (of : Charges) where
   races_tell scripts desk (Err OutOfMemory) races = tt
   races_tell scripts desk (Err other) races = absurd races
 
+  imports_tell : (lines : List Line) (desk : Over DeskAt) (answer : Outcome) → Imports lines desk answer → TellsBy of answer
+  imports_tell lines desk (Ok text) runs = tt
+  imports_tell lines desk (Err OutOfMemory) runs = tt
+  imports_tell lines desk (Err other) runs = absurd runs
+
+  makes_tell : (number count : ℕ) (desk : Over DeskAt) (answer : Outcome) → Makes number count desk answer → TellsBy of answer
+  makes_tell number count desk (Ok text) makes = tt
+  makes_tell number count desk (Err OutOfMemory) makes = tt
+  makes_tell number count desk (Err other) makes = absurd makes
+
   why_tells : (told : Option Rows) (failed : Type 0) (why : OpenWhy) → (failed → of.keeper) → ((AreFaultless told → ⊥) × (AreLeft told → ⊥) → of.rows) → IsWhy told failed why
       → (AreLeft told → IsOfKeeper failed why) → TellsBy of (Err (of_opening why))
   why_tells told failed why.KeeperFault keeper rows is left = keeper is
@@ -164,7 +175,7 @@ module _ {K C D L : Type 0} (k : K → KeeperSeen) (c : C → ClockSeen) (d : D 
   abbrev pub charges : Option (Task × List (List ℕ)) → Charges
   charges command = record {
     words = command ≡ None;
-    tables = AreGood shelf.before.sources → ⊥;
+    tables = AreGood shelf.before.sources × AreHeaded shelf.before.sources command → ⊥;
     long = HasLong shelf.before.sources (sources_of command);
     rows = (AreFaultless (k lent).rows → ⊥) × (AreLeft (k lent).rows → ⊥);
     shelf = Misses shelf (sources_of command);
@@ -252,7 +263,7 @@ module _ {K C D L : Type 0} (k : K → KeeperSeen) (c : C → ClockSeen) (d : D 
   run_follows names board answer (Ok tables) reads does idle = script_follows names tables board answer does.0 does.1 does.2 idle
   run_follows names board answer (Err fault) reads does idle =
       told_follows (Some (Desk Run, names)) board answer fault does idle
-      (files_tell (charges (Some (Desk Run, names))) shelf (sources_of (Some (Desk Run, names))) (λ misses. misses) (λ long. long) (first_of names ∷ []) refl (λ bad. bad) fault reads)
+      (files_tell (charges (Some (Desk Run, names))) shelf (sources_of (Some (Desk Run, names))) (λ misses. misses) (λ long. long) (first_of names ∷ []) refl (λ bad good. bad good.0) fault reads)
 
   lanes_follow : (names : List (List ℕ)) (tables : TableRows) (board : Option Shown) (answer : Outcome) (read : Result (List (List ℕ)) Fault) → ReadsSources shelf names read
       → MatchResult read (λ scripts. KeeperGoesOn (k lent) (k kept) × Opens tables (Races scripts) rows_over board answer) (λ fault. (answer ≡ Err fault) × IsUntouched rows_over board) → serving.idle
@@ -270,7 +281,7 @@ module _ {K C D L : Type 0} (k : K → KeeperSeen) (c : C → ClockSeen) (d : D 
   race_follows names board answer (Ok tables) reads does idle = lanes_follow names tables board answer does.0 does.1 does.2 idle
   race_follows names board answer (Err fault) reads does idle =
       told_follows (Some (Desk Race, names)) board answer fault does idle
-      (files_tell (charges (Some (Desk Race, names))) shelf (sources_of (Some (Desk Race, names))) (λ misses. misses) (λ long. long) names refl (λ bad. bad) fault reads)
+      (files_tell (charges (Some (Desk Race, names))) shelf (sources_of (Some (Desk Race, names))) (λ misses. misses) (λ long. long) names refl (λ bad good. bad good.0) fault reads)
 
   serve_follows : (port most : ℕ) (names : List (List ℕ)) (board : Option Shown) (answer : Outcome) (read : Result TableRows Fault) → ReadsFiles shelf read
       → MatchResult read (λ tables. KeeperGoesOn (k lent) (k kept) × Opens tables (Serves serving port most) rows_over board answer) (λ fault. (answer ≡ Err fault) × IsUntouched rows_over board)
@@ -287,13 +298,46 @@ module _ {K C D L : Type 0} (k : K → KeeperSeen) (c : C → ClockSeen) (d : D 
       })
   serve_follows port most names board answer (Err fault) reads does idle =
       told_follows (Some (Desk (Serve port most), names)) board answer fault does (idle does.1.none)
-      (files_tell (charges (Some (Desk (Serve port most), names))) shelf (sources_of (Some (Desk (Serve port most), names))) (λ misses. misses) (λ long. long) [] refl (λ bad. bad) fault reads)
+      (files_tell (charges (Some (Desk (Serve port most), names))) shelf (sources_of (Some (Desk (Serve port most), names))) (λ misses. misses) (λ long. long) [] refl (λ bad good. bad good.0) fault reads)
+
+  lines_follow : (names : List (List ℕ)) (tables : TableRows) (board : Option Shown) (answer : Outcome) (read : Result (List Line) Fault) → ReadsImport shelf (first_of names) read
+      → MatchResult read (λ lines. KeeperGoesOn (k lent) (k kept) × Opens tables (Imports lines) rows_over board answer) (λ fault. (answer ≡ Err fault) × IsUntouched rows_over board) → serving.idle
+      → Follows (Some (Desk Import, names)) board answer
+  lines_follow names tables board answer (Ok lines) reads does idle =
+      opens_follow (Some (Desk Import, names)) tables (Imports lines) board answer does.0 does.1 (λ none. idle)
+      (λ desk ran. idle_served (Some (Desk Import, names)) answer idle (imports_tell (charges (Some (Desk Import, names))) lines desk answer ran))
+  lines_follow names tables board answer (Err fault) (inl fails) does idle =
+      told_follows (Some (Desk Import, names)) board answer fault does idle
+      (source_tells (charges (Some (Desk Import, names))) shelf (sources_of (Some (Desk Import, names))) (λ misses. misses) (λ long. long) (first_of names) (λ P all. held_last P (map name_of files) (first_of names) all) fault fails)
+  lines_follow names tables board answer (Err fault) (inr lacks) does idle =
+      told_follows (Some (Desk Import, names)) board answer fault does idle
+      (subst (Tells (charges (Some (Desk Import, names)))) (sym lacks.is) (λ good. good.1 (is_headerless shelf.before.sources (first_of names) lacks.file lacks.read.1 lacks.none)))
+
+  import_follows : (names : List (List ℕ)) (board : Option Shown) (answer : Outcome) (read : Result TableRows Fault) → ReadsFiles shelf read
+      → MatchResult read (λ tables. ImportsUnder tables shelf rows_over (first_of names) board answer) (λ fault. (answer ≡ Err fault) × IsUntouched rows_over board) → serving.idle
+      → Follows (Some (Desk Import, names)) board answer
+  import_follows names board answer (Ok tables) reads does idle = lines_follow names tables board answer does.0 does.1 does.2 idle
+  import_follows names board answer (Err fault) reads does idle =
+      told_follows (Some (Desk Import, names)) board answer fault does idle
+      (files_tell (charges (Some (Desk Import, names))) shelf (sources_of (Some (Desk Import, names))) (λ misses. misses) (λ long. long) (first_of names ∷ []) refl (λ bad good. bad good.0) fault reads)
+
+  make_follows : (number count : ℕ) (names : List (List ℕ)) (board : Option Shown) (answer : Outcome) (read : Result TableRows Fault) → ReadsFiles shelf read
+      → MatchResult read (λ tables. KeeperGoesOn (k lent) (k kept) × Opens tables (Makes number count) rows_over board answer) (λ fault. (answer ≡ Err fault) × IsUntouched rows_over board) → serving.idle
+      → Follows (Some (Desk (Make number count), names)) board answer
+  make_follows number count names board answer (Ok tables) reads does idle =
+      opens_follow (Some (Desk (Make number count), names)) tables (Makes number count) board answer does.0 does.1 (λ none. idle)
+      (λ desk made. idle_served (Some (Desk (Make number count), names)) answer idle (makes_tell (charges (Some (Desk (Make number count), names))) number count desk answer made))
+  make_follows number count names board answer (Err fault) reads does idle =
+      told_follows (Some (Desk (Make number count), names)) board answer fault does idle
+      (files_tell (charges (Some (Desk (Make number count), names))) shelf (sources_of (Some (Desk (Make number count), names))) (λ misses. misses) (λ long. long) [] refl (λ bad good. bad good.0) fault reads)
 
   done_follows : (task : Task) (names : List (List ℕ)) (board : Option Shown) (answer : Outcome) → IsDone shelf serving rows_over task names board answer → Follows (Some (task, names)) board answer
   done_follows Weather names board answer does = reports_follow names board answer does.0.0 does.0.1 does.0.2 does.1
   done_follows (Desk Run) names board answer does = run_follows names board answer does.0.0 does.0.1 does.0.2 does.1
   done_follows (Desk Race) names board answer does = race_follows names board answer does.0.0 does.0.1 does.0.2 does.1
   done_follows (Desk (Serve port most)) names board answer does = serve_follows port most names board answer does.0.0 does.0.1 does.0.2 does.1
+  done_follows (Desk Import) names board answer does = import_follows names board answer does.0.0 does.0.1 does.0.2 does.1
+  done_follows (Desk (Make number count)) names board answer does = make_follows number count names board answer does.0.0 does.0.1 does.0.2 does.1
 
   pub follows : (command : Option (Task × List (List ℕ))) (board : Option Shown) (answer : Outcome) → Says shelf serving rows_over command board answer → Follows command board answer
   follows command board answer (inr says) = untouched_follows command board answer says.1 says.2 (subst (TellsBy (charges command)) (sym says.0) tt)

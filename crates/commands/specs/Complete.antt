@@ -1,5 +1,5 @@
 -- When nothing but want of memory is in the way of a command.
-use Rattle.std.specs.Prelude.{◌≡◌, ◌≢◌, ◌<◌, ℕ, List, Option, Err, All, IsSome, length}
+use Rattle.std.specs.Prelude.{◌≡◌, ◌≢◌, ◌<◌, ℕ, List, Option, None, Some, Err, All, IsSome, length}
 use Rattle.desk.specs.Opening.{OnLoaded}
 use Rattle.desk_io.specs.Health.{Health, RoseOrFull}
 use Rattle.desk_io.specs.Over.{Over}
@@ -9,12 +9,15 @@ use Rattle.desk_io.specs.Told.{OnSource}
 use Rattle.records.specs.Checks.{IsFaultOf}
 use Rattle.records.specs.declared.faults.RowsFault.{RowsFault}
 use Rattle.records.specs.declared.faults.RowsFault.TheVariants as fault
+use Rattle.imports.specs.Lines.{IsImport}
 use Rattle.table_files.specs.Whole.{ReadsTables, Told}
 use Rattle.table_files.specs.declared.faults.BadTable.{BadTable}
 use Rattle.table_files.specs.declared.faults.TableFault.TheVariants as table
+use Rattle.words.specs.declared.task.DeskTask.TheVariants.{Import}
 use Rattle.words.specs.declared.task.Task.{Task}
+use Rattle.words.specs.declared.task.Task.TheVariants.{Desk}
 use Rattle.commands.specs.Seen.{Lent, Service}
-use Rattle.commands.specs.Sources.{sources_of}
+use Rattle.commands.specs.Sources.{first_of, sources_of}
 
 -- no table has a bad record
 abbrev pub AreGood : Told → Type 0
@@ -28,6 +31,19 @@ IsTooLong sources name = OnSource sources name (λ bytes. 67_108_864 < length by
 abbrev pub AreShort : Told → List (List ℕ) → Type 0
 AreShort sources names = All (λ name. IsTooLong sources name → ⊥) names
 
+-- the first record of a source isn't the header of an import
+abbrev pub IsHeaderless : Told → List ℕ → Type 0
+IsHeaderless sources name = OnSource sources name (λ bytes. IsImport bytes None)
+
+-- what a task imports has its header
+abbrev pub IsHeaded : Told → Task → List (List ℕ) → Type 0
+IsHeaded sources (Desk Import) names = IsHeaderless sources (first_of names) → ⊥
+IsHeaded sources _ names = Unit {0}
+
+abbrev pub AreHeaded : Told → Option (Task × List (List ℕ)) → Type 0
+AreHeaded sources None = Unit {0}
+AreHeaded sources (Some command) = IsHeaded sources command.0 command.1
+
 -- no row that a keeper tells is bad, and no two are
 abbrev pub AreFaultless : Option Rows → Type 0
 AreFaultless told = (why : RowsFault) → why ≢ fault.OutOfMemory → OnLoaded told (λ rows. IsFaultOf rows why) → ⊥
@@ -36,6 +52,7 @@ AreFaultless told = (why : RowsFault) → why ≢ fault.OutOfMemory → OnLoaded
 pub record IsValid (shelf : ShelfSeen) (rows : Option Rows) (command : Option (Task × List (List ℕ))) : Type 0 where
   pub formed : IsSome command
   pub tables : AreGood shelf.sources
+  pub headed : AreHeaded shelf.sources command
   pub short : AreShort shelf.sources (sources_of command)
   pub faultless : AreFaultless rows
 

@@ -5,3 +5,4 @@ pub mod Sources
 pub mod Working
 pub mod Answers
 pub mod Complete
+pub mod Bells

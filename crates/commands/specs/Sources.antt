@@ -1,20 +1,23 @@
 -- What a command reads: the tables, and then the sources that its task names.
-use Rattle.std.specs.Prelude.{◌≡◌, ℕ, ◌<◌, ◌≤◌, List, [], ◌∷◌, ◌++◌, length, map, Option, None, Some, Result, Ok, Err}
+use Rattle.std.specs.Prelude.{◌≡◌, ◌⊎◌, ℕ, ◌<◌, ◌≤◌, List, [], ◌∷◌, ◌++◌, length, map, Option, None, Some, Result, Ok, Err}
 use Rattle.desk_io.specs.Health.{HasFailedWhere, IsSound}
 use Rattle.desk_io.specs.Over.{Over}
 use Rattle.desk_io.specs.Seen.{Holds, ShelfSeen}
 use Rattle.desk_io.specs.Told.{OnSource}
+use Rattle.imports.specs.Lines.{IsImport}
+use Rattle.imports.specs.Records.{Line}
 use Rattle.ops_tables.specs.Tables.{TableRows}
 use Rattle.table_files.specs.Files.{files, name_of}
 use Rattle.table_files.specs.Whole.{ReadsTables, RoseAt, StopsAtMissing, Told}
 use Rattle.table_files.specs.declared.faults.TableFault.{TableFault}
+use Rattle.table_files.specs.declared.faults.TableWhy.TheVariants.{BadField}
 use Rattle.words.specs.declared.task.DeskTask.{DeskTask}
-use Rattle.words.specs.declared.task.DeskTask.TheVariants.{Run, Race, Serve}
+use Rattle.words.specs.declared.task.DeskTask.TheVariants.{Run, Race, Serve, Import, Make}
 use Rattle.words.specs.declared.task.Task.{Task}
 use Rattle.words.specs.declared.task.Task.TheVariants.{Weather, Desk}
 use Rattle.commands.specs.Faults.{of_tables}
 use Rattle.commands.specs.declared.fault.Fault.{Fault}
-use Rattle.commands.specs.declared.fault.Fault.TheVariants.{ReadFault, OutOfMemory, InputTooLong}
+use Rattle.commands.specs.declared.fault.Fault.TheVariants.{ReadFault, BadTable, OutOfMemory, InputTooLong}
 
 -- ---- the sources
 
@@ -28,6 +31,8 @@ abbrev pub sources_on_desk : DeskTask → List (List ℕ) → List (List ℕ)
 sources_on_desk Run names = first_of names ∷ []
 sources_on_desk Race names = names
 sources_on_desk (Serve port connections) names = []
+sources_on_desk Import names = first_of names ∷ []
+sources_on_desk (Make number count) names = []
 
 -- the sources that a task reads, in the order of reading
 abbrev pub sources_for : Task → List (List ℕ) → List (List ℕ)
@@ -93,6 +98,34 @@ SourcesFail shelf names fault = FailsAt shelf names fault
 abbrev pub ReadsSources : Over ShelfSeen → List (List ℕ) → Result (List (List ℕ)) Fault → Type 0
 ReadsSources shelf names (Ok texts) = AreWhole shelf.before.sources names texts
 ReadsSources shelf names (Err fault) = SourcesFail shelf names fault
+
+-- the first record of an import isn't its header
+abbrev pub headerless : List ℕ → Fault
+headerless name = BadTable (record { name = name; line = 1; why = BadField })
+
+-- the lines of a file that was read, or that it has no header; or memory ran out
+abbrev pub SaysLines : List ℕ → List ℕ → Result (List Line) Fault → Type 0
+SaysLines name file (Ok lines) = IsImport file (Some lines)
+SaysLines name file (Err OutOfMemory) = Unit {0}
+SaysLines name file (Err fault) = IsImport file None × (fault ≡ headerless name)
+
+-- a file that was read has no header
+pub record LacksHeader (shelf : Over ShelfSeen) (name : List ℕ) (fault : Fault) : Type 0 where
+  pub file : List ℕ
+  pub read : ReadsSource shelf name (Ok file)
+  pub none : IsImport file None
+  pub is : fault ≡ headerless name
+
+-- the lines of an import, of the whole source of that name
+pub record HasLines (shelf : Over ShelfSeen) (name : List ℕ) (lines : List Line) : Type 0 where
+  pub file : List ℕ
+  pub read : ReadsSource shelf name (Ok file)
+  pub are : IsImport file (Some lines)
+
+-- the lines of an import, or why there are none: its source wasn't read, or it has no header
+abbrev pub ReadsImport : Over ShelfSeen → List ℕ → Result (List Line) Fault → Type 0
+ReadsImport shelf name (Ok lines) = HasLines shelf name lines
+ReadsImport shelf name (Err fault) = SourceFails shelf name fault ⊎ LacksHeader shelf name fault
 
 -- why there are no tables: their first fault
 pub record TablesFail (shelf : Over ShelfSeen) (fault : Fault) : Type 0 where

@@ -2,10 +2,12 @@
 use Rattle.std.specs.Prelude.{◌≡◌, ◌≢◌, ℕ, ◌≤◌, List, Option, None, Some, Result, Ok, Err}
 use Rattle.board.specs.Prepare.{Shown}
 use Rattle.desk.specs.Keeping.{KeepsState}
-use Rattle.desk.specs.InPart.{IsRunInPart}
+use Rattle.desk.specs.InPart.{AreGivenInPart, IsRunInPart}
+use Rattle.desk.specs.Items.{items_of_lines}
+use Rattle.desk.specs.Made.{IsMade, IsMadeInPart}
 use Rattle.desk.specs.Opening.{AreLoaded, IsLeft, IsOfKeeper, IsWhy, MayHaveAsked, TellsRowsOf}
 use Rattle.desk.specs.Race.{IsRace, IsRaceInPart}
-use Rattle.desk.specs.Run.{IsRun}
+use Rattle.desk.specs.Run.{IsRun, IsRunOf}
 use Rattle.desk.specs.Seen.{DeskAt}
 use Rattle.desk.specs.declared.opening.OpenWhy.{OpenWhy}
 use Rattle.desk_io.specs.Health.{HasFailed, IsSound, IsStill}
@@ -14,6 +16,7 @@ use Rattle.desk_net.specs.Seen.{ClockGoesOn}
 use Rattle.desk_state.specs.Sound.{IsBoard}
 use Rattle.desk_state.specs.State.{State}
 use Rattle.desk_state.specs.Texts.{closing}
+use Rattle.imports.specs.Records.{Line}
 use Rattle.ops_tables.specs.Tables.{TableRows}
 use Rattle.records.specs.declared.record.Record.{Record}
 use Rattle.kept_state.specs.Held.{state_in}
@@ -62,6 +65,19 @@ abbrev pub Races : List (List ℕ) → Over DeskAt → Outcome → Type 0
 Races scripts desk (Ok text) = IsRace desk.before.faults desk.after.faults desk.before.state scripts desk.after.state text
 Races scripts desk (Err OutOfMemory) = IsRaceInPart desk.before.faults desk.after.faults desk.before.state scripts desk.after.state
 Races scripts desk (Err other) = ⊥
+
+-- The lines of an import were answered on a desk, as those of a script are.
+abbrev pub Imports : List Line → Over DeskAt → Outcome → Type 0
+Imports lines desk (Ok text) = IsRunOf desk.before.faults desk.after.faults desk.before.state (items_of_lines lines) desk.after.state text
+Imports lines desk (Err OutOfMemory) = AreGivenInPart 1 desk.before.faults desk.after.faults desk.before.state (items_of_lines lines) desk.after.state
+Imports lines desk (Err other) = ⊥
+
+-- The calls of a number, with so many flights, were made on a desk: to their end, with the three lines that count them, or up to where memory
+-- ran out.
+abbrev pub Makes : ℕ → ℕ → Over DeskAt → Outcome → Type 0
+Makes number count desk (Ok text) = IsMade desk.before.faults desk.after.faults desk.before.state number count desk.after.state text
+Makes number count desk (Err OutOfMemory) = IsMadeInPart desk.before.faults desk.after.faults desk.before.state number count desk.after.state
+Makes number count desk (Err other) = ⊥
 
 -- ---- the desk
 

@@ -1,13 +1,19 @@
-ghost use Rattle.std.specs.Prelude.{◌≡◌, ◌<◌, None, map, string_bytes};
-ghost use Rattle.commands.specs.Answers.{RacesScripts, RacesUnder, RunsScript, RunsUnder, Says, SaysReports, ServesLinks};
+ghost use Rattle.std.specs.Prelude.{◌≡◌, ◌<◌, ◌≤◌, None, map, string_bytes};
+ghost use Rattle.bells.specs.Ringing.{hung_all};
+ghost use Rattle.commands.specs.Bells.{AreRungOver};
+ghost use Rattle.commands.specs.Answers.{ImportsFile, ImportsUnder, MakesCalls, RacesScripts, RacesUnder};
+ghost use Rattle.commands.specs.Answers.{RunsScript, RunsUnder, Says, SaysReports, ServesLinks};
 ghost use Rattle.commands.specs.Seen.{lent, service};
 ghost use Rattle.commands.specs.Sources.{first_of};
 ghost use Rattle.desk_io.specs.Over.{over};
 ghost use Rattle.words.specs.Words.{command_of};
 
 use crate::fault::Fault;
-use crate::sources::{read_files, read_source, read_sources};
-use crate::working::{Ended, boardless, race_over, read_reports, run_over, serve_over};
+use crate::sources::{read_files, read_lines, read_source, read_sources};
+use crate::working::{
+    Ended, boardless, import_over, make_over, race_over, read_reports, run_over, serve_over,
+};
+use bells::{Bell, Ringer};
 use desk::{Gate, leave};
 use desk_io::{OutOfMemory, Shelf};
 use desk_net::{Clock, Door};
@@ -22,98 +28,127 @@ use std::thread::Threads;
 use words::{DeskTask, Task, command};
 
 // The reports of a file.
-fn weather<S: Shelf, K: Keeper>(alloc: Global, name: &str, shelf: &mut S, keeper: K) -> Ended<K>
-    ensures { SaysReports (over S.seen shelf.old shelf.new) (lent K.seen keeper result.keeper) name.now
+fn weather<S: Shelf, K: Keeper, B: Bell>(
+    alloc: Global,
+    name: &str,
+    shelf: &mut S,
+    keeper: K,
+    ringer: Ringer<B>,
+) -> Ended<K, B>
+    ensures says { SaysReports (over S.seen shelf.old shelf.new) (lent K.seen keeper result.keeper) name.now
         result.board result.answer }
+    ensures rung { AreRungOver result.board (hung_all B.seen ringer) (hung_all B.seen result.ringer) }
 {
     match read_source(alloc, shelf, name) {
-        Ok(file) => boardless(read_reports(alloc, file.bytes()), keeper),
-        Err(fault) => boardless(Err(fault), keeper),
+        Ok(file) => boardless(read_reports(alloc, file.bytes()), keeper, ringer),
+        Err(fault) => boardless(Err(fault), keeper, ringer),
     }
 }
 
 // A script, once the tables are read.
-fn run_under<S: Shelf, K: Keeper, L: Ledger>(
+fn run_under<S: Shelf, K: Keeper, B: Bell, L: Ledger>(
     alloc: Global,
     tables: Tables,
     name: &str,
     shelf: &mut S,
     keeper: K,
+    ringer: Ringer<B>,
     steps: &mut Steps<L>,
-) -> Ended<K>
-    ensures { RunsUnder tables (over S.seen shelf.old shelf.new) (lent K.seen keeper result.keeper) name.now
+) -> Ended<K, B>
+    ensures says { RunsUnder tables (over S.seen shelf.old shelf.new) (lent K.seen keeper result.keeper) name.now
         result.board result.answer }
+    ensures rung { AreRungOver result.board (hung_all B.seen ringer) (hung_all B.seen result.ringer) }
 {
     match read_source(alloc, shelf, name) {
-        Ok(script) => run_over(alloc, tables, script.bytes(), keeper, steps),
+        Ok(script) => run_over(alloc, tables, script.bytes(), keeper, ringer, steps),
         Err(fault) => {
             leave(tables);
-            boardless(Err(fault), keeper)
+            boardless(Err(fault), keeper, ringer)
         }
     }
 }
 
 // A script on the desk of the rows.
-fn run<S: Shelf, K: Keeper, L: Ledger>(
+fn run<S: Shelf, K: Keeper, B: Bell, L: Ledger>(
     alloc: Global,
     name: &str,
     shelf: &mut S,
     keeper: K,
+    ringer: Ringer<B>,
     steps: &mut Steps<L>,
-) -> Ended<K>
-    ensures { RunsScript (over S.seen shelf.old shelf.new) (lent K.seen keeper result.keeper) name.now
+) -> Ended<K, B>
+    ensures says { RunsScript (over S.seen shelf.old shelf.new) (lent K.seen keeper result.keeper) name.now
         result.board result.answer }
+    ensures rung { AreRungOver result.board (hung_all B.seen ringer) (hung_all B.seen result.ringer) }
 {
     match read_files(alloc, shelf) {
-        Ok(tables) => run_under(alloc, tables, name, shelf, keeper, steps),
-        Err(fault) => boardless(Err(fault), keeper),
+        Ok(tables) => run_under(alloc, tables, name, shelf, keeper, ringer, steps),
+        Err(fault) => boardless(Err(fault), keeper, ringer),
     }
 }
 
 // The lanes of a race, once the tables are read.
-fn race_under<R: Threads + Wait + Sync, S: Shelf, K: Keeper + Send, G: Gate + Sync, L: Ledger>(
+fn race_under<
+    R: Threads + Wait + Sync,
+    S: Shelf,
+    K: Keeper + Send,
+    B: Bell + Send,
+    G: Gate + Sync,
+    L: Ledger,
+>(
     rt: &R,
     alloc: Global,
     tables: Tables,
     names: &[String],
     shelf: &mut S,
     keeper: K,
+    ringer: Ringer<B>,
     gate: &G,
     steps: &mut Steps<L>,
-) -> Ended<K>
-    ensures { RacesUnder tables (over S.seen shelf.old shelf.new) (lent K.seen keeper result.keeper)
+) -> Ended<K, B>
+    ensures says { RacesUnder tables (over S.seen shelf.old shelf.new) (lent K.seen keeper result.keeper)
         (map string_bytes names.now) result.board result.answer }
+    ensures rung { AreRungOver result.board (hung_all B.seen ringer) (hung_all B.seen result.ringer) }
 {
     match read_sources(alloc, shelf, names) {
-        Ok(scripts) => race_over(rt, alloc, tables, &scripts, keeper, gate, steps),
+        Ok(scripts) => race_over(rt, alloc, tables, &scripts, keeper, ringer, gate, steps),
         Err(fault) => {
             leave(tables);
-            boardless(Err(fault), keeper)
+            boardless(Err(fault), keeper, ringer)
         }
     }
 }
 
 // Scripts at once on the desk of the rows.
-fn race<R: Threads + Wait + Sync, S: Shelf, K: Keeper + Send, G: Gate + Sync, L: Ledger>(
+fn race<
+    R: Threads + Wait + Sync,
+    S: Shelf,
+    K: Keeper + Send,
+    B: Bell + Send,
+    G: Gate + Sync,
+    L: Ledger,
+>(
     rt: &R,
     alloc: Global,
     names: &[String],
     shelf: &mut S,
     keeper: K,
+    ringer: Ringer<B>,
     gate: &G,
     steps: &mut Steps<L>,
-) -> Ended<K>
-    ensures { RacesScripts (over S.seen shelf.old shelf.new) (lent K.seen keeper result.keeper)
+) -> Ended<K, B>
+    ensures says { RacesScripts (over S.seen shelf.old shelf.new) (lent K.seen keeper result.keeper)
         (map string_bytes names.now) result.board result.answer }
+    ensures rung { AreRungOver result.board (hung_all B.seen ringer) (hung_all B.seen result.ringer) }
 {
     match read_files(alloc, shelf) {
-        Ok(tables) => race_under(rt, alloc, tables, names, shelf, keeper, gate, steps),
-        Err(fault) => boardless(Err(fault), keeper),
+        Ok(tables) => race_under(rt, alloc, tables, names, shelf, keeper, ringer, gate, steps),
+        Err(fault) => boardless(Err(fault), keeper, ringer),
     }
 }
 
 // Connections to the desk of the rows.
-fn serve<R: Wait, S: Shelf, K: Keeper, C: Clock, D: Door, L: Ledger>(
+fn serve<R: Wait, S: Shelf, K: Keeper, B: Bell, C: Clock, D: Door, L: Ledger>(
     rt: &R,
     alloc: Global,
     port: u16,
@@ -122,12 +157,14 @@ fn serve<R: Wait, S: Shelf, K: Keeper, C: Clock, D: Door, L: Ledger>(
     clock: &mut C,
     door: &mut D,
     keeper: K,
+    ringer: Ringer<B>,
     steps: &mut Steps<L>,
-) -> Ended<K>
+) -> Ended<K, B>
     ensures serves { ServesLinks (over S.seen shelf.old shelf.new)
         (service C.seen D.seen D.Link.seen clock.old clock.new door.old door.new)
         (lent K.seen keeper result.keeper) port connections result.board result.answer }
     ensures idle { result.board ≡ None → (clock.new ≡ clock.old) × (door.new ≡ door.old) }
+    ensures rung { AreRungOver result.board (hung_all B.seen ringer) (hung_all B.seen result.ringer) }
 {
     match read_files(alloc, shelf) {
         Ok(tables) => serve_over(
@@ -139,9 +176,73 @@ fn serve<R: Wait, S: Shelf, K: Keeper, C: Clock, D: Door, L: Ledger>(
             clock,
             door,
             keeper,
+            ringer,
             steps,
         ),
-        Err(fault) => boardless(Err(fault), keeper),
+        Err(fault) => boardless(Err(fault), keeper, ringer),
+    }
+}
+
+// An import, once the tables are read.
+fn import_under<S: Shelf, K: Keeper, B: Bell, L: Ledger>(
+    alloc: Global,
+    tables: Tables,
+    name: &str,
+    shelf: &mut S,
+    keeper: K,
+    ringer: Ringer<B>,
+    steps: &mut Steps<L>,
+) -> Ended<K, B>
+    ensures says { ImportsUnder tables (over S.seen shelf.old shelf.new) (lent K.seen keeper result.keeper) name.now
+        result.board result.answer }
+    ensures rung { AreRungOver result.board (hung_all B.seen ringer) (hung_all B.seen result.ringer) }
+{
+    match read_lines(alloc, shelf, name) {
+        Ok(lines) => import_over(alloc, tables, lines, keeper, ringer, steps),
+        Err(fault) => {
+            leave(tables);
+            boardless(Err(fault), keeper, ringer)
+        }
+    }
+}
+
+// An import to the desk of the rows.
+fn import_reports<S: Shelf, K: Keeper, B: Bell, L: Ledger>(
+    alloc: Global,
+    name: &str,
+    shelf: &mut S,
+    keeper: K,
+    ringer: Ringer<B>,
+    steps: &mut Steps<L>,
+) -> Ended<K, B>
+    ensures says { ImportsFile (over S.seen shelf.old shelf.new) (lent K.seen keeper result.keeper) name.now
+        result.board result.answer }
+    ensures rung { AreRungOver result.board (hung_all B.seen ringer) (hung_all B.seen result.ringer) }
+{
+    match read_files(alloc, shelf) {
+        Ok(tables) => import_under(alloc, tables, name, shelf, keeper, ringer, steps),
+        Err(fault) => boardless(Err(fault), keeper, ringer),
+    }
+}
+
+// The calls of a number on the desk of the rows.
+fn make<S: Shelf, K: Keeper, B: Bell, L: Ledger>(
+    alloc: Global,
+    number: u32,
+    count: u32,
+    shelf: &mut S,
+    keeper: K,
+    ringer: Ringer<B>,
+    steps: &mut Steps<L>,
+) -> Ended<K, B>
+    requires { count ≤ 20_000 }
+    ensures says { MakesCalls (over S.seen shelf.old shelf.new) (lent K.seen keeper result.keeper) number count
+        result.board result.answer }
+    ensures rung { AreRungOver result.board (hung_all B.seen ringer) (hung_all B.seen result.ringer) }
+{
+    match read_files(alloc, shelf) {
+        Ok(tables) => make_over(alloc, tables, number, count, keeper, ringer, steps),
+        Err(fault) => boardless(Err(fault), keeper, ringer),
     }
 }
 
@@ -159,6 +260,7 @@ fn answer_with<
     R: Threads + Wait + Sync,
     S: Shelf,
     K: Keeper + Send,
+    B: Bell + Send,
     C: Clock,
     D: Door,
     G: Gate + Sync,
@@ -171,27 +273,29 @@ fn answer_with<
     clock: &mut C,
     door: &mut D,
     keeper: K,
+    ringer: Ringer<B>,
     gate: &G,
     blank: Blank,
-) -> Ended<K>
+) -> Ended<K, B>
     requires name { blank.name ≡ L.name }
     requires parts { blank.parts ≡ L.parts }
     requires some { 0 < blank.parts }
-    ensures { Says (over S.seen shelf.old shelf.new)
+    ensures says { Says (over S.seen shelf.old shelf.new)
         (service C.seen D.seen D.Link.seen clock.old clock.new door.old door.new)
         (lent K.seen keeper result.keeper) (command_of (map string_bytes words.now))
         result.board result.answer }
+    ensures rung { AreRungOver result.board (hung_all B.seen ringer) (hung_all B.seen result.ringer) }
 {
     let mut steps = Steps::<L>::new(blank);
     match command(alloc, words) {
-        Err(OutOfMemory) => boardless(Err(Fault::OutOfMemory), keeper),
-        Ok(None) => boardless(Err(Fault::Usage), keeper),
-        Ok(Some((Task::Weather, names))) => weather(alloc, first_of(names), shelf, keeper),
+        Err(OutOfMemory) => boardless(Err(Fault::OutOfMemory), keeper, ringer),
+        Ok(None) => boardless(Err(Fault::Usage), keeper, ringer),
+        Ok(Some((Task::Weather, names))) => weather(alloc, first_of(names), shelf, keeper, ringer),
         Ok(Some((Task::Desk(DeskTask::Run), names))) => {
-            run(alloc, first_of(names), shelf, keeper, &mut steps)
+            run(alloc, first_of(names), shelf, keeper, ringer, &mut steps)
         }
         Ok(Some((Task::Desk(DeskTask::Race), names))) => {
-            race(rt, alloc, names, shelf, keeper, gate, &mut steps)
+            race(rt, alloc, names, shelf, keeper, ringer, gate, &mut steps)
         }
         Ok(Some((Task::Desk(DeskTask::Serve { port, connections }), _))) => serve(
             rt,
@@ -202,8 +306,15 @@ fn answer_with<
             clock,
             door,
             keeper,
+            ringer,
             &mut steps,
         ),
+        Ok(Some((Task::Desk(DeskTask::Import), names))) => {
+            import_reports(alloc, first_of(names), shelf, keeper, ringer, &mut steps)
+        }
+        Ok(Some((Task::Desk(DeskTask::Make { number, count }), _))) => {
+            make(alloc, number, count, shelf, keeper, ringer, &mut steps)
+        }
     }
 }
 
@@ -212,6 +323,7 @@ pub(crate) fn answer_to<
     R: Threads + Wait + Sync,
     S: Shelf,
     K: Keeper + Send,
+    B: Bell + Send,
     C: Clock,
     D: Door,
     G: Gate + Sync,
@@ -223,14 +335,16 @@ pub(crate) fn answer_to<
     clock: &mut C,
     door: &mut D,
     keeper: K,
+    ringer: Ringer<B>,
     gate: &G,
-) -> Ended<K>
-    ensures { Says (over S.seen shelf.old shelf.new)
+) -> Ended<K, B>
+    ensures says { Says (over S.seen shelf.old shelf.new)
         (service C.seen D.seen D.Link.seen clock.old clock.new door.old door.new)
         (lent K.seen keeper result.keeper) (command_of (map string_bytes words.now))
         result.board result.answer }
+    ensures rung { AreRungOver result.board (hung_all B.seen ringer) (hung_all B.seen result.ringer) }
 {
-    answer_with::<R, S, K, C, D, G, Brand>(
+    answer_with::<R, S, K, B, C, D, G, Brand>(
         rt,
         alloc,
         words,
@@ -238,6 +352,7 @@ pub(crate) fn answer_to<
         clock,
         door,
         keeper,
+        ringer,
         gate,
         Blank::new(1),
     )

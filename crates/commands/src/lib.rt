@@ -3,6 +3,7 @@
 
 mod commands;
 mod fault;
+mod rung;
 mod sources;
 mod top;
 mod weather;

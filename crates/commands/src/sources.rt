@@ -1,14 +1,18 @@
-ghost use Rattle.std.specs.Prelude.{map, string_bytes, IfErr, IfOk};
-ghost use Rattle.commands.specs.Sources.{AreWhole, ReadsFiles, ReadsSource, SourcesFail};
+ghost use Rattle.std.specs.Prelude.{◌≡◌, map, string_bytes, Ok, Err, IfErr, IfOk, MatchResult};
+ghost use Rattle.std.specs.List.{AllByRecursion};
+ghost use Rattle.commands.specs.Sources as spec;
+ghost use Rattle.commands.specs.Sources.{AreWhole, ReadsFiles, ReadsImport, ReadsSource, SaysLines, SourcesFail};
 ghost use Rattle.desk_io.specs.Over.{over};
 ghost use Rattle.desk_io.specs.Seen.{Holds, ShelfGoesOn};
+ghost use Rattle.imports.specs.Records.{HasForms};
 ghost use Rattle.table_files.specs.Whole.{HoldsFiles};
 
 use crate::fault::Fault;
-use desk_io::{Shelf, Text, WholeFault, read_whole};
+use desk_io::{OutOfMemory, Shelf, Text, WholeFault, read_whole};
+use imports::{Line, read_import};
 use ops_tables::Tables;
 use std::alloc::Global;
-use table_files::read_tables;
+use table_files::{BadTable, TableWhy, read_tables};
 
 /// The whole source of that name.
 pub(crate) fn read_source<S: Shelf>(alloc: Global, shelf: &mut S, name: &str) -> Result<Text, Fault>
@@ -40,6 +44,46 @@ pub(crate) fn read_sources<S: Shelf>(
         }
     }
     Ok(texts)
+}
+
+// The first record of the file of that name isn't the header of an import.
+fn headerless(alloc: Global, name: &str) -> Result<Fault, OutOfMemory>
+    ensures { IfOk result (λ fault. fault ≡ spec.headerless name.now) }
+{
+    Ok(Fault::BadTable(BadTable {
+        name: Text::of(alloc, name.as_bytes())?,
+        line: 1,
+        why: TableWhy::BadField,
+    }))
+}
+
+// The lines of the file of that name, which was read.
+fn lines_in(alloc: Global, name: &str, file: &[u8]) -> Result<Vec<Line>, Fault>
+    ensures lines { MatchResult result (λ v. SaysLines name.now file.now (Ok v.items))
+        (λ fault. SaysLines name.now file.now (Err fault)) }
+    ensures forms { IfOk result (λ v. AllByRecursion HasForms v.items) }
+{
+    match read_import(alloc, file) {
+        Ok(Some(lines)) => Ok(lines),
+        Ok(None) => Err(headerless(alloc, name)?),
+        Err(OutOfMemory) => Err(Fault::OutOfMemory),
+    }
+}
+
+/// The lines of an import.
+pub(crate) fn read_lines<S: Shelf>(
+    alloc: Global,
+    shelf: &mut S,
+    name: &str,
+) -> Result<Vec<Line>, Fault>
+    ensures read { MatchResult result (λ v. ReadsImport (over S.seen shelf.old shelf.new) name.now (Ok v.items))
+        (λ fault. ReadsImport (over S.seen shelf.old shelf.new) name.now (Err fault)) }
+    ensures forms { IfOk result (λ v. AllByRecursion HasForms v.items) }
+{
+    match read_source(alloc, shelf, name) {
+        Ok(file) => lines_in(alloc, name, file.bytes()),
+        Err(fault) => Err(fault),
+    }
 }
 
 /// The twelve tables.

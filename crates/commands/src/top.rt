@@ -1,5 +1,7 @@
 ghost use Rattle.std.specs.Prelude.{◌≡◌, ◌≢◌, ◌≤◌, [], ◌∷◌, map, string_bytes, IfSome};
 ghost use Rattle.std.specs.List.{Contains};
+ghost use Rattle.bells.specs.Ringing.{dropped_seen};
+ghost use Rattle.commands.specs.Bells.{AreHandedBack};
 ghost use Rattle.commands.specs.Answers.{AreKeptOver, Blames, EndsProgram, HasDoor, HasSources, Says, Writes};
 ghost use Rattle.commands.specs.Complete.{HaveServed, IsValid};
 ghost use Rattle.desk_io.specs.Health.{IsSound, IsStill};
@@ -12,9 +14,9 @@ ghost use Rattle.desk_state.specs.State.{State};
 ghost use Rattle.desk_net.specs.Seen.{ClockGoesOn};
 ghost use Rattle.words.specs.Words.{command_of};
 
-use crate::commands::answer_to;
 use crate::fault::{Fault, tell};
-use crate::working::Ended;
+use crate::rung::{Rung, answer_rung};
+use bells::{Bell, Dropped};
 use board::Board;
 use desk::Gate;
 use desk_io::{PutFault, Shelf, Sink, Text};
@@ -24,14 +26,17 @@ use std::alloc::Global;
 use std::sync::Wait;
 use std::thread::Threads;
 
-/// How the program ends, and what is left: the board of `run`, `race` and `serve`, where a desk was opened, the keeper
-/// and the clock.
+/// How the program ends, and what is left: the board of `run`, `race`, `serve`, `import` and `make`, where a desk was
+/// opened, the keeper, the clock, the bells that stayed, in their order, and those that were dropped, in order of their
+/// places.
 #[derive(Drop)]
-pub struct Ending<K, C> {
+pub struct Ending<K, C, B> {
     pub status: u8,
     pub board: Option<Board>,
     pub keeper: K,
     pub clock: C,
+    pub bells: Vec<B>,
+    pub dropped: Vec<Dropped<B>>,
 }
 
 // Writes what is told of an answer, and gives the status.
@@ -50,19 +55,22 @@ fn write<O: Sink>(alloc: Global, answer: Result<Text, Fault>, out: &mut O) -> u8
 
 /// Does what the words ask, and answers the status of the program. `run SCRIPT` reads the twelve tables and then the
 /// script, and loads the rows of the keeper; then the script is run on the desk of these rows. `race` with 2 to 16
-/// scripts does so with all of them at once, a thread for each where one can be had. `weather FILE` reads
-/// the file alone, and asks nothing of the keeper. `serve PORT CONNECTIONS` reads the tables and loads the rows, and
-/// then so many connections are served at the port, one after another. The first fault in this order is answered.
+/// scripts does so with all of them at once, a thread for each where one can be had, `import FILE` with the records of
+/// a file, and `make NUMBER COUNT`, which reads no source, with calls that are made of a number. `serve PORT
+/// CONNECTIONS` reads the tables and loads the rows, and then so many connections are served at the port, one after
+/// another. `weather FILE` reads the file alone, and asks nothing of the keeper. The first fault in this order is
+/// answered. Each step that is put in place rings the bells, while nothing else is done on the desk.
 ///
-/// - 0: all of this was read to its end, and what is said of it was written: of `run SCRIPT` a reply for
-///   each line and the closing text, of `race` the history, what came of each line and the closing text, of
-///   `weather FILE` a line for each report, of `serve` the closing text.
+/// - 0: all of this was read to its end, and what is said of it was written: of `run SCRIPT` and `import FILE` a reply
+///   for each line or record and the closing text, of `race` the history, what came of each line and the closing text,
+///   of `serve` the closing text, of `weather FILE` a line for each report, of `make NUMBER COUNT` three lines that
+///   count.
 /// - 2: exactly where the words form no command; `error 2 Usage` is written.
 /// - 3: only where the shelf's count of faults rose, or is full; `error 3 ReadFault NAME`.
 /// - 4: only where the sink's count of faults rose, or is full; it gained a front of the text.
 /// - 5: only where the keeper's count of faults rose, or is full; `error 5 KeeperFault`.
-/// - 6: exactly where the table of that name has a bad record, first at that number (the header is 1);
-///   `error 6 BadTable NAME NUMBER WHY`.
+/// - 6: exactly where the table of that name has a bad record, first at that number (the header is 1), or an import
+///   lacks its header; `error 6 BadTable NAME NUMBER WHY`.
 /// - 7: exactly where the rows that were loaded aren't those of a desk: `error 7 BadRow KIND KEY WHY` or
 ///   `error 7 BadPair KIND KEY KIND KEY`, their first fault.
 /// - 8: want of memory; the sink gained nothing. What a front of each script changed stays, and at most a tick more.
@@ -79,6 +87,7 @@ pub fn desk_main<
     O: Sink,
     C: Clock + Drop,
     K: Keeper + Send,
+    B: Bell + Send + Drop,
     D: Door,
     G: Gate + Sync,
 >(
@@ -91,7 +100,8 @@ pub fn desk_main<
     keeper: K,
     door: &mut D,
     gate: &G,
-) -> Ending<K, C>
+    bells: Vec<B>,
+) -> Ending<K, C, B>
     // Over an outside that is sound, with the sources that the words name and a link to come for each connection,
     // nothing fails but memory: all was read and said, or the words, a source, a table or a row are at fault.
     ensures complete { HasSources (S.seen shelf.old) (command_of (map string_bytes words.now))
@@ -128,19 +138,30 @@ pub fn desk_main<
     // its very text, and fails no rule or has one alert that names exactly the rules that it fails. And each part of
     // its state has the forms by which its rows are read again.
     ensures board { IfSome result.board (λ b. IsBoard b.opening b.state) }
+    // Whatever the status: each bell has heard the notices of its desk, or of all desks for `*`, that the board's
+    // history tells, in order; or it has failed at one of them, and so counted a fault, and is handed back among those
+    // that were dropped, with its place and with how many it had heard. Without a board none was rung.
+    ensures bells { AreHandedBack result.board (map B.seen bells.items) (map B.seen result.bells.items)
+        (map (dropped_seen B.seen) result.dropped.items) }
     // Over the rows of a desk that was left there is no fault of rows.
     ensures left { (s : State) → IsLeft s → TellsRowsOf (K.seen keeper).rows s → result.status ≢ 7 }
 {
-    let Ended {
+    let Rung {
         answer,
         board,
         keeper,
-    } = answer_to(rt, alloc, words, shelf, &mut clock, door, keeper, gate);
+        bells,
+        dropped,
+    } = answer_rung(
+        rt, alloc, words, shelf, &mut clock, door, keeper, bells, gate,
+    );
     let status = write(alloc, answer, out);
     Ending {
         status,
         board,
         keeper,
         clock,
+        bells,
+        dropped,
     }
 }

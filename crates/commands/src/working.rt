@@ -1,19 +1,26 @@
-ghost use Rattle.std.specs.Prelude.{◌≡◌, None};
+ghost use Rattle.std.specs.Prelude.{◌≡◌, ◌≤◌, [], true, None};
+ghost use Rattle.std.specs.List.{AllByRecursion};
+ghost use Rattle.bells.specs.Ringing.{hung_all};
+ghost use Rattle.board.specs.Prepare.{shown};
+ghost use Rattle.commands.specs.Bells.{AreRungOver};
 ghost use Rattle.commands.specs.Faults.{Gives};
 ghost use Rattle.commands.specs.Seen.{lent, service};
 ghost use Rattle.commands.specs.Weather.{weather_text};
-ghost use Rattle.commands.specs.Working.{EndSays, Opens, Races, Runs, Serves, told_of};
+ghost use Rattle.commands.specs.Working.{EndSays, Imports, Makes, Opens, Races, Runs, Serves, told_of};
 ghost use Rattle.desk.specs.Seen.{desk_at, desk_seen, DeskGoesOn};
 ghost use Rattle.desk_io.specs.Over.{over};
 ghost use Rattle.desk_state.specs.Sound.{IsBoard};
+ghost use Rattle.imports.specs.Records.{HasForms};
 ghost use Rattle.keeper.specs.Seen.{KeeperGoesOn};
 
 use crate::fault::Fault;
 use crate::weather::text_of_weather;
+use bells::{Bell, Ringer};
 use board::Board;
-use desk::{Desk, Gate, OpenFault, Raced, open, race, text_from};
+use desk::{Desk, Gate, OpenFault, Raced, make_from, open, race, text_from, text_of_import};
 use desk_io::{OutOfMemory, Text};
 use desk_net::{Clock, Door};
+use imports::Line;
 use keeper::Keeper;
 use ops_tables::Tables;
 use rules::Steps;
@@ -23,40 +30,53 @@ use std::sync::Wait;
 use std::sync::ledger::Ledger;
 use std::thread::Threads;
 
-/// What was said, and what is left: the board, where a desk was opened, and the keeper.
+/// What was said, and what is left: the board, where a desk was opened, the keeper, and who rang the bells.
 #[derive(Drop)]
-pub(crate) struct Ended<K> {
+pub(crate) struct Ended<K, B> {
     pub answer: Result<Text, Fault>,
     pub board: Option<Board>,
     pub keeper: K,
+    pub ringer: Ringer<B>,
 }
 
 /// No desk was opened.
-pub(crate) fn boardless<K: Keeper>(answer: Result<Text, Fault>, keeper: K) -> Ended<K>
+pub(crate) fn boardless<K: Keeper, B: Bell>(
+    answer: Result<Text, Fault>,
+    keeper: K,
+    ringer: Ringer<B>,
+) -> Ended<K, B>
     ensures answer { result.answer ≡ answer }
     ensures none { result.board ≡ None }
     ensures keeper { result.keeper ≡ keeper }
+    ensures ringer { result.ringer ≡ ringer }
 {
     Ended {
         answer,
         board: None,
         keeper,
+        ringer,
     }
 }
 
-// What is left of a desk: its board, of which holds what holds of every board, and its keeper.
-fn left<K: Keeper>(answer: Result<Text, Fault>, desk: Desk<K>) -> Ended<K>
+// What is left of a desk: its board, of which holds what holds of every board, its keeper, and who rang its bells.
+fn left<K: Keeper, B: Bell>(answer: Result<Text, Fault>, desk: Desk<K, B>) -> Ended<K, B>
     ensures answer { result.answer ≡ answer }
     ensures board { result.board ≡ Some desk.board }
     ensures holds { IsBoard desk.board.opening desk.board.state }
     ensures keeper { result.keeper ≡ desk.keeper }
+    ensures ringer { result.ringer ≡ desk.ringer }
 {
-    let Desk { board, keeper } = desk;
+    let Desk {
+        board,
+        keeper,
+        ringer,
+    } = desk;
     let _ = board.now();
     Ended {
         answer,
         board: Some(board),
         keeper,
+        ringer,
     }
 }
 
@@ -68,35 +88,43 @@ pub(crate) fn read_reports(alloc: Global, file: &[u8]) -> Result<Text, Fault>
 }
 
 // What a script comes to that is run on a desk.
-fn run<K: Keeper, L: Ledger>(
+fn run<K: Keeper, B: Bell, L: Ledger>(
     alloc: Global,
-    desk: &mut Desk<K>,
+    desk: &mut Desk<K, B>,
     script: &[u8],
     steps: &mut Steps<L>,
 ) -> Result<Text, Fault>
     ensures run { Runs script.now (over (desk_at K.seen) desk.old desk.new) result }
-    ensures desk { DeskGoesOn (desk_seen K.seen desk.old) (desk_seen K.seen desk.new) }
+    ensures desk { DeskGoesOn (desk_seen K.seen B.seen desk.old) (desk_seen K.seen B.seen desk.new) }
 {
     Ok(Text::from_vec(text_from(alloc, desk, script, steps)?))
 }
 
 /// A desk is opened over the tables and the rows of a keeper, and the script is run on it.
-pub(crate) fn run_over<K: Keeper, L: Ledger>(
+pub(crate) fn run_over<K: Keeper, B: Bell, L: Ledger>(
     alloc: Global,
     tables: Tables,
     script: &[u8],
     keeper: K,
+    ringer: Ringer<B>,
     steps: &mut Steps<L>,
-) -> Ended<K>
+) -> Ended<K, B>
     ensures opens { Opens tables (Runs script.now) (lent K.seen keeper result.keeper) result.board result.answer }
     ensures keeper { KeeperGoesOn (K.seen keeper) (K.seen result.keeper) }
+    ensures rung { AreRungOver result.board (hung_all B.seen ringer) (hung_all B.seen result.ringer) }
 {
-    match open(alloc, tables, keeper, steps) {
+    match open(alloc, tables, keeper, ringer, steps) {
         Ok(mut desk) => {
             let answer = run(alloc, &mut desk, script, steps);
             left(answer, desk)
         }
-        Err(OpenFault { keeper, why }) => boardless(Err(Fault::from(why)), keeper),
+        Err(
+            OpenFault {
+                keeper,
+                ringer,
+                why,
+            },
+        ) => boardless(Err(Fault::from(why)), keeper, ringer),
     }
 }
 
@@ -110,25 +138,52 @@ fn told_of(text: Result<Text, OutOfMemory>) -> Result<Text, Fault>
     }
 }
 
+// A desk without a history holds the entries of it from now on.
+fn holding<K: Keeper, B: Bell>(alloc: Global, mut desk: Desk<K, B>) -> Desk<K, B>
+    requires { desk.board.state.entries ≡ [] }
+    ensures board { result.board ≡ shown desk.board.opening desk.board.state None true }
+    ensures keeper { result.keeper ≡ desk.keeper }
+    ensures ringer { result.ringer ≡ desk.ringer }
+{
+    desk.board.hold_entries(alloc);
+    desk
+}
+
 /// A desk is opened over the tables and the rows of a keeper, and the scripts are the lanes of a race on it.
-pub(crate) fn race_over<R: Threads + Wait + Sync, K: Keeper + Send, G: Gate + Sync, L: Ledger>(
+pub(crate) fn race_over<
+    R: Threads + Wait + Sync,
+    K: Keeper + Send,
+    B: Bell + Send,
+    G: Gate + Sync,
+    L: Ledger,
+>(
     rt: &R,
     alloc: Global,
     tables: Tables,
     scripts: &[Text],
     keeper: K,
+    ringer: Ringer<B>,
     gate: &G,
     steps: &mut Steps<L>,
-) -> Ended<K>
+) -> Ended<K, B>
     ensures opens { Opens tables (Races scripts.now) (lent K.seen keeper result.keeper) result.board result.answer }
     ensures keeper { KeeperGoesOn (K.seen keeper) (K.seen result.keeper) }
+    ensures rung { AreRungOver result.board (hung_all B.seen ringer) (hung_all B.seen result.ringer) }
 {
-    match open(alloc, tables, keeper, steps) {
+    match open(alloc, tables, keeper, ringer, steps) {
         Ok(desk) => {
-            let Raced { desk, text } = race(rt, alloc, desk, scripts, gate);
+            let _ = desk.board.now();
+            let held = holding(alloc, desk);
+            let Raced { desk, text } = race(rt, alloc, held, scripts, gate);
             left(told_of(text), desk)
         }
-        Err(OpenFault { keeper, why }) => boardless(Err(Fault::from(why)), keeper),
+        Err(
+            OpenFault {
+                keeper,
+                ringer,
+                why,
+            },
+        ) => boardless(Err(Fault::from(why)), keeper, ringer),
     }
 }
 
@@ -145,10 +200,10 @@ fn answer_of_end(alloc: Global, end: ServeEnd, board: &Board) -> Result<Text, Fa
 }
 
 // What so many connections come to that are served at a port.
-fn serve<R: Wait, K: Keeper, C: Clock, D: Door, L: Ledger>(
+fn serve<R: Wait, K: Keeper, B: Bell, C: Clock, D: Door, L: Ledger>(
     rt: &R,
     alloc: Global,
-    desk: &mut Desk<K>,
+    desk: &mut Desk<K, B>,
     port: u16,
     connections: u32,
     clock: &mut C,
@@ -157,14 +212,14 @@ fn serve<R: Wait, K: Keeper, C: Clock, D: Door, L: Ledger>(
 ) -> Result<Text, Fault>
     ensures serves { Serves (service C.seen D.seen D.Link.seen clock.old clock.new door.old door.new)
         port connections (over (desk_at K.seen) desk.old desk.new) result }
-    ensures desk { DeskGoesOn (desk_seen K.seen desk.old) (desk_seen K.seen desk.new) }
+    ensures desk { DeskGoesOn (desk_seen K.seen B.seen desk.old) (desk_seen K.seen B.seen desk.new) }
 {
     let end = serve_door(rt, alloc, desk, door, clock, port, connections, steps);
     answer_of_end(alloc, end, &desk.board)
 }
 
 /// A desk is opened over the tables and the rows of a keeper, and connections are served on it.
-pub(crate) fn serve_over<R: Wait, K: Keeper, C: Clock, D: Door, L: Ledger>(
+pub(crate) fn serve_over<R: Wait, K: Keeper, B: Bell, C: Clock, D: Door, L: Ledger>(
     rt: &R,
     alloc: Global,
     tables: Tables,
@@ -173,20 +228,116 @@ pub(crate) fn serve_over<R: Wait, K: Keeper, C: Clock, D: Door, L: Ledger>(
     clock: &mut C,
     door: &mut D,
     keeper: K,
+    ringer: Ringer<B>,
     steps: &mut Steps<L>,
-) -> Ended<K>
+) -> Ended<K, B>
     ensures opens { Opens tables
         (Serves (service C.seen D.seen D.Link.seen clock.old clock.new door.old door.new) port connections)
         (lent K.seen keeper result.keeper) result.board result.answer }
     ensures keeper { KeeperGoesOn (K.seen keeper) (K.seen result.keeper) }
+    ensures rung { AreRungOver result.board (hung_all B.seen ringer) (hung_all B.seen result.ringer) }
     // Where no desk was opened the clock and the door are as they were.
     ensures idle { result.board ≡ None → (clock.new ≡ clock.old) × (door.new ≡ door.old) }
 {
-    match open(alloc, tables, keeper, steps) {
+    match open(alloc, tables, keeper, ringer, steps) {
         Ok(mut desk) => {
             let answer = serve(rt, alloc, &mut desk, port, connections, clock, door, steps);
             left(answer, desk)
         }
-        Err(OpenFault { keeper, why }) => boardless(Err(Fault::from(why)), keeper),
+        Err(
+            OpenFault {
+                keeper,
+                ringer,
+                why,
+            },
+        ) => boardless(Err(Fault::from(why)), keeper, ringer),
+    }
+}
+
+// What the lines of an import come to on a desk.
+fn import_lines<K: Keeper, B: Bell, L: Ledger>(
+    alloc: Global,
+    desk: &mut Desk<K, B>,
+    lines: Vec<Line>,
+    steps: &mut Steps<L>,
+) -> Result<Text, Fault>
+    requires { AllByRecursion HasForms lines.items }
+    ensures imports { Imports lines.items (over (desk_at K.seen) desk.old desk.new) result }
+    ensures desk { DeskGoesOn (desk_seen K.seen B.seen desk.old) (desk_seen K.seen B.seen desk.new) }
+{
+    Ok(Text::from_vec(text_of_import(alloc, desk, lines, steps)?))
+}
+
+/// A desk is opened over the tables and the rows of a keeper, and the lines of an import are answered on it.
+pub(crate) fn import_over<K: Keeper, B: Bell, L: Ledger>(
+    alloc: Global,
+    tables: Tables,
+    lines: Vec<Line>,
+    keeper: K,
+    ringer: Ringer<B>,
+    steps: &mut Steps<L>,
+) -> Ended<K, B>
+    requires { AllByRecursion HasForms lines.items }
+    ensures opens { Opens tables (Imports lines.items) (lent K.seen keeper result.keeper) result.board result.answer }
+    ensures keeper { KeeperGoesOn (K.seen keeper) (K.seen result.keeper) }
+    ensures rung { AreRungOver result.board (hung_all B.seen ringer) (hung_all B.seen result.ringer) }
+{
+    match open(alloc, tables, keeper, ringer, steps) {
+        Ok(mut desk) => {
+            let answer = import_lines(alloc, &mut desk, lines, steps);
+            left(answer, desk)
+        }
+        Err(
+            OpenFault {
+                keeper,
+                ringer,
+                why,
+            },
+        ) => boardless(Err(Fault::from(why)), keeper, ringer),
+    }
+}
+
+// What the calls of a number come to on a desk.
+fn make<K: Keeper, B: Bell, L: Ledger>(
+    alloc: Global,
+    desk: &mut Desk<K, B>,
+    number: u32,
+    count: u32,
+    steps: &mut Steps<L>,
+) -> Result<Text, Fault>
+    requires { count ≤ 20_000 }
+    ensures makes { Makes number count (over (desk_at K.seen) desk.old desk.new) result }
+    ensures desk { DeskGoesOn (desk_seen K.seen B.seen desk.old) (desk_seen K.seen B.seen desk.new) }
+{
+    Ok(Text::from_vec(make_from(alloc, desk, number, count, steps)?))
+}
+
+/// A desk is opened over the tables and the rows of a keeper, and the calls of a number are made on it.
+pub(crate) fn make_over<K: Keeper, B: Bell, L: Ledger>(
+    alloc: Global,
+    tables: Tables,
+    number: u32,
+    count: u32,
+    keeper: K,
+    ringer: Ringer<B>,
+    steps: &mut Steps<L>,
+) -> Ended<K, B>
+    requires { count ≤ 20_000 }
+    ensures opens { Opens tables (Makes number count) (lent K.seen keeper result.keeper) result.board result.answer }
+    ensures keeper { KeeperGoesOn (K.seen keeper) (K.seen result.keeper) }
+    ensures rung { AreRungOver result.board (hung_all B.seen ringer) (hung_all B.seen result.ringer) }
+{
+    match open(alloc, tables, keeper, ringer, steps) {
+        Ok(mut desk) => {
+            let answer = make(alloc, &mut desk, number, count, steps);
+            left(answer, desk)
+        }
+        Err(
+            OpenFault {
+                keeper,
+                ringer,
+                why,
+            },
+        ) => boardless(Err(Fault::from(why)), keeper, ringer),
     }
 }

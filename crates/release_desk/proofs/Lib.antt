@@ -1,1 +1,2 @@
 pub mod KeeperCrossing
+pub mod BellCrossing

@@ -1,8 +1,11 @@
 //! The program of the dispatch release desk.
 #![tactic(auto)]
 
-use commands::{OpenGate, desk_main};
-use desk_io::{FileShelf, StdoutSink};
+mod stderr_bell;
+
+use crate::stderr_bell::StderrBell;
+use commands::{Ending, OpenGate, desk_main};
+use desk_io::{FileShelf, OutOfMemory, StdoutSink, Text};
 use desk_net::{SystemClock, TcpDoor};
 use sqlite_keeper::SqliteKeeper;
 use std::alloc::AllocError;
@@ -27,16 +30,24 @@ fn keeper_of(rt: HostRuntime) -> Result<SqliteKeeper, AllocError> {
     Ok(SqliteKeeper::new(rt, path))
 }
 
-#[tactic(auto, using(crate::proofs::KeeperCrossing::SqliteKeeper_send))]
+// The one bell, which people hear on standard error.
+fn bells_of(rt: HostRuntime) -> Result<Vec<StderrBell<HostRuntime, HostRuntime>>, OutOfMemory> {
+    let all = Text::of(rt.alloc(), b"*".as_slice())?;
+    let mut bells = Vec::new(rt.alloc());
+    bells.push(StderrBell::new(all, rt, rt))?;
+    Ok(bells)
+}
+
+#[tactic(auto, using(crate::proofs::KeeperCrossing::SqliteKeeper_send, crate::proofs::BellCrossing::StderrBell_send))]
 fn main(rt: HostRuntime) -> ExitCode {
-    let (Ok(words), Ok(keeper)) = (words_of(&rt), keeper_of(rt)) else {
+    let (Ok(words), Ok(keeper), Ok(bells)) = (words_of(&rt), keeper_of(rt), bells_of(rt)) else {
         return ExitCode::from(8);
     };
     let mut shelf = FileShelf::new(rt);
     let mut out = StdoutSink::new(rt);
     let clock = SystemClock::new(rt);
     let mut door = TcpDoor::new(rt);
-    let ending = desk_main(
+    let Ending { status, keeper, .. } = desk_main(
         &rt,
         rt.alloc(),
         &words,
@@ -46,6 +57,9 @@ fn main(rt: HostRuntime) -> ExitCode {
         keeper,
         &mut door,
         &OpenGate,
+        bells,
     );
-    ExitCode::from(ending.status)
+    // Where it fails, the log beside the file has what the file lacks.
+    let _ = keeper.leave();
+    ExitCode::from(status)
 }

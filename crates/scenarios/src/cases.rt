@@ -2,7 +2,7 @@ use crate::command::words_of;
 use crate::comparing::compare;
 use crate::fault::CaseFault;
 use crate::members::{check_keys, items_of};
-use crate::objects::{clock_of, door_of, keeper_of, sink_of};
+use crate::objects::{bells_of, clock_of, door_of, keeper_of, sink_of};
 use crate::play::Play;
 use crate::playing::{Outside, play};
 use crate::report::Report;
@@ -15,12 +15,13 @@ use std::sync::Wait;
 use std::thread::Threads;
 
 // What may stand in a case, in each of its steps, and in what the cases of a file have in common.
-const PARTS: [&str; 14] = [
+const PARTS: [&str; 17] = [
     "tables",
     "sources",
     "words",
     "clock",
     "links",
+    "bells",
     "fail",
     "unmade",
     "status",
@@ -30,6 +31,8 @@ const PARTS: [&str; 14] = [
     "board",
     "port",
     "asked",
+    "heard",
+    "dropped",
 ];
 
 fn outside_of<'a, F: Shelf>(
@@ -43,6 +46,7 @@ fn outside_of<'a, F: Shelf>(
     let sink = sink_of(play)?;
     let clock = clock_of(play)?;
     let door = door_of(play, files)?;
+    let bells = bells_of(play)?;
     Ok(Outside {
         words,
         shelf,
@@ -50,6 +54,7 @@ fn outside_of<'a, F: Shelf>(
         clock,
         keeper,
         door,
+        bells,
     })
 }
 

@@ -1,5 +1,6 @@
 use crate::fails::compare_made;
 use crate::fault::CaseFault;
+use crate::heard::{bell_at, dropped_text, heard_text};
 use crate::members::{check_keys, items_of};
 use crate::play::Play;
 use crate::playing::Played;
@@ -343,6 +344,50 @@ fn compare_links<'a, F: Shelf>(
     compare_each_link(play, files, wanted, links, report)
 }
 
+fn compare_bell<'a, F: Shelf>(
+    play: &Play<'a>,
+    files: &mut F,
+    i: usize,
+    wanted: &'a Value,
+    played: &Played,
+    report: &mut Report<'_>,
+) -> Result<(), CaseFault<'a>> {
+    let number = i.saturating_add(1);
+    let what = format!(in play.alloc; "heard {number}")?;
+    let heard = match bell_at(&played.bells, &played.dropped, i) {
+        Some(bell) => heard_text(play.alloc, bell)?,
+        None => Vec::new(play.alloc),
+    };
+    compare_with(play, files, what.as_str(), wanted, &heard, report)
+}
+
+// Compares what each bell heard, where the play says what it must have.
+fn compare_heard<'a, F: Shelf>(
+    play: &Play<'a>,
+    files: &mut F,
+    played: &Played,
+    report: &mut Report<'_>,
+) -> Result<(), CaseFault<'a>> {
+    let Some(wanted) = play.part("heard") else {
+        return Ok(());
+    };
+    for (i, wanted) in items_of(wanted, "heard")?.iter().enumerate() {
+        compare_bell(play, files, i, wanted, played, report)?;
+    }
+    Ok(())
+}
+
+// Compares which bells were dropped.
+fn compare_dropped(
+    play: &Play<'_>,
+    played: &Played,
+    report: &mut Report<'_>,
+) -> Result<(), OutOfMemory> {
+    let text = dropped_text(play.alloc, &played.dropped)?;
+    let text = String::from_utf8_lossy(play.alloc, &text)?;
+    compare_value(play, "dropped", text.as_str(), report)
+}
+
 fn are_same(wanted: &Value) -> bool {
     wanted.get("same").and_then(Value::as_bool) == Some(true)
 }
@@ -364,7 +409,7 @@ fn compare_left<'a, F: Shelf>(
 }
 
 // What a play may say must come.
-const WANTED: [&str; 7] = [
+const WANTED: [&str; 9] = [
     "status",
     "written",
     "left",
@@ -372,6 +417,8 @@ const WANTED: [&str; 7] = [
     "board",
     "port",
     "asked",
+    "heard",
+    "dropped",
 ];
 
 fn compares(play: &Play<'_>) -> bool {
@@ -394,5 +441,7 @@ pub fn compare<'a, F: Shelf>(
     compare_at(play, files, "written", played.sink.written(), report)?;
     let left = lines_of(play.alloc, played.keeper.rows())?;
     compare_left(play, files, before, &left, report)?;
-    compare_links(play, files, played.door.ended(), report)
+    compare_links(play, files, played.door.ended(), report)?;
+    compare_dropped(play, played, report)?;
+    compare_heard(play, files, played, report)
 }

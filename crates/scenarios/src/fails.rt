@@ -1,14 +1,16 @@
 use crate::fault::CaseFault;
+use crate::heard::bell_at;
 use crate::members::{check_keys, items_of};
 use crate::play::Play;
 use crate::playing::Played;
 use crate::report::Report;
+use bells::{Bell, MemoryBell};
 use desk_io::{OutOfMemory, Sink};
 use desk_net::{Clock, Link, MemoryLink};
 use keeper::Keeper;
 use serde_json::Value;
 
-const OBJECTS: [&str; 6] = ["shelf", "sink", "keeper", "clock", "door", "links"];
+const OBJECTS: [&str; 7] = ["shelf", "sink", "keeper", "clock", "door", "links", "bells"];
 
 // The calls that must fail, and those that would fail but mustn't be made.
 const FAIL: &str = "fail";
@@ -35,13 +37,14 @@ fn listed<'a>(
     }
 }
 
-// The same of the link at a place.
-fn listed_of_link<'a>(
+// The same of the one at a place, of links or bells.
+fn listed_of<'a>(
     play: &Play<'a>,
     key: &'static str,
+    objects: &str,
     place: usize,
 ) -> Result<&'a [Value], CaseFault<'a>> {
-    match listed(play, key, "links")?.get(place) {
+    match listed(play, key, objects)?.get(place) {
         None => Ok(&[]),
         Some(listed) => items_of(listed, key),
     }
@@ -73,18 +76,22 @@ pub fn failing<'a>(play: &Play<'a>, object: &str) -> Result<Vec<u64>, CaseFault<
     Ok(numbers)
 }
 
-/// The numbers of the calls of the link at a place that fail.
-pub fn failing_of_link<'a>(play: &Play<'a>, place: usize) -> Result<Vec<u64>, CaseFault<'a>> {
+/// The numbers of the calls that fail of the one at a place, of links or bells.
+pub fn failing_of<'a>(
+    play: &Play<'a>,
+    objects: &str,
+    place: usize,
+) -> Result<Vec<u64>, CaseFault<'a>> {
     let mut numbers = Vec::new(play.alloc);
     push_numbers(
         play,
-        listed_of_link(play, FAIL, place)?,
+        listed_of(play, FAIL, objects, place)?,
         false,
         &mut numbers,
     )?;
     push_numbers(
         play,
-        listed_of_link(play, UNMADE, place)?,
+        listed_of(play, UNMADE, objects, place)?,
         false,
         &mut numbers,
     )?;
@@ -155,7 +162,7 @@ fn compare_links<'a>(
 ) -> Result<(), CaseFault<'a>> {
     let count = links.len().max(listed(play, FAIL, "links")?.len());
     for place in 0..count {
-        let wanted = listed_of_link(play, FAIL, place)?.len();
+        let wanted = listed_of(play, FAIL, "links", place)?.len();
         let number = place.saturating_add(1);
         let link = format!(in play.alloc; "link {number}")?;
         compare_fails(
@@ -165,6 +172,30 @@ fn compare_links<'a>(
             faults_of(links.get(place)),
             report,
         )?;
+    }
+    Ok(())
+}
+
+fn faults_of_bell(bell: Option<&MemoryBell>) -> u64 {
+    match bell {
+        Some(bell) => bell.faults(),
+        None => 0,
+    }
+}
+
+fn compare_bells<'a>(
+    play: &Play<'a>,
+    played: &Played,
+    report: &mut Report<'_>,
+) -> Result<(), CaseFault<'a>> {
+    let came = played.bells.len().saturating_add(played.dropped.len());
+    let count = came.max(listed(play, FAIL, "bells")?.len());
+    for place in 0..count {
+        let wanted = listed_of(play, FAIL, "bells", place)?.len();
+        let number = place.saturating_add(1);
+        let name = format!(in play.alloc; "bell {number}")?;
+        let bell = bell_at(&played.bells, &played.dropped, place);
+        compare_fails(play, name.as_str(), wanted, faults_of_bell(bell), report)?;
     }
     Ok(())
 }
@@ -180,5 +211,6 @@ pub fn compare_made<'a>(
     compare_faults(play, "keeper", played.keeper.faults(), report)?;
     compare_faults(play, "clock", played.clock.faults(), report)?;
     compare_calls(play, "door", played.door.calls(), report)?;
-    compare_links(play, played.door.ended(), report)
+    compare_links(play, played.door.ended(), report)?;
+    compare_bells(play, played, report)
 }

@@ -16,13 +16,17 @@
 //!   2000-01-01T00:00Z.
 //! - `links`: a list of `{"input": TEXT, "cut": N}`: what comes to the door, at most N bytes at once, or 4,096 where that
 //!   isn't said. Where none is left to come the door fails.
+//! - `bells`: a list of the dispatchers whose notices are rung for, one bell for each; `*` stands for all.
 //! - `fail`: which calls fail, lists of numbers from 0, of `shelf`, `sink`, `keeper` (its commits, and with `"load"` its
 //!   rows can't be loaded), `clock` and `door` (its opening, and each link that it is asked for), and such a list for each
-//!   link (its reads and writes together) in the list `links`. A step counts from 0 again.
+//!   link (its reads and writes together) in the list `links`, and for each bell in the list `bells`. A step counts from 0
+//!   again.
 //! - `unmade`: calls that would fail, of the same form, but mustn't be made.
 //! - what must come; what is missing isn't compared: `status`; `board`, whether one is left; `port`, where the door was
 //!   opened, or null; `asked`, how many moments the clock gave; `written`, a text; `left`, the rows that the
-//!   keeper holds at last; and `links_written`, a list of texts, of the links that were given back.
+//!   keeper holds at last; `links_written`, a list of texts, of the links that were given back; `heard`, a list of texts,
+//!   of the bells, with a line `DESK RELEASE vVERSION WORD` for each notice, where WORD is opened, changed or closed; and
+//!   `dropped`, a list of `[PLACE, COUNT]` of the bells that failed, their places from 0 and how many notices they heard.
 //! - `steps`: a list of objects of these keys but `rows`, played one after another over the rows that the one before left.
 //!   What a step lacks it takes from its case.
 //! - `each`: `{"from": A, "to": B}`: the case is played for each number from A to B, and `"each"` stands for the number
@@ -40,6 +44,7 @@ mod command;
 mod comparing;
 mod fails;
 mod fault;
+mod heard;
 mod members;
 mod objects;
 mod outside;

@@ -2,13 +2,14 @@ ghost use Rattle.std.specs.Prelude.{◌<◌, IfOk, IfSome};
 ghost use Rattle.std.specs.List.{All};
 ghost use Rattle.desk_time.specs.Limits.{IsMoment};
 
-use crate::fails::{failing, failing_of_link, loads};
+use crate::fails::{failing, failing_of, loads};
 use crate::fault::CaseFault;
 use crate::members::{check_keys, items_of};
 use crate::outside::{CaseClock, CaseDoor, CaseKeeper};
 use crate::play::Play;
 use crate::texts::text_of;
-use desk_io::{MemorySink, Row, Shelf};
+use bells::MemoryBell;
+use desk_io::{MemorySink, Row, Shelf, Text};
 use desk_net::{MemoryClock, MemoryDoor, MemoryLink};
 use desk_time::{FIRST, Minute, read_minute};
 use keeper::{MemoryKeeper, is_rising};
@@ -108,7 +109,7 @@ fn links_in<'a, F: Shelf>(
 ) -> Result<Vec<MemoryLink>, CaseFault<'a>> {
     let mut links = Vec::new(play.alloc);
     for (i, link) in listed.iter().enumerate() {
-        let fail = failing_of_link(play, i)?;
+        let fail = failing_of(play, "links", i)?;
         links.push(link_of(play, files, link, fail)?)?;
     }
     Ok(links)
@@ -123,4 +124,30 @@ pub fn door_of<'a, F: Shelf>(play: &Play<'a>, files: &mut F) -> Result<CaseDoor,
     let fail = failing(play, "door")?;
     let links = links_in(play, files, listed)?;
     Ok(CaseDoor::new(MemoryDoor::new(play.alloc, links, fail)))
+}
+
+fn bell_of<'a>(
+    play: &Play<'a>,
+    desk: &'a Value,
+    place: usize,
+) -> Result<MemoryBell, CaseFault<'a>> {
+    let Some(desk) = desk.as_str() else {
+        return Err(CaseFault::Unread("bells"));
+    };
+    let fail = failing_of(play, "bells", place)?;
+    let desk = Text::of(play.alloc, desk.as_bytes())?;
+    Ok(MemoryBell::new(play.alloc, desk, fail))
+}
+
+/// The bells of a play.
+pub fn bells_of<'a>(play: &Play<'a>) -> Result<Vec<MemoryBell>, CaseFault<'a>> {
+    let listed = match play.part("bells") {
+        None => &[],
+        Some(listed) => items_of(listed, "bells")?,
+    };
+    let mut bells = Vec::new(play.alloc);
+    for (i, desk) in listed.iter().enumerate() {
+        bells.push(bell_of(play, desk, i)?)?;
+    }
+    Ok(bells)
 }

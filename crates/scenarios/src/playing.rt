@@ -1,4 +1,5 @@
 use crate::outside::{CaseClock, CaseDoor, CaseKeeper, CaseShelf};
+use bells::{Bell, Dropped, MemoryBell};
 use commands::{Ending, OpenGate, desk_main};
 use desk_io::{MemorySink, Shelf, Sink};
 use desk_net::{Clock, Door};
@@ -16,6 +17,7 @@ pub struct Outside {
     pub clock: CaseClock,
     pub keeper: CaseKeeper,
     pub door: CaseDoor,
+    pub bells: Vec<MemoryBell>,
 }
 
 /// What the program came to: its status, whether a board is left, and what is left of the outside.
@@ -28,19 +30,32 @@ pub struct Played {
     pub clock: CaseClock,
     pub keeper: CaseKeeper,
     pub door: CaseDoor,
+    pub bells: Vec<MemoryBell>,
+    pub dropped: Vec<Dropped<MemoryBell>>,
 }
 
-// What a command came to: its status, whether a board is left, and the keeper and the clock that were given back.
+// What a command came to: its status, whether a board is left, and the keeper, the clock and the bells that were given
+// back.
 #[derive(Drop)]
-struct Came<K, C> {
+struct Came<K, C, B> {
     status: u8,
     board: bool,
     keeper: K,
     clock: C,
+    bells: Vec<B>,
+    dropped: Vec<Dropped<B>>,
 }
 
 // What words come to. The promises of the program's call end here, over type parameters, so that they are paid for once.
-fn came_of<R: Threads + Wait + Sync, S: Shelf, O: Sink, C: Clock + Drop, K: Keeper + Send, D: Door>(
+fn came_of<
+    R: Threads + Wait + Sync,
+    S: Shelf,
+    O: Sink,
+    C: Clock + Drop,
+    K: Keeper + Send,
+    B: Bell + Send + Drop,
+    D: Door,
+>(
     rt: &R,
     alloc: Global,
     words: &[String],
@@ -49,22 +64,30 @@ fn came_of<R: Threads + Wait + Sync, S: Shelf, O: Sink, C: Clock + Drop, K: Keep
     clock: C,
     keeper: K,
     door: &mut D,
-) -> Came<K, C> {
+    bells: Vec<B>,
+) -> Came<K, C, B> {
     let Ending {
         status,
         board,
         keeper,
         clock,
-    } = desk_main(rt, alloc, words, shelf, out, clock, keeper, door, &OpenGate);
+        bells,
+        dropped,
+    } = desk_main(
+        rt, alloc, words, shelf, out, clock, keeper, door, &OpenGate, bells,
+    );
     Came {
         status,
         board: board.is_some(),
         keeper,
         clock,
+        bells,
+        dropped,
     }
 }
 
 /// Calls the program.
+#[tactic(auto, using(bells::proofs::Crossing::MemoryBell_send))]
 pub fn play<R: Threads + Wait + Sync>(rt: &R, alloc: Global, outside: Outside) -> Played {
     let Outside {
         words,
@@ -73,14 +96,17 @@ pub fn play<R: Threads + Wait + Sync>(rt: &R, alloc: Global, outside: Outside) -
         clock,
         keeper,
         mut door,
+        bells,
     } = outside;
     let Came {
         status,
         board,
         keeper,
         clock,
+        bells,
+        dropped,
     } = came_of(
-        rt, alloc, &words, &mut shelf, &mut sink, clock, keeper, &mut door,
+        rt, alloc, &words, &mut shelf, &mut sink, clock, keeper, &mut door, bells,
     );
     Played {
         status,
@@ -90,5 +116,7 @@ pub fn play<R: Threads + Wait + Sync>(rt: &R, alloc: Global, outside: Outside) -
         clock,
         keeper,
         door,
+        bells,
+        dropped,
     }
 }

@@ -2,10 +2,10 @@ use Rattle.std.specs.Prelude.{Ok}
 use Rattle.commands.proofs.Reading.{reads_earlier}
 use Rattle.commands.proofs.commands.run.Goals as goal
 
-pub returns-in-Ok : goal.returns-in-Ok
-returns-in-Ok g c =
+pub returns-in-Ok-clause-says : goal.returns-in-Ok-clause-says
+returns-in-Ok-clause-says g c =
     let read = c.in-Ok.ensures in
-    let under = c.run_under.ensures in
+    let under = c.run_under.ensures.says in
     let seen = g.S.Shelf.seen in (
       Ok c.in-Ok.tables,
       read.read,

@@ -1,0 +1,28 @@
+use Rattle.std.proofs.Common.{map, ap, refl, subst, ◌∙◌}
+use Rattle.bells.specs.Ringing.{dropped_seen, fresh_from, hung_all}
+use Rattle.commands.proofs.RungLaws.{all_stay, none_leaves}
+use Rattle.commands.specs.Bells.{AreRungOver}
+use Rattle.commands.proofs.rung.answer_rung.Goals as goal
+
+pub returns-in-Ok-clause-bells : goal.returns-in-Ok-clause-bells
+returns-in-Ok-clause-bells g c =
+    let said = c.answer_to-answer in
+    let heard = g.B.Bell.seen in
+    let now = hung_all heard said.result.ringer in
+    record {
+      hung = now;
+      rung = subst (λ before. AreRungOver said.result.board before now) c.in-Ok.ensures.ok said.ensures.rung;
+      stay = c.finish-bells.ensures.bells;
+      leave = c.finish-bells.ensures.dropped;
+    }
+
+pub returns-in-Err-clause-bells : goal.returns-in-Err-clause-bells
+returns-in-Err-clause-bells g c =
+    let heard = g.B.Bell.seen in
+    let given = map heard c.args.bells.items in
+    record {
+      hung = fresh_from 0 given;
+      rung = refl;
+      stay = ap (λ v. map heard v.items) c.in-Err.ensures.err ∙ all_stay given 0;
+      leave = ap (λ gone. map (dropped_seen heard) gone) c.new-in-Err.ensures.items ∙ none_leaves given 0;
+    }

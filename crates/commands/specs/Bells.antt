@@ -1,0 +1,19 @@
+-- What becomes of the bells that are handed in.
+use Rattle.std.specs.Prelude.{◌≡◌, List, Option, None, Some}
+use Rattle.bells.specs.Ringing.{AreRung, DroppedSeen, Hung, dropped, fresh_from, staying}
+use Rattle.bells.specs.Seen.{BellSeen}
+use Rattle.board.specs.Prepare.{Shown}
+use Rattle.desk.specs.Heard.{told_by_all}
+
+-- Bells are rung for what the history of a board tells, in order, and where there is no board for nothing.
+abbrev pub AreRungOver : Option Shown → List Hung → List Hung → Type 0
+AreRungOver None old new = new ≡ old
+AreRungOver (Some board) old new = AreRung (told_by_all board.opening board.state.entries) old new
+
+-- Bells that heard nothing before are rung for what the history of a board tells. Those that stay are handed back in their order, and those
+-- that failed with their places and with how many notices they heard.
+pub record AreHandedBack (board : Option Shown) (given bells : List BellSeen) (gone : List DroppedSeen) : Type 0 where
+  pub hung : List Hung
+  pub rung : AreRungOver board (fresh_from 0 given) hung
+  pub stay : bells ≡ staying hung
+  pub leave : gone ≡ dropped hung

@@ -1,0 +1,85 @@
+ghost use Rattle.std.specs.Prelude.{map, string_bytes};
+ghost use Rattle.bells.specs.Ringing.{dropped_seen};
+ghost use Rattle.commands.specs.Answers.{Says};
+ghost use Rattle.commands.specs.Bells.{AreHandedBack};
+ghost use Rattle.commands.specs.Seen.{lent, service};
+ghost use Rattle.desk_io.specs.Over.{over};
+ghost use Rattle.words.specs.Words.{command_of};
+
+use crate::commands::answer_to;
+use crate::fault::Fault;
+use crate::working::Ended;
+use bells::{Bell, Dropped, Ringer, Unhung};
+use board::Board;
+use desk::Gate;
+use desk_io::{Shelf, Text};
+use desk_net::{Clock, Door};
+use keeper::Keeper;
+use std::alloc::Global;
+use std::sync::Wait;
+use std::thread::Threads;
+
+/// What was said, and what is left: the board, where a desk was opened, the keeper, the bells that stayed, and those
+/// that were dropped.
+#[derive(Drop)]
+pub(crate) struct Rung<K, B> {
+    pub answer: Result<Text, Fault>,
+    pub board: Option<Board>,
+    pub keeper: K,
+    pub bells: Vec<B>,
+    pub dropped: Vec<Dropped<B>>,
+}
+
+/// What the program says to the words, while bells are rung for what the history tells.
+pub(crate) fn answer_rung<
+    R: Threads + Wait + Sync,
+    S: Shelf,
+    K: Keeper + Send,
+    B: Bell + Send + Drop,
+    C: Clock,
+    D: Door,
+    G: Gate + Sync,
+>(
+    rt: &R,
+    alloc: Global,
+    words: &[String],
+    shelf: &mut S,
+    clock: &mut C,
+    door: &mut D,
+    keeper: K,
+    bells: Vec<B>,
+    gate: &G,
+) -> Rung<K, B>
+    ensures says { Says (over S.seen shelf.old shelf.new)
+        (service C.seen D.seen D.Link.seen clock.old clock.new door.old door.new)
+        (lent K.seen keeper result.keeper) (command_of (map string_bytes words.now))
+        result.board result.answer }
+    ensures bells { AreHandedBack result.board (map B.seen bells.items) (map B.seen result.bells.items)
+        (map (dropped_seen B.seen) result.dropped.items) }
+{
+    match Ringer::new(alloc, bells) {
+        Ok(ringer) => {
+            let Ended {
+                answer,
+                board,
+                keeper,
+                ringer,
+            } = answer_to(rt, alloc, words, shelf, clock, door, keeper, ringer, gate);
+            let (bells, dropped) = ringer.finish();
+            Rung {
+                answer,
+                board,
+                keeper,
+                bells,
+                dropped,
+            }
+        }
+        Err(Unhung { bells }) => Rung {
+            answer: Err(Fault::OutOfMemory),
+            board: None,
+            keeper,
+            bells,
+            dropped: Vec::new(alloc),
+        },
+    }
+}

@@ -1,0 +1,79 @@
+ghost use Rattle.std.specs.Prelude.{◌≡◌, None, codes};
+ghost use Rattle.desk_io.specs.Health.{unsound};
+
+use alerts::{Notice, NoticeKind};
+use bells::Bell;
+use desk_io::{Failed, Text, counted};
+use desk_net::{Clock, SystemClock};
+use desk_time::show;
+use std::io::Eprint;
+use std::{io, str, time};
+
+/// Standard error, where people see a line for each notice of all dispatchers: when it came, the dispatcher, the
+/// release, the version of its alert, and what has become of it. It tells nothing of what it heard. A line that isn't
+/// written is a counted fault.
+#[derive(Drop)]
+pub struct StderrBell<E: Eprint + Drop, T: time::Clock + Drop> {
+    all: Text,
+    out: E,
+    clock: SystemClock<T>,
+    faults: u64,
+}
+
+fn word_of(kind: NoticeKind) -> &'static str {
+    match kind {
+        NoticeKind::Opened => "opened",
+        NoticeKind::Changed => "changed",
+        NoticeKind::Closed => "closed",
+    }
+}
+
+// A text as it is printed.
+fn printed(text: &[u8]) -> &str {
+    match str::from_utf8(text) {
+        Ok(text) => text,
+        Err(_) => "?",
+    }
+}
+
+fn tell<E: Eprint>(out: &E, at: &[u8], notice: &Notice) -> io::Result<()> {
+    let desk = printed(notice.desk.bytes());
+    let (release, version) = (notice.release, notice.version);
+    let word = word_of(notice.kind);
+    let at = printed(at);
+    eprintln!(out; "{at} {desk}: the alert of release {release} has {word}, version {version}")
+}
+
+impl<E: Eprint + Drop, T: time::Clock + Drop> StderrBell<E, T> {
+    /// A bell over standard error. `all` is `*`.
+    pub fn new(all: Text, out: E, clock: T) -> Self
+        ensures { result.faults ≡ 0 }
+    {
+        StderrBell {
+            all,
+            out,
+            clock: SystemClock::new(clock),
+            faults: 0,
+        }
+    }
+}
+
+impl<E: Eprint + Drop, T: time::Clock + Drop> Bell for StderrBell<E, T> {
+    ghost seen = { λ b. record { desk = b.all; heard = None; health = unsound b.faults } };
+
+    fn desk(&self) -> &Text {
+        &self.all
+    }
+
+    fn ring(&mut self, notice: &Notice) -> Result<(), Failed> {
+        let answer = match self.clock.now() {
+            Ok(moment) => tell(&self.out, &show(moment), notice),
+            Err(Failed) => tell(&self.out, b"----------------Z".as_slice(), notice),
+        };
+        counted(answer, &mut self.faults)
+    }
+
+    fn faults(&self) -> u64 {
+        self.faults
+    }
+}
