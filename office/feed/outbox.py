@@ -6,9 +6,10 @@ is asked again under the same number, and the desk does nothing twice.
 import sqlite3
 import time
 
+from reports import KEEP_DAYS
+
 # Hundredths of a second since 2000 as the least next number: so numbers rise too where this file was lost.
 EPOCH_2000 = 946_684_800
-KEEP_DAYS = 5
 
 TABLES = """
 create table if not exists outbox (number integer primary key, text text not null, origin text not null);
@@ -51,6 +52,10 @@ class Outbox:
         return self.db.execute("select 1 from files where (name, size, changed) = (?, ?, ?)", file).fetchone() is not None
 
     def waiting(self, most):
+        """What is next to be handed in; what has waited until a report of its day would look like a new one is refused here."""
+        late = "select number, outbox.text, origin from outbox join taken using (text) where at < ?"
+        for number, text, origin in self.db.execute(late, (self.oldest(),)).fetchall():
+            self.refuse(number, text, origin, "it has waited for %d days" % KEEP_DAYS)
         return self.db.execute("select number, text, origin from outbox order by number limit ?", (most,)).fetchall()
 
     def done(self, number):
@@ -73,9 +78,12 @@ class Outbox:
     def refused(self):
         return self.db.execute("select at, text, origin, reason from refused order by rowid").fetchall()
 
+    def oldest(self):
+        return int(self.clock()) - KEEP_DAYS * 86_400
+
     def forget(self):
         """What is older than any report that the desk would still take is forgotten."""
-        before = int(self.clock()) - KEEP_DAYS * 86_400
+        before = self.oldest()
         with self.changing():
             self.db.execute("delete from taken where at < ? and text not in (select text from outbox)", (before,))
             self.db.execute("delete from refused where at < ?", (before,))

@@ -1,6 +1,11 @@
-"""A desk, nginx and a feed in a scratch folder, for the checks of the office."""
+"""A desk, nginx and a feed in a scratch folder, for the checks of the office.
+
+Each wait is for a condition, and ends after some seconds by a fault. What is started ends with the check, however that ends.
+"""
 import contextlib
+import ctypes
 import os
+import random
 import shlex
 import shutil
 import signal
@@ -15,6 +20,9 @@ OFFICE = HERE / "office"
 TABLES = HERE / "examples" / "one_flight"
 # The built program; DESK_PROGRAM names another command that takes the same words.
 PROGRAM = shlex.split(os.environ.get("DESK_PROGRAM", str(HERE / "crates/release_desk/out/release_desk")))
+# Seconds for what takes a moment where the machine has nothing else to do.
+PATIENCE = 60
+PR_SET_PDEATHSIG = 1
 
 
 class Failed(Exception):
@@ -26,20 +34,40 @@ def expect(what, holds, got=""):
         raise Failed("%s%s" % (what, "\n  got: %s" % got if got != "" else ""))
 
 
-def until(what, seconds, test):
-    """The first true answer of a test, within some seconds."""
+def until(what, test, seconds=PATIENCE):
+    """The first true answer of a test, within some seconds. `what` is a text, or says it at the end."""
     end = time.monotonic() + seconds
     while True:
         got = test()
         if got:
             return got
-        expect("within %d s: %s" % (seconds, what), time.monotonic() < end, got)
+        if time.monotonic() > end:
+            raise Failed("within %d s: %s" % (seconds, what() if callable(what) else what))
         time.sleep(0.1)
 
 
+def ended(*words, **options):
+    """What a command has said and its status, once it has ended."""
+    try:
+        return subprocess.run(words, capture_output=True, text=True, timeout=PATIENCE, **options)
+    except subprocess.TimeoutExpired as fault:
+        raise Failed("%s hasn't ended after %d s" % (words[0], PATIENCE)) from fault
+
+
+def stops_by_fault():
+    """Lets a check that is told to end clear up after itself."""
+    def stop(number, _):
+        raise Failed("it was ended by signal %d" % number)
+    for number in (signal.SIGTERM, signal.SIGHUP, signal.SIGINT):
+        signal.signal(number, stop)
+
+
 def free_port():
-    with socket.create_server(("127.0.0.1", 0)) as free:
-        return free.getsockname()[1]
+    """A port that nobody has, below those that the system gives to whoever calls out."""
+    while True:
+        port = random.randrange(10_000, 20_000)
+        with contextlib.suppress(OSError), socket.create_server(("127.0.0.1", port)):
+            return port
 
 
 def moment(minutes):
@@ -53,18 +81,42 @@ def forecast(station, said, amended=""):
     return "TAF %s%s %s %s 16008KT %s" % (amended, station, now.strftime("%d%H%MZ"), period, said)
 
 
+LIBC = ctypes.CDLL(None)
+
+
+def ends_with_parent():
+    LIBC.prctl(PR_SET_PDEATHSIG, signal.SIGTERM)
+
+
 class Service:
-    """A process of the scratch folder."""
+    """A process of the scratch folder, with those that it starts."""
 
     def __init__(self, words, folder, log):
-        self.log = open(log, "ab")
-        self.process = subprocess.Popen(words, cwd=folder, stdin=subprocess.DEVNULL, stdout=self.log, stderr=self.log, start_new_session=True)
+        self.log = log
+        with open(log, "ab") as out:
+            self.process = subprocess.Popen(words, cwd=folder, stdin=subprocess.DEVNULL, stdout=out, stderr=out, start_new_session=True,
+                                            preexec_fn=ends_with_parent)
+
+    def listens(self, port):
+        """Whether it listens at the port; a fault where it has ended."""
+        expect("%s runs" % self.process.args[0], self.process.poll() is None, self.log.read_text(errors="replace")[-600:])
+        return listens(port)
 
     def stop(self, how=signal.SIGTERM):
         with contextlib.suppress(ProcessLookupError):
             os.killpg(self.process.pid, how)
-        self.process.wait(20)
-        self.log.close()
+        try:
+            self.process.wait(20)
+        except subprocess.TimeoutExpired:
+            os.killpg(self.process.pid, signal.SIGKILL)
+            self.process.wait(20)
+            raise Failed("%s doesn't end when it is told to" % self.process.args[0]) from None
+
+
+def listens(port):
+    with socket.socket() as it:
+        it.settimeout(5)
+        return it.connect_ex(("127.0.0.1", port)) == 0
 
 
 class Office:
@@ -84,12 +136,13 @@ class Office:
 
     def start_desk(self):
         self.services["desk"] = Service([*PROGRAM, "serve", str(self.desk_port), "1000"], self.state, self.folder / "desk.log")
-        until("the desk listens", 60, lambda: self.listens(self.desk_port))
+        until("the desk listens", lambda: self.services["desk"].listens(self.desk_port))
 
     def start_nginx(self):
         tls = self.folder / "tls"
-        subprocess.run(["openssl", "req", "-x509", "-newkey", "rsa:2048", "-nodes", "-days", "2", "-subj", "/CN=127.0.0.1",
-                        "-keyout", "%s.key" % tls, "-out", "%s.crt" % tls], check=True, capture_output=True)
+        made = ended("openssl", "req", "-x509", "-newkey", "rsa:2048", "-nodes", "-days", "2", "-subj", "/CN=127.0.0.1",
+                     "-keyout", "%s.key" % tls, "-out", "%s.crt" % tls)
+        expect("openssl makes a certificate", made.returncode == 0, made.stderr)
         site = (OFFICE / "nginx" / "vomidegu-desk.conf").read_text()
         for old, new in (("listen 80;", "listen 127.0.0.1:%d;" % self.http_port), ("listen [::]:80;", ""),
                          ("listen 443 ssl", "listen 127.0.0.1:%d ssl" % self.port), ("listen [::]:443 ssl http2;", ""),
@@ -103,9 +156,10 @@ class Office:
         whole = "%s daemon off; worker_processes 4; pid %s/nginx.pid; error_log %s/nginx.log;\nevents { }\nhttp { include /etc/nginx/mime.types; %s include %s/site.conf; }\n"
         (self.folder / "nginx.conf").write_text(whole % (user, self.folder, self.folder, temps, self.folder))
         words = [shutil.which("nginx") or "/usr/sbin/nginx", "-e", str(self.folder / "nginx.log"), "-c", str(self.folder / "nginx.conf")]
-        subprocess.run([*words, "-t", "-q"], check=True)
+        tested = ended(*words, "-t", "-q")
+        expect("nginx takes its configuration", tested.returncode == 0, tested.stderr)
         self.services["nginx"] = Service(words, self.folder, self.folder / "nginx.out")
-        until("nginx listens", 20, lambda: self.listens(self.port))
+        until("nginx listens", lambda: self.services["nginx"].listens(self.port))
 
     def feed_words(self, *words):
         key = self.folder / "feed.key"
@@ -120,13 +174,11 @@ class Office:
         """Puts a file of reports where the feed looks."""
         (self.spool / name).write_text("\n".join(reports) + "\n")
 
-    def listens(self, port):
-        with socket.socket() as it:
-            return it.connect_ex(("127.0.0.1", port)) == 0
-
     def stop(self, name, how=signal.SIGTERM):
         self.services.pop(name).stop(how)
 
     def stop_all(self):
-        for name in list(self.services):
-            self.stop(name)
+        """Stops all, whatever comes of one, and then says so."""
+        with contextlib.ExitStack() as each:
+            for name in list(self.services):
+                each.callback(self.stop, name)
