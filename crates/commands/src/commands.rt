@@ -46,13 +46,14 @@ fn weather<S: Shelf, K: Keeper, B: Bell>(
 }
 
 // A script, once the tables are read.
-fn run_under<S: Shelf, K: Keeper, B: Bell, L: Ledger>(
+fn run_under<S: Shelf, K: Keeper, B: Bell, G: Gate, L: Ledger>(
     alloc: Global,
     tables: Tables,
     name: &str,
     shelf: &mut S,
     keeper: K,
     ringer: Ringer<B>,
+    gate: &G,
     steps: &mut Steps<L>,
 ) -> Ended<K, B>
     ensures says { RunsUnder tables (over S.seen shelf.old shelf.new) (lent K.seen keeper result.keeper) name.now
@@ -60,7 +61,7 @@ fn run_under<S: Shelf, K: Keeper, B: Bell, L: Ledger>(
     ensures rung { AreRungOver result.board (hung_all B.seen ringer) (hung_all B.seen result.ringer) }
 {
     match read_source(alloc, shelf, name) {
-        Ok(script) => run_over(alloc, tables, script.bytes(), keeper, ringer, steps),
+        Ok(script) => run_over(alloc, tables, script.bytes(), keeper, ringer, gate, steps),
         Err(fault) => {
             leave(tables);
             boardless(Err(fault), keeper, ringer)
@@ -69,12 +70,13 @@ fn run_under<S: Shelf, K: Keeper, B: Bell, L: Ledger>(
 }
 
 // A script on the desk of the rows.
-fn run<S: Shelf, K: Keeper, B: Bell, L: Ledger>(
+fn run<S: Shelf, K: Keeper, B: Bell, G: Gate, L: Ledger>(
     alloc: Global,
     name: &str,
     shelf: &mut S,
     keeper: K,
     ringer: Ringer<B>,
+    gate: &G,
     steps: &mut Steps<L>,
 ) -> Ended<K, B>
     ensures says { RunsScript (over S.seen shelf.old shelf.new) (lent K.seen keeper result.keeper) name.now
@@ -82,7 +84,7 @@ fn run<S: Shelf, K: Keeper, B: Bell, L: Ledger>(
     ensures rung { AreRungOver result.board (hung_all B.seen ringer) (hung_all B.seen result.ringer) }
 {
     match read_files(alloc, shelf) {
-        Ok(tables) => run_under(alloc, tables, name, shelf, keeper, ringer, steps),
+        Ok(tables) => run_under(alloc, tables, name, shelf, keeper, ringer, gate, steps),
         Err(fault) => boardless(Err(fault), keeper, ringer),
     }
 }
@@ -184,13 +186,14 @@ fn serve<R: Wait, S: Shelf, K: Keeper, B: Bell, C: Clock, D: Door, L: Ledger>(
 }
 
 // An import, once the tables are read.
-fn import_under<S: Shelf, K: Keeper, B: Bell, L: Ledger>(
+fn import_under<S: Shelf, K: Keeper, B: Bell, G: Gate, L: Ledger>(
     alloc: Global,
     tables: Tables,
     name: &str,
     shelf: &mut S,
     keeper: K,
     ringer: Ringer<B>,
+    gate: &G,
     steps: &mut Steps<L>,
 ) -> Ended<K, B>
     ensures says { ImportsUnder tables (over S.seen shelf.old shelf.new) (lent K.seen keeper result.keeper) name.now
@@ -198,7 +201,7 @@ fn import_under<S: Shelf, K: Keeper, B: Bell, L: Ledger>(
     ensures rung { AreRungOver result.board (hung_all B.seen ringer) (hung_all B.seen result.ringer) }
 {
     match read_lines(alloc, shelf, name) {
-        Ok(lines) => import_over(alloc, tables, lines, keeper, ringer, steps),
+        Ok(lines) => import_over(alloc, tables, lines, keeper, ringer, gate, steps),
         Err(fault) => {
             leave(tables);
             boardless(Err(fault), keeper, ringer)
@@ -207,12 +210,13 @@ fn import_under<S: Shelf, K: Keeper, B: Bell, L: Ledger>(
 }
 
 // An import to the desk of the rows.
-fn import_reports<S: Shelf, K: Keeper, B: Bell, L: Ledger>(
+fn import_reports<S: Shelf, K: Keeper, B: Bell, G: Gate, L: Ledger>(
     alloc: Global,
     name: &str,
     shelf: &mut S,
     keeper: K,
     ringer: Ringer<B>,
+    gate: &G,
     steps: &mut Steps<L>,
 ) -> Ended<K, B>
     ensures says { ImportsFile (over S.seen shelf.old shelf.new) (lent K.seen keeper result.keeper) name.now
@@ -220,19 +224,20 @@ fn import_reports<S: Shelf, K: Keeper, B: Bell, L: Ledger>(
     ensures rung { AreRungOver result.board (hung_all B.seen ringer) (hung_all B.seen result.ringer) }
 {
     match read_files(alloc, shelf) {
-        Ok(tables) => import_under(alloc, tables, name, shelf, keeper, ringer, steps),
+        Ok(tables) => import_under(alloc, tables, name, shelf, keeper, ringer, gate, steps),
         Err(fault) => boardless(Err(fault), keeper, ringer),
     }
 }
 
 // The calls of a number on the desk of the rows.
-fn make<S: Shelf, K: Keeper, B: Bell, L: Ledger>(
+fn make<S: Shelf, K: Keeper, B: Bell, G: Gate, L: Ledger>(
     alloc: Global,
     number: u32,
     count: u32,
     shelf: &mut S,
     keeper: K,
     ringer: Ringer<B>,
+    gate: &G,
     steps: &mut Steps<L>,
 ) -> Ended<K, B>
     requires { count ≤ 20_000 }
@@ -241,7 +246,7 @@ fn make<S: Shelf, K: Keeper, B: Bell, L: Ledger>(
     ensures rung { AreRungOver result.board (hung_all B.seen ringer) (hung_all B.seen result.ringer) }
 {
     match read_files(alloc, shelf) {
-        Ok(tables) => make_over(alloc, tables, number, count, keeper, ringer, steps),
+        Ok(tables) => make_over(alloc, tables, number, count, keeper, ringer, gate, steps),
         Err(fault) => boardless(Err(fault), keeper, ringer),
     }
 }
@@ -286,16 +291,17 @@ fn answer_with<
         result.board result.answer }
     ensures rung { AreRungOver result.board (hung_all B.seen ringer) (hung_all B.seen result.ringer) }
 {
-    let mut steps = Steps::<L>::new(blank);
+    let mut counted = Steps::<L>::new(blank);
+    let steps = &mut counted;
     match command(alloc, words) {
         Err(OutOfMemory) => boardless(Err(Fault::OutOfMemory), keeper, ringer),
         Ok(None) => boardless(Err(Fault::Usage), keeper, ringer),
         Ok(Some((Task::Weather, names))) => weather(alloc, first_of(names), shelf, keeper, ringer),
         Ok(Some((Task::Desk(DeskTask::Run), names))) => {
-            run(alloc, first_of(names), shelf, keeper, ringer, &mut steps)
+            run(alloc, first_of(names), shelf, keeper, ringer, gate, steps)
         }
         Ok(Some((Task::Desk(DeskTask::Race), names))) => {
-            race(rt, alloc, names, shelf, keeper, ringer, gate, &mut steps)
+            race(rt, alloc, names, shelf, keeper, ringer, gate, steps)
         }
         Ok(Some((Task::Desk(DeskTask::Serve { port, connections }), _))) => serve(
             rt,
@@ -307,13 +313,13 @@ fn answer_with<
             door,
             keeper,
             ringer,
-            &mut steps,
+            steps,
         ),
         Ok(Some((Task::Desk(DeskTask::Import), names))) => {
-            import_reports(alloc, first_of(names), shelf, keeper, ringer, &mut steps)
+            import_reports(alloc, first_of(names), shelf, keeper, ringer, gate, steps)
         }
         Ok(Some((Task::Desk(DeskTask::Make { number, count }), _))) => {
-            make(alloc, number, count, shelf, keeper, ringer, &mut steps)
+            make(alloc, number, count, shelf, keeper, ringer, gate, steps)
         }
     }
 }

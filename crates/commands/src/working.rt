@@ -88,25 +88,27 @@ pub(crate) fn read_reports(alloc: Global, file: &[u8]) -> Result<Text, Fault>
 }
 
 // What a script comes to that is run on a desk.
-fn run<K: Keeper, B: Bell, L: Ledger>(
+fn run<K: Keeper, B: Bell, G: Gate, L: Ledger>(
     alloc: Global,
     desk: &mut Desk<K, B>,
     script: &[u8],
+    gate: &G,
     steps: &mut Steps<L>,
 ) -> Result<Text, Fault>
     ensures run { Runs script.now (over (desk_at K.seen) desk.old desk.new) result }
     ensures desk { DeskGoesOn (desk_seen K.seen B.seen desk.old) (desk_seen K.seen B.seen desk.new) }
 {
-    Ok(Text::from_vec(text_from(alloc, desk, script, steps)?))
+    Ok(Text::from_vec(text_from(alloc, desk, script, gate, steps)?))
 }
 
 /// A desk is opened over the tables and the rows of a keeper, and the script is run on it.
-pub(crate) fn run_over<K: Keeper, B: Bell, L: Ledger>(
+pub(crate) fn run_over<K: Keeper, B: Bell, G: Gate, L: Ledger>(
     alloc: Global,
     tables: Tables,
     script: &[u8],
     keeper: K,
     ringer: Ringer<B>,
+    gate: &G,
     steps: &mut Steps<L>,
 ) -> Ended<K, B>
     ensures opens { Opens tables (Runs script.now) (lent K.seen keeper result.keeper) result.board result.answer }
@@ -115,7 +117,7 @@ pub(crate) fn run_over<K: Keeper, B: Bell, L: Ledger>(
 {
     match open(alloc, tables, keeper, ringer, steps) {
         Ok(mut desk) => {
-            let answer = run(alloc, &mut desk, script, steps);
+            let answer = run(alloc, &mut desk, script, gate, steps);
             left(answer, desk)
         }
         Err(
@@ -255,26 +257,28 @@ pub(crate) fn serve_over<R: Wait, K: Keeper, B: Bell, C: Clock, D: Door, L: Ledg
 }
 
 // What the lines of an import come to on a desk.
-fn import_lines<K: Keeper, B: Bell, L: Ledger>(
+fn import_lines<K: Keeper, B: Bell, G: Gate, L: Ledger>(
     alloc: Global,
     desk: &mut Desk<K, B>,
     lines: Vec<Line>,
+    gate: &G,
     steps: &mut Steps<L>,
 ) -> Result<Text, Fault>
     requires { AllByRecursion HasForms lines.items }
     ensures imports { Imports lines.items (over (desk_at K.seen) desk.old desk.new) result }
     ensures desk { DeskGoesOn (desk_seen K.seen B.seen desk.old) (desk_seen K.seen B.seen desk.new) }
 {
-    Ok(Text::from_vec(text_of_import(alloc, desk, lines, steps)?))
+    Ok(Text::from_vec(text_of_import(alloc, desk, lines, gate, steps)?))
 }
 
 /// A desk is opened over the tables and the rows of a keeper, and the lines of an import are answered on it.
-pub(crate) fn import_over<K: Keeper, B: Bell, L: Ledger>(
+pub(crate) fn import_over<K: Keeper, B: Bell, G: Gate, L: Ledger>(
     alloc: Global,
     tables: Tables,
     lines: Vec<Line>,
     keeper: K,
     ringer: Ringer<B>,
+    gate: &G,
     steps: &mut Steps<L>,
 ) -> Ended<K, B>
     requires { AllByRecursion HasForms lines.items }
@@ -284,7 +288,7 @@ pub(crate) fn import_over<K: Keeper, B: Bell, L: Ledger>(
 {
     match open(alloc, tables, keeper, ringer, steps) {
         Ok(mut desk) => {
-            let answer = import_lines(alloc, &mut desk, lines, steps);
+            let answer = import_lines(alloc, &mut desk, lines, gate, steps);
             left(answer, desk)
         }
         Err(
@@ -298,28 +302,30 @@ pub(crate) fn import_over<K: Keeper, B: Bell, L: Ledger>(
 }
 
 // What the calls of a number come to on a desk.
-fn make<K: Keeper, B: Bell, L: Ledger>(
+fn make<K: Keeper, B: Bell, G: Gate, L: Ledger>(
     alloc: Global,
     desk: &mut Desk<K, B>,
     number: u32,
     count: u32,
+    gate: &G,
     steps: &mut Steps<L>,
 ) -> Result<Text, Fault>
     requires { count ≤ 20_000 }
     ensures makes { Makes number count (over (desk_at K.seen) desk.old desk.new) result }
     ensures desk { DeskGoesOn (desk_seen K.seen B.seen desk.old) (desk_seen K.seen B.seen desk.new) }
 {
-    Ok(Text::from_vec(make_from(alloc, desk, number, count, steps)?))
+    Ok(Text::from_vec(make_from(alloc, desk, number, count, gate, steps)?))
 }
 
 /// A desk is opened over the tables and the rows of a keeper, and the calls of a number are made on it.
-pub(crate) fn make_over<K: Keeper, B: Bell, L: Ledger>(
+pub(crate) fn make_over<K: Keeper, B: Bell, G: Gate, L: Ledger>(
     alloc: Global,
     tables: Tables,
     number: u32,
     count: u32,
     keeper: K,
     ringer: Ringer<B>,
+    gate: &G,
     steps: &mut Steps<L>,
 ) -> Ended<K, B>
     requires { count ≤ 20_000 }
@@ -329,7 +335,7 @@ pub(crate) fn make_over<K: Keeper, B: Bell, L: Ledger>(
 {
     match open(alloc, tables, keeper, ringer, steps) {
         Ok(mut desk) => {
-            let answer = make(alloc, &mut desk, number, count, steps);
+            let answer = make(alloc, &mut desk, number, count, gate, steps);
             left(answer, desk)
         }
         Err(

@@ -1,19 +1,33 @@
 -- The items that are made of a number, one after another.
-use Rattle.std.proofs.Common.{◌≡◌, ◌∙◌, ap, sym, subst, refl, ℕ, ◌≤◌, List, [], ◌∷◌, ◌++◌, append-nil, append_assoc, map, Option, None, Some}
-use Rattle.std.proofs.lemmas.List.{map-append}
+use Rattle.std.proofs.Common.{◌≡◌, ◌∙◌, ap, arith, sym, subst, refl, ℕ, zero, suc, ◌+◌, ◌*◌, ◌≤◌, List, [], ◌∷◌, ◌++◌, append-nil, append_assoc, drop, length, map, Option, None, Some}
+use Rattle.std.proofs.lemmas.List.{length-map, map-append}
 use Rattle.asks.specs.declared.call.Call.{Call}
 use Rattle.asks.specs.declared.reply.Done.{Done as DoneType}
 use Rattle.desk_state.specs.State.{State}
 use Rattle.desk_state.specs.declared.lanes.Item.{Item}
 use Rattle.desk_state.specs.declared.lanes.Outcome.{Outcome}
-use Rattle.made_items.specs.Calls.{Came, calls}
+use Rattle.made_items.specs.Calls.{Came, calls, flights}
 use Rattle.made_items.specs.Makers.{Making, GoesOn, calls_left, next_call, noted}
 use Rattle.made_items.proofs.MakerLaws.{goes_on}
+use Rattle.made_items.specs.Numbers.{next_number}
 use Rattle.desk.specs.InPart.{AreGivenInPart, MayHaveBegun}
 use Rattle.desk.specs.Keeping.{Choice, Counted, item_with, AreGiven, AreGivenSoFar}
 use Rattle.desk.specs.Made.{done_of, came_of, made_item, made_items, made_text, IsMade, IsMadeInPart}
 use Rattle.desk.proofs.Choices.{all_given, given_next}
 use Rattle.desk.proofs.InPart.{after_next, at_next, given_whole, none_so_far, stopped}
+
+-- ---- how many they are
+
+five_each : (left x earlier : ℕ) (came : Came) → length (flights left x earlier came) ≡ 5 * left
+five_each zero x earlier came = refl
+five_each (suc left) x earlier came = let later = five_each left (next_number x) (earlier + 1) (drop 5 came) in omega (arith, later)
+
+pub many_made : (count number : ℕ) (came : Came) → length (made_items number count came) ≡ 3 + 5 * count
+unfolding calls
+many_made count number came =
+    let later = five_each count number 0 (drop 3 came) in
+    let all : length (calls number count came) ≡ 3 + 5 * count = omega (arith, later) in
+    length-map (calls number count came) made_item ∙ all
 
 -- the items that were answered so far, and those that are left
 pub record MadeSoFar (before after : ℕ) (s : State) (number count : ℕ) (t : State) (left : Making) (made : List Outcome) : Type 0 where

@@ -1,4 +1,4 @@
-ghost use Rattle.std.specs.Prelude.{◌≡◌, List, IfOk, IfSome};
+ghost use Rattle.std.specs.Prelude.{◌≡◌, List, IfOk, IfSome, length};
 ghost use Rattle.desk.specs.Items.{Comes};
 ghost use Rattle.desk.specs.Run.{items_of};
 ghost use Rattle.desk_state.specs.Repeats.{IsAskable};
@@ -13,6 +13,10 @@ use std::alloc::Global;
 pub(crate) trait Items {
     /// Those that are still to come.
     ghost left: { Self → List AnItem };
+
+    /// How many these are.
+    fn how_many(&self) -> usize
+        ensures { result ≡ length (left self.now) };
 
     /// The next one, and none after the last.
     fn next(&mut self, alloc: Global) -> Result<Option<Item>, OutOfMemory>
@@ -37,6 +41,10 @@ impl<'a> Lines<'a> {
 
 impl<'a> Items for Lines<'a> {
     ghost left = { λ lines. items_of lines.left.now };
+
+    fn how_many(&self) -> usize {
+        self.left.len()
+    }
 
     fn next(&mut self, alloc: Global) -> Result<Option<Item>, OutOfMemory> {
         let left = self.left;

@@ -9,6 +9,7 @@ ghost use Rattle.desk_state.specs.Repeats.{IsAskable};
 ghost use Rattle.imports.specs.Records.{HasForms};
 
 use crate::coming::Items;
+use crate::gates::Gate;
 use crate::run::text_of_items;
 use crate::settling::Desk;
 use bells::Bell;
@@ -67,6 +68,10 @@ impl Records {
 impl Items for Records {
     ghost left = { items_of_lines };
 
+    fn how_many(&self) -> usize {
+        self.left.len()
+    }
+
     fn next(&mut self, _alloc: Global) -> Result<Option<Item>, OutOfMemory> {
         match self.left.next() {
             Some(line) => Ok(Some(item_of(line))),
@@ -76,10 +81,11 @@ impl Items for Records {
 }
 
 /// The text of a run of the lines of an import: a reply for each record, and the closing text.
-pub fn text_of_import<K: Keeper, B: Bell, L: Ledger>(
+pub fn text_of_import<K: Keeper, B: Bell, G: Gate, L: Ledger>(
     alloc: Global,
     desk: &mut Desk<K, B>,
     lines: Vec<Line>,
+    gate: &G,
     steps: &mut Steps<L>,
 ) -> Result<Vec<u8>, OutOfMemory>
     requires { AllByRecursion HasForms lines.items }
@@ -93,5 +99,5 @@ pub fn text_of_import<K: Keeper, B: Bell, L: Ledger>(
     ensures on { DeskGoesOn (desk_seen K.seen B.seen desk.old) (desk_seen K.seen B.seen desk.new) }
 {
     let mut records = Records::of(lines);
-    text_of_items(alloc, desk, &mut records, steps)
+    text_of_items(alloc, desk, &mut records, gate, steps)
 }

@@ -1,19 +1,20 @@
-ghost use Rattle.std.specs.Prelude.{◌≡◌, ◌≤◌, ◌++◌, IfOk, OnOk, OnErr};
+ghost use Rattle.std.specs.Prelude.{◌≡◌, ◌≤◌, ◌++◌, length, ℕ, IfOk, OnOk, OnErr};
 ghost use Rattle.call_json.specs.Forms.{CallHasForms};
 ghost use Rattle.desk.specs.InPart.{MayHaveBegun};
 ghost use Rattle.desk.specs.Keeping.{AreGiven};
 ghost use Rattle.desk.specs.Made as spec;
 ghost use Rattle.desk.specs.Made.{came_of, made_item, made_items, IsMade, IsMadeInPart, IsMadeOf};
 ghost use Rattle.desk.specs.Seen.{desk_seen, DeskGoesOn};
+ghost use Rattle.made_items.specs.Calls.{Came};
 
-use crate::answering::answer;
-use crate::run::{LANE, outcome_of};
+use crate::gates::Gate;
+use crate::run::{answer_passed, outcome_of};
 use crate::settling::Desk;
 use asks::{Call, Done, Reply};
 use bells::Bell;
 use board::Board;
 use desk_io::{OutOfMemory, push_all};
-use desk_state::{Outcome, Said};
+use desk_state::{Item, Outcome, Said};
 use keeper::Keeper;
 use made_items::{MADE_AT, Maker};
 use rules::Steps;
@@ -53,11 +54,21 @@ fn refused_in(outcomes: &[Outcome]) -> usize
     outcomes.iter().filter(|o| is_refused(&o.said)).count()
 }
 
-// What comes of a call that is made.
-fn answer_made<K: Keeper, B: Bell, L: Ledger>(
+// How many items are made with so many flights.
+#[tactic(auto, using(crate::proofs::MadeLaws::many_made))]
+fn how_many(count: u32) -> u64
+    ensures { (number : ℕ) (came : Came) → result ≡ length (made_items number count came) }
+{
+    3 + 5 * u64::from(count)
+}
+
+// What comes of a call that is made, the item of that number.
+fn answer_made<K: Keeper, B: Bell, G: Gate, L: Ledger>(
     alloc: Global,
     desk: &mut Desk<K, B>,
     call: Call,
+    number: u32,
+    gate: &G,
     steps: &mut Steps<L>,
 ) -> Result<Outcome, OutOfMemory>
     requires { CallHasForms call }
@@ -66,16 +77,18 @@ fn answer_made<K: Keeper, B: Bell, L: Ledger>(
     ensures err { OnErr result (MayHaveBegun 1 (made_item call) desk.old.board.state desk.new.board.state) }
     ensures on { DeskGoesOn (desk_seen K.seen B.seen desk.old) (desk_seen K.seen B.seen desk.new) }
 {
-    let answered = answer(alloc, desk, LANE, MADE_AT, &call, steps)?;
+    let item = Item::Call { at: MADE_AT, call };
+    let answered = answer_passed(alloc, desk, &item, number, gate, steps)?;
     Ok(outcome_of(answered))
 }
 
 // What comes of the calls that are made of a number.
-fn outcomes_made<K: Keeper, B: Bell, L: Ledger>(
+fn outcomes_made<K: Keeper, B: Bell, G: Gate, L: Ledger>(
     alloc: Global,
     desk: &mut Desk<K, B>,
     number: u32,
     count: u32,
+    gate: &G,
     steps: &mut Steps<L>,
 ) -> Result<Vec<Outcome>, OutOfMemory>
     requires { count ≤ 20_000 }
@@ -86,12 +99,15 @@ fn outcomes_made<K: Keeper, B: Bell, L: Ledger>(
         (K.seen desk.new.keeper).health.faults desk.old.board.state number count desk.new.board.state) }
     ensures on { DeskGoesOn (desk_seen K.seen B.seen desk.old) (desk_seen K.seen B.seen desk.new) }
 {
+    gate.expects(how_many(count));
     let mut maker = Maker::of(number, count);
+    let mut next = 1u32;
     let mut outcomes = Vec::new(alloc);
     while let Some(call) = maker.next(alloc)? {
-        let outcome = answer_made(alloc, desk, call, steps)?;
+        let outcome = answer_made(alloc, desk, call, next, gate, steps)?;
         maker.note(done_of(&outcome.said));
         outcomes.push(outcome)?;
+        next = next.saturating_add(1);
     }
     Ok(outcomes)
 }
@@ -163,11 +179,12 @@ fn text_of_made(
 
 /// Makes the calls of a number, with so many flights, one by one, each once it is known what came of those before it,
 /// and tells how many were made, done and refused, and what is held at the end.
-pub fn make_from<K: Keeper, B: Bell, L: Ledger>(
+pub fn make_from<K: Keeper, B: Bell, G: Gate, L: Ledger>(
     alloc: Global,
     desk: &mut Desk<K, B>,
     number: u32,
     count: u32,
+    gate: &G,
     steps: &mut Steps<L>,
 ) -> Result<Vec<u8>, OutOfMemory>
     requires { count ≤ 20_000 }
@@ -178,6 +195,6 @@ pub fn make_from<K: Keeper, B: Bell, L: Ledger>(
         (K.seen desk.new.keeper).health.faults desk.old.board.state number count desk.new.board.state) }
     ensures on { DeskGoesOn (desk_seen K.seen B.seen desk.old) (desk_seen K.seen B.seen desk.new) }
 {
-    let outcomes = outcomes_made(alloc, desk, number, count, steps)?;
+    let outcomes = outcomes_made(alloc, desk, number, count, gate, steps)?;
     text_of_made(alloc, &desk.board, number, count, &outcomes)
 }

@@ -11,6 +11,7 @@ ghost use Rattle.desk.specs.Shown.{IsShown, CanBeSaid};
 
 use crate::answering::{Answered, answer};
 use crate::coming::{Items, Lines};
+use crate::gates::Gate;
 use crate::settling::Desk;
 use alerts::Notices;
 use asks::BadCall;
@@ -64,6 +65,28 @@ pub(crate) fn answer_item<K: Keeper, B: Bell, L: Ledger>(
     }
 }
 
+/// The item of that number is answered in lane 1, between the calls of the gate.
+pub(crate) fn answer_passed<K: Keeper, B: Bell, G: Gate, L: Ledger>(
+    alloc: Global,
+    desk: &mut Desk<K, B>,
+    item: &Item,
+    number: u32,
+    gate: &G,
+    steps: &mut Steps<L>,
+) -> Result<Answered, OutOfMemory>
+    requires { IsAskable item.now }
+    ensures given { IfOk result
+        (λ a. AnswersItem 1 item.now (desk_seen K.seen B.seen desk.old) (desk_seen K.seen B.seen desk.new) a) }
+    ensures shown { IfOk result (λ a. IsShown a.outcome) }
+    ensures err { OnErr result (MayHaveBegun 1 item.now desk.old.board.state desk.new.board.state) }
+    ensures on { DeskGoesOn (desk_seen K.seen B.seen desk.old) (desk_seen K.seen B.seen desk.new) }
+{
+    gate.before(LANE, number);
+    let answered = answer_item(alloc, desk, LANE, item, steps);
+    gate.after(LANE, number);
+    answered
+}
+
 pub(crate) fn outcome_of(answered: Answered) -> Outcome
     ensures { result ≡ answered.outcome }
 {
@@ -104,10 +127,11 @@ pub(crate) fn push_closing(
 }
 
 /// The text of a run of items: each is answered when its turn comes, and of what it came to its line is kept alone.
-pub(crate) fn text_of_items<K: Keeper, B: Bell, L: Ledger, I: Items>(
+pub(crate) fn text_of_items<K: Keeper, B: Bell, G: Gate, L: Ledger, I: Items>(
     alloc: Global,
     desk: &mut Desk<K, B>,
     items: &mut I,
+    gate: &G,
     steps: &mut Steps<L>,
 ) -> Result<Vec<u8>, OutOfMemory>
     ensures run { IfOk result (λ v. IsRunOf (K.seen desk.old.keeper).health.faults
@@ -116,20 +140,24 @@ pub(crate) fn text_of_items<K: Keeper, B: Bell, L: Ledger, I: Items>(
         (K.seen desk.new.keeper).health.faults desk.old.board.state (I.left items.old) desk.new.board.state) }
     ensures on { DeskGoesOn (desk_seen K.seen B.seen desk.old) (desk_seen K.seen B.seen desk.new) }
 {
+    gate.expects(items.how_many() as u64);
+    let mut number = 1u32;
     let mut out = Vec::new(alloc);
     while let Some(item) = items.next(alloc)? {
-        let answered = answer_item(alloc, desk, LANE, &item, steps)?;
+        let answered = answer_passed(alloc, desk, &item, number, gate, steps)?;
         push_outcome(alloc, &mut out, &answered.outcome)?;
+        number = number.saturating_add(1);
     }
     push_closing(alloc, &desk.board, &mut out)?;
     Ok(out)
 }
 
 /// The text of a run that goes on from what a desk holds: a reply for each line that has a byte, and the closing text.
-pub fn text_from<K: Keeper, B: Bell, L: Ledger>(
+pub fn text_from<K: Keeper, B: Bell, G: Gate, L: Ledger>(
     alloc: Global,
     desk: &mut Desk<K, B>,
     script: &[u8],
+    gate: &G,
     steps: &mut Steps<L>,
 ) -> Result<Vec<u8>, OutOfMemory>
     ensures run { IfOk result (λ v. IsRun (K.seen desk.old.keeper).health.faults
@@ -141,5 +169,5 @@ pub fn text_from<K: Keeper, B: Bell, L: Ledger>(
 {
     let lines = runs_between::<LineFeeds>(alloc, script)?;
     let mut items = Lines::of(&lines);
-    text_of_items(alloc, desk, &mut items, steps)
+    text_of_items(alloc, desk, &mut items, gate, steps)
 }

@@ -1,4 +1,4 @@
-ghost use Rattle.std.specs.Prelude.{◌≡◌, false, true, map, IsTrue, IfOk};
+ghost use Rattle.std.specs.Prelude.{◌≡◌, ◌-◌, ◌^◌, false, true, length, map, min, sum_by, IsTrue, IfOk};
 ghost use Rattle.std.specs.Bool.{OnTrue};
 ghost use Rattle.std.specs.List.{AllByRecursion, list_all};
 ghost use Rattle.desk.specs.Merge.{AreMerged, AreMergedInPart, IsFresh, is_done};
@@ -96,6 +96,17 @@ pub struct Finished<K, B> {
     pub whole: bool,
 }
 
+// How many items lanes have, as far as 64 bits count.
+fn items_of_all(lanes: &[Lane]) -> u64
+    ensures { result ≡ min (sum_by (λ l. length (items_in l)) lanes.now) (2 ^ 64 - 1) }
+{
+    let mut all = 0u64;
+    for lane in lanes {
+        all = all.saturating_add(lane.items().len() as u64);
+    }
+    all
+}
+
 // Whether each lane has an outcome for each item.
 fn are_done(lanes: &[Lane]) -> bool
     ensures { result ≡ list_all is_done lanes.now }
@@ -166,6 +177,7 @@ pub fn run_lanes<K: Keeper + Send, B: Bell + Send, G: Gate + Sync, R: Threads + 
     ensures on { DeskGoesOn (desk_seen K.seen B.seen desk) (desk_seen K.seen B.seen result.desk) }
 {
     let _ = desk.board.now();
+    gate.expects(items_of_all(&lanes));
     run_from::<Brand, K, B, G, R>(rt, alloc, desk, lanes, gate)
 }
 

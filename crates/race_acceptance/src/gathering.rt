@@ -26,6 +26,8 @@ impl Gathering {
 }
 
 impl Gate for Gathering {
+    fn expects(&self, _items: u64) {}
+
     fn before(&self, _lane: u32, line: u32) {
         if line == 1 {
             self.came.fetch_add(1, Ordering::SeqCst);

@@ -44,6 +44,8 @@ impl Meeting {
 }
 
 impl Gate for Meeting {
+    fn expects(&self, _items: u64) {}
+
     fn before(&self, lane: u32, line: u32) {
         let (own, other, other_is_done) = if lane == 1 {
             (&self.one_came, &self.two_came, &self.two_is_done)

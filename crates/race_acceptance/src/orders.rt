@@ -144,7 +144,8 @@ fn a_held_line_is_answered_late(rt: HostRuntime) -> Result<(), Fail> {
     Ok(())
 }
 
-// The gate is called before and after each of three lines of a lane, and after it without the lock.
+// The gate is told of six lines, and called before and after each of the three of a lane, and after it without the
+// lock.
 #[test]
 fn each_line_passes_the_gate(rt: HostRuntime) -> Result<(), Fail> {
     let counting = Counting::new();
@@ -153,6 +154,7 @@ fn each_line_passes_the_gate(rt: HostRuntime) -> Result<(), Fail> {
         !counting.gave_up(),
         "the lanes met after their first lines"
     );
+    assert!(rt; counting.was_told(6), "six lines are to come");
     assert!(rt; counting.has_counted(6), "six calls a lane, in order");
     assert!(rt; came.numbers.len() == 7, "a tick and six calls");
     Ok(())

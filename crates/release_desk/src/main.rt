@@ -2,26 +2,32 @@
 #![tactic(auto)]
 
 mod stderr_bell;
+mod stderr_progress;
 
 use crate::stderr_bell::StderrBell;
-use commands::{Ending, OpenGate, desk_main};
+use crate::stderr_progress::StderrProgress;
+use commands::{Ending, desk_main};
 use desk_io::{FileShelf, OutOfMemory, StdoutSink, Text};
 use desk_net::{SystemClock, TcpDoor};
 use sqlite_keeper::SqliteKeeper;
 use std::alloc::AllocError;
 use std::env;
+use std::io::{ErrorKind, IsTerminal};
 use std::process::ExitCode;
 
 // The words after the program's name. Words that aren't text form no command, as no words do.
 fn words_of(rt: &HostRuntime) -> Result<Vec<String>, AllocError> {
     let mut words = Vec::new(rt.alloc());
-    let Ok(arguments) = env::args(rt) else {
-        return Ok(words);
-    };
-    for word in arguments.skip(1) {
-        words.push(word)?;
+    match env::args(rt) {
+        Ok(arguments) => {
+            for word in arguments.skip(1) {
+                words.push(word)?;
+            }
+            Ok(words)
+        }
+        Err(error) if error.kind() == ErrorKind::OutOfMemory => Err(AllocError),
+        Err(_) => Ok(words),
     }
-    Ok(words)
 }
 
 // The desk's rows are kept in this file of the working folder.
@@ -47,6 +53,7 @@ fn main(rt: HostRuntime) -> ExitCode {
     let mut out = StdoutSink::new(rt);
     let clock = SystemClock::new(rt);
     let mut door = TcpDoor::new(rt);
+    let gate = StderrProgress::new(rt.stderr().is_terminal(), rt);
     let Ending { status, keeper, .. } = desk_main(
         &rt,
         rt.alloc(),
@@ -56,7 +63,7 @@ fn main(rt: HostRuntime) -> ExitCode {
         clock,
         keeper,
         &mut door,
-        &OpenGate,
+        &gate,
         bells,
     );
     // Where it fails, the log beside the file has what the file lacks.

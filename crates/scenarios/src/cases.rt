@@ -15,7 +15,7 @@ use std::sync::Wait;
 use std::thread::Threads;
 
 // What may stand in a case, in each of its steps, and in what the cases of a file have in common.
-const PARTS: [&str; 17] = [
+const PARTS: [&str; 18] = [
     "tables",
     "sources",
     "words",
@@ -33,6 +33,7 @@ const PARTS: [&str; 17] = [
     "asked",
     "heard",
     "dropped",
+    "gate",
 ];
 
 fn outside_of<'a, F: Shelf>(

@@ -388,6 +388,16 @@ fn compare_dropped(
     compare_value(play, "dropped", text.as_str(), report)
 }
 
+// Compares what the gate heard.
+fn compare_gate(
+    play: &Play<'_>,
+    played: &Played,
+    report: &mut Report<'_>,
+) -> Result<(), OutOfMemory> {
+    let text = played.gate.text(play.alloc)?;
+    compare_value(play, "gate", text.as_str(), report)
+}
+
 fn are_same(wanted: &Value) -> bool {
     wanted.get("same").and_then(Value::as_bool) == Some(true)
 }
@@ -409,7 +419,7 @@ fn compare_left<'a, F: Shelf>(
 }
 
 // What a play may say must come.
-const WANTED: [&str; 9] = [
+const WANTED: [&str; 10] = [
     "status",
     "written",
     "left",
@@ -419,6 +429,7 @@ const WANTED: [&str; 9] = [
     "asked",
     "heard",
     "dropped",
+    "gate",
 ];
 
 fn compares(play: &Play<'_>) -> bool {
@@ -443,5 +454,6 @@ pub fn compare<'a, F: Shelf>(
     compare_left(play, files, before, &left, report)?;
     compare_links(play, files, played.door.ended(), report)?;
     compare_dropped(play, played, report)?;
+    compare_gate(play, played, report)?;
     compare_heard(play, files, played, report)
 }

@@ -25,8 +25,10 @@
 //! - what must come; what is missing isn't compared: `status`; `board`, whether one is left; `port`, where the door was
 //!   opened, or null; `asked`, how many moments the clock gave; `written`, a text; `left`, the rows that the
 //!   keeper holds at last; `links_written`, a list of texts, of the links that were given back; `heard`, a list of texts,
-//!   of the bells, with a line `DESK RELEASE vVERSION WORD` for each notice, where WORD is opened, changed or closed; and
-//!   `dropped`, a list of `[PLACE, COUNT]` of the bells that failed, their places from 0 and how many notices they heard.
+//!   of the bells, with a line `DESK RELEASE vVERSION WORD` for each notice, where WORD is opened, changed or closed;
+//!   `dropped`, a list of `[PLACE, COUNT]` of the bells that failed, their places from 0 and how many notices they heard;
+//!   and `gate`, `[ITEMS, PASSED, ORDER]`: how many items the gate was told of before the first, around how many it was
+//!   called, and whether it was called for those of lane 1 in order; or null, where it was told of none.
 //! - `steps`: a list of objects of these keys but `rows`, played one after another over the rows that the one before left.
 //!   What a step lacks it takes from its case.
 //! - `each`: `{"from": A, "to": B}`: the case is played for each number from A to B, and `"each"` stands for the number
@@ -42,6 +44,7 @@
 mod cases;
 mod command;
 mod comparing;
+mod counting;
 mod fails;
 mod fault;
 mod heard;

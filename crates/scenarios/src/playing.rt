@@ -1,6 +1,7 @@
+use crate::counting::GateThatCounts;
 use crate::outside::{CaseClock, CaseDoor, CaseKeeper, CaseShelf};
 use bells::{Bell, Dropped, MemoryBell};
-use commands::{Ending, OpenGate, desk_main};
+use commands::{Ending, Gate, desk_main};
 use desk_io::{MemorySink, Shelf, Sink};
 use desk_net::{Clock, Door};
 use keeper::Keeper;
@@ -32,6 +33,7 @@ pub struct Played {
     pub door: CaseDoor,
     pub bells: Vec<MemoryBell>,
     pub dropped: Vec<Dropped<MemoryBell>>,
+    pub gate: GateThatCounts,
 }
 
 // What a command came to: its status, whether a board is left, and the keeper, the clock and the bells that were given
@@ -55,6 +57,7 @@ fn came_of<
     K: Keeper + Send,
     B: Bell + Send + Drop,
     D: Door,
+    G: Gate + Sync,
 >(
     rt: &R,
     alloc: Global,
@@ -64,6 +67,7 @@ fn came_of<
     clock: C,
     keeper: K,
     door: &mut D,
+    gate: &G,
     bells: Vec<B>,
 ) -> Came<K, C, B> {
     let Ending {
@@ -74,7 +78,7 @@ fn came_of<
         bells,
         dropped,
     } = desk_main(
-        rt, alloc, words, shelf, out, clock, keeper, door, &OpenGate, bells,
+        rt, alloc, words, shelf, out, clock, keeper, door, gate, bells,
     );
     Came {
         status,
@@ -98,6 +102,7 @@ pub fn play<R: Threads + Wait + Sync>(rt: &R, alloc: Global, outside: Outside) -
         mut door,
         bells,
     } = outside;
+    let gate = GateThatCounts::new();
     let Came {
         status,
         board,
@@ -106,7 +111,7 @@ pub fn play<R: Threads + Wait + Sync>(rt: &R, alloc: Global, outside: Outside) -
         bells,
         dropped,
     } = came_of(
-        rt, alloc, &words, &mut shelf, &mut sink, clock, keeper, &mut door, bells,
+        rt, alloc, &words, &mut shelf, &mut sink, clock, keeper, &mut door, &gate, bells,
     );
     Played {
         status,
@@ -118,5 +123,6 @@ pub fn play<R: Threads + Wait + Sync>(rt: &R, alloc: Global, outside: Outside) -
         door,
         bells,
         dropped,
+        gate,
     }
 }

@@ -1,0 +1,72 @@
+use commands::Gate;
+use desk_io::OutOfMemory;
+use std::alloc::Global;
+use std::sync::atomic::{AtomicBool, AtomicU64, Ordering};
+
+/// A gate that counts what it hears: how many items are to come, how many have passed, and whether each item of lane 1
+/// came once and in order, and all of them once it was said how many are to come.
+#[derive(Drop)]
+pub struct GateThatCounts {
+    is_told: AtomicBool,
+    all: AtomicU64,
+    passed: AtomicU64,
+    // The calls for items of lane 1, two for each.
+    calls: AtomicU64,
+    strayed: AtomicBool,
+}
+
+impl GateThatCounts {
+    /// It has heard nothing.
+    pub fn new() -> Self {
+        GateThatCounts {
+            is_told: AtomicBool::new(false),
+            all: AtomicU64::new(0),
+            passed: AtomicU64::new(0),
+            calls: AtomicU64::new(0),
+            strayed: AtomicBool::new(false),
+        }
+    }
+
+    fn stray(&self) {
+        self.strayed.store(true, Ordering::SeqCst);
+    }
+
+    // The call of that number comes for lane 1, from 1.
+    fn comes(&self, lane: u32, number: u64) {
+        if !self.is_told.load(Ordering::SeqCst) {
+            self.stray();
+        }
+        if lane == 1 && self.calls.swap(number, Ordering::SeqCst).saturating_add(1) != number {
+            self.stray();
+        }
+    }
+
+    /// What it heard, as JSON: `[ITEMS, PASSED, ORDER]`, or null where it heard of no items.
+    pub fn text(&self, alloc: Global) -> Result<String, OutOfMemory> {
+        if !self.is_told.load(Ordering::SeqCst) {
+            return Ok(String::from_str(alloc, "null")?);
+        }
+        let all = self.all.load(Ordering::SeqCst);
+        let passed = self.passed.load(Ordering::SeqCst);
+        let order = !self.strayed.load(Ordering::SeqCst);
+        Ok(format!(in alloc; "[{all},{passed},{order}]")?)
+    }
+}
+
+impl Gate for GateThatCounts {
+    fn expects(&self, items: u64) {
+        if self.is_told.swap(true, Ordering::SeqCst) {
+            self.stray();
+        }
+        self.all.store(items, Ordering::SeqCst);
+    }
+
+    fn before(&self, lane: u32, line: u32) {
+        self.comes(lane, u64::from(line).saturating_mul(2).saturating_sub(1));
+    }
+
+    fn after(&self, lane: u32, line: u32) {
+        self.comes(lane, u64::from(line).saturating_mul(2));
+        self.passed.fetch_add(1, Ordering::SeqCst);
+    }
+}
