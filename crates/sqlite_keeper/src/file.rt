@@ -3,7 +3,7 @@ ghost use Rattle.desk_io.specs.Health.{GoesOn, HasCause, RoseOrFull, unsound};
 ghost use Rattle.desk_io.specs.Planned.{after};
 ghost use Rattle.keeper.specs.Order.{rising};
 ghost use Rattle.keeper.specs.declared.keeping.KeepFault.TheVariants.{Failed as KeepFailed};
-ghost use Rattle.sqlite.specs.Files.{over_files};
+ghost use Rattle.sqlite.specs.Files.{over_files, IsOpened};
 ghost use Rattle.sqlite_keeper.specs.Transactions.{IsClean};
 ghost use Rattle.sqlite_keeper.specs.Keeping.{CommitsOver, IsReady, LoadsOver};
 ghost use Rattle.sqlite_keeper.specs.Leaving.{LeavesAll};
@@ -14,7 +14,14 @@ use crate::trouble::Trouble;
 use desk_io::{Change, Row};
 use keeper::{KeepFault, Keeper};
 use sqlite::{Connection, File, FileStore, Files};
+use sqlite_disk::Unknown;
+use sqlite_pager::Options;
 use std::alloc::Global;
+use std::hash::{BuildHasher, RandomState};
+
+// The log is brought into the file once it has this many pages, four or five for a commit. Only when the file is let
+// go it is cut to nothing, so that this, a megabyte with what is written ahead, is what it takes of a small disk.
+const PAGES_OF_LOG: usize = 200;
 
 /// Keeps rows in the table `kept` of a file of SQLite. It tells no rows, and each failure but want of
 /// memory is a counted fault. The first load opens the file, and from then on it holds the file's lock,
@@ -39,10 +46,32 @@ pub struct KeeperOver<C: Drop> {
 /// A keeper over a file.
 pub type SqliteKeeper = KeeperOver<Connection<FileStore<File>>>;
 
+// The seed makes the salts of the log.
+fn options(rt: &HostRuntime) -> Result<Options, Trouble> {
+    let Ok(state) = RandomState::new(rt) else {
+        return Err(Trouble::Lost);
+    };
+    Ok(Options {
+        checkpoint_frames: PAGES_OF_LOG,
+        ..Options::new(state.hash_one(&0u8))
+    })
+}
+
+fn connected(rt: &HostRuntime, path: &str) -> Result<Connection<FileStore<File>>, Trouble>
+    ensures { IfOk result (λ conn. IsClean over_files conn → IsOpened conn) }
+{
+    let options = options(rt)?;
+    let files = sqlite_std_file::open(rt, path, Unknown)?;
+    match Connection::open_files_with(rt.alloc(), files, options, false) {
+        Ok(conn) => Ok(conn),
+        Err((error, _)) => Err(Trouble::from(error)),
+    }
+}
+
 fn opened(rt: &HostRuntime, path: &str) -> Result<Connection<FileStore<File>>, Trouble>
     ensures { IfOk result (λ conn. IsClean over_files conn → IsReady over_files conn) }
 {
-    let mut conn = Connection::open(rt, path)?;
+    let mut conn = connected(rt, path)?;
     make_table(&mut conn)?;
     Ok(conn)
 }

@@ -5,8 +5,10 @@ ghost use Rattle.sqlite_keeper.specs.declared.trouble.Trouble.TheVariants.{OutOf
 use desk_io::OutOfMemory;
 use sqlite::{Error, ErrorCode};
 use sqlite_resolve::CompileError;
+use sqlite_std_file::OpenError;
 use sqlite_syntax::error::ParseError;
 use std::alloc::AllocFailed;
+use std::io::ErrorKind;
 
 /// Why the table wasn't read or written.
 #[derive(Clone, Copy, Debug, PartialEq, Eq)]
@@ -39,6 +41,16 @@ impl From<Error> for Trouble {
             Trouble::OutOfMemory
         } else {
             Trouble::Lost
+        }
+    }
+}
+
+impl From<OpenError> for Trouble {
+    fn from(error: OpenError) -> Self {
+        match error {
+            OpenError::OutOfMemory => Trouble::OutOfMemory,
+            OpenError::Io(error) if error.kind() == ErrorKind::OutOfMemory => Trouble::OutOfMemory,
+            _ => Trouble::Lost,
         }
     }
 }
