@@ -40,7 +40,7 @@ async function sign(page, name, revision) {
   const question = `${name === 'sign' ? 'Sign' : 'Concur with'} revision ${revision.number}`;
   if (revision.check === 'other') return notice(CHECKS.other, 'bad');
   const done = await act(page, { digest: revision.digest, do: name, release: page.id, revision: revision.number }, question, `${question.split(' ')[0]}`,
-    h('p', {}, `Revision ${revision.number} of ${revision.plan.flight}, release ${page.id}. What is signed is this text:`), digestLine(revision),
+    h('p', {}, `Revision ${revision.number} of ${revision.plan.flight}, release ${page.id}. What ${session.get().name} signs is this text:`), digestLine(revision),
     h('pre', { class: 'text', tabindex: '0' }, revision.text));
   if (done && name === 'sign') {
     keep('signed', page.id, { digest: revision.digest, at: minute() });
@@ -103,6 +103,6 @@ export function actions(page, row, release, isStale) {
 // What was refused last, in words, until something else is done.
 export function refused(page, plan) {
   const last = kept('refused', page.id);
-  return last && h('section', { class: 'refusal', role: 'alert' }, h('p', {}, h('strong', {}, `${last.name} was refused at ${last.at}. `), refusal(last.reply)),
+  return last && h('section', { class: 'refusal', role: 'alert' }, h('p', {}, h('strong', {}, `“${last.name}” was refused at ${last.at}. `), refusal(last.reply)),
     last.reply.findings && findingsList(last.reply.findings, last.plan ?? plan, true));
 }

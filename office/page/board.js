@@ -61,7 +61,9 @@ function rowOf(row) {
       findingsList(row.alert.findings, planOf(row)))));
 }
 
-function isShown(row, me) {
+// The wall shows all that hasn't ended, whatever is sought on the board.
+function isShown(row, me, isWall) {
+  if (isWall) return !row.phase.ended;
   if (row.phase.ended && !filter.ended) return false;
   const plan = planOf(row);
   if (filter.mine && row.holder !== me.name && plan?.captain !== me.name) return false;
@@ -83,7 +85,7 @@ export function boardPage(place, isWall) {
   const body = h('tbody');
   const numbers = h('div');
   const fill = () => {
-    const rows = picture.releases.filter((row) => isShown(row, me)).sort((one, other) => rank(one) - rank(other) || one.id - other.id);
+    const rows = picture.releases.filter((row) => isShown(row, me, isWall)).sort((one, other) => rank(one) - rank(other) || one.id - other.id);
     const empty = picture.at ? 'No release to show.' : 'Looking at the desk …';
     show(numbers, summary());
     show(body, rows.length ? rows.map(rowOf) : h('tr', { class: 'empty' }, h('td', { colspan: HEADS.length }, empty)));

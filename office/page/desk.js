@@ -39,7 +39,8 @@ const post = ({ name, key }, number, ask) => answer('/call',
 
 // The text of a view.
 export async function view(path) {
-  const { name, key } = session.get();
+  const { name, key } = session.get() ?? {};
+  if (!name) throw new Unreached('signed out');
   const reply = await answer(path, { headers: { 'Desk-Actor': name, 'Desk-Key': key } });
   if (reply.seen === undefined) throw new Refused(reply);
   return reply.seen;
@@ -54,10 +55,10 @@ function nextNumber(name, above = 0) {
 }
 
 // Asks under one number until an answer comes, so that nothing is done twice. A number that was another command's, or that
-// was swept away, has done nothing: then the next one is taken.
+// was swept away, has done nothing: then the next one is taken. It ends where the person signs out.
 async function settled(person, first, ask, onWait) {
   let number = first;
-  for (let tries = 0; ; tries += 1) {
+  for (let tries = 0; session.get()?.key === person.key; tries += 1) {
     sessionStorage.setItem('open', JSON.stringify({ number, ask }));
     try {
       const reply = await post(person, number, ask);
@@ -72,6 +73,7 @@ async function settled(person, first, ask, onWait) {
       await new Promise((done) => { setTimeout(done, WAITS[Math.min(tries, WAITS.length - 1)]); });
     }
   }
+  throw new Unreached('signed out');
 }
 
 let last = Promise.resolve();
@@ -87,7 +89,10 @@ export function call(ask, onWait) {
 // An ask of this tab that had no answer when the page was left is asked again under its number.
 export async function resumed(onWait) {
   const open = JSON.parse(sessionStorage.getItem('open') ?? 'null');
-  return open && { ask: open.ask, reply: await settled(session.get(), open.number, open.ask, onWait) };
+  if (!open) return null;
+  const mine = settled(session.get(), open.number, open.ask, onWait);
+  last = mine.catch(() => {});
+  return { ask: open.ask, reply: await mine };
 }
 
 // Asks that the desk refuses in any case, each of one role: no release, deferral or report is like these.

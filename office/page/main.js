@@ -56,7 +56,7 @@ async function rounds(mine) {
   while (mine === round) {
     try {
       const isNew = await look();
-      const isCloser = await lookCloser();
+      const isCloser = mine === round && await lookCloser();
       if (mine !== round) return null;
       watch();
       fill(isNew || isCloser);

@@ -22,13 +22,14 @@ const light = (colour) => {
 };
 for (const it of all('body *')) {
   const isText = [...it.childNodes].some((node) => node.nodeType === 3 && node.textContent.trim());
-  if (!isText || it.matches(':disabled, :disabled *, noscript')) continue;
-  const style = getComputedStyle(it);
+  const isEmpty = it.placeholder && !it.value;
+  if (!(isText || isEmpty) || it.matches(':disabled, :disabled *, noscript')) continue;
+  const style = getComputedStyle(it, isEmpty ? '::placeholder' : null);
   const below = behind(it);
   const lights = [light(over(rgba(style.color), below)), light(below)].sort((one, other) => other - one);
   const ratio = (lights[0] + 0.05) / (lights[1] + 0.05);
   const size = parseFloat(style.fontSize);
   const isLarge = size >= 24 || (size >= 18.6 && Number(style.fontWeight) >= 700);
-  if (ratio < (isLarge ? 3 : 4.5)) lacks.push(`contrast ${ratio.toFixed(1)}: ${it.textContent.trim().slice(0, 40)}`);
+  if (ratio < (isLarge ? 3 : 4.5)) lacks.push(`contrast ${ratio.toFixed(1)}: ${(it.textContent.trim() || it.placeholder).slice(0, 40)}`);
 }
 return lacks;
