@@ -16,7 +16,7 @@ mod settling;
 mod turns;
 
 pub use answering::{Answered, answer};
-pub use gates::{Gate, OpenGate};
+pub use gates::Gate;
 pub use imported::text_of_import;
 pub use lanes::Lane;
 pub use made::make_from;

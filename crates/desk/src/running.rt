@@ -164,7 +164,8 @@ pub fn run_lanes<K: Keeper + Send, B: Bell + Send, G: Gate + Sync, R: Threads + 
     requires fresh { AllByRecursion IsFresh lanes.items }
     // Each lane has its items.
     ensures items { map items_in result.lanes.items ≡ map items_in lanes.items }
-    // Each item has its outcome, in the one history that leads from the state of the desk to the one that it is left in.
+    // Each item has its outcome, in the one history that leads from the state of the desk to the one that it is left
+    // in.
     ensures merged { OnTrue result.whole (AreMerged (K.seen desk.keeper).health.faults
         (K.seen result.desk.keeper).health.faults desk.board.state result.lanes.items result.desk.board.state) }
     ensures done { OnTrue result.whole (list_all is_done result.lanes.items ≡ true) }

@@ -30,8 +30,8 @@ D1 0 20:00 "do":"alerts"
 D1 0 20:01 "do":"alerts"
 "#;
 
-/// An alert opens in flight, changes, is acknowledged, and goes by an amendment; another opens, changes as the flight is
-/// late, and goes as it arrives.
+/// An alert opens in flight, changes, is acknowledged, and goes by an amendment; another opens, changes as the flight
+/// is late, and goes as it arrives.
 pub const WATCHED: &str = r#"C7 2 18:02 "do":"depart","leg":1,"release":1
 F1 4 18:24 "do":"admit","text":"TAF AMD KPHL 121822Z 1218/1324 24010KT 1SM BR OVC004"
 F1 5 18:36 "do":"admit","text":"TAF AMD KPHL 121835Z 1219/1324 24010KT P6SM BKN030"

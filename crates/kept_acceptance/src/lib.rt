@@ -1,5 +1,5 @@
-//! Tests of what no command shows of what is kept: keepers of rows, in memory and over a file, rows both ways, rows that no
-//! keeper gives, how replies are read, and copies.
+//! Tests of what no command shows of what is kept: keepers of rows, in memory and over a file, rows both ways, rows
+//! that no keeper gives, how replies are read, and copies.
 #![tactic(auto)]
 
 #[cfg(test)]

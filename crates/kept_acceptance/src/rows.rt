@@ -11,8 +11,9 @@ use records::{KeptAlert, KeptReport, Meta, Record, RowFault, read_row, row_of};
 use std::alloc::Global;
 use std::test::Fail;
 
-// Counters of a desk that keeps some replies of six persons no more; a report, a deferral, a release that is drafted and
-// that its dispatcher signed, one that is ready with an amendment that waits, what is kept of a reply, and an alert.
+// Counters of a desk that keeps some replies of six persons no more; a report, a deferral, a release that is drafted
+// and that its dispatcher signed, one that is ready with an amendment that waits, what is kept of a reply, and an
+// alert.
 const ROWS: &str =
     r#"0 0 {"events":319,"floors":{"C7":6,"C8":3,"D1":35,"D2":26,"F1":28,"M1":7},"next_deferral":6,"next_kept":181,"next_release":28,"next_report":61,"now":"2025-03-23T06:15Z","version":1}
 1 45 {"received":"2025-03-19T14:38Z","text":"SPECI EINN 191339Z NIL"}

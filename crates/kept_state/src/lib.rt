@@ -1,4 +1,5 @@
-//! What is kept of the desk's state: the rows of a state, what an event changes of them, and the state that rows stand for.
+//! What is kept of the desk's state: the rows of a state, what an event changes of them, and the state that rows stand
+//! for.
 #![tactic(auto)]
 
 mod again;

@@ -1,5 +1,5 @@
-//! Tests of look-ups and limits of the airline's tables, what deferred equipment costs, alternates, changes of plans, the
-//! weather of releases and the rules of time. The faults of each table, minima and fuel are tested by the cases of
+//! Tests of look-ups and limits of the airline's tables, what deferred equipment costs, alternates, changes of plans,
+//! the weather of releases and the rules of time. The faults of each table, minima and fuel are tested by the cases of
 //! `call_vectors`, and plans and due items by those of `scenarios`.
 #![tactic(auto)]
 

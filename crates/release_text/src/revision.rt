@@ -17,7 +17,8 @@ pub struct Written {
     pub digest: [u8; 32],
 }
 
-/// The text of a revision and its digest (14 CFR 121.687), each made once. Both signatures are on them (14 CFR 121.663).
+/// The text of a revision and its digest (14 CFR 121.687), each made once. Both signatures are on them (14 CFR
+/// 121.663).
 #[tactic(auto, unfolding(crate::specs::Revisions::text_digest))]
 pub fn written_text(alloc: Global, revision: &Revision) -> Result<Written, OutOfMemory>
     requires { IsPlan revision.now.plan }
