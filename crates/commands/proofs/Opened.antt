@@ -27,7 +27,7 @@ use Rattle.desk_state.specs.State.{State}
 use Rattle.desk_state.specs.declared.lanes.Item.{Item}
 use Rattle.imports.specs.Records.{Line}
 use Rattle.ops_tables.specs.Tables.{TableRows}
-use Rattle.service.proofs.Visits.{serving_from}
+use Rattle.service.proofs.ServingLaws.{serving_from}
 use Rattle.commands.specs.Faults.{Outcome, of_opening}
 use Rattle.commands.specs.Seen.{Service, lent as lent_over}
 use Rattle.commands.specs.Working.{Imports, Makes, Opens, Races, Runs, Serves, told_of}

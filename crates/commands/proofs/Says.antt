@@ -20,9 +20,9 @@ use Rattle.keeper.specs.Seen.{KeeperSeen, KeeperGoesOn}
 use Rattle.desk_state.specs.Sound.{IsBoard}
 use Rattle.desk_state.specs.State.{State}
 use Rattle.records.specs.declared.faults.RowsFault.TheVariants as fault
-use Rattle.service.specs.Doors.{EndsServing, Visit}
-use Rattle.service.specs.declared.doors.ServeEnd.{ServeEnd}
-use Rattle.service.specs.declared.doors.ServeEnd.TheVariants as ends
+use Rattle.connections.specs.Doors.{EndsServing, Visit}
+use Rattle.connections.specs.declared.doors.ServeEnd.{ServeEnd}
+use Rattle.connections.specs.declared.doors.ServeEnd.TheVariants as ends
 use Rattle.imports.specs.Records.{Line}
 use Rattle.ops_tables.specs.Tables.{TableRows}
 use Rattle.table_files.specs.Files.{files, name_of}
@@ -152,11 +152,8 @@ is_formed None formed is = absurd (cc)
 is_formed (Some command) formed is = absurd (cc)
 
 -- why serving ended
-door_failed : {L : Type 0} (door clock : Type 0) (most : ℕ) (vs : List (Visit L)) (end : ServeEnd) → EndsServing door clock most vs end → end ≡ ends.DoorFault → door
-door_failed {L} door clock most vs end how is = (subst (EndsServing {L = L} door clock most vs) is how).0
-
-clock_failed : {L : Type 0} (door clock : Type 0) (most : ℕ) (vs : List (Visit L)) (end : ServeEnd) → EndsServing door clock most vs end → end ≡ ends.ClockFault → clock
-clock_failed {L} door clock most vs end how is = (subst (EndsServing {L = L} door clock most vs) is how).0
+door_failed : {L : Type 0} (door : Type 0) (most : ℕ) (vs : List (Visit L)) (end : ServeEnd) → EndsServing door most vs end → end ≡ ends.DoorFault → door
+door_failed {L} door most vs end how is = (subst (EndsServing {L = L} door most vs) is how).0
 
 ok_any : {P : Type 0} (answer : Outcome) → P → IfOk answer (λ text. P)
 ok_any (Ok text) holds = holds
@@ -293,8 +290,8 @@ module _ {K C D L : Type 0} (k : K → KeeperSeen) (c : C → ClockSeen) (d : D 
         door = serves.door;
         still = end_still serves.end desk.after.state answer serves.says serves.still;
         tells = end_tells (charges (Some (Desk (Serve port most), names))) serves.end desk.after.state answer serves.says
-            (λ is. clock_failed _ _ most serves.served.visits serves.end serves.served.ends is)
-            (λ is. (door_failed _ _ most serves.served.visits serves.end serves.served.ends is, λ has. serves.steady_door has.0 has.1 is));
+            (λ is. (serves.served.by_clock is).0)
+            (λ is. (door_failed _ most serves.served.served.visits serves.end serves.served.served.ends is, λ has. serves.steady_door has.0 has.1 is));
       })
   serve_follows port most names board answer (Err fault) reads does idle =
       told_follows (Some (Desk (Serve port most), names)) board answer fault does (idle does.1.none)

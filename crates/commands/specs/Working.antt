@@ -21,9 +21,10 @@ use Rattle.ops_tables.specs.Tables.{TableRows}
 use Rattle.records.specs.declared.record.Record.{Record}
 use Rattle.kept_state.specs.Held.{state_in}
 use Rattle.kept_state.specs.Opening.{reopened}
-use Rattle.service.specs.Doors.{HasLinks, IsServing}
-use Rattle.service.specs.declared.doors.ServeEnd.{ServeEnd}
-use Rattle.service.specs.declared.doors.ServeEnd.TheVariants as ends
+use Rattle.connections.specs.Doors.{HasLinks}
+use Rattle.connections.specs.declared.doors.ServeEnd.{ServeEnd}
+use Rattle.connections.specs.declared.doors.ServeEnd.TheVariants as ends
+use Rattle.service.specs.Doors.{IsServing}
 use Rattle.commands.specs.Faults.{Gives, Outcome, of_opening}
 use Rattle.commands.specs.Seen.{Lent, Service}
 use Rattle.commands.specs.declared.fault.Fault.TheVariants.{DoorFault, ClockFault, OutOfMemory}

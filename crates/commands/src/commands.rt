@@ -2,16 +2,18 @@ ghost use Rattle.std.specs.Prelude.{◌≡◌, ◌<◌, ◌≤◌, None, map, st
 ghost use Rattle.bells.specs.Ringing.{hung_all};
 ghost use Rattle.commands.specs.Bells.{AreRungOver};
 ghost use Rattle.commands.specs.Answers.{ImportsFile, ImportsUnder, MakesCalls, RacesScripts, RacesUnder};
-ghost use Rattle.commands.specs.Answers.{RunsScript, RunsUnder, Says, SaysReports, ServesLinks};
+ghost use Rattle.commands.specs.Answers.{IsDone, RunsScript, RunsUnder, Says, SaysReports, ServesLinks};
 ghost use Rattle.commands.specs.Seen.{lent, service};
 ghost use Rattle.commands.specs.Sources.{first_of};
 ghost use Rattle.desk_io.specs.Over.{over};
-ghost use Rattle.words.specs.Words.{command_of};
+ghost use Rattle.words.specs.Words.{IsWithin, command_of};
+ghost use Rattle.words.specs.declared.task.Task.TheVariants.{Desk};
 
 use crate::fault::Fault;
 use crate::sources::{read_files, read_lines, read_source, read_sources};
 use crate::working::{
-    Ended, boardless, import_over, make_over, race_over, read_reports, run_over, serve_over,
+    Answered, Ended, boardless, import_over, make_over, race_over, read_reports, run_over,
+    serve_over,
 };
 use bells::{Bell, Ringer};
 use desk::{Gate, leave};
@@ -150,23 +152,35 @@ fn race<
 }
 
 // Connections to the desk of the rows.
-fn serve<R: Wait, S: Shelf, K: Keeper, B: Bell, C: Clock, D: Door, L: Ledger>(
+fn serve<
+    R: Threads + Wait + Sync,
+    S: Shelf,
+    K: Keeper + Send,
+    B: Bell + Send,
+    C: Clock + Send,
+    D: Door + Drop,
+    G: Gate + Sync,
+    L: Ledger,
+>(
     rt: &R,
     alloc: Global,
     port: u16,
     connections: u32,
     shelf: &mut S,
-    clock: &mut C,
-    door: &mut D,
+    clock: C,
+    door: D,
     keeper: K,
     ringer: Ringer<B>,
+    gate: &G,
     steps: &mut Steps<L>,
-) -> Ended<K, B>
+) -> Answered<K, B, C, D>
+where
+    D::Link: Send,
     ensures serves { ServesLinks (over S.seen shelf.old shelf.new)
-        (service C.seen D.seen D.Link.seen clock.old clock.new door.old door.new)
-        (lent K.seen keeper result.keeper) port connections result.board result.answer }
-    ensures idle { result.board ≡ None → (clock.new ≡ clock.old) × (door.new ≡ door.old) }
-    ensures rung { AreRungOver result.board (hung_all B.seen ringer) (hung_all B.seen result.ringer) }
+        (service C.seen D.seen D.Link.seen clock result.clock door result.door)
+        (lent K.seen keeper result.ended.keeper) port connections result.ended.board result.ended.answer }
+    ensures idle { result.ended.board ≡ None → (result.clock ≡ clock) × (result.door ≡ door) }
+    ensures rung { AreRungOver result.ended.board (hung_all B.seen ringer) (hung_all B.seen result.ended.ringer) }
 {
     match read_files(alloc, shelf) {
         Ok(tables) => serve_over(
@@ -179,9 +193,13 @@ fn serve<R: Wait, S: Shelf, K: Keeper, B: Bell, C: Clock, D: Door, L: Ledger>(
             door,
             keeper,
             ringer,
+            gate,
             steps,
         ),
-        Err(fault) => boardless(Err(fault), keeper, ringer),
+        Err(fault) => {
+            let ended = boardless(Err(fault), keeper, ringer);
+            Answered { ended, clock, door }
+        }
     }
 }
 
@@ -261,49 +279,48 @@ fn first_of(names: &[String]) -> &str
     }
 }
 
-fn answer_with<
+// What is done of a task on a desk.
+fn on_desk<
     R: Threads + Wait + Sync,
     S: Shelf,
     K: Keeper + Send,
     B: Bell + Send,
-    C: Clock,
-    D: Door,
+    C: Clock + Send,
+    D: Door + Drop,
     G: Gate + Sync,
     L: Ledger,
 >(
     rt: &R,
     alloc: Global,
-    words: &[String],
+    task: DeskTask,
+    names: &[String],
     shelf: &mut S,
-    clock: &mut C,
-    door: &mut D,
+    clock: C,
+    door: D,
     keeper: K,
     ringer: Ringer<B>,
     gate: &G,
-    blank: Blank,
-) -> Ended<K, B>
-    requires name { blank.name ≡ L.name }
-    requires parts { blank.parts ≡ L.parts }
-    requires some { 0 < blank.parts }
-    ensures says { Says (over S.seen shelf.old shelf.new)
-        (service C.seen D.seen D.Link.seen clock.old clock.new door.old door.new)
-        (lent K.seen keeper result.keeper) (command_of (map string_bytes words.now))
-        result.board result.answer }
-    ensures rung { AreRungOver result.board (hung_all B.seen ringer) (hung_all B.seen result.ringer) }
+    steps: &mut Steps<L>,
+) -> Answered<K, B, C, D>
+where
+    D::Link: Send,
+    requires { IsWithin (Desk task) }
+    ensures done { IsDone (over S.seen shelf.old shelf.new)
+        (service C.seen D.seen D.Link.seen clock result.clock door result.door)
+        (lent K.seen keeper result.ended.keeper) (Desk task) (map string_bytes names.now)
+        result.ended.board result.ended.answer }
+    ensures rung { AreRungOver result.ended.board (hung_all B.seen ringer) (hung_all B.seen result.ended.ringer) }
 {
-    let mut counted = Steps::<L>::new(blank);
-    let steps = &mut counted;
-    match command(alloc, words) {
-        Err(OutOfMemory) => boardless(Err(Fault::OutOfMemory), keeper, ringer),
-        Ok(None) => boardless(Err(Fault::Usage), keeper, ringer),
-        Ok(Some((Task::Weather, names))) => weather(alloc, first_of(names), shelf, keeper, ringer),
-        Ok(Some((Task::Desk(DeskTask::Run), names))) => {
-            run(alloc, first_of(names), shelf, keeper, ringer, gate, steps)
+    match task {
+        DeskTask::Run => {
+            let ended = run(alloc, first_of(names), shelf, keeper, ringer, gate, steps);
+            Answered { ended, clock, door }
         }
-        Ok(Some((Task::Desk(DeskTask::Race), names))) => {
-            race(rt, alloc, names, shelf, keeper, ringer, gate, steps)
+        DeskTask::Race => {
+            let ended = race(rt, alloc, names, shelf, keeper, ringer, gate, steps);
+            Answered { ended, clock, door }
         }
-        Ok(Some((Task::Desk(DeskTask::Serve { port, connections }), _))) => serve(
+        DeskTask::Serve { port, connections } => serve(
             rt,
             alloc,
             port,
@@ -313,14 +330,69 @@ fn answer_with<
             door,
             keeper,
             ringer,
+            gate,
             steps,
         ),
-        Ok(Some((Task::Desk(DeskTask::Import), names))) => {
-            import_reports(alloc, first_of(names), shelf, keeper, ringer, gate, steps)
+        DeskTask::Import => {
+            let ended = import_reports(alloc, first_of(names), shelf, keeper, ringer, gate, steps);
+            Answered { ended, clock, door }
         }
-        Ok(Some((Task::Desk(DeskTask::Make { number, count }), _))) => {
-            make(alloc, number, count, shelf, keeper, ringer, gate, steps)
+        DeskTask::Make { number, count } => {
+            let ended = make(alloc, number, count, shelf, keeper, ringer, gate, steps);
+            Answered { ended, clock, door }
         }
+    }
+}
+
+fn answer_with<
+    R: Threads + Wait + Sync,
+    S: Shelf,
+    K: Keeper + Send,
+    B: Bell + Send,
+    C: Clock + Send,
+    D: Door + Drop,
+    G: Gate + Sync,
+    L: Ledger,
+>(
+    rt: &R,
+    alloc: Global,
+    words: &[String],
+    shelf: &mut S,
+    clock: C,
+    door: D,
+    keeper: K,
+    ringer: Ringer<B>,
+    gate: &G,
+    blank: Blank,
+) -> Answered<K, B, C, D>
+where
+    D::Link: Send,
+    requires name { blank.name ≡ L.name }
+    requires parts { blank.parts ≡ L.parts }
+    requires some { 0 < blank.parts }
+    ensures says { Says (over S.seen shelf.old shelf.new)
+        (service C.seen D.seen D.Link.seen clock result.clock door result.door)
+        (lent K.seen keeper result.ended.keeper) (command_of (map string_bytes words.now))
+        result.ended.board result.ended.answer }
+    ensures rung { AreRungOver result.ended.board (hung_all B.seen ringer) (hung_all B.seen result.ended.ringer) }
+{
+    let mut steps = Steps::<L>::new(blank);
+    match command(alloc, words) {
+        Err(OutOfMemory) => {
+            let ended = boardless(Err(Fault::OutOfMemory), keeper, ringer);
+            Answered { ended, clock, door }
+        }
+        Ok(None) => {
+            let ended = boardless(Err(Fault::Usage), keeper, ringer);
+            Answered { ended, clock, door }
+        }
+        Ok(Some((Task::Weather, names))) => {
+            let ended = weather(alloc, first_of(names), shelf, keeper, ringer);
+            Answered { ended, clock, door }
+        }
+        Ok(Some((Task::Desk(task), names))) => on_desk(
+            rt, alloc, task, names, shelf, clock, door, keeper, ringer, gate, &mut steps,
+        ),
     }
 }
 
@@ -330,25 +402,27 @@ pub(crate) fn answer_to<
     S: Shelf,
     K: Keeper + Send,
     B: Bell + Send,
-    C: Clock,
-    D: Door,
+    C: Clock + Send,
+    D: Door + Drop,
     G: Gate + Sync,
 >(
     rt: &R,
     alloc: Global,
     words: &[String],
     shelf: &mut S,
-    clock: &mut C,
-    door: &mut D,
+    clock: C,
+    door: D,
     keeper: K,
     ringer: Ringer<B>,
     gate: &G,
-) -> Ended<K, B>
+) -> Answered<K, B, C, D>
+where
+    D::Link: Send,
     ensures says { Says (over S.seen shelf.old shelf.new)
-        (service C.seen D.seen D.Link.seen clock.old clock.new door.old door.new)
-        (lent K.seen keeper result.keeper) (command_of (map string_bytes words.now))
-        result.board result.answer }
-    ensures rung { AreRungOver result.board (hung_all B.seen ringer) (hung_all B.seen result.ringer) }
+        (service C.seen D.seen D.Link.seen clock result.clock door result.door)
+        (lent K.seen keeper result.ended.keeper) (command_of (map string_bytes words.now))
+        result.ended.board result.ended.answer }
+    ensures rung { AreRungOver result.ended.board (hung_all B.seen ringer) (hung_all B.seen result.ended.ringer) }
 {
     answer_with::<R, S, K, B, C, D, G, Brand>(
         rt,

@@ -9,5 +9,5 @@ mod top;
 mod weather;
 mod working;
 
-pub use desk::{Gate, OpenGate};
+pub use desk::Gate;
 pub use top::{Ending, desk_main};

@@ -8,7 +8,7 @@ ghost use Rattle.words.specs.Words.{command_of};
 
 use crate::commands::answer_to;
 use crate::fault::Fault;
-use crate::working::Ended;
+use crate::working::{Answered, Ended};
 use bells::{Bell, Dropped, Ringer, Unhung};
 use board::Board;
 use desk::Gate;
@@ -19,13 +19,15 @@ use std::alloc::Global;
 use std::sync::Wait;
 use std::thread::Threads;
 
-/// What was said, and what is left: the board, where a desk was opened, the keeper, the bells that stayed, and those
-/// that were dropped.
+/// What was said, and what is left: the board, where a desk was opened, the keeper, the clock, the door, the bells that
+/// stayed, and those that were dropped.
 #[derive(Drop)]
-pub(crate) struct Rung<K, B> {
+pub(crate) struct Rung<K, B, C, D> {
     pub answer: Result<Text, Fault>,
     pub board: Option<Board>,
     pub keeper: K,
+    pub clock: C,
+    pub door: D,
     pub bells: Vec<B>,
     pub dropped: Vec<Dropped<B>>,
 }
@@ -36,22 +38,24 @@ pub(crate) fn answer_rung<
     S: Shelf,
     K: Keeper + Send,
     B: Bell + Send + Drop,
-    C: Clock,
-    D: Door,
+    C: Clock + Send,
+    D: Door + Drop,
     G: Gate + Sync,
 >(
     rt: &R,
     alloc: Global,
     words: &[String],
     shelf: &mut S,
-    clock: &mut C,
-    door: &mut D,
+    clock: C,
+    door: D,
     keeper: K,
     bells: Vec<B>,
     gate: &G,
-) -> Rung<K, B>
+) -> Rung<K, B, C, D>
+where
+    D::Link: Send,
     ensures says { Says (over S.seen shelf.old shelf.new)
-        (service C.seen D.seen D.Link.seen clock.old clock.new door.old door.new)
+        (service C.seen D.seen D.Link.seen clock result.clock door result.door)
         (lent K.seen keeper result.keeper) (command_of (map string_bytes words.now))
         result.board result.answer }
     ensures bells { AreHandedBack result.board (map B.seen bells.items) (map B.seen result.bells.items)
@@ -59,17 +63,22 @@ pub(crate) fn answer_rung<
 {
     match Ringer::new(alloc, bells) {
         Ok(ringer) => {
+            let Answered { ended, clock, door } = answer_to(
+                rt, alloc, words, shelf, clock, door, keeper, ringer, gate,
+            );
             let Ended {
                 answer,
                 board,
                 keeper,
                 ringer,
-            } = answer_to(rt, alloc, words, shelf, clock, door, keeper, ringer, gate);
+            } = ended;
             let (bells, dropped) = ringer.finish();
             Rung {
                 answer,
                 board,
                 keeper,
+                clock,
+                door,
                 bells,
                 dropped,
             }
@@ -78,6 +87,8 @@ pub(crate) fn answer_rung<
             answer: Err(Fault::OutOfMemory),
             board: None,
             keeper,
+            clock,
+            door,
             bells,
             dropped: Vec::new(alloc),
         },

@@ -27,14 +27,15 @@ use std::sync::Wait;
 use std::thread::Threads;
 
 /// How the program ends, and what is left: the board of `run`, `race`, `serve`, `import` and `make`, where a desk was
-/// opened, the keeper, the clock, the bells that stayed, in their order, and those that were dropped, in order of their
-/// places.
+/// opened, the keeper, the clock, the door, the bells that stayed, in their order, and those that were dropped, in
+/// order of their places.
 #[derive(Drop)]
-pub struct Ending<K, C, B> {
+pub struct Ending<K, C, D, B> {
     pub status: u8,
     pub board: Option<Board>,
     pub keeper: K,
     pub clock: C,
+    pub door: D,
     pub bells: Vec<B>,
     pub dropped: Vec<Dropped<B>>,
 }
@@ -57,9 +58,10 @@ fn write<O: Sink>(alloc: Global, answer: Result<Text, Fault>, out: &mut O) -> u8
 /// script, and loads the rows of the keeper; then the script is run on the desk of these rows. `race` with 2 to 16
 /// scripts does so with all of them at once, a thread for each where one can be had, `import FILE` with the records of
 /// a file, and `make NUMBER COUNT`, which reads no source, with calls that are made of a number. `serve PORT
-/// CONNECTIONS` reads the tables and loads the rows, and then so many connections are served at the port, one after
-/// another. `weather FILE` reads the file alone, and asks nothing of the keeper. The first fault in this order is
-/// answered. Each step that is put in place rings the bells, while nothing else is done on the desk.
+/// CONNECTIONS` reads the tables and loads the rows, and then so many connections are served at the port, up to 16 at
+/// once, a thread for each where one can be had. `weather FILE` reads the file alone, and asks nothing of the keeper.
+/// The first fault in this order is answered. Each step that is put in place rings the bells, while nothing else is
+/// done on the desk.
 ///
 /// - 0: all of this was read to its end, and what is said of it was written: of `run SCRIPT` and `import FILE` a reply
 ///   for each line or record and the closing text, of `race` the history, what came of each line and the closing text,
@@ -79,16 +81,16 @@ fn write<O: Sink>(alloc: Global, answer: Result<Text, Fault>, out: &mut O) -> u8
 /// - 11: only where the clock's count of faults rose, or is full; `error 11 ClockFault`.
 ///
 /// 3, 4, 5, 9 and 11 tell that the shelf, the sink, the keeper, the door or the clock isn't sound, or that the shelf
-/// lacks a source, or that fewer links come to the door than are to be served. Where no door is to be opened, or no desk
-/// was, the door and the clock are given back as they were.
+/// lacks a source, or that fewer links come to the door than are to be served. Where no door is to be opened, or no
+/// desk was, the door and the clock are given back as they were.
 pub fn desk_main<
     R: Threads + Wait + Sync,
     S: Shelf,
     O: Sink,
-    C: Clock + Drop,
+    C: Clock + Send + Drop,
     K: Keeper + Send,
     B: Bell + Send + Drop,
-    D: Door,
+    D: Door + Drop,
     G: Gate + Sync,
 >(
     rt: &R,
@@ -96,29 +98,31 @@ pub fn desk_main<
     words: &[String],
     shelf: &mut S,
     out: &mut O,
-    mut clock: C,
+    clock: C,
     keeper: K,
-    door: &mut D,
+    door: D,
     gate: &G,
     bells: Vec<B>,
-) -> Ending<K, C, B>
+) -> Ending<K, C, D, B>
+where
+    D::Link: Send,
     // Over an outside that is sound, with the sources that the words name and a link to come for each connection,
     // nothing fails but memory: all was read and said, or the words, a source, a table or a row are at fault.
     ensures complete { HasSources (S.seen shelf.old) (command_of (map string_bytes words.now))
-        → HasDoor (D.seen door.old) (command_of (map string_bytes words.now))
+        → HasDoor (D.seen door) (command_of (map string_bytes words.now))
         → IsSound (O.seen out.old).health → IsSound (K.seen keeper).health → IsSound (C.seen clock).health → Contains
         (0 ∷ 2 ∷ 6 ∷ 7 ∷ 8 ∷ 10 ∷ []) result.status }
     // Where the words form a command, all that it reads is valid, and no fault was counted, all was done, or memory
     // ran out.
     ensures done { IsValid (S.seen shelf.old) (K.seen keeper).rows (command_of (map string_bytes words.now))
         → HaveServed (over S.seen shelf.old shelf.new) (over O.seen out.old out.new) (lent K.seen keeper result.keeper)
-        (service C.seen D.seen D.Link.seen clock result.clock door.old door.new) → Contains (0 ∷ 8 ∷ []) result.status }
+        (service C.seen D.seen D.Link.seen clock result.clock door result.door) → Contains (0 ∷ 8 ∷ []) result.status }
     ensures blames { Blames (HasSources (S.seen shelf.old) (command_of (map string_bytes words.now)))
         (IsSound (O.seen out.old).health) (IsSound (K.seen keeper).health)
-        (HasDoor (D.seen door.old) (command_of (map string_bytes words.now)))
+        (HasDoor (D.seen door) (command_of (map string_bytes words.now)))
         (IsSound (C.seen clock).health) result.status }
     ensures ends { EndsProgram (Says (over S.seen shelf.old shelf.new)
-        (service C.seen D.seen D.Link.seen clock result.clock door.old door.new)
+        (service C.seen D.seen D.Link.seen clock result.clock door result.door)
         (lent K.seen keeper result.keeper) (command_of (map string_bytes words.now)) result.board)
         (over O.seen out.old out.new) result.status }
     // Whatever the status: the clock tells the same moments and never goes back among them, and neither its count nor
@@ -126,7 +130,7 @@ pub fn desk_main<
     ensures clock { ClockGoesOn (C.seen clock) (C.seen result.clock) }
     // At status 0 no fault of the clock was passed over.
     ensures still { result.status ≡ 0 → IsStill (C.seen clock).health (C.seen result.clock).health }
-    ensures door { (D.seen door.old).health.faults ≤ (D.seen door.new).health.faults }
+    ensures door { (D.seen door).health.faults ≤ (D.seen result.door).health.faults }
     // The keeper tells its rows exactly where it told them before, and its count never falls. A sound keeper stays
     // sound, and its count stands still.
     ensures keeper { KeeperGoesOn (K.seen keeper) (K.seen result.keeper) }
@@ -150,17 +154,18 @@ pub fn desk_main<
         answer,
         board,
         keeper,
+        clock,
+        door,
         bells,
         dropped,
-    } = answer_rung(
-        rt, alloc, words, shelf, &mut clock, door, keeper, bells, gate,
-    );
+    } = answer_rung(rt, alloc, words, shelf, clock, door, keeper, bells, gate);
     let status = write(alloc, answer, out);
     Ending {
         status,
         board,
         keeper,
         clock,
+        door,
         bells,
         dropped,
     }

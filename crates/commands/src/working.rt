@@ -17,6 +17,7 @@ use crate::fault::Fault;
 use crate::weather::text_of_weather;
 use bells::{Bell, Ringer};
 use board::Board;
+use connections::ServeEnd;
 use desk::{Desk, Gate, OpenFault, Raced, make_from, open, race, text_from, text_of_import};
 use desk_io::{OutOfMemory, Text};
 use desk_net::{Clock, Door};
@@ -24,7 +25,7 @@ use imports::Line;
 use keeper::Keeper;
 use ops_tables::Tables;
 use rules::Steps;
-use service::{ServeEnd, serve_door};
+use service::{Left, serve_door};
 use std::alloc::Global;
 use std::sync::Wait;
 use std::sync::ledger::Ledger;
@@ -37,6 +38,14 @@ pub(crate) struct Ended<K, B> {
     pub board: Option<Board>,
     pub keeper: K,
     pub ringer: Ringer<B>,
+}
+
+/// What was said and what is left of a desk, with the clock and the door.
+#[derive(Drop)]
+pub(crate) struct Answered<K, B, C, D> {
+    pub ended: Ended<K, B>,
+    pub clock: C,
+    pub door: D,
 }
 
 /// No desk was opened.
@@ -201,50 +210,98 @@ fn answer_of_end(alloc: Global, end: ServeEnd, board: &Board) -> Result<Text, Fa
     }
 }
 
-// What so many connections come to that are served at a port.
-fn serve<R: Wait, K: Keeper, B: Bell, C: Clock, D: Door, L: Ledger>(
+// What connections came to that were served, and the desk, the clock and the door after it.
+struct Served<K, B, C, D> {
+    answer: Result<Text, Fault>,
+    desk: Desk<K, B>,
+    clock: C,
+    door: D,
+}
+
+// So many connections are served at a port, on a desk that was just opened.
+fn serve<
+    R: Threads + Wait + Sync,
+    K: Keeper + Send,
+    B: Bell + Send,
+    C: Clock + Send,
+    D: Door + Drop,
+    G: Gate + Sync,
+>(
     rt: &R,
     alloc: Global,
-    desk: &mut Desk<K, B>,
+    desk: Desk<K, B>,
     port: u16,
     connections: u32,
-    clock: &mut C,
-    door: &mut D,
-    steps: &mut Steps<L>,
-) -> Result<Text, Fault>
-    ensures serves { Serves (service C.seen D.seen D.Link.seen clock.old clock.new door.old door.new)
-        port connections (over (desk_at K.seen) desk.old desk.new) result }
-    ensures desk { DeskGoesOn (desk_seen K.seen B.seen desk.old) (desk_seen K.seen B.seen desk.new) }
+    clock: C,
+    door: D,
+    gate: &G,
+) -> Served<K, B, C, D>
+where
+    D::Link: Send,
+    requires opened { desk.board.state ≡ desk.board.opening }
+    requires none { desk.board.state.entries ≡ [] }
+    ensures serves { Serves (service C.seen D.seen D.Link.seen clock result.clock door result.door)
+        port connections (over (desk_at K.seen) desk result.desk) result.answer }
+    ensures desk { DeskGoesOn (desk_seen K.seen B.seen desk) (desk_seen K.seen B.seen result.desk) }
 {
-    let end = serve_door(rt, alloc, desk, door, clock, port, connections, steps);
-    answer_of_end(alloc, end, &desk.board)
+    let Left {
+        desk,
+        clock,
+        door,
+        end,
+    } = serve_door(rt, alloc, desk, clock, door, gate, port, connections);
+    let answer = answer_of_end(alloc, end, &desk.board);
+    Served {
+        answer,
+        desk,
+        clock,
+        door,
+    }
 }
 
 /// A desk is opened over the tables and the rows of a keeper, and connections are served on it.
-pub(crate) fn serve_over<R: Wait, K: Keeper, B: Bell, C: Clock, D: Door, L: Ledger>(
+pub(crate) fn serve_over<
+    R: Threads + Wait + Sync,
+    K: Keeper + Send,
+    B: Bell + Send,
+    C: Clock + Send,
+    D: Door + Drop,
+    G: Gate + Sync,
+    L: Ledger,
+>(
     rt: &R,
     alloc: Global,
     tables: Tables,
     port: u16,
     connections: u32,
-    clock: &mut C,
-    door: &mut D,
+    clock: C,
+    door: D,
     keeper: K,
     ringer: Ringer<B>,
+    gate: &G,
     steps: &mut Steps<L>,
-) -> Ended<K, B>
+) -> Answered<K, B, C, D>
+where
+    D::Link: Send,
     ensures opens { Opens tables
-        (Serves (service C.seen D.seen D.Link.seen clock.old clock.new door.old door.new) port connections)
-        (lent K.seen keeper result.keeper) result.board result.answer }
-    ensures keeper { KeeperGoesOn (K.seen keeper) (K.seen result.keeper) }
-    ensures rung { AreRungOver result.board (hung_all B.seen ringer) (hung_all B.seen result.ringer) }
+        (Serves (service C.seen D.seen D.Link.seen clock result.clock door result.door) port connections)
+        (lent K.seen keeper result.ended.keeper) result.ended.board result.ended.answer }
+    ensures keeper { KeeperGoesOn (K.seen keeper) (K.seen result.ended.keeper) }
+    ensures rung { AreRungOver result.ended.board (hung_all B.seen ringer) (hung_all B.seen result.ended.ringer) }
     // Where no desk was opened the clock and the door are as they were.
-    ensures idle { result.board ≡ None → (clock.new ≡ clock.old) × (door.new ≡ door.old) }
+    ensures idle { result.ended.board ≡ None → (result.clock ≡ clock) × (result.door ≡ door) }
 {
     match open(alloc, tables, keeper, ringer, steps) {
-        Ok(mut desk) => {
-            let answer = serve(rt, alloc, &mut desk, port, connections, clock, door, steps);
-            left(answer, desk)
+        Ok(desk) => {
+            let _ = desk.board.now();
+            let Served {
+                answer,
+                desk,
+                clock,
+                door,
+            } = serve(rt, alloc, desk, port, connections, clock, door, gate);
+            let ended = left(answer, desk);
+            Answered { ended, clock, door }
         }
         Err(
             OpenFault {
@@ -252,7 +309,10 @@ pub(crate) fn serve_over<R: Wait, K: Keeper, B: Bell, C: Clock, D: Door, L: Ledg
                 ringer,
                 why,
             },
-        ) => boardless(Err(Fault::from(why)), keeper, ringer),
+        ) => {
+            let ended = boardless(Err(Fault::from(why)), keeper, ringer);
+            Answered { ended, clock, door }
+        }
     }
 }
 

@@ -1,3 +1,6 @@
 pub mod Lines
 pub mod Steps
 pub mod Joins
+pub mod RoundLaws
+pub mod RunLaws
+pub mod Counting

@@ -1,2 +1,4 @@
 pub mod Connections
 pub mod Writing
+pub mod Doors
+pub mod Rounds

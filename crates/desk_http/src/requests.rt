@@ -130,10 +130,10 @@ fn request_in<N: Link>(
 ///
 /// `End` comes where there are no unused bytes, and `Cut` where they end within a request. `TooLarge` comes where the
 /// first `HEAD_LIMIT` bytes hold no whole head. `BadHead` comes where they make no head whatever follows, and may come
-/// in place of these two where that holds as well. On a whole head, `WrongMethod`, `NoLength` and then `TooLarge`, where
-/// a body of more than `BODY_LIMIT` bytes is stated, come before anything of the body is read. `ReadFault` comes only
-/// where the link's count of faults rose, while what was read till then is no whole request. Nothing is written. After
-/// a fault the buffer isn't used again.
+/// in place of these two where that holds as well. On a whole head, `WrongMethod`, `NoLength` and then `TooLarge`,
+/// where a body of more than `BODY_LIMIT` bytes is stated, come before anything of the body is read. `ReadFault` comes
+/// only where the link's count of faults rose, while what was read till then is no whole request. Nothing is written.
+/// After a fault the buffer isn't used again.
 pub fn next_request<N: Link>(
     alloc: Global,
     link: &mut N,

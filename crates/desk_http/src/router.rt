@@ -6,6 +6,7 @@ ghost use Rattle.desk_http.specs.Names.{patterns};
 use desk_io::OutOfMemory;
 use matchit::{InsertError, Router};
 use std::alloc::Global;
+use std::marker::Model;
 
 /// The routes by their patterns, whatever stands in place of a parameter.
 #[derive(Clone, Copy)]
@@ -46,12 +47,37 @@ fn found(router: &Router<Named>, path: &str) -> Option<Named>
     }
 }
 
-/// Which route's pattern a path matches.
-pub(crate) fn name_of(alloc: Global, path: &str) -> Result<Option<Named>, OutOfMemory>
-    ensures { IfOk result (λ name. name ≡ first patterns path.now) }
-{
-    match router_of_routes(alloc) {
-        Ok(router) => Ok(found(&router, path)),
-        Err(_) => Err(OutOfMemory),
+/// The patterns of all routes. They are made once for many requests.
+#[derive(Drop)]
+pub struct Patterns {
+    router: Router<Named>,
+}
+
+impl Model for Patterns {
+    ghost use Rattle.std.specs.Prelude.{◌≡◌};
+    ghost use Rattle.matchit.specs.Router.{rename};
+    ghost use Rattle.desk_http.specs.Names.{patterns};
+
+    ghost Value = { Unit {0} };
+
+    ghost view = { λ _. tt };
+
+    ghost invariant = { λ p. rename (λ e. e.value) p.router ≡ patterns };
+}
+
+impl Patterns {
+    /// The patterns of all routes.
+    pub fn new(alloc: Global) -> Result<Patterns, OutOfMemory> {
+        match router_of_routes(alloc) {
+            Ok(router) => Ok(Patterns { router }),
+            Err(_) => Err(OutOfMemory),
+        }
+    }
+
+    /// Which route's pattern a path matches.
+    pub(crate) fn name_of(&self, path: &str) -> Option<Named>
+        ensures { result ≡ first patterns path.now }
+    {
+        found(&self.router, path)
     }
 }

@@ -9,7 +9,7 @@ ghost use Rattle.desk_http.specs.declared.routes.RouteFault.TheVariants.{OutOfMe
 
 use crate::Wire;
 use crate::digits::{has_length, number_of};
-use crate::router::{Named, name_of};
+use crate::router::{Named, Patterns};
 use desk_io::{OutOfMemory, Text};
 use stations::Station;
 use std::alloc::Global;
@@ -128,19 +128,18 @@ fn named_route(
     }
 }
 
-fn route_in(alloc: Global, path: &str) -> Result<Option<Routed>, OutOfMemory>
+fn route_in(alloc: Global, patterns: &Patterns, path: &str) -> Result<Option<Routed>, OutOfMemory>
     ensures { IfOk result (λ r. r ≡ spec.route_in path.now) }
 {
-    let name = name_of(alloc, path)?;
-    named_route(alloc, name, path.as_bytes())
+    named_route(alloc, patterns.name_of(path), path.as_bytes())
 }
 
 #[tactic(auto, unfolding(crate::specs::Routes::route_of))]
-fn route_of(alloc: Global, path: &[u8]) -> Result<Option<Routed>, OutOfMemory>
+fn route_of(alloc: Global, patterns: &Patterns, path: &[u8]) -> Result<Option<Routed>, OutOfMemory>
     ensures { IfOk result (λ r. r ≡ spec.route_of path.now) }
 {
     match str::from_utf8(path) {
-        Ok(text) => route_in(alloc, text),
+        Ok(text) => route_in(alloc, patterns, text),
         Err(_) => Ok(None),
     }
 }
@@ -160,10 +159,10 @@ fn takes(get: bool, route: &Routed) -> bool
 
 /// What a request asks for. A path that names nothing is `NoRoute` with any method; one that names
 /// something by the other method is `WrongMethod`.
-pub fn route(alloc: Global, wire: &Wire) -> Result<Routed, RouteFault>
+pub fn route(alloc: Global, patterns: &Patterns, wire: &Wire) -> Result<Routed, RouteFault>
     ensures { Routes (spec.routed wire.now) result }
 {
-    let Some(route) = route_of(alloc, wire.path.bytes())? else {
+    let Some(route) = route_of(alloc, patterns, wire.path.bytes())? else {
         return Err(RouteFault::NoRoute);
     };
     if takes(wire.get, &route) {

@@ -52,7 +52,7 @@ fn main(rt: HostRuntime) -> ExitCode {
     let mut shelf = FileShelf::new(rt);
     let mut out = StdoutSink::new(rt);
     let clock = SystemClock::new(rt);
-    let mut door = TcpDoor::new(rt);
+    let door = TcpDoor::new(rt);
     let gate = StderrProgress::new(rt.stderr().is_terminal(), rt);
     let Ending { status, keeper, .. } = desk_main(
         &rt,
@@ -62,7 +62,7 @@ fn main(rt: HostRuntime) -> ExitCode {
         &mut out,
         clock,
         keeper,
-        &mut door,
+        door,
         &gate,
         bells,
     );

@@ -1,14 +1,13 @@
 -- Requests that are answered over a desk that is lent, one after another.
 use Rattle.std.proofs.Common.{◌≡◌, ℕ, ◌≤◌, false, List, [], ◌∷◌, ◌++◌, map, Option, Result, Ok, Err, inl, inr, refl, sym, ap, ◌∙◌, subst, arith}
 use Rattle.std.specs.Prelude.{IfErr, IfOk}
-use Rattle.std.specs.List.{concat}
 use Rattle.std.proofs.lemmas.List.{map-append}
 use Rattle.asks.specs.declared.call.Call.{Call}
 use Rattle.connections.specs.Connections.{Answered, ClockFailed, Last, RanOut}
 use Rattle.connections.specs.declared.answers.Unanswered.{Unanswered}
 use Rattle.connections.specs.declared.answers.Unanswered.TheVariants.{ClockFault as ByClock, OutOfMemory as NoMemory}
-use Rattle.desk.proofs.Choices.{counted_on, rise_lower}
-use Rattle.desk.specs.Keeping.{Choice, Counted, answer_with, no_choice, numbers_of}
+use Rattle.desk.proofs.Choices.{counted_on}
+use Rattle.desk.specs.Keeping.{Choice, Counted, answer_with, no_choice}
 use Rattle.desk.specs.Settled.{MayHaveTicked}
 use Rattle.desk_http.specs.declared.wire.Wire.{Wire}
 use Rattle.desk_io.proofs.HealthLaws.{failed_last}
@@ -57,12 +56,6 @@ goes_on lane early noon late before middle after s u t goes xs ys last one two =
   come = come_on lane early.dial noon.dial late.dial (HasFailed early.health noon.health) (HasFailed early.health late.health) s u t xs ys last one.come
       (come_more lane noon.dial late.dial (HasFailed noon.health late.health) (HasFailed early.health late.health) u t ys last (failed_last early.health noon.health late.health goes.health) two.come);
 }
-
--- the same under a lower count of the keeper
-pub goes_lower : (lane : ℕ) (early late : ClockSeen) (less before after : ℕ) (s t : State) → less ≤ before → (xs : List Exchange) (last : Last) → GoesAlone lane early late before after s t xs last
-    → GoesAlone lane early late less after s t xs last
-goes_lower lane early late less before after s t under xs last goes =
-    record { counted = rise_lower less before (concat (map numbers_of (map (λ (x : Exchange). x.turn.choice) xs))) after under goes.counted; come = goes.come }
 
 -- a fault of the clock ends the answering only where the clock has failed
 clock_fails : (lane : ℕ) (early late : Option Dial) (clock : Type 0) (s t : State) (xs : List Exchange) → ComeTo lane early late clock s t xs ClockFailed → clock

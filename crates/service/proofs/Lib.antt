@@ -1,5 +1,6 @@
 pub mod ResponseLaws
 pub mod AloneLaws
 pub mod RouteForms
-pub mod Visits
+pub mod Endings
 pub mod TurningLaws
+pub mod ServingLaws

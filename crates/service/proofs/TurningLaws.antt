@@ -20,7 +20,7 @@ use Rattle.service.specs.declared.responses.Response.{Response}
 use Rattle.service.specs.declared.requested.Requested.{Requested}
 use Rattle.service.specs.declared.requested.Requested.TheVariants as requested
 use Rattle.service.proofs.ResponseLaws.{calls_is, uncalled, uncalled_by}
-use Rattle.shared_desk.proofs.RunLaws.{no_run, placed_within, reply_of, run_of_miss, run_of_one, run_of_ticks, run_on, state_still}
+use Rattle.shared_desk.proofs.RunLaws.{no_run, placed_within, reply_of, run_of_miss, run_of_one, run_of_ticks, run_on, run_within, state_still}
 use Rattle.shared_desk.specs.Events.{state_at}
 use Rattle.shared_desk.specs.Runs.{ArePlaced, IsRun, Reply, end_of}
 use Rattle.shared_desk.specs.Turns.{AnsweredOnce, MissedOnce, TickedOnce, Turn, UnansweredOnce}
@@ -68,8 +68,7 @@ goes_none opening dial lane list = record { turns = no_run opening dial lane lis
 pub goes_on : (opening : State) (dial : Option Dial) (lane : ℕ) (before middle list : List Event) → IsPrefix middle list → (xs ys : List Exchange) (last : Last)
     → GoesInTurns opening dial lane before middle xs Answered → GoesInTurns opening dial lane middle list ys last → GoesInTurns opening dial lane before list (xs ++ ys) last
 goes_on opening dial lane before middle list goes xs ys last one two =
-    let inside = one.turns.within in
-    let top : one.turns.top ≤ length middle = omega (arith, inside) in record {
+    let top = run_within opening dial lane before middle (replies_of lane xs) Answered one.turns in record {
       turns = subst (λ (rs : List Reply). IsRun opening dial lane before list rs last) (sym (replies_of-append lane xs ys))
           (run_on opening dial lane before middle list (replies_of lane xs) (replies_of lane ys) last goes one.turns two.turns);
       from = all_on (λ x. IsFrom opening list x (requested_by x.wire)) xs ys

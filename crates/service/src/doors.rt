@@ -1,155 +1,118 @@
-ghost use Rattle.std.specs.Prelude.{◌≡◌, ◌≢◌, ◌≤◌, Ok, IfOk, IfErr, IsOk};
-ghost use Rattle.connections.specs.declared.serving.Served.TheVariants as ended;
+ghost use Rattle.std.specs.Prelude.{◌≡◌, ◌≢◌, ◌≤◌, []};
+ghost use Rattle.connections.specs.Doors.{HasLinks};
+ghost use Rattle.connections.specs.declared.doors.ServeEnd.TheVariants as ends;
 ghost use Rattle.desk.specs.Seen.{desk_at, desk_seen, DeskGoesOn};
 ghost use Rattle.desk_io.specs.Health.{IsSound, IsStill};
 ghost use Rattle.desk_io.specs.Over.{over};
-ghost use Rattle.desk_net.specs.Doors.{HasNext};
 ghost use Rattle.desk_net.specs.Seen.{ClockGoesOn};
-ghost use Rattle.service.specs.Doors as spec;
-ghost use Rattle.service.specs.Doors.{HasLinks, IsServing, NoneCame, Visits};
-ghost use Rattle.service.specs.declared.doors.ServeEnd.TheVariants as ends;
+ghost use Rattle.service.specs.Doors.{IsServing};
 
-use crate::serving::serve_link;
+use crate::rounds::OnDesk;
 use bells::Bell;
-use connections::Served;
-use desk::Desk;
-use desk_io::{Failed, OutOfMemory};
+use connections::{Finished, ServeEnd, serve_all};
+use desk::{Desk, Gate};
 use desk_net::{Clock, Door};
 use keeper::Keeper;
-use rules::Steps;
+use shared_desk::{Opened, Shared};
 use std::alloc::Global;
+use std::marker::Brand;
 use std::sync::Wait;
-use std::sync::ledger::Ledger;
+use std::thread::Threads;
 
-/// How serving connections ended.
-#[derive(Clone, Copy, Debug, PartialEq, Eq)]
-pub enum ServeEnd {
-    /// As many connections as stated were served.
-    Done,
-    /// The door failed, and counted it.
-    DoorFault,
-    /// The clock failed, and counted it.
-    ClockFault,
-    /// Memory ran out.
-    OutOfMemory,
+/// What is left once connections were served: the desk, its clock, the door, and how it ended.
+#[derive(Drop)]
+pub struct Left<K, B, C, D> {
+    pub desk: Desk<K, B>,
+    pub clock: C,
+    pub door: D,
+    pub end: ServeEnd,
 }
 
-// What connections have met so far: want of memory, and a clock that failed.
-#[derive(Clone, Copy, Debug)]
-struct Met {
-    memory: bool,
-    clock: bool,
-}
-
-impl Met {
-    fn after(self, served: Served) -> Met
-        ensures { result ≡ spec.met_after self served }
-    {
-        match served {
-            Served::OutOfMemory => Met {
-                memory: true,
-                clock: self.clock,
-            },
-            Served::ClockFault => Met {
-                memory: self.memory,
-                clock: true,
-            },
-            _ => self,
-        }
-    }
-}
-
-// Want of memory comes before a fault of the clock.
-fn end_of(met: Met) -> ServeEnd
-    ensures { result ≡ spec.end_of met }
-{
-    if met.memory {
-        ServeEnd::OutOfMemory
-    } else if met.clock {
-        ServeEnd::ClockFault
-    } else {
-        ServeEnd::Done
-    }
-}
-
-// Want of memory comes before a fault of the door.
-fn end_at_door(met: Met) -> ServeEnd
-    ensures { result ≡ spec.end_at_door met }
-{
-    if met.memory {
-        ServeEnd::OutOfMemory
-    } else {
-        ServeEnd::DoorFault
-    }
-}
-
-// Serves the next link of the door and gives it back. One that can't be given back counts as want of memory.
-fn serve_next_link<R: Wait, K: Keeper, B: Bell, C: Clock, D: Door, L: Ledger>(
+// The desk and the clock are as they are named.
+fn serve_from<
+    R: Threads + Wait + Sync,
+    K: Keeper + Send,
+    B: Bell + Send,
+    C: Clock + Send,
+    D: Door + Drop,
+    G: Gate + Sync,
+    A: Opened + Send,
+>(
     rt: &R,
     alloc: Global,
-    desk: &mut Desk<K, B>,
-    lane: u32,
-    door: &mut D,
-    clock: &mut C,
-    steps: &mut Steps<L>,
-) -> Result<Served, Failed>
-    ensures visit { IfOk result (λ served. Visits D.Link.seen lane (over D.seen door.old door.new)
-        (over C.seen clock.old clock.new) (over (desk_at K.seen) desk.old desk.new) served) }
-    ensures none { IfErr result (λ _. NoneCame (over D.seen door.old door.new)
-        (over C.seen clock.old clock.new) (over (desk_at K.seen) desk.old desk.new)) }
-    ensures desk { DeskGoesOn (desk_seen K.seen B.seen desk.old) (desk_seen K.seen B.seen desk.new) }
-    ensures clock { ClockGoesOn (C.seen clock.old) (C.seen clock.new) }
-    ensures still { result ≢ Ok ended.ClockFault → result ≢ Ok ended.OutOfMemory → IsStill (C.seen clock.old).health
-        (C.seen clock.new).health }
-    ensures door { (D.seen door.old).health.faults ≤ (D.seen door.new).health.faults }
-    ensures port { (D.seen door.new).opened_at ≡ (D.seen door.old).opened_at }
-    ensures steady_door { IsSound (D.seen door.old).health
-        → IsSound (D.seen door.new).health × (HasNext (D.seen door.old).links → IsOk result) }
-{
-    let mut link = door.accept()?;
-    let served = serve_link(rt, alloc, desk, lane, &mut link, clock, steps);
-    match door.done(link) {
-        Ok(()) => Ok(served),
-        Err(OutOfMemory) => Ok(Served::OutOfMemory),
-    }
-}
-
-/// Serves so many connections at a port, one after another, each in the lane of its number from 1, and gives each link
-/// back. A link's own fault ends its connection alone; a fault of the door ends the serving.
-pub fn serve_door<R: Wait, K: Keeper, B: Bell, C: Clock, D: Door, L: Ledger>(
-    rt: &R,
-    alloc: Global,
-    desk: &mut Desk<K, B>,
-    door: &mut D,
-    clock: &mut C,
+    desk: Desk<K, B>,
+    clock: C,
+    door: D,
+    gate: &G,
     port: u16,
     connections: u32,
-    steps: &mut Steps<L>,
-) -> ServeEnd
-    ensures serves { IsServing D.Link.seen (over D.seen door.old door.new) (over C.seen clock.old clock.new)
-        (over (desk_at K.seen) desk.old desk.new) port connections result }
-    ensures desk { DeskGoesOn (desk_seen K.seen B.seen desk.old) (desk_seen K.seen B.seen desk.new) }
-    ensures clock { ClockGoesOn (C.seen clock.old) (C.seen clock.new) }
-    // A fault of the clock isn't passed over: where all was served well, the count stands still.
-    ensures still { result ≡ ends.Done → IsStill (C.seen clock.old).health (C.seen clock.new).health }
-    ensures door { (D.seen door.old).health.faults ≤ (D.seen door.new).health.faults }
-    // Neither ends the serving where it is sound, and the door has a link to come for each connection.
-    ensures steady_clock { IsSound (C.seen clock.old).health → result ≢ ends.ClockFault }
-    ensures steady_door { IsSound (D.seen door.old).health → HasLinks (D.seen door.old).links connections
-        → result ≢ ends.DoorFault }
+) -> Left<K, B, C, D>
+where
+    D::Link: Send,
+    requires desk { desk_seen K.seen B.seen desk ≡ A.desk }
+    requires clock { C.seen clock ≡ A.clock }
+    requires opened { desk.board.state ≡ desk.board.opening }
+    requires none { desk.board.state.entries ≡ [] }
+    ensures serves { IsServing D.Link.seen (over D.seen door result.door) (over C.seen clock result.clock)
+        (over (desk_at K.seen) desk result.desk) port connections result.end }
+    ensures desk { DeskGoesOn (desk_seen K.seen B.seen desk) (desk_seen K.seen B.seen result.desk) }
+    ensures clock { ClockGoesOn (C.seen clock) (C.seen result.clock) }
+    ensures door { (D.seen door).health.faults ≤ (D.seen result.door).health.faults }
+    ensures steady_door { IsSound (D.seen door).health → HasLinks (D.seen door).links connections
+        → result.end ≢ ends.DoorFault }
 {
-    let mut met = Met {
-        memory: false,
-        clock: false,
-    };
-    let Ok(()) = door.bind(port) else {
-        return ServeEnd::DoorFault;
-    };
-    for before in 0..connections {
-        match serve_next_link(rt, alloc, desk, before + 1, door, clock, steps) {
-            Ok(served) => met = met.after(served),
-            Err(Failed) => return end_at_door(met),
-        }
+    let shared = Shared::<K, B, C, A>::new(alloc, desk, clock);
+    let way = OnDesk { gate };
+    let Finished { value, door, end } = serve_all(rt, alloc, shared, &way, door, port, connections);
+    let (desk, clock) = value.into_parts();
+    Left {
+        desk,
+        clock,
+        door,
+        end,
     }
-    end_of(met)
+}
+
+/// Serves so many connections at a port, in rounds of at most 16 at once, on a desk that was just opened. Each is
+/// served from its acceptance, while the next is waited for, in a thread of its own where one can be had. Its lane is
+/// its number from 1, each of its calls takes a turn of its own, and the gate is called around it. Each link is given
+/// back, in the order of acceptance. A link's own fault ends its connection alone; a fault of the door ends the
+/// serving.
+///
+/// What all of them did stands in one list, that of the desk's history and of what was missed, which has nothing that
+/// no connection asked for.
+pub fn serve_door<
+    R: Threads + Wait + Sync,
+    K: Keeper + Send,
+    B: Bell + Send,
+    C: Clock + Send,
+    D: Door + Drop,
+    G: Gate + Sync,
+>(
+    rt: &R,
+    alloc: Global,
+    desk: Desk<K, B>,
+    clock: C,
+    door: D,
+    gate: &G,
+    port: u16,
+    connections: u32,
+) -> Left<K, B, C, D>
+where
+    D::Link: Send,
+    requires opened { desk.board.state ≡ desk.board.opening }
+    requires none { desk.board.state.entries ≡ [] }
+    ensures serves { IsServing D.Link.seen (over D.seen door result.door) (over C.seen clock result.clock)
+        (over (desk_at K.seen) desk result.desk) port connections result.end }
+    ensures desk { DeskGoesOn (desk_seen K.seen B.seen desk) (desk_seen K.seen B.seen result.desk) }
+    ensures clock { ClockGoesOn (C.seen clock) (C.seen result.clock) }
+    // A fault of the clock isn't passed over: where all was served well, the count stands still.
+    ensures still { result.end ≡ ends.Done → IsStill (C.seen clock).health (C.seen result.clock).health }
+    ensures door { (D.seen door).health.faults ≤ (D.seen result.door).health.faults }
+    // Neither ends the serving where it is sound, and the door has a link to come for each connection.
+    ensures steady_clock { IsSound (C.seen clock).health → result.end ≢ ends.ClockFault }
+    ensures steady_door { IsSound (D.seen door).health → HasLinks (D.seen door).links connections
+        → result.end ≢ ends.DoorFault }
+{
+    serve_from::<R, K, B, C, D, G, Brand>(rt, alloc, desk, clock, door, gate, port, connections)
 }

@@ -19,7 +19,7 @@ use asks::Call;
 use bells::Bell;
 use connections::Unanswered;
 use desk::{Desk, answer};
-use desk_http::Wire;
+use desk_http::{Patterns, Wire};
 use desk_io::{OutOfMemory, Text};
 use desk_net::Clock;
 use keeper::Keeper;
@@ -91,6 +91,7 @@ pub fn exchange<K: Keeper, B: Bell, C: Clock, L: Ledger>(
     desk: &mut Desk<K, B>,
     lane: u32,
     clock: &mut C,
+    patterns: &Patterns,
     wire: &Wire,
     steps: &mut Steps<L>,
 ) -> Result<Text, Unanswered>
@@ -102,7 +103,7 @@ pub fn exchange<K: Keeper, B: Bell, C: Clock, L: Ledger>(
     // Over a sound clock only want of memory leaves a request without a response.
     ensures steady { IsSound (C.seen clock.old).health → result ≢ Err ByClock }
 {
-    match requested_by(alloc, wire) {
+    match requested_by(alloc, patterns, wire) {
         Ok(requested) => {
             let responded = respond(alloc, desk, lane, clock, wire, &requested, steps);
             text_of(alloc, responded)

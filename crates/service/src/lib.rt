@@ -6,11 +6,12 @@ mod exchange;
 mod requested;
 mod responding;
 mod responses;
+mod rounds;
 mod serving;
 mod statuses;
 mod turns;
 
-pub use doors::{ServeEnd, serve_door};
+pub use doors::{Left, serve_door};
 pub use serving::serve_link;
 pub use statuses::status_of;
 pub use turns::serve_turns;

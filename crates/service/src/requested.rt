@@ -5,7 +5,7 @@ ghost use Rattle.call_json.specs.Forms.{AskHasForms, IsShort};
 ghost use Rattle.service.specs.Forms.{RequestedHasForms, RouteHasForms};
 
 use asks::{Ask, BadCall, Call};
-use desk_http::{RouteFault, Routed, Wire, route};
+use desk_http::{Patterns, RouteFault, Routed, Wire, route};
 use desk_io::{OutOfMemory, Text};
 use desk_json::{CallFault, read_call};
 use std::alloc::Global;
@@ -92,11 +92,15 @@ fn asked_by(alloc: Global, wire: &Wire, routed: Routed) -> Result<Requested, Out
 /// What a request asks of the desk. The path comes first, then the method. A view is asked for by the name and the key
 /// of the request's head, under the number 0.
 #[tactic(auto, unfolding(crate::specs::Requested::requested_by))]
-pub fn requested_by(alloc: Global, wire: &Wire) -> Result<Requested, OutOfMemory>
+pub fn requested_by(
+    alloc: Global,
+    patterns: &Patterns,
+    wire: &Wire,
+) -> Result<Requested, OutOfMemory>
     ensures asked { IfOk result (λ r. r ≡ spec.requested_by wire.now) }
     ensures forms { IfOk result RequestedHasForms }
 {
-    match route(alloc, wire) {
+    match route(alloc, patterns, wire) {
         Ok(routed) => asked_by(alloc, wire, routed),
         Err(RouteFault::NoRoute) => Ok(Requested::NoRoute),
         Err(RouteFault::WrongMethod) => Ok(Requested::WrongMethod),

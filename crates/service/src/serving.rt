@@ -10,7 +10,7 @@ use crate::exchange::exchange;
 use bells::Bell;
 use connections::{Served, end_without, write_answer};
 use desk::Desk;
-use desk_http::{Buffer, next_request};
+use desk_http::{Buffer, Patterns, next_request};
 use desk_net::{Clock, Link};
 use keeper::Keeper;
 use rules::Steps;
@@ -25,6 +25,7 @@ fn serve_next<K: Keeper, B: Bell, N: Link, C: Clock, L: Ledger>(
     lane: u32,
     link: &mut N,
     clock: &mut C,
+    patterns: &Patterns,
     buffer: &mut Buffer,
     steps: &mut Steps<L>,
 ) -> Option<Served>
@@ -38,7 +39,7 @@ fn serve_next<K: Keeper, B: Bell, N: Link, C: Clock, L: Ledger>(
 {
     match next_request(alloc, link, buffer) {
         Ok(wire) => {
-            let answered = exchange(alloc, desk, lane, clock, &wire, steps);
+            let answered = exchange(alloc, desk, lane, clock, patterns, &wire, steps);
             write_answer(link, &answered, wire.last)
         }
         Err(fault) => Some(end_without(link, fault)),
@@ -49,9 +50,10 @@ fn serve_next<K: Keeper, B: Bell, N: Link, C: Clock, L: Ledger>(
 /// until it ends.
 ///
 /// What was written is the responses to the requests of the link's bytes, each with the status and the body of what it
-/// was answered, and, where a request can't be read, the answer that ends the connection. Only the answer that was being
-/// written when the link failed, which a sound one never does, or when memory ran out, may be cut or missing. A fault of
-/// reading ends it only where all requests that were read whole are answered. Between two requests it may wait for ever.
+/// was answered, and, where a request can't be read, the answer that ends the connection. Only the answer that was
+/// being written when the link failed, which a sound one never does, or when memory ran out, may be cut or missing. A
+/// fault of reading ends it only where all requests that were read whole are answered. Between two requests it may wait
+/// for ever.
 pub fn serve_link<R: Wait, K: Keeper, B: Bell, N: Link, C: Clock, L: Ledger>(
     rt: &R,
     alloc: Global,
@@ -74,9 +76,21 @@ pub fn serve_link<R: Wait, K: Keeper, B: Bell, N: Link, C: Clock, L: Ledger>(
     ensures steady_clock { IsSound (C.seen clock.old).health → result ≢ ended.ClockFault }
     ensures steady_link { IsSound (N.seen link.old).health → (result ≢ ended.ReadFault) × (result ≢ ended.WriteFault) }
 {
+    let Ok(patterns) = Patterns::new(alloc) else {
+        return Served::OutOfMemory;
+    };
     let mut buffer = Buffer::new(alloc);
     for _ in rt.forever() {
-        if let Some(served) = serve_next(alloc, desk, lane, link, clock, &mut buffer, steps) {
+        if let Some(served) = serve_next(
+            alloc,
+            desk,
+            lane,
+            link,
+            clock,
+            &patterns,
+            &mut buffer,
+            steps,
+        ) {
             return served;
         }
     }

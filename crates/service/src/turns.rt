@@ -15,6 +15,7 @@ ghost use Rattle.service.specs.Connections.{Responds, in_lane};
 ghost use Rattle.service.specs.Forms.{RequestedHasForms};
 ghost use Rattle.service.specs.Requested as spec;
 ghost use Rattle.service.specs.Turning.{GoesInTurns};
+ghost use Rattle.shared_desk.specs.Shared.{IsSharedList};
 ghost use Rattle.turn_lock.specs.Passes.{lock_id, pass_lock, pass_number, pass_numbers, pass_seen};
 
 use crate::requested::{Requested, requested_by};
@@ -23,7 +24,7 @@ use crate::responses::Response;
 use asks::Call;
 use bells::Bell;
 use connections::{Served, Unanswered, end_without, write_answer};
-use desk_http::{Buffer, Wire, next_request};
+use desk_http::{Buffer, Patterns, Wire, next_request};
 use desk_io::{OutOfMemory, Text};
 use desk_net::{Clock, Link};
 use keeper::Keeper;
@@ -51,6 +52,8 @@ fn respond_to_call<R: Wait, K: Keeper, B: Bell, C: Clock, A: Opened, L: Ledger>(
     ensures pass { (pass_lock result.1 ≡ pass_lock pass) × (pass_number result.1 ≡ lane) }
     ensures numbers { pass_numbers result.1 ≡ pass_numbers pass }
     ensures seen { IsPrefix (pass_seen pass) (pass_seen result.1) }
+    ensures shared { IsSharedList A.desk A.clock (pass_seen pass)
+        → IsSharedList A.desk A.clock (pass_seen result.1) }
     ensures responds { Responds lane
         (GoesInTurns A.desk.opening A.clock.dial lane (pass_seen pass) (pass_seen result.1)) wire.now result.0 }
     ensures code { IfOk result.0 (λ r. IsStatusCode r.status) }
@@ -80,6 +83,8 @@ fn respond_in_turn<R: Wait, K: Keeper, B: Bell, C: Clock, A: Opened, L: Ledger>(
     ensures pass { (pass_lock result.1 ≡ pass_lock pass) × (pass_number result.1 ≡ lane) }
     ensures numbers { pass_numbers result.1 ≡ pass_numbers pass }
     ensures seen { IsPrefix (pass_seen pass) (pass_seen result.1) }
+    ensures shared { IsSharedList A.desk A.clock (pass_seen pass)
+        → IsSharedList A.desk A.clock (pass_seen result.1) }
     ensures responds { Responds lane
         (GoesInTurns A.desk.opening A.clock.dial lane (pass_seen pass) (pass_seen result.1)) wire.now result.0 }
     ensures code { IfOk result.0 (λ r. IsStatusCode r.status) }
@@ -101,6 +106,7 @@ fn exchange_in_turn<R: Wait, K: Keeper, B: Bell, C: Clock, A: Opened, L: Ledger>
     lock: &TurnLock<Shared<K, B, C, A>>,
     pass: Pass<Shared<K, B, C, A>>,
     lane: u32,
+    patterns: &Patterns,
     wire: &Wire,
     steps: &mut Steps<L>,
 ) -> (Result<Text, Unanswered>, Pass<Shared<K, B, C, A>>)
@@ -108,11 +114,13 @@ fn exchange_in_turn<R: Wait, K: Keeper, B: Bell, C: Clock, A: Opened, L: Ledger>
     ensures pass { (pass_lock result.1 ≡ pass_lock pass) × (pass_number result.1 ≡ lane) }
     ensures numbers { pass_numbers result.1 ≡ pass_numbers pass }
     ensures seen { IsPrefix (pass_seen pass) (pass_seen result.1) }
+    ensures shared { IsSharedList A.desk A.clock (pass_seen pass)
+        → IsSharedList A.desk A.clock (pass_seen result.1) }
     ensures answers { Answers (in_lane lane)
         (GoesInTurns A.desk.opening A.clock.dial lane (pass_seen pass) (pass_seen result.1)) wire.now result.0 }
     ensures steady { IsSound A.clock.health → result.0 ≢ Err ByClock }
 {
-    match requested_by(alloc, wire) {
+    match requested_by(alloc, patterns, wire) {
         Ok(requested) => {
             let (responded, pass) = respond_in_turn(
                 rt, alloc, lock, pass, lane, wire, &requested, steps,
@@ -131,6 +139,7 @@ fn serve_next_in_turn<R: Wait, K: Keeper, B: Bell, N: Link, C: Clock, A: Opened,
     pass: Pass<Shared<K, B, C, A>>,
     lane: u32,
     link: &mut N,
+    patterns: &Patterns,
     buffer: &mut Buffer,
     steps: &mut Steps<L>,
 ) -> (Option<Served>, Pass<Shared<K, B, C, A>>)
@@ -138,6 +147,8 @@ fn serve_next_in_turn<R: Wait, K: Keeper, B: Bell, N: Link, C: Clock, A: Opened,
     ensures pass { (pass_lock result.1 ≡ pass_lock pass) × (pass_number result.1 ≡ lane) }
     ensures numbers { pass_numbers result.1 ≡ pass_numbers pass }
     ensures seen { IsPrefix (pass_seen pass) (pass_seen result.1) }
+    ensures shared { IsSharedList A.desk A.clock (pass_seen pass)
+        → IsSharedList A.desk A.clock (pass_seen result.1) }
     ensures serves { WroteTo (over N.seen link.old link.new) (λ failed. IsStep (in_lane lane)
         (GoesInTurns A.desk.opening A.clock.dial lane (pass_seen pass) (pass_seen result.1)) failed
         (unused buffer.old (unread (N.seen link.old).stream)) (unused buffer.new (unread (N.seen link.new).stream))
@@ -147,7 +158,9 @@ fn serve_next_in_turn<R: Wait, K: Keeper, B: Bell, N: Link, C: Clock, A: Opened,
 {
     match next_request(alloc, link, buffer) {
         Ok(wire) => {
-            let (answered, pass) = exchange_in_turn(rt, alloc, lock, pass, lane, &wire, steps);
+            let (answered, pass) = exchange_in_turn(
+                rt, alloc, lock, pass, lane, patterns, &wire, steps,
+            );
             (write_answer(link, &answered, wire.last), pass)
         }
         Err(fault) => (Some(end_without(link, fault)), pass),
@@ -159,7 +172,9 @@ fn serve_next_in_turn<R: Wait, K: Keeper, B: Bell, N: Link, C: Clock, A: Opened,
 ///
 /// What was written is the responses to the requests of the link's bytes. Each reply has a place in the list that the
 /// pass has seen then, in order and not before what it had seen; it is the answer there, and what it adds stands there.
-/// The lane has added nothing else, but the miss of a clock that failed, or at most a tick where memory ran out.
+/// The lane has added nothing else, but after all of these the miss of a clock that failed, or at most a tick where memory
+/// ran out. Where what the pass had seen is the list of a shared desk, a legal history with its misses, so is what it has
+/// seen then.
 pub fn serve_turns<R: Wait, K: Keeper, B: Bell, N: Link, C: Clock, A: Opened, L: Ledger>(
     rt: &R,
     alloc: Global,
@@ -173,6 +188,8 @@ pub fn serve_turns<R: Wait, K: Keeper, B: Bell, N: Link, C: Clock, A: Opened, L:
     ensures pass { (pass_lock result.1 ≡ pass_lock pass) × (pass_number result.1 ≡ lane) }
     ensures numbers { pass_numbers result.1 ≡ pass_numbers pass }
     ensures seen { IsPrefix (pass_seen pass) (pass_seen result.1) }
+    ensures shared { IsSharedList A.desk A.clock (pass_seen pass)
+        → IsSharedList A.desk A.clock (pass_seen result.1) }
     ensures serves { WroteTo (over N.seen link.old link.new) (λ failed. IsConnection (in_lane lane)
         (GoesInTurns A.desk.opening A.clock.dial lane (pass_seen pass) (pass_seen result.1)) failed
         (unread (N.seen link.old).stream) (unread (N.seen link.new).stream) result.0) }
@@ -182,6 +199,9 @@ pub fn serve_turns<R: Wait, K: Keeper, B: Bell, N: Link, C: Clock, A: Opened, L:
     ensures steady_link { IsSound (N.seen link.old).health
         → (result.0 ≢ ended.ReadFault) × (result.0 ≢ ended.WriteFault) }
 {
+    let Ok(patterns) = Patterns::new(alloc) else {
+        return (Served::OutOfMemory, pass);
+    };
     let mut buffer = Buffer::new(alloc);
     for _ in rt.forever() {
         let (ended, next) = serve_next_in_turn(
@@ -191,6 +211,7 @@ pub fn serve_turns<R: Wait, K: Keeper, B: Bell, N: Link, C: Clock, A: Opened, L:
             pass,
             lane,
             link,
+            &patterns,
             &mut buffer,
             steps,
         );

@@ -98,12 +98,15 @@ all_added_both opening lane list [] qs = refl
 all_added_both opening lane list (r ∷ rs) qs =
     ap (λ l. added_for opening lane list r ++ l) (all_added_both opening lane list rs qs) ∙ sym (append_assoc (added_for opening lane list r) (all_added opening lane list rs) (all_added opening lane list qs))
 
+-- the replies end within the list
+pub run_within : (opening : State) (dial : Option Dial) (lane : ℕ) (before list : List Event) (rs : List Reply) (last : Last) (is : IsRun opening dial lane before list rs last) → is.top ≤ length list
+run_within opening dial lane before list rs last is = let after = is.after in omega (arith, after, ap length is.stands, length-append is.front is.left)
+
 -- a run that was only answered, and another after it
 pub run_on : (opening : State) (dial : Option Dial) (lane : ℕ) (before middle list : List Event) (rs qs : List Reply) (last : Last) → IsPrefix middle list
     → IsRun opening dial lane before middle rs Answered → IsRun opening dial lane middle list qs last → IsRun opening dial lane before list (rs ++ qs) last
 run_on opening dial lane before middle list rs qs last goes one two =
-    let within = one.within in
-    let top : one.top ≤ length middle = omega (arith, within) in
+    let top = run_within opening dial lane before middle rs Answered one in
     let placed = subst (λ (l : List Event). ArePlaced opening dial lane l (length before) one.top rs) goes.1 (placed_still opening dial lane middle goes.0 (length before) one.top rs top one.placed) in
     let same : all_added opening lane list rs ≡ all_added opening lane middle rs =
     ap (λ (l : List Event). all_added opening lane l rs) (sym goes.1) ∙ all_added_still opening dial lane middle goes.0 (length before) one.top rs top one.placed in
@@ -114,7 +117,9 @@ run_on opening dial lane before middle list rs qs last goes one two =
       is_left = two.is_left;
       top = two.top;
       placed = placed_on opening dial lane list (length before) one.top (length middle) two.top rs qs top placed two.placed;
-      within = two.within;
+      front = two.front;
+      stands = two.stands;
+      after = two.after;
       own =
           two.own
           ∙ (ap (λ l. l ++ (all_added opening lane list qs ++ two.left)) first
@@ -132,7 +137,9 @@ no_run opening dial lane list = record {
   is_left = refl;
   top = length list;
   placed = omega arith;
-  within = omega arith;
+  front = list;
+  stands = sym (append-nil list);
+  after = omega arith;
   own = sym (append-nil (elements_of lane_of lane list));
 }
 
@@ -150,7 +157,9 @@ run_of_one opening dial lane before list call says once =
       is_left = refl;
       top = end_of opening lane list r;
       placed = (record { from = t.from; moment = t.moment; told = t.told; reply = t.reply; stands = t.stands; ends = omega arith }, omega arith);
-      within = omega (arith, ends);
+      front = list;
+      stands = sym (append-nil list);
+      after = omega (arith, ends);
       own = once.2 ∙ ap (λ l. elements_of lane_of lane before ++ l) (sym (append-nil (added_for opening lane list r)) ∙ sym (append-nil (added_for opening lane list r ++ [])));
     }
 
@@ -164,10 +173,21 @@ run_of_miss opening dial lane before list once =
       is_left = (once.1, once.2, refl);
       top = length once.0;
       placed = less;
-      within = omega (arith, ap length once.4, length-append once.0 (missed (miss lane once.1 of.Clock once.2 ∷ [])));
+      front = once.0;
+      stands = once.4;
+      after = omega arith;
       own = once.5;
     }
 
 pub run_of_ticks : (opening : State) (dial : Option Dial) (lane : ℕ) (before list : List Event) → TickedOnce dial lane before list → IsRun opening dial lane before list [] RanOut
 run_of_ticks opening dial lane before list once =
-    record { left = entered once.0; is_left = (once.0, once.1, once.2, refl); top = length before; placed = omega arith; within = once.3; own = once.4 }
+    record {
+      left = entered once.1;
+      is_left = (once.1, once.2, once.3, refl);
+      top = length before;
+      placed = omega arith;
+      front = once.0;
+      stands = once.5;
+      after = prefix_length before once.0 once.4;
+      own = once.6;
+    }

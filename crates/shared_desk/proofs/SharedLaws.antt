@@ -8,7 +8,7 @@ use Rattle.desk.proofs.SeenLaws.{desk_on, desk_stays}
 use Rattle.desk.specs.Keeping.{Choice, Rise, answer_with}
 use Rattle.desk.specs.Seen.{DeskGoesOn, DeskSeen}
 use Rattle.desk.specs.declared.answering.Answered.{Answered}
-use Rattle.desk_io.specs.Health.{IsSound}
+use Rattle.desk_io.specs.Health.{IsSound, IsStill}
 use Rattle.desk_net.proofs.SeenLaws.{clock_on, clock_stays}
 use Rattle.desk_net.specs.Clocks.{Dial, DialGoesOn, StandsAt, dial}
 use Rattle.desk_net.specs.Seen.{ClockGoesOn, ClockSeen}
@@ -21,7 +21,7 @@ use Rattle.desk_state.specs.declared.lanes.Said.{Said}
 use Rattle.desk_state.specs.declared.entry.What.TheVariants as what
 use Rattle.turn_lock.specs.Elements.{Continues, EachBears, elements_of}
 use Rattle.turn_lock.proofs.ElementLaws.{elements_of-append, prefix_trans}
-use Rattle.shared_desk.specs.Events.{after_entries, are_ordered, entered, entries_in, faults_of, is_of, lane_of, merged, miss, missed, state_at}
+use Rattle.shared_desk.specs.Events.{after_entries, are_ordered, entered, entries_in, faults_of, is_of, lane_of, last_or, merged, miss, missed, state_at}
 use Rattle.shared_desk.specs.Shared.{IsSharedSince, IsTimed, IsTold, SharedSeen, events_in}
 use Rattle.shared_desk.specs.Turns.{AnsweredOnce, AnswersInTurn, ComesOnce, FindsNoMemory, GoesInTurn, MissedOnce, MissesClock, TickedOnce, added_at, added_by, IsTickTold, entries_since, missed_by, missed_with, said_in, unkept_in}
 use Rattle.connections.specs.declared.answers.Unanswered.{Unanswered}
@@ -51,6 +51,11 @@ faults_step source m ms ns false is rest = rw is rest
 faults_of-append : (source : MissOf) (ms ns : List Miss) → faults_of source (ms ++ ns) ≡ faults_of source ms ++ faults_of source ns
 faults_of-append source [] ns = refl
 faults_of-append source (m ∷ ms) ns = faults_step source m ms ns (is_of source m.source) refl (faults_of-append source ms ns)
+
+-- the last of numbers that go on with others
+last_on : (n : ℕ) (ns ms : List ℕ) → last_or n (ns ++ ms) ≡ last_or (last_or n ns) ms
+last_on n [] ms = refl
+last_on n (m ∷ ns) ms = last_on m ns ms
 
 -- ---- the moments of the clock
 
@@ -161,6 +166,7 @@ just_opened desk clock opened none = record {
   ordered = refl;
   kept = omega arith;
   timely = omega arith;
+  counted = refl;
   timed = subst (λ (es : List Entry). AllByRecursion (λ e. IsTimed clock.dial e.what) es) (sym none) tt;
   small = subst (λ (es : List Entry). length es + 0 < 2 ^ 63) (sym none) (omega arith);
 }
@@ -185,8 +191,9 @@ pub record HasBoards (old new : SharedSeen) : Type 0 where
 
 shared_on : (desk : DeskSeen) (clock : ClockSeen) (lane : ℕ) (old new : SharedSeen) (more : List Entry) (ms : List Miss) → IsSharedSince desk clock old → HasBoards old new
     → IsAdded lane old new more ms → Rise old.desk.keeper.health.faults (faults_of of.Keeper ms) new.desk.keeper.health.faults
-    → Rise old.clock.health.faults (faults_of of.Clock ms) new.clock.health.faults → AllByRecursion (λ e. IsTimed clock.dial e.what) more → IsSharedSince desk clock new
-shared_on desk clock lane old new more ms since boards added kept timely timed =
+    → Rise old.clock.health.faults (faults_of of.Clock ms) new.clock.health.faults → new.clock.health.faults ≡ last_or old.clock.health.faults (faults_of of.Clock ms)
+    → AllByRecursion (λ e. IsTimed clock.dial e.what) more → IsSharedSince desk clock new
+shared_on desk clock lane old new more ms since boards added kept timely counted timed =
     let desk_goes = desk_on desk old.desk new.desk since.desk_on boards.desk in
     let bound = boards.after.kept.entries in
     let few = boards.few in
@@ -202,6 +209,9 @@ shared_on desk clock lane old new more ms since boards added kept timely timed =
       timely = subst (λ (l : List Miss). Rise clock.health.faults (faults_of of.Clock l) new.clock.health.faults) (sym added.misses)
           (subst (λ (l : List ℕ). Rise clock.health.faults l new.clock.health.faults) (sym (faults_of-append of.Clock old.misses ms))
           (rise_on clock.health.faults (faults_of of.Clock old.misses) (faults_of of.Clock ms) old.clock.health.faults new.clock.health.faults since.timely timely));
+      counted = counted ∙ ap (λ (n : ℕ). last_or n (faults_of of.Clock ms)) since.counted
+          ∙ (sym (last_on clock.health.faults (faults_of of.Clock old.misses) (faults_of of.Clock ms))
+          ∙ ap (last_or clock.health.faults) (sym (ap (faults_of of.Clock) added.misses ∙ faults_of-append of.Clock old.misses ms)));
       timed = subst (λ (l : List Entry). AllByRecursion (λ e. IsTimed clock.dial e.what) l) (sym added.entries) (all_both (λ e. IsTimed clock.dial e.what) old.desk.state.entries more since.timed timed);
       small = omega (arith, bound, few, one, ap length added.misses, length-append old.misses ms);
     }
@@ -210,44 +220,45 @@ keeper_only : (lane position : ℕ) (number : Option ℕ) → (faults_of of.Keep
 keeper_only lane position None = (refl, refl)
 keeper_only lane position (Some faults) = (refl, refl)
 
-answered_on : (desk : DeskSeen) (clock : ClockSeen) (lane : ℕ) (call : Call) (old new : SharedSeen) (says : Said) → IsSharedSince desk clock old → HasBoards old new → AnswersInTurn lane call old new says
-    → IsSharedSince desk clock new
-answered_on desk clock lane call old new says since boards a =
+answered_on : (desk : DeskSeen) (clock : ClockSeen) (lane : ℕ) (call : Call) (old new : SharedSeen) (says : Said) → IsSharedSince desk clock old → HasBoards old new → IsStill old.clock.health new.clock.health
+    → AnswersInTurn lane call old new says → IsSharedSince desk clock new
+answered_on desk clock lane call old new says since boards still a =
     let grows = answer_grows a.choice lane old.desk.state a.at call in
     let own = keeper_only lane (length new.desk.state.entries) (unkept_in says) in
     let later = boards.clock.health.later in
     let rises = told_rises old.desk.opening old.desk.state a.choice lane a.at call old.desk.keeper.health.faults new.desk.keeper.health.faults boards.before a.moment a.counted in
     shared_on desk clock lane old new grows.more (missed_by lane (length new.desk.state.entries) says) since boards (answer_added lane call old new says a)
     (subst (λ (l : List ℕ). Rise old.desk.keeper.health.faults l new.desk.keeper.health.faults) (ap (λ o. option_to_list (unkept_in o)) (sym a.its_outcome) ∙ sym own.0) rises)
-    (subst (λ (l : List ℕ). Rise old.clock.health.faults l new.clock.health.faults) (sym own.1) later)
+    (subst (λ (l : List ℕ). Rise old.clock.health.faults l new.clock.health.faults) (sym own.1) later) (still ∙ ap (last_or old.clock.health.faults) (sym own.1))
     (all_timed clock.dial a.at grows.more (told_by clock.dial old.clock.dial a.at since.clock_on.dial a.stood) grows.ticks)
 
 missed_on : (desk : DeskSeen) (clock : ClockSeen) (lane : ℕ) (old new : SharedSeen) → IsSharedSince desk clock old → HasBoards old new → MissesClock lane old new → IsSharedSince desk clock new
 missed_on desk clock lane old new since boards m =
     let later = boards.desk.keeper.health.later in
     let rose = m.rose in
-    shared_on desk clock lane old new [] (miss lane (length old.desk.state.entries) of.Clock new.clock.health.faults ∷ []) since boards (miss_added lane old new m) later (rose, omega arith) tt
+    shared_on desk clock lane old new [] (miss lane (length old.desk.state.entries) of.Clock new.clock.health.faults ∷ []) since boards (miss_added lane old new m) later (rose, omega arith) refl tt
 
-memory_on : (desk : DeskSeen) (clock : ClockSeen) (lane : ℕ) (old new : SharedSeen) → IsSharedSince desk clock old → HasBoards old new → FindsNoMemory lane old new → IsSharedSince desk clock new
-memory_on desk clock lane old new since boards none =
+memory_on : (desk : DeskSeen) (clock : ClockSeen) (lane : ℕ) (old new : SharedSeen) → IsSharedSince desk clock old → HasBoards old new → IsStill old.clock.health new.clock.health → FindsNoMemory lane old new
+    → IsSharedSince desk clock new
+memory_on desk clock lane old new since boards still none =
     let later = boards.desk.keeper.health.later in
     let ticking = boards.clock.health.later in
     ⊎_elim
     (λ stays.
-    let grows = stays_grown lane 0 old.desk.state new.desk.state stays.1 in shared_on desk clock lane old new [] [] since boards (none_added lane 0 old new grows none.its_misses) later ticking tt)
+    let grows = stays_grown lane 0 old.desk.state new.desk.state stays.1 in shared_on desk clock lane old new [] [] since boards (none_added lane 0 old new grows none.its_misses) later ticking still tt)
     (λ ticked.
     let at = ticked.0 in
     let grows = tick_grows lane at old.desk.state new.desk.state ticked.4 in
-    shared_on desk clock lane old new grows.more [] since boards (none_added lane at old new grows none.its_misses) later ticking
+    shared_on desk clock lane old new grows.more [] since boards (none_added lane at old new grows none.its_misses) later ticking still
     (all_timed clock.dial at grows.more (told_by clock.dial old.clock.dial at since.clock_on.dial ticked.2) (ticks_to at grows.more grows.only)))
     none.either
 
 -- whatever a call comes to
 pub turn_keeps : (desk : DeskSeen) (clock : ClockSeen) (lane : ℕ) (call : Call) (old new : SharedSeen) (r : Result Answered Unanswered) → IsSharedSince desk clock old → HasBoards old new
-    → GoesInTurn lane call old new r → IsSharedSince desk clock new
-turn_keeps desk clock lane call old new (Ok a) since boards goes = answered_on desk clock lane call old new (said_in a) since boards goes
-turn_keeps desk clock lane call old new (Err ClockFault) since boards goes = missed_on desk clock lane old new since boards goes
-turn_keeps desk clock lane call old new (Err OutOfMemory) since boards goes = memory_on desk clock lane old new since boards goes
+    → (r ≢ Err ClockFault → IsStill old.clock.health new.clock.health) → GoesInTurn lane call old new r → IsSharedSince desk clock new
+turn_keeps desk clock lane call old new (Ok a) since boards still goes = answered_on desk clock lane call old new (said_in a) since boards (still (λ is. absurd (cc))) goes
+turn_keeps desk clock lane call old new (Err ClockFault) since boards still goes = missed_on desk clock lane old new since boards goes
+turn_keeps desk clock lane call old new (Err OutOfMemory) since boards still goes = memory_on desk clock lane old new since boards (still (λ is. absurd (cc))) goes
 
 -- a sound clock never fails
 pub steady_clock : (desk : DeskSeen) (clock : ClockSeen) (lane : ℕ) (call : Call) (old new : SharedSeen) (r : Result Answered Unanswered) → IsSharedSince desk clock old
@@ -342,7 +353,7 @@ ticked_once : (desk : DeskSeen) (clock : ClockSeen) (lane at : ℕ) (old new : S
 ticked_once desk clock lane at old new ticks since same told =
     let list = (list_added lane old new ticks.more [] since.ordered (none_added lane at old new ticks same)).0 ∙ ap (λ l. events_in old ++ l) (append-nil (entered ticks.more)) in
     let seam = seam_from lane (events_in old) (events_in new) (entered ticks.more) list (entered_bear lane ticks.more ticks.lanes) in
-    (ticks.more, ticks.few, told, seam.1, seam.2)
+    (events_in old, ticks.more, ticks.few, told, ([], append-nil (events_in old)), list, seam.2)
 
 -- whatever a call comes to
 pub turn_comes : (desk : DeskSeen) (clock : ClockSeen) (lane : ℕ) (call : Call) (old new : SharedSeen) (r : Result Answered Unanswered) → IsSharedSince desk clock old
@@ -374,6 +385,4 @@ comes_for_pass opening clock lane before taken list call (Ok a) front own comes 
 comes_for_pass opening clock lane before taken list call (Err ClockFault) front own comes =
     (comes.0, comes.1, comes.2, prefix_trans before taken comes.0 front comes.3, comes.4, comes.5 ∙ ap (λ l. l ++ missed (miss lane comes.1 of.Clock comes.2 ∷ [])) own)
 comes_for_pass opening clock lane before taken list call (Err OutOfMemory) front own comes =
-    let less = prefix_length before taken front in
-    let fits = comes.3 in
-    (comes.0, comes.1, comes.2, omega (arith, less, fits), comes.4 ∙ ap (λ l. l ++ entered comes.0) own)
+    (comes.0, comes.1, comes.2, comes.3, prefix_trans before taken comes.0 front comes.4, comes.5, comes.6 ∙ ap (λ l. l ++ entered comes.1) own)

@@ -63,3 +63,8 @@ is_of _ _ = false
 -- those of the misses of one object, in order
 abbrev pub faults_of : MissOf → List Miss → List ℕ
 faults_of source ms = map (λ m. m.faults) (filter (λ m. is_of source m.source) ms)
+
+-- the last of these numbers, or the one before them where there are none
+abbrev pub last_or : ℕ → List ℕ → ℕ
+last_or n [] = n
+last_or n (m ∷ ms) = last_or m ms

@@ -43,12 +43,14 @@ IsLeft dial lane Answered left = left ≡ []
 IsLeft dial lane ClockFailed left = (position : ℕ) × (faults : ℕ) × (left ≡ missed (miss lane position of.Clock faults ∷ []))
 IsLeft dial lane RanOut left = (ticks : List Entry) × (length ticks ≤ 1) × AllByRecursion (λ e. IsTickTold dial e.what) ticks × (left ≡ entered ticks)
 
--- The turns of a lane, from what its pass had seen before to what it has seen: the replies are placed, the lane added what they add and what was
--- left, and nothing else.
+-- The turns of a lane, from what its pass had seen before to what it has seen: the replies are placed, what was left stands after them at the
+-- end, and the lane added nothing else.
 pub record IsRun (opening : State) (dial : Option Dial) (lane : ℕ) (before list : List Event) (replies : List Reply) (last : Last) : Type 0 where
   pub left : List Event
   pub is_left : IsLeft dial lane last left
   pub top : ℕ
   pub placed : ArePlaced opening dial lane list (length before) top replies
-  pub within : top + length left ≤ length list
+  pub front : List Event
+  pub stands : list ≡ front ++ left
+  pub after : top ≤ length front
   pub own : elements_of lane_of lane list ≡ elements_of lane_of lane before ++ (all_added opening lane list replies ++ left)

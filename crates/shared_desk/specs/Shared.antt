@@ -11,7 +11,7 @@ use Rattle.desk_state.specs.Legal.{Legal}
 use Rattle.desk_state.specs.declared.entry.What.{What}
 use Rattle.desk_state.specs.declared.entry.What.TheVariants as what
 use Rattle.keeper.specs.Seen.{KeeperSeen}
-use Rattle.shared_desk.specs.Events.{are_ordered, faults_of, merged}
+use Rattle.shared_desk.specs.Events.{are_ordered, faults_of, last_or, merged}
 use Rattle.shared_desk.specs.declared.misses.Event.{Event}
 use Rattle.shared_desk.specs.declared.misses.Miss.{Miss}
 use Rattle.shared_desk.specs.declared.misses.MissOf.TheVariants as of
@@ -52,7 +52,7 @@ IsTimed clock (what.Tick to) = IsTold clock to
 IsTimed clock (what.Asked call reply) = Unit {0}
 
 -- A desk that goes on from how it was opened. The numbers of the misses of each object rise, from its count at the opening to its count now,
--- and every tick is to one of the clock's moments.
+-- the clock's count now is that of its last miss, and every tick is to one of the clock's moments.
 pub record IsSharedSince (desk : DeskSeen) (clock : ClockSeen) (s : SharedSeen) : Type 0 where
   pub desk_on : DeskGoesOn desk s.desk
   pub clock_on : ClockGoesOn clock s.clock
@@ -60,5 +60,12 @@ pub record IsSharedSince (desk : DeskSeen) (clock : ClockSeen) (s : SharedSeen) 
   pub ordered : are_ordered 0 (length s.desk.state.entries) s.misses ≡ true
   pub kept : Rise desk.keeper.health.faults (faults_of of.Keeper s.misses) s.desk.keeper.health.faults
   pub timely : Rise clock.health.faults (faults_of of.Clock s.misses) s.clock.health.faults
+  pub counted : s.clock.health.faults ≡ last_or clock.health.faults (faults_of of.Clock s.misses)
   pub timed : AllByRecursion (λ e. IsTimed clock.dial e.what) s.desk.state.entries
   pub small : length s.desk.state.entries + length s.misses < 2 ^ 63
+
+-- A list is that of such a shared desk: its entries are a legal history from the opening, and the numbers of its misses rise from the counts then.
+pub record IsSharedList (desk : DeskSeen) (clock : ClockSeen) (list : List Event) : Type 0 where
+  pub shared : SharedSeen
+  pub since : IsSharedSince desk clock shared
+  pub is : list ≡ events_in shared

@@ -143,10 +143,10 @@ abbrev pub IsTickTold : Option Dial → What → Type 0
 IsTickTold dial (what.Tick to) = IsTold dial to
 IsTickTold dial (what.Asked call reply) = ⊥
 
--- memory ran out: the lane added at most the tick to such a moment
+-- memory ran out: at most the tick to such a moment is the last that the list has, and the lane added nothing else
 abbrev pub TickedOnce : Option Dial → ℕ → List Event → List Event → Type 0
 TickedOnce dial lane before list =
-    (ticks : List Entry) × (length ticks ≤ 1) × AllByRecursion (λ e. IsTickTold dial e.what) ticks × (length before + length (entered ticks) ≤ length list)
+    (front : List Event) × (ticks : List Entry) × (length ticks ≤ 1) × AllByRecursion (λ e. IsTickTold dial e.what) ticks × IsPrefix before front × (list ≡ front ++ entered ticks)
     × (elements_of lane_of lane list ≡ elements_of lane_of lane before ++ entered ticks)
 
 abbrev pub UnansweredOnce : Option Dial → ℕ → List Event → List Event → Unanswered → Type 0

@@ -4,7 +4,7 @@ ghost use Rattle.desk.specs.Seen.{desk_seen};
 ghost use Rattle.desk.specs.Shown.{IsShown};
 ghost use Rattle.desk_io.specs.Health.{IsSound, IsStill};
 ghost use Rattle.shared_desk.specs.Events.{lane_of};
-ghost use Rattle.shared_desk.specs.Shared.{events_of, seen_by};
+ghost use Rattle.shared_desk.specs.Shared.{IsSharedSince, events_of, seen_by};
 ghost use Rattle.shared_desk.specs.Turns.{ComesOnce, GoesInTurn};
 ghost use Rattle.connections.specs.declared.answers.Unanswered.TheVariants.{ClockFault as ByClock};
 ghost use Rattle.turn_lock.specs.Elements.{Continues};
@@ -76,9 +76,10 @@ impl<K: Keeper, B: Bell, C: Clock, A: Opened> Shared<K, B, C, A> {
         }
     }
 
-    /// The desk and its clock.
+    /// The desk and its clock, and what held of them at every turn.
     pub fn into_parts(self) -> (Desk<K, B>, C)
-        ensures { result ≡ (self.desk, self.clock) }
+        ensures parts { result ≡ (self.desk, self.clock) }
+        ensures since { IsSharedSince A.desk A.clock (seen_by K.seen B.seen C.seen self) }
     {
         let Shared { desk, clock, .. } = self;
         (desk, clock)
@@ -98,6 +99,7 @@ impl<K: Keeper, B: Bell, C: Clock, A: Opened> Shared<K, B, C, A> {
         ensures comes { ComesOnce A.desk.opening A.clock.dial lane (events_of self.old) (events_of self.new) call.now
             result }
         ensures list { Continues lane_of lane (events_of self.old) (events_of self.new) }
+        ensures since { IsSharedSince A.desk A.clock (seen_by K.seen B.seen C.seen self.new) }
         ensures shown { IfOk result (λ a. IsShown a.outcome) }
         ensures still { result ≢ Err ByClock
             → IsStill (C.seen self.old.clock).health (C.seen self.new.clock).health }

@@ -6,12 +6,12 @@ use Rattle.commands.proofs.rung.answer_rung.Goals as goal
 
 pub returns-in-Ok-clause-bells : goal.returns-in-Ok-clause-bells
 returns-in-Ok-clause-bells g c =
-    let said = c.answer_to-answer in
+    let said = c.answer_to-ended in
     let heard = g.B.Bell.seen in
-    let now = hung_all heard said.result.ringer in
+    let now = hung_all heard said.result.ended.ringer in
     record {
       hung = now;
-      rung = subst (λ before. AreRungOver said.result.board before now) c.in-Ok.ensures.ok said.ensures.rung;
+      rung = subst (λ before. AreRungOver said.result.ended.board before now) c.in-Ok.ensures.ok said.ensures.rung;
       stay = c.finish-bells.ensures.bells;
       leave = c.finish-bells.ensures.dropped;
     }

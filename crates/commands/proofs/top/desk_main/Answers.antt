@@ -9,7 +9,7 @@ returns g c =
     let answer = said.result.answer in
     let status = c.write-status.result in
     let sink = over g.O.Sink.seen c.args.out.now c.write-status.new.out in
-    let all = follows g.K.Keeper.seen g.C.Clock.seen g.D.Door.seen g.D.Link.Link.seen c.args.keeper said.result.keeper c.args.clock said.new.clock c.args.door.now said.new.door _ _ said.result.board answer said.ensures.says in
+    let all = follows g.K.Keeper.seen g.C.Clock.seen g.D.Door.seen g.D.Link.Link.seen c.args.keeper said.result.keeper c.args.clock said.result.clock c.args.door said.result.door _ _ said.result.board answer said.ensures.says in
     let on = all.served in
     let cause = status_cause _ sink _ answer status on.still on.tells c.write-status.ensures in
     record {

@@ -1,36 +1,45 @@
-use Rattle.std.proofs.Common.{ap, ◌∙◌, Err}
-use Rattle.commands.proofs.RungLaws.{rung_over}
+use Rattle.std.proofs.Common.{ap, sym, ◌∙◌, Err}
 use Rattle.bells.specs.Ringing.{hung_all}
-use Rattle.commands.proofs.Opened.{keeper_worked, serves_lower, not_opened, worked}
+use Rattle.board.specs.Prepare.{Shown}
+use Rattle.commands.proofs.Opened.{keeper_worked, serves_lower, not_opened, opened_fresh, worked}
+use Rattle.commands.proofs.RungLaws.{rung_over}
 use Rattle.commands.specs.Seen.{service}
 use Rattle.commands.specs.Working.{Serves}
 use Rattle.commands.proofs.working.serve_over.Goals as goal
+
+pub serve-answer-requires-clause-opened : goal.serve-answer-requires-clause-opened
+serve-answer-requires-clause-opened g c κs within =
+    let opened = c.in-Ok.ensures.opened in ap (λ (b : Shown). b.state) opened.shows ∙ sym (ap (λ (b : Shown). b.opening) opened.shows)
+
+pub serve-answer-requires-clause-none : goal.serve-answer-requires-clause-none
+serve-answer-requires-clause-none g c κs within = opened_fresh _ c.args.tables c.in-Ok.desk.board c.in-Ok.ensures.opened c.now.ensures.board
 
 pub returns-in-Ok-clause-opens : goal.returns-in-Ok-clause-opens
 returns-in-Ok-clause-opens g c =
     let opened = c.in-Ok.ensures in
     let work = c.serve-answer in
-    let left = c.left in
-    let served = service g.C.Clock.seen g.D.Door.seen g.D.Link.Link.seen c.args.clock.now work.new.clock c.args.door.now work.new.door in
+    let left = c.left-ended in
+    let served = service g.C.Clock.seen g.D.Door.seen g.D.Link.Link.seen c.args.clock work.result.clock c.args.door work.result.door in
     worked g.K.Keeper.seen g.B.Bell.seen c.args.tables (Serves served c.args.port c.args.connections) (serves_lower served c.args.port c.args.connections) c.args.keeper
-    c.in-Ok.desk work.new.desk work.result left.result left.ensures.answer left.ensures.board left.ensures.keeper
+    c.in-Ok.desk work.result.desk work.result.answer left.result left.ensures.answer left.ensures.board left.ensures.keeper
     opened.opened opened.on opened.kept work.ensures.desk work.ensures.serves left.ensures.holds
 
 pub returns-in-Ok-clause-rung : goal.returns-in-Ok-clause-rung
 returns-in-Ok-clause-rung g c =
     let opened = c.in-Ok.ensures in
     let work = c.serve-answer in
-    let left = c.left in
+    let left = c.left-ended in
     let heard = g.B.Bell.seen in
-    rung_over g.K.Keeper.seen heard _ c.args.tables c.in-Ok.desk work.new.desk left.result (hung_all heard c.args.ringer) left.ensures.board (ap (hung_all heard) left.ensures.ringer)
+    rung_over g.K.Keeper.seen heard _ c.args.tables c.in-Ok.desk work.result.desk left.result (hung_all heard c.args.ringer) left.ensures.board (ap (hung_all heard) left.ensures.ringer)
     (ap (hung_all heard) opened.ringer) opened.opened work.ensures.desk left.ensures.holds
 
 pub returns-in-Ok-clause-keeper : goal.returns-in-Ok-clause-keeper
 returns-in-Ok-clause-keeper g c =
-    keeper_worked g.K.Keeper.seen c.args.keeper c.in-Ok.desk.keeper c.serve-answer.new.desk.keeper c.left.result.keeper c.left.ensures.keeper c.in-Ok.ensures.on c.serve-answer.ensures.desk.keeper
+    keeper_worked g.K.Keeper.seen c.args.keeper c.in-Ok.desk.keeper c.serve-answer.result.desk.keeper c.left-ended.result.keeper c.left-ended.ensures.keeper c.in-Ok.ensures.on c.serve-answer.ensures.desk.keeper
 
 pub returns-in-Err-clause-opens : goal.returns-in-Err-clause-opens
 returns-in-Err-clause-opens g c =
     let opened = c.in-Err.ensures in
-    not_opened g.K.Keeper.seen c.args.tables (Serves (service g.C.Clock.seen g.D.Door.seen g.D.Link.Link.seen c.args.clock.now c.args.clock.now c.args.door.now c.args.door.now) c.args.port c.args.connections) c.args.keeper c.in-Err.field-0.keeper c.in-Err.field-0.why c.boardless.result (c.boardless.ensures.answer ∙ ap (λ f. Err f) c.from.ensures) c.boardless.ensures.none
-    c.boardless.ensures.keeper opened.why opened.left opened.same opened.failed
+    let ended = c.boardless-ended in
+    not_opened g.K.Keeper.seen c.args.tables (Serves (service g.C.Clock.seen g.D.Door.seen g.D.Link.Link.seen c.args.clock c.args.clock c.args.door c.args.door) c.args.port c.args.connections) c.args.keeper c.in-Err.field-0.keeper c.in-Err.field-0.why ended.result (ended.ensures.answer ∙ ap (λ f. Err f) c.from.ensures) ended.ensures.none
+    ended.ensures.keeper opened.why opened.left opened.same opened.failed

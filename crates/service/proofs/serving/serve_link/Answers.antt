@@ -8,8 +8,11 @@ use Rattle.desk_net.proofs.SeenLaws.{clock_stays, clock_on}
 use Rattle.service.specs.Alone.{GoesAlone}
 use Rattle.service.specs.Connections.{in_lane}
 use Rattle.service.proofs.AloneLaws.{goes_none, goes_on}
-use Rattle.service.proofs.Visits.{not_by_clock, not_by_link}
+use Rattle.service.proofs.Endings.{not_by_clock, not_by_link, unserved}
 use Rattle.service.proofs.serving.serve_link.Goals as goal
+
+pub returns-in_default-clause-serves : goal.returns-in_default-clause-serves
+returns-in_default-clause-serves g c = ([], gains_still _, unserved (in_lane c.args.lane) _ _ _ (goes_none _ _ _ _))
 
 pub loop-init : goal.loop-init
 loop-init g c = record {
@@ -56,7 +59,7 @@ loop-preserved g c =
     let lane = c.args.lane in record {
       served = written_on (in_lane lane) (GoesAlone lane (g.C.Clock.seen c.args.clock.now) (g.C.Clock.seen c.loop.clock) _ _ _ _) (GoesAlone lane (g.C.Clock.seen c.loop.clock) (g.C.Clock.seen c.serve_next.new.clock) _ _ _ _)
           (GoesAlone lane (g.C.Clock.seen c.args.clock.now) (g.C.Clock.seen c.serve_next.new.clock) _ _ _ _)
-          (goes_on lane _ _ _ _ _ _ _ _ _ inv.clock) _ _ _ _ _ _ inv.served c.in_default.ensures.serves;
+          (goes_on lane _ _ _ _ _ _ _ _ _ inv.clock) _ _ _ _ _ _ inv.served c.in_default-serve_next.ensures.serves;
       desk = desk_on _ _ _ inv.desk is.desk;
       still = is.still (λ e. absurd (cc)) (λ e. absurd (cc)) ∙ inv.still;
       clock = clock_on _ _ _ inv.clock is.clock;

@@ -1,6 +1,8 @@
+use Rattle.std.proofs.Common.{inl}
 use Rattle.service.specs.Turning.{GoesInTurns}
 use Rattle.service.proofs.ResponseLaws.{answers_of, text_otherwise}
 use Rattle.turn_lock.specs.Passes.{pass_seen}
+use Rattle.service.proofs.TurningLaws.{goes_none}
 use Rattle.service.proofs.turns.exchange_in_turn.Goals as goal
 
 pub returns-in-Ok-clause-answers : goal.returns-in-Ok-clause-answers
@@ -10,3 +12,6 @@ returns-in-Ok-clause-answers g c =
 
 pub returns-in-Ok-clause-steady : goal.returns-in-Ok-clause-steady
 returns-in-Ok-clause-steady g c = λ sound. text_otherwise c.respond_in_turn-responded.result.0 c.text_of.result c.text_of.ensures (c.respond_in_turn-responded.ensures.steady sound)
+
+pub returns-in-Err-clause-answers : goal.returns-in-Err-clause-answers
+returns-in-Err-clause-answers g c = inl (goes_none _ _ _ _)

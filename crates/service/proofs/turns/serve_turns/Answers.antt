@@ -10,12 +10,15 @@ use Rattle.desk_io.specs.Health.{HasFailed}
 use Rattle.desk_net.specs.Streams.{unread}
 use Rattle.service.proofs.TurningLaws.{goes_none}
 use Rattle.service.proofs.TurningLaws as turning
-use Rattle.service.proofs.Visits.{not_by_link}
+use Rattle.service.proofs.Endings.{not_by_link, unserved}
 use Rattle.service.specs.Connections.{in_lane}
 use Rattle.service.specs.Turning.{GoesInTurns}
 use Rattle.turn_lock.proofs.ElementLaws.{prefix_self, prefix_trans}
 use Rattle.turn_lock.specs.Passes.{pass_seen}
 use Rattle.service.proofs.turns.serve_turns.Goals as goal
+
+pub returns-in_default-clause-serves : goal.returns-in_default-clause-serves
+returns-in_default-clause-serves g c = ([], gains_still _, unserved (in_lane c.args.lane) _ _ _ (goes_none _ _ _ _))
 
 pub loop-init : goal.loop-init
 loop-init g c = record {
@@ -23,6 +26,7 @@ loop-init g c = record {
   number = c.requires.lock.1;
   numbers = refl;
   seen = prefix_self _;
+  shared = λ is. is;
   served = ([], gains_still _, begins _ _ _ _ c.new-buffer.ensures (goes_none _ _ _ _));
   link = stays _;
 }
@@ -56,12 +60,13 @@ loop-preserved g c =
     let is = c.serve_next_in_turn-ended.ensures in
     let more = subst (λ r. Wrote (g.N.Link.seen c.loop.link).stream (g.N.Link.seen c.serve_next_in_turn-ended.new.link).stream (IsStep (in_lane c.args.lane) (GoesInTurns g.A.Opened.desk.opening g.A.Opened.clock.dial c.args.lane (pass_seen c.loop.pass) (pass_seen c.serve_next_in_turn-ended.result.1))
     (HasFailed (g.N.Link.seen c.loop.link).health (g.N.Link.seen c.serve_next_in_turn-ended.new.link).health) (unused c.loop.buffer (unread (g.N.Link.seen c.loop.link).stream))
-    (unused c.serve_next_in_turn-ended.new.buffer (unread (g.N.Link.seen c.serve_next_in_turn-ended.new.link).stream)) (unread (g.N.Link.seen c.serve_next_in_turn-ended.new.link).stream) r)) c.in_default.is is.serves in
+    (unused c.serve_next_in_turn-ended.new.buffer (unread (g.N.Link.seen c.serve_next_in_turn-ended.new.link).stream)) (unread (g.N.Link.seen c.serve_next_in_turn-ended.new.link).stream) r)) c.in_default-ended.is is.serves in
     record {
       lock = is.pass.0 ∙ inv.lock;
       number = is.pass.1;
       numbers = is.numbers ∙ inv.numbers;
       seen = prefix_trans before middle list inv.seen is.seen;
+      shared = λ shared. is.shared (inv.shared shared);
       served = written_on (in_lane c.args.lane) (GoesInTurns opening dial c.args.lane before middle) (GoesInTurns opening dial c.args.lane middle list) (GoesInTurns opening dial c.args.lane before list)
           (turning.goes_on opening dial c.args.lane before middle list is.seen) _ _ _ _ _ _ inv.served more;
       link = health.goes_on _ _ _ inv.link is.link;
@@ -71,3 +76,6 @@ pub returns-in-Some-ended-clause-steady_link : goal.returns-in-Some-ended-clause
 returns-in-Some-ended-clause-steady_link g c =
     let serves = returns-in-Some-ended-clause-serves g c in
     λ sound. not_by_link (in_lane c.args.lane) _ _ _ _ _ _ serves.2 (λ failed. failed.1 sound)
+
+pub returns-in-Some-ended-clause-shared : goal.returns-in-Some-ended-clause-shared
+returns-in-Some-ended-clause-shared g c = λ shared. c.serve_next_in_turn-ended.ensures.shared (c.loop.invariant.shared shared)

@@ -7,6 +7,7 @@ use Rattle.desk_net.specs.Seen.{LinkGoesOn}
 use Rattle.desk_net.specs.Streams.{unread}
 use Rattle.service.specs.Connections.{in_lane}
 use Rattle.service.specs.Turning.{GoesInTurns}
+use Rattle.shared_desk.specs.Shared.{IsSharedList}
 use Rattle.turn_lock.specs.Passes.{pass_lock, pass_number, pass_numbers, pass_seen}
 use Rattle.service.proofs.turns.serve_turns.Given as goal
 
@@ -16,6 +17,7 @@ invariant-loop g l = record {
   number : pass_number l.pass ≡ l.lane;
   numbers : pass_numbers l.pass ≡ pass_numbers l.fn.pass;
   seen : IsPrefix (pass_seen l.fn.pass) (pass_seen l.pass);
+  shared : IsSharedList g.A.Opened.desk g.A.Opened.clock (pass_seen l.fn.pass) → IsSharedList g.A.Opened.desk g.A.Opened.clock (pass_seen l.pass);
   served : Wrote (g.N.Link.seen l.fn.link).stream (g.N.Link.seen l.link).stream
       (GoesOn (in_lane l.lane) (GoesInTurns g.A.Opened.desk.opening g.A.Opened.clock.dial l.lane (pass_seen l.fn.pass) (pass_seen l.pass)) (unread (g.N.Link.seen l.fn.link).stream)
       (unused l.buffer (unread (g.N.Link.seen l.link).stream)));

@@ -3,7 +3,7 @@ use Rattle.turn_lock.proofs.ElementLaws.{prefix_trans}
 use Rattle.turn_lock.specs.Elements.{elements_of}
 use Rattle.turn_lock.specs.Passes.{pass_seen, turn_taken}
 use Rattle.shared_desk.specs.Events.{lane_of}
-use Rattle.shared_desk.specs.Shared.{events_of}
+use Rattle.shared_desk.specs.Shared.{events_of, seen_by}
 use Rattle.shared_desk.specs.Turns.{ComesOnce}
 use Rattle.shared_desk.proofs.SharedLaws.{comes_for_pass}
 use Rattle.shared_desk.proofs.turns.answer_in_turn.Goals as goal
@@ -25,3 +25,11 @@ returns-clause-comes g c =
     c.take-turn.ensures.seen own
     (subst (λ l. ComesOnce g.A.Opened.desk.opening g.A.Opened.clock.dial c.args.lane (turn_taken c.take-turn.result) l c.args.call.now c.answer-answered.result) (sym seen)
     (subst (λ l. ComesOnce g.A.Opened.desk.opening g.A.Opened.clock.dial c.args.lane l (events_of c.answer-answered.new.self) c.args.call.now c.answer-answered.result) taken c.answer-answered.ensures.comes))
+
+pub returns-clause-shared : goal.returns-clause-shared
+returns-clause-shared g c =
+    let seen : pass_seen c.give.result ≡ events_of c.answer-answered.new.self = search rules in record {
+      shared = seen_by g.K.Keeper.seen g.B.Bell.seen g.C.Clock.seen c.answer-answered.new.self;
+      since = c.answer-answered.ensures.since;
+      is = seen;
+    }

@@ -13,7 +13,8 @@ invariant_of-self g c =
     let old = parts_seen g.K.Keeper.seen g.B.Bell.seen g.C.Clock.seen inside.desk inside.clock inside.misses.items in
     let new = parts_seen g.K.Keeper.seen g.B.Bell.seen g.C.Clock.seen done.desk done.clock done.misses.items in
     turn_keeps g.A.Opened.desk g.A.Opened.clock c.args.lane c.args.call.now old new c.answer_over-answered.result c.self.invariant
-    record { before = c.now.ensures.board; after = c.now-2.ensures.board; desk = c.answer_over-answered.ensures.desk; clock = c.answer_over-answered.ensures.clock; few = search rules } c.answer_over-answered.ensures.goes
+    record { before = c.now.ensures.board; after = c.now-2.ensures.board; desk = c.answer_over-answered.ensures.desk; clock = c.answer_over-answered.ensures.clock; few = search rules } c.answer_over-answered.ensures.still
+    c.answer_over-answered.ensures.goes
 
 pub returns-clause-comes : goal.returns-clause-comes
 returns-clause-comes g c =
@@ -41,3 +42,6 @@ returns-clause-steady g c =
     let old = parts_seen g.K.Keeper.seen g.B.Bell.seen g.C.Clock.seen inside.desk inside.clock inside.misses.items in
     let new = parts_seen g.K.Keeper.seen g.B.Bell.seen g.C.Clock.seen done.desk done.clock done.misses.items in
     steady_clock g.A.Opened.desk g.A.Opened.clock c.args.lane c.args.call.now old new c.answer_over-answered.result c.self.invariant c.answer_over-answered.ensures.goes
+
+pub returns-clause-since : goal.returns-clause-since
+returns-clause-since g c = invariant_of-self g c

@@ -1,0 +1,87 @@
+-- Connections that come through a door: what became of their links, what they met, and how serving them ended.
+use Rattle.std.specs.Prelude.{◌≡◌, ◌≢◌, ◌⊎◌, ◌<◌, ◌≤◌, ℕ, Bool, true, false, List, [], ◌∷◌, ◌++◌, length, map, filter, Option, None, Some, if◌then◌else◌}
+use Rattle.std.specs.List.{AllByRecursion, list_any}
+use Rattle.connections.specs.declared.doors.Met.{Met}
+use Rattle.connections.specs.declared.doors.ServeEnd.{ServeEnd}
+use Rattle.connections.specs.declared.doors.ServeEnd.TheVariants as ends
+use Rattle.connections.specs.declared.serving.Served.{Served}
+use Rattle.connections.specs.declared.serving.Served.TheVariants as served
+use Rattle.desk_net.specs.Doors.{Links}
+
+-- a link as it came and as it was when its connection ended, how it ended, and whether the link was given back
+pub record Visit (L : Type 0) : Type 0 where
+  pub came : L
+  pub went : L
+  pub served : Served
+  pub back : Bool
+
+abbrev pub came_of : {L : Type 0} → List (Visit L) → List L
+came_of vs = map (λ v. v.came) vs
+
+abbrev pub back_of : {L : Type 0} → List (Visit L) → List L
+back_of vs = map (λ v. v.went) (filter (λ v. v.back) vs)
+
+-- They were the first of those to come, and those that were given back stand last of those that were, in their order.
+pub record TakesLinks {L : Type 0} (old new : Links L) (vs : List (Visit L)) : Type 0 where
+  pub coming : old.coming ≡ came_of vs ++ new.coming
+  pub ended : new.ended ≡ old.ended ++ back_of vs
+
+abbrev pub AreTaken : {L : Type 0} → Option (Links L) → Option (Links L) → List (Visit L) → Type 0
+AreTaken None None vs = Unit {0}
+AreTaken (Some old) (Some new) vs = TakesLinks old new vs
+AreTaken _ _ vs = ⊥
+
+-- so many links are to come, or the door doesn't tell
+abbrev pub HasLinks : {L : Type 0} → Option (Links L) → ℕ → Type 0
+HasLinks None n = Unit {0}
+HasLinks (Some told) n = n ≤ length told.coming
+
+-- memory didn't run out
+abbrev pub HadMemory : {L : Type 0} → Visit L → Type 0
+HadMemory v = (v.back ≡ true) × (v.served ≢ served.OutOfMemory)
+
+-- nor did the clock fail
+abbrev pub IsWell : {L : Type 0} → Visit L → Type 0
+IsWell v = HadMemory v × (v.served ≢ served.ClockFault)
+
+abbrev pub is_clock_fault : Served → Bool
+is_clock_fault served.ClockFault = true
+is_clock_fault other = false
+
+-- a connection that ended by a fault of the clock
+abbrev pub ended_by_clock : {L : Type 0} → Visit L → Bool
+ended_by_clock v = is_clock_fault v.served
+
+-- fewer than so many, or none
+abbrev pub AreFewer : {L : Type 0} → ℕ → List (Visit L) → Type 0
+AreFewer most [] = Unit {0}
+AreFewer most (v ∷ vs) = length (v ∷ vs) < most
+
+-- How serving so many connections ends. A fault of the door alone ends it early, but for want of memory before the first: that is free.
+abbrev pub EndsServing : {L : Type 0} → Type 0 → ℕ → List (Visit L) → ServeEnd → Type 0
+EndsServing door most vs ends.Done = (length vs ≡ most) × AllByRecursion IsWell vs
+EndsServing door most vs ends.DoorFault = door × AreFewer most vs × AllByRecursion HadMemory vs
+EndsServing door most vs ends.ClockFault = (length vs ≡ most) × AllByRecursion HadMemory vs × (list_any ended_by_clock vs ≡ true)
+EndsServing door most vs ends.OutOfMemory = (length vs ≡ most) ⊎ ((door × AreFewer most vs) ⊎ (vs ≡ []))
+
+-- Where a link came, that is the port at which the door was opened last.
+abbrev pub AreAtPort : {L : Type 0} → Option ℕ → ℕ → List (Visit L) → Type 0
+AreAtPort opened_at port [] = Unit {0}
+AreAtPort opened_at port (v ∷ vs) = opened_at ≡ Some port
+
+-- ---- what connections have met so far
+
+-- a link that can't be given back counts as want of memory
+abbrev pub counts_as : {L : Type 0} → Visit L → Served
+counts_as v = if v.back then v.served else served.OutOfMemory
+
+abbrev pub met_after : Met → Served → Met
+met_after m served.OutOfMemory = record m { memory = true }
+met_after m served.ClockFault = record m { clock = true }
+met_after m other = m
+
+abbrev pub end_of : Met → ServeEnd
+end_of m = if m.memory then ends.OutOfMemory else (if m.clock then ends.ClockFault else ends.Done)
+
+abbrev pub end_at_door : Met → ServeEnd
+end_at_door m = if m.memory then ends.OutOfMemory else ends.DoorFault

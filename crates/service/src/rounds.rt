@@ -1,0 +1,105 @@
+ghost use Rattle.std.specs.Prelude.{◌≡◌, ◌<◌};
+ghost use mathlib.Core.List.{IsPrefix};
+ghost use Rattle.service.specs.Doors.{IsServedInTurns};
+ghost use Rattle.turn_lock.specs.Passes.{lock_id, pass_lock, pass_number, pass_numbers, pass_seen};
+
+use crate::turns::serve_turns;
+use bells::Bell;
+use connections::{Serving, Visited};
+use desk::Gate;
+use desk_net::{Clock, Link};
+use keeper::Keeper;
+use rules::Steps;
+use shared_desk::{Event, Opened, Shared};
+use std::alloc::Global;
+use std::marker::Brand;
+use std::sync::Wait;
+use std::sync::ledger::{Blank, Ledger};
+use turn_lock::{Pass, TurnLock};
+
+fn serve_counted<R: Wait, K: Keeper, B: Bell, N: Link, C: Clock, A: Opened, L: Ledger>(
+    rt: &R,
+    alloc: Global,
+    lock: &TurnLock<Shared<K, B, C, A>>,
+    pass: Pass<Shared<K, B, C, A>>,
+    lane: u32,
+    mut link: N,
+    blank: Blank,
+) -> (Visited<N>, Pass<Shared<K, B, C, A>>)
+    requires name { blank.name ≡ L.name }
+    requires parts { blank.parts ≡ L.parts }
+    requires some { 0 < blank.parts }
+    requires lock { (pass_lock pass ≡ lock_id lock.now) × (pass_number pass ≡ lane) }
+    ensures pass { (pass_lock result.1 ≡ pass_lock pass) × (pass_number result.1 ≡ lane) }
+    ensures numbers { pass_numbers result.1 ≡ pass_numbers pass }
+    ensures seen { IsPrefix (pass_seen pass) (pass_seen result.1) }
+    ensures served { IsServedInTurns N.seen A.desk.opening A.clock lane (pass_seen pass) (pass_seen result.1) link
+        result.0.link result.0.served }
+{
+    let mut steps = Steps::<L>::new(blank);
+    let (served, pass) = serve_turns(rt, alloc, lock, pass, lane, &mut link, &mut steps);
+    link.end();
+    (Visited { link, served }, pass)
+}
+
+// Serves a connection by turns, and ends its link. How many plans are judged isn't counted.
+fn serve_own<R: Wait, K: Keeper, B: Bell, N: Link, C: Clock, A: Opened>(
+    rt: &R,
+    alloc: Global,
+    lock: &TurnLock<Shared<K, B, C, A>>,
+    pass: Pass<Shared<K, B, C, A>>,
+    lane: u32,
+    link: N,
+) -> (Visited<N>, Pass<Shared<K, B, C, A>>)
+    requires lock { (pass_lock pass ≡ lock_id lock.now) × (pass_number pass ≡ lane) }
+    ensures pass { (pass_lock result.1 ≡ pass_lock pass) × (pass_number result.1 ≡ lane) }
+    ensures numbers { pass_numbers result.1 ≡ pass_numbers pass }
+    ensures seen { IsPrefix (pass_seen pass) (pass_seen result.1) }
+    ensures served { IsServedInTurns N.seen A.desk.opening A.clock lane (pass_seen pass) (pass_seen result.1) link
+        result.0.link result.0.served }
+{
+    serve_counted::<R, K, B, N, C, A, Brand>(rt, alloc, lock, pass, lane, link, Blank::new(1))
+}
+
+/// The way in which a connection is served over a desk that is shared. The gate is called around it.
+#[derive(Drop)]
+pub(crate) struct OnDesk<'a, G> {
+    pub gate: &'a G,
+}
+
+impl<'a, K: Keeper, B: Bell, N: Link, C: Clock, A: Opened, G: Gate> Serving<
+    Event,
+    TurnLock<Shared<K, B, C, A>>,
+    Pass<Shared<K, B, C, A>>,
+    N,
+> for OnDesk<'a, G> {
+    ghost use Rattle.connections.specs.Rounds.{of_turns};
+    ghost use Rattle.service.specs.Doors.{IsServedInTurns};
+
+    ghost sight = { of_turns };
+
+    ghost says = { λ lane before seen came went how.
+        IsServedInTurns N.seen A.desk.opening A.clock lane before seen came went how };
+
+    fn serve<R: Wait>(
+        &self,
+        rt: &R,
+        alloc: Global,
+        lock: &TurnLock<Shared<K, B, C, A>>,
+        pass: Pass<Shared<K, B, C, A>>,
+        lane: u32,
+        link: N,
+    ) -> (Visited<N>, Pass<Shared<K, B, C, A>>)
+        requires lock { (pass_lock pass ≡ lock_id lock.now) × (pass_number pass ≡ lane) }
+        ensures pass { (pass_lock result.1 ≡ pass_lock pass) × (pass_number result.1 ≡ lane) }
+        ensures numbers { pass_numbers result.1 ≡ pass_numbers pass }
+        ensures seen { IsPrefix (pass_seen pass) (pass_seen result.1) }
+        ensures says { IsServedInTurns N.seen A.desk.opening A.clock lane (pass_seen pass) (pass_seen result.1) link
+            result.0.link result.0.served }
+    {
+        self.gate.before(lane, 1);
+        let (visited, pass) = serve_own(rt, alloc, lock, pass, lane, link);
+        self.gate.after(lane, 1);
+        (visited, pass)
+    }
+}
