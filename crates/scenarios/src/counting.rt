@@ -4,10 +4,11 @@ use std::alloc::Global;
 use std::sync::atomic::{AtomicBool, AtomicU64, Ordering};
 
 /// A gate that counts what it hears: how many items are to come, how many have passed, and whether each item of lane 1
-/// came once and in order, and all of them once it was said how many are to come.
+/// came once and in order, and none before it was said how many are to come, where that is said.
 #[derive(Drop)]
 pub struct GateThatCounts {
     is_told: AtomicBool,
+    has_begun: AtomicBool,
     all: AtomicU64,
     passed: AtomicU64,
     // The calls for items of lane 1, two for each.
@@ -20,6 +21,7 @@ impl GateThatCounts {
     pub fn new() -> Self {
         GateThatCounts {
             is_told: AtomicBool::new(false),
+            has_begun: AtomicBool::new(false),
             all: AtomicU64::new(0),
             passed: AtomicU64::new(0),
             calls: AtomicU64::new(0),
@@ -33,29 +35,32 @@ impl GateThatCounts {
 
     // The call of that number comes for lane 1, from 1.
     fn comes(&self, lane: u32, number: u64) {
-        if !self.is_told.load(Ordering::SeqCst) {
-            self.stray();
-        }
+        self.has_begun.store(true, Ordering::SeqCst);
         if lane == 1 && self.calls.swap(number, Ordering::SeqCst).saturating_add(1) != number {
             self.stray();
         }
     }
 
-    /// What it heard, as JSON: `[ITEMS, PASSED, ORDER]`, or null where it heard of no items.
+    /// What it heard, as JSON: `[ITEMS, PASSED, ORDER]`, with null for the first where that wasn't said; or null where
+    /// it heard nothing.
     pub fn text(&self, alloc: Global) -> Result<String, OutOfMemory> {
-        if !self.is_told.load(Ordering::SeqCst) {
-            return Ok(String::from_str(alloc, "null")?);
-        }
+        let is_told = self.is_told.load(Ordering::SeqCst);
         let all = self.all.load(Ordering::SeqCst);
         let passed = self.passed.load(Ordering::SeqCst);
         let order = !self.strayed.load(Ordering::SeqCst);
-        Ok(format!(in alloc; "[{all},{passed},{order}]")?)
+        if is_told {
+            return Ok(format!(in alloc; "[{all},{passed},{order}]")?);
+        }
+        if self.has_begun.load(Ordering::SeqCst) {
+            return Ok(format!(in alloc; "[null,{passed},{order}]")?);
+        }
+        Ok(String::from_str(alloc, "null")?)
     }
 }
 
 impl Gate for GateThatCounts {
     fn expects(&self, items: u64) {
-        if self.is_told.swap(true, Ordering::SeqCst) {
+        if self.is_told.swap(true, Ordering::SeqCst) || self.has_begun.load(Ordering::SeqCst) {
             self.stray();
         }
         self.all.store(items, Ordering::SeqCst);

@@ -14,31 +14,33 @@
 //! - `rows`: the rows that the keeper holds at first, lines `KIND KEY BODY` in order.
 //! - `clock`: a list of the moments that the clock gives, the last one again and again. Without it that is
 //!   2000-01-01T00:00Z.
-//! - `links`: a list of `{"input": TEXT, "cut": N}`: what comes to the door, at most N bytes at once, or 4,096 where that
-//!   isn't said. Where none is left to come the door fails.
+//! - `links`: a list of `{"input": TEXT, "cut": N, "after": M}`: what comes to the door, at most N bytes at once, or
+//!   4,096 where that isn't said, and nothing before the link of the number M (from 1) has ended, or the one before it
+//!   where that isn't said; 0 stands for none. Where none is left to come the door fails.
 //! - `bells`: a list of the dispatchers whose notices are rung for, one bell for each; `*` stands for all.
-//! - `fail`: which calls fail, lists of numbers from 0, of `shelf`, `sink`, `keeper` (its commits, and with `"load"` its
-//!   rows can't be loaded), `clock` and `door` (its opening, and each link that it is asked for), and such a list for each
-//!   link (its reads and writes together) in the list `links`, and for each bell in the list `bells`. A step counts from 0
-//!   again.
+//! - `fail`: which calls fail, lists of numbers from 0, of `shelf`, `sink`, `keeper` (its commits, and with `"load"`
+//!   its rows can't be loaded), `clock` and `door` (its opening, and each link that it is asked for), and such a list
+//!   for each link (its reads and writes together) in the list `links`, and for each bell in the list `bells`. A step
+//!   counts from 0 again.
 //! - `unmade`: calls that would fail, of the same form, but mustn't be made.
 //! - what must come; what is missing isn't compared: `status`; `board`, whether one is left; `port`, where the door was
 //!   opened, or null; `asked`, how many moments the clock gave; `written`, a text; `left`, the rows that the
-//!   keeper holds at last; `links_written`, a list of texts, of the links that were given back; `heard`, a list of texts,
-//!   of the bells, with a line `DESK RELEASE vVERSION WORD` for each notice, where WORD is opened, changed or closed;
-//!   `dropped`, a list of `[PLACE, COUNT]` of the bells that failed, their places from 0 and how many notices they heard;
-//!   and `gate`, `[ITEMS, PASSED, ORDER]`: how many items the gate was told of before the first, around how many it was
-//!   called, and whether it was called for those of lane 1 in order; or null, where it was told of none.
-//! - `steps`: a list of objects of these keys but `rows`, played one after another over the rows that the one before left.
-//!   What a step lacks it takes from its case.
+//!   keeper holds at last; `links_written`, a list of texts, of the links that were given back; `heard`, a list of
+//!   texts, of the bells, with a line `DESK RELEASE vVERSION WORD` for each notice, where WORD is opened, changed or
+//!   closed; `dropped`, a list of `[PLACE, COUNT]` of the bells that failed, their places from 0 and how many notices
+//!   they heard; and `gate`, `[ITEMS, PASSED, ORDER]`: how many items the gate was told of before the first, or null
+//!   where it wasn't told, around how many it was called, and whether it was called for those of lane 1 in order; or
+//!   null, where it was neither told nor called.
+//! - `steps`: a list of objects of these keys but `rows`, played one after another over the rows that the one before
+//!   left. What a step lacks it takes from its case.
 //! - `each`: `{"from": A, "to": B}`: the case is played for each number from A to B, and `"each"` stands for the number
 //!   wherever one is read.
 //!
-//! A text is a string; or a list of lines, each a string, or an object that stands for its compact form; or, also in such a
-//! list, `{"text": NAME}`, `{"times": N, "text": NAME}`, `{"hex": DIGITS}`, `{"file": PATH}` or `{"join": [TEXT, ..]}`.
-//! For a text that must come there may stand an object of `first`, its first line, and of `lines`, `prefix` and `part`,
-//! lists of `[LINE, COUNT]`: so many lines are this one, begin with it, or have it in them; a line is a string, or JSON that
-//! stands for its compact form. `left` may be `{"same": true}`: the rows as they were before.
+//! A text is a string; or a list of lines, each a string, or an object that stands for its compact form; or, also in
+//! such a list, `{"text": NAME}`, `{"times": N, "text": NAME}`, `{"hex": DIGITS}`, `{"file": PATH}` or `{"join": [TEXT,
+//! ..]}`. For a text that must come there may stand an object of `first`, its first line, and of `lines`, `prefix` and
+//! `part`, lists of `[LINE, COUNT]`: so many lines are this one, begin with it, or have it in them; a line is a string,
+//! or JSON that stands for its compact form. `left` may be `{"same": true}`: the rows as they were before.
 #![tactic(auto)]
 
 mod cases;

@@ -9,12 +9,14 @@ use crate::outside::{CaseClock, CaseDoor, CaseKeeper};
 use crate::play::Play;
 use crate::texts::text_of;
 use bells::MemoryBell;
-use desk_io::{MemorySink, Row, Shelf, Text};
+use desk_io::{MemorySink, OutOfMemory, Row, Shelf, Text};
 use desk_net::{MemoryClock, MemoryDoor, MemoryLink};
 use desk_time::{FIRST, Minute, read_minute};
 use keeper::{MemoryKeeper, is_rising};
 use serde_json::Value;
 use std::alloc::Global;
+use std::sync::Arc;
+use std::sync::atomic::AtomicBool;
 
 // How many bytes a link gives at once, where a case doesn't say it.
 const CUT: u64 = 4_096;
@@ -93,7 +95,7 @@ fn link_of<'a, F: Shelf>(
     link: &'a Value,
     fail: Vec<u64>,
 ) -> Result<MemoryLink, CaseFault<'a>> {
-    check_keys(link, &["input", "cut"], &[], "links")?;
+    check_keys(link, &["input", "cut", "after"], &[], "links")?;
     let Some(input) = link.get("input") else {
         return Err(CaseFault::Unread("input"));
     };
@@ -115,6 +117,39 @@ fn links_in<'a, F: Shelf>(
     Ok(links)
 }
 
+// The place of the link that must have ended before anything comes of the one at a place: the one before it, where a
+// case doesn't say which.
+fn after_of<'a>(
+    play: &Play<'a>,
+    link: &'a Value,
+    place: usize,
+) -> Result<Option<usize>, CaseFault<'a>> {
+    match link.get("after") {
+        None => Ok(place.checked_sub(1)),
+        Some(value) => match play.number(value) {
+            Some(number) => Ok((number as usize).checked_sub(1)),
+            None => Err(CaseFault::Unread("after")),
+        },
+    }
+}
+
+fn order_of<'a>(play: &Play<'a>, listed: &'a [Value]) -> Result<Vec<Option<usize>>, CaseFault<'a>> {
+    let mut order = Vec::new(play.alloc);
+    for (i, link) in listed.iter().enumerate() {
+        order.push(after_of(play, link, i)?)?;
+    }
+    Ok(order)
+}
+
+// None of so many links has ended.
+fn unended(alloc: Global, count: usize) -> Result<Arc<Vec<AtomicBool>, Global>, OutOfMemory> {
+    let mut ended = Vec::new(alloc);
+    for _ in 0..count {
+        ended.push(AtomicBool::new(false))?;
+    }
+    Ok(Arc::new(alloc, ended)?)
+}
+
 /// The door of a play.
 pub fn door_of<'a, F: Shelf>(play: &Play<'a>, files: &mut F) -> Result<CaseDoor, CaseFault<'a>> {
     let listed = match play.part("links") {
@@ -122,8 +157,11 @@ pub fn door_of<'a, F: Shelf>(play: &Play<'a>, files: &mut F) -> Result<CaseDoor,
         Some(listed) => items_of(listed, "links")?,
     };
     let fail = failing(play, "door")?;
+    let order = order_of(play, listed)?;
+    let ended = unended(play.alloc, listed.len())?;
     let links = links_in(play, files, listed)?;
-    Ok(CaseDoor::new(MemoryDoor::new(play.alloc, links, fail)))
+    let door = MemoryDoor::new(play.alloc, links, fail);
+    Ok(CaseDoor::new(door, order, ended))
 }
 
 fn bell_of<'a>(

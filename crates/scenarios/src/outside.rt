@@ -3,11 +3,14 @@ ghost use Rattle.desk_io.specs.Health.{unsound};
 ghost use Rattle.desk_io.specs.InMemory.{shelf_seen};
 ghost use Rattle.desk_net.specs.InMemory.{door_seen};
 
-use desk_io::{Change, Failed, MemoryShelf, OutOfMemory, Row, Shelf};
-use desk_net::{Clock, Door, MemoryClock, MemoryDoor, MemoryLink};
+use desk_io::{Change, Failed, MemoryShelf, OutOfMemory, PutFault, Row, Shelf};
+use desk_net::{Clock, Door, Link, MemoryClock, MemoryDoor, MemoryLink};
 use desk_time::Minute;
 use keeper::{KeepFault, Keeper, MemoryKeeper};
 use std::alloc::Global;
+use std::sync::Arc;
+use std::sync::atomic::{AtomicBool, Ordering};
+use std::thread::yield_now;
 
 /// A shelf in memory that counts its calls.
 #[derive(Drop)]
@@ -86,17 +89,97 @@ impl Clock for CaseClock {
     }
 }
 
+// How often a link looks whether another one has ended before it fails.
+const MOST_TURNS: u32 = 20_000_000;
+
+/// A link in memory of which nothing comes before another one of its door has ended.
+#[derive(Drop)]
+pub struct CaseLink {
+    link: MemoryLink,
+    place: usize,
+    after: Option<usize>,
+    ended: Arc<Vec<AtomicBool>, Global>,
+    faults: u64,
+}
+
+impl CaseLink {
+    // Waits for the link that must have ended, and answers whether it has.
+    fn may_come(&self) -> bool {
+        let Some(place) = self.after else {
+            return true;
+        };
+        let Some(ended) = self.ended.get(place) else {
+            return true;
+        };
+        for _ in 0..MOST_TURNS {
+            if ended.load(Ordering::SeqCst) {
+                return true;
+            }
+            yield_now();
+        }
+        false
+    }
+}
+
+impl Link for CaseLink {
+    ghost seen = { λ l. record { stream = None; health = unsound l.faults } };
+
+    fn read(&mut self, into: &mut [u8]) -> Result<usize, Failed> {
+        if self.may_come() {
+            if let Ok(count) = self.link.read(into) {
+                return Ok(count);
+            }
+        }
+        self.faults = self.faults.saturating_add(1);
+        Err(Failed)
+    }
+
+    fn write(&mut self, bytes: &[u8]) -> Result<(), PutFault> {
+        let answer = self.link.write(bytes);
+        if answer == Err(PutFault::Failed) {
+            self.faults = self.faults.saturating_add(1);
+        }
+        answer
+    }
+
+    fn end(&mut self) {
+        if let Some(ended) = self.ended.get(self.place) {
+            ended.store(true, Ordering::SeqCst);
+        }
+    }
+
+    fn faults(&self) -> u64 {
+        self.faults
+    }
+}
+
 /// A door in memory that counts its calls.
 #[derive(Drop)]
 pub struct CaseDoor {
     door: MemoryDoor,
+    after: Vec<Option<usize>>,
+    ended: Arc<Vec<AtomicBool>, Global>,
+    came: usize,
     calls: u64,
+    faults: u64,
 }
 
 impl CaseDoor {
-    /// The door, of which nothing was asked yet.
-    pub fn new(door: MemoryDoor) -> Self {
-        CaseDoor { door, calls: 0 }
+    /// The door, of which nothing was asked yet; for each of its links the place of the one that must have ended before
+    /// anything comes of it, and which have ended.
+    pub fn new(
+        door: MemoryDoor,
+        after: Vec<Option<usize>>,
+        ended: Arc<Vec<AtomicBool>, Global>,
+    ) -> Self {
+        CaseDoor {
+            door,
+            after,
+            ended,
+            came: 0,
+            calls: 0,
+            faults: 0,
+        }
     }
 
     /// How often it was opened or asked for a link.
@@ -116,26 +199,43 @@ impl CaseDoor {
 }
 
 impl Door for CaseDoor {
-    type Link = MemoryLink;
+    type Link = CaseLink;
 
-    ghost seen = { λ d. door_seen d.door };
+    ghost seen = { λ d. record { links = None; opened_at = (door_seen d.door).opened_at; health = unsound d.faults } };
 
     fn bind(&mut self, port: u16) -> Result<(), Failed> {
         self.calls = self.calls.saturating_add(1);
-        self.door.bind(port)
+        let answer = self.door.bind(port);
+        if answer.is_err() {
+            self.faults = self.faults.saturating_add(1);
+        }
+        answer
     }
 
-    fn accept(&mut self) -> Result<MemoryLink, Failed> {
+    fn accept(&mut self) -> Result<CaseLink, Failed> {
         self.calls = self.calls.saturating_add(1);
-        self.door.accept()
+        if let (Ok(ended), Ok(link)) = (Arc::try_clone(&self.ended), self.door.accept()) {
+            let place = self.came;
+            self.came = place.saturating_add(1);
+            let after = self.after.get(place).copied().flatten();
+            return Ok(CaseLink {
+                link,
+                place,
+                after,
+                ended,
+                faults: 0,
+            });
+        }
+        self.faults = self.faults.saturating_add(1);
+        Err(Failed)
     }
 
-    fn done(&mut self, link: MemoryLink) -> Result<(), OutOfMemory> {
-        self.door.done(link)
+    fn done(&mut self, link: CaseLink) -> Result<(), OutOfMemory> {
+        self.door.done(link.link)
     }
 
     fn faults(&self) -> u64 {
-        self.door.faults()
+        self.faults
     }
 }
 

@@ -36,27 +36,29 @@ pub struct Played {
     pub gate: GateThatCounts,
 }
 
-// What a command came to: its status, whether a board is left, and the keeper, the clock and the bells that were given
-// back.
+// What a command came to: its status, whether a board is left, and the keeper, the clock, the door and the bells that
+// were given back.
 #[derive(Drop)]
-struct Came<K, C, B> {
+struct Came<K, C, D, B> {
     status: u8,
     board: bool,
     keeper: K,
     clock: C,
+    door: D,
     bells: Vec<B>,
     dropped: Vec<Dropped<B>>,
 }
 
-// What words come to. The promises of the program's call end here, over type parameters, so that they are paid for once.
+// What words come to. The promises of the program's call end here, over type parameters, so that they are paid for
+// once.
 fn came_of<
     R: Threads + Wait + Sync,
     S: Shelf,
     O: Sink,
-    C: Clock + Drop,
+    C: Clock + Send + Drop,
     K: Keeper + Send,
     B: Bell + Send + Drop,
-    D: Door,
+    D: Door + Drop,
     G: Gate + Sync,
 >(
     rt: &R,
@@ -66,15 +68,19 @@ fn came_of<
     out: &mut O,
     clock: C,
     keeper: K,
-    door: &mut D,
+    door: D,
     gate: &G,
     bells: Vec<B>,
-) -> Came<K, C, B> {
+) -> Came<K, C, D, B>
+where
+    D::Link: Send,
+{
     let Ending {
         status,
         board,
         keeper,
         clock,
+        door,
         bells,
         dropped,
     } = desk_main(
@@ -85,6 +91,7 @@ fn came_of<
         board: board.is_some(),
         keeper,
         clock,
+        door,
         bells,
         dropped,
     }
@@ -99,7 +106,7 @@ pub fn play<R: Threads + Wait + Sync>(rt: &R, alloc: Global, outside: Outside) -
         mut sink,
         clock,
         keeper,
-        mut door,
+        door,
         bells,
     } = outside;
     let gate = GateThatCounts::new();
@@ -108,10 +115,11 @@ pub fn play<R: Threads + Wait + Sync>(rt: &R, alloc: Global, outside: Outside) -
         board,
         keeper,
         clock,
+        door,
         bells,
         dropped,
     } = came_of(
-        rt, alloc, &words, &mut shelf, &mut sink, clock, keeper, &mut door, &gate, bells,
+        rt, alloc, &words, &mut shelf, &mut sink, clock, keeper, door, &gate, bells,
     );
     Played {
         status,
