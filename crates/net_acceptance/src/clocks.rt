@@ -27,7 +27,7 @@ fn a_clock_gives_its_moments_in_order_and_then_the_last_one_again(
 
 // A clock of the system that stands at so many seconds since 1970, or fails.
 #[derive(Drop)]
-struct Standing(Option<u64>);
+pub(crate) struct Standing(pub Option<u64>);
 
 impl time::Clock for Standing {
     fn monotonic(&self) -> io::Result<Duration> {

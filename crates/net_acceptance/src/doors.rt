@@ -1,5 +1,5 @@
 use desk_io::{OutOfMemory, PutFault};
-use desk_net::{Door, END_SECONDS, Link, MemoryDoor, MemoryLink, TcpDoor, TcpLink, WAIT_SECONDS};
+use desk_net::{Door, Link, MemoryDoor, MemoryLink, TcpDoor, TcpLink};
 use std::alloc::Global;
 use std::io::{Read, Write};
 use std::net::{Ipv4Addr, Net, OpenStream, Shutdown, TcpStream};
@@ -121,7 +121,7 @@ fn a_link_waits_half_a_minute_for_its_caller(rt: HostRuntime) -> Result<(), Fail
     let twin = stream.try_clone()?;
     assert!(rt; twin.read_timeout()? == None && twin.write_timeout()? == None);
     let _link = TcpLink::new(stream, &rt)?;
-    let limit = Some(Duration::from_secs(WAIT_SECONDS));
+    let limit = Some(Duration::from_secs(30));
     assert!(rt; twin.read_timeout()? == limit && twin.write_timeout()? == limit);
     Ok(())
 }
@@ -152,7 +152,7 @@ fn a_silent_caller_holds_the_end_for_two_seconds(rt: HostRuntime) -> Result<(), 
     let start = Instant::now(&rt)?;
     assert!(rt; echo(&mut door));
     let held = start.elapsed(&rt)?.as_secs();
-    assert!(rt; END_SECONDS - 1 <= held && held <= END_SECONDS + 8);
+    assert!(rt; 1 <= held && held <= 10);
     let mut heard = Vec::new(rt.alloc());
     caller.read_to_end(&mut heard)?;
     assert!(rt; heard.as_slice() == b"word".as_slice());

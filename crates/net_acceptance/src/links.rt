@@ -1,8 +1,10 @@
+use crate::clocks::Standing;
 use desk_io::{Failed, PutFault};
 use desk_net::{Link, MemoryLink, TcpLink};
 use std::io;
 use std::io::{Read, Write};
-use std::net::OpenStream;
+use std::net::{OpenStream, Shutdown};
+use std::sync::atomic::{AtomicBool, AtomicUsize, Ordering};
 use std::test::Fail;
 use std::time::Duration;
 
@@ -115,5 +117,60 @@ fn an_error_of_the_stream_is_a_fault(rt: HostRuntime) -> Result<(), Fail> {
     // its end can't be told, which is no fault
     link.end();
     assert!(rt; link.faults() == 2);
+    Ok(())
+}
+
+// A stream whose peer sends without end. It can be read once its writing has ended, and counts what was read.
+#[derive(Drop)]
+struct Endless<'a> {
+    is_shut: &'a AtomicBool,
+    given: &'a AtomicUsize,
+}
+
+impl<'a> Read for Endless<'a> {
+    fn read(&mut self, into: &mut [u8]) -> io::Result<usize> {
+        if !self.is_shut.load(Ordering::SeqCst) {
+            return Err(io::Error::from(io::ErrorKind::WouldBlock));
+        }
+        self.given.fetch_add(into.len(), Ordering::SeqCst);
+        Ok(into.len())
+    }
+}
+
+impl<'a> Write for Endless<'a> {
+    fn write(&mut self, bytes: &[u8]) -> io::Result<usize> {
+        Ok(bytes.len())
+    }
+
+    fn flush(&mut self) -> io::Result<()> {
+        Ok(())
+    }
+}
+
+impl<'a> OpenStream for Endless<'a> {
+    fn set_read_timeout(&self, _limit: Option<Duration>) -> io::Result<()> {
+        Ok(())
+    }
+
+    fn set_write_timeout(&self, _limit: Option<Duration>) -> io::Result<()> {
+        Ok(())
+    }
+
+    fn shutdown(&self, how: Shutdown) -> io::Result<()> {
+        self.is_shut.store(how == Shutdown::Write, Ordering::SeqCst);
+        Ok(())
+    }
+}
+
+#[test]
+fn an_end_ends_the_writing_and_then_drops_four_mebibytes(rt: HostRuntime) -> Result<(), Fail> {
+    let (is_shut, given) = (AtomicBool::new(false), AtomicUsize::new(0));
+    let stream = Endless {
+        is_shut: &is_shut,
+        given: &given,
+    };
+    let mut link = TcpLink::new(stream, Standing(Some(0)))?;
+    link.end();
+    assert!(rt; given.load(Ordering::SeqCst) == 4_194_304 && link.faults() == 0);
     Ok(())
 }

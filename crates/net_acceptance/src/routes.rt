@@ -1,4 +1,4 @@
-use desk_http::{RouteFault, Routed, Wire, route};
+use desk_http::{Patterns, RouteFault, Routed, Wire, route};
 use desk_io::{OutOfMemory, Text, push_all};
 use std::alloc::Global;
 use std::test::Fail;
@@ -30,8 +30,9 @@ fn push_routed(alloc: Global, out: &mut Vec<u8>, routed: &Routed) -> Result<(), 
 
 // Whether a request by that method and path is routed so.
 fn is_routed(alloc: Global, get: bool, path: &[u8], want: &[u8]) -> Result<bool, OutOfMemory> {
+    let patterns = Patterns::new(alloc)?;
     let mut shown = Vec::new(alloc);
-    match route(alloc, &wire_of(alloc, get, path)?) {
+    match route(alloc, &patterns, &wire_of(alloc, get, path)?) {
         Ok(routed) => push_routed(alloc, &mut shown, &routed)?,
         Err(RouteFault::NoRoute) => push_all(&mut shown, &[b"NoRoute"])?,
         Err(RouteFault::WrongMethod) => push_all(&mut shown, &[b"WrongMethod"])?,
