@@ -175,7 +175,7 @@ class Desk:
     def done(self, calls):
         """What a run of calls says that ends well: the replies, and the closing text."""
         calls = list(calls)
-        run = self.run(calls)
+        run = self.run(calls, seconds=60 + len(calls) // 200)
         expect("the status of a run that says %.200s" % run.said, 0, run.status)
         lines = run.said.decode().splitlines(keepends=True)
         return [json.loads(it) for it in lines[:len(calls)]], "".join(lines[len(calls):])
