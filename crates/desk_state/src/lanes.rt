@@ -1,11 +1,11 @@
-use asks::{BadCall, Call, Reply};
+use asks::{BadCall, HeldCall, Reply};
 use desk_time::Minute;
 
 /// What a lane asks next.
 #[derive(Debug, Drop)]
 pub enum Item {
     /// A call at a moment.
-    Call { at: Minute, call: Call },
+    Call { at: Minute, call: HeldCall },
     /// A text that is no call, and its first fault.
     Bad(BadCall),
 }

@@ -4,13 +4,13 @@ ghost use Rattle.imports.specs.Records as spec;
 ghost use Rattle.imports.specs.Records.{HasForms, IsRecordOf};
 
 use crate::fields::{is_short, is_text};
-use asks::{Ask, BadCall, Call, CallWhy};
+use asks::{Ask, BadCall, Call, CallWhy, HeldCall};
 use desk_io::{OutOfMemory, Text};
 use desk_time::{Minute, read_minute, read_number};
 use std::alloc::Global;
 
 /// What a record asks and when, or its first fault.
-pub type Line = Result<(Minute, Call), BadCall>;
+pub type Line = Result<(Minute, HeldCall), BadCall>;
 
 fn bad(alloc: Global, why: CallWhy, key: &str) -> Result<Line, OutOfMemory>
     ensures value { IfOk result (λ line. line ≡ spec.bad why key.now) }
@@ -74,7 +74,8 @@ fn line_of(
     if !is_text(text) {
         return bad_value(alloc, "text");
     }
-    Ok(Ok((at, admit_of(alloc, actor, key, number, text)?)))
+    let call = admit_of(alloc, actor, key, number, text)?;
+    Ok(Ok((at, HeldCall::of(alloc, call)?)))
 }
 
 fn record_or_fault(alloc: Global, fields: &[Text]) -> Result<Line, OutOfMemory>
