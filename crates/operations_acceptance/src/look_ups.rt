@@ -36,7 +36,18 @@ fn has_items_and_people(tables: &Tables) -> bool {
         && tables.actor(b"C8").is_none()
 }
 
-fn has_all(tables: &Tables) -> Option<[bool; 4]> {
+fn has_hours(tables: &Tables) -> bool {
+    tables.hours(b"C7", b"A320") == 250
+        && tables.hours(b"C7", b"B763") == 400
+        && tables.hours(b"C9", b"A320") == 0
+        && tables.hours(b"A320", b"C7") == 0
+}
+
+fn has_captains(tables: &Tables) -> bool {
+    tables.has_captain(b"C9") && !tables.has_captain(b"D1") && !tables.has_captain(b"C8")
+}
+
+fn has_all(tables: &Tables) -> Option<[bool; 6]> {
     let boston = Station::read(b"KBOS")?;
     let kennedy = Station::read(b"KJFK")?;
     let philadelphia = Station::read(b"KPHL")?;
@@ -46,11 +57,13 @@ fn has_all(tables: &Tables) -> Option<[bool; 4]> {
         has_minima(tables, philadelphia, shannon),
         has_aircraft(tables, philadelphia, shannon),
         has_items_and_people(tables),
+        has_hours(tables),
+        has_captains(tables),
     ])
 }
 
 fn are_looked_up(_: Global, tables: &Tables) -> Result<bool, OutOfMemory> {
-    Ok(has_all(tables) == Some([true; 4]))
+    Ok(has_all(tables) == Some([true; 6]))
 }
 
 #[test]

@@ -14,6 +14,7 @@ use Rattle.ops_tables.specs.declared.rows.Route.{Route}
 use Rattle.ops_tables.specs.declared.rows.MelRow.{MelRow}
 use Rattle.ops_tables.specs.declared.rows.ItemPair.{ItemPair}
 use Rattle.ops_tables.specs.declared.rows.Actor.{Actor}
+use Rattle.ops_tables.specs.declared.rows.CaptainHours.{CaptainHours}
 
 abbrev pub is_same_airport : Airport → Airport → Bool
 is_same_airport a b = is_station b.station a.station
@@ -47,6 +48,9 @@ is_same_pair a b = is_pair b a.kind a.item a.other
 
 abbrev pub is_same_actor : Actor → Actor → Bool
 is_same_actor a b = bytes_eq b.name a.name
+
+abbrev pub is_same_hours : CaptainHours → CaptainHours → Bool
+is_same_hours a b = bytes_eq b.captain a.captain && bytes_eq b.kind a.kind
 
 -- no row after some earlier ones has the key of one before it
 abbrev pub AreNew : {R : Type 0} → (R → R → Bool) → List R → List R → Type 0

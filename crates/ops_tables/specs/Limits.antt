@@ -14,6 +14,7 @@ use Rattle.ops_tables.specs.declared.rows.Distance.{Distance}
 use Rattle.ops_tables.specs.declared.rows.MelRow.{MelRow}
 use Rattle.ops_tables.specs.declared.rows.ItemPair.{ItemPair}
 use Rattle.ops_tables.specs.declared.rows.Actor.{Actor}
+use Rattle.ops_tables.specs.declared.rows.CaptainHours.{CaptainHours}
 
 pub record FitsSettings (s : Settings) : Type 0 where
   pub hold_minutes : s.hold_minutes ≤ 1440
@@ -71,3 +72,7 @@ pub record FitsPair (p : ItemPair) : Type 0 where
 
 pub record FitsActor (a : Actor) : Type 0 where
   pub name : IsTrue (is_person a.name && is_key a.key)
+
+pub record FitsHours (h : CaptainHours) : Type 0 where
+  pub names : IsTrue (is_person h.captain && is_name h.kind)
+  pub hours : h.hours ≤ 100000

@@ -1,7 +1,7 @@
 -- Tables whose rows name what stands in the tables.
 use Rattle.std.specs.Prelude.{IsTrue, ◌&&◌, All}
 use Rattle.ops_tables.specs.Limits.{FitsSettings}
-use Rattle.ops_tables.specs.Tables.{TableRows, has_airport, has_type, has_item}
+use Rattle.ops_tables.specs.Tables.{TableRows, has_airport, has_type, has_item, has_captain}
 
 pub record AreLinked (t : TableRows) : Type 0 where
   pub settings : FitsSettings t.settings
@@ -13,3 +13,4 @@ pub record AreLinked (t : TableRows) : Type 0 where
   pub routes : All (λ r. IsTrue (has_airport t r.from && has_airport t r.to)) t.routes
   pub mel : All (λ r. IsTrue (has_type t r.kind)) t.mel
   pub pairs : All (λ r. IsTrue (has_type t r.kind && has_item t r.kind r.item && has_item t r.kind r.other)) t.pairs
+  pub hours : All (λ r. IsTrue (has_captain t r.captain && has_type t r.kind)) t.hours

@@ -1,11 +1,12 @@
--- Tables whose names have their forms.
-use Rattle.std.specs.Prelude.{◌≡◌, true}
+-- Tables whose names have their forms, and whose hours of captains are within their limit.
+use Rattle.std.specs.Prelude.{◌≡◌, ◌≤◌, true}
 use Rattle.std.specs.List.{AllByRecursion}
 use Rattle.ops_tables.specs.Forms.{is_tail, is_item, is_person}
 use Rattle.ops_tables.specs.Tables.{TableRows}
 
--- the names of aircraft, of items and of persons, which what the desk keeps names
+-- the names of aircraft, of items and of persons, and the hours of captains, which stand in what the desk keeps
 pub record AreNamed (t : TableRows) : Type 0 where
   pub tails : AllByRecursion (λ r. is_tail r.tail ≡ true) t.tails
   pub items : AllByRecursion (λ r. is_item r.item ≡ true) t.mel
   pub people : AllByRecursion (λ a. is_person a.name ≡ true) t.actors
+  pub hours : AllByRecursion (λ h. h.hours ≤ 100_000) t.hours

@@ -16,4 +16,5 @@ shown t = record {
   mel = t.mel;
   pairs = t.pairs;
   actors = t.actors;
+  hours = t.hours;
 }

@@ -1,5 +1,5 @@
 -- The tables as lists of rows, and what is looked up in them.
-use Rattle.std.specs.Prelude.{ℕ, Bool, ◌&&◌, ◌||◌, List, Option, None, Some, find, filter, is_some}
+use Rattle.std.specs.Prelude.{ℕ, Bool, true, false, ◌&&◌, ◌||◌, List, Option, None, Some, find, filter, is_some}
 use Rattle.std.specs.List.{list_any}
 use Rattle.std.specs.Option.{option_map}
 use Rattle.std.specs.Str.{bytes_eq}
@@ -16,8 +16,11 @@ use Rattle.ops_tables.specs.declared.rows.Route.{Route}
 use Rattle.ops_tables.specs.declared.rows.MelRow.{MelRow}
 use Rattle.ops_tables.specs.declared.rows.ItemPair.{ItemPair}
 use Rattle.ops_tables.specs.declared.rows.Actor.{Actor}
+use Rattle.ops_tables.specs.declared.rows.CaptainHours.{CaptainHours}
+use Rattle.ops_tables.specs.declared.rows.Role.{Role}
+use Rattle.ops_tables.specs.declared.rows.Role.TheVariants.{D, C, F, M, S}
 
--- the twelve tables, each as its rows in the order of the file
+-- the thirteen tables, each as its rows in the order of the file
 pub record TableRows : Type 0 where
   pub settings : Settings
   pub airports : List Airport
@@ -31,6 +34,7 @@ pub record TableRows : Type 0 where
   pub mel : List MelRow
   pub pairs : List ItemPair
   pub actors : List Actor
+  pub hours : List CaptainHours
 
 abbrev pub is_station : Station → Station → Bool
 is_station a b = bytes_eq a b
@@ -86,6 +90,14 @@ are_paired t kind one two = has_pair t kind one two || has_pair t kind two one
 abbrev pub actor_of : TableRows → List ℕ → Option Actor
 actor_of t name = find (λ a. bytes_eq a.name name) t.actors
 
+abbrev pub hours_by : Option CaptainHours → ℕ
+hours_by None = 0
+hours_by (Some row) = row.hours
+
+-- the hours of a captain as pilot in command in a type; 0 where there is no row
+abbrev pub hours_of : TableRows → List ℕ → List ℕ → ℕ
+hours_of t captain kind = hours_by (find (λ h. bytes_eq h.captain captain && bytes_eq h.kind kind) t.hours)
+
 -- the approaches of a station, in the order of the file
 abbrev pub approaches_of : TableRows → Station → List Approach
 approaches_of t s = filter (λ a. is_station a.station s) t.approaches
@@ -103,3 +115,17 @@ has_type t kind = is_some (type_named t kind)
 
 abbrev pub has_item : TableRows → List ℕ → List ℕ → Bool
 has_item t kind item = is_some (item_of t kind item)
+
+abbrev pub is_captain_role : Role → Bool
+is_captain_role D = false
+is_captain_role C = true
+is_captain_role F = false
+is_captain_role M = false
+is_captain_role S = false
+
+abbrev pub is_captain : Option Actor → Bool
+is_captain None = false
+is_captain (Some actor) = is_captain_role actor.role
+
+abbrev pub has_captain : TableRows → List ℕ → Bool
+has_captain t name = is_captain (actor_of t name)

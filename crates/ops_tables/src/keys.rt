@@ -7,7 +7,8 @@ ghost use Rattle.ops_tables.specs.SameGroup as same;
 
 use crate::grouped::{GroupName, Row, group_name};
 use crate::{
-    Actor, Airport, AlternateRow, Approach, Distance, ItemPair, MelRow, Route, Tail, TypeRow, Use,
+    Actor, Airport, AlternateRow, Approach, CaptainHours, Distance, ItemPair, MelRow, Route, Tail,
+    TypeRow, Use,
 };
 
 impl Row<4> for Airport {
@@ -232,5 +233,25 @@ impl Row<48> for Actor {
 
     fn has_key_of(&self, other: &Actor) -> bool {
         other.name.bytes() == self.name.bytes()
+    }
+}
+
+impl Row<48> for CaptainHours {
+    ghost name = { λ r. spec.group_name r.captain r.kind [] };
+
+    ghost is_same_key = { keys.is_same_hours };
+
+    ghost Fits = { limits.FitsHours };
+
+    ghost limit = { 20_000 };
+
+    ghost same_group = { λ a b h. same.two_parts b.captain b.kind a.captain a.kind h };
+
+    fn group_name(&self) -> GroupName {
+        group_name(self.captain.bytes(), self.kind.bytes(), b"")
+    }
+
+    fn has_key_of(&self, other: &CaptainHours) -> bool {
+        other.captain.bytes() == self.captain.bytes() && other.kind.bytes() == self.kind.bytes()
     }
 }

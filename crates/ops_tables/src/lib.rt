@@ -14,7 +14,7 @@ pub use grouped::{Grouped, Row};
 pub use loading::Loading;
 pub use names::has_name;
 pub use rows::{
-    Actor, Airport, AlternateRow, Approach, Category, Distance, ItemPair, Lost, MelRow, Names,
-    Role, Route, Settings, Tail, TypeRow, Use,
+    Actor, Airport, AlternateRow, Approach, CaptainHours, Category, Distance, ItemPair, Lost,
+    MelRow, Names, Role, Route, Settings, Tail, TypeRow, Use,
 };
 pub use tables::Tables;

@@ -1,12 +1,12 @@
 ghost use Rattle.std.specs.Prelude.{◌≡◌};
-ghost use Rattle.ops_tables.specs.Tables.{has_airport, has_type, has_item};
+ghost use Rattle.ops_tables.specs.Tables.{has_airport, has_type, has_item, has_captain};
 ghost use Rattle.ops_tables.specs.Shown.{shown};
 
 use crate::grouped::Grouped;
-use crate::lookups::{airport_in, item_in, type_in};
+use crate::lookups::{airport_in, captain_in, item_in, type_in};
 use crate::{
-    Actor, Airport, AlternateRow, Approach, Distance, ItemPair, MelRow, Route, Settings, Tail,
-    TypeRow, Use,
+    Actor, Airport, AlternateRow, Approach, CaptainHours, Distance, ItemPair, MelRow, Route,
+    Settings, Tail, TypeRow, Use,
 };
 use stations::Station;
 
@@ -25,6 +25,7 @@ pub struct Loading {
     pub mel: Grouped<MelRow, 48>,
     pub pairs: Grouped<ItemPair, 48>,
     pub actors: Grouped<Actor, 48>,
+    pub hours: Grouped<CaptainHours, 48>,
 }
 
 impl Loading {
@@ -47,5 +48,12 @@ impl Loading {
         ensures { result ≡ has_item (shown self.now) kind.now item.now }
     {
         item_in(&self.mel, kind, item).is_some()
+    }
+
+    /// Whether there is a person of that name who may be the pilot in command.
+    pub fn has_captain(&self, name: &[u8]) -> bool
+        ensures { result ≡ has_captain (shown self.now) name.now }
+    {
+        captain_in(&self.actors, name)
     }
 }

@@ -2,15 +2,17 @@ ghost use Rattle.std.specs.Prelude.{◌≡◌, ◌≤◌, ◌&&◌, IfSome, find
 ghost use Rattle.std.specs.List.{list_any};
 ghost use Rattle.std.specs.Option.{option_copied, option_map};
 ghost use Rattle.std.specs.Str.{bytes_eq};
-ghost use Rattle.ops_tables.specs.Limits.{FitsAirport, FitsType, FitsItem};
-ghost use Rattle.ops_tables.specs.Tables.{is_station, is_pair};
+ghost use Rattle.ops_tables.specs.Limits.{FitsAirport, FitsType, FitsItem, FitsHours};
+ghost use Rattle.ops_tables.specs.Tables.{is_station, is_pair, is_captain, hours_by};
 
 use crate::grouped::{Grouped, group_name};
 use crate::search::{
-    actor_among, airport_among, is_paired, is_route, is_used, item_among, miles_among, tail_among,
-    type_among,
+    actor_among, airport_among, hours_among, is_paired, is_route, is_used, item_among, miles_among,
+    tail_among, type_among,
 };
-use crate::{Actor, Airport, Distance, ItemPair, MelRow, Route, Tail, TypeRow, Use};
+use crate::{
+    Actor, Airport, CaptainHours, Distance, ItemPair, MelRow, Role, Route, Tail, TypeRow, Use,
+};
 use stations::Station;
 
 /// The airport of a station.
@@ -96,4 +98,41 @@ pub(crate) fn actor_in<'a>(rows: &'a Grouped<Actor, 48>, name: &[u8]) -> Option<
     ensures { option_copied result ≡ find (λ a. bytes_eq a.name name.now) rows.now }
 {
     actor_among(rows.at(&group_name(name, b"", b"")), name)
+}
+
+/// Whether the person of that name may be the pilot in command.
+pub(crate) fn captain_in(rows: &Grouped<Actor, 48>, name: &[u8]) -> bool
+    ensures { result ≡ is_captain (find (λ a. bytes_eq a.name name.now) rows.now) }
+{
+    match actor_in(rows, name) {
+        None => false,
+        Some(actor) => match actor.role {
+            Role::C => true,
+            Role::D | Role::F | Role::M | Role::S => false,
+        },
+    }
+}
+
+fn hours_row_in<'a>(
+    rows: &'a Grouped<CaptainHours, 48>,
+    captain: &[u8],
+    kind: &[u8],
+) -> Option<&'a CaptainHours>
+    ensures value { option_copied result
+        ≡ find (λ h. bytes_eq h.captain captain.now && bytes_eq h.kind kind.now) rows.now }
+    ensures within { IfSome result (λ h. FitsHours h.now) }
+{
+    hours_among(rows.at(&group_name(captain, kind, b"")), captain, kind)
+}
+
+/// The hours of a captain in a type; 0 where there is no row.
+pub(crate) fn hours_in(rows: &Grouped<CaptainHours, 48>, captain: &[u8], kind: &[u8]) -> u32
+    ensures value { result
+        ≡ hours_by (find (λ h. bytes_eq h.captain captain.now && bytes_eq h.kind kind.now) rows.now) }
+    ensures within { result ≤ 100_000 }
+{
+    match hours_row_in(rows, captain, kind) {
+        None => 0,
+        Some(row) => row.hours,
+    }
 }

@@ -171,3 +171,11 @@ pub struct Actor {
     pub key: Text,
     pub role: Role,
 }
+
+/// The hours of a captain as pilot in command in a type of aircraft.
+#[derive(Debug, Drop)]
+pub struct CaptainHours {
+    pub captain: Text,
+    pub kind: Text,
+    pub hours: u32,
+}

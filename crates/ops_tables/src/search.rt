@@ -2,10 +2,10 @@ ghost use Rattle.std.specs.Prelude.{◌≡◌, ◌≤◌, ◌&&◌, All, IfSome,
 ghost use Rattle.std.specs.List.{list_any};
 ghost use Rattle.std.specs.Option.{option_copied, option_map};
 ghost use Rattle.std.specs.Str.{bytes_eq};
-ghost use Rattle.ops_tables.specs.Limits.{FitsAirport, FitsType, FitsDistance, FitsItem};
+ghost use Rattle.ops_tables.specs.Limits.{FitsAirport, FitsType, FitsDistance, FitsItem, FitsHours};
 ghost use Rattle.ops_tables.specs.Tables.{is_station, is_pair};
 
-use crate::{Actor, Airport, Distance, ItemPair, MelRow, Route, Tail, TypeRow, Use};
+use crate::{Actor, Airport, CaptainHours, Distance, ItemPair, MelRow, Route, Tail, TypeRow, Use};
 use stations::Station;
 
 /// The first airport of a station.
@@ -85,4 +85,18 @@ pub(crate) fn actor_among<'a>(rows: &'a [Actor], name: &[u8]) -> Option<&'a Acto
     ensures { option_copied result ≡ find (λ a. bytes_eq a.name name.now) rows.now }
 {
     rows.iter().find(|a| a.name.bytes() == name)
+}
+
+/// The first row of a captain and a type.
+pub(crate) fn hours_among<'a>(
+    rows: &'a [CaptainHours],
+    captain: &[u8],
+    kind: &[u8],
+) -> Option<&'a CaptainHours>
+    ensures value { option_copied result
+        ≡ find (λ h. bytes_eq h.captain captain.now && bytes_eq h.kind kind.now) rows.now }
+    ensures within { All FitsHours rows.now → IfSome result (λ h. FitsHours h.now) }
+{
+    rows.iter()
+        .find(|h| h.captain.bytes() == captain && h.kind.bytes() == kind)
 }

@@ -4,12 +4,12 @@ ghost use Rattle.ops_tables.specs.Limits.{FitsSettings, FitsAirport, FitsApproac
 ghost use Rattle.ops_tables.specs.Linked.{AreLinked};
 ghost use Rattle.ops_tables.specs.Named.{AreNamed};
 ghost use Rattle.ops_tables.specs.Shown.{shown};
-ghost use Rattle.ops_tables.specs.Tables.{airport_of, tail_named, type_of, may_use, miles_of, route_free, item_of, are_paired, actor_of, approaches_of, alternates_of};
+ghost use Rattle.ops_tables.specs.Tables.{airport_of, tail_named, type_of, may_use, miles_of, route_free, item_of, are_paired, actor_of, hours_of, has_captain, approaches_of, alternates_of};
 
 use crate::loading::Loading;
 use crate::lookups::{
-    actor_in, airport_in, is_paired_in, is_route_in, is_used_in, item_in, miles_in, tail_in,
-    type_in,
+    actor_in, airport_in, captain_in, hours_in, is_paired_in, is_route_in, is_used_in, item_in,
+    miles_in, tail_in, type_in,
 };
 use crate::{Actor, Airport, AlternateRow, Approach, MelRow, Settings, TypeRow};
 use stations::Station;
@@ -46,7 +46,8 @@ impl Tables {
         Tables { loaded }
     }
 
-    /// The names of its aircraft, items and persons have their forms: a law, which does nothing.
+    /// The names of its aircraft, items and persons have their forms, and its hours of captains are within their
+    /// limit: a law, which does nothing.
     pub fn are_named(&self)
         ensures { AreNamed self.now }
     {
@@ -132,6 +133,22 @@ impl Tables {
         ensures { option_copied result ≡ actor_of self.now name.now }
     {
         actor_in(&self.loaded.actors, name)
+    }
+
+    /// Whether there is a person of that name who may be the pilot in command.
+    pub fn has_captain(&self, name: &[u8]) -> bool
+        ensures { result ≡ has_captain self.now name.now }
+    {
+        captain_in(&self.loaded.actors, name)
+    }
+
+    /// The hours of a captain as pilot in command in a type, 0 where there is no row (14 CFR 121.652). It
+    /// takes no memory.
+    pub fn hours(&self, captain: &[u8], kind: &[u8]) -> u32
+        ensures value { result ≡ hours_of self.now captain.now kind.now }
+        ensures within { result ≤ 100_000 }
+    {
+        hours_in(&self.loaded.hours, captain, kind)
     }
 
     /// The approaches of a station in the order of the file, none where there are none.

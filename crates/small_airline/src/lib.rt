@@ -1,4 +1,4 @@
-//! A small airline for tests: the texts of its twelve tables, its scripts and reports, and whether plans and
+//! A small airline for tests: the texts of its thirteen tables, its scripts and reports, and whether plans and
 //! phases have the form in which they may be checked.
 #![tactic(auto)]
 
@@ -27,7 +27,8 @@ const SMALL: &str =
     routes.csv\nfrom,to\n--\n\
     mel.csv\nkind,item,category,days,capability,extra_fuel,flag_ok,max_minutes\nA320,34-1,B,0,,0,1,0\nA320,22-1,C,0,ILS,0,1,0\n--\n\
     pairs.csv\nkind,item,other\nA320,22-1,34-1\n--\n\
-    actors.csv\nname,key,role\nD1,kD1,D\nD2,kD2,D\nC7,kC7,C\nF1,kF1,F\nM1,kM1,M\nS1,kS1,S\n";
+    actors.csv\nname,key,role\nD1,kD1,D\nD2,kD2,D\nC7,kC7,C\nC9,kC9,C\nF1,kF1,F\nM1,kM1,M\nS1,kS1,S\n--\n\
+    hours.csv\ncaptain,kind,hours\nC7,A320,250\nC7,B763,400\n";
 
 /// Adds the files of the small airline. Of two sources with one name the first counts.
 pub fn push_small(alloc: Global, sources: &mut Vec<(Text, Text)>) -> Result<(), OutOfMemory> {

@@ -4,8 +4,8 @@ use Rattle.desk_io.specs.Told.{OnSource}
 use Rattle.std.proofs.lemmas.Bool.{and_parts}
 use Rattle.std.proofs.lemmas.Slice.Eq.{bytes_eq-Decides}
 use Rattle.ops_tables.specs.Tables.{TableRows}
-use Rattle.ops_tables.specs.Keys.{is_same_airport, is_same_approach, is_same_alternate, is_same_type, is_same_tail, is_same_use, is_same_distance, is_same_route, is_same_item, is_same_pair, is_same_actor}
-use Rattle.table_files.specs.Files.{airports, approaches, alternates, types, tails, uses, distances, routes, mel, pairs, actors, name_of, with_file}
+use Rattle.ops_tables.specs.Keys.{is_same_airport, is_same_approach, is_same_alternate, is_same_type, is_same_tail, is_same_use, is_same_distance, is_same_route, is_same_item, is_same_pair, is_same_actor, is_same_hours}
+use Rattle.table_files.specs.Files.{airports, approaches, alternates, types, tails, uses, distances, routes, mel, pairs, actors, hours, name_of, with_file}
 use Rattle.table_files.specs.Filling.{Gives}
 use Rattle.table_files.specs.Good.{AreRowsOf, IsFirstBad, AreSettings, IsFirstBadSetting, UnderHeader, IsBadUnder, no_header, under_header as bad_below, Exactly, SaysTable, SaysSettings, SaysFile}
 use Rattle.table_files.specs.Reading.{Table, are_same, under_header, bad_header, rows_after, placed, with_table}
@@ -118,6 +118,7 @@ file_says file.Routes before records = table_says is_same_route 50000 routes bef
 file_says file.Mel before records = table_says is_same_item 50000 mel before records
 file_says file.Pairs before records = table_says is_same_pair 50000 pairs before records
 file_says file.Actors before records = table_says is_same_actor 5000 actors before records
+file_says file.Hours before records = table_says is_same_hours 20000 hours before records
 
 pub file_gives : (told : Told) (f : File) (before : TableRows) (text : List ℕ) (made : Result TableRows BadRecord) → length text ≤ 67_108_864 → OnSource told (name_of f) (λ given. given ≡ text)
     → Gives text (with_file f before) made → FileGives told f before made

@@ -1,18 +1,19 @@
 -- Tables that were read from all files name what stands in them.
 use Rattle.std.proofs.Common.{◌≡◌, ◌∙◌, sym, ap, refl, subst, ℕ, List, Bool, Ok, All, IsTrue, ◌&&◌}
-use Rattle.ops_tables.specs.Tables.{TableRows, has_airport, has_type, has_item}
-use Rattle.ops_tables.specs.Keys.{is_same_airport, is_same_approach, is_same_alternate, is_same_type, is_same_tail, is_same_use, is_same_distance, is_same_route, is_same_item, is_same_pair, is_same_actor}
+use Rattle.ops_tables.specs.Tables.{TableRows, has_airport, has_type, has_item, has_captain}
+use Rattle.ops_tables.specs.Keys.{is_same_airport, is_same_approach, is_same_alternate, is_same_type, is_same_tail, is_same_use, is_same_distance, is_same_route, is_same_item, is_same_pair, is_same_actor, is_same_hours}
 use Rattle.ops_tables.specs.Limits.{FitsSettings}
 use Rattle.ops_tables.specs.Linked.{AreLinked}
 use Rattle.ops_tables.specs.declared.rows.AlternateRow.{AlternateRow}
 use Rattle.ops_tables.specs.declared.rows.Approach.{Approach}
+use Rattle.ops_tables.specs.declared.rows.CaptainHours.{CaptainHours}
 use Rattle.ops_tables.specs.declared.rows.Distance.{Distance}
 use Rattle.ops_tables.specs.declared.rows.ItemPair.{ItemPair}
 use Rattle.ops_tables.specs.declared.rows.MelRow.{MelRow}
 use Rattle.ops_tables.specs.declared.rows.Route.{Route}
 use Rattle.ops_tables.specs.declared.rows.Tail.{Tail}
 use Rattle.ops_tables.specs.declared.rows.Use.{Use}
-use Rattle.table_files.specs.Files.{files, no_rows, airports, approaches, alternates, types, tails, uses, distances, routes, mel, pairs, actors}
+use Rattle.table_files.specs.Files.{files, no_rows, airports, approaches, alternates, types, tails, uses, distances, routes, mel, pairs, actors, hours}
 use Rattle.table_files.specs.Reading.{Table}
 use Rattle.table_files.specs.Good.{SaysTable}
 use Rattle.table_files.specs.Whole.{Told, FilesGive}
@@ -73,7 +74,11 @@ linked told t r1 fits =
     let p12 = filled is_same_actor 5000 actors r11.0 r12.0 r12.1.gives.records r12.1.says in
     let t12 : TableRows = record t11 { actors = p12.0 } in
     let e12 : t12 ≡ r12.0 = ap (λ (t : TableRows). record t { actors = p12.0 }) e11 ∙ p12.1 in
-    let is_t : t12 ≡ t = e12 ∙ r12.2 in
+    let r13 = r12.2 in
+    let p13 = filled is_same_hours 20000 hours r12.0 r13.0 r13.1.gives.records r13.1.says in
+    let t13 : TableRows = record t12 { hours = p13.0 } in
+    let e13 : t13 ≡ r13.0 = ap (λ (t : TableRows). record t { hours = p13.0 }) e12 ∙ p13.1 in
+    let is_t : t13 ≡ t = e13 ∙ r13.2 in
     subst AreLinked is_t (record {
       settings = subst (λ (t : TableRows). FitsSettings t.settings) (sym is_t) fits;
       approaches = subst (λ (t : TableRows). All (λ (r : Approach). IsTrue (has_airport t r.station)) p3.0) (sym e2) p3.2;
@@ -84,4 +89,5 @@ linked told t r1 fits =
       routes = subst (λ (t : TableRows). All (λ (r : Route). IsTrue (has_airport t r.from && has_airport t r.to)) p9.0) (sym e8) p9.2;
       mel = subst (λ (t : TableRows). All (λ (r : MelRow). IsTrue (has_type t r.kind)) p10.0) (sym e9) p10.2;
       pairs = subst (λ (t : TableRows). All (λ (r : ItemPair). IsTrue (has_type t r.kind && has_item t r.kind r.item && has_item t r.kind r.other)) p11.0) (sym e10) p11.2;
+      hours = subst (λ (t : TableRows). All (λ (r : CaptainHours). IsTrue (has_captain t r.captain && has_type t r.kind)) p13.0) (sym e12) p13.2;
     })

@@ -1,8 +1,8 @@
--- The twelve tables: their files, columns, links and limits.
+-- The thirteen tables: their files, columns, links and limits.
 use Rattle.std.specs.Prelude.{ℕ, true, ◌&&◌, List, [], ◌∷◌, Result, codes}
-use Rattle.ops_tables.specs.Tables.{TableRows, has_airport, has_type, has_item}
-use Rattle.ops_tables.specs.Keys.{is_same_airport, is_same_approach, is_same_alternate, is_same_type, is_same_tail, is_same_use, is_same_distance, is_same_route, is_same_item, is_same_pair, is_same_actor}
-use Rattle.table_files.specs.Records.{airport_row, approach_row, alternate_row, type_row, tail_row, use_row, distance_row, route_row, item_row, pair_row, actor_row}
+use Rattle.ops_tables.specs.Tables.{TableRows, has_airport, has_type, has_item, has_captain}
+use Rattle.ops_tables.specs.Keys.{is_same_airport, is_same_approach, is_same_alternate, is_same_type, is_same_tail, is_same_use, is_same_distance, is_same_route, is_same_item, is_same_pair, is_same_actor, is_same_hours}
+use Rattle.table_files.specs.Records.{airport_row, approach_row, alternate_row, type_row, tail_row, use_row, distance_row, route_row, item_row, pair_row, actor_row, hours_row}
 use Rattle.table_files.specs.Reading.{Table, with_table, placed}
 use Rattle.table_files.specs.Settings.{settings_of}
 use Rattle.ops_tables.specs.declared.rows.Airport.{Airport}
@@ -16,13 +16,14 @@ use Rattle.ops_tables.specs.declared.rows.Route.{Route}
 use Rattle.ops_tables.specs.declared.rows.MelRow.{MelRow}
 use Rattle.ops_tables.specs.declared.rows.ItemPair.{ItemPair}
 use Rattle.ops_tables.specs.declared.rows.Actor.{Actor}
+use Rattle.ops_tables.specs.declared.rows.CaptainHours.{CaptainHours}
 use Rattle.table_files.specs.declared.faults.BadRecord.{BadRecord}
 use Rattle.table_files.specs.declared.files.File.{File}
 use Rattle.table_files.specs.declared.files.File.TheVariants as file
 
 -- the files, in the order of reading
 abbrev pub files : List File
-files = file.Settings ∷ file.Airports ∷ file.Approaches ∷ file.Alternates ∷ file.Types ∷ file.Tails ∷ file.Uses ∷ file.Distances ∷ file.Routes ∷ file.Mel ∷ file.Pairs ∷ file.Actors ∷ []
+files = file.Settings ∷ file.Airports ∷ file.Approaches ∷ file.Alternates ∷ file.Types ∷ file.Tails ∷ file.Uses ∷ file.Distances ∷ file.Routes ∷ file.Mel ∷ file.Pairs ∷ file.Actors ∷ file.Hours ∷ []
 
 abbrev pub name_of : File → List ℕ
 name_of file.Settings = codes "settings.csv"
@@ -37,6 +38,7 @@ name_of file.Routes = codes "routes.csv"
 name_of file.Mel = codes "mel.csv"
 name_of file.Pairs = codes "pairs.csv"
 name_of file.Actors = codes "actors.csv"
+name_of file.Hours = codes "hours.csv"
 
 abbrev pub airports : Table Airport
 airports = record {
@@ -126,6 +128,14 @@ actors = record {
   with_rows = λ t rows. record t { actors = rows };
 }
 
+abbrev pub hours : Table CaptainHours
+hours = record {
+  columns = codes "captain" ∷ codes "kind" ∷ codes "hours" ∷ [];
+  row_of = hours_row;
+  is_linked = λ t row. has_captain t row.captain && has_type t row.kind;
+  with_rows = λ t rows. record t { hours = rows };
+}
+
 -- the tables with one more read, whose records are these, or its first bad record
 abbrev pub with_file : File → TableRows → List (List (List ℕ)) → Result TableRows BadRecord
 with_file file.Settings t = λ records. placed (λ settings. record t { settings = settings }) (settings_of records)
@@ -140,6 +150,7 @@ with_file file.Routes t = with_table is_same_route 50000 routes t
 with_file file.Mel t = with_table is_same_item 50000 mel t
 with_file file.Pairs t = with_table is_same_pair 50000 pairs t
 with_file file.Actors t = with_table is_same_actor 5000 actors t
+with_file file.Hours t = with_table is_same_hours 20000 hours t
 
 -- tables of which none is read
 abbrev pub no_rows : TableRows
@@ -156,4 +167,5 @@ no_rows = record {
   mel = [];
   pairs = [];
   actors = [];
+  hours = [];
 }

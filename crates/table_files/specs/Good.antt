@@ -1,9 +1,9 @@
 -- Which tables and which settings are good, and which record is the first bad one.
 use Rattle.std.specs.Prelude.{◌≡◌, ◌↔◌, ℕ, decimal, ◌+◌, ◌<◌, ◌≤◌, Bool, true, false, List, [], ◌∷◌, ◌++◌, length, map, All, AllPairs, Any, None, Some, Result, Ok, Err}
 use Rattle.ops_tables.specs.Tables.{TableRows}
-use Rattle.ops_tables.specs.Keys.{is_same_airport, is_same_approach, is_same_alternate, is_same_type, is_same_tail, is_same_use, is_same_distance, is_same_route, is_same_item, is_same_pair, is_same_actor}
+use Rattle.ops_tables.specs.Keys.{is_same_airport, is_same_approach, is_same_alternate, is_same_type, is_same_tail, is_same_use, is_same_distance, is_same_route, is_same_item, is_same_pair, is_same_actor, is_same_hours}
 use Rattle.ops_tables.specs.declared.rows.Settings.{Settings}
-use Rattle.table_files.specs.Files.{airports, approaches, alternates, types, tails, uses, distances, routes, mel, pairs, actors}
+use Rattle.table_files.specs.Files.{airports, approaches, alternates, types, tails, uses, distances, routes, mel, pairs, actors, hours}
 use Rattle.table_files.specs.Reading.{Table}
 use Rattle.table_files.specs.Settings.{settings, settings_columns, name_of, most_of}
 use Rattle.table_files.specs.declared.faults.BadRecord.{BadRecord}
@@ -121,3 +121,4 @@ SaysFile file.Routes before = SaysTable is_same_route 50000 routes before
 SaysFile file.Mel before = SaysTable is_same_item 50000 mel before
 SaysFile file.Pairs before = SaysTable is_same_pair 50000 pairs before
 SaysFile file.Actors before = SaysTable is_same_actor 5000 actors before
+SaysFile file.Hours before = SaysTable is_same_hours 20000 hours before

@@ -15,6 +15,7 @@ use Rattle.ops_tables.specs.declared.rows.Route.{Route}
 use Rattle.ops_tables.specs.declared.rows.MelRow.{MelRow}
 use Rattle.ops_tables.specs.declared.rows.ItemPair.{ItemPair}
 use Rattle.ops_tables.specs.declared.rows.Actor.{Actor}
+use Rattle.ops_tables.specs.declared.rows.CaptainHours.{CaptainHours}
 use Rattle.table_files.specs.declared.records.ApproachTerms.{ApproachTerms}
 use Rattle.table_files.specs.declared.records.TypeTerms.{TypeTerms}
 use Rattle.table_files.specs.declared.records.ItemTerms.{ItemTerms}
@@ -124,3 +125,8 @@ pair_row _ = None
 abbrev pub actor_row : List (List ℕ) → Option Actor
 actor_row (name ∷ key ∷ role ∷ []) = if is_person name && is_key key then role_of role >>= (λ does. Some (record { name = name; key = key; role = does })) else None
 actor_row _ = None
+
+abbrev pub hours_row : List (List ℕ) → Option CaptainHours
+hours_row (captain ∷ kind ∷ hours ∷ []) =
+    if is_person captain && is_name kind then number_within 0 100000 hours >>= (λ count. Some (record { captain = captain; kind = kind; hours = count })) else None
+hours_row _ = None

@@ -16,10 +16,11 @@ pub(crate) enum File {
     Mel,
     Pairs,
     Actors,
+    Hours,
 }
 
 /// The files, in the order of reading.
-pub(crate) const FILES: [File; 12] = [
+pub(crate) const FILES: [File; 13] = [
     File::Settings,
     File::Airports,
     File::Approaches,
@@ -32,6 +33,7 @@ pub(crate) const FILES: [File; 12] = [
     File::Mel,
     File::Pairs,
     File::Actors,
+    File::Hours,
 ];
 
 impl File {
@@ -52,6 +54,7 @@ impl File {
             File::Mel => "mel.csv",
             File::Pairs => "pairs.csv",
             File::Actors => "actors.csv",
+            File::Hours => "hours.csv",
         }
     }
 }

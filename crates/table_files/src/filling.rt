@@ -41,6 +41,7 @@ pub(crate) fn unread(alloc: Global) -> Loading
         mel: Grouped::new(alloc),
         pairs: Grouped::new(alloc),
         actors: Grouped::new(alloc),
+        hours: Grouped::new(alloc),
     }
 }
 
@@ -134,6 +135,10 @@ pub(crate) fn fill(
         File::Actors => {
             let read = read_rows(alloc, text, loaded)?;
             Ok(place_rows(&mut loaded.actors, read))
+        }
+        File::Hours => {
+            let read = read_rows(alloc, text, loaded)?;
+            Ok(place_rows(&mut loaded.hours, read))
         }
     }
 }

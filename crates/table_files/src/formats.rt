@@ -3,13 +3,13 @@ ghost use Rattle.table_files.specs.Files as files;
 
 use crate::reading::{FileRow, Layout};
 use crate::records::{
-    actor_row, airport_row, alternate_row, approach_row, distance_row, item_row, pair_row,
-    route_row, tail_row, type_row, use_row,
+    actor_row, airport_row, alternate_row, approach_row, distance_row, hours_row, item_row,
+    pair_row, route_row, tail_row, type_row, use_row,
 };
 use desk_io::{OutOfMemory, Text};
 use ops_tables::{
-    Actor, Airport, AlternateRow, Approach, Distance, ItemPair, Loading, MelRow, Route, Tail,
-    TypeRow, Use,
+    Actor, Airport, AlternateRow, Approach, CaptainHours, Distance, ItemPair, Loading, MelRow,
+    Route, Tail, TypeRow, Use,
 };
 use std::alloc::Global;
 
@@ -267,5 +267,26 @@ impl FileRow<48> for Actor {
 
     fn is_linked(&self, _: &Loading) -> bool {
         true
+    }
+}
+
+impl FileRow<48> for CaptainHours {
+    ghost table = { files.hours };
+
+    ghost bounded = { refl };
+
+    fn layout() -> Layout {
+        Layout {
+            columns: &["captain", "kind", "hours"],
+            limit: 20_000,
+        }
+    }
+
+    fn of_fields(alloc: Global, fields: &[Text]) -> Result<Option<CaptainHours>, OutOfMemory> {
+        hours_row(alloc, fields)
+    }
+
+    fn is_linked(&self, loaded: &Loading) -> bool {
+        loaded.has_captain(self.captain.bytes()) && loaded.has_type(self.kind.bytes())
     }
 }

@@ -2,7 +2,7 @@ ghost use Rattle.std.specs.Prelude.{◌≡◌, ◌≤◌, IfOk, IfSome};
 ghost use Rattle.table_files.specs.Records as spec;
 ghost use Rattle.table_files.specs.Fields.{number_within};
 ghost use Rattle.ops_tables.specs.Forms as form;
-ghost use Rattle.ops_tables.specs.Limits.{FitsAirport, FitsApproach, FitsAlternate, FitsType, FitsTail, FitsUse, FitsDistance, FitsItem, FitsPair, FitsActor};
+ghost use Rattle.ops_tables.specs.Limits.{FitsAirport, FitsApproach, FitsAlternate, FitsType, FitsTail, FitsUse, FitsDistance, FitsItem, FitsPair, FitsActor, FitsHours};
 
 use crate::fields::{
     capabilities, category_of, is_item, is_key, is_name, is_name_or_none, is_person, is_tail,
@@ -10,8 +10,8 @@ use crate::fields::{
 };
 use desk_io::{Copied, OutOfMemory, Text};
 use ops_tables::{
-    Actor, Airport, AlternateRow, Approach, Category, Distance, ItemPair, MelRow, Route, Tail,
-    TypeRow, Use,
+    Actor, Airport, AlternateRow, Approach, CaptainHours, Category, Distance, ItemPair, MelRow,
+    Route, Tail, TypeRow, Use,
 };
 use stations::Station;
 use std::alloc::Global;
@@ -384,5 +384,26 @@ pub(crate) fn actor_row(alloc: Global, fields: &[Text]) -> Result<Option<Actor>,
         name: name.copy(alloc)?,
         key: key.copy(alloc)?,
         role,
+    }))
+}
+
+/// The hours of a record.
+pub(crate) fn hours_row(alloc: Global, fields: &[Text]) -> Result<Option<CaptainHours>, OutOfMemory>
+    ensures value { IfOk result (λ row. row ≡ spec.hours_row fields.now) }
+    ensures fits { IfOk result (λ row. IfSome row FitsHours) }
+{
+    let [captain, kind, hours] = fields else {
+        return Ok(None);
+    };
+    if !(is_person(captain.bytes()) && is_name(kind.bytes())) {
+        return Ok(None);
+    }
+    let Some(hours) = number_within(0, 100_000, hours.bytes()) else {
+        return Ok(None);
+    };
+    Ok(Some(CaptainHours {
+        captain: captain.copy(alloc)?,
+        kind: kind.copy(alloc)?,
+        hours,
     }))
 }

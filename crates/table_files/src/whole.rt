@@ -75,7 +75,7 @@ fn read_file<S: Shelf>(
     }
 }
 
-/// The twelve tables of a shelf, each read whole and tested before the next. `Bad` names the first bad
+/// The thirteen tables of a shelf, each read whole and tested before the next. `Bad` names the first bad
 /// record in the order of the files; `TooLong` says that a source has more than 64 MiB, and comes only
 /// after the tables before it were good. `ReadFault` comes only where the shelf's count of faults rose
 /// or is full; a sound shelf gives it only at a file that it doesn't hold, after the tables before that
