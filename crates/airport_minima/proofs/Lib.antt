@@ -2,3 +2,4 @@ pub mod LowestLaws
 mod FloorLaws
 mod AlternateLaws
 mod FlownLaws
+mod RaisedLaws

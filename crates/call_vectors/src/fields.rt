@@ -47,7 +47,8 @@ pub fn number_at(value: &Value, key: &str, limit: u64) -> Option<u64>
     }
 }
 
-fn number_within(value: &Value, limit: u64) -> Option<u64>
+/// The whole number that a value is, at most the limit.
+pub fn number_within(value: &Value, limit: u64) -> Option<u64>
     ensures { IfSome result (λ n. n ≤ limit) }
 {
     match value.as_u64() {

@@ -28,6 +28,8 @@ fn passes(alloc: Global, case: &Value, small: &Files) -> Result<bool, OutOfMemor
         tables::faults(alloc, case, small)
     } else if has_key(case, "tables") {
         operations::minima(alloc, case, small)
+    } else if has_key(case, "raised") {
+        operations::raises(alloc, case)
     } else if has_key(case, "basis") {
         operations::fuel(alloc, case)
     } else {

@@ -1,13 +1,18 @@
-use crate::fields::{is_written, items_at, number_at, small_number_at, text_at, truth_at};
+ghost use Rattle.std.specs.Prelude.{◌≤◌, IfOk, IfSome};
+ghost use Rattle.stations.specs.Pair.{AreWithin};
+
+use crate::fields::{
+    is_written, items_at, number_at, number_within, small_number_at, text_at, truth_at,
+};
 use crate::tables::{Files, NAMES, push_file, tables_of};
 use crate::written::{option_pair_text, pairs_text};
-use airport_minima::{alternate_pairs, flag_floor, landing};
+use airport_minima::{alternate_pairs, flag_floor, landing, raised};
 use desk_io::{Listed, OutOfMemory, Text, push_all};
 use fuel::{Basis, required};
 use ops_tables::{Lost, Tables, TypeRow};
 use plan::{Alternate, Alternates, Leg};
 use serde_json::Value;
-use stations::Station;
+use stations::{Pair, Pairs, Station};
 use std::alloc::Global;
 use table_files::TableFault;
 
@@ -112,6 +117,32 @@ fn has_alternates(
     )
 }
 
+// Whether some landing minima are raised so by some minima as an alternate.
+fn is_raised(
+    alloc: Global,
+    case: &Value,
+    landing: &Pairs,
+    alternate: &Pairs,
+) -> Result<bool, OutOfMemory>
+    requires { AreWithin 20_000 16_093_440 landing.now }
+{
+    let pairs = raised(alloc, landing, alternate)?;
+    is_written(alloc, case, "raised", &pairs_text(alloc, pairs.as_slice())?)
+}
+
+fn has_raised(
+    alloc: Global,
+    case: &Value,
+    tables: &Tables,
+    kind: &TypeRow,
+    station: Station,
+    lost: &Lost,
+) -> Result<bool, OutOfMemory> {
+    let minima = landing(alloc, tables, kind, station, lost)?;
+    let alternate = alternate_pairs(alloc, tables, kind, station, lost)?;
+    is_raised(alloc, case, &minima, &alternate)
+}
+
 fn has_minima(
     alloc: Global,
     case: &Value,
@@ -126,11 +157,45 @@ fn has_minima(
     Ok(
         has_landing(alloc, case, tables, kind, station, lost)?
             && has_alternates(alloc, case, tables, kind, station, lost)?
+            && has_raised(alloc, case, tables, kind, station, lost)?
             && is_written(alloc, case, "flag_floor", &floor)?,
     )
 }
 
-/// A case of `tables`, `kind`, `station`, `lost`, `landing`, `alternate_pairs` and `flag_floor`.
+fn pair_of(item: &Value) -> Option<Pair>
+    ensures { IfSome result (λ pair. (pair.ceiling ≤ 20_000) × (pair.vis ≤ 16_093_440)) }
+{
+    let parts = item.as_array()?;
+    let [ceiling, vis] = parts.as_slice() else {
+        return None;
+    };
+    Some(Pair {
+        ceiling: number_within(ceiling, 20_000)? as u32,
+        vis: number_within(vis, 16_093_440)? as u32,
+    })
+}
+
+// The minima at a key, as far as they are some.
+fn pairs_at(alloc: Global, case: &Value, key: &str) -> Result<Pairs, OutOfMemory>
+    ensures { IfOk result (λ pairs. AreWithin 20_000 16_093_440 pairs) }
+{
+    let mut pairs = Listed::new(alloc);
+    for item in items_at(case, key) {
+        if let Some(pair) = pair_of(item) {
+            pairs.push(pair)?;
+        }
+    }
+    Ok(pairs)
+}
+
+/// A case of `landing`, `alternate` and `raised`.
+pub fn raises(alloc: Global, case: &Value) -> Result<bool, OutOfMemory> {
+    let landing = pairs_at(alloc, case, "landing")?;
+    let alternate = pairs_at(alloc, case, "alternate")?;
+    is_raised(alloc, case, &landing, &alternate)
+}
+
+/// A case of `tables`, `kind`, `station`, `lost`, `landing`, `alternate_pairs`, `flag_floor` and `raised`.
 pub fn minima(alloc: Global, case: &Value, small: &Files) -> Result<bool, OutOfMemory> {
     let Some(station) = station_at(case, "station") else {
         return Ok(false);

@@ -9,8 +9,8 @@ use table_files::{TableFault, read_tables};
 /// Files by their names.
 pub type Files = Vec<(Text, Text)>;
 
-/// The names of the twelve tables.
-pub const NAMES: [&str; 12] = [
+/// The names of the thirteen tables.
+pub const NAMES: [&str; 13] = [
     "settings.csv",
     "airports.csv",
     "approaches.csv",
@@ -23,6 +23,7 @@ pub const NAMES: [&str; 12] = [
     "mel.csv",
     "pairs.csv",
     "actors.csv",
+    "hours.csv",
 ];
 
 /// The tables of the small airline, as a shelf holds them.

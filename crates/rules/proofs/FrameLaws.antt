@@ -33,7 +33,7 @@ use Rattle.alternates.specs.Needs.{needs_takeoff, needs_destination, is_marginal
 use Rattle.fuel.specs.Sums.{required}
 use Rattle.fuel.specs.declared.sums.Basis.TheVariants as basis
 use Rattle.rules.specs.Grounds.{Grounds}
-use Rattle.rules.specs.Circumstances.{Case, case_of, weather_at, worst_weather, landing_at, alternate_at, is_below_alternate}
+use Rattle.rules.specs.Circumstances.{Case, case_of, weather_at, worst_weather, landing_at, arrival_minima, alternate_at, is_below_alternate}
 use Rattle.rules.specs.Weather.{is_below_landing}
 use Rattle.rules.specs.TakeoffAlternates.{needs_takeoff_alternate, is_far, is_below_there, has_low_takeoff_alternate}
 use Rattle.rules.specs.DestinationAlternates.{is_domestic, is_flag, lists_none, needs_alternate, margin, is_marginal_landing, is_marginal_at, are_marginal, lacks_second_alternate, is_free, place_if, places_from, low_alternates}
@@ -68,7 +68,7 @@ module _ (c : Case) (others : List Report) (leg : Leg) (same : (station : Statio
   same_to = same leg.to (second_named leg.to leg (station_same leg.to leg.to refl))
 
   below_landing_same : is_below_landing other leg ≡ is_below_landing c leg
-  below_landing_same = ap (λ w. not (meets w (landing_at c leg.to))) (weather_same leg.to same_to leg.eta)
+  below_landing_same = ap (λ w. not (meets w (arrival_minima c leg.to))) (weather_same leg.to same_to leg.eta)
 
   takeoff_need_same : needs_takeoff_alternate other leg ≡ needs_takeoff_alternate c leg
   takeoff_need_same = ap (λ w. needs_takeoff w (landing_at c leg.from)) (weather_same leg.from same_from leg.etd)

@@ -6,7 +6,7 @@ use Rattle.std.specs.Str.{bytes_eq}
 use Rattle.std.proofs.lemmas.Bool.{eqb-true}
 use Rattle.std.proofs.lemmas.List.Elements.{All-cons, All-head, All-tail}
 use Rattle.ops_tables.specs.declared.rows.TypeRow.{TypeRow}
-use Rattle.ops_tables.specs.Tables.{type_of}
+use Rattle.ops_tables.specs.Tables.{hours_of, type_of}
 use Rattle.plan.specs.Check.{plan_fault}
 use Rattle.plan.specs.Findings.{rules_of_legs}
 use Rattle.plan.specs.Phases.{standing}
@@ -36,6 +36,7 @@ case_with g plan aircraft opened = record {
   grounds = g;
   flight = plan.kind;
   aircraft = aircraft;
+  hours = hours_of g.tables plan.captain aircraft.kind;
   deferred = opened;
   limits = limits_by (rows_of g.tables aircraft.kind opened);
 }

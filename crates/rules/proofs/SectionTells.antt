@@ -2,7 +2,7 @@
 use Rattle.std.proofs.Common.{◌≡◌, ℕ, ◌+◌, ◌*◌, ◌-◌, ◌/◌, ◌<◌, ◌≤◌, ◌==◌, Bool, true, false, not, ◌&&◌, ◌||◌, if◌then◌else◌, List, [], ◌∷◌, length, Option, None, Some, refl, ap, sym, subst, ◌∙◌, eq-eqb, arith}
 use Rattle.std.specs.Prelude.{nat_le, nat_lt, is_none}
 use Rattle.std.specs.List.{All, list_any}
-use Rattle.std.proofs.lemmas.Bool.{eqb-true, leb-true, leb-false}
+use Rattle.std.proofs.lemmas.Bool.{eqb-true, leb-true, leb-false, ltb-true, ltb-false}
 use Rattle.stations.specs.Station.{Station}
 use Rattle.stations.specs.declared.pair.Pair.{Pair}
 use Rattle.stations.specs.Pair.{raised}
@@ -18,17 +18,18 @@ use Rattle.plan.specs.declared.release.Phase.{Phase}
 use Rattle.plan.specs.declared.release.Phase.TheVariants.{Drafted, Ready, Flying, Stopped, Completed, Cancelled}
 use Rattle.alternates.specs.Needs.{needs_takeoff, range, in_range, misses, is_long, needs_destination, is_marginal}
 use Rattle.airport_minima.specs.Floor.{flag_floor}
+use Rattle.airport_minima.specs.Raised as landing
 use Rattle.deferrals.specs.Due.{days_allowed}
 use Rattle.deferrals.specs.declared.items.Deferral.{Deferral}
 use Rattle.deferrals.proofs.DueLaws.{allowed_are_left, left_are_allowed}
-use Rattle.rules.specs.Circumstances.{Case, weather_at, landing_at, alternate_at, is_below_alternate}
+use Rattle.rules.specs.Circumstances.{Case, weather_at, landing_at, alternate_at, is_below_alternate, has_few_hours}
 use Rattle.rules.specs.Weather.{is_below_landing}
 use Rattle.rules.specs.TakeoffAlternates.{needs_takeoff_alternate, lacks_takeoff_alternate, is_far, has_far_takeoff_alternate, is_below_there, has_low_takeoff_alternate}
 use Rattle.rules.specs.DestinationAlternates.{is_domestic, is_flag, lists_none, arrival_weather, needs_alternate, lacks_domestic_alternate, margin, is_marginal_landing, is_marginal_at, are_marginal, lacks_second_alternate, is_free, lacks_flag_alternate}
 use Rattle.rules.specs.Equipment.{is_paired_with, is_paired, is_too_long, forbids, is_limiting, is_due_by, is_overdue}
 use Rattle.plan.specs.Phases.{is_flying}
 use Rattle.rules.specs.Time.{only_if, unless_again, stop_limit, departs_next, is_past}
-use Rattle.rules.specs.Regulation.{IsAtOrAbove, AllowsLanding, AllowsAlternate, StaysAtOrAbove, StopsAtMost, DepartsNext, first_of_draft, first, after_stop, fair, IsShortAndFair, IsFair, NeedsAlternate, IsNear, NeedsTakeoffAlternate, with_margin, IsBeyondMargin, IsBeyondMarginAtOne, IsAllowed, ArrivesBeforeRepair}
+use Rattle.rules.specs.Regulation.{IsAtOrAbove, AllowsLanding, AllowsRaisedLanding, AllowsArrival, AllowsAlternate, StaysAtOrAbove, StopsAtMost, DepartsNext, first_of_draft, first, after_stop, fair, IsShortAndFair, IsFair, NeedsAlternate, IsNear, NeedsTakeoffAlternate, with_margin, IsBeyondMargin, IsBeyondMarginAtOne, IsAllowed, ArrivesBeforeRepair}
 use Rattle.rules.proofs.Tells.{Tells, tells_by, tells_same, tells_not, tells_again, tells_and, tells_neither, tells_not_both, tells_unless, tells_unless_both, tells_le, tells_lt, tells_not_less, tells_not_within, tells_true, tells_false, tells_none, tells_any, tells_each}
 use Rattle.rules.proofs.WeatherTells.{above_tells, meets_tells, stays_tells}
 
@@ -143,10 +144,24 @@ pub arrival_tells : (phase : Phase) (number limit moment : ℕ) → Tells (not (
 arrival_tells phase number limit moment =
     only_tells (is_flying phase number) (phase ≡ Flying number) (moment ≤ limit) (Some limit) moment (flying_tells phase number) (tells_not_less limit moment)
 
--- weather at the destination (14 CFR 121.613)
-pub landing_tells : (c : Case) (leg : Leg) → Tells (not (is_below_landing c leg)) (AllowsLanding c leg.to leg.eta)
-landing_tells c leg =
-    tells_again (meets (weather_at c.grounds leg.to leg.eta) (landing_at c leg.to)) (AllowsLanding c leg.to leg.eta) (meets_tells c.grounds leg.to leg.eta (landing_at c leg.to))
+-- weather at the destination (14 CFR 121.613, 121.652)
+landing_by : (c : Case) (leg : Leg) (few : Bool) → nat_lt c.hours 100 ≡ few
+    → Tells (not (not (meets (weather_at c.grounds leg.to leg.eta) (if few then landing.raised (landing_at c leg.to) (alternate_at c leg.to) else landing_at c leg.to)))) (AllowsArrival c leg.to leg.eta)
+landing_by c leg true e =
+    let fewer = ltb-true c.hours 100 e in
+    let minima = landing.raised (landing_at c leg.to) (alternate_at c leg.to) in
+    tells_same (not (not (meets (weather_at c.grounds leg.to leg.eta) minima))) (AllowsRaisedLanding c leg.to leg.eta) (AllowsArrival c leg.to leg.eta)
+    (λ allowed. record { by_minima = λ many. absurd (omega (arith, fewer, many)); by_raised = λ few. allowed }) (λ allowed. allowed.by_raised fewer)
+    (tells_again (meets (weather_at c.grounds leg.to leg.eta) minima) (AllowsRaisedLanding c leg.to leg.eta) (meets_tells c.grounds leg.to leg.eta minima))
+landing_by c leg false e =
+    let many = ltb-false c.hours 100 e in
+    let minima = landing_at c leg.to in
+    tells_same (not (not (meets (weather_at c.grounds leg.to leg.eta) minima))) (AllowsLanding c leg.to leg.eta) (AllowsArrival c leg.to leg.eta)
+    (λ allowed. record { by_minima = λ enough. allowed; by_raised = λ fewer. absurd (omega (arith, many, fewer)) }) (λ allowed. allowed.by_minima many)
+    (tells_again (meets (weather_at c.grounds leg.to leg.eta) minima) (AllowsLanding c leg.to leg.eta) (meets_tells c.grounds leg.to leg.eta minima))
+
+pub landing_tells : (c : Case) (leg : Leg) → Tells (not (is_below_landing c leg)) (AllowsArrival c leg.to leg.eta)
+landing_tells c leg = landing_by c leg (has_few_hours c) refl
 
 pub alternate_tells : (c : Case) (station : Station) (minute : ℕ) → Tells (not (is_below_alternate c station minute)) (AllowsAlternate c station minute)
 alternate_tells c station minute =

@@ -1,15 +1,17 @@
--- The circumstances in which a plan is judged: its aircraft, the weather, and the minima that hold for both.
-use Rattle.std.specs.Prelude.{ℕ, Bool, not, List}
+-- The circumstances in which a plan is judged: its aircraft, its captain, the weather, and the minima that hold for them.
+use Rattle.std.specs.Prelude.{ℕ, nat_lt, Bool, not, if◌then◌else◌, List}
 use Rattle.stations.specs.Station.{Station}
 use Rattle.codes.specs.declared.cond.Cond.{Cond}
 use Rattle.stations.specs.declared.pair.Pair.{Pair}
 use Rattle.codes.specs.Minima.{meets}
+use Rattle.ops_tables.specs.Tables.{hours_of}
 use Rattle.ops_tables.specs.declared.rows.TypeRow.{TypeRow}
 use Rattle.plan.specs.declared.flights.Kind.{Kind}
 use Rattle.plan.specs.declared.flights.Plan.{Plan}
 use Rattle.weather_window.specs.Window.{cond_at, worst_cond}
 use Rattle.facts.specs.Latest.{metar_latest, taf_latest}
 use Rattle.airport_minima.specs.Minima.{landing, alternate_pairs}
+use Rattle.airport_minima.specs.Raised.{raised}
 use Rattle.deferrals.specs.declared.items.Deferral.{Deferral}
 use Rattle.deferrals.specs.declared.limits.Limits.{Limits}
 use Rattle.deferrals.specs.Limits.{open_on, rows_of, limits_by}
@@ -21,6 +23,8 @@ pub record Case : Type 0 where
   pub flight : Kind
   -- the type of the aircraft
   pub aircraft : TypeRow
+  -- the hours of the captain as pilot in command in that type
+  pub hours : ℕ
   -- the open deferrals of the aircraft in order of their ids
   pub deferred : List Deferral
   -- what these add and take away
@@ -32,6 +36,7 @@ case_of g plan aircraft = record {
   grounds = g;
   flight = plan.kind;
   aircraft = aircraft;
+  hours = hours_of g.tables plan.captain aircraft.kind;
   deferred = open_on plan.tail g.deferrals;
   limits = limits_by (rows_of g.tables aircraft.kind (open_on plan.tail g.deferrals));
 }
@@ -55,3 +60,11 @@ alternate_at c station = alternate_pairs c.grounds.tables c.aircraft station c.l
 -- the weather at a station is below its minima as an alternate
 abbrev pub is_below_alternate : Case → Station → ℕ → Bool
 is_below_alternate c station moment = not (meets (weather_at c.grounds station moment) (alternate_at c station))
+
+-- the captain has fewer than 100 hours in the type (14 CFR 121.652)
+abbrev pub has_few_hours : Case → Bool
+has_few_hours c = nat_lt c.hours 100
+
+-- the minima that hold for a landing at the destination, by the captain's hours (14 CFR 121.613, 121.652)
+abbrev pub arrival_minima : Case → Station → List Pair
+arrival_minima c station = if has_few_hours c then raised (landing_at c station) (alternate_at c station) else landing_at c station

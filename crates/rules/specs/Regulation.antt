@@ -26,6 +26,7 @@ use Rattle.weather_window.specs.Values.{Element, values_at}
 use Rattle.weather_window.specs.Values as element
 use Rattle.facts.specs.Latest.{metar_latest, taf_latest}
 use Rattle.airport_minima.specs.Floor.{flag_floor}
+use Rattle.airport_minima.specs.Raised.{raised}
 use Rattle.deferrals.specs.Due.{LeavesDays}
 use Rattle.deferrals.specs.declared.items.Deferral.{Deferral}
 use Rattle.rules.specs.Grounds.{Grounds}
@@ -50,6 +51,16 @@ pub record IsAtOrAbove (g : Grounds) (station : Station) (minute : ℕ) (minima 
 -- they are at or above some of the minima for landing
 abbrev pub AllowsLanding : Case → Station → ℕ → Type 0
 AllowsLanding c station minute = Any (IsAtOrAbove c.grounds station minute) (landing_at c station)
+
+-- they are at or above some of the minima for landing as 14 CFR 121.652 raises them
+abbrev pub AllowsRaisedLanding : Case → Station → ℕ → Type 0
+AllowsRaisedLanding c station minute = Any (IsAtOrAbove c.grounds station minute) (raised (landing_at c station) (alternate_at c station))
+
+-- They allow a landing at the destination: of a captain with 100 hours in the type by the minima for landing (14 CFR
+-- 121.613), and of one with fewer by these raised (14 CFR 121.652).
+pub record AllowsArrival (c : Case) (station : Station) (minute : ℕ) : Type 0 where
+  pub by_minima : 100 ≤ c.hours → AllowsLanding c station minute
+  pub by_raised : c.hours < 100 → AllowsRaisedLanding c station minute
 
 -- they are at or above some of the minima for an alternate
 abbrev pub AllowsAlternate : Case → Station → ℕ → Type 0
@@ -180,7 +191,7 @@ pub record FollowsTime (plan : Plan) (phase : Phase) (g : Grounds) (fs : List Fi
 
 -- what the other rules say of a leg that isn't flown
 pub record FollowsSections (c : Case) (fs : List Finding) (number : ℕ) (leg : Leg) (ahead : Type 0) : Type 0 where
-  pub landing : IsSilent fs No3 number ↔ AllowsLanding c leg.to leg.eta
+  pub landing : IsSilent fs No3 number ↔ AllowsArrival c leg.to leg.eta
   pub domestic_alternate : IsSilent fs No7 number ↔ (c.flight ≡ Domestic → NeedsAlternate c leg → 0 < length leg.alternates)
   pub second_alternate : IsSilent fs No8 number ↔ (c.flight ≡ Domestic → NeedsAlternate c leg → (it : Alternate) → leg.alternates ≡ it ∷ [] → IsBeyondMarginAtOne c leg it)
   pub flag_alternate : IsSilent fs No9 number ↔ (c.flight ≡ Flag → NeedsAlternate c leg → leg.alternates ≡ [] → route_free c.grounds.tables leg.from leg.to ≡ true)

@@ -45,7 +45,7 @@ use Rattle.rules.specs.declared.sights.Sight.{Sight}
 
 -- the case that circumstances are
 abbrev pub case_by : Circumstances → Case
-case_by c = record { grounds = grounds_of c.evidence; flight = c.flight; aircraft = c.aircraft.now; deferred = map (λ d. d.now) c.deferred.items; limits = c.limits }
+case_by c = record { grounds = grounds_of c.evidence; flight = c.flight; aircraft = c.aircraft.now; hours = c.hours; deferred = map (λ d. d.now) c.deferred.items; limits = c.limits }
 
 -- the bounds of what the tables and the deferrals say
 pub record IsWithin (c : Circumstances) : Type 0 where

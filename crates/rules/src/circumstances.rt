@@ -20,6 +20,8 @@ pub(crate) struct Circumstances<'a> {
     pub flight: Kind,
     /// The type of the aircraft.
     pub aircraft: &'a TypeRow,
+    /// The hours of the captain as pilot in command in that type.
+    pub hours: u32,
     /// The open deferrals of the aircraft, in order of their ids.
     pub deferred: Vec<&'a Deferral>,
     /// What these add and take away.
@@ -42,10 +44,14 @@ impl<'a> Circumstances<'a> {
     {
         let deferred = evidence.deferrals_on(alloc, plan.tail.bytes())?;
         let limits = limits_on(alloc, &deferred, aircraft.kind.bytes(), evidence.tables)?;
+        let hours = evidence
+            .tables
+            .hours(plan.captain.bytes(), aircraft.kind.bytes());
         Ok(Circumstances {
             evidence,
             flight: plan.kind,
             aircraft,
+            hours,
             deferred,
             limits,
         })

@@ -61,7 +61,7 @@ struct AllThere {
 /// What the rules on the destination and its alternates say of a leg.
 #[derive(Drop)]
 pub(crate) struct Arrival {
-    /// The weather at the destination is below landing minima.
+    /// The weather at the destination is below landing minima, as they hold for the captain.
     pub is_below_landing: bool,
     pub need: Need,
     /// It is domestic, needs an alternate and lists one, and the weather is marginal at both.
@@ -199,11 +199,12 @@ impl<'a> Circumstances<'a> {
         let need = self.need(leg, &reported);
         let weather = reported.at(leg.eta);
         let landing = self.landing_at(alloc, leg.to)?;
+        let is_below_landing = self.is_below_landing(alloc, leg.to, weather, &landing)?;
         let is_marginal = self.is_marginal(weather, landing.as_slice());
         let there = self.all_there(alloc, leg)?;
         let are_marginal = self.are_marginal(leg, is_marginal, there.are_marginal);
         Ok(Arrival {
-            is_below_landing: !meets(weather, landing.as_slice()),
+            is_below_landing,
             need,
             lacks_second: is_domestic(self.flight) && need.is_needed && are_marginal,
             low: there.low,

@@ -201,7 +201,7 @@ pub fn judge_by<L: Ledger>(
 /// The rules that a plan fails in a phase, in order of rule, leg and place, each once. Each rule of time fails for the
 /// leg that departs next or is in flight, where the moment is past its limit (14 CFR 121.593, 121.595). Each rule of
 /// weather, alternates, equipment and fuel fails for the legs that aren't flown, or that haven't departed, at which
-/// its predicate holds (14 CFR 121.613 to 121.645); but of a plan that fails its tests under the tables only that is
+/// its predicate holds (14 CFR 121.613 to 121.652); but of a plan that fails its tests under the tables only that is
 /// said beside the rules of time. It counts one step.
 #[tactic(auto, using(crate::proofs::OpenLaws::and_none))]
 pub fn judge<'a, L: Ledger>(

@@ -1,16 +1,17 @@
-ghost use Rattle.std.specs.Prelude.{◌≡◌, ◌≤◌, ◌+◌, ◌-◌, IfOk};
+ghost use Rattle.std.specs.Prelude.{◌≡◌, ◌≤◌, ◌+◌, ◌-◌, not, IfOk};
 ghost use Rattle.std.specs.Option.{option_copied};
 ghost use Rattle.stations.specs.Pair.{AreWithin};
 ghost use Rattle.desk_time.specs.Limits.{IsMoment};
 ghost use Rattle.weather_window.specs.Window.{cond_at, worst_cond};
+ghost use Rattle.codes.specs.Minima.{meets};
 ghost use Rattle.rules.specs.Grounds.{grounds_of};
 ghost use Rattle.rules.specs.Circumstances as spec;
 ghost use Rattle.rules.specs.Sights.{IsReported, case_by};
 
 use crate::circumstances::Circumstances;
 use crate::evidence::Evidence;
-use airport_minima::{alternate_pairs, landing};
-use codes::Cond;
+use airport_minima::{alternate_pairs, landing, raised};
+use codes::{Cond, meets};
 use desk_io::OutOfMemory;
 use desk_time::Minute;
 use metar::Metar;
@@ -70,7 +71,8 @@ impl<'a> Circumstances<'a> {
 
     /// The landing minima of a station for the aircraft.
     pub(crate) fn landing_at(&self, alloc: Global, station: Station) -> Result<Pairs, OutOfMemory>
-        ensures { IfOk result (λ pairs. pairs ≡ spec.landing_at (case_by self.now) station) }
+        ensures value { IfOk result (λ pairs. pairs ≡ spec.landing_at (case_by self.now) station) }
+        ensures within { IfOk result (λ pairs. AreWithin 20_000 16_093_440 pairs) }
     {
         landing(
             alloc,
@@ -79,6 +81,27 @@ impl<'a> Circumstances<'a> {
             station,
             &self.limits.lost,
         )
+    }
+
+    /// Weather is below the landing minima of a station for the aircraft, as they hold for its captain.
+    pub(crate) fn is_below_landing(
+        &self,
+        alloc: Global,
+        station: Station,
+        weather: Cond,
+        landing: &Pairs,
+    ) -> Result<bool, OutOfMemory>
+        requires minima { landing.now ≡ spec.landing_at (case_by self.now) station }
+        requires within { AreWithin 20_000 16_093_440 landing.now }
+        ensures { IfOk result (λ below. below ≡ not (meets weather (spec.arrival_minima (case_by self.now) station))) }
+    {
+        if self.hours < 100 {
+            let alternate = self.alternate_at(alloc, station)?;
+            let minima = raised(alloc, landing, &alternate)?;
+            Ok(!meets(weather, minima.as_slice()))
+        } else {
+            Ok(!meets(weather, landing.as_slice()))
+        }
     }
 
     /// The minima of a station as an alternate for the aircraft.
