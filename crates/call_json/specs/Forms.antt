@@ -134,6 +134,10 @@ pub record IsSignature (s : Signature) : Type 0 where
   pub at : IsMoment s.at
   pub digest : IsDigest s.digest
 
+-- the hours of a captain
+abbrev pub IsHours : ℕ → Type 0
+IsHours n = n ≤ 100_000
+
 -- a revision whose fields have their forms
 pub record IsRevision (v : Revision) : Type 0 where
   pub number : IsId v.number
@@ -141,6 +145,7 @@ pub record IsRevision (v : Revision) : Type 0 where
   pub attached : AllByRecursion IsAttached v.attached
   pub dispatcher : IfSome v.dispatcher IsSignature
   pub captain : IfSome v.captain IsSignature
+  pub hours : IfSome v.hours IsHours
 
 -- a release whose fields have their forms
 pub record IsFormed (r : ReleaseOf) : Type 0 where

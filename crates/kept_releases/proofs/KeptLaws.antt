@@ -1,5 +1,5 @@
 -- The test of validity says whether phase, revisions and signatures agree.
-use Rattle.std.proofs.Common.{◌≡◌, ◌↔◌, ℕ, ◌≤◌, Bool, true, not, ◌&&◌, List, length, Option, None, Some, IfSome, refl, le-leb, lt-ltb, is_some, nat_le, bytes_eq}
+use Rattle.std.proofs.Common.{◌≡◌, ◌↔◌, ℕ, ◌≤◌, Bool, true, not, ◌&&◌, List, length, Option, None, Some, IfSome, IsSome, refl, sym, subst, le-leb, lt-ltb, is_some, nat_le, bytes_eq}
 use Rattle.std.proofs.lemmas.Bool.{and_parts, and_from, leb-true, ltb-true}
 use Rattle.std.proofs.lemmas.Slice.Eq.{bytes_eq-Decides}
 use Rattle.plan.specs.Phases.{PhaseFits}
@@ -10,7 +10,7 @@ use Rattle.plan.specs.declared.release.Release.{Release}
 use Rattle.plan.specs.declared.release.Revision.{Revision}
 use Rattle.plan.specs.declared.release.Signature.{Signature}
 use Rattle.release_text.specs.Revisions.{revision_digest}
-use Rattle.release_text.specs.Valid.{IsThere, IsNone, IsPhased, IsSigned, BearsBoth, MaySigned, Waits, HasLegs, AreNumbered, IsValid}
+use Rattle.release_text.specs.Valid.{IsThere, IsNone, IsPhased, IsSigned, BearsBoth, MaySigned, Waits, HasLegs, AreNumbered, IsValid, HasSignedHours, HoursAreSigned}
 use Rattle.kept_releases.specs.Kept.{is_phased, phase_fits, has_legs, are_numbered, is_shaped, has_digest, bears_both, may_be_signed, waits, is_valid}
 
 there : (v : Option Revision) → is_some v ≡ true → IsThere v
@@ -118,23 +118,25 @@ may_be : (v : Revision) (s : Option Signature) → MaySigned v s → may_be_sign
 may_be v None is = refl
 may_be v (Some s) is = and_from v.prepared (bytes_eq s.digest (revision_digest v)) is.0 ((bytes_eq-Decides s.digest (revision_digest v)).1 is.1)
 
-nobody : (s : Option Signature) → not (is_some s) ≡ true → s ≡ None
-nobody None is = refl
-nobody (Some s) is = absurd (cc is)
+nothing : {A : Type 0} (o : Option A) → not (is_some o) ≡ true → o ≡ None
+nothing None is = refl
+nothing (Some x) is = absurd (cc is)
 
-is_nobody : (s : Option Signature) → s ≡ None → not (is_some s) ≡ true
-is_nobody s is = rw is refl
+is_nothing : {A : Type 0} (o : Option A) → o ≡ None → not (is_some o) ≡ true
+is_nothing o is = rw is refl
 
 waiting : (v : Option Revision) → waits v ≡ true → IfSome v Waits
 waiting None is = tt
 waiting (Some v) is =
-    let parts = and_parts (not (is_some v.captain)) (may_be_signed v v.dispatcher) is in
-    record { captain = nobody v.captain parts.0; dispatcher = may_signed v v.dispatcher parts.1 }
+    let parts = and_parts (not (is_some v.captain) && not (is_some v.hours)) (may_be_signed v v.dispatcher) is in
+    let first = and_parts (not (is_some v.captain)) (not (is_some v.hours)) parts.0 in
+    record { captain = nothing v.captain first.0; hours = nothing v.hours first.1; dispatcher = may_signed v v.dispatcher parts.1 }
 
 is_waiting : (v : Option Revision) → IfSome v Waits → waits v ≡ true
 is_waiting None is = refl
 is_waiting (Some v) is =
-    and_from (not (is_some v.captain)) (may_be_signed v v.dispatcher) (is_nobody v.captain is.captain) (may_be v v.dispatcher is.dispatcher)
+    and_from (not (is_some v.captain) && not (is_some v.hours)) (may_be_signed v v.dispatcher)
+    (and_from (not (is_some v.captain)) (not (is_some v.hours)) (is_nothing v.captain is.captain) (is_nothing v.hours is.hours)) (may_be v v.dispatcher is.dispatcher)
 
 abbrev phased_test : Release → Bool
 phased_test r = is_phased r.phase (is_some r.pending) (is_some r.active)
@@ -171,3 +173,25 @@ test_from_valid r is =
 -- the test tells whether phase, revisions and signatures agree
 pub valid_tested : (r : Release) → (is_valid r ≡ true) ↔ IsValid r
 valid_tested r = (valid_from_test r, test_from_valid r)
+
+-- ---- a captain's hours stand beside his signature
+
+signed_there : (v : Revision) (s : Option Signature) → IsSigned v s → IsSome s
+signed_there v None is = absurd is
+signed_there v (Some s) is = refl
+
+beside : (hours : Option ℕ) (s : Option Signature) → IsSome s → IfSome hours (λ h. IsSome s)
+beside None s is = tt
+beside (Some h) s is = is
+
+active_signed : (v : Option Revision) → IfSome v BearsBoth → IfSome v HasSignedHours
+active_signed None is = tt
+active_signed (Some v) is = beside v.hours v.captain (signed_there v v.captain is.captain)
+
+pending_signed : (v : Option Revision) → IfSome v Waits → IfSome v HasSignedHours
+pending_signed None is = tt
+pending_signed (Some v) is = subst (λ (o : Option ℕ). IfSome o (λ h. IsSome v.captain)) (sym is.hours) tt
+
+-- in a valid release hours stand only beside a captain's signature
+pub hours_signed : (r : Release) → IsValid r → HoursAreSigned r
+hours_signed r is = record { pending = pending_signed r.pending is.waits; active = active_signed r.active is.both }

@@ -10,7 +10,7 @@ use Rattle.plan.specs.declared.release.Revision.{Revision}
 use Rattle.plan.specs.declared.release.Signature.{Signature}
 use Rattle.plan.specs.Texts.{finding_text, phase_text}
 use Rattle.desk_time.specs.Moments.{shown}
-use Rattle.call_json.specs.Forms.{IsId, IsAttached, IsSignature, IsRevision, IsFormed}
+use Rattle.call_json.specs.Forms.{IsId, IsHours, IsAttached, IsSignature, IsRevision, IsFormed}
 use Rattle.call_json.specs.Plain.{IsPlain, HasText}
 use Rattle.call_json.proofs.Compact.{read_compact}
 use Rattle.call_json.proofs.Plain.{order_of, text_of, list_plain, list_has_text, list_depth, plan_plain, plan_has_text, plan_depth}
@@ -18,7 +18,9 @@ use Rattle.call_json.proofs.Texts.{written_utf8, digest_utf8}
 use Rattle.std.specs.List.{AllByRecursion}
 use Rattle.kept_releases.specs.Findings.{finding_data, findings_data}
 use Rattle.kept_releases.specs.Kept.{IsKept}
-use Rattle.kept_releases.specs.Rows.{attached_members, attached_data, signature_members, signature_data, revision_members, revision_data, release_members, release_data}
+use Rattle.kept_releases.specs.Rows.{attached_members, attached_data, signature_members, signature_data, hours_data, revision_members, revision_data, release_members, release_data}
+use Rattle.kept_releases.specs.declared.version.Version.{Version}
+use Rattle.kept_releases.specs.declared.version.Version.TheVariants.{First, Second}
 
 pub id_plain : (n : ℕ) → IsId n → n < 2 ^ 64
 id_plain n few = omega arith
@@ -33,33 +35,34 @@ unfolding signature_data
 signature_plain None = tt
 signature_plain (Some s) = (order_of (signature_members s) refl, (tt, (tt, (tt, tt))))
 
-revision_plain : (v : Option Revision) → IfSome v IsRevision → IsPlain (revision_data v)
+hours_plain : (hours : Option ℕ) → IfSome hours IsHours → IsPlain (hours_data hours)
+unfolding hours_data
+hours_plain None is = tt
+hours_plain (Some hours) is = omega (arith, is)
+
+revision_plain : (version : Version) (v : Option Revision) → IfSome v IsRevision → IsPlain (revision_data version v)
 unfolding revision_data
-revision_plain None is = tt
-revision_plain (Some v) is = (
-  order_of (revision_members v) refl,
+revision_plain version None is = tt
+revision_plain First (Some v) is = (
+  order_of (revision_members First v) refl,
   (
     list_plain IsAttached attached_data attached_plain v.attached is.attached,
-    (
-      signature_plain v.captain,
-      (
-        signature_plain v.dispatcher,
-        (
-          id_plain v.number is.number,
-          (
-            plan_plain v.plan is.plan,
-            (tt, tt),
-          ),
-        ),
-      ),
-    ),
+    (signature_plain v.captain, (signature_plain v.dispatcher, (id_plain v.number is.number, (plan_plain v.plan is.plan, (tt, tt))))),
+  ),
+)
+revision_plain Second (Some v) is = (
+  order_of (revision_members Second v) refl,
+  (
+    list_plain IsAttached attached_data attached_plain v.attached is.attached,
+    (signature_plain v.captain, (signature_plain v.dispatcher, (hours_plain v.hours is.hours, (id_plain v.number is.number, (plan_plain v.plan is.plan, (tt, tt)))))),
   ),
 )
 
 -- a release whose fields have their forms is plain data
-pub release_plain : (r : Release) → IsFormed r → IsPlain (release_data r)
+pub release_plain : (version : Version) (r : Release) → IsFormed r → IsPlain (release_data version r)
 unfolding release_data
-release_plain r is = (order_of (release_members r) refl, (revision_plain r.active is.active, (tt, (revision_plain r.pending is.pending, (tt, tt)))))
+release_plain version r is =
+    (order_of (release_members version r) refl, (revision_plain version r.active is.active, (tt, (revision_plain version r.pending is.pending, (tt, tt)))))
 
 all_plain : (fs : List Finding) → AllByRecursion (λ f. Unit {0}) fs
 all_plain [] = tt
@@ -78,31 +81,28 @@ unfolding signature_data
 signature_has_text None is = tt
 signature_has_text (Some s) is = text_of (signature_members s) refl (written_utf8 s.actor, (written_utf8 (shown s.at), (digest_utf8 s.digest is.digest, tt)))
 
-revision_has_text : (v : Option Revision) → IfSome v IsRevision → HasText (revision_data v)
+hours_have_text : (hours : Option ℕ) → HasText (hours_data hours)
+unfolding hours_data
+hours_have_text None = tt
+hours_have_text (Some hours) = tt
+
+revision_has_text : (version : Version) (v : Option Revision) → IfSome v IsRevision → HasText (revision_data version v)
 unfolding revision_data
-revision_has_text None is = tt
-revision_has_text (Some v) is = text_of (revision_members v) refl (
+revision_has_text version None is = tt
+revision_has_text First (Some v) is = text_of (revision_members First v) refl (
   list_has_text attached_data attached_has_text v.attached,
-  (
-    signature_has_text v.captain is.captain,
-    (
-      signature_has_text v.dispatcher is.dispatcher,
-      (
-        tt,
-        (
-          plan_has_text v.plan,
-          (tt, tt),
-        ),
-      ),
-    ),
-  ),
+  (signature_has_text v.captain is.captain, (signature_has_text v.dispatcher is.dispatcher, (tt, (plan_has_text v.plan, (tt, tt))))),
+)
+revision_has_text Second (Some v) is = text_of (revision_members Second v) refl (
+  list_has_text attached_data attached_has_text v.attached,
+  (signature_has_text v.captain is.captain, (signature_has_text v.dispatcher is.dispatcher, (hours_have_text v.hours, (tt, (plan_has_text v.plan, (tt, tt)))))),
 )
 
 -- all its text is UTF-8
-pub release_has_text : (r : Release) → IsFormed r → HasText (release_data r)
+pub release_has_text : (version : Version) (r : Release) → IsFormed r → HasText (release_data version r)
 unfolding release_data
-release_has_text r is =
-    text_of (release_members r) refl (revision_has_text r.active is.active, (written_utf8 r.holder, (revision_has_text r.pending is.pending, (written_utf8 (phase_text r.phase), tt))))
+release_has_text version r is =
+    text_of (release_members version r) refl (revision_has_text version r.active is.active, (written_utf8 r.holder, (revision_has_text version r.pending is.pending, (written_utf8 (phase_text r.phase), tt))))
 
 pub findings_have_text : (fs : List Finding) → HasText (findings_data fs)
 findings_have_text fs = list_has_text finding_data (λ f. written_utf8 (finding_text f)) fs
@@ -117,22 +117,34 @@ unfolding signature_data
 signature_depth None = omega arith
 signature_depth (Some s) = omega arith
 
-revision_depth : (v : Option Revision) → depth (revision_data v) ≤ 6
+hours_depth : (hours : Option ℕ) → depth (hours_data hours) ≤ 0
+unfolding hours_data
+hours_depth None = omega arith
+hours_depth (Some hours) = omega arith
+
+revision_depth : (version : Version) (v : Option Revision) → depth (revision_data version v) ≤ 6
 unfolding revision_data
-revision_depth None = omega arith
-revision_depth (Some v) =
+revision_depth version None = omega arith
+revision_depth First (Some v) =
     let attached = list_depth attached_data 1 attached_depth v.attached in
     let captain = signature_depth v.captain in
     let dispatcher = signature_depth v.dispatcher in
     let plan = plan_depth v.plan in
     omega (arith, attached, captain, dispatcher, plan)
+revision_depth Second (Some v) =
+    let attached = list_depth attached_data 1 attached_depth v.attached in
+    let captain = signature_depth v.captain in
+    let dispatcher = signature_depth v.dispatcher in
+    let hours = hours_depth v.hours in
+    let plan = plan_depth v.plan in
+    omega (arith, attached, captain, dispatcher, hours, plan)
 
 -- lists and objects in a release nest seven times
-pub release_depth : (r : Release) → depth (release_data r) ≤ 7
+pub release_depth : (version : Version) (r : Release) → depth (release_data version r) ≤ 7
 unfolding release_data
-release_depth r =
-    let active = revision_depth r.active in
-    let pending = revision_depth r.pending in
+release_depth version r =
+    let active = revision_depth version r.active in
+    let pending = revision_depth version r.pending in
     omega (arith, active, pending)
 
 finding_depth : (f : Finding) → depth (finding_data f) ≤ 0
@@ -144,5 +156,5 @@ findings_depth fs = let all = list_depth finding_data 0 finding_depth fs in omeg
 -- ---- rows
 
 -- the text of a valid release is read as its JSON, and that as the release
-pub row_read : (r : Release) → IsKept r → read (compact_text (release_data r)) ≡ Some (release_data r)
-row_read r is = read_compact (release_data r) (release_plain r is.formed) (let few = release_depth r in omega arith)
+pub row_read : (version : Version) (r : Release) → IsKept r → read (compact_text (release_data version r)) ≡ Some (release_data version r)
+row_read version r is = read_compact (release_data version r) (release_plain version r is.formed) (let few = release_depth version r in omega arith)

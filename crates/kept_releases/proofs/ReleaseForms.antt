@@ -1,27 +1,33 @@
 -- The fields of a release that is read have their forms, and it is valid.
-use Rattle.std.proofs.Common.{◌≡◌, ℕ, true, List, Option, None, Some, IfSome, codes, refl, is_some}
+use Rattle.std.proofs.Common.{◌≡◌, ℕ, true, List, Option, None, Some, IfSome, codes, refl, is_some, nat_le}
+use Rattle.std.specs.Prelude.{option_and_then}
 use Rattle.std.specs.List.{AllByRecursion}
 use Rattle.std.specs.Str.{is_utf8}
+use Rattle.std.proofs.lemmas.Bool.{leb-true}
 use Rattle.std.proofs.lemmas.Str.{IsUtf8-from_is_utf8}
 use Rattle.serde_json.specs.Data.{Data}
-use Rattle.serde_json.specs.Find.{get, as_null}
+use Rattle.serde_json.specs.Find.{get, as_null, as_number, as_u64}
 use Rattle.ops_tables.specs.Forms.{is_person}
 use Rattle.plan.specs.Texts.{HasMoment}
 use Rattle.desk_time.specs.Limits.{IsMoment}
+use Rattle.desk_time.specs.Moments.{up_to}
 use Rattle.plan.specs.declared.release.Phase.{Phase}
 use Rattle.plan.specs.declared.release.Phase.TheVariants.{Drafted, Ready, Flying, Stopped, Completed, Cancelled}
 use Rattle.plan.specs.declared.release.Release.{Release}
 use Rattle.plan.specs.declared.release.Revision.{Revision}
 use Rattle.plan.specs.declared.release.Signature.{Signature}
-use Rattle.call_json.specs.Forms.{IsId, HasForms, IsAttached, IsSignature, IsRevision, IsFormed}
+use Rattle.call_json.specs.Forms.{IsId, IsHours, HasForms, IsAttached, IsSignature, IsRevision, IsFormed}
 use Rattle.call_json.specs.Digests.{digest_at, IsDigest}
 use Rattle.call_json.specs.Fields.{text_at, id_at, moment_at, list_at, has_members}
 use Rattle.call_json.specs.Plans.{plan_of}
 use Rattle.kept_releases.specs.Kept.{IsKept, is_valid}
 use Rattle.kept_releases.specs.Phases.{IsPhase, phase_of}
 use Rattle.kept_releases.specs.Plans.{MayHavePlan, HasPlans}
-use Rattle.kept_releases.specs.Releases.{bool_at, person, person_at, attached_with, attached_of, attached_at, signature_of, signature_in, signature_at, signatures_of, head_of, plan_at, revision_of, revision_in, revision_at, revisions_of, phase_at, release_in, release_of}
+use Rattle.kept_releases.specs.Releases.{bool_at, person, person_at, attached_with, attached_of, attached_at, signature_of, signature_in, signature_at, signatures_of, hours_of, hours_in, hours_at, head_of, plan_at, revision_of, revision_in, revision_at, revisions_of, phase_at, release_with, release_in, release_of}
 use Rattle.kept_releases.specs.Rows.{SignedAtMoment, RevisionHasMoments, ReleaseHasMoments}
+use Rattle.kept_releases.specs.Versions.{members_of, SaysRelease}
+use Rattle.kept_releases.specs.declared.version.Version.{Version}
+use Rattle.kept_releases.specs.declared.version.Version.TheVariants.{First, Second}
 use Rattle.kept_releases.specs.declared.revisions.Head.{Head}
 use Rattle.kept_releases.specs.declared.revisions.Signatures.{Signatures}
 use Rattle.kept_releases.specs.declared.releases.Revisions.{Revisions}
@@ -82,42 +88,84 @@ signatures_formed d =
     bind_if (signature_at (codes "dispatcher") d) _ MayBeSignature AreSignatures (signature_at_formed (codes "dispatcher") d) (λ dispatcher one.
     bind_if (signature_at (codes "captain") d) _ MayBeSignature AreSignatures (signature_at_formed (codes "captain") d) (λ captain two. record { first = one; second = two }))
 
-abbrev IsHead : Head → Type 0
-IsHead h = IsId h.number
+abbrev MayBeHours : Option ℕ → Type 0
+MayBeHours hours = IfSome hours IsHours
 
-head_formed : (d : Data) → IfSome (head_of d) IsHead
-head_formed d =
-    bind_if (id_at (codes "number") d) _ IsId IsHead (id_formed (codes "number") d) (λ number is. bind_any (bool_at (codes "prepared") d) _ IsHead (λ prepared. under (has_members 6 d) _ IsHead (λ exact. is)))
+hours_formed : (d : Data) → IfSome (hours_of d) IsHours
+hours_formed d =
+    then_if (up_to 100_000) (option_and_then as_u64 (as_number d)) IsHours (λ n. under (nat_le n 100_000) (Some n) IsHours (leb-true n 100_000))
+
+hours_in_formed : (d : Data) → IfSome (hours_in d) MayBeHours
+unfolding hours_in
+hours_in_formed d = either (is_some (as_null d)) _ _ MayBeHours tt (bind_if (hours_of d) _ IsHours MayBeHours (hours_formed d) (λ hours is. is))
+
+-- hours that rows of a version can say
+abbrev pub MaySayHours : Version → Option ℕ → Type 0
+MaySayHours First hours = hours ≡ None
+MaySayHours Second hours = Unit {0}
+
+-- a revision that rows of a version can say
+abbrev pub SaysRevision : Version → Revision → Type 0
+SaysRevision version v = MaySayHours version v.hours
+
+-- what is read of a captain's hours in rows of a version
+record AreHours (version : Version) (hours : Option ℕ) : Type 0 where
+  few : MayBeHours hours
+  says : MaySayHours version hours
+
+hours_at_formed : (version : Version) (d : Data) → IfSome (hours_at version d) (AreHours version)
+hours_at_formed First d = record { few = tt; says = refl }
+hours_at_formed Second d =
+    IfSome_then (option_and_then hours_in (get (codes "hours") d)) (then_if hours_in (get (codes "hours") d) MayBeHours hours_in_formed) (λ hours few. record { few = few; says = tt })
+
+record IsHead (version : Version) (h : Head) : Type 0 where
+  number : IsId h.number
+  hours : AreHours version h.hours
+
+head_formed : (version : Version) (d : Data) → IfSome (head_of version d) (IsHead version)
+head_formed version d =
+    bind_if (id_at (codes "number") d) _ IsId (IsHead version) (id_formed (codes "number") d) (λ number is.
+    bind_any (bool_at (codes "prepared") d) _ (IsHead version) (λ prepared.
+    bind_if (hours_at version d) _ (AreHours version) (IsHead version) (hours_at_formed version d) (λ hours are.
+    under (has_members (members_of version) d) _ (IsHead version) (λ exact. record { number = is; hours = are }))))
 
 plan_at_formed : (d : Data) → IfSome (plan_at d) HasForms
 plan_at_formed d = then_if plan_of (get (codes "plan") d) HasForms plan_formed
 
-revision_formed : (d : Data) → IfSome (revision_of d) IsRevision
-revision_formed d =
-    bind_if (head_of d) _ IsHead IsRevision (head_formed d) (λ h is_head.
-    bind_if (plan_at d) _ HasForms IsRevision (plan_at_formed d) (λ plan is_plan.
-    bind_if (signatures_of d) _ AreSignatures IsRevision (signatures_formed d) (λ s are.
-    bind_if (attached_at d) _ (AllByRecursion IsAttached) IsRevision (all_formed d) (λ attached all.
-    record { number = is_head; plan = is_plan; attached = all; dispatcher = are.first; captain = are.second }))))
+-- a revision that is read in rows of a version
+record IsRead (version : Version) (v : Revision) : Type 0 where
+  formed : IsRevision v
+  says : SaysRevision version v
 
-abbrev MayBeRevision : Option Revision → Type 0
-MayBeRevision v = IfSome v IsRevision
+revision_formed : (version : Version) (d : Data) → IfSome (revision_of version d) (IsRead version)
+revision_formed version d =
+    bind_if (head_of version d) _ (IsHead version) (IsRead version) (head_formed version d) (λ h is_head.
+    bind_if (plan_at d) _ HasForms (IsRead version) (plan_at_formed d) (λ plan is_plan.
+    bind_if (signatures_of d) _ AreSignatures (IsRead version) (signatures_formed d) (λ s are.
+    bind_if (attached_at d) _ (AllByRecursion IsAttached) (IsRead version) (all_formed d) (λ attached all. record {
+      formed = record { number = is_head.number; plan = is_plan; attached = all; dispatcher = are.first; captain = are.second; hours = is_head.hours.few };
+      says = is_head.hours.says;
+    }))))
 
-revision_in_formed : (d : Data) → IfSome (revision_in d) MayBeRevision
+abbrev MayBeRevision : Version → Option Revision → Type 0
+MayBeRevision version v = IfSome v (IsRead version)
+
+revision_in_formed : (version : Version) (d : Data) → IfSome (revision_in version d) (MayBeRevision version)
 unfolding revision_in
-revision_in_formed d = either (is_some (as_null d)) _ _ MayBeRevision tt (bind_if (revision_of d) _ IsRevision MayBeRevision (revision_formed d) (λ v is. is))
+revision_in_formed version d =
+    either (is_some (as_null d)) _ _ (MayBeRevision version) tt (bind_if (revision_of version d) _ (IsRead version) (MayBeRevision version) (revision_formed version d) (λ v is. is))
 
-revision_at_formed : (key : List ℕ) (d : Data) → IfSome (revision_at key d) MayBeRevision
-revision_at_formed key d = then_if revision_in (get key d) MayBeRevision revision_in_formed
+revision_at_formed : (version : Version) (key : List ℕ) (d : Data) → IfSome (revision_at version key d) (MayBeRevision version)
+revision_at_formed version key d = then_if (revision_in version) (get key d) (MayBeRevision version) (revision_in_formed version)
 
-record AreRevisions (v : Revisions) : Type 0 where
-  later : MayBeRevision v.pending
-  earlier : MayBeRevision v.active
+record AreRevisions (version : Version) (v : Revisions) : Type 0 where
+  later : MayBeRevision version v.pending
+  earlier : MayBeRevision version v.active
 
-revisions_formed : (d : Data) → IfSome (revisions_of d) AreRevisions
-revisions_formed d =
-    bind_if (revision_at (codes "pending") d) _ MayBeRevision AreRevisions (revision_at_formed (codes "pending") d) (λ pending one.
-    bind_if (revision_at (codes "active") d) _ MayBeRevision AreRevisions (revision_at_formed (codes "active") d) (λ active two. record { later = one; earlier = two }))
+revisions_formed : (version : Version) (d : Data) → IfSome (revisions_of version d) (AreRevisions version)
+revisions_formed version d =
+    bind_if (revision_at version (codes "pending") d) _ (MayBeRevision version) (AreRevisions version) (revision_at_formed version (codes "pending") d) (λ pending one.
+    bind_if (revision_at version (codes "active") d) _ (MayBeRevision version) (AreRevisions version) (revision_at_formed version (codes "active") d) (λ active two. record { later = one; earlier = two }))
 
 -- ---- releases
 
@@ -132,13 +180,42 @@ moment_of_phase (Stopped next since again) is = is.1
 moment_of_phase (Completed at) is = is
 moment_of_phase (Cancelled at) is = is
 
-pub release_formed : (id : ℕ) (d : Data) → IfSome (release_in id d) IsFormed
+each_formed_of : (version : Version) (v : Option Revision) → MayBeRevision version v → IfSome v IsRevision
+each_formed_of version v is = IfSome_then v is (λ w read. read.formed)
+
+each_says : (version : Version) (v : Option Revision) → MayBeRevision version v → IfSome v (SaysRevision version)
+each_says version v is = IfSome_then v is (λ w read. read.says)
+
+pub release_formed : (version : Version) (id : ℕ) (d : Data) → IfSome (release_in version id d) IsFormed
 unfolding release_in
-release_formed id d =
+release_formed version id d =
     bind_if (person_at (codes "holder") d) _ IsPerson IsFormed (person_at_formed (codes "holder") d) (λ holder is_holder.
     bind_if (phase_at d) _ IsPhase IsFormed (phase_at_formed d) (λ phase is_phase.
-    bind_if (revisions_of d) _ AreRevisions IsFormed (revisions_formed d) (λ v are.
-    under (has_members 4 d) _ IsFormed (λ exact. record { holder = is_holder; moment = moment_of_phase phase is_phase; pending = are.later; active = are.earlier }))))
+    bind_if (revisions_of version d) _ (AreRevisions version) IsFormed (revisions_formed version d) (λ v are.
+    under (has_members 4 d) _ IsFormed (λ exact. record {
+      holder = is_holder;
+      moment = moment_of_phase phase is_phase;
+      pending = each_formed_of version v.pending are.later;
+      active = each_formed_of version v.active are.earlier;
+    }))))
+
+both_say : (version : Version) (r : Release) → IfSome r.pending (SaysRevision version) → IfSome r.active (SaysRevision version) → SaysRelease version r
+both_say First r pending active = record { pending = pending; active = active }
+both_say Second r pending active = tt
+
+in_says : (version : Version) (id : ℕ) (d : Data) → IfSome (release_in version id d) (SaysRelease version)
+unfolding release_in
+in_says version id d =
+    bind_any (person_at (codes "holder") d) _ (SaysRelease version) (λ holder.
+    bind_any (phase_at d) _ (SaysRelease version) (λ phase.
+    bind_if (revisions_of version d) _ (AreRevisions version) (SaysRelease version) (revisions_formed version d) (λ v are.
+    under (has_members 4 d) _ (SaysRelease version) (λ exact. both_say version (release_with id holder phase v) (each_says version v.pending are.later) (each_says version v.active are.earlier)))))
+
+-- what is read in rows of a version is said by these whole
+pub release_says : (version : Version) (id : ℕ) (d : Data) → IfSome (release_of version id d) (SaysRelease version)
+unfolding release_of
+release_says version id d =
+    bind_if (release_in version id d) _ (SaysRelease version) (SaysRelease version) (in_says version id d) (λ r says. under (is_valid r) (Some r) (SaysRelease version) (λ is. says))
 
 may_have_plan : (v : Option Revision) → IfSome v IsRevision → MayHavePlan v
 may_have_plan None is = tt
@@ -148,27 +225,27 @@ has_plans : (r : Release) → IsFormed r → HasPlans r
 has_plans r is = record { pending = may_have_plan r.pending is.pending; active = may_have_plan r.active is.active }
 
 -- each plan of what is read is one whose text can be made
-pub release_plans : (id : ℕ) (d : Data) → IfSome (release_in id d) HasPlans
-release_plans id d = IfSome_then (release_in id d) (release_formed id d) has_plans
+pub release_plans : (version : Version) (id : ℕ) (d : Data) → IfSome (release_in version id d) HasPlans
+release_plans version id d = IfSome_then (release_in version id d) (release_formed version id d) has_plans
 
 -- only valid releases are read
-pub release_kept : (id : ℕ) (d : Data) → IfSome (release_of id d) IsKept
+pub release_kept : (version : Version) (id : ℕ) (d : Data) → IfSome (release_of version id d) IsKept
 unfolding release_of
-release_kept id d =
-    bind_if (release_in id d) _ IsFormed IsKept (release_formed id d) (λ r formed. under (is_valid r) (Some r) IsKept (λ is. record { formed = formed; valid = valid_from_test r is }))
+release_kept version id d =
+    bind_if (release_in version id d) _ IsFormed IsKept (release_formed version id d) (λ r formed. under (is_valid r) (Some r) IsKept (λ is. record { formed = formed; valid = valid_from_test r is }))
 
 abbrev IsNamed : ℕ → Release → Type 0
 IsNamed id r = r.id ≡ id
 
-in_named : (id : ℕ) (d : Data) → IfSome (release_in id d) (IsNamed id)
+in_named : (version : Version) (id : ℕ) (d : Data) → IfSome (release_in version id d) (IsNamed id)
 unfolding release_in
-in_named id d =
-    bind_any (person_at (codes "holder") d) _ (IsNamed id) (λ holder. bind_any (phase_at d) _ (IsNamed id) (λ phase. bind_any (revisions_of d) _ (IsNamed id) (λ v. under (has_members 4 d) _ (IsNamed id) (λ exact. refl))))
+in_named version id d =
+    bind_any (person_at (codes "holder") d) _ (IsNamed id) (λ holder. bind_any (phase_at d) _ (IsNamed id) (λ phase. bind_any (revisions_of version d) _ (IsNamed id) (λ v. under (has_members 4 d) _ (IsNamed id) (λ exact. refl))))
 
 -- what is read has the id that was asked for
-pub release_named : (id : ℕ) (d : Data) → IfSome (release_of id d) (IsNamed id)
+pub release_named : (version : Version) (id : ℕ) (d : Data) → IfSome (release_of version id d) (IsNamed id)
 unfolding release_of
-release_named id d = bind_if (release_in id d) _ (IsNamed id) (IsNamed id) (in_named id d) (λ r same. under (is_valid r) (Some r) (IsNamed id) (λ is. same))
+release_named version id d = bind_if (release_in version id d) _ (IsNamed id) (IsNamed id) (in_named version id d) (λ r same. under (is_valid r) (Some r) (IsNamed id) (λ is. same))
 
 signed_at : (s : Option Signature) → IfSome s IsSignature → SignedAtMoment s
 signed_at None is = tt

@@ -1,5 +1,5 @@
 -- The JSON of a valid release is read as it.
-use Rattle.std.proofs.Common.{◌≡◌, ℕ, ◌≤◌, Bool, true, false, List, [], ◌++◌, Option, None, Some, IfSome, IsUtf8, codes, decimal, refl, ap, ◌∙◌, arith, nat_lt}
+use Rattle.std.proofs.Common.{◌≡◌, ℕ, ◌≤◌, Bool, true, false, List, [], ◌++◌, Option, None, Some, IfSome, IsUtf8, codes, decimal, refl, sym, ap, ◌∙◌, arith, nat_lt}
 use Rattle.std.specs.List.{list_all}
 use Rattle.std.specs.Str.Lossy.{utf8_lossy}
 use Rattle.std.proofs.lemmas.Bool.{and_parts}
@@ -17,17 +17,21 @@ use Rattle.plan.specs.declared.release.Phase.TheVariants.{Drafted, Ready, Flying
 use Rattle.plan.specs.declared.release.Release.{Release}
 use Rattle.plan.specs.declared.release.Revision.{Revision}
 use Rattle.plan.specs.declared.release.Signature.{Signature}
-use Rattle.call_json.proofs.Again.{id_again, moment_again, plan_again, each_again}
+use Rattle.call_json.proofs.Again.{small_again, id_again, moment_again, plan_again, each_again}
 use Rattle.call_json.proofs.Texts.{passing_utf8, moment_utf8}
 use Rattle.call_json.proofs.DigestLaws.{digest_again}
-use Rattle.call_json.specs.Forms.{IsAttached, IsSignature, IsRevision, IsFormed}
+use Rattle.call_json.specs.Forms.{IsHours, IsAttached, IsSignature, IsRevision, IsFormed}
 use Rattle.kept_releases.specs.Kept.{IsKept}
 use Rattle.release_text.specs.Valid.{IsPhased, HasLegs}
 use Rattle.kept_releases.specs.Phases.{IsPhase, phase_of}
-use Rattle.kept_releases.specs.Releases.{person, attached_with, attached_of, signature_in, revision_in, release_in, release_of}
-use Rattle.kept_releases.specs.Rows.{attached_data, signature_data, revision_data, release_data}
+use Rattle.kept_releases.specs.Releases.{person, attached_with, attached_of, signature_in, hours_in, revision_in, release_in, release_of}
+use Rattle.kept_releases.specs.Rows.{attached_data, signature_data, hours_data, revision_data, release_data}
+use Rattle.kept_releases.specs.Versions.{SaysRelease}
+use Rattle.kept_releases.specs.declared.version.Version.{Version}
+use Rattle.kept_releases.specs.declared.version.Version.TheVariants.{First, Second}
 use Rattle.kept_releases.proofs.KeptLaws.{test_from_valid}
 use Rattle.kept_releases.proofs.PhaseLaws.{phase_again}
+use Rattle.kept_releases.proofs.ReleaseForms.{SaysRevision}
 
 -- ---- texts
 
@@ -77,17 +81,49 @@ unfolding signature_in signature_data
 signature_again None is = refl
 signature_again (Some s) is = rw (person_again s.actor is.actor, moment_again s.at is.at, digest_again s.digest is.digest) refl
 
-revision_again : (v : Option Revision) → IfSome v IsRevision → revision_in (revision_data v) ≡ Some v
+hours_again : (hours : Option ℕ) → IfSome hours IsHours → hours_in (hours_data hours) ≡ Some hours
+unfolding hours_in hours_data
+hours_again None is = refl
+hours_again (Some hours) is = rw (small_again hours 100_000 is) refl
+
+-- without its captain's hours
+old_again : (v : Option Revision) → IfSome v IsRevision → IfSome v (SaysRevision First) → revision_in First (revision_data First v) ≡ Some v
 unfolding revision_in revision_data
-revision_again None is = refl
-revision_again (Some v) is =
+old_again None is says = refl
+old_again (Some v) is says =
     rw (
       id_again v.number is.number,
       plan_again v.plan is.plan,
       signature_again v.dispatcher is.dispatcher,
       signature_again v.captain is.captain,
       each_again IsAttached attached_of attached_data attached_again v.attached is.attached,
+    ) (ap (λ (hours : Option ℕ). Some (Some (record v { hours = hours }))) (sym says))
+
+-- with its captain's hours
+new_again : (v : Option Revision) → IfSome v IsRevision → revision_in Second (revision_data Second v) ≡ Some v
+unfolding revision_in revision_data
+new_again None is = refl
+new_again (Some v) is =
+    rw (
+      id_again v.number is.number,
+      hours_again v.hours is.hours,
+      plan_again v.plan is.plan,
+      signature_again v.dispatcher is.dispatcher,
+      signature_again v.captain is.captain,
+      each_again IsAttached attached_of attached_data attached_again v.attached is.attached,
     ) refl
+
+revision_again : (version : Version) (v : Option Revision) → IfSome v IsRevision → IfSome v (SaysRevision version) → revision_in version (revision_data version v) ≡ Some v
+revision_again First v is says = old_again v is says
+revision_again Second v is says = new_again v is
+
+any_revision : (v : Option Revision) → IfSome v (SaysRevision Second)
+any_revision None = tt
+any_revision (Some v) = tt
+
+each_says : (version : Version) (r : Release) → SaysRelease version r → IfSome r.pending (SaysRevision version) × IfSome r.active (SaysRevision version)
+each_says First r says = (says.pending, says.active)
+each_says Second r says = (any_revision r.pending, any_revision r.active)
 
 -- ---- releases
 
@@ -104,15 +140,21 @@ phase_of_kept (Cancelled at) pending active moment phased formed legs = moment
 pub phase_kept : (r : Release) → IsKept r → IsPhase r.phase
 phase_kept r is = phase_of_kept r.phase r.pending r.active is.formed.moment is.valid.phased is.formed.active is.valid.active_legs
 
-in_again : (r : Release) → IsFormed r → IsPhase r.phase → release_in r.id (release_data r) ≡ Some r
+in_again : (version : Version) (r : Release) → IsFormed r → IsPhase r.phase → SaysRelease version r → release_in version r.id (release_data version r) ≡ Some r
 unfolding release_in release_data
-in_again r is phase =
-    rw (person_again r.holder is.holder, phase_text_again r.phase phase, revision_again r.pending is.pending, revision_again r.active is.active) refl
+in_again version r is phase says =
+    let each = each_says version r says in
+    rw (
+      person_again r.holder is.holder,
+      phase_text_again r.phase phase,
+      revision_again version r.pending is.pending each.0,
+      revision_again version r.active is.active each.1,
+    ) refl
 
 -- the release that is written is read
-pub release_again : (r : Release) → IsKept r → release_of r.id (release_data r) ≡ Some r
+pub release_again : (version : Version) (r : Release) → IsKept r → SaysRelease version r → release_of version r.id (release_data version r) ≡ Some r
 unfolding release_of
-release_again r is = rw (in_again r is.formed (phase_kept r is), test_from_valid r is.valid) refl
+release_again version r is says = rw (in_again version r is.formed (phase_kept r is) says, test_from_valid r is.valid) refl
 
-pub release_at_again : (id : ℕ) (d : Data) (r : Release) → IsKept r → r.id ≡ id → d ≡ release_data r → release_of id d ≡ Some r
-release_at_again id d r is same says = rw (says, ← same) (release_again r is)
+pub release_at_again : (version : Version) (id : ℕ) (d : Data) (r : Release) → IsKept r → SaysRelease version r → r.id ≡ id → d ≡ release_data version r → release_of version id d ≡ Some r
+release_at_again version id d r is says same written = rw (written, ← same) (release_again version r is says)

@@ -63,7 +63,7 @@ may_be_signed v (Some s) = v.prepared && bytes_eq s.digest (revision_digest v)
 
 abbrev pub waits : Option Revision → Bool
 waits None = true
-waits (Some v) = not (is_some v.captain) && may_be_signed v v.dispatcher
+waits (Some v) = not (is_some v.captain) && not (is_some v.hours) && may_be_signed v v.dispatcher
 
 -- whether phase, revisions and signatures agree
 unfoldable pub is_valid : Release → Bool

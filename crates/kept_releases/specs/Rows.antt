@@ -1,5 +1,5 @@
 -- A release as JSON, each key in its place in byte order. Its id is the key of its row, and no part of this.
-use Rattle.std.specs.Prelude.{Option, None, Some, IfSome, codes}
+use Rattle.std.specs.Prelude.{ℕ, Option, None, Some, IfSome, codes}
 use Rattle.serde_json.specs.Data.{Data, null, boolean, object, Members, member, no_members}
 use Rattle.plan.specs.Check.{IsPlan}
 use Rattle.plan.specs.Texts.{HasMoment, phase_text}
@@ -10,6 +10,8 @@ use Rattle.plan.specs.declared.release.Revision.{Revision}
 use Rattle.plan.specs.declared.release.Signature.{Signature}
 use Rattle.call_json.specs.Canonical.{count, text_data, moment_data, list_data, plan_data}
 use Rattle.call_json.specs.Digests.{digest_data}
+use Rattle.kept_releases.specs.declared.version.Version.{Version}
+use Rattle.kept_releases.specs.declared.version.Version.TheVariants.{First, Second}
 
 abbrev pub signature_members : Signature → Members
 signature_members s = member (codes "actor") (text_data s.actor) (member (codes "at") (moment_data s.at) (member (codes "digest") (digest_data s.digest) no_members))
@@ -26,30 +28,41 @@ attached_members a = member (codes "report") (count a.report) (member (codes "te
 abbrev pub attached_data : Attached → Data
 attached_data a = object (attached_members a)
 
-abbrev pub revision_members : Revision → Members
-revision_members v =
+-- null, or the hours of a captain
+unfoldable pub hours_data : Option ℕ → Data
+hours_data None = null
+hours_data (Some hours) = count hours
+
+-- the hours before the members that come after them, where rows of the version say hours
+abbrev pub with_hours : Version → Option ℕ → Members → Members
+with_hours First hours later = later
+with_hours Second hours later = member (codes "hours") (hours_data hours) later
+
+abbrev pub revision_members : Version → Revision → Members
+revision_members version v =
     member (codes "attached") (list_data attached_data v.attached)
     (member (codes "captain") (signature_data v.captain)
     (member (codes "dispatcher") (signature_data v.dispatcher)
+    (with_hours version v.hours
     (member (codes "number") (count v.number)
     (member (codes "plan") (plan_data v.plan)
-    (member (codes "prepared") (boolean v.prepared) no_members)))))
+    (member (codes "prepared") (boolean v.prepared) no_members))))))
 
 -- null, or a revision
-unfoldable pub revision_data : Option Revision → Data
-revision_data None = null
-revision_data (Some v) = object (revision_members v)
+unfoldable pub revision_data : Version → Option Revision → Data
+revision_data version None = null
+revision_data version (Some v) = object (revision_members version v)
 
-abbrev pub release_members : Release → Members
-release_members r =
-    member (codes "active") (revision_data r.active)
+abbrev pub release_members : Version → Release → Members
+release_members version r =
+    member (codes "active") (revision_data version r.active)
     (member (codes "holder") (text_data r.holder)
-    (member (codes "pending") (revision_data r.pending)
+    (member (codes "pending") (revision_data version r.pending)
     (member (codes "phase") (text_data (phase_text r.phase)) no_members)))
 
--- the JSON of a release
-unfoldable pub release_data : Release → Data
-release_data r = object (release_members r)
+-- the JSON of a release, in rows of a version
+unfoldable pub release_data : Version → Release → Data
+release_data version r = object (release_members version r)
 
 abbrev pub SignedAtMoment : Option Signature → Type 0
 SignedAtMoment signature = IfSome signature (λ s. IsMoment s.at)

@@ -108,14 +108,14 @@ fn may_be_signed(
     }
 }
 
-// Whether a pending revision has no captain's signature, and a dispatcher's only on its text.
+// Whether a pending revision has no captain's signature, no hours of his, and a dispatcher's only on its text.
 fn waits(alloc: Global, revision: &Option<Revision>) -> Result<bool, OutOfMemory>
     requires { MayHavePlan revision.now }
     ensures { IfOk result (λ b. b ≡ spec.waits revision.now) }
 {
     match revision {
         None => Ok(true),
-        Some(revision) if revision.captain.is_some() => Ok(false),
+        Some(revision) if revision.captain.is_some() || revision.hours.is_some() => Ok(false),
         Some(revision) => may_be_signed(alloc, revision, &revision.dispatcher),
     }
 }

@@ -8,8 +8,10 @@ mod phases;
 mod releases;
 mod revisions;
 mod rows;
+mod version;
 
 pub use findings::{findings_value, read_finding, read_findings, read_said_finding};
 pub use phases::read_phase;
 pub use releases::read_release;
 pub use rows::release_value;
+pub use version::Version;

@@ -3,10 +3,13 @@ ghost use Rattle.serde_json.specs.View.{view};
 ghost use Rattle.kept_releases.specs.Kept.{IsKept};
 ghost use Rattle.kept_releases.specs.Plans.{HasPlans};
 ghost use Rattle.kept_releases.specs.Releases as spec;
+ghost use Rattle.kept_releases.specs.Versions.{SaysRelease};
+ghost use Rattle.release_text.specs.Valid.{HoursAreSigned};
 
 use crate::kept::is_valid;
 use crate::phases::read_phase;
 use crate::revisions::{person_at, revision_at};
+use crate::version::Version;
 use call_json::{has_members, text_at};
 use desk_io::{OutOfMemory, Text};
 use plan::{Phase, Release, Revision};
@@ -20,13 +23,17 @@ struct Revisions {
     active: Option<Revision>,
 }
 
-fn revisions_of(alloc: Global, value: &Value) -> Result<Option<Revisions>, OutOfMemory>
-    ensures { IfOk result (λ v. v ≡ spec.revisions_of (view value.now)) }
+fn revisions_of(
+    alloc: Global,
+    version: Version,
+    value: &Value,
+) -> Result<Option<Revisions>, OutOfMemory>
+    ensures { IfOk result (λ v. v ≡ spec.revisions_of version (view value.now)) }
 {
-    let Some(pending) = revision_at(alloc, "pending", value)? else {
+    let Some(pending) = revision_at(alloc, version, "pending", value)? else {
         return Ok(None);
     };
-    match revision_at(alloc, "active", value)? {
+    match revision_at(alloc, version, "active", value)? {
         Some(active) => Ok(Some(Revisions { pending, active })),
         None => Ok(None),
     }
@@ -52,8 +59,13 @@ fn release_with(id: u64, holder: Text, phase: Phase, revisions: Revisions) -> Re
 }
 
 #[tactic(auto, unfolding(crate::specs::Releases::release_in))]
-fn release_in(alloc: Global, id: u64, value: &Value) -> Result<Option<Release>, OutOfMemory>
-    ensures { IfOk result (λ r. r ≡ spec.release_in id (view value.now)) }
+fn release_in(
+    alloc: Global,
+    version: Version,
+    id: u64,
+    value: &Value,
+) -> Result<Option<Release>, OutOfMemory>
+    ensures { IfOk result (λ r. r ≡ spec.release_in version id (view value.now)) }
 {
     let Some(holder) = person_at("holder", value) else {
         return Ok(None);
@@ -61,7 +73,7 @@ fn release_in(alloc: Global, id: u64, value: &Value) -> Result<Option<Release>, 
     let Some(phase) = phase_at(value) else {
         return Ok(None);
     };
-    match revisions_of(alloc, value)? {
+    match revisions_of(alloc, version, value)? {
         Some(revisions) if has_members(4, value) => {
             let holder = Text::of(alloc, holder.as_bytes())?;
             Ok(Some(release_with(id, holder, phase, revisions)))
@@ -71,18 +83,28 @@ fn release_in(alloc: Global, id: u64, value: &Value) -> Result<Option<Release>, 
 }
 
 // The same, with what the test of validity rests on.
-fn release_found(alloc: Global, id: u64, value: &Value) -> Result<Option<Release>, OutOfMemory>
-    ensures value { IfOk result (λ r. r ≡ spec.release_in id (view value.now)) }
+fn release_found(
+    alloc: Global,
+    version: Version,
+    id: u64,
+    value: &Value,
+) -> Result<Option<Release>, OutOfMemory>
+    ensures value { IfOk result (λ r. r ≡ spec.release_in version id (view value.now)) }
     ensures plans { IfOk result (λ r. IfSome r HasPlans) }
 {
-    release_in(alloc, id, value)
+    release_in(alloc, version, id, value)
 }
 
 #[tactic(auto, unfolding(crate::specs::Releases::release_of))]
-fn valid_release(alloc: Global, id: u64, value: &Value) -> Result<Option<Release>, OutOfMemory>
-    ensures { IfOk result (λ r. r ≡ spec.release_of id (view value.now)) }
+fn valid_release(
+    alloc: Global,
+    version: Version,
+    id: u64,
+    value: &Value,
+) -> Result<Option<Release>, OutOfMemory>
+    ensures { IfOk result (λ r. r ≡ spec.release_of version id (view value.now)) }
 {
-    match release_found(alloc, id, value)? {
+    match release_found(alloc, version, id, value)? {
         Some(release) => {
             if is_valid(alloc, &release)? {
                 Ok(Some(release))
@@ -94,12 +116,19 @@ fn valid_release(alloc: Global, id: u64, value: &Value) -> Result<Option<Release
     }
 }
 
-/// The release of that id whose JSON this is, where it is valid: an object of exactly its keys, each field in its
-/// form, whose phase, revisions and signatures agree.
-pub fn read_release(alloc: Global, id: u64, value: &Value) -> Result<Option<Release>, OutOfMemory>
-    ensures value { IfOk result (λ r. r ≡ spec.release_of id (view value.now)) }
+/// The release of that id whose JSON this is in rows of a version, where it is valid: an object of exactly its keys,
+/// each field in its form, whose phase, revisions and signatures agree. In the first version no revision has hours.
+pub fn read_release(
+    alloc: Global,
+    version: Version,
+    id: u64,
+    value: &Value,
+) -> Result<Option<Release>, OutOfMemory>
+    ensures value { IfOk result (λ r. r ≡ spec.release_of version id (view value.now)) }
     ensures kept { IfOk result (λ r. IfSome r IsKept) }
-    ensures again { IfOk result (spec.IsReleaseAgain id (view value.now)) }
+    ensures signed { IfOk result (λ r. IfSome r HoursAreSigned) }
+    ensures says { IfOk result (λ r. IfSome r (SaysRelease version)) }
+    ensures again { IfOk result (spec.IsReleaseAgain version id (view value.now)) }
 {
-    valid_release(alloc, id, value)
+    valid_release(alloc, version, id, value)
 }

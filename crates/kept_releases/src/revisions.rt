@@ -6,17 +6,19 @@ ghost use Rattle.ops_tables.specs.Forms as form;
 ghost use Rattle.call_json.specs.Fields.{each_read};
 ghost use Rattle.kept_releases.specs.Releases as spec;
 
+use crate::version::{Version, members_of};
 use call_json::{digest_at, has_members, id_at, list_at, moment_at, read_plan, text_at};
 use desk_io::{OutOfMemory, Text};
 use plan::{Attached, AttachedList, Plan, Revision, Signature};
 use serde_json::Value;
 use std::alloc::Global;
 
-// The number of a revision, and whether it is prepared.
+// The number of a revision, whether it is prepared, and its captain's hours.
 #[derive(Clone, Copy)]
 struct Head {
     number: u64,
     prepared: bool,
+    hours: Option<u32>,
 }
 
 // Who has signed a revision.
@@ -168,13 +170,51 @@ fn signatures_of(alloc: Global, value: &Value) -> Result<Option<Signatures>, Out
     }
 }
 
-fn head_of(value: &Value) -> Option<Head>
-    ensures { result ≡ spec.head_of (view value.now) }
+// A number of hours.
+fn hours_of(value: &Value) -> Option<u32>
+    ensures { result ≡ spec.hours_of (view value.now) }
+{
+    match value.as_u64() {
+        Some(hours) if hours <= 100_000 => Some(hours as u32),
+        _ => None,
+    }
+}
+
+#[tactic(auto, unfolding(crate::specs::Releases::hours_in))]
+fn hours_in(value: &Value) -> Option<Option<u32>>
+    ensures { result ≡ spec.hours_in (view value.now) }
+{
+    if value.is_null() {
+        return Some(None);
+    }
+    Some(Some(hours_of(value)?))
+}
+
+// A captain's hours, where rows of the version say them.
+fn hours_at(version: Version, value: &Value) -> Option<Option<u32>>
+    ensures { result ≡ spec.hours_at version (view value.now) }
+{
+    match version {
+        Version::First => Some(None),
+        Version::Second => match value.get("hours") {
+            Some(found) => hours_in(found),
+            None => None,
+        },
+    }
+}
+
+fn head_of(version: Version, value: &Value) -> Option<Head>
+    ensures { result ≡ spec.head_of version (view value.now) }
 {
     let number = id_at("number", value)?;
     let prepared = bool_at("prepared", value)?;
-    if has_members(6, value) {
-        Some(Head { number, prepared })
+    let hours = hours_at(version, value)?;
+    if has_members(members_of(version), value) {
+        Some(Head {
+            number,
+            prepared,
+            hours,
+        })
     } else {
         None
     }
@@ -203,13 +243,18 @@ fn revision_with(head: Head, plan: Plan, signatures: Signatures, attached: Attac
         attached,
         dispatcher,
         captain,
+        hours: head.hours,
     }
 }
 
-fn revision_of(alloc: Global, value: &Value) -> Result<Option<Revision>, OutOfMemory>
-    ensures { IfOk result (λ v. v ≡ spec.revision_of (view value.now)) }
+fn revision_of(
+    alloc: Global,
+    version: Version,
+    value: &Value,
+) -> Result<Option<Revision>, OutOfMemory>
+    ensures { IfOk result (λ v. v ≡ spec.revision_of version (view value.now)) }
 {
-    let Some(head) = head_of(value) else {
+    let Some(head) = head_of(version, value) else {
         return Ok(None);
     };
     let Some(plan) = plan_at(alloc, value)? else {
@@ -225,13 +270,17 @@ fn revision_of(alloc: Global, value: &Value) -> Result<Option<Revision>, OutOfMe
 }
 
 #[tactic(auto, unfolding(crate::specs::Releases::revision_in))]
-fn revision_in(alloc: Global, value: &Value) -> Result<Option<Option<Revision>>, OutOfMemory>
-    ensures { IfOk result (λ v. v ≡ spec.revision_in (view value.now)) }
+fn revision_in(
+    alloc: Global,
+    version: Version,
+    value: &Value,
+) -> Result<Option<Option<Revision>>, OutOfMemory>
+    ensures { IfOk result (λ v. v ≡ spec.revision_in version (view value.now)) }
 {
     if value.is_null() {
         return Ok(Some(None));
     }
-    match revision_of(alloc, value)? {
+    match revision_of(alloc, version, value)? {
         Some(revision) => Ok(Some(Some(revision))),
         None => Ok(None),
     }
@@ -240,13 +289,14 @@ fn revision_in(alloc: Global, value: &Value) -> Result<Option<Option<Revision>>,
 /// Null or the revision at a key.
 pub(crate) fn revision_at(
     alloc: Global,
+    version: Version,
     key: &str,
     value: &Value,
 ) -> Result<Option<Option<Revision>>, OutOfMemory>
-    ensures { IfOk result (λ v. v ≡ spec.revision_at key.now (view value.now)) }
+    ensures { IfOk result (λ v. v ≡ spec.revision_at version key.now (view value.now)) }
 {
     match value.get(key) {
-        Some(found) => revision_in(alloc, found),
+        Some(found) => revision_in(alloc, version, found),
         None => Ok(None),
     }
 }

@@ -6,7 +6,10 @@ ghost use Rattle.desk_time.specs.Limits.{IsMoment};
 ghost use Rattle.call_json.specs.Canonical.{list_data, text_data};
 ghost use Rattle.kept_releases.specs.Rows as spec;
 
-use call_json::{Members, plan_value, with_count, with_digest, with_moment, with_text, with_value};
+use crate::version::Version;
+use call_json::{
+    Members, count_value, plan_value, with_count, with_digest, with_moment, with_text, with_value,
+};
 use desk_io::OutOfMemory;
 use plan::{Attached, Phase, Release, Revision, Signature, phase_text};
 use serde_json::{Map, Value};
@@ -80,9 +83,20 @@ fn with_signature(
     with_value(alloc, members, key, value)
 }
 
-fn revision_members(alloc: Global, revision: &Revision) -> Result<Members, OutOfMemory>
+#[tactic(auto, unfolding(crate::specs::Rows::hours_data))]
+fn hours_value(hours: Option<u32>) -> Value
+    ensures { view result ≡ spec.hours_data hours }
+{
+    match hours {
+        None => Value::Null,
+        Some(hours) => count_value(hours as u64),
+    }
+}
+
+// All members but the captain's hours.
+fn plain_members(alloc: Global, revision: &Revision) -> Result<Members, OutOfMemory>
     requires { spec.RevisionHasMoments revision.now }
-    ensures { IfOk result (λ all. members_view all.entries ≡ spec.revision_members revision.now) }
+    ensures { IfOk result (λ all. members_view all.entries ≡ spec.revision_members Version.First revision.now) }
 {
     let members = Map::new(alloc);
     let members = with_attached(alloc, members, revision.attached.as_slice())?;
@@ -94,14 +108,33 @@ fn revision_members(alloc: Global, revision: &Revision) -> Result<Members, OutOf
     with_value(alloc, members, "prepared", Value::Bool(revision.prepared))
 }
 
+fn revision_members(
+    alloc: Global,
+    version: Version,
+    revision: &Revision,
+) -> Result<Members, OutOfMemory>
+    requires { spec.RevisionHasMoments revision.now }
+    ensures { IfOk result (λ all. members_view all.entries ≡ spec.revision_members version revision.now) }
+{
+    let members = plain_members(alloc, revision)?;
+    match version {
+        Version::First => Ok(members),
+        Version::Second => with_value(alloc, members, "hours", hours_value(revision.hours)),
+    }
+}
+
 #[tactic(auto, unfolding(crate::specs::Rows::revision_data))]
-fn revision_value(alloc: Global, revision: &Option<Revision>) -> Result<Value, OutOfMemory>
+fn revision_value(
+    alloc: Global,
+    version: Version,
+    revision: &Option<Revision>,
+) -> Result<Value, OutOfMemory>
     requires { IfSome revision.now spec.RevisionHasMoments }
-    ensures { IfOk result (λ v. view v ≡ spec.revision_data revision.now) }
+    ensures { IfOk result (λ v. view v ≡ spec.revision_data version revision.now) }
 {
     match revision {
         None => Ok(Value::Null),
-        Some(revision) => Ok(Value::Object(revision_members(alloc, revision)?)),
+        Some(revision) => Ok(Value::Object(revision_members(alloc, version, revision)?)),
     }
 }
 
@@ -109,14 +142,15 @@ fn revision_value(alloc: Global, revision: &Option<Revision>) -> Result<Value, O
 fn with_revision(
     alloc: Global,
     members: Members,
+    version: Version,
     key: &str,
     revision: &Option<Revision>,
 ) -> Result<Members, OutOfMemory>
     requires { IfSome revision.now spec.RevisionHasMoments }
-    ensures { IfOk result (λ all. members_view all.entries ≡ put key.now (spec.revision_data revision.now)
+    ensures { IfOk result (λ all. members_view all.entries ≡ put key.now (spec.revision_data version revision.now)
         (members_view members.entries)) }
 {
-    let value = revision_value(alloc, revision)?;
+    let value = revision_value(alloc, version, revision)?;
     with_value(alloc, members, key, value)
 }
 
@@ -130,22 +164,30 @@ fn with_phase(alloc: Global, members: Members, phase: Phase) -> Result<Members, 
     with_text(alloc, members, "phase", text.bytes())
 }
 
-fn release_members(alloc: Global, release: &Release) -> Result<Members, OutOfMemory>
+fn release_members(
+    alloc: Global,
+    version: Version,
+    release: &Release,
+) -> Result<Members, OutOfMemory>
     requires { spec.ReleaseHasMoments release.now }
-    ensures { IfOk result (λ all. members_view all.entries ≡ spec.release_members release.now) }
+    ensures { IfOk result (λ all. members_view all.entries ≡ spec.release_members version release.now) }
 {
     let members = Map::new(alloc);
-    let members = with_revision(alloc, members, "active", &release.active)?;
+    let members = with_revision(alloc, members, version, "active", &release.active)?;
     let members = with_text(alloc, members, "holder", release.holder.bytes())?;
-    let members = with_revision(alloc, members, "pending", &release.pending)?;
+    let members = with_revision(alloc, members, version, "pending", &release.pending)?;
     with_phase(alloc, members, release.phase)
 }
 
-/// A release as JSON. Its id isn't in it.
+/// A release as JSON, in rows of a version. Its id isn't in it.
 #[tactic(auto, unfolding(crate::specs::Rows::release_data))]
-pub fn release_value(alloc: Global, release: &Release) -> Result<Value, OutOfMemory>
+pub fn release_value(
+    alloc: Global,
+    version: Version,
+    release: &Release,
+) -> Result<Value, OutOfMemory>
     requires { spec.ReleaseHasMoments release.now }
-    ensures { IfOk result (λ v. view v ≡ spec.release_data release.now) }
+    ensures { IfOk result (λ v. view v ≡ spec.release_data version release.now) }
 {
-    Ok(Value::Object(release_members(alloc, release)?))
+    Ok(Value::Object(release_members(alloc, version, release)?))
 }

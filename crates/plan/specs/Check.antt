@@ -4,10 +4,7 @@ use Rattle.std.specs.List.{AllByRecursion, list_all, list_any}
 use Rattle.std.specs.Str.{bytes_eq}
 use Rattle.desk_time.specs.Limits.{IsMoment, first_planned, last_planned}
 use Rattle.stations.specs.Station.{Station}
-use Rattle.ops_tables.specs.Tables.{TableRows, tail_named, actor_of, has_airport}
-use Rattle.ops_tables.specs.declared.rows.Actor.{Actor}
-use Rattle.ops_tables.specs.declared.rows.Role.{Role}
-use Rattle.ops_tables.specs.declared.rows.Role.TheVariants.{D, C, F, M, S}
+use Rattle.ops_tables.specs.Tables.{TableRows, tail_named, has_airport, has_captain}
 use Rattle.plan.specs.declared.flights.Plan.{Plan}
 use Rattle.plan.specs.declared.flights.Leg.{Leg}
 use Rattle.plan.specs.declared.flights.Alternate.{Alternate}
@@ -16,20 +13,9 @@ use Rattle.plan.specs.declared.check.BadPlan.{BadPlan}
 use Rattle.plan.specs.declared.check.PlanWhy.{PlanWhy}
 use Rattle.plan.specs.declared.check.PlanWhy.TheVariants.{UnknownTail, UnknownCaptain, Count, NoAirport, Repeated, Unjoined, Times, Amount}
 
-abbrev pub is_captain_role : Role → Bool
-is_captain_role D = false
-is_captain_role C = true
-is_captain_role F = false
-is_captain_role M = false
-is_captain_role S = false
-
-abbrev pub is_captain : Option Actor → Bool
-is_captain None = false
-is_captain (Some actor) = is_captain_role actor.role
-
--- one to five legs
+-- one to eight legs
 abbrev pub has_legs : Plan → Bool
-has_legs p = nat_le 1 (length p.legs) && nat_le (length p.legs) 5
+has_legs p = nat_le 1 (length p.legs) && nat_le (length p.legs) 8
 
 abbrev pub is_at : Station → Station → Bool
 is_at a b = bytes_eq a b
@@ -133,7 +119,7 @@ first_fault tables n before (l ∷ ls) = fault_or (leg_fault tables before l) n 
 abbrev pub whole_fault : TableRows → Plan → Option PlanWhy
 whole_fault tables p =
     if not (is_some (tail_named tables p.tail)) then Some UnknownTail
-    else (if not (is_captain (actor_of tables p.captain)) then Some UnknownCaptain else (if not (has_legs p) then Some Count else None))
+    else (if not (has_captain tables p.captain) then Some UnknownCaptain else (if not (has_legs p) then Some Count else None))
 
 -- The first test that a plan fails: those of the whole plan, and then those of each leg, all of one leg before
 -- the next.

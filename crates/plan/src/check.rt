@@ -7,7 +7,7 @@ ghost use Rattle.plan.specs.Check.{plan_fault, IsPlan};
 
 use crate::flights::{Alternate, Leg, Plan, TakeoffAlternate};
 use desk_time::{Minute, PLAN_FIRST, PLAN_LAST};
-use ops_tables::{Actor, Role, Tables};
+use ops_tables::Tables;
 use stations::Station;
 
 /// Why a plan can't be flown.
@@ -17,7 +17,7 @@ pub enum PlanWhy {
     UnknownTail,
     /// The tables have no such captain.
     UnknownCaptain,
-    /// There isn't one leg to five, or a leg has more than three alternates.
+    /// There isn't one leg to eight, or a leg has more than three alternates.
     Count,
     /// An airport of the leg isn't in the tables.
     NoAirport,
@@ -258,27 +258,15 @@ fn first_fault(tables: &Tables, legs: &[Leg]) -> Option<BadPlan>
     None
 }
 
-fn is_captain(actor: Option<&Actor>) -> bool
-    ensures { result ≡ spec.is_captain (option_copied actor.entry) }
-{
-    match actor {
-        None => false,
-        Some(actor) => match actor.role {
-            Role::C => true,
-            Role::D | Role::F | Role::M | Role::S => false,
-        },
-    }
-}
-
 fn whole_fault(tables: &Tables, plan: &Plan) -> Option<PlanWhy>
     ensures { result ≡ spec.whole_fault tables.now plan.now }
 {
     let legs = plan.legs.as_slice().len();
     if !tables.has_tail(plan.tail.bytes()) {
         Some(PlanWhy::UnknownTail)
-    } else if !is_captain(tables.actor(plan.captain.bytes())) {
+    } else if !tables.has_captain(plan.captain.bytes()) {
         Some(PlanWhy::UnknownCaptain)
-    } else if legs < 1 || 5 < legs {
+    } else if legs < 1 || 8 < legs {
         Some(PlanWhy::Count)
     } else {
         None
@@ -297,7 +285,7 @@ fn fault_of(plan: &Plan, tables: &Tables) -> Option<BadPlan>
 }
 
 /// The tests of a plan of at most 1,000 legs under the tables. Those of the whole plan are of leg 0: that
-/// its aircraft and its captain are known, and that it has one leg to five. Then come those of each leg, all of
+/// its aircraft and its captain are known, and that it has one leg to eight. Then come those of each leg, all of
 /// one leg before the next: that its airports are known, that it has at most three alternates, that no airport
 /// stands twice where it may stand once, that it begins where the leg before it ends, that its times are in
 /// order and in bounds, and that its amounts of fuel are. The first that fails is the error. It takes no memory.

@@ -141,6 +141,9 @@ pub struct Revision {
     pub attached: AttachedList,
     pub dispatcher: Option<Signature>,
     pub captain: Option<Signature>,
+    /// The hours that its captain had flown in its type when he concurred, as the tables then said: none before, and
+    /// none where he concurred before hours were kept.
+    pub hours: Option<u32>,
 }
 
 /// A dispatch release (14 CFR 121.593, 121.595).
@@ -193,6 +196,7 @@ impl Copied for Revision {
             attached: self.attached.copy(alloc)?,
             dispatcher: copied_option(&self.dispatcher, alloc)?,
             captain: copied_option(&self.captain, alloc)?,
+            hours: self.hours,
         })
     }
 }

@@ -1,5 +1,5 @@
 -- Which releases are valid: their phase, their revisions and the signatures on these agree (14 CFR 121.593 to 121.597, 121.687).
-use Rattle.std.specs.Prelude.{◌≡◌, ◌<◌, ◌≤◌, true, length, Option, None, Some, IfSome}
+use Rattle.std.specs.Prelude.{◌≡◌, ◌<◌, ◌≤◌, true, length, Option, None, Some, IfSome, IsSome}
 use Rattle.plan.specs.Phases.{PhaseFits}
 use Rattle.plan.specs.declared.release.Phase.{Phase}
 use Rattle.plan.specs.declared.release.Phase.TheVariants.{Drafted, Ready, Flying, Stopped, Completed, Cancelled}
@@ -42,9 +42,11 @@ abbrev pub MaySigned : Revision → Option Signature → Type 0
 MaySigned v None = Unit {0}
 MaySigned v (Some signature) = (v.prepared ≡ true) × (signature.digest ≡ revision_digest v)
 
--- A pending revision bears no captain's signature, and a dispatcher's only where it is prepared, on its text.
+-- A pending revision bears no captain's signature and says no hours of his, and it bears a dispatcher's only where it
+-- is prepared, on its text.
 pub record Waits (v : Revision) : Type 0 where
   pub captain : v.captain ≡ None
+  pub hours : v.hours ≡ None
   pub dispatcher : MaySigned v v.dispatcher
 
 -- the plan of a revision has a leg, and the one that the phase names
@@ -66,3 +68,12 @@ pub record IsValid (r : Release) : Type 0 where
   pub active_legs : IfSome r.active (HasLegs r.phase)
   pub both : IfSome r.active BearsBoth
   pub waits : IfSome r.pending Waits
+
+-- a revision says its captain's hours only where it bears his signature
+abbrev pub HasSignedHours : Revision → Type 0
+HasSignedHours v = IfSome v.hours (λ hours. IsSome v.captain)
+
+-- each revision of a release does
+pub record HoursAreSigned (r : Release) : Type 0 where
+  pub pending : IfSome r.pending HasSignedHours
+  pub active : IfSome r.active HasSignedHours

@@ -8,4 +8,4 @@ use Rattle.kept_releases.proofs.releases.release_found.Goals as goal
 
 pub returns-clause-plans : goal.returns-clause-plans
 returns-clause-plans c =
-    IfOk-weaker c.release_in.result _ _ (λ r is. subst (λ (o : Option Release). IfSome o HasPlans) (sym is) (release_plans c.args.id (view c.args.value.now))) c.release_in.ensures
+    IfOk-weaker c.release_in.result _ _ (λ r is. subst (λ (o : Option Release). IfSome o HasPlans) (sym is) (release_plans c.args.version c.args.id (view c.args.value.now))) c.release_in.ensures
