@@ -6,7 +6,7 @@ use std::test::Fail;
 
 // Eight events, and the next number of each kind is 9.
 const NINE: &str =
-    r#"0 0 {"events":8,"floors":{},"next_deferral":9,"next_kept":9,"next_release":9,"next_report":9,"now":"2025-03-23T06:15Z","version":1}"#;
+    r#"0 0 {"events":8,"floors":{},"next_deferral":9,"next_kept":9,"next_release":9,"next_report":9,"now":"2025-03-23T06:15Z","version":2}"#;
 
 // What is said of rows: that they fit, or which is bad and why, or which doesn't fit which.
 #[derive(Clone, Copy, Debug, PartialEq, Eq)]

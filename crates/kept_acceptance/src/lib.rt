@@ -16,3 +16,5 @@ mod memory;
 mod replies;
 #[cfg(test)]
 mod rows;
+#[cfg(test)]
+mod versions;

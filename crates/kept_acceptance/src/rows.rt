@@ -15,11 +15,11 @@ use std::test::Fail;
 // and that its dispatcher signed, one that is ready with an amendment that waits, what is kept of a reply, and an
 // alert.
 const ROWS: &str =
-    r#"0 0 {"events":319,"floors":{"C7":6,"C8":3,"D1":35,"D2":26,"F1":28,"M1":7},"next_deferral":6,"next_kept":181,"next_release":28,"next_report":61,"now":"2025-03-23T06:15Z","version":1}
+    r#"0 0 {"events":319,"floors":{"C7":6,"C8":3,"D1":35,"D2":26,"F1":28,"M1":7},"next_deferral":6,"next_kept":181,"next_release":28,"next_report":61,"now":"2025-03-23T06:15Z","version":2}
 1 45 {"received":"2025-03-19T14:38Z","text":"SPECI EINN 191339Z NIL"}
 2 4 {"found":"2025-03-10T14:20Z","item":"34-1","tail":"N801DK"}
-3 1 {"active":null,"holder":"D1","pending":{"attached":[{"report":2,"text":"TAF AMD EH3Y 121702Z 1216/1322 24010KT P6SM SKC"},{"report":1,"text":"TAF AMD EGLL 121701Z 1216/1322 24010KT 9999 NSC"},{"report":3,"text":"TAF AMD KJFK 121703Z 1216/1322 24010KT 9999 NSC"}],"captain":null,"dispatcher":{"actor":"D1","at":"2025-03-12T17:03Z","digest":"1dc7a9717bb8a66958d877eda5fe025b96205eb73a930072cef96314b4003d19"},"number":1,"plan":{"captain":"C7","flight":"DK723","kind":"flag","legs":[{"alternates":[{"fuel":500,"minutes":63,"station":"KJFK"}],"burn":5000,"eta":"2025-03-13T01:41Z","etd":"2025-03-12T19:01Z","extra":0,"from":"EH3Y","minimum":13053,"minutes":394,"onboard":14053,"takeoff_alternate":{"minutes":75,"station":"EGLL"},"to":"EGLL"}],"tail":"N2-X"},"prepared":true},"phase":"DRAFTED"}
-3 23 {"active":{"attached":[{"report":26,"text":"TAF AMD CLNX 010248Z 0102/0208 24010KT P6SM SKC"},{"report":41,"text":"TAF AMD EGLL 011258Z 0111/0217 24010KT P6SM BKN030"}],"captain":{"actor":"C7","at":"2025-04-01T12:45Z","digest":"85021cf1a6b3c40cb4d3eb90d54a31fd1d6a32a31465abbbd2fe3444a5ac6576"},"dispatcher":{"actor":"D1","at":"2025-04-01T12:42Z","digest":"85021cf1a6b3c40cb4d3eb90d54a31fd1d6a32a31465abbbd2fe3444a5ac6576"},"number":1,"plan":{"captain":"C7","flight":"DK105","kind":"domestic","legs":[{"alternates":[],"burn":12000,"eta":"2025-04-01T19:49Z","etd":"2025-04-01T13:09Z","extra":0,"from":"CLNX","minimum":17000,"minutes":399,"onboard":17000,"takeoff_alternate":null,"to":"EGLL"}],"tail":"N4"},"prepared":true},"holder":"D1","pending":{"attached":[],"captain":null,"dispatcher":null,"number":2,"plan":{"captain":"C7","flight":"DK105","kind":"domestic","legs":[{"alternates":[],"burn":12000,"eta":"2025-04-01T19:49Z","etd":"2025-04-01T13:09Z","extra":0,"from":"CLNX","minimum":17000,"minutes":399,"onboard":17000,"takeoff_alternate":null,"to":"EGLL"}],"tail":"N4"},"prepared":false},"phase":"READY 1"}
+3 1 {"active":null,"holder":"D1","pending":{"attached":[{"report":2,"text":"TAF AMD EH3Y 121702Z 1216/1322 24010KT P6SM SKC"},{"report":1,"text":"TAF AMD EGLL 121701Z 1216/1322 24010KT 9999 NSC"},{"report":3,"text":"TAF AMD KJFK 121703Z 1216/1322 24010KT 9999 NSC"}],"captain":null,"dispatcher":{"actor":"D1","at":"2025-03-12T17:03Z","digest":"1dc7a9717bb8a66958d877eda5fe025b96205eb73a930072cef96314b4003d19"},"hours":null,"number":1,"plan":{"captain":"C7","flight":"DK723","kind":"flag","legs":[{"alternates":[{"fuel":500,"minutes":63,"station":"KJFK"}],"burn":5000,"eta":"2025-03-13T01:41Z","etd":"2025-03-12T19:01Z","extra":0,"from":"EH3Y","minimum":13053,"minutes":394,"onboard":14053,"takeoff_alternate":{"minutes":75,"station":"EGLL"},"to":"EGLL"}],"tail":"N2-X"},"prepared":true},"phase":"DRAFTED"}
+3 23 {"active":{"attached":[{"report":26,"text":"TAF AMD CLNX 010248Z 0102/0208 24010KT P6SM SKC"},{"report":41,"text":"TAF AMD EGLL 011258Z 0111/0217 24010KT P6SM BKN030"}],"captain":{"actor":"C7","at":"2025-04-01T12:45Z","digest":"85021cf1a6b3c40cb4d3eb90d54a31fd1d6a32a31465abbbd2fe3444a5ac6576"},"dispatcher":{"actor":"D1","at":"2025-04-01T12:42Z","digest":"85021cf1a6b3c40cb4d3eb90d54a31fd1d6a32a31465abbbd2fe3444a5ac6576"},"hours":250,"number":1,"plan":{"captain":"C7","flight":"DK105","kind":"domestic","legs":[{"alternates":[],"burn":12000,"eta":"2025-04-01T19:49Z","etd":"2025-04-01T13:09Z","extra":0,"from":"CLNX","minimum":17000,"minutes":399,"onboard":17000,"takeoff_alternate":null,"to":"EGLL"}],"tail":"N4"},"prepared":true},"holder":"D1","pending":{"attached":[],"captain":null,"dispatcher":null,"hours":null,"number":2,"plan":{"captain":"C7","flight":"DK105","kind":"domestic","legs":[{"alternates":[],"burn":12000,"eta":"2025-04-01T19:49Z","etd":"2025-04-01T13:09Z","extra":0,"from":"CLNX","minimum":17000,"minutes":399,"onboard":17000,"takeoff_alternate":null,"to":"EGLL"}],"tail":"N4"},"prepared":false},"phase":"READY 1"}
 4 145 {"actor":"D1","at":"2025-03-19T15:41Z","digest":"c783651c88604e092cdcba85703f1f96cea890bba87f39102b378d6ac7752b58","number":84,"reply":{"done":{"digest":"3fb5c4881f1f439f93cc5cdecc4101a0dd5965358d078afdd19885ec4d899f4e","release":23,"revision":2}}}
 5 23 {"acknowledged":true,"ever":["121.625/1/1","121.625/1/2","DESK-LATE-OFF/1/0"],"failing":["121.625/1/2"],"opened":"2025-04-01T12:50Z","version":6}"#;
 
@@ -100,6 +100,7 @@ fn is_draft(revision: &Revision) -> bool {
     has_numbers(revision, 1, true, &[2, 1, 3])
         && is_flight(revision, b"DK723", b"N2-X")
         && revision.captain.is_none()
+        && revision.hours.is_none()
         && is_signed(&revision.dispatcher, b"D1", b"2025-03-12T17:03Z", front)
 }
 
@@ -107,6 +108,7 @@ fn is_flown_by(revision: &Revision) -> bool {
     let front = [0x85, 0x02, 0x1c, 0xf1];
     has_numbers(revision, 1, true, &[26, 41])
         && is_flight(revision, b"DK105", b"N4")
+        && revision.hours == Some(250)
         && is_signed(&revision.captain, b"C7", b"2025-04-01T12:45Z", front)
         && is_signed(&revision.dispatcher, b"D1", b"2025-04-01T12:42Z", front)
 }
@@ -115,6 +117,7 @@ fn is_amendment(revision: &Revision) -> bool {
     has_numbers(revision, 2, false, &[])
         && is_flight(revision, b"DK105", b"N4")
         && revision.captain.is_none()
+        && revision.hours.is_none()
         && revision.dispatcher.is_none()
 }
 

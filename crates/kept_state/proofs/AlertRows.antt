@@ -15,7 +15,7 @@ use Rattle.desk_state.specs.State.{State, alert_at, judged}
 use Rattle.desk_state.proofs.Judging.{IsOf, Of, found_of, judged_is}
 use Rattle.desk_state.proofs.Changes.{all_above}
 use Rattle.desk_state.proofs.Parts.{judgeable}
-use Rattle.records.specs.Bodies.{row_of}
+use Rattle.records.specs.Bodies.{row_in, row_of}
 use Rattle.records.specs.declared.record.Record.TheVariants as record_of
 use Rattle.kept_state.specs.Rows.{alert_kept}
 use Rattle.kept_state.specs.Changes.{alert_row, alert_rows}
@@ -145,7 +145,7 @@ abbrev pub alert_body : Alert → Body
 alert_body a = (row_of (record_of.Alert (alert_kept a))).body
 
 one_row : (id : ℕ) (o : Option Alert) (q : ℕ) (p : Option Body) → IfSome o (IsOf id) → changed_at 5 q (alert_row id o) p ≡ cond (eqb id q) (option_map alert_body o) p
-unfolding row_of
+unfolding row_in
 one_row id None q p is = refl
 one_row id (Some a) q p is = ap (λ (n : ℕ). cond (eqb n q) (Some (alert_body a)) p) is
 
@@ -159,7 +159,7 @@ changes_found (c ∷ cs) held q own rising =
     ∙ changes_found cs (put_alert c.release c.after held) q own.1 (put_ascends c.release c.after held own.0 rising)
 
 one_only : (id : ℕ) (o : Option Alert) → IsTo 5 6 (alert_row id o)
-unfolding row_of
+unfolding row_in
 one_only id None = (lit≤ tt, lit< tt)
 one_only id (Some a) = (lit≤ tt, lit< tt)
 

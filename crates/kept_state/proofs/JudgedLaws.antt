@@ -12,7 +12,7 @@ use Rattle.desk_state.specs.Effects.{nothing}
 use Rattle.desk_state.specs.Events.{put_changes, alert_changes}
 use Rattle.desk_state.specs.Sound.{AreJudgeable}
 use Rattle.desk_state.specs.State.{State}
-use Rattle.records.specs.Bodies.{row_of}
+use Rattle.records.specs.Bodies.{row_in}
 use Rattle.kept_state.specs.Rows.{state_rows}
 use Rattle.kept_state.specs.Changes.{alert_rows}
 use Rattle.kept_state.specs.Judged.{meta_after_event, judged_changes}
@@ -31,13 +31,13 @@ with_alerts s changes = record s { counters = record s.counters { events = s.cou
 
 module _ (s : State) (c : AlertChange) (cs : List AlertChange) (own : AllByRecursion alerts.IsOwn (c ∷ cs)) (rising : AreJudgeable s) where
   alerts_lead : Leads 5 6 (map alert_row s.alerts) (map alert_row (put_changes (c ∷ cs) s.alerts)) (alert_rows (c ∷ cs))
-  unfolding row_of
+  unfolding row_in
   alerts_lead =
       part alert_row 5 (λ a. refl) s.alerts (put_changes (c ∷ cs) s.alerts) (alert_rows (c ∷ cs)) (alerts.rows_only (c ∷ cs))
       (λ q. alerts.changes_found (c ∷ cs) s.alerts q own (alerts.judgeable_ascend s rising))
 
   parts_lead : Leads 0 6 (parts_of s) (parts_of (with_alerts s (c ∷ cs))) (judged_changes s (c ∷ cs))
-  unfolding judged_changes row_of
+  unfolding judged_changes row_in
   parts_lead =
       joined 0 5 6 (lit≤ tt) (lit≤ tt) _ _ _ _ _ _
       (joined 0 4 5 (lit≤ tt) (lit≤ tt) _ _ _ _ _ _

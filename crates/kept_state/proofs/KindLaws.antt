@@ -26,7 +26,7 @@ use Rattle.desk_state.specs.State.{State, judged_all}
 use Rattle.desk_state.specs.Step.{kept_of}
 use Rattle.desk_state.proofs.Parts.{reports_rise, kept_each}
 use Rattle.desk_state.proofs.Changes.{changes_lead}
-use Rattle.records.specs.Bodies.{row_of}
+use Rattle.records.specs.Bodies.{row_in, row_of}
 use Rattle.records.specs.declared.record.Meta.{Meta as MetaOf}
 use Rattle.records.specs.declared.record.Record.TheVariants.{Meta, Report, Deferral, Release, Kept, Alert}
 use Rattle.kept_state.specs.Rows.{report_kept, alert_kept}
@@ -59,7 +59,7 @@ alert_row a = row_of (Alert (alert_kept a))
 
 -- the row of the counters is put
 pub meta_leads : (m fresh : MetaOf) → Leads 0 1 (meta_row m ∷ []) (meta_row fresh ∷ []) (put_row (Meta fresh) ∷ [])
-unfolding row_of
+unfolding row_in
 meta_leads m fresh =
     part meta_row 0 (λ c. refl) (m ∷ []) (fresh ∷ []) (put_row (Meta fresh) ∷ []) ((lit≤ tt, lit< tt), tt)
     (λ q. twice (eqb 0 q) (Some (meta_row fresh).body) (Some (meta_row m).body) None)
@@ -73,7 +73,7 @@ abbrev report_body : ReportOf → Body
 report_body r = (report_row r).body
 
 report_only : (o : Option ReportOf) → AllByRecursion (IsTo 1 2) (report_changes o)
-unfolding row_of
+unfolding row_in
 report_only None = tt
 report_only (Some r) = ((lit≤ tt, lit< tt), tt)
 
@@ -87,7 +87,7 @@ swept_only (Some w) rs = ids_only 1 report_id (leaving w.before w.attached rs)
 
 report_found : (s : State) (o : Option ReportOf) (q : ℕ) → IfSome o (IsNext s) → AllByRecursion (IsNumbered s.counters.next_report) s.reports
     → becomes 1 q (report_changes o) (found_at report_id report_body q s.reports) ≡ found_at report_id report_body q (reports_after o s.reports)
-unfolding row_of
+unfolding row_in
 report_found s None q fits below = refl
 report_found s (Some r) q fits below =
     let is = fits.is_new in
@@ -103,7 +103,7 @@ sweep_found (Some w) rs q rising =
 
 pub reports_lead : (s : State) (effect : Effect) → EffectFits s effect → InBounds s
     → Leads 1 2 (map report_row s.reports) (map report_row (effected effect s).reports) (on_reports s effect)
-unfolding row_of
+unfolding row_in
 reports_lead s effect fits bounds =
     part report_row 1 (λ r. refl) s.reports (effected effect s).reports (on_reports s effect)
     (each_append (IsTo 1 2) (report_changes effect.report) (swept_reports effect.sweep (reports_after effect.report s.reports)) (report_only effect.report)
@@ -123,14 +123,14 @@ abbrev deferral_body : DeferralOf → Body
 deferral_body d = (deferral_row d).body
 
 deferral_only : (on : OnDeferrals) → AllByRecursion (IsTo 2 3) (deferral_changes on)
-unfolding row_of
+unfolding row_in
 deferral_only on_deferrals.Nothing = tt
 deferral_only (on_deferrals.Open d) = ((lit≤ tt, lit< tt), tt)
 deferral_only (on_deferrals.Clear id) = ((lit≤ tt, lit< tt), tt)
 
 deferral_found : (s : State) (on : OnDeferrals) (q : ℕ) → DeferralsFit s on → AllByRecursion (IsOpen s.counters.next_deferral) s.deferrals
     → becomes 2 q (deferral_changes on) (found_at deferral_id deferral_body q s.deferrals) ≡ found_at deferral_id deferral_body q (deferrals_after on s.deferrals)
-unfolding row_of
+unfolding row_in
 deferral_found s on_deferrals.Nothing q fits below = refl
 deferral_found s (on_deferrals.Open d) q fits below =
     let is = fits.is_new in
@@ -140,7 +140,7 @@ deferral_found s (on_deferrals.Clear id) q fits below = without_found deferral_i
 
 pub deferrals_lead : (s : State) (effect : Effect) → EffectFits s effect → InBounds s
     → Leads 2 3 (map deferral_row s.deferrals) (map deferral_row (effected effect s).deferrals) (deferral_changes effect.on_deferrals)
-unfolding row_of
+unfolding row_in
 deferrals_lead s effect fits bounds =
     part deferral_row 2 (λ d. refl) s.deferrals (effected effect s).deferrals (deferral_changes effect.on_deferrals) (deferral_only effect.on_deferrals)
     (λ q. deferral_found s effect.on_deferrals q fits.deferrals bounds.deferrals.each)
@@ -151,7 +151,7 @@ abbrev release_body : ReleaseOf → Body
 release_body r = (release_row r).body
 
 release_only : (on : OnReleases) → AllByRecursion (IsTo 3 4) (release_changes on)
-unfolding row_of
+unfolding row_in
 release_only on_releases.Nothing = tt
 release_only (on_releases.File r) = ((lit≤ tt, lit< tt), tt)
 release_only (on_releases.Put r) = ((lit≤ tt, lit< tt), tt)
@@ -159,7 +159,7 @@ release_only (on_releases.Remove id) = ((lit≤ tt, lit< tt), tt)
 
 release_found : (s : State) (on : OnReleases) (q : ℕ) → ReleasesFit s on → Sound s
     → becomes 3 q (release_changes on) (found_at release_rows.id_of release_body q s.releases) ≡ found_at release_rows.id_of release_body q (releases_after on s.releases)
-unfolding row_of
+unfolding row_in
 release_found s on_releases.Nothing q fits sound = refl
 release_found s (on_releases.File r) q fits sound =
     let is = fits.numbered in
@@ -172,7 +172,7 @@ release_found s (on_releases.Remove id) q fits sound =
 
 pub releases_lead : (s : State) (effect : Effect) → EffectFits s effect → Sound s
     → Leads 3 4 (map release_row s.releases) (map release_row (effected effect s).releases) (release_changes effect.on_releases)
-unfolding row_of
+unfolding row_in
 releases_lead s effect fits sound =
     part release_row 3 (λ r. refl) s.releases (effected effect s).releases (release_changes effect.on_releases) (release_only effect.on_releases)
     (λ q. release_found s effect.on_releases q fits.releases sound)
@@ -186,7 +186,7 @@ abbrev kept_body : KeptReply → Body
 kept_body k = (kept_row k).body
 
 reply_only : (o : Option KeptReply) → AllByRecursion (IsTo 4 5) (reply_changes o)
-unfolding row_of
+unfolding row_in
 reply_only None = tt
 reply_only (Some k) = ((lit≤ tt, lit< tt), tt)
 
@@ -210,14 +210,14 @@ reply_numbered t (what.Asked call (Refused refusal)) = tt
 
 reply_found : (o : Option KeptReply) (next : ℕ) (ks : List KeptReply) (q : ℕ) → IfSome o (λ k. k.id ≡ next) → AllByRecursion (IsReplied next) ks
     → becomes 4 q (reply_changes o) (found_at kept_id kept_body q ks) ≡ found_at kept_id kept_body q (ks ++ option_to_list o)
-unfolding row_of
+unfolding row_in
 reply_found None next ks q is below = ap (λ xs. found_at kept_id kept_body q xs) (sym (append-nil ks))
 reply_found (Some k) next ks q is below =
     pushed kept_id kept_body ks k (each_weaker (IsReplied next) (λ y. y.id < k.id) (λ y has. let less = has.0 in omega (arith, less, is)) ks below) q
 
 pub replies_lead : (s : State) (effect : Effect) (w : What) → InBounds s
     → Leads 4 5 (map kept_row s.kept) (map kept_row (kept_after effect.sweep s.kept ++ option_to_list (kept_of (effected effect s) w))) (on_replies s effect (kept_of (effected effect s) w))
-unfolding row_of
+unfolding row_in
 replies_lead s effect w bounds =
     part kept_row 4 (λ k. refl) s.kept (kept_after effect.sweep s.kept ++ option_to_list (kept_of (effected effect s) w)) (on_replies s effect (kept_of (effected effect s) w))
     (each_append (IsTo 4 5) (swept_replies effect.sweep s.kept) (reply_changes (kept_of (effected effect s) w)) (replies_only effect.sweep s.kept)
@@ -232,7 +232,7 @@ replies_lead s effect w bounds =
 
 pub alerts_lead : (s : State) (effect : Effect) → EffectFits s effect → Sound s
     → Leads 5 6 (map alert_row s.alerts) (map alert_row (judged_all (effected effect s))) (alert_rows (alert_changes effect s))
-unfolding row_of
+unfolding row_in
 alerts_lead s effect fits sound =
     part alert_row 5 (λ a. refl) s.alerts (judged_all (effected effect s)) (alert_rows (alert_changes effect s)) (alert_rows_of.rows_only (alert_changes effect s))
     (λ q.

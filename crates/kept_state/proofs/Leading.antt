@@ -12,7 +12,7 @@ use Rattle.desk_state.specs.Events.{effected, alert_changes}
 use Rattle.desk_state.specs.Sound.{Sound, InBounds, EffectFits}
 use Rattle.desk_state.specs.State.{State, start}
 use Rattle.desk_state.specs.Step.{entered, kept_of}
-use Rattle.records.specs.Bodies.{row_of}
+use Rattle.records.specs.Bodies.{row_in, row_of}
 use Rattle.records.specs.declared.record.Meta.{Meta as MetaOf}
 use Rattle.records.specs.declared.record.Record.{Record}
 use Rattle.records.specs.declared.record.Record.TheVariants.{Meta, Report, Deferral, Release, Kept, Alert}
@@ -74,7 +74,7 @@ module _ (rows : Rows) (s : State) (effect : Effect) (e : Entry) (fits : EffectF
   -- the row of the counters is put, whether one stood there or not
   put_first : (m : MetaOf) (k q : ℕ)
       → cond (is_row k q (meta_row m)) (Some (meta_row m).body) None ≡ cond (is_row k q (meta_row m)) (Some (meta_row m).body) (rows_of (state_rows (start s.tables)) k q)
-  unfolding state_rows records_of row_of
+  unfolding state_rows records_of row_in
   put_first m k q = by (eqb 0 k && eqb 0 q) (Some (meta_row m).body) (meta_row (meta_of (start s.tables)))
     where
       by : (t : Bool) (body : Option Body) (row : Row) → cond t body None ≡ cond t body (option_map (λ (r : Row). r.body) (cond t (Some row) None))

@@ -8,6 +8,7 @@ pub mod Rising
 pub mod Pushed
 pub mod ShownLaws
 pub mod JudgedLaws
+pub mod UpgradedLaws
 pub mod Lists
 pub mod Fitting
 pub mod PartLaws

@@ -12,7 +12,7 @@ use Rattle.keeper.specs.Order.{comes_before, is_below, rises_from, rising}
 use Rattle.keeper.proofs.SortLaws.{rising_same}
 use Rattle.desk_state.specs.Sound.{Sound, InBounds}
 use Rattle.desk_state.specs.State.{State}
-use Rattle.records.specs.Bodies.{row_of}
+use Rattle.records.specs.Bodies.{row_in}
 use Rattle.kept_state.specs.Rows.{meta_of, state_rows}
 use Rattle.kept_state.proofs.Parts.{IsIn}
 use Rattle.kept_state.proofs.Items.{Ascends, ascends_from, one_kind}
@@ -79,7 +79,7 @@ one r n kinds xs rising = record { each = one_kind r n kinds xs; ordered = kind_
 
 module _ (s : State) (sound : Sound s) (bounds : InBounds s) where
   parts_in : AreIn 0 6 (parts_of s)
-  unfolding row_of
+  unfolding row_in
   parts_in =
       both 0 5 6 (lit≤ tt) (lit≤ tt) _ _
       (both 0 4 5 (lit≤ tt) (lit≤ tt) _ _

@@ -73,7 +73,7 @@ revision_shown : (o : Option Revision) → IfSome o RevisionInBounds → IfSome 
 revision_shown None is = tt
 revision_shown (Some v) is = record { is_plan = is.is_plan; dispatcher = is.dispatcher; captain = is.captain }
 
-release_shown : (r : Release) → ReleaseInBounds r → ReleaseHasMoments r
+pub release_shown : (r : Release) → ReleaseInBounds r → ReleaseHasMoments r
 release_shown r is = record { moment = is.moment; pending = revision_shown r.pending is.pending; active = revision_shown r.active is.active }
 
 shown_release : (s : State) (on : OnReleases) → ReleasesFit s on → IsShownRelease on

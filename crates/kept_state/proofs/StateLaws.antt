@@ -68,7 +68,7 @@ bounds tables rs m are is counts = record {
 judged_by : (tables : TableRows) (rs : List Record) (m : MetaOf) → AreOfDesk rs → meta_in rs ≡ Some m → AreJudgeable (state_with tables m rs)
 judged_by tables rs m are is = record { own = alerts_own rs m are is; alerts = alerts_are rs m are is; ids = releases_rise rs m are is }
 
-counted_reopens : (tables : TableRows) (rs : List Record) (m : MetaOf) → AreNamed tables → AreOfDesk rs → meta_in rs ≡ Some m → MayReopen (state_with tables m rs)
+pub counted_reopens : (tables : TableRows) (rs : List Record) (m : MetaOf) → AreNamed tables → AreOfDesk rs → meta_in rs ≡ Some m → MayReopen (state_with tables m rs)
 counted_reopens tables rs m names are is =
     let counts = counts rs m (meta_among rs m are is) in
     record {

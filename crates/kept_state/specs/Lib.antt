@@ -2,6 +2,7 @@ pub mod Rows
 pub mod Changes
 pub mod Shown
 pub mod Judged
+pub mod Upgraded
 pub mod Held
 pub mod Parting
 pub mod Restoring

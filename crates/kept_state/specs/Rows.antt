@@ -1,12 +1,15 @@
 -- The rows of a state: one for the counters, and one for each report, deferral, release, kept reply and alert.
 use Rattle.std.specs.Prelude.{◌≡◌, ◌⊎◌, List, ◌∷◌, ◌++◌, map}
+use Rattle.std.specs.List.{AllByRecursion}
 use Rattle.desk_io.specs.declared.rows.Row.{Row}
 use Rattle.desk_io.specs.Rows.{Rows, no_rows, rows_of}
 use Rattle.alerts.specs.declared.alert.Alert.{Alert as AlertOf}
 use Rattle.facts.specs.declared.report.Report.{Report as ReportOf}
 use Rattle.keeper.specs.Kept.{AreSame}
 use Rattle.desk_state.specs.State.{State, start}
-use Rattle.records.specs.Bodies.{row_of}
+use Rattle.kept_releases.specs.Versions.{HasNoHours}
+use Rattle.kept_releases.specs.declared.version.Version.TheVariants.{First}
+use Rattle.records.specs.Bodies.{row_in, row_of}
 use Rattle.records.specs.declared.record.KeptAlert.{KeptAlert}
 use Rattle.records.specs.declared.record.KeptReport.{KeptReport}
 use Rattle.records.specs.declared.record.Meta.{Meta as MetaOf}
@@ -38,3 +41,8 @@ state_rows s = map row_of (records_of s)
 -- These rows are kept for a state: its own, or none where it is as at the beginning.
 abbrev pub AreKept : Rows → State → Type 0
 AreKept rows s = AreSame rows (rows_of (state_rows s)) ⊎ (AreSame rows no_rows × (s ≡ start s.tables))
+
+-- These rows are those of a state in the first version: its own, where no release of it has a captain's hours.
+pub record AreOldRows (rows : Rows) (s : State) : Type 0 where
+  pub lacks : AllByRecursion HasNoHours s.releases
+  pub same : AreSame rows (rows_of (map (row_in First) (records_of s)))

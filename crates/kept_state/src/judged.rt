@@ -27,7 +27,7 @@ fn meta_after_event(content: &Content) -> RecordRef<'_>
 /// What a judgement alone changes of the rows: the alerts, and the counters, since it is then an event. Nothing, where
 /// it changes no alert.
 #[tactic(auto, unfolding(crate::specs::Judged::judged_changes))]
-pub fn judged_changes(
+pub(crate) fn judged_changes(
     alloc: Global,
     content: &Content,
     alerts: &[AlertChange],

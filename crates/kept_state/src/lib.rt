@@ -10,7 +10,8 @@ mod meta;
 mod parting;
 mod restoring;
 mod telling;
+mod upgraded;
 
 pub use changes::event_changes;
-pub use judged::judged_changes;
 pub use restoring::content_of;
+pub use upgraded::opened_changes;

@@ -7,10 +7,12 @@ use Rattle.std.proofs.lemmas.List.{take_more, map-append}
 use Rattle.std.proofs.lemmas.List.Elements.{All-push}
 use Rattle.desk_io.specs.declared.rows.Row.{Row}
 use Rattle.desk_time.specs.Digits.{◌>>=◌}
-use Rattle.records.specs.Bodies.{row_of}
-use Rattle.records.specs.Checks.{AreRowsOf, IsBadPair, IsBadRow, IsFaultOf, OrMemory, Names, IsUnread, IsReadOf}
+use Rattle.kept_releases.specs.declared.version.Version.{Version}
+use Rattle.records.specs.Bodies.{row_in}
+use Rattle.records.specs.Checks.{AreRowsOf, HasNoRecord, IsBadPair, IsBadRow, IsFaultOf, OrMemory, Names, IsUnread, IsReadOf}
 use Rattle.records.specs.Faults.{fit, has_meta, within_limits, have_releases, agree, are_counted, lacks_meta, first_after, is_over, place_of, is_orphan, pair_after, is_bad_pair, ahead_of, meta_from, bad, pair, ◌>>◌}
-use Rattle.records.specs.Valid.{IsRecord}
+use Rattle.records.specs.Reading.{version_of}
+use Rattle.records.specs.Valid.{IsRecord, SaysRecord}
 use Rattle.records.specs.declared.faults.Fault.{Fault}
 use Rattle.records.specs.declared.faults.Fault.TheVariants.{Bad, Pair}
 use Rattle.records.specs.declared.faults.RowWhy.{RowWhy}
@@ -21,10 +23,10 @@ use Rattle.records.specs.declared.record.Record.{Record}
 
 -- ---- one row
 
-pub unread : (row : Row) (answer : RowsFault) → OrMemory (BadRow row NotCanonical) answer → ((r : Record) → IsRecord r → row_of r ≡ row → ⊥) → IsUnread row answer
-unread row (BadRow r why) is none = record { same = cc; reason = cc; none = none }
-unread row (BadPair one two) is none = cc
-unread row OutOfMemory is none = tt
+pub unread : (version : Version) (row : Row) (answer : RowsFault) → OrMemory (BadRow row NotCanonical) answer → HasNoRecord version row → IsUnread version row answer
+unread version row (BadRow r why) is none = record { same = cc; reason = cc; none = none }
+unread version row (BadPair one two) is none = cc
+unread version row OutOfMemory is none = tt
 
 -- ---- the tests that fail name no other reason
 
@@ -50,7 +52,7 @@ never_unread rs place is =
 
 -- ---- the rows at the places of a fault
 
-misfit_row : (rows : List Row) (records : List Record) (place : ℕ) (why : RowWhy) (row : Row) → AreRowsOf rows records → fit records ≡ Err (Bad place why) → slice_get rows place ≡ Some row → IsBadRow rows row why
+misfit_row : (rows : List Row) (records : List Record) (place : ℕ) (why : RowWhy) (row : Row) → AreRowsOf (version_of rows) rows records → fit records ≡ Err (Bad place why) → slice_get rows place ≡ Some row → IsBadRow rows row why
 misfit_row rows records place NotCanonical row are fails there = absurd (never_unread records place fails)
 misfit_row rows records place NoMeta row are fails there = record { place = place; there = there; misfit = record { records = records; are = are; fails = fails } }
 misfit_row rows records place Orphan row are fails there = record { place = place; there = there; misfit = record { records = records; are = are; fails = fails } }
@@ -66,14 +68,14 @@ answered_pair rows one two (BadRow r w) is same = cc
 answered_pair rows one two (BadPair a b) is same = subst (IsFaultOf rows) (sym same) is
 answered_pair rows one two OutOfMemory is same = tt
 
-at_place : (rows : List Row) (records : List Record) (place : ℕ) (why : RowWhy) (wanted answer : RowsFault) (o : Option Row) → slice_get rows place ≡ o → AreRowsOf rows records → fit records ≡ Err (Bad place why)
+at_place : (rows : List Row) (records : List Record) (place : ℕ) (why : RowWhy) (wanted answer : RowsFault) (o : Option Row) → slice_get rows place ≡ o → AreRowsOf (version_of rows) rows records → fit records ≡ Err (Bad place why)
     → option_map (λ row. BadRow row why) o ≡ Some wanted → OrMemory wanted answer → IsFaultOf rows answer
 at_place rows records place why wanted answer None there are fails is answered = cc
 at_place rows records place why wanted answer (Some row) there are fails is answered =
     let same : wanted ≡ BadRow row why = cc in
     answered_row rows row why answer (misfit_row rows records place why row are fails there) (subst (λ w. OrMemory w answer) same answered)
 
-at_places : (rows : List Row) (records : List Record) (first second : ℕ) (wanted answer : RowsFault) (o p : Option Row) → slice_get rows first ≡ o → slice_get rows second ≡ p → AreRowsOf rows records
+at_places : (rows : List Row) (records : List Record) (first second : ℕ) (wanted answer : RowsFault) (o p : Option Row) → slice_get rows first ≡ o → slice_get rows second ≡ p → AreRowsOf (version_of rows) rows records
     → fit records ≡ Err (Pair first second) → (o >>= λ one. p >>= λ two. Some (BadPair one two)) ≡ Some wanted → OrMemory wanted answer → IsFaultOf rows answer
 at_places rows records first second wanted answer None p there_one there_two are fails is answered = cc
 at_places rows records first second wanted answer (Some one) None there_one there_two are fails is answered = cc
@@ -84,7 +86,7 @@ at_places rows records first second wanted answer (Some one) (Some two) there_on
     (subst (λ w. OrMemory w answer) same answered)
 
 -- the fault of records that don't fit, with the rows at its places
-pub misfit_fault : (rows : List Row) (records : List Record) (fault : Fault) (answer : RowsFault) → AreRowsOf rows records → fit records ≡ Err fault → Names rows fault answer → IsFaultOf rows answer
+pub misfit_fault : (rows : List Row) (records : List Record) (fault : Fault) (answer : RowsFault) → AreRowsOf (version_of rows) rows records → fit records ≡ Err fault → Names rows fault answer → IsFaultOf rows answer
 misfit_fault rows records (Bad place why) answer are fails names =
     at_place rows records place why names.wanted answer (slice_get rows place) refl are fails names.named names.answered
 misfit_fault rows records (Pair first second) answer are fails names =
@@ -110,20 +112,34 @@ cut_at [] i row within is = absurd (omega arith)
 cut_at (r ∷ rs) zero row within is = ap (λ x. x ∷ rs) (sym is)
 cut_at (r ∷ rs) (suc i) row within is = ap (λ xs. r ∷ xs) (cut_at rs i row (omega arith) is)
 
--- the first row that no valid record has
-pub stops_at : (rows : List Row) (records : List Record) (i : ℕ) (row : Row) (answer : RowsFault) → AreRowsOf (take i rows) records → i < length rows → row ≡ get_or rows i row → IsUnread row answer → IsFaultOf rows answer
+-- the first row that no valid record has in the version of the rows
+stops_at : (rows : List Row) (records : List Record) (i : ℕ) (row : Row) (answer : RowsFault) → AreRowsOf (version_of rows) (take i rows) records → i < length rows → row ≡ get_or rows i row
+    → IsUnread (version_of rows) row answer → IsFaultOf rows answer
 stops_at rows records i row (BadRow r why) are within is un =
     subst (λ w. IsBadRow rows r w) (sym un.reason)
-    (record { before = take i rows; after = drop (suc i) rows; stands = cut_at rows i r within (un.same ∙ is ∙ ap (get_or rows i) (sym un.same)); records = records; good = are; bad = λ x valid has. un.none x valid (has ∙ un.same) })
+    (record {
+      before = take i rows;
+      after = drop (suc i) rows;
+      stands = cut_at rows i r within (un.same ∙ is ∙ ap (get_or rows i) (sym un.same));
+      records = records;
+      good = are;
+      bad = λ x valid said has. un.none x valid said (has ∙ un.same);
+    })
 stops_at rows records i row (BadPair one two) are within is un = absurd un
 stops_at rows records i row OutOfMemory are within is un = tt
 
+pub stops_in : (version : Version) (rows : List Row) (records : List Record) (i : ℕ) (row : Row) (answer : RowsFault) → version ≡ version_of rows → AreRowsOf version (take i rows) records → i < length rows
+    → row ≡ get_or rows i row → IsUnread version row answer → IsFaultOf rows answer
+stops_in version rows records i row answer same are within is un =
+    stops_at rows records i row answer (subst (λ w. AreRowsOf w (take i rows) records) same are) within is (subst (λ w. IsUnread w row answer) same un)
+
 -- one more row is read
-pub goes_on : (rows : List Row) (records made : List Record) (i : ℕ) (row : Row) (r : Record) → AreRowsOf (take i rows) records → i < length rows → row ≡ get_or rows i row → IsReadOf row r → made ≡ records ++ r ∷ []
-    → AreRowsOf (take (i + 1) rows) made
-goes_on rows records made i row r are within is read more = record {
+pub goes_on : (version : Version) (rows : List Row) (records made : List Record) (i : ℕ) (row : Row) (r : Record) → AreRowsOf version (take i rows) records → i < length rows → row ≡ get_or rows i row
+    → IsReadOf version row r → made ≡ records ++ r ∷ [] → AreRowsOf version (take (i + 1) rows) made
+goes_on version rows records made i row r are within is read more = record {
   valid = subst (All IsRecord) (sym more) (All-push IsRecord records r are.valid read.valid);
-  made = ap (map row_of) more ∙ map-append row_of records (r ∷ []) ∙ ap (λ xs. xs ++ row_of r ∷ []) are.made ∙ ap (λ x. take i rows ++ x ∷ []) (read.has ∙ is) ∙ sym (take_more rows i row within);
+  said = subst (All (SaysRecord version)) (sym more) (All-push (SaysRecord version) records r are.said read.said);
+  made = ap (map (row_in version)) more ∙ map-append (row_in version) records (r ∷ []) ∙ ap (λ xs. xs ++ row_in version r ∷ []) are.made ∙ ap (λ x. take i rows ++ x ∷ []) (read.has ∙ is) ∙ sym (take_more rows i row within);
 }
 
 -- a fault that is passed on

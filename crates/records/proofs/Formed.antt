@@ -26,15 +26,19 @@ use Rattle.call_json.proofs.PlanForms.{id_formed, moment_formed, each_formed}
 use Rattle.kept_releases.specs.Findings.{finding_of, finding_in, are_in_order, findings_of}
 use Rattle.kept_releases.proofs.FindingLaws.{finding_formed, order_tested}
 use Rattle.kept_releases.specs.Kept.{IsKept}
+use Rattle.kept_releases.specs.Versions.{SaysRelease}
+use Rattle.kept_releases.specs.declared.version.Version.{Version}
+use Rattle.kept_releases.specs.declared.version.Version.TheVariants.{First, Second}
 use Rattle.kept_releases.specs.Releases.{bool_at, person, person_at, release_of}
-use Rattle.kept_releases.proofs.ReleaseForms.{IsPerson, person_formed, person_at_formed, release_kept, release_named}
+use Rattle.kept_releases.proofs.ReleaseForms.{IsPerson, person_formed, person_at_formed, release_kept, release_named, release_says}
 use Rattle.records.specs.Reading as read
-use Rattle.records.specs.Valid.{AreIds, IsMeta, IsReport, IsDeferral, IsKeptReply, AreFindings, IsKeptAlert, IsRecord, are_rising, is_report, are_among}
+use Rattle.records.specs.Valid.{AreIds, IsMeta, IsReport, IsDeferral, IsKeptReply, AreFindings, IsKeptAlert, IsRecord, SaysRecord, are_rising, is_report, are_among}
 use Rattle.records.specs.declared.alert_rows.Opening.{Opening}
 use Rattle.records.specs.declared.kept_rows.Stamp.{Stamp}
 use Rattle.records.specs.declared.record.KeptReport.{KeptReport}
 use Rattle.records.specs.declared.record.Record.TheVariants.{Meta, Report, Deferral, Release, Kept, Alert}
 use Rattle.records.proofs.FloorLaws.{rising_from_test}
+use Rattle.desk_time.specs.Digits.{◌>>=◌}
 use Rattle.desk_time.specs.Moments.{up_to}
 
 -- ---- fields
@@ -91,13 +95,13 @@ counters_formed d =
     bind_if (id_at (codes "next_kept") d) _ IsId AreIds (id_formed (codes "next_kept") d) (λ next_kept five.
     record { events = one; next_report = two; next_deferral = three; next_release = four; next_kept = five })))))
 
-meta_formed : (key : ℕ) (d : Data) → IfSome (read.meta_in key d) IsMeta
-meta_formed key d =
-    under (key == 0) (read.meta_of d) IsMeta (λ nought.
+meta_formed : (version : Version) (key : ℕ) (d : Data) → IfSome (read.meta_in version key d) IsMeta
+meta_formed version key d =
+    under (key == 0) (read.meta_of version d) IsMeta (λ nought.
     bind_if (moment_at (codes "now") d) _ IsMoment IsMeta (moment_formed (codes "now") d) (λ moment at.
     bind_if (read.counters_at d) _ AreIds IsMeta (counters_formed d) (λ counters are.
     bind_if (read.floors_at d) _ AreFloors IsMeta (floors_at_formed d) (λ floors good.
-    under (read.is_meta d) _ IsMeta (λ is. record {
+    under (read.is_meta version d) _ IsMeta (λ is. record {
       moment = at;
       counters = are;
       floors = good.forms;
@@ -216,23 +220,46 @@ alert_formed id d few =
 
 -- ---- records
 
-release_formed : (id : ℕ) (d : Data) → IsId id → IfSome (option_map Release (release_of id d)) IsRecord
+release_formed : (version : Version) (id : ℕ) (d : Data) → IsId id → IfSome (option_map Release (release_of version id d)) IsRecord
 unfolding IsRecord
-release_formed id d few =
-    mapped Release (release_of id d) (λ r. IsKept r × (r.id ≡ id)) IsRecord (both_held (release_of id d) IsKept (λ r. r.id ≡ id) (release_kept id d) (release_named id d)) (λ r held.
+release_formed version id d few =
+    mapped Release (release_of version id d) (λ r. IsKept r × (r.id ≡ id)) IsRecord (both_held (release_of version id d) IsKept (λ r. r.id ≡ id) (release_kept version id d) (release_named version id d)) (λ r held.
     (subst IsId (sym held.1) few, held.0))
 
-in_formed : (kind id : ℕ) (d : Data) → IsId id → IfSome (read.record_in kind id d) IsRecord
+in_formed : (version : Version) (kind id : ℕ) (d : Data) → IsId id → IfSome (read.record_in version kind id d) IsRecord
 unfolding IsRecord
-in_formed kind id d few =
-    either (kind == 0) _ _ IsRecord (mapped Meta (read.meta_in id d) IsMeta IsRecord (meta_formed id d) (λ m is. is))
+in_formed version kind id d few =
+    either (kind == 0) _ _ IsRecord (mapped Meta (read.meta_in version id d) IsMeta IsRecord (meta_formed version id d) (λ m is. is))
     (either (kind == 1) _ _ IsRecord (mapped Report (read.report_of id d) IsReport IsRecord (report_formed id d few) (λ r is. is))
     (either (kind == 2) _ _ IsRecord (mapped Deferral (read.deferral_of id d) IsDeferral IsRecord (deferral_formed id d few) (λ f is. is))
-    (either (kind == 3) _ _ IsRecord (release_formed id d few)
+    (either (kind == 3) _ _ IsRecord (release_formed version id d few)
     (either (kind == 4) _ _ IsRecord (mapped Kept (read.kept_of id d) IsKeptReply IsRecord (kept_formed id d few) (λ k is. is))
     (either (kind == 5) _ _ IsRecord (mapped Alert (read.alert_of id d) IsKeptAlert IsRecord (alert_formed id d few) (λ a is. is)) tt)))))
 
-pub record_formed : (kind key : ℕ) (d : Data) → IfSome (read.record_of kind key d) IsRecord
+key_formed : (key : ℕ) → IfSome (up_to 1_000_000_000_000_000 key) IsId
+key_formed key = under (nat_le key 1_000_000_000_000_000) (Some key) IsId (leb-true key 1_000_000_000_000_000)
+
+pub record_formed : (version : Version) (kind key : ℕ) (d : Data) → IfSome (read.record_of version kind key d) IsRecord
 unfolding read.record_of
-record_formed kind key d =
-    bind_if (up_to 1_000_000_000_000_000 key) _ IsId IsRecord (under (nat_le key 1_000_000_000_000_000) (Some key) IsId (leb-true key 1_000_000_000_000_000)) (λ id few. in_formed kind id d few)
+record_formed version kind key d =
+    bind_if (up_to 1_000_000_000_000_000 key) _ IsId IsRecord (key_formed key) (λ id few. in_formed version kind id d few)
+
+-- ---- what is read in rows of a version is said by these whole
+
+anything : {A : Type 0} (o : Option A) → IfSome o (λ x. Unit {0})
+anything None = tt
+anything (Some x) = tt
+
+in_first : (kind id : ℕ) (d : Data) → IfSome (read.record_in First kind id d) (SaysRecord First)
+in_first kind id d =
+    either (kind == 0) _ _ (SaysRecord First) (mapped Meta (read.meta_in First id d) (λ m. Unit {0}) (SaysRecord First) (anything (read.meta_in First id d)) (λ m is. tt))
+    (either (kind == 1) _ _ (SaysRecord First) (mapped Report (read.report_of id d) (λ r. Unit {0}) (SaysRecord First) (anything (read.report_of id d)) (λ r is. tt))
+    (either (kind == 2) _ _ (SaysRecord First) (mapped Deferral (read.deferral_of id d) (λ f. Unit {0}) (SaysRecord First) (anything (read.deferral_of id d)) (λ f is. tt))
+    (either (kind == 3) _ _ (SaysRecord First) (mapped Release (release_of First id d) (SaysRelease First) (SaysRecord First) (release_says First id d) (λ r says. says))
+    (either (kind == 4) _ _ (SaysRecord First) (mapped Kept (read.kept_of id d) (λ k. Unit {0}) (SaysRecord First) (anything (read.kept_of id d)) (λ k is. tt))
+    (either (kind == 5) _ _ (SaysRecord First) (mapped Alert (read.alert_of id d) (λ a. Unit {0}) (SaysRecord First) (anything (read.alert_of id d)) (λ a is. tt)) tt)))))
+
+pub record_said : (version : Version) (kind key : ℕ) (d : Data) → IfSome (read.record_of version kind key d) (SaysRecord version)
+unfolding read.record_of
+record_said First kind key d = bind_any (up_to 1_000_000_000_000_000 key) _ (SaysRecord First) (λ id. in_first kind id d)
+record_said Second kind key d = anything (up_to 1_000_000_000_000_000 key >>= λ id. read.record_in Second kind id d)

@@ -9,3 +9,4 @@ mod AgainRows
 mod Formed
 pub mod RowLaws
 mod CheckLaws
+pub mod VersionLaws

@@ -14,7 +14,9 @@ use Rattle.plan.specs.declared.release.Signature.{Signature}
 use Rattle.call_json.specs.Canonical.{count}
 use Rattle.call_json.proofs.Whole.{list_whole, plan_whole, done_whole}
 use Rattle.kept_releases.specs.Findings.{finding_data}
-use Rattle.kept_releases.specs.Rows.{signature_data, attached_data, revision_data, release_data}
+use Rattle.kept_releases.specs.Rows.{signature_data, attached_data, hours_data, revision_data, release_data}
+use Rattle.kept_releases.specs.declared.version.Version.{Version}
+use Rattle.kept_releases.specs.declared.version.Version.TheVariants.{First, Second}
 use Rattle.records.specs.Bodies.{with_floors, floors_data, body_data}
 use Rattle.records.specs.declared.record.Record.{Record}
 use Rattle.records.specs.declared.record.Record.TheVariants.{Meta, Report, Deferral, Release, Kept, Alert}
@@ -41,23 +43,30 @@ signature_whole (Some s) = refl
 attached_whole : (a : Attached) → has_float (attached_data a) ≡ false
 attached_whole a = refl
 
-revision_whole : (v : Option Revision) → has_float (revision_data v) ≡ false
+hours_whole : (hours : Option ℕ) → has_float (hours_data hours) ≡ false
+unfolding hours_data
+hours_whole None = refl
+hours_whole (Some hours) = refl
+
+revision_whole : (version : Version) (v : Option Revision) → has_float (revision_data version v) ≡ false
 unfolding revision_data
-revision_whole None = refl
-revision_whole (Some v) = rw (list_whole attached_data attached_whole v.attached, signature_whole v.captain, signature_whole v.dispatcher, plan_whole v.plan) refl
+revision_whole version None = refl
+revision_whole First (Some v) = rw (list_whole attached_data attached_whole v.attached, signature_whole v.captain, signature_whole v.dispatcher, plan_whole v.plan) refl
+revision_whole Second (Some v) =
+    rw (list_whole attached_data attached_whole v.attached, signature_whole v.captain, signature_whole v.dispatcher, hours_whole v.hours, plan_whole v.plan) refl
 
-release_whole : (r : ReleaseOf) → has_float (release_data r) ≡ false
+release_whole : (version : Version) (r : ReleaseOf) → has_float (release_data version r) ≡ false
 unfolding release_data
-release_whole r = rw (revision_whole r.active, revision_whole r.pending) refl
+release_whole version r = rw (revision_whole version r.active, revision_whole version r.pending) refl
 
-body_whole : (r : Record) → has_float (body_data r) ≡ false
+body_whole : (version : Version) (r : Record) → has_float (body_data version r) ≡ false
 unfolding body_data floors_data
-body_whole (Meta m) = rw (floors_whole no_members m.floors refl) refl
-body_whole (Report r) = refl
-body_whole (Deferral d) = refl
-body_whole (Release r) = release_whole r
-body_whole (Kept k) = rw (done_whole k.done) refl
-body_whole (Alert a) = rw (list_whole finding_data (λ f. refl) a.ever, list_whole finding_data (λ f. refl) a.failing) refl
+body_whole version (Meta m) = rw (floors_whole no_members m.floors refl) refl
+body_whole version (Report r) = refl
+body_whole version (Deferral d) = refl
+body_whole version (Release r) = release_whole version r
+body_whole version (Kept k) = rw (done_whole k.done) refl
+body_whole version (Alert a) = rw (list_whole finding_data (λ f. refl) a.ever, list_whole finding_data (λ f. refl) a.failing) refl
 
-pub body_is_whole : (r : Record) (d : Data) → d ≡ body_data r → has_float d ≡ false
-body_is_whole r d is = ap has_float is ∙ body_whole r
+pub body_is_whole : (version : Version) (r : Record) (d : Data) → d ≡ body_data version r → has_float d ≡ false
+body_is_whole version r d is = ap has_float is ∙ body_whole version r

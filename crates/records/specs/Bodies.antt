@@ -12,6 +12,9 @@ use Rattle.call_json.specs.Canonical.{count, text_data, moment_data, done_data}
 use Rattle.call_json.specs.Digests.{digest_data}
 use Rattle.kept_releases.specs.Findings.{findings_data}
 use Rattle.kept_releases.specs.Rows.{release_data, ReleaseHasMoments}
+use Rattle.kept_releases.specs.Versions.{number_of}
+use Rattle.kept_releases.specs.declared.version.Version.{Version}
+use Rattle.kept_releases.specs.declared.version.Version.TheVariants.{Second}
 use Rattle.records.specs.Kinds.{kind_of, key_of}
 use Rattle.records.specs.declared.record.KeptAlert.{KeptAlert}
 use Rattle.records.specs.declared.record.KeptReport.{KeptReport}
@@ -28,8 +31,8 @@ with_floors ms (f ∷ fs) = with_floors (put (utf8_lossy f.actor) (count f.numbe
 unfoldable pub floors_data : List Floor → Data
 floors_data floors = object (with_floors no_members floors)
 
-abbrev pub meta_members : MetaOf → Members
-meta_members m =
+abbrev pub meta_members : Version → MetaOf → Members
+meta_members version m =
     member (codes "events") (count m.counters.events)
     (member (codes "floors") (floors_data m.floors)
     (member (codes "next_deferral") (count m.counters.next_deferral)
@@ -37,7 +40,7 @@ meta_members m =
     (member (codes "next_release") (count m.counters.next_release)
     (member (codes "next_report") (count m.counters.next_report)
     (member (codes "now") (moment_data m.moment)
-    (member (codes "version") (count 1) no_members)))))))
+    (member (codes "version") (count (number_of version)) no_members)))))))
 
 abbrev pub report_members : KeptReport → Members
 report_members r = member (codes "received") (moment_data r.received) (member (codes "text") (text_data r.text) no_members)
@@ -66,18 +69,22 @@ alert_members a =
     (member (codes "opened") (moment_data a.opened)
     (member (codes "version") (count a.version) no_members))))
 
--- the JSON of a record's row
-unfoldable pub body_data : Record → Data
-body_data (Meta m) = object (meta_members m)
-body_data (Report r) = object (report_members r)
-body_data (Deferral d) = object (deferral_members d)
-body_data (Release r) = release_data r
-body_data (Kept k) = object (kept_members k)
-body_data (Alert a) = object (alert_members a)
+-- the JSON of a record's row, in rows of a version
+unfoldable pub body_data : Version → Record → Data
+body_data version (Meta m) = object (meta_members version m)
+body_data version (Report r) = object (report_members r)
+body_data version (Deferral d) = object (deferral_members d)
+body_data version (Release r) = release_data version r
+body_data version (Kept k) = object (kept_members k)
+body_data version (Alert a) = object (alert_members a)
 
--- the row of a record
-unfoldable pub row_of : Record → Row
-row_of r = record { kind = kind_of r; key = key_of r; body = compact_text (body_data r) }
+-- the row of a record, in rows of a version
+unfoldable pub row_in : Version → Record → Row
+row_in version r = record { kind = kind_of r; key = key_of r; body = compact_text (body_data version r) }
+
+-- the row of a record as it is written: in rows of the second version
+abbrev pub row_of : Record → Row
+row_of r = row_in Second r
 
 -- a record whose moments can be shown
 abbrev pub HasMoments : Record → Type 0

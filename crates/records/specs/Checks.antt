@@ -1,12 +1,15 @@
 -- Which rows are the rows of a desk, and what is the first fault of others.
-use Rattle.std.specs.Prelude.{◌≡◌, ℕ, All, List, ◌∷◌, ◌++◌, length, map, Option, Some, Result, Ok, Err, IfErr}
+use Rattle.std.specs.Prelude.{◌≡◌, ◌↔◌, ℕ, true, All, Any, List, ◌∷◌, ◌++◌, length, map, Option, Some, Result, Ok, Err, IfErr}
 use Rattle.std.specs.List.{slice_get}
 use Rattle.std.specs.Option.{option_map}
 use Rattle.desk_time.specs.Digits.{◌>>=◌}
 use Rattle.desk_io.specs.declared.rows.Row.{Row}
-use Rattle.records.specs.Bodies.{row_of}
+use Rattle.kept_releases.specs.declared.version.Version.{Version}
+use Rattle.records.specs.Bodies.{row_in}
 use Rattle.records.specs.Faults.{fit, IsWithin}
-use Rattle.records.specs.Valid.{IsRecord}
+use Rattle.records.specs.Reading.{IsOldMeta, are_old, version_of}
+use Rattle.records.specs.Valid.{IsRecord, SaysRecord}
+use Rattle.records.specs.declared.checking.Checked.{Checked}
 use Rattle.records.specs.declared.faults.Fault.{Fault}
 use Rattle.records.specs.declared.faults.Fault.TheVariants.{Bad, Pair}
 use Rattle.records.specs.declared.faults.RowWhy.{RowWhy}
@@ -15,24 +18,29 @@ use Rattle.records.specs.declared.faults.RowsFault.{RowsFault}
 use Rattle.records.specs.declared.faults.RowsFault.TheVariants.{BadRow, BadPair, OutOfMemory}
 use Rattle.records.specs.declared.record.Record.{Record}
 
--- the rows of valid records, in their order
-pub record AreRowsOf (rows : List Row) (records : List Record) : Type 0 where
+-- the rows of valid records in a version, in their order
+pub record AreRowsOf (version : Version) (rows : List Row) (records : List Record) : Type 0 where
   pub valid : All IsRecord records
-  pub made : map row_of records ≡ rows
+  pub said : All (SaysRecord version) records
+  pub made : map (row_in version) records ≡ rows
 
--- the first row that no valid record has
+-- no valid record has the row in a version
+abbrev pub HasNoRecord : Version → Row → Type 0
+HasNoRecord version row = (r : Record) → IsRecord r → SaysRecord version r → row_in version r ≡ row → ⊥
+
+-- the first row that no valid record has in the version of the rows
 pub record IsFirstBad (rows : List Row) (row : Row) : Type 0 where
   pub before : List Row
   pub after : List Row
   pub stands : rows ≡ before ++ row ∷ after
   pub records : List Record
-  pub good : AreRowsOf before records
-  pub bad : (r : Record) → IsRecord r → row_of r ≡ row → ⊥
+  pub good : AreRowsOf (version_of rows) before records
+  pub bad : HasNoRecord (version_of rows) row
 
--- the rows of valid records, of which that is the first test that fails
+-- the rows of valid records in the version of the rows, of which that is the first test that fails
 pub record Misfit (rows : List Row) (fault : Fault) : Type 0 where
   pub records : List Record
-  pub are : AreRowsOf rows records
+  pub are : AreRowsOf (version_of rows) rows records
   pub fails : fit records ≡ Err fault
 
 -- the row that fails the first test that fails
@@ -61,10 +69,16 @@ IsFaultOf rows (BadRow row why) = IsBadRow rows row why
 IsFaultOf rows (BadPair one two) = IsBadPair rows one two
 IsFaultOf rows OutOfMemory = Unit {0}
 
--- the valid records of rows, where these fit together
+-- the valid records of rows by their version, where these fit together
 pub record IsDesk (rows : List Row) (records : List Record) : Type 0 where
-  pub are : AreRowsOf rows records
+  pub are : AreRowsOf (version_of rows) rows records
   pub fit : fit records ≡ Ok tt
+
+-- These, and whether the rows are of the first version: exactly where one of them is the row of the counters in it.
+pub record IsChecked (rows : List Row) (checked : Checked) : Type 0 where
+  pub desk : IsDesk rows checked.records.items
+  pub old : checked.is_old ≡ are_old rows
+  pub exactly : (checked.is_old ≡ true) ↔ Any IsOldMeta rows
 
 -- ---- what the parts of the code answer
 
@@ -85,20 +99,21 @@ pub record Names (rows : List Row) (fault : Fault) (answer : RowsFault) : Type 0
   pub answered : OrMemory wanted answer
 
 -- that very row, which no valid record has
-pub record HasNone (row bad : Row) (why : RowWhy) : Type 0 where
+pub record HasNone (version : Version) (row bad : Row) (why : RowWhy) : Type 0 where
   pub same : bad ≡ row
   pub reason : why ≡ NotCanonical
-  pub none : (r : Record) → IsRecord r → row_of r ≡ row → ⊥
+  pub none : HasNoRecord version row
 
 -- that no valid record has a row, or want of memory
-abbrev pub IsUnread : Row → RowsFault → Type 0
-IsUnread row (BadRow bad why) = HasNone row bad why
-IsUnread row (BadPair one two) = ⊥
-IsUnread row OutOfMemory = Unit {0}
+abbrev pub IsUnread : Version → Row → RowsFault → Type 0
+IsUnread version row (BadRow bad why) = HasNone version row bad why
+IsUnread version row (BadPair one two) = ⊥
+IsUnread version row OutOfMemory = Unit {0}
 
-pub record IsReadOf (row : Row) (r : Record) : Type 0 where
+pub record IsReadOf (version : Version) (row : Row) (r : Record) : Type 0 where
   pub valid : IsRecord r
-  pub has : row_of r ≡ row
+  pub said : SaysRecord version r
+  pub has : row_in version r ≡ row
 
 -- what the tests of some records come to, and that a fault is at places that there are
 pub record IsFitting (records : List Record) (answer : Result (Unit {0}) Fault) : Type 0 where

@@ -1,5 +1,6 @@
 -- The record of a row. A body has the keys that are named here, and no other.
-use Rattle.std.specs.Prelude.{◌≡◌, ℕ, ◌==◌, nat_le, ◌&&◌, Bool, false, if◌then◌else◌, List, [], ◌∷◌, Option, None, Some, Result, Ok, Err, codes, option_and_then}
+use Rattle.std.specs.Prelude.{◌≡◌, ℕ, ◌==◌, nat_le, ◌&&◌, Bool, false, if◌then◌else◌, List, [], ◌∷◌, Option, None, Some, Result, Ok, Err, codes, option_and_then, is_some}
+use Rattle.std.specs.List.{list_any}
 use Rattle.std.specs.Option.{option_map}
 use Rattle.std.specs.Str.{bytes_eq, is_utf8}
 use Rattle.serde_json.specs.Data.{Data, Members, no_members, member}
@@ -17,8 +18,11 @@ use Rattle.call_json.specs.Dones.{done_of}
 use Rattle.call_json.specs.Fields.{data_of, text_at, number_at, id_at, moment_at, list_at, has_members}
 use Rattle.kept_releases.specs.Findings.{findings_of}
 use Rattle.kept_releases.specs.Releases.{bool_at, person, person_at, release_of}
-use Rattle.records.specs.Bodies.{row_of}
-use Rattle.records.specs.Valid.{IsRecord, are_rising, is_report, are_among}
+use Rattle.kept_releases.specs.Versions.{number_of}
+use Rattle.kept_releases.specs.declared.version.Version.{Version}
+use Rattle.kept_releases.specs.declared.version.Version.TheVariants.{First, Second}
+use Rattle.records.specs.Bodies.{row_in}
+use Rattle.records.specs.Valid.{IsMeta, IsRecord, SaysRecord, are_rising, is_report, are_among}
 use Rattle.records.specs.declared.alert_rows.Opening.{Opening}
 use Rattle.records.specs.declared.kept_rows.Stamp.{Stamp}
 use Rattle.records.specs.declared.record.KeptAlert.{KeptAlert}
@@ -62,21 +66,21 @@ counters_at d =
     id_at (codes "next_kept") d >>= λ next_kept.
     Some (record { events = events; next_report = next_report; next_deferral = next_deferral; next_release = next_release; next_kept = next_kept })
 
-abbrev pub is_one : Option ℕ → Bool
-is_one None = false
-is_one (Some version) = version == 1
+abbrev pub is_number : ℕ → Option ℕ → Bool
+is_number wanted None = false
+is_number wanted (Some n) = n == wanted
 
--- eight members, one of them version 1
-abbrev pub is_meta : Data → Bool
-is_meta d = has_members 8 d && is_one (id_at (codes "version") d)
+-- eight members, one of them the number of the version
+abbrev pub is_meta : Version → Data → Bool
+is_meta version d = has_members 8 d && is_number (number_of version) (id_at (codes "version") d)
 
-abbrev pub meta_of : Data → Option MetaOf
-meta_of d =
+abbrev pub meta_of : Version → Data → Option MetaOf
+meta_of version d =
     moment_at (codes "now") d >>= λ moment. counters_at d >>= λ counters. floors_at d >>= λ floors.
-    if is_meta d then Some (record { moment = moment; counters = counters; floors = floors }) else None
+    if is_meta version d then Some (record { moment = moment; counters = counters; floors = floors }) else None
 
-abbrev pub meta_in : ℕ → Data → Option MetaOf
-meta_in key d = if key == 0 then meta_of d else None
+abbrev pub meta_in : Version → ℕ → Data → Option MetaOf
+meta_in version key d = if key == 0 then meta_of version d else None
 
 -- ---- reports and deferrals
 
@@ -151,42 +155,63 @@ alert_of release d =
 
 -- ---- records
 
--- the record of a kind, a number and a body
-abbrev pub record_in : ℕ → ℕ → Data → Option Record
-record_in kind id d =
-    if kind == 0 then option_map Meta (meta_in id d)
+-- the record of a kind, a number and a body, in rows of a version
+abbrev pub record_in : Version → ℕ → ℕ → Data → Option Record
+record_in version kind id d =
+    if kind == 0 then option_map Meta (meta_in version id d)
     else (if kind == 1 then option_map Report (report_of id d)
     else (if kind == 2 then option_map Deferral (deferral_of id d)
-    else (if kind == 3 then option_map Release (release_of id d)
+    else (if kind == 3 then option_map Release (release_of version id d)
     else (if kind == 4 then option_map Kept (kept_of id d)
     else (if kind == 5 then option_map Alert (alert_of id d) else None)))))
 
 -- the record of a kind, a key and a body, where there is a valid one
-unfoldable pub record_of : ℕ → ℕ → Data → Option Record
-record_of kind key d = up_to 1_000_000_000_000_000 key >>= λ id. record_in kind id d
+unfoldable pub record_of : Version → ℕ → ℕ → Data → Option Record
+record_of version kind key d = up_to 1_000_000_000_000_000 key >>= λ id. record_in version kind id d
 
 -- the record that a row says, whatever its blanks and the order of its keys
-unfoldable pub found_in : Row → Option Record
-found_in row = data_of row.body >>= record_of row.kind row.key
+unfoldable pub found_in : Version → Row → Option Record
+found_in version row = data_of row.body >>= record_of version row.kind row.key
 
 abbrev pub is_same_row : Row → Row → Bool
 is_same_row one two = (one.kind == two.kind) && (one.key == two.key) && bytes_eq one.body two.body
 
-abbrev pub if_has : Row → Record → Option Record
-if_has row r = if is_same_row (row_of r) row then Some r else None
+abbrev pub if_has : Version → Row → Record → Option Record
+if_has version row r = if is_same_row (row_in version r) row then Some r else None
 
 -- the record that is found in a row, where the row is that record's
-unfoldable pub record_with : Row → Option Record
-record_with row = found_in row >>= if_has row
+unfoldable pub record_with : Version → Row → Option Record
+record_with version row = found_in version row >>= if_has version row
 
--- What is read of a row: the valid record that has it, or that no valid record has it, or want of memory.
-abbrev pub ReadsRow : Row → Result Record RowFault → Type 0
-ReadsRow row (Ok r) = IsRecord r × (row_of r ≡ row)
-ReadsRow row (Err NotCanonical) = (r : Record) → IsRecord r → row_of r ≡ row → ⊥
-ReadsRow row (Err OutOfMemory) = Unit {0}
+-- What is read of a row in a version: the valid record that has it, or that no valid record has it, or want of memory.
+abbrev pub ReadsRow : Version → Row → Result Record RowFault → Type 0
+ReadsRow version row (Ok r) = IsRecord r × SaysRecord version r × (row_in version r ≡ row)
+ReadsRow version row (Err NotCanonical) = (r : Record) → IsRecord r → SaysRecord version r → row_in version r ≡ row → ⊥
+ReadsRow version row (Err OutOfMemory) = Unit {0}
 
 -- a valid record's row is read as that record, or memory runs out
 abbrev pub IsAgain : Record → Result Record RowFault → Type 0
 IsAgain r (Ok x) = x ≡ r
 IsAgain r (Err NotCanonical) = ⊥
 IsAgain r (Err OutOfMemory) = Unit {0}
+
+-- ---- the version of rows
+
+-- the row of the counters, in the first version
+abbrev pub IsOldMeta : Row → Type 0
+IsOldMeta row = (m : MetaOf) × IsMeta m × (row_in First (Meta m) ≡ row)
+
+-- the same as a test
+unfoldable pub is_old_meta : Row → Bool
+is_old_meta row = (row.kind == 0) && is_some (record_with First row)
+
+-- Rows are of the first version exactly where one of them is the row of the counters in that version.
+abbrev pub are_old : List Row → Bool
+are_old rows = list_any is_old_meta rows
+
+abbrev pub version_if : Bool → Version
+version_if old = if old then First else Second
+
+-- the version of rows
+abbrev pub version_of : List Row → Version
+version_of rows = version_if (are_old rows)

@@ -16,6 +16,9 @@ use Rattle.facts.specs.Reading.{read_of}
 use Rattle.call_json.specs.Forms.{IsId, DoneHasForms, IsFinding, IsRequest, IsFloor, FloorsRise}
 use Rattle.call_json.specs.Digests.{IsDigest}
 use Rattle.kept_releases.specs.Kept.{IsKept}
+use Rattle.kept_releases.specs.Versions.{SaysRelease}
+use Rattle.kept_releases.specs.declared.version.Version.{Version}
+use Rattle.kept_releases.specs.declared.version.Version.TheVariants.{First, Second}
 use Rattle.records.specs.declared.record.KeptAlert.{KeptAlert}
 use Rattle.records.specs.declared.record.KeptReport.{KeptReport}
 use Rattle.desk_state.specs.declared.counters.Counters.{Counters}
@@ -83,6 +86,16 @@ IsRecord (Deferral d) = IsDeferral d
 IsRecord (Release r) = IsId r.id × IsKept r
 IsRecord (Kept k) = IsKeptReply k
 IsRecord (Alert a) = IsKeptAlert a
+
+-- A record that rows of a version say whole: in those of the first no release has a captain's hours.
+abbrev pub SaysRecord : Version → Record → Type 0
+SaysRecord First (Meta m) = Unit {0}
+SaysRecord First (Report r) = Unit {0}
+SaysRecord First (Deferral d) = Unit {0}
+SaysRecord First (Release r) = SaysRelease First r
+SaysRecord First (Kept k) = Unit {0}
+SaysRecord First (Alert a) = Unit {0}
+SaysRecord Second r = Unit {0}
 
 -- ---- the same as tests
 

@@ -12,7 +12,7 @@ use asks::{Floor, Floors, KeptReply};
 use call_json::{Members, done_value, with_count, with_digest, with_moment, with_text, with_value};
 use deferrals::Deferral;
 use desk_io::{OutOfMemory, Row, Text};
-use kept_releases::{findings_value, release_value};
+use kept_releases::{Version, findings_value, release_value};
 use serde_json::{Map, Value};
 use std::alloc::Global;
 
@@ -42,9 +42,9 @@ fn floors_value(alloc: Global, floors: &Floors) -> Result<Value, OutOfMemory>
     Ok(Value::Object(floor_members(alloc, floors.as_slice())?))
 }
 
-fn meta_members(alloc: Global, meta: &MetaRef<'_>) -> Result<Members, OutOfMemory>
+fn meta_members(alloc: Global, version: Version, meta: &MetaRef<'_>) -> Result<Members, OutOfMemory>
     requires { IsMoment meta.now.moment }
-    ensures { IfOk result (λ all. members_view all.entries ≡ spec.meta_members (meta_lent meta.now)) }
+    ensures { IfOk result (λ all. members_view all.entries ≡ spec.meta_members version (meta_lent meta.now)) }
 {
     let members = with_count(alloc, Map::new(alloc), "events", meta.counters.events)?;
     let floors = floors_value(alloc, meta.floors)?;
@@ -54,7 +54,7 @@ fn meta_members(alloc: Global, meta: &MetaRef<'_>) -> Result<Members, OutOfMemor
     let members = with_count(alloc, members, "next_release", meta.counters.next_release)?;
     let members = with_count(alloc, members, "next_report", meta.counters.next_report)?;
     let members = with_moment(alloc, members, "now", meta.moment)?;
-    with_count(alloc, members, "version", 1)
+    with_count(alloc, members, "version", version.number())
 }
 
 fn report_members(alloc: Global, report: &ReportRef<'_>) -> Result<Members, OutOfMemory>
@@ -108,38 +108,50 @@ fn alert_members(alloc: Global, alert: &AlertRef<'_>) -> Result<Members, OutOfMe
 }
 
 #[tactic(auto, unfolding(crate::specs::Bodies::body_data))]
-fn body_value(alloc: Global, held: &RecordRef<'_>) -> Result<Value, OutOfMemory>
+fn body_value(alloc: Global, version: Version, held: &RecordRef<'_>) -> Result<Value, OutOfMemory>
     requires { spec.HasMoments (lent held.now) }
-    ensures { IfOk result (λ v. view v ≡ spec.body_data (lent held.now)) }
+    ensures { IfOk result (λ v. view v ≡ spec.body_data version (lent held.now)) }
 {
     match held {
-        RecordRef::Meta(meta) => Ok(Value::Object(meta_members(alloc, meta)?)),
+        RecordRef::Meta(meta) => Ok(Value::Object(meta_members(alloc, version, meta)?)),
         RecordRef::Report(report) => Ok(Value::Object(report_members(alloc, report)?)),
         RecordRef::Deferral(deferral) => Ok(Value::Object(deferral_members(alloc, deferral)?)),
-        RecordRef::Release(release) => release_value(alloc, release),
+        RecordRef::Release(release) => release_value(alloc, version, release),
         RecordRef::Kept(kept) => Ok(Value::Object(kept_members(alloc, kept)?)),
         RecordRef::Alert(alert) => Ok(Value::Object(alert_members(alloc, alert)?)),
     }
 }
 
 #[tactic(auto, using(crate::proofs::Whole::body_is_whole))]
-fn body_text(alloc: Global, held: &RecordRef<'_>) -> Result<Text, OutOfMemory>
+fn body_text(alloc: Global, version: Version, held: &RecordRef<'_>) -> Result<Text, OutOfMemory>
     requires { spec.HasMoments (lent held.now) }
-    ensures { IfOk result (λ t. t ≡ compact_text (spec.body_data (lent held.now))) }
+    ensures { IfOk result (λ t. t ≡ compact_text (spec.body_data version (lent held.now))) }
 {
-    let value = body_value(alloc, held)?;
+    let value = body_value(alloc, version, held)?;
     Ok(Text::from_vec(value.to_vec(alloc)?))
 }
 
-/// The row of a record.
-#[tactic(auto, unfolding(crate::specs::Bodies::row_of))]
-pub fn row_of(alloc: Global, held: &RecordRef<'_>) -> Result<Row, OutOfMemory>
+/// The row of a record, in rows of a version.
+#[tactic(auto, unfolding(crate::specs::Bodies::row_in))]
+pub(crate) fn row_in(
+    alloc: Global,
+    version: Version,
+    held: &RecordRef<'_>,
+) -> Result<Row, OutOfMemory>
     requires { spec.HasMoments (lent held.now) }
-    ensures { IfOk result (λ row. row ≡ spec.row_of (lent held.now)) }
+    ensures { IfOk result (λ row. row ≡ spec.row_in version (lent held.now)) }
 {
     Ok(Row {
         kind: kind_of(held),
         key: key_of(held),
-        body: body_text(alloc, held)?,
+        body: body_text(alloc, version, held)?,
     })
+}
+
+/// The row of a record as it is written: in rows of the second version.
+pub fn row_of(alloc: Global, held: &RecordRef<'_>) -> Result<Row, OutOfMemory>
+    requires { spec.HasMoments (lent held.now) }
+    ensures { IfOk result (λ row. row ≡ spec.row_of (lent held.now)) }
+{
+    row_in(alloc, Version::Second, held)
 }

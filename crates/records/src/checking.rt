@@ -2,14 +2,16 @@ ghost use Rattle.std.specs.Prelude.{◌≡◌, ◌++◌, ◌∷◌, [], All, len
 ghost use Rattle.records.specs.Checks as spec;
 ghost use Rattle.records.specs.Faults.{IsWithin};
 ghost use Rattle.records.specs.Marks.{marks_of as spec_marks_of};
+ghost use Rattle.records.specs.Reading as reading;
 ghost use Rattle.records.specs.Valid.{IsRecord};
 
 use crate::faults::{Fault, RowWhy, RowsFault};
 use crate::fitting::fit;
 use crate::marks::{Marks, index_of, marks_of};
-use crate::reading::{RowFault, read_row};
+use crate::reading::{RowFault, read_in, record_with};
 use crate::record::Record;
 use desk_io::{Copied, OutOfMemory, Row};
+use kept_releases::Version;
 use std::alloc::Global;
 
 fn bad_row(alloc: Global, row: &Row, why: RowWhy) -> RowsFault
@@ -50,10 +52,10 @@ fn fault_at(alloc: Global, rows: &[Row], fault: Fault) -> RowsFault
     }
 }
 
-fn record_of(alloc: Global, row: &Row) -> Result<Record, RowsFault>
-    ensures { MatchResult result (spec.IsReadOf row.now) (spec.IsUnread row.now) }
+fn record_of(alloc: Global, version: Version, row: &Row) -> Result<Record, RowsFault>
+    ensures { MatchResult result (spec.IsReadOf version row.now) (spec.IsUnread version row.now) }
 {
-    match read_row(alloc, row) {
+    match read_in(alloc, version, row) {
         Ok(record) => Ok(record),
         Err(RowFault::NotCanonical) => Err(bad_row(alloc, row, RowWhy::NotCanonical)),
         Err(RowFault::OutOfMemory) => Err(RowsFault::OutOfMemory),
@@ -67,13 +69,50 @@ fn push(records: &mut Vec<Record>, found: Record) -> Result<(), OutOfMemory>
     Ok(())
 }
 
-// The records of rows, in their order, or the first row that no valid record has.
-fn read_rows(alloc: Global, rows: &[Row]) -> Result<Vec<Record>, RowsFault>
-    ensures { MatchResult result (λ records. spec.AreRowsOf rows.now records.items) (spec.IsFaultOf rows.now) }
+// Whether a row is that of the counters in the first version.
+#[tactic(auto, unfolding(crate::specs::Reading::is_old_meta))]
+fn is_old_meta(alloc: Global, row: &Row) -> Result<bool, OutOfMemory>
+    ensures { IfOk result (λ b. b ≡ reading.is_old_meta row.now) }
+{
+    if row.kind != 0 {
+        return Ok(false);
+    }
+    match record_with(alloc, Version::First, row)? {
+        Some(_) => Ok(true),
+        None => Ok(false),
+    }
+}
+
+// Whether rows are of the first version.
+fn are_old(alloc: Global, rows: &[Row]) -> Result<bool, OutOfMemory>
+    ensures { IfOk result (λ b. b ≡ reading.are_old rows.now) }
+{
+    for row in rows {
+        if is_old_meta(alloc, row)? {
+            return Ok(true);
+        }
+    }
+    Ok(false)
+}
+
+fn version_if(is_old: bool) -> Version
+    ensures { result ≡ reading.version_if is_old }
+{
+    if is_old {
+        Version::First
+    } else {
+        Version::Second
+    }
+}
+
+// The records of rows in their version, in their order, or the first row that no valid record has.
+fn read_rows(alloc: Global, version: Version, rows: &[Row]) -> Result<Vec<Record>, RowsFault>
+    requires { version ≡ reading.version_of rows.now }
+    ensures { MatchResult result (λ records. spec.AreRowsOf version rows.now records.items) (spec.IsFaultOf rows.now) }
 {
     let mut records = Vec::new(alloc);
     for row in rows {
-        let found = record_of(alloc, row)?;
+        let found = record_of(alloc, version, row)?;
         push(&mut records, found)?;
     }
     Ok(records)
@@ -101,7 +140,7 @@ fn check(alloc: Global, records: &[Record]) -> Result<Result<(), Fault>, OutOfMe
 }
 
 fn fitted(alloc: Global, rows: &[Row], records: Vec<Record>) -> Result<Vec<Record>, RowsFault>
-    requires { spec.AreRowsOf rows.now records.items }
+    requires { spec.AreRowsOf (reading.version_of rows.now) rows.now records.items }
     ensures { MatchResult result (λ fitting. spec.IsDesk rows.now fitting.items) (spec.IsFaultOf rows.now) }
 {
     match check(alloc, &records)? {
@@ -110,14 +149,35 @@ fn fitted(alloc: Global, rows: &[Row], records: Vec<Record>) -> Result<Vec<Recor
     }
 }
 
-/// The records of rows, where each row is that of a valid record and all fit together; no rows have none. Otherwise
-/// the first of these: `NotCanonical`, the first row that no valid record has; `NoMeta`, the first row, where none is
-/// the meta row; `OverLimit`, the first row that is one too many of its kind, or counts too many events; `Orphan`, the
-/// first alert without a release; `BadPair`, the first row that doesn't go with one before it, and the first such one;
-/// `BadPair`, the first row that is ahead of the counters of the meta row, and that row.
-pub fn check_rows(alloc: Global, rows: &[Row]) -> Result<Vec<Record>, RowsFault>
-    ensures { MatchResult result (λ records. spec.IsDesk rows.now records.items) (spec.IsFaultOf rows.now) }
+// The records of rows that are of the first version, or aren't.
+fn fitted_in(alloc: Global, is_old: bool, rows: &[Row]) -> Result<Vec<Record>, RowsFault>
+    requires { is_old ≡ reading.are_old rows.now }
+    ensures { MatchResult result (λ fitting. spec.IsDesk rows.now fitting.items) (spec.IsFaultOf rows.now) }
 {
-    let records = read_rows(alloc, rows)?;
+    let records = read_rows(alloc, version_if(is_old), rows)?;
     fitted(alloc, rows, records)
+}
+
+/// The records of rows that were checked.
+#[derive(Drop)]
+pub struct Checked {
+    /// Those of the rows, in their order.
+    pub records: Vec<Record>,
+    /// Whether the rows are of the first version.
+    pub is_old: bool,
+}
+
+/// The records of rows, where each row is that of a valid record and all fit together; no rows have none. Rows are of
+/// the first version exactly where one of them is the row of the counters in that version, and all are read by their
+/// one version. Otherwise the first of these: `NotCanonical`, the first row that no valid record has in the version;
+/// `NoMeta`, the first row, where none is the meta row; `OverLimit`, the first row that is one too many of its kind, or
+/// counts too many events; `Orphan`, the first alert without a release; `BadPair`, the first row that doesn't go with
+/// one before it, and the first such one; `BadPair`, the first row that is ahead of the counters of the meta row, and
+/// that row.
+pub fn check_rows(alloc: Global, rows: &[Row]) -> Result<Checked, RowsFault>
+    ensures { MatchResult result (spec.IsChecked rows.now) (spec.IsFaultOf rows.now) }
+{
+    let is_old = are_old(alloc, rows)?;
+    let records = fitted_in(alloc, is_old, rows)?;
+    Ok(Checked { records, is_old })
 }

@@ -20,8 +20,8 @@ mod reading;
 mod record;
 
 pub use bodies::row_of;
-pub use checking::check_rows;
+pub use checking::{Checked, check_rows};
 pub use faults::{RowWhy, RowsFault};
 pub use lent::{AlertRef, MetaRef, RecordRef, ReportRef};
-pub use reading::{RowFault, read_row};
+pub use reading::{RowFault, read_old_row, read_row};
 pub use record::{KeptAlert, KeptReport, Meta, Record};

@@ -11,6 +11,7 @@ use asks::{Floor, Floors};
 use call_json::{Members, has_members, id_at, moment_at};
 use desk_io::{OutOfMemory, Text};
 use desk_state::Counters;
+use kept_releases::Version;
 use serde_json::Value;
 use std::alloc::Global;
 
@@ -112,18 +113,23 @@ fn counters_at(value: &Value) -> Option<Counters>
     })
 }
 
-fn is_meta(value: &Value) -> bool
-    ensures { result ≡ spec.is_meta (view value.now) }
+fn is_meta(version: Version, value: &Value) -> bool
+    ensures { result ≡ spec.is_meta version (view value.now) }
 {
     match id_at("version", value) {
-        Some(version) => has_members(8, value) && version == 1,
+        Some(number) => has_members(8, value) && number == version.number(),
         None => false,
     }
 }
 
-/// The moment, the counters and the floors that the JSON of a meta row under that key says.
-pub(crate) fn meta_in(alloc: Global, key: u64, value: &Value) -> Result<Option<Meta>, OutOfMemory>
-    ensures { IfOk result (λ meta. meta ≡ spec.meta_in key (view value.now)) }
+/// The moment, the counters and the floors that the JSON of a meta row of a version under that key says.
+pub(crate) fn meta_in(
+    alloc: Global,
+    version: Version,
+    key: u64,
+    value: &Value,
+) -> Result<Option<Meta>, OutOfMemory>
+    ensures { IfOk result (λ meta. meta ≡ spec.meta_in version key (view value.now)) }
 {
     if key != 0 {
         return Ok(None);
@@ -135,7 +141,7 @@ pub(crate) fn meta_in(alloc: Global, key: u64, value: &Value) -> Result<Option<M
         return Ok(None);
     };
     match floors_at(alloc, value)? {
-        Some(floors) if is_meta(value) => Ok(Some(Meta {
+        Some(floors) if is_meta(version, value) => Ok(Some(Meta {
             moment,
             counters,
             floors,

@@ -1,21 +1,21 @@
 ghost use Rattle.std.specs.Prelude.{◌≡◌, IfOk, IfSome};
 ghost use Rattle.std.specs.Option.{option_map};
 ghost use Rattle.kept_releases.specs.Releases.{release_of};
-ghost use Rattle.records.specs.Bodies.{HasMoments, row_of as spec_row_of};
-ghost use Rattle.records.specs.Valid.{IsRecord};
+ghost use Rattle.records.specs.Bodies.{HasMoments, row_in as spec_row_in, row_of as spec_row_of};
+ghost use Rattle.records.specs.Valid.{IsRecord, SaysRecord};
 ghost use Rattle.records.specs.declared.record.Record.{Record as Held};
 ghost use Rattle.serde_json.specs.View.{view};
 ghost use Rattle.records.specs.Reading as spec;
 ghost use Rattle.records.specs.Reading.{record_of, ReadsRow, IsAgain};
 
 use crate::alert_rows::alert_of;
-use crate::bodies::row_of;
+use crate::bodies::row_in;
 use crate::kept_rows::{deferral_of, kept_of, report_of};
 use crate::meta_rows::meta_in;
 use crate::record::Record;
 use call_json::data_of;
 use desk_io::{OutOfMemory, Row};
-use kept_releases::read_release;
+use kept_releases::{Version, read_release};
 use serde_json::Value;
 use std::alloc::Global;
 
@@ -38,10 +38,15 @@ impl From<OutOfMemory> for RowFault {
     }
 }
 
-fn meta(alloc: Global, key: u64, value: &Value) -> Result<Option<Record>, OutOfMemory>
-    ensures { IfOk result (λ r. r ≡ option_map Record.Meta (spec.meta_in key (view value.now))) }
+fn meta(
+    alloc: Global,
+    version: Version,
+    key: u64,
+    value: &Value,
+) -> Result<Option<Record>, OutOfMemory>
+    ensures { IfOk result (λ r. r ≡ option_map Record.Meta (spec.meta_in version key (view value.now))) }
 {
-    match meta_in(alloc, key, value)? {
+    match meta_in(alloc, version, key, value)? {
         Some(meta) => Ok(Some(Record::Meta(meta))),
         None => Ok(None),
     }
@@ -65,10 +70,15 @@ fn deferral(alloc: Global, id: u64, value: &Value) -> Result<Option<Record>, Out
     }
 }
 
-fn release(alloc: Global, id: u64, value: &Value) -> Result<Option<Record>, OutOfMemory>
-    ensures { IfOk result (λ r. r ≡ option_map Record.Release (release_of id (view value.now))) }
+fn release(
+    alloc: Global,
+    version: Version,
+    id: u64,
+    value: &Value,
+) -> Result<Option<Record>, OutOfMemory>
+    ensures { IfOk result (λ r. r ≡ option_map Record.Release (release_of version id (view value.now))) }
 {
-    match read_release(alloc, id, value)? {
+    match read_release(alloc, version, id, value)? {
         Some(release) => Ok(Some(Record::Release(release))),
         None => Ok(None),
     }
@@ -92,14 +102,20 @@ fn alert(alloc: Global, id: u64, value: &Value) -> Result<Option<Record>, OutOfM
     }
 }
 
-fn record_in(alloc: Global, kind: u8, id: u64, value: &Value) -> Result<Option<Record>, OutOfMemory>
-    ensures { IfOk result (λ r. r ≡ spec.record_in kind id (view value.now)) }
+fn record_in(
+    alloc: Global,
+    version: Version,
+    kind: u8,
+    id: u64,
+    value: &Value,
+) -> Result<Option<Record>, OutOfMemory>
+    ensures { IfOk result (λ r. r ≡ spec.record_in version kind id (view value.now)) }
 {
     match kind {
-        0 => meta(alloc, id, value),
+        0 => meta(alloc, version, id, value),
         1 => report(alloc, id, value),
         2 => deferral(alloc, id, value),
-        3 => release(alloc, id, value),
+        3 => release(alloc, version, id, value),
         4 => kept(alloc, id, value),
         5 => alert(alloc, id, value),
         _ => Ok(None),
@@ -110,14 +126,15 @@ fn record_in(alloc: Global, kind: u8, id: u64, value: &Value) -> Result<Option<R
 #[tactic(auto, unfolding(crate::specs::Reading::record_of))]
 fn record_of(
     alloc: Global,
+    version: Version,
     kind: u8,
     key: u64,
     value: &Value,
 ) -> Result<Option<Record>, OutOfMemory>
-    ensures { IfOk result (λ r. r ≡ record_of kind key (view value.now)) }
+    ensures { IfOk result (λ r. r ≡ record_of version kind key (view value.now)) }
 {
     if key <= 1_000_000_000_000_000 {
-        record_in(alloc, kind, key, value)
+        record_in(alloc, version, kind, key, value)
     } else {
         Ok(None)
     }
@@ -125,21 +142,21 @@ fn record_of(
 
 // The record that a row says, whatever its blanks and the order of its keys.
 #[tactic(auto, unfolding(crate::specs::Reading::found_in))]
-fn found_in(alloc: Global, row: &Row) -> Result<Option<Record>, OutOfMemory>
-    ensures { IfOk result (λ r. r ≡ spec.found_in row.now) }
+fn found_in(alloc: Global, version: Version, row: &Row) -> Result<Option<Record>, OutOfMemory>
+    ensures { IfOk result (λ r. r ≡ spec.found_in version row.now) }
 {
     match data_of(alloc, row.body.bytes())? {
-        Some(value) => record_of(alloc, row.kind, row.key, &value),
+        Some(value) => record_of(alloc, version, row.kind, row.key, &value),
         None => Ok(None),
     }
 }
 
 #[tactic(auto, using(crate::proofs::RowLaws::found_moments))]
-fn shown_in(alloc: Global, row: &Row) -> Result<Option<Record>, OutOfMemory>
-    ensures value { IfOk result (λ r. r ≡ spec.found_in row.now) }
+fn shown_in(alloc: Global, version: Version, row: &Row) -> Result<Option<Record>, OutOfMemory>
+    ensures value { IfOk result (λ r. r ≡ spec.found_in version row.now) }
     ensures moments { IfOk result (λ r. IfSome r HasMoments) }
 {
-    found_in(alloc, row)
+    found_in(alloc, version, row)
 }
 
 fn is_same_row(one: &Row, two: &Row) -> bool
@@ -148,34 +165,64 @@ fn is_same_row(one: &Row, two: &Row) -> bool
     one.kind == two.kind && one.key == two.key && one.body.bytes() == two.body.bytes()
 }
 
-fn if_has(alloc: Global, row: &Row, found: Record) -> Result<Option<Record>, OutOfMemory>
+fn if_has(
+    alloc: Global,
+    version: Version,
+    row: &Row,
+    found: Record,
+) -> Result<Option<Record>, OutOfMemory>
     requires { HasMoments found }
-    ensures { IfOk result (λ r. r ≡ spec.if_has row.now found) }
+    ensures { IfOk result (λ r. r ≡ spec.if_has version row.now found) }
 {
-    if is_same_row(&row_of(alloc, &found.lent())?, row) {
+    if is_same_row(&row_in(alloc, version, &found.lent())?, row) {
         Ok(Some(found))
     } else {
         Ok(None)
     }
 }
 
+/// The record that a row says in a version, where the row is that record's.
 #[tactic(auto, unfolding(crate::specs::Reading::record_with))]
-fn record_with(alloc: Global, row: &Row) -> Result<Option<Record>, OutOfMemory>
-    ensures { IfOk result (λ r. r ≡ spec.record_with row.now) }
+pub(crate) fn record_with(
+    alloc: Global,
+    version: Version,
+    row: &Row,
+) -> Result<Option<Record>, OutOfMemory>
+    ensures { IfOk result (λ r. r ≡ spec.record_with version row.now) }
 {
-    match shown_in(alloc, row)? {
-        Some(record) => if_has(alloc, row, record),
+    match shown_in(alloc, version, row)? {
+        Some(record) => if_has(alloc, version, row, record),
         None => Ok(None),
     }
 }
 
-/// The record of a row: the only valid one that has it. `NotCanonical` comes exactly where there is none.
-pub fn read_row(alloc: Global, row: &Row) -> Result<Record, RowFault>
-    ensures reads { ReadsRow row.now result }
-    ensures again { (r : Held) → IsRecord r → spec_row_of r ≡ row.now → IsAgain r result }
+/// The record of a row in a version.
+pub(crate) fn read_in(alloc: Global, version: Version, row: &Row) -> Result<Record, RowFault>
+    ensures reads { ReadsRow version row.now result }
+    ensures again { (r : Held) → IsRecord r → SaysRecord version r → spec_row_in version r ≡ row.now
+        → IsAgain r result }
 {
-    match record_with(alloc, row)? {
+    match record_with(alloc, version, row)? {
         Some(record) => Ok(record),
         None => Err(RowFault::NotCanonical),
     }
+}
+
+/// The record of a row of the second version: the only valid one that has it. `NotCanonical` comes exactly where there
+/// is none.
+pub fn read_row(alloc: Global, row: &Row) -> Result<Record, RowFault>
+    ensures reads { ReadsRow Version.Second row.now result }
+    ensures again { (r : Held) → IsRecord r → spec_row_of r ≡ row.now → IsAgain r result }
+{
+    read_in(alloc, Version::Second, row)
+}
+
+/// The record of a row of the first version: the only valid one without a captain's hours that has it.
+/// `NotCanonical` comes exactly where there is none.
+pub fn read_old_row(alloc: Global, row: &Row) -> Result<Record, RowFault>
+    ensures reads { ReadsRow Version.First row.now result }
+    ensures again { (r : Held) → IsRecord r → SaysRecord Version.First r → spec_row_in Version.First r ≡ row.now
+        → IsAgain r result }
+{
+    read_in(alloc, Version::First, row)
 }

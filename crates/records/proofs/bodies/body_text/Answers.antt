@@ -7,4 +7,4 @@ use Rattle.records.proofs.bodies.body_text.Goals as goal
 
 pub returns : goal.returns
 returns c =
-    c.from_vec.ensures ∙ c.in_ok-to_vec.ensures.text (body_is_whole (lent c.args.held.now) (view c.in_ok-value.value) c.in_ok-value.ensures) ∙ ap compact_text c.in_ok-value.ensures
+    c.from_vec.ensures ∙ c.in_ok-to_vec.ensures.text (body_is_whole c.args.version (lent c.args.held.now) (view c.in_ok-value.value) c.in_ok-value.ensures) ∙ ap compact_text c.in_ok-value.ensures

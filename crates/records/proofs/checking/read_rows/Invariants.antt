@@ -3,4 +3,4 @@ use Rattle.records.specs.Checks.{AreRowsOf}
 use Rattle.records.proofs.checking.read_rows.Given as goal
 
 abbrev pub invariant-loop-row : goal.invariant-loop-row
-invariant-loop-row l = AreRowsOf (take l.row-index l.rows) l.records.items
+invariant-loop-row l = AreRowsOf l.version (take l.row-index l.rows) l.records.items

@@ -5,4 +5,4 @@ use Rattle.records.proofs.checking.record_of.Goals as goal
 
 pub returns-in-Err-NotCanonical : goal.returns-in-Err-NotCanonical
 returns-in-Err-NotCanonical c =
-    unread c.args.row.now c.bad_row.result c.bad_row.ensures (subst (λ fault. ReadsRow c.args.row.now (Err fault)) c.in-Err-NotCanonical.field-0-is c.in-Err-NotCanonical.ensures.reads)
+    unread c.args.version c.args.row.now c.bad_row.result c.bad_row.ensures (subst (λ fault. ReadsRow c.args.version c.args.row.now (Err fault)) c.in-Err-NotCanonical.field-0-is c.in-Err-NotCanonical.ensures.reads)
