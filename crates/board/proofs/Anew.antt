@@ -1,10 +1,11 @@
 -- A state that records stand for, once it is judged, and its rows.
-use Rattle.std.proofs.Common.{◌≡◌, ℕ, Bool, inl, inr, List, [], ◌∷◌, ◌++◌, map, Option, None, Some, refl, sym, ap, ◌∙◌, subst}
+use Rattle.std.proofs.Common.{◌≡◌, ℕ, Bool, true, false, inl, inr, List, [], ◌∷◌, ◌++◌, map, Option, None, Some, refl, sym, ap, ◌∙◌, subst}
 use Rattle.std.specs.List.{AllByRecursion}
-use Rattle.desk_io.specs.Rows.{Rows, rows_of, changed_by}
+use Rattle.desk_io.specs.Rows.{Rows, rows_of, changed, changed_by}
 use Rattle.desk_io.specs.declared.rows.Change.{Change}
 use Rattle.keeper.specs.Kept.{AreSame}
 use Rattle.kept_state.specs.Judged.{judged_changes}
+use Rattle.kept_state.specs.Upgraded.{if_old, opened_changes, upgraded_changes}
 use Rattle.kept_state.specs.Rows.{report_kept, alert_kept, records_of, state_rows, AreKept}
 use Rattle.kept_state.proofs.AlertRows.{changes_own}
 use Rattle.kept_state.proofs.JudgedLaws.{judged_lead, with_alerts}
@@ -15,7 +16,9 @@ use Rattle.desk_state.specs.Sound.{EffectFits, IsBoard, Sound}
 use Rattle.desk_state.specs.State.{State, start, judged_all}
 use Rattle.ops_tables.specs.Named.{AreNamed}
 use Rattle.ops_tables.specs.Tables.{TableRows}
-use Rattle.records.specs.Bodies.{row_of}
+use Rattle.kept_releases.specs.declared.version.Version.TheVariants.{First}
+use Rattle.records.specs.Bodies.{row_in, row_of}
+use Rattle.records.specs.Reading.{version_if}
 use Rattle.records.specs.declared.record.Meta.{Meta as MetaOf}
 use Rattle.records.specs.declared.record.Record.{Record}
 use Rattle.records.specs.declared.record.Record.TheVariants.{Meta, Report, Deferral, Release, Kept, Alert}
@@ -29,7 +32,8 @@ use Rattle.desk_state.proofs.Boards.{start_board}
 use Rattle.desk_state.specs.Install.{IsOwn, with_judged}
 use Rattle.desk_state.proofs.HoldLaws.{board_holds}
 use Rattle.kept_state.proofs.RecordLaws.{no_records, records_again}
-use Rattle.kept_state.proofs.StateLaws.{may_reopen}
+use Rattle.kept_state.proofs.StateLaws.{counted_reopens, may_reopen}
+use Rattle.kept_state.proofs.UpgradedLaws.{releases_ascend, upgraded_first, upgraded_lead}
 
 -- an effect that changes nothing
 pub nothing_fits : (s : State) → EffectFits s nothing
@@ -55,9 +59,22 @@ unfolding state_rows
 kept_by tables rs None rows are is same = inr ((λ kind key. same kind key ∙ ap (λ (xs : List Record). rows_of (map row_of xs) kind key) (no_records rs are is)), refl)
 kept_by tables rs (Some m) rows are is same = inl (λ kind key. same kind key ∙ ap (λ (xs : List Record). rows_of (map row_of xs) kind key) (sym (counted_again tables rs m are is)))
 
-state_kept : (tables : TableRows) (rs : List Record) (rows : Rows) → AreOfDesk rs → AreSame rows (rows_of (map row_of rs)) → AreKept rows (state_in tables rs)
+-- rows of the first version are, once they are rewritten
+old_kept_by : (tables : TableRows) (rs : List Record) (o : Option MetaOf) (rows : Rows) → AreNamed tables → AreOfDesk rs → meta_in rs ≡ o → AreSame rows (rows_of (map (row_in First) rs))
+    → AreKept (changed_by (upgraded_changes (state_by tables o rs)) rows) (state_by tables o rs)
+old_kept_by tables rs None rows names are is same =
+    inl (upgraded_first tables rows (λ kind key. same kind key ∙ ap (λ (xs : List Record). rows_of (map (row_in First) xs) kind key) (no_records rs are is)))
+old_kept_by tables rs (Some m) rows names are is same =
+    let s = state_with tables m rs in
+    inl (upgraded_lead s (releases_ascend s (counted_reopens tables rs m names are is)) rows
+    (λ kind key. same kind key ∙ ap (λ (xs : List Record). rows_of (map (row_in First) xs) kind key) (sym (counted_again tables rs m are is))))
+
+-- by the version of the rows
+state_kept : (tables : TableRows) (rs : List Record) (old : Bool) (rows : Rows) → AreNamed tables → AreOfDesk rs → AreSame rows (rows_of (map (row_in (version_if old)) rs))
+    → AreKept (changed_by (if_old old (state_in tables rs)) rows) (state_in tables rs)
 unfolding state_in
-state_kept tables rs rows are same = kept_by tables rs (meta_in rs) rows are refl same
+state_kept tables rs false rows names are same = kept_by tables rs (meta_in rs) rows are refl same
+state_kept tables rs true rows names are same = old_kept_by tables rs (meta_in rs) rows names are refl same
 
 -- ---- once it is judged
 
@@ -69,9 +86,9 @@ still s may none =
     ∙ ap (λ alerts. record s { alerts = alerts }) (sym (changes_lead s may.holds.judgeable) ∙ ap (λ changes. put_changes changes s.alerts) none)
 
 -- where some change
-changed : (s : State) (c : AlertChange) (cs : List AlertChange) → MayReopen s → alert_changes nothing s ≡ c ∷ cs → reopened s ≡ with_alerts s (c ∷ cs)
+some_changed : (s : State) (c : AlertChange) (cs : List AlertChange) → MayReopen s → alert_changes nothing s ≡ c ∷ cs → reopened s ≡ with_alerts s (c ∷ cs)
 unfolding reopened
-changed s c cs may some =
+some_changed s c cs may some =
     ap (λ changes. record s { counters = counters_with changes s.counters; alerts = judged_all s }) some
     ∙ ap (λ alerts. record s { counters = counters_with (c ∷ cs) s.counters; alerts = alerts }) (sym (changes_lead s may.holds.judgeable) ∙ ap (λ changes. put_changes changes s.alerts) some)
 
@@ -83,16 +100,22 @@ kept_as : (s : State) (changes : List AlertChange) (rows : Rows) → MayReopen s
 unfolding judged_changes
 kept_as s [] rows may is kept = subst (λ t. AreKept rows t) (sym (still s may is)) kept
 kept_as s (c ∷ cs) rows may is (inl same) =
-    subst (λ t. AreKept (changed_by (judged_changes s (c ∷ cs)) rows) t) (sym (changed s c cs may is))
+    subst (λ t. AreKept (changed_by (judged_changes s (c ∷ cs)) rows) t) (sym (some_changed s c cs may is))
     (inl (judged_lead s c cs (subst (AllByRecursion IsOwn) is (changes_own nothing s)) may.holds.judgeable rows same))
 kept_as s (c ∷ cs) rows may is (inr none) = absurd (none_changes s c cs none.1 is)
 
--- what the judgement changes of the rows leads to those of the judged state
-pub rows_kept : (tables : TableRows) (rs : List Record) (changes : List Change) → AreNamed tables → AreOfDesk rs → changes ≡ judged_changes (state_in tables rs) (alert_changes nothing (state_in tables rs))
-    → (rows : Rows) → AreSame rows (rows_of (map row_of rs)) → AreKept (changed_by changes rows) (reopened (state_in tables rs))
-rows_kept tables rs changes names are is rows same =
-    subst (λ (cs : List Change). AreKept (changed_by cs rows) (reopened (state_in tables rs))) (sym is)
-    (kept_as (state_in tables rs) (alert_changes nothing (state_in tables rs)) rows (may_reopen tables rs names are) refl (state_kept tables rs rows are same))
+changed_twice : (one two : List Change) (rows : Rows) → changed_by (one ++ two) rows ≡ changed_by two (changed_by one rows)
+changed_twice [] two rows = refl
+changed_twice (c ∷ one) two rows = changed_twice one two (changed c rows)
+
+-- what opening changes of the rows leads to those of the judged state
+pub rows_kept : (tables : TableRows) (rs : List Record) (old : Bool) (changes : List Change) → AreNamed tables → AreOfDesk rs → changes ≡ opened_changes old (state_in tables rs) (alert_changes nothing (state_in tables rs))
+    → (rows : Rows) → AreSame rows (rows_of (map (row_in (version_if old)) rs)) → AreKept (changed_by changes rows) (reopened (state_in tables rs))
+unfolding opened_changes
+rows_kept tables rs old changes names are is rows same =
+    let s : State = state_in tables rs in
+    subst (λ (after : Rows). AreKept after (reopened s)) (sym (ap (λ (cs : List Change). changed_by cs rows) is ∙ changed_twice (if_old old s) (judged_changes s (alert_changes nothing s)) rows))
+    (kept_as s (alert_changes nothing s) (changed_by (if_old old s) rows) (may_reopen tables rs names are) refl (state_kept tables rs old rows names are same))
 
 -- ---- in code
 

@@ -17,6 +17,7 @@ use Rattle.ops_tables.specs.contracts.rows.Route as Route
 use Rattle.ops_tables.specs.contracts.rows.MelRow as MelRow
 use Rattle.ops_tables.specs.contracts.rows.ItemPair as ItemPair
 use Rattle.ops_tables.specs.contracts.rows.Actor as Actor
+use Rattle.ops_tables.specs.contracts.rows.CaptainHours as CaptainHours
 use Rattle.ops_tables.specs.contracts.grouped.Grouped as Grouped
 use Rattle.ops_tables.specs.declared.grouped.Row as Row
 use Rattle.ops_tables.specs.contracts.loading.Loading as Loading
@@ -184,8 +185,11 @@ ItemPair_send = search (sendable, crosses, Text_send) depth 60 fits 9000
 Actor_send : IsSend Actor.the_row
 Actor_send = search (sendable, crosses, Text_send) depth 60 fits 9000
 
+CaptainHours_send : IsSend CaptainHours.the_row
+CaptainHours_send = search (sendable, crosses, Text_send) depth 60 fits 9000
+
 Loading_send : IsSend (Loading.the_field).row
-Loading_send = struct_send (shape Loading.the_type) (Settings_field_send, (search (Grouped_send, Airport_send) depth 20, (search (Grouped_send, Approach_send) depth 20, (search (Grouped_send, AlternateRow_send) depth 20, (search (Grouped_send, TypeRow_send) depth 20, (search (Grouped_send, Tail_send) depth 20, (search (Grouped_send, Use_send) depth 20, (search (Grouped_send, Distance_send) depth 20, (search (Grouped_send, Route_send) depth 20, (search (Grouped_send, MelRow_send) depth 20, (search (Grouped_send, ItemPair_send) depth 20, (search (Grouped_send, Actor_send) depth 20, tt))))))))))))
+Loading_send = struct_send (shape Loading.the_type) (Settings_field_send, (search (Grouped_send, Airport_send) depth 20, (search (Grouped_send, Approach_send) depth 20, (search (Grouped_send, AlternateRow_send) depth 20, (search (Grouped_send, TypeRow_send) depth 20, (search (Grouped_send, Tail_send) depth 20, (search (Grouped_send, Use_send) depth 20, (search (Grouped_send, Distance_send) depth 20, (search (Grouped_send, Route_send) depth 20, (search (Grouped_send, MelRow_send) depth 20, (search (Grouped_send, ItemPair_send) depth 20, (search (Grouped_send, Actor_send) depth 20, (search (Grouped_send, CaptainHours_send) depth 20, tt)))))))))))))
 
 Tables_send : IsSend (Tables.the_field).row
 Tables_send = search (sendable, Loading_send) depth 60 fits 9000

@@ -1,11 +1,12 @@
 ghost use Rattle.std.specs.Prelude.{OnOk, ◌≡◌, ◌<◌, false, map, IfOk};
 ghost use Rattle.desk_io.specs.Rows.{Rows, rows_of, changed_by};
 ghost use Rattle.keeper.specs.Kept.{AreSame};
-ghost use Rattle.kept_state.specs.Judged as kept;
+ghost use Rattle.kept_state.specs.Upgraded as kept;
 ghost use Rattle.kept_state.specs.Rows.{AreKept};
 ghost use Rattle.desk_state.specs.Effects.{nothing};
 ghost use Rattle.desk_state.specs.Events.{alert_changes};
-ghost use Rattle.records.specs.Bodies.{row_of};
+ghost use Rattle.records.specs.Bodies.{row_in};
+ghost use Rattle.records.specs.Reading.{version_if};
 ghost use Rattle.kept_state.specs.Held.{AreOfDesk, state_in};
 ghost use Rattle.kept_state.specs.Opening as spec;
 ghost use Rattle.kept_state.specs.Opening.{MayReopen, reopened};
@@ -13,7 +14,7 @@ ghost use Rattle.kept_state.specs.Opening.{MayReopen, reopened};
 use alert_judging::Prospect;
 use desk_io::{Change, OutOfMemory};
 use desk_state::{AlertChange, Alerted, Content, Effect};
-use kept_state::{content_of, judged_changes};
+use kept_state::{content_of, opened_changes};
 use ops_tables::Tables;
 use records::Record;
 use rules::Steps;
@@ -24,7 +25,7 @@ use std::sync::ledger::Ledger;
 #[derive(Drop)]
 pub(crate) struct Reopened {
     pub held: Alerted,
-    /// What the judgement changed of the rows.
+    /// What that changed of the rows.
     pub changes: Vec<Change>,
 }
 
@@ -68,20 +69,21 @@ fn put_judged(content: &mut Content, alerts: Vec<AlertChange>) -> Result<(), Out
     content.put_judged(alerts, events)
 }
 
-// Judges a state anew, and says what that changes of the rows.
+// Judges a state anew, and says what that changes of the rows, which are rewritten where they are of the first version.
 fn reopen<L: Ledger>(
     alloc: Global,
     content: &mut Content,
+    is_old: bool,
     steps: &mut Steps<L>,
 ) -> Result<Vec<Change>, OutOfMemory>
     requires { MayReopen content.old.state }
     ensures state { OnOk result (content.new.state ≡ reopened content.old.state) }
     ensures listed { OnOk result (content.new.listed ≡ content.old.listed) }
-    ensures changes { IfOk result (λ v. v.items ≡ kept.judged_changes content.old.state
+    ensures changes { IfOk result (λ v. v.items ≡ kept.opened_changes is_old content.old.state
         (alert_changes nothing content.old.state)) }
 {
     let alerts = judge_anew(alloc, content, steps)?;
-    let changes = judged_changes(alloc, content, alerts.as_slice())?;
+    let changes = opened_changes(alloc, content, is_old, alerts.as_slice())?;
     put_judged(content, alerts)?;
     Ok(changes)
 }
@@ -89,25 +91,28 @@ fn reopen<L: Ledger>(
 // Lets go of what was held.
 fn leave(_: Content) {}
 
-/// The state that records stand for under some tables, once its active releases are judged.
+/// The state that records stand for under some tables, once its active releases are judged, and what that changes of
+/// the rows, which are of the first version where `is_old` says so.
 #[tactic(auto, using(kept_state::proofs::StateLaws::may_reopen))]
 pub(crate) fn restored<L: Ledger>(
     alloc: Global,
     tables: Tables,
     records: Vec<Record>,
+    is_old: bool,
     steps: &mut Steps<L>,
 ) -> Result<Reopened, OutOfMemory>
     requires { AreOfDesk records.items }
     ensures state { IfOk result (λ r. r.held.state ≡ reopened (state_in tables records.items)) }
     ensures listed { IfOk result (λ r. r.held.listed ≡ false) }
-    ensures changes { IfOk result (λ r. r.changes.items ≡ kept.judged_changes (state_in tables records.items)
+    ensures changes { IfOk result (λ r. r.changes.items ≡ kept.opened_changes is_old (state_in tables records.items)
         (alert_changes nothing (state_in tables records.items))) }
-    ensures kept { IfOk result (λ r. (rows : Rows) → AreSame rows (rows_of (map row_of records.items))
+    ensures kept { IfOk result (λ r. (rows : Rows)
+        → AreSame rows (rows_of (map (row_in (version_if is_old)) records.items))
         → AreKept (changed_by r.changes.items rows) (reopened (state_in tables records.items))) }
 {
     tables.are_named();
     let mut content = content_of(alloc, tables, records)?;
-    match reopen(alloc, &mut content, steps) {
+    match reopen(alloc, &mut content, is_old, steps) {
         Ok(changes) => Ok(Reopened {
             held: Alerted::of(content),
             changes,

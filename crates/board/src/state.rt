@@ -15,11 +15,12 @@ ghost use Rattle.asks.specs.Forms.{ReplyHasMoment};
 ghost use Rattle.call_json.specs.Forms.{CallHasForms};
 ghost use Rattle.desk_io.specs.Rows.{Rows, rows_of, changed_by};
 ghost use Rattle.keeper.specs.Kept.{AreSame};
-ghost use Rattle.kept_state.specs.Judged.{judged_changes};
+ghost use Rattle.kept_state.specs.Upgraded.{opened_changes};
 ghost use Rattle.kept_state.specs.Rows.{AreKept};
 ghost use Rattle.desk_state.specs.Effects.{nothing};
 ghost use Rattle.desk_state.specs.Events.{alert_changes};
-ghost use Rattle.records.specs.Bodies.{row_of};
+ghost use Rattle.records.specs.Bodies.{row_in};
+ghost use Rattle.records.specs.Reading.{version_if};
 ghost use Rattle.kept_state.specs.Held.{AreOfDesk, state_in};
 ghost use Rattle.kept_state.specs.Opening.{reopened};
 ghost use Rattle.board.specs.Prepare.{shown, installed, IsStepped, IsAnswered, KeepsRows};
@@ -55,7 +56,7 @@ pub struct Board {
 #[derive(Drop)]
 pub struct Restored {
     pub board: Board,
-    /// What the judgement changed of the rows: nothing where no alert changed.
+    /// What that changed of the rows: nothing where no alert changed and they aren't of the first version.
     pub changes: Vec<Change>,
 }
 
@@ -91,25 +92,28 @@ impl Board {
     }
 
     /// The board that valid records in order stand for, once its active releases are judged, and what that changed of
-    /// the rows. Its history is empty.
+    /// the rows. Where these are of the first version, as `is_old` says, all are rewritten that differ in the second.
+    /// Its history is empty.
     #[tactic(auto, using(kept_state::proofs::StateLaws::held_board))]
     pub fn restore<L: Ledger>(
         alloc: Global,
         tables: Tables,
         records: Vec<Record>,
+        is_old: bool,
         steps: &mut Steps<L>,
     ) -> Result<Restored, OutOfMemory>
         requires { AreOfDesk records.items }
         ensures board { IfOk result (λ r. r.board ≡ shown (reopened (state_in tables records.items))
             (reopened (state_in tables records.items)) None false) }
-        // Nothing where no alert changed.
-        ensures changes { IfOk result (λ r. r.changes.items ≡ judged_changes (state_in tables records.items)
+        // Nothing where no alert changed and the rows aren't old.
+        ensures changes { IfOk result (λ r. r.changes.items ≡ opened_changes is_old (state_in tables records.items)
             (alert_changes nothing (state_in tables records.items))) }
-        ensures rows { IfOk result (λ r. (rows : Rows) → AreSame rows (rows_of (map row_of records.items))
+        ensures rows { IfOk result (λ r. (rows : Rows)
+            → AreSame rows (rows_of (map (row_in (version_if is_old)) records.items))
             → AreKept (changed_by r.changes.items rows) (reopened (state_in tables records.items))) }
     {
         tables.are_named();
-        let Reopened { held, changes } = restored(alloc, tables, records, steps)?;
+        let Reopened { held, changes } = restored(alloc, tables, records, is_old, steps)?;
         let opening = Snapshot::of(&held);
         let board = Board {
             held,

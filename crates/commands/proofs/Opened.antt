@@ -174,6 +174,7 @@ opened_fresh told tables b opened holds =
 pub held_opened : (told : Option Rows) (tables : TableRows) (b c : Shown) → IsOpened told tables b → c ≡ shown b.opening b.state None true → IsOpened told tables c
 held_opened told tables b c opened is = record {
   records = opened.records;
+  old = opened.old;
   loaded = opened.loaded;
   shows =
       is
@@ -190,6 +191,7 @@ module _ {K B : Type 0} (seen : K → KeeperSeen) (heard : B → BellSeen) (tabl
       let less = (seen lent).health.faults in (
         record {
           records = opened.records;
+          old = opened.old;
           loaded = opened.loaded;
           opening = goes.opening ∙ ap (λ (b : Shown). b.opening) opened.shows;
           holds = holds;

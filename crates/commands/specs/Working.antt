@@ -1,5 +1,5 @@
 -- The desk that a command opens, and the work on it.
-use Rattle.std.specs.Prelude.{◌≡◌, ◌≢◌, ℕ, ◌≤◌, List, Option, None, Some, Result, Ok, Err}
+use Rattle.std.specs.Prelude.{◌≡◌, ◌≢◌, ℕ, ◌≤◌, Bool, List, Option, None, Some, Result, Ok, Err}
 use Rattle.board.specs.Prepare.{Shown}
 use Rattle.desk.specs.Keeping.{KeepsState}
 use Rattle.desk.specs.InPart.{AreGivenInPart, IsRunInPart}
@@ -85,7 +85,8 @@ Makes number count desk (Err other) = ⊥
 -- A board that was opened over the rows: it is a board, and the rows are kept for it.
 pub record IsOpenOver (tables : TableRows) (keeper : Lent) (board : Shown) : Type 0 where
   pub records : List Record
-  pub loaded : AreLoaded keeper.before.rows records
+  pub old : Bool
+  pub loaded : AreLoaded keeper.before.rows records old
   pub opening : board.opening ≡ reopened (state_in tables records)
   pub holds : IsBoard board.opening board.state
   pub kept : KeepsState keeper.after.rows board.state

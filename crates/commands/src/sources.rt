@@ -86,7 +86,7 @@ pub(crate) fn read_lines<S: Shelf>(
     }
 }
 
-/// The twelve tables.
+/// The thirteen tables.
 pub(crate) fn read_files<S: Shelf>(alloc: Global, shelf: &mut S) -> Result<Tables, Fault>
     ensures read { ReadsFiles (over S.seen shelf.old shelf.new) result }
     ensures on { ShelfGoesOn (HoldsFiles (S.seen shelf.old)) (S.seen shelf.old) (S.seen shelf.new) }

@@ -54,7 +54,7 @@ fn write<O: Sink>(alloc: Global, answer: Result<Text, Fault>, out: &mut O) -> u8
     }
 }
 
-/// Does what the words ask, and answers the status of the program. `run SCRIPT` reads the twelve tables and then the
+/// Does what the words ask, and answers the status of the program. `run SCRIPT` reads the thirteen tables and then the
 /// script, and loads the rows of the keeper; then the script is run on the desk of these rows. `race` with 2 to 16
 /// scripts does so with all of them at once, a thread for each where one can be had, `import FILE` with the records of
 /// a file, and `make NUMBER COUNT`, which reads no source, with calls that are made of a number. `serve PORT

@@ -92,6 +92,7 @@ fn fresh_revision(alloc: Global, number: u64, plan: &Plan) -> Result<Revision, O
         attached: Listed::new(alloc),
         dispatcher: None,
         captain: None,
+        hours: None,
     })
 }
 
@@ -125,6 +126,7 @@ fn with_weather(
         attached: attach(alloc, content.reports(), &revision.plan, phase)?,
         dispatcher: None,
         captain: None,
+        hours: None,
     })
 }
 

@@ -8,6 +8,7 @@ mod drafts;
 mod equipment;
 mod flights;
 mod floors;
+mod hours;
 mod people;
 mod releases;
 mod repeats;

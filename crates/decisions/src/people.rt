@@ -1,6 +1,6 @@
 ghost use Rattle.std.specs.Prelude.{◌≡◌};
 ghost use Rattle.std.specs.Option.{option_copied};
-ghost use Rattle.plan.specs.Check.{is_captain_role};
+ghost use Rattle.ops_tables.specs.Tables.{is_captain_role};
 ghost use Rattle.desk_state.specs.People as spec;
 ghost use Rattle.decisions.specs.Answers.{Passes};
 

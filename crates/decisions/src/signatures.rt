@@ -5,6 +5,7 @@ ghost use Rattle.decisions.specs.Answers.{Answers, Passes, in_turn};
 ghost use Rattle.decisions.specs.Reads.{DecisionAdmitsRead};
 
 use crate::chain::{Stop, refused_if};
+use crate::hours::captain_hours;
 use crate::releases::{held, not_yours, pending, with_pending};
 use crate::rulings::judged;
 use asks::{Done, Refusal};
@@ -145,11 +146,13 @@ fn made_active(
     release: &Release,
     revision: &Revision,
     signature: Signature,
+    hours: u32,
 ) -> Result<Release, OutOfMemory>
-    ensures { IfOk result (λ r. r ≡ spec.made_active release.now revision.now signature) }
+    ensures { IfOk result (λ r. r ≡ spec.made_active release.now revision.now signature hours) }
 {
     let mut signed = revision.copy(alloc)?;
     signed.captain = Some(signature);
+    signed.hours = Some(hours);
     Ok(Release {
         id: release.id,
         holder: release.holder.copy(alloc)?,
@@ -206,7 +209,8 @@ pub(crate) fn sign<L: Ledger>(
     Ok(Decision::Do(made, Effect::put(release)))
 }
 
-/// The captain of the pending plan signs its text after the dispatcher, and it becomes the active one.
+/// The captain of the pending plan signs its text after the dispatcher, and it becomes the active one, with the hours
+/// that the tables say of him in its type.
 #[tactic(auto, using(crate::proofs::Turns::both_pass))]
 pub(crate) fn concur<L: Ledger>(
     alloc: Global,
@@ -231,6 +235,7 @@ pub(crate) fn concur<L: Ledger>(
     fails(alloc, content, release, revision, steps)?;
     let signature = signed_by(alloc, actor, content.moment(), digest)?;
     let made = filed(release, revision);
-    let release = made_active(alloc, release, revision, signature)?;
+    let hours = captain_hours(content.tables(), &revision.plan);
+    let release = made_active(alloc, release, revision, signature, hours)?;
     Ok(Decision::Do(made, Effect::put_afresh(release)))
 }

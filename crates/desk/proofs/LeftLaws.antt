@@ -1,19 +1,26 @@
 -- Rows that a desk has left are opened again.
 use Rattle.std.proofs.Common.{◌≡◌, List, [], ◌∷◌, map, Option, None, Some, refl, ap, sym, ◌∙◌, subst, inl, inr, ◌⊎◌}
-use Rattle.std.specs.Prelude.{Result, Ok, Err, IfOk, IfErr, MatchResult}
+use Rattle.std.specs.Prelude.{Result, Ok, Err, IfOk, IfErr, IsTrue, MatchResult}
+use Rattle.std.specs.List.{AllByRecursion}
 use Rattle.std.proofs.lemmas.List.Elements.{All-from_recursion}
 use Rattle.board.specs.Prepare.{Shown}
 use Rattle.desk_io.specs.Rows.{Rows}
 use Rattle.desk_io.specs.declared.rows.Row.{Row}
-use Rattle.kept_state.specs.Rows.{records_of}
+use Rattle.keeper.specs.Kept.{Lists}
+use Rattle.keeper.specs.Order as order
+use Rattle.kept_releases.specs.Versions.{HasNoHours}
+use Rattle.kept_releases.specs.declared.version.Version.{Version}
+use Rattle.kept_releases.specs.declared.version.Version.TheVariants.{First, Second}
+use Rattle.kept_state.specs.Rows.{AreKept, AreOldRows, records_of}
 use Rattle.kept_state.proofs.RecordsAgain.{state_again}
 use Rattle.kept_state.proofs.DeskRecords.{records_formed}
 use Rattle.kept_state.proofs.Faultless.{no_bad_row, no_bad_pair}
-use Rattle.kept_state.proofs.SameRows.{desk_records, listed_as}
+use Rattle.kept_state.proofs.SameRows.{AreRowsIn, desk_records, first_rows, listed_as, listed_old, second_rows}
 use Rattle.desk_state.specs.State.{State, start}
 use Rattle.ops_tables.specs.Tables.{TableRows}
-use Rattle.records.specs.Bodies.{row_of}
-use Rattle.records.specs.Checks.{IsDesk, IsFaultOf}
+use Rattle.records.specs.Bodies.{row_in, row_of}
+use Rattle.records.specs.Checks.{IsFaultOf}
+use Rattle.records.specs.Reading.{version_of}
 use Rattle.records.specs.Faults.{fit}
 use Rattle.records.specs.Valid.{IsRecord}
 use Rattle.records.specs.declared.faults.RowsFault.TheVariants as fault
@@ -33,36 +40,55 @@ none_of_desk : AreOfDesk []
 unfolding fit
 none_of_desk = record { valid = All-from_recursion IsRecord [] tt; fit = refl; order = refl }
 
-no_records : (rs : List Record) → map row_of rs ≡ [] → rs ≡ []
-no_records [] none = refl
-no_records (r ∷ rs) none = absurd (cc)
+no_records : (version : Version) (rs : List Record) → map (row_in version) rs ≡ [] → rs ≡ []
+no_records version [] none = refl
+no_records version (r ∷ rs) none = absurd (cc)
 
 at_start : (tables : TableRows) → state_in tables [] ≡ start tables
 unfolding state_in
 at_start tables = refl
 
+-- the rows that were loaded are those of the records of a state in a version, or there are none at the beginning
+data AreLeft (s : State) (rows : List Row) : Type 0 where
+  of_records : (version : Version) → AreRowsIn version rows (records_of s) → AreLeft s rows
+  of_none : rows ≡ [] → s ≡ start s.tables → AreLeft s rows
+
+second_at : (s : State) (rows : List Row) → AreOfDesk (records_of s) → rows ≡ map row_of (records_of s) → AreRowsIn Second rows (records_of s)
+second_at s rows are same = subst (λ (xs : List Row). AreRowsIn Second xs (records_of s)) (sym same) (second_rows (records_of s) are)
+
+first_at : (s : State) (rows : List Row) → AreOfDesk (records_of s) → AllByRecursion HasNoHours s.releases → rows ≡ map (row_in First) (records_of s) → AreRowsIn First rows (records_of s)
+first_at s rows are lacks same = subst (λ (xs : List Row). AreRowsIn First xs (records_of s)) (sym same) (first_rows s are lacks)
+
+kept_rows : (s : State) (rows : List Row) → AreOfDesk (records_of s) → (rows ≡ map row_of (records_of s)) ⊎ ((rows ≡ []) × (s ≡ start s.tables)) → AreLeft s rows
+kept_rows s rows are (inl same) = of_records Second (second_at s rows are same)
+kept_rows s rows are (inr none) = of_none none.0 none.1
+
+left_rows : (s : State) (told : Rows) (rows : List Row) → AreOfDesk (records_of s) → AreKept told s ⊎ AreOldRows told s → Lists (Some told) rows → IsTrue (order.rising rows) → AreLeft s rows
+left_rows s told rows are (inl kept) listed up = kept_rows s rows are (listed_as s told rows are kept listed up)
+left_rows s told rows are (inr old) listed up = of_records First (first_at s rows are old.lacks (listed_old s told rows are old listed up))
+
 opened_as : (tables : TableRows) (s : State) (told : Rows) (b : Shown) → IsLeft s → TellsRowsOf (Some told) s → IsOpened (Some told) tables b → b.state ≡ reopened (under tables s)
 opened_as tables s told b left tells is =
     let rows : List Row = is.loaded.rows in
     let are = left_desk s left in
-    by are (listed_as s told rows are tells is.loaded.listed is.loaded.order)
+    by are (left_rows s told rows are tells is.loaded.listed is.loaded.order)
   where
-    by : AreOfDesk (records_of s) → (is.loaded.rows ≡ map row_of (records_of s)) ⊎ ((is.loaded.rows ≡ []) × (s ≡ start s.tables)) → b.state ≡ reopened (under tables s)
-    by are (inl same) =
+    by : AreOfDesk (records_of s) → AreLeft s is.loaded.rows → b.state ≡ reopened (under tables s)
+    by are (of_records version rows) =
         ap (λ (x : Shown). x.state) is.shows
-        ∙ ap (λ (rs : List Record). reopened (state_in tables rs)) (desk_records (records_of s) is.records are (subst (λ (rows : List Row). IsDesk rows is.records) same is.loaded.has))
+        ∙ ap (λ (rs : List Record). reopened (state_in tables rs)) (desk_records version is.loaded.rows (records_of s) is.records rows.named rows.are is.loaded.has.desk)
         ∙ ap (λ (t : State). reopened t) (state_again left.opening s left.board tables)
-    by are (inr none) =
+    by are (of_none none at_first) =
         ap (λ (x : Shown). x.state) is.shows
-        ∙ ap (λ (rs : List Record). reopened (state_in tables rs)) (no_records is.records (is.loaded.has.are.made ∙ none.0))
-        ∙ ap (λ (t : State). reopened t) (at_start tables ∙ sym (ap (λ (t : State). under tables t) none.1))
+        ∙ ap (λ (rs : List Record). reopened (state_in tables rs)) (no_records (version_of is.loaded.rows) is.records (is.loaded.has.desk.are.made ∙ none))
+        ∙ ap (λ (t : State). reopened t) (at_start tables ∙ sym (ap (λ (t : State). under tables t) at_first))
 
 -- ---- no fault of rows
 
-no_fault : (s : State) (told : Rows) (rows : List Row) (P : List Row → Type 0) → IsLeft s → TellsRowsOf (Some told) s → AreOfDesk (records_of s)
-    → (rows ≡ map row_of (records_of s)) ⊎ ((rows ≡ []) × (s ≡ start s.tables)) → P rows → ((rs : List Record) → AreOfDesk rs → P (map row_of rs) → ⊥) → ⊥
-no_fault s told rows P left tells are (inl same) has never = never (records_of s) are (subst P same has)
-no_fault s told rows P left tells are (inr none) has never = never [] none_of_desk (subst P none.0 has)
+no_fault : (s : State) (told : Rows) (rows : List Row) (P : List Row → Type 0) → AreOfDesk (records_of s) → AreLeft s rows → P rows
+    → ((version : Version) (xs : List Row) (rs : List Record) → AreOfDesk rs → AreRowsIn version xs rs → P xs → ⊥) → ⊥
+no_fault s told rows P are (of_records version left) has never = never version rows (records_of s) are left has
+no_fault s told rows P are (of_none none at_first) has never = never Second [] [] none_of_desk (second_rows [] none_of_desk) (subst P none has)
 
 left_why : (told : Option Rows) (rose : Type 0) (s : State) (why : OpenWhy) → IsLeft s → TellsRowsOf told s → IsWhy told rose why → IsOfKeeper rose why
 left_why told rose s KeeperFault left tells is = is
@@ -71,10 +97,10 @@ left_why None rose s (BadRow row why) left tells is = absurd tells
 left_why None rose s (BadPair one two) left tells is = absurd tells
 left_why (Some told) rose s (BadRow row why) left tells is =
     let are = left_desk s left in
-    no_fault s told is.rows (λ rows. IsFaultOf rows (fault.BadRow row why)) left tells are (listed_as s told is.rows are tells is.listed is.order) is.has (λ rs desk bad. no_bad_row rs desk row why bad)
+    no_fault s told is.rows (λ rows. IsFaultOf rows (fault.BadRow row why)) are (left_rows s told is.rows are tells is.listed is.order) is.has (λ version rows rs desk in_rows bad. no_bad_row version rows rs desk in_rows row why bad)
 left_why (Some told) rose s (BadPair one two) left tells is =
     let are = left_desk s left in
-    no_fault s told is.rows (λ rows. IsFaultOf rows (fault.BadPair one two)) left tells are (listed_as s told is.rows are tells is.listed is.order) is.has (λ rs desk bad. no_bad_pair rs desk one two bad)
+    no_fault s told is.rows (λ rows. IsFaultOf rows (fault.BadPair one two)) are (left_rows s told is.rows are tells is.listed is.order) is.has (λ version rows rs desk in_rows bad. no_bad_pair version rows rs desk in_rows one two bad)
 
 left_state : (told : Option Rows) (tables : TableRows) (s : State) (b : Shown) → IsLeft s → TellsRowsOf told s → IsOpened told tables b → b.state ≡ reopened (under tables s)
 left_state None tables s b left tells is = absurd tells

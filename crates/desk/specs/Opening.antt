@@ -1,5 +1,5 @@
 -- Which desk is opened over the rows of a keeper, or why none is.
-use Rattle.std.specs.Prelude.{◌≡◌, ◌⊎◌, ◌<◌, ◌≤◌, ℕ, Bool, List, [], ◌∷◌, length, Option, None, Some, IsTrue}
+use Rattle.std.specs.Prelude.{◌≡◌, ◌⊎◌, ◌<◌, ◌≤◌, ℕ, Bool, true, false, List, [], ◌∷◌, length, Option, None, Some, IsTrue}
 use Rattle.board.specs.Prepare.{Shown, shown}
 use Rattle.desk_io.specs.Planned.{after}
 use Rattle.desk_io.specs.Rows.{Rows}
@@ -11,12 +11,13 @@ use Rattle.desk_io.specs.declared.rows.Row.{Row}
 use Rattle.keeper.specs.Kept.{Lists}
 use Rattle.keeper.specs.Order.{rising}
 use Rattle.keeper.specs.declared.keeping.KeepFault.{KeepFault}
-use Rattle.kept_state.specs.Rows.{AreKept}
+use Rattle.kept_state.specs.Rows.{AreKept, AreOldRows}
 use Rattle.desk_state.specs.Sound.{IsBoard}
 use Rattle.desk_state.specs.State.{State}
 use Rattle.keeper.specs.declared.keeping.KeepFault.TheVariants as keep
 use Rattle.ops_tables.specs.Tables.{TableRows}
 use Rattle.records.specs.Checks.{IsDesk, IsFaultOf}
+use Rattle.records.specs.Reading.{are_old}
 use Rattle.records.specs.declared.faults.RowsFault.{RowsFault}
 use Rattle.records.specs.declared.faults.RowsFault.TheVariants as fault
 use Rattle.records.specs.declared.record.Record.{Record}
@@ -63,9 +64,14 @@ IsOfKeeper rose (BadRow row why) = ⊥
 IsOfKeeper rose (BadPair one two) = ⊥
 IsOfKeeper rose OutOfMemory = Unit {0}
 
--- the records of rows that were loaded, which are those of a desk
-abbrev pub AreLoaded : Option Rows → List Record → Type 0
-AreLoaded told records = OnLoaded told (λ rows. IsDesk rows records)
+-- the records of these rows by their version, which are those of a desk, and whether that is the first
+pub record IsRead (records : List Record) (old : Bool) (rows : List Row) : Type 0 where
+  pub desk : IsDesk rows records
+  pub first : old ≡ are_old rows
+
+-- the same of rows that were loaded
+abbrev pub AreLoaded : Option Rows → List Record → Bool → Type 0
+AreLoaded told records old = OnLoaded told (IsRead records old)
 
 -- The state of a board, short of the limits on kept replies and on events.
 pub record IsLeft (s : State) : Type 0 where
@@ -74,10 +80,10 @@ pub record IsLeft (s : State) : Type 0 where
   pub few : length s.kept ≤ 800_000
   pub room : s.counters.events < 999_999_999_999_999
 
--- rows are told, and they are kept for a state
+-- rows are told, and they are kept for a state, or are its rows in the first version
 abbrev pub TellsRowsOf : Option Rows → State → Type 0
 TellsRowsOf None s = ⊥
-TellsRowsOf (Some rows) s = AreKept rows s
+TellsRowsOf (Some rows) s = AreKept rows s ⊎ AreOldRows rows s
 
 -- a state under some tables, without its history
 abbrev pub under : TableRows → State → State
@@ -94,20 +100,22 @@ abbrev pub commits_for : List Change → ℕ → ℕ
 commits_for [] n = n
 commits_for (change ∷ changes) n = after n
 
--- one, where an alert changed by the judgement
-abbrev pub commits_where : List AlertChange → ℕ → ℕ
-commits_where [] n = n
-commits_where (change ∷ changes) n = after n
+-- one, where the rows are of the first version, or an alert changed by the judgement
+abbrev pub commits_where : Bool → List AlertChange → ℕ → ℕ
+commits_where true changes n = after n
+commits_where false [] n = n
+commits_where false (change ∷ changes) n = after n
 
--- the count of commits after the board of records is opened
-abbrev pub commits_to_open : TableRows → List Record → ℕ → ℕ
-commits_to_open tables records n = commits_where (alert_changes nothing (state_in tables records)) n
+-- the count of commits after the board of records is opened, whose rows are of the first version or aren't
+abbrev pub commits_to_open : TableRows → List Record → Bool → ℕ → ℕ
+commits_to_open tables records old n = commits_where old (alert_changes nothing (state_in tables records)) n
 
 -- the same, of the records of the rows that were loaded
 pub record AreAsked (told : Option Rows) (tables : TableRows) (before now : ℕ) : Type 0 where
   pub records : List Record
-  pub loaded : AreLoaded told records
-  pub asked : now ≡ commits_to_open tables records before
+  pub old : Bool
+  pub loaded : AreLoaded told records old
+  pub asked : now ≡ commits_to_open tables records old before
 
 -- where no desk is opened: nothing was asked, or the one commit of opening
 abbrev pub MayHaveAsked : Option Rows → TableRows → ℕ → ℕ → Type 0
@@ -116,5 +124,6 @@ MayHaveAsked told tables before now = (now ≡ before) ⊎ AreAsked told tables 
 -- the board of the rows that were loaded
 pub record IsOpened (told : Option Rows) (tables : TableRows) (board : Shown) : Type 0 where
   pub records : List Record
-  pub loaded : AreLoaded told records
+  pub old : Bool
+  pub loaded : AreLoaded told records old
   pub shows : board ≡ board_of tables records board.listed

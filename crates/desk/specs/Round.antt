@@ -65,6 +65,7 @@ no_tables = record {
   mel = [];
   pairs = [];
   actors = [];
+  hours = [];
 }
 
 abbrev no_keeper : KeeperSeen

@@ -10,6 +10,7 @@ ghost use Rattle.desk.specs.Shown.{IsShown};
 
 use crate::settling::Desk;
 use crate::turns::outcome;
+use asks::HeldCall;
 use bells::Bell;
 use desk_io::{LineFeeds, OutOfMemory, Run, runs_between};
 use desk_json::{CallFault, read_line};
@@ -44,7 +45,10 @@ pub(crate) fn read_item(alloc: Global, line: &[u8]) -> Result<Item, OutOfMemory>
     ensures form { IfOk result IsAskable }
 {
     match read_line(alloc, line) {
-        Ok((at, call)) => Ok(Item::Call { at, call }),
+        Ok((at, call)) => Ok(Item::Call {
+            at,
+            call: HeldCall::of(alloc, call)?,
+        }),
         Err(CallFault::Bad(fault)) => Ok(Item::Bad(fault)),
         Err(CallFault::OutOfMemory) => Err(OutOfMemory),
     }

@@ -10,7 +10,7 @@ ghost use Rattle.made_items.specs.Calls.{Came};
 use crate::gates::Gate;
 use crate::run::{answer_passed, outcome_of};
 use crate::settling::Desk;
-use asks::{Call, Done, Reply};
+use asks::{Call, Done, HeldCall, Reply};
 use bells::Bell;
 use board::Board;
 use desk_io::{OutOfMemory, push_all};
@@ -77,7 +77,10 @@ fn answer_made<K: Keeper, B: Bell, G: Gate, L: Ledger>(
     ensures err { OnErr result (MayHaveBegun 1 (made_item call) desk.old.board.state desk.new.board.state) }
     ensures on { DeskGoesOn (desk_seen K.seen B.seen desk.old) (desk_seen K.seen B.seen desk.new) }
 {
-    let item = Item::Call { at: MADE_AT, call };
+    let item = Item::Call {
+        at: MADE_AT,
+        call: HeldCall::of(alloc, call)?,
+    };
     let answered = answer_passed(alloc, desk, &item, number, gate, steps)?;
     Ok(outcome_of(answered))
 }

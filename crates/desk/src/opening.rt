@@ -6,8 +6,7 @@ ghost use Rattle.keeper.specs.Kept.{AreSame, Lists, Leads};
 ghost use Rattle.keeper.specs.Order.{rising};
 ghost use Rattle.keeper.specs.Seen.{KeeperGoesOn};
 ghost use Rattle.kept_state.specs.Rows.{AreKept};
-ghost use Rattle.records.specs.Bodies.{row_of};
-ghost use Rattle.records.specs.Checks.{IsDesk};
+ghost use Rattle.records.specs.Checks.{IsChecked};
 ghost use Rattle.desk_state.specs.State.{State};
 ghost use Rattle.kept_state.specs.Held.{AreOfDesk};
 ghost use Rattle.kept_state.specs.Opening.{reopened};
@@ -23,7 +22,7 @@ use board::{Board, Restored};
 use desk_io::{Change, OutOfMemory, Row};
 use keeper::{KeepFault, Keeper};
 use ops_tables::Tables;
-use records::{Record, RowWhy, RowsFault, check_rows};
+use records::{Checked, RowWhy, RowsFault, check_rows};
 use rules::Steps;
 use std::alloc::Global;
 use std::sync::ledger::Ledger;
@@ -89,19 +88,19 @@ fn load<K: Keeper>(alloc: Global, keeper: &mut K) -> Result<Vec<Row>, OpenWhy>
     }
 }
 
-fn checked(alloc: Global, rows: &[Row]) -> Result<Vec<Record>, OpenWhy>
-    ensures { MatchResult result (λ records. IsDesk rows.now records.items) (IsOfRows rows.now) }
+fn checked(alloc: Global, rows: &[Row]) -> Result<Checked, OpenWhy>
+    ensures { MatchResult result (IsChecked rows.now) (IsOfRows rows.now) }
 {
     match check_rows(alloc, rows) {
-        Ok(records) => Ok(records),
+        Ok(found) => Ok(found),
         Err(fault) => Err(why_of_rows(fault)),
     }
 }
 
 // The records of the rows that a keeper has.
-fn records_of<K: Keeper>(alloc: Global, keeper: &mut K) -> Result<Vec<Record>, OpenWhy>
-    ensures loaded { IfOk result (λ records. AreLoaded (K.seen keeper.old).rows records.items) }
-    ensures desk { IfOk result (λ records. AreOfDesk records.items) }
+fn records_of<K: Keeper>(alloc: Global, keeper: &mut K) -> Result<Checked, OpenWhy>
+    ensures loaded { IfOk result (λ found. AreLoaded (K.seen keeper.old).rows found.records.items found.is_old) }
+    ensures desk { IfOk result (λ found. AreOfDesk found.records.items) }
     ensures same { (K.seen keeper.new).rows ≡ (K.seen keeper.old).rows }
     ensures why { IfErr result (IsWhy (K.seen keeper.old).rows
         (HasFailed (K.seen keeper.old).health (K.seen keeper.new).health)) }
@@ -159,49 +158,52 @@ fn finish<K: Keeper>(alloc: Global, keeper: &mut K, restored: Restored) -> Resul
 fn restore<K: Keeper, L: Ledger>(
     alloc: Global,
     tables: Tables,
-    records: Vec<Record>,
+    found: Checked,
     keeper: &mut K,
     steps: &mut Steps<L>,
 ) -> Result<Board, OpenWhy>
-    requires loaded { AreLoaded (K.seen keeper.old).rows records.items }
-    requires desk { AreOfDesk records.items }
-    ensures board { IfOk result (λ b. b ≡ board_of tables records.items false) }
+    requires loaded { AreLoaded (K.seen keeper.old).rows found.records.items found.is_old }
+    requires desk { AreOfDesk found.records.items }
+    ensures board { IfOk result (λ b. b ≡ board_of tables found.records.items false) }
     ensures kept { IfOk result (λ b. KeepsState (K.seen keeper.new).rows b.state) }
     ensures err { OnErr result ((K.seen keeper.new).rows ≡ (K.seen keeper.old).rows) }
     ensures why { IfErr result (IsOfKeeper (HasFailed (K.seen keeper.old).health (K.seen keeper.new).health)) }
-    ensures asked { IfOk result (λ b. (K.seen keeper.new).commits ≡ commits_to_open tables records.items
-        (K.seen keeper.old).commits) }
+    ensures asked { IfOk result (λ b. (K.seen keeper.new).commits ≡ commits_to_open tables found.records.items
+        found.is_old (K.seen keeper.old).commits) }
     ensures failed { OnErr result (((K.seen keeper.new).commits ≡ (K.seen keeper.old).commits)
-        ⊎ ((K.seen keeper.new).commits ≡ commits_to_open tables records.items (K.seen keeper.old).commits)) }
+        ⊎ ((K.seen keeper.new).commits ≡ commits_to_open tables found.records.items found.is_old
+        (K.seen keeper.old).commits)) }
     ensures on { KeeperGoesOn (K.seen keeper.old) (K.seen keeper.new) }
 {
-    let restored = Board::restore(alloc, tables, records, steps)?;
+    let Checked { records, is_old } = found;
+    let restored = Board::restore(alloc, tables, records, is_old, steps)?;
     finish(alloc, keeper, restored)
 }
 
 fn open_over<K: Keeper, B: Bell, L: Ledger>(
     alloc: Global,
     tables: Tables,
-    records: Vec<Record>,
+    found: Checked,
     mut keeper: K,
     ringer: Ringer<B>,
     steps: &mut Steps<L>,
 ) -> Result<Desk<K, B>, OpenFault<K, B>>
-    requires loaded { AreLoaded (K.seen keeper).rows records.items }
-    requires desk { AreOfDesk records.items }
-    ensures board { IfOk result (λ d. d.board ≡ board_of tables records.items false) }
+    requires loaded { AreLoaded (K.seen keeper).rows found.records.items found.is_old }
+    requires desk { AreOfDesk found.records.items }
+    ensures board { IfOk result (λ d. d.board ≡ board_of tables found.records.items false) }
     ensures kept { IfOk result (λ d. KeepsState (K.seen d.keeper).rows d.board.state) }
     ensures same { IfErr result (λ f. (K.seen f.keeper).rows ≡ (K.seen keeper).rows) }
     ensures why { IfErr result (λ f. IsOfKeeper (HasFailed (K.seen keeper).health (K.seen f.keeper).health) f.why) }
-    ensures asked { IfOk result (λ d. (K.seen d.keeper).commits ≡ commits_to_open tables records.items
-        (K.seen keeper).commits) }
+    ensures asked { IfOk result (λ d. (K.seen d.keeper).commits ≡ commits_to_open tables found.records.items
+        found.is_old (K.seen keeper).commits) }
     ensures failed { IfErr result (λ f. ((K.seen f.keeper).commits ≡ (K.seen keeper).commits)
-        ⊎ ((K.seen f.keeper).commits ≡ commits_to_open tables records.items (K.seen keeper).commits)) }
+        ⊎ ((K.seen f.keeper).commits ≡ commits_to_open tables found.records.items found.is_old
+        (K.seen keeper).commits)) }
     ensures on { MatchResult result (λ d. KeeperGoesOn (K.seen keeper) (K.seen d.keeper))
         (λ f. KeeperGoesOn (K.seen keeper) (K.seen f.keeper)) }
     ensures ringer { MatchResult result (λ d. d.ringer ≡ ringer) (λ f. f.ringer ≡ ringer) }
 {
-    match restore(alloc, tables, records, &mut keeper, steps) {
+    match restore(alloc, tables, found, &mut keeper, steps) {
         Ok(board) => Ok(Desk {
             board,
             keeper,
@@ -237,7 +239,7 @@ fn open_desk<K: Keeper, B: Bell, L: Ledger>(
     ensures ringer { MatchResult result (λ d. d.ringer ≡ ringer) (λ f. f.ringer ≡ ringer) }
 {
     match records_of(alloc, &mut keeper) {
-        Ok(records) => open_over(alloc, tables, records, keeper, ringer, steps),
+        Ok(found) => open_over(alloc, tables, found, keeper, ringer, steps),
         Err(why) => {
             leave(tables);
             Err(OpenFault {
@@ -250,9 +252,11 @@ fn open_desk<K: Keeper, B: Bell, L: Ledger>(
 }
 
 /// Opens a desk over the rows of a keeper: these are loaded and checked, and the board that they stand for is restored
-/// under the tables. What that changed of the rows is kept. After an error they are as before. No bell is rung.
+/// under the tables. Rows of the first version are rewritten. What that changed of the rows is kept, in one commit.
+/// After an error they are as before. No bell is rung.
 ///
-/// Rows that a desk has left are opened under any tables, and stand for the state in which it left them.
+/// Rows that a desk has left, of either version, are opened under any tables, and stand for the state in which it left
+/// them.
 pub fn open<K: Keeper, B: Bell, L: Ledger>(
     alloc: Global,
     tables: Tables,
@@ -265,7 +269,7 @@ pub fn open<K: Keeper, B: Bell, L: Ledger>(
     ensures same { IfErr result (λ f. (K.seen f.keeper).rows ≡ (K.seen keeper).rows) }
     ensures why { IfErr result (λ f. IsWhy (K.seen keeper).rows
         (HasFailed (K.seen keeper).health (K.seen f.keeper).health) f.why) }
-    // A commit is asked for exactly where an alert changed.
+    // A commit is asked for exactly where an alert changed, or the rows are of the first version.
     ensures asked { IfOk result (λ d. AreAsked (K.seen keeper).rows tables (K.seen keeper).commits
         (K.seen d.keeper).commits) }
     // Where none is opened, no more was asked for than that.

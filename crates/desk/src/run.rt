@@ -60,7 +60,7 @@ pub(crate) fn answer_item<K: Keeper, B: Bell, L: Ledger>(
     ensures on { DeskGoesOn (desk_seen K.seen B.seen desk.old) (desk_seen K.seen B.seen desk.new) }
 {
     match item {
-        Item::Call { at, call } => answer(alloc, desk, lane, *at, call, steps),
+        Item::Call { at, call } => answer(alloc, desk, lane, *at, call.get(), steps),
         Item::Bad(fault) => bad_line(alloc, &desk.board, fault),
     }
 }

@@ -9,7 +9,7 @@ use Rattle.codes.specs.Groups.{groups_of, canonical}
 use Rattle.ops_tables.specs.declared.rows.Actor.{Actor}
 use Rattle.ops_tables.specs.declared.rows.TypeRow.{TypeRow}
 use Rattle.ops_tables.specs.declared.rows.MelRow.{MelRow}
-use Rattle.ops_tables.specs.Tables.{actor_of, type_of, item_of, has_airport}
+use Rattle.ops_tables.specs.Tables.{actor_of, type_of, item_of, has_airport, is_captain_role}
 use Rattle.deferrals.specs.Held.{has_id}
 use Rattle.facts.specs.Same.{is_same, same_id, minute_of_read, station_of_read, minute_of_report}
 use Rattle.facts.specs.declared.report.Report.{Report}
@@ -19,7 +19,7 @@ use Rattle.codes.specs.declared.fault.BadReport.{BadReport}
 use Rattle.alerts.specs.declared.alert.Alert.{Alert}
 use Rattle.stations.specs.Station.{Station}
 use Rattle.plan.specs.Change.{change_fault}
-use Rattle.plan.specs.Check.{plan_fault, is_captain_role}
+use Rattle.plan.specs.Check.{plan_fault}
 use Rattle.release_text.specs.Revisions.{revision_digest}
 use Rattle.release_text.specs.Weather.{newer_than}
 use Rattle.rules.specs.Grounds.{Grounds}
@@ -59,6 +59,7 @@ use Rattle.desk_state.specs.People.{not_his_role}
 use Rattle.plan.specs.Phases.{is_flying}
 use Rattle.desk_state.specs.Decide as d
 use Rattle.desk_state.specs.Decide.{decide}
+use Rattle.desk_state.specs.Hours.{captain_hours}
 use Rattle.desk_state.specs.Allowed.{MaySign, GainsDispatcher, GainsCaptain, GainsWeather, BothAre, IsPreparing, IsSigning, IsReleased, IsConcurring, HasNotEnded, IsCancelling, IsNextRevision, IsAmending, HasMore, HasNoMore, has_text, IsNextLeg, IsCaptainOf, FliesAs, FliesBy, IsDeparting, IsStopping, IsCompleting, IsInVersion, IsAcknowledging, OfHeld, IsListed, IsEffectOf, admits, defers, clears, drafts, prepares, signs, concurs, amends, cancels, departs, stops, completes, acknowledges, purges, sweeps, HasEndedAt, AskedOf, IsShownTo, IsAnswer, IsUnused, DecisionOf, IsSweeping, IsFull}
 use Rattle.desk_io.proofs.Bytes.{same_bytes}
 
@@ -169,7 +170,7 @@ preparing s q v actor e own = record {
   phase = refl;
   active = refl;
   pending = both_are (GainsWeather s q) q.pending v (d.with_weather s q.phase v) e
-      (record { number = refl; plan = refl; prepared = refl; attached = refl; dispatcher = refl; captain = refl });
+      (record { number = refl; plan = refl; prepared = refl; attached = refl; dispatcher = refl; captain = refl; hours = refl });
 }
 
 signing : (s : State) (q : Release) (v : Revision) (actor : List ℕ) (number : ℕ) (digest : List ℕ) → q.pending ≡ Some v → q.holder ≡ actor → MaySign s number digest q v → v.dispatcher ≡ None
@@ -180,24 +181,24 @@ signing s q v actor number digest e own may unsigned = record {
   phase = refl;
   active = refl;
   pending = both_are (GainsDispatcher s actor number digest q) q.pending v (record v { dispatcher = Some (d.signed_by actor s.moment digest) }) e
-      (record { may = may; unsigned = unsigned; same = record { number = refl; plan = refl; prepared = refl; attached = refl }; dispatcher = (refl, refl, refl); captain = refl });
+      (record { may = may; unsigned = unsigned; same = record { number = refl; plan = refl; prepared = refl; attached = refl }; dispatcher = (refl, refl, refl); captain = refl; hours = refl });
 }
 
 concurring : (s : State) (q : Release) (v : Revision) (actor : List ℕ) (number : ℕ) (digest : List ℕ) → q.pending ≡ Some v → v.plan.captain ≡ actor → MaySign s number digest q v
-    → v.dispatcher ≢ None → IsConcurring s actor number digest q (d.made_active q v (d.signed_by actor s.moment digest))
+    → v.dispatcher ≢ None → IsConcurring s actor number digest q (d.made_active q v (d.signed_by actor s.moment digest) (captain_hours s.tables v.plan))
 concurring s q v actor number digest e own may signed = record {
   same = record { id = refl; holder = refl };
   phase = released q.phase;
-  active = both_are (GainsCaptain s actor number digest q) q.pending v (record v { captain = Some (d.signed_by actor s.moment digest) }) e
-      (record { may = may; signed = signed; own = own; same = record { number = refl; plan = refl; prepared = refl; attached = refl }; dispatcher = refl; captain = (refl, refl, refl) });
+  active = both_are (GainsCaptain s actor number digest q) q.pending v (d.with_captain v (d.signed_by actor s.moment digest) (captain_hours s.tables v.plan)) e
+      (record { may = may; signed = signed; own = own; same = record { number = refl; plan = refl; prepared = refl; attached = refl }; dispatcher = refl; captain = (refl, refl, refl); hours = refl });
   pending = refl;
 }
 
 next_revision : (s : State) (plan : Plan) (phase : Phase) (pending active : Option Revision) → (newest pending active ≡ None → ⊥) → plan_fault s.tables plan ≡ None
     → d.bad_change plan (newest pending active) phase ≡ None
     → IsNextRevision s plan phase pending active (Some (d.fresh_revision (revision_number (newest pending active) + 1) plan)) (revision_number (newest pending active) + 1)
-next_revision s plan phase (Some v) active there passes follows = (record { passes = passes; follows = good_change plan v phase follows }, refl, (refl, refl, refl, refl, refl, refl))
-next_revision s plan phase None (Some v) there passes follows = (record { passes = passes; follows = good_change plan v phase follows }, refl, (refl, refl, refl, refl, refl, refl))
+next_revision s plan phase (Some v) active there passes follows = (record { passes = passes; follows = good_change plan v phase follows }, refl, (refl, refl, refl, refl, refl, refl, refl))
+next_revision s plan phase None (Some v) there passes follows = (record { passes = passes; follows = good_change plan v phase follows }, refl, (refl, refl, refl, refl, refl, refl, refl))
 next_revision s plan phase None None there passes follows = absurd (there refl)
 
 amending : (s : State) (q : Release) (plan : Plan) (actor : List ℕ) → (newest q.pending q.active ≡ None → ⊥) → q.holder ≡ actor → HasNotEnded q.phase
@@ -349,7 +350,7 @@ draft s actor plan =
       is_new = refl;
       holder = refl;
       phase = refl;
-      pending = (refl, refl, refl, refl, refl, refl);
+      pending = (refl, refl, refl, refl, refl, refl, refl);
       active = refl;
     })))
 

@@ -11,11 +11,11 @@ use Rattle.codes.specs.declared.fault.Why.TheVariants as why
 use Rattle.facts.specs.Same.{same_id, minute_of_read, station_of_read}
 use Rattle.facts.specs.Reading.{read_of}
 use Rattle.facts.specs.declared.report.Read.{Read}
-use Rattle.ops_tables.specs.Tables.{TableRows, actor_of, tail_named, type_of}
+use Rattle.ops_tables.specs.Tables.{TableRows, actor_of, has_captain, tail_named, type_of}
 use Rattle.ops_tables.specs.declared.rows.Actor.{Actor}
 use Rattle.plan.proofs.ChangeLaws.{may_follow}
 use Rattle.plan.specs.Change.{change_fault, MayFollow}
-use Rattle.plan.specs.Check.{fault_or, first_fault, has_legs, is_captain, plan_fault, whole_fault, IsPlan}
+use Rattle.plan.specs.Check.{fault_or, first_fault, has_legs, plan_fault, whole_fault, IsPlan}
 use Rattle.plan.specs.Phases.{PhaseFits, is_flying}
 use Rattle.plan.specs.declared.check.PlanWhy.{PlanWhy}
 use Rattle.plan.specs.declared.check.PlanWhy.TheVariants.{UnknownTail, UnknownCaptain, Count}
@@ -41,6 +41,7 @@ use Rattle.asks.specs.declared.reply.Refusal.TheVariants.{NumberReused}
 use Rattle.call_json.specs.Canonical.{ask_digest}
 use Rattle.call_json.specs.Forms.{CallHasForms}
 use Rattle.call_json.proofs.AskForms.{call_from_forms}
+use Rattle.desk_state.specs.Hours.{captain_hours}
 use Rattle.desk_state.specs.declared.effect.Decision.{Decision}
 use Rattle.desk_state.specs.declared.effect.Decision.TheVariants.{Show}
 use Rattle.desk_state.specs.Requests.{kept_at, floor_at}
@@ -152,8 +153,8 @@ has_a_leg : (tables : TableRows) (plan : Plan) → plan_fault tables plan ≡ No
 unfolding plan_fault
 has_a_leg tables plan e =
     leb-true 1 (length plan.legs)
-    (and_parts (nat_le 1 (length plan.legs)) (nat_le (length plan.legs) 5)
-    (count_by (is_some (tail_named tables plan.tail)) (is_captain (actor_of tables plan.captain)) (has_legs plan)
+    (and_parts (nat_le 1 (length plan.legs)) (nat_le (length plan.legs) 8)
+    (count_by (is_some (tail_named tables plan.tail)) (has_captain tables plan.captain) (has_legs plan)
     (whole_first (whole_fault tables plan) (first_fault tables 1 None plan.legs) e))).0
 
 -- What releases become.
@@ -252,22 +253,22 @@ pending_fits s r v w is same waits legs bounds = record {
 
 prepared_fits : (s : State) (r : Release) (v : Revision) → IsPending s r v → MayReplace s (d.prepared s r v)
 prepared_fits s r v is =
-    pending_fits s r v (d.with_weather s r.phase v) is refl (record { captain = refl; dispatcher = tt }) (record { some = is.legs.some; fits = is.legs.fits })
+    pending_fits s r v (d.with_weather s r.phase v) is refl (record { captain = refl; hours = refl; dispatcher = tt }) (record { some = is.legs.some; fits = is.legs.fits })
     (record { is_plan = is.bounds.is_plan; dispatcher = tt; captain = tt })
 
 signed_fits : (s : State) (r : Release) (v : Revision) (signature : Signature) → IsMoment signature.at → v.prepared ≡ true → signature.digest ≡ revision_digest v → IsPending s r v
     → MayReplace s (d.with_dispatcher r v signature)
 signed_fits s r v signature shown prepared on is =
-    pending_fits s r v (record v { dispatcher = Some signature }) is refl (record { captain = is.waits.captain; dispatcher = (prepared, on) }) (record { some = is.legs.some; fits = is.legs.fits })
+    pending_fits s r v (record v { dispatcher = Some signature }) is refl (record { captain = is.waits.captain; hours = is.waits.hours; dispatcher = (prepared, on) }) (record { some = is.legs.some; fits = is.legs.fits })
     (record { is_plan = is.bounds.is_plan; dispatcher = shown; captain = is.bounds.captain })
 
-active_fits : (s : State) (r : Release) (v : Revision) (signature : Signature) → IsMoment signature.at → v.prepared ≡ true → signature.digest ≡ revision_digest v → IsPending s r v
-    → IsSigned v v.dispatcher → MayReplace s (d.made_active r v signature)
-active_fits s r v signature shown prepared on is signed = record {
+active_fits : (s : State) (r : Release) (v : Revision) (signature : Signature) (hours : ℕ) → IsMoment signature.at → v.prepared ≡ true → signature.digest ≡ revision_digest v → IsPending s r v
+    → IsSigned v v.dispatcher → MayReplace s (d.made_active r v signature hours)
+active_fits s r v signature hours shown prepared on is signed = record {
   fits = record {
     stands = record {
       valid = record {
-        phased = active_phased r.phase (record v { captain = Some signature });
+        phased = active_phased r.phase (d.with_captain v signature hours);
         both = record { prepared = prepared; dispatcher = signed; captain = on };
         waits = tt;
         numbered = tt;
@@ -425,7 +426,7 @@ amended_fits s r plan is form may passes follows =
           valid = record {
             phased = amend_phased r.phase w r.pending r.active may is.fits.stands.valid.phased;
             both = is.fits.stands.valid.both;
-            waits = record { captain = refl; dispatcher = tt };
+            waits = record { captain = refl; hours = refl; dispatcher = tt };
             numbered = amend_numbered w r.pending r.active refl is.fits.stands.valid.numbered;
             pending_legs = record {
               some = has_a_leg s.tables plan passes;
@@ -534,7 +535,7 @@ drafted_fits s actor plan form passes few = record {
       valid = record {
         phased = (tt, tt);
         both = tt;
-        waits = record { captain = refl; dispatcher = tt };
+        waits = record { captain = refl; hours = refl; dispatcher = tt };
         numbered = tt;
         pending_legs = record { some = has_a_leg s.tables plan passes; fits = tt };
         active_legs = tt;
@@ -585,7 +586,7 @@ concur s actor id number digest sound kept =
     passed s (d.mistaken_text v digest) _ (if_stops _ _ tt) (λ on.
     passed s (d.outdated s r v) _ (newer_stops _) (λ g.
     passed s (d.fails s r v) _ (failing_stops _) (λ h.
-    put_afresh_fits s _ (active_fits s r v (d.signed_by actor s.moment digest) kept.moment (so v.prepared _ ready) (on_text v digest on) is (signed_once v v.dispatcher is.waits.dispatcher e)))))))))))
+    put_afresh_fits s _ (active_fits s r v (d.signed_by actor s.moment digest) (captain_hours s.tables v.plan) kept.moment (so v.prepared _ ready) (on_text v digest on) is (signed_once v v.dispatcher is.waits.dispatcher e)))))))))))
 
 amend : (s : State) (actor : List ℕ) (id : ℕ) (plan : Plan) → Sound s → InBounds s → IsPlan plan → DecisionFits s (d.decide_amend s actor id plan)
 amend s actor id plan sound kept form =

@@ -9,12 +9,14 @@ use Rattle.facts.specs.Swept.{stays, leaving}
 use Rattle.desk_state.specs.Formed.{ReportHasForms, DeferralHasForms, AreFormed, ReplyHasForms}
 use Rattle.desk_state.proofs.DigestForms.{revision_digest_formed}
 use Rattle.desk_state.proofs.FloorForms.{raised_formed, raised_rise}
+use Rattle.desk_state.proofs.HoursLaws.{captain_small, hours_formed, no_hours, same_hours}
 use Rattle.desk_state.proofs.NameForms.{deferred_formed}
 use Rattle.desk_state.proofs.ReportForms.{MayAttach, may_attach, attached_formed, received_formed}
 use Rattle.desk_state.specs.Allowed.{IsEffectOf, admits, defers, clears, drafts, prepares, signs, concurs, amends, cancels, departs, stops, completes, acknowledges, sweeps, purges, IsSignedBy, GainsDispatcher, GainsCaptain, GainsWeather, BothAre, IsPreparing, IsSigning, IsReleased, IsConcurring, IsCancelling, IsFresh, IsDrafted, IsNextRevision, IsAmending, IsDeparting, IsStopping, IsCompleting, IsSweeping, OfHeld}
 use Rattle.desk_state.specs.Decide.{attached_reports, reports_before}
 use Rattle.desk_state.specs.Effects as effect
 use Rattle.desk_state.specs.Events.{is_since}
+use Rattle.desk_state.specs.Hours.{captain_hours}
 use Rattle.desk_state.specs.Requests.{kept_before}
 use Rattle.desk_state.specs.Sound.{Sound, IsWithin, MayStand, InBounds, Rise}
 use Rattle.desk_state.specs.State.{State, release_at}
@@ -28,6 +30,7 @@ use Rattle.desk_state.proofs.Each.{found_each}
 use Rattle.desk_state.proofs.Judging.{rise_bound}
 use Rattle.desk_state.proofs.Parts.{filter_each, filter_shorter}
 use Rattle.ops_tables.specs.Forms.{is_person}
+use Rattle.ops_tables.specs.Named.{AreNamed}
 use Rattle.plan.specs.Texts.{HasMoment}
 use Rattle.desk_time.specs.Limits.{IsMoment}
 use Rattle.plan.specs.declared.flights.Plan.{Plan}
@@ -131,6 +134,7 @@ weather_formed s q v w all gains was = record {
   attached = subst (AllByRecursion IsAttached) (sym gains.attached) (attached_formed s.reports v.plan q.phase all);
   dispatcher = no_signature w.dispatcher gains.dispatcher;
   captain = no_signature w.captain gains.captain;
+  hours = no_hours w.hours gains.hours;
 }
 
 dispatcher_formed : (s : State) (actor : List ℕ) (number : ℕ) (digest : List ℕ) (q : Release) (v w : Revision) → is_person actor ≡ true → IsMoment s.moment → IsDigest digest
@@ -141,16 +145,18 @@ dispatcher_formed s actor number digest q v w person shown is_digest gains was =
   attached = subst (AllByRecursion IsAttached) (sym gains.same.attached) was.attached;
   dispatcher = signed_formed actor s.moment digest w.dispatcher person shown is_digest gains.dispatcher;
   captain = same_signature w.captain v.captain gains.captain was.captain;
+  hours = same_hours w.hours v.hours gains.hours was.hours;
 }
 
-captain_formed : (s : State) (actor : List ℕ) (number : ℕ) (digest : List ℕ) (q : Release) (v w : Revision) → is_person actor ≡ true → IsMoment s.moment → IsDigest digest
+captain_formed : (s : State) (actor : List ℕ) (number : ℕ) (digest : List ℕ) (q : Release) (v w : Revision) → is_person actor ≡ true → IsMoment s.moment → IsDigest digest → AreNamed s.tables
     → GainsCaptain s actor number digest q v w → IsRevision v → IsRevision w
-captain_formed s actor number digest q v w person shown is_digest gains was = record {
+captain_formed s actor number digest q v w person shown is_digest named gains was = record {
   number = subst IsId (sym gains.same.number) was.number;
   plan = subst HasForms (sym gains.same.plan) was.plan;
   attached = subst (AllByRecursion IsAttached) (sym gains.same.attached) was.attached;
   dispatcher = same_signature w.dispatcher v.dispatcher gains.dispatcher was.dispatcher;
   captain = signed_formed actor s.moment digest w.captain person shown is_digest gains.captain;
+  hours = hours_formed w.hours (captain_hours s.tables v.plan) gains.hours (captain_small s.tables v.plan named);
 }
 
 fresh_formed : (number : ℕ) (plan : Plan) (o : Option Revision) → IsId number → HasForms plan → IsFresh number plan o → IfSome o IsRevision
@@ -161,6 +167,7 @@ fresh_formed number plan (Some v) low has is = record {
   attached = subst (AllByRecursion IsAttached) (sym is.3) tt;
   dispatcher = no_signature v.dispatcher is.4;
   captain = no_signature v.captain is.5;
+  hours = no_hours v.hours is.6;
 }
 
 -- the number of a revision that takes the place of another
@@ -213,7 +220,7 @@ concurring_formed s actor number digest q r stands person is_digest held is = re
   moment = released_moment q.phase r.phase is.phase held.formed.moment;
   pending = none_revision r.pending is.pending;
   active = both_formed (GainsCaptain s actor number digest q) q.pending r.active
-      (λ v w gains was. captain_formed s actor number digest q v w person stands.bounds.moment is_digest gains was) is.active held.formed.pending;
+      (λ v w gains was. captain_formed s actor number digest q v w person stands.bounds.moment is_digest stands.formed.names gains was) is.active held.formed.pending;
 }
 
 drafted_formed : (s : State) (actor : List ℕ) (plan : Plan) (r : Release) → is_person actor ≡ true → HasForms plan → IsDrafted s actor plan r → IsFormed r

@@ -24,6 +24,7 @@ pub mod AlertForms
 pub mod FloorForms
 pub mod DigestForms
 pub mod NameForms
+pub mod HoursLaws
 pub mod EffectForms
 pub mod ReportForms
 pub mod FormLaws

@@ -25,7 +25,7 @@ found_by : {A : Type 0} (P : A → Type 0) (p : A → Bool) (x : A) (b : Bool) (
 found_by P p x true o e here later = (here, e)
 found_by P p x false o e here later = later
 
-found_has : {A : Type 0} (P : A → Type 0) (p : A → Bool) (xs : List A) → AllByRecursion P xs → IfSome (find p xs) (λ y. P y × (p y ≡ true))
+pub found_has : {A : Type 0} (P : A → Type 0) (p : A → Bool) (xs : List A) → AllByRecursion P xs → IfSome (find p xs) (λ y. P y × (p y ≡ true))
 found_has P p [] all = tt
 found_has P p (x ∷ xs) all = found_by P p x (p x) (find p xs) refl all.0 (found_has P p xs all.1)
 

@@ -43,6 +43,7 @@ use Rattle.desk_state.specs.declared.entry.What.TheVariants as what
 use Rattle.desk_state.specs.State.{State, grounds_of, failing_of, release_at, alert_at}
 use Rattle.desk_state.specs.Events.{effected, moment_after, reports_after, reports_swept, deferrals_after, releases_after, kept_after, floors_after}
 use Rattle.desk_state.specs.Decide.{once_signed, kept_until, attached_reports, reports_before}
+use Rattle.desk_state.specs.Hours.{captain_hours}
 use Rattle.desk_state.specs.Requests.{kept_at, floor_at, raised_by, kept_before}
 use Rattle.call_json.specs.Canonical.{ask_digest}
 use Rattle.asks.specs.declared.kept.Floor.{Floor}
@@ -82,8 +83,10 @@ pub record GainsDispatcher (s : State) (actor : List ℕ) (asked : ℕ) (digest 
   pub same : IsSameText v w
   pub dispatcher : IsSignedBy actor s.moment digest w.dispatcher
   pub captain : w.captain ≡ v.captain
+  pub hours : w.hours ≡ v.hours
 
--- a revision that gets the captain's signature, after the dispatcher's: no other part changes
+-- A revision that gets the captain's signature, after the dispatcher's, and the hours that the tables say of him in its
+-- type: no other part changes.
 pub record GainsCaptain (s : State) (actor : List ℕ) (asked : ℕ) (digest : List ℕ) (q : Release) (v w : Revision) : Type 0 where
   pub may : MaySign s asked digest q v
   pub signed : v.dispatcher ≢ None
@@ -91,6 +94,7 @@ pub record GainsCaptain (s : State) (actor : List ℕ) (asked : ℕ) (digest : L
   pub same : IsSameText v w
   pub dispatcher : w.dispatcher ≡ v.dispatcher
   pub captain : IsSignedBy actor s.moment digest w.captain
+  pub hours : w.hours ≡ Some (captain_hours s.tables v.plan)
 
 -- a revision that gets the latest weather, and loses the signatures on its earlier text
 pub record GainsWeather (s : State) (q : Release) (v w : Revision) : Type 0 where
@@ -100,6 +104,7 @@ pub record GainsWeather (s : State) (q : Release) (v w : Revision) : Type 0 wher
   pub attached : w.attached ≡ attached_to s.reports v.plan q.phase
   pub dispatcher : w.dispatcher ≡ None
   pub captain : w.captain ≡ None
+  pub hours : w.hours ≡ None
 
 abbrev pub BothAre : (Revision → Revision → Type 0) → Option Revision → Option Revision → Type 0
 BothAre R None w = ⊥
@@ -161,7 +166,7 @@ pub record IsCancelling (s : State) (actor : List ℕ) (q r : Release) : Type 0 
 -- a revision of a plan under a number, which has no weather, and which nobody has signed
 abbrev pub IsFresh : ℕ → Plan → Option Revision → Type 0
 IsFresh number plan None = ⊥
-IsFresh number plan (Some v) = (v.number ≡ number) × (v.plan ≡ plan) × (v.prepared ≡ false) × (v.attached ≡ []) × (v.dispatcher ≡ None) × (v.captain ≡ None)
+IsFresh number plan (Some v) = (v.number ≡ number) × (v.plan ≡ plan) × (v.prepared ≡ false) × (v.attached ≡ []) × (v.dispatcher ≡ None) × (v.captain ≡ None) × (v.hours ≡ None)
 
 -- a new release of a plan that passes its tests, held by a dispatcher, where fewer than 20,000 are
 pub record IsDrafted (s : State) (actor : List ℕ) (plan : Plan) (r : Release) : Type 0 where

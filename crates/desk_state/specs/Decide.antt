@@ -8,7 +8,7 @@ use Rattle.stations.specs.Station.{Station}
 use Rattle.codes.specs.declared.fault.BadReport.{BadReport}
 use Rattle.codes.specs.declared.fault.Why.{Why}
 use Rattle.codes.specs.declared.fault.Why.TheVariants as why
-use Rattle.ops_tables.specs.Tables.{has_airport, type_of, item_of, actor_of}
+use Rattle.ops_tables.specs.Tables.{has_airport, type_of, item_of, actor_of, is_captain_role}
 use Rattle.ops_tables.specs.declared.rows.Actor.{Actor}
 use Rattle.ops_tables.specs.declared.rows.TypeRow.{TypeRow}
 use Rattle.alerts.specs.declared.alert.Alert.{Alert}
@@ -23,7 +23,7 @@ use Rattle.facts.specs.Swept.{leaving}
 use Rattle.asks.specs.declared.kept.KeptReply.{KeptReply}
 use Rattle.call_json.specs.Canonical.{ask_digest}
 use Rattle.plan.specs.Change.{change_fault}
-use Rattle.plan.specs.Check.{is_captain_role, plan_fault}
+use Rattle.plan.specs.Check.{plan_fault}
 use Rattle.plan.specs.declared.check.BadPlan.{BadPlan}
 use Rattle.plan.specs.declared.flights.Plan.{Plan}
 use Rattle.plan.specs.declared.findings.Finding.{Finding}
@@ -43,6 +43,7 @@ use Rattle.asks.specs.declared.reply.Reply.TheVariants.{Done, Seen}
 use Rattle.release_text.specs.Revisions.{revision_digest}
 use Rattle.release_text.specs.Weather.{attached_to, newer_than}
 use Rattle.rules.specs.Judgement.{findings_of}
+use Rattle.desk_state.specs.Hours.{captain_hours}
 use Rattle.desk_state.specs.declared.effect.Decision.{Decision}
 use Rattle.desk_state.specs.declared.effect.Decision.TheVariants.{Show, Do}
 use Rattle.desk_state.specs.Effects as effect
@@ -255,14 +256,14 @@ flies_by (Some person) r = if is_captain_role person.role then captain_or r.acti
 
 -- a revision of a plan, which isn't prepared yet
 abbrev pub fresh_revision : ℕ → Plan → Revision
-fresh_revision number plan = record { number = number; plan = plan; prepared = false; attached = []; dispatcher = None; captain = None }
+fresh_revision number plan = record { number = number; plan = plan; prepared = false; attached = []; dispatcher = None; captain = None; hours = None }
 
 abbrev pub drafted : ℕ → List ℕ → Plan → Release
 drafted id actor plan = record { id = id; holder = actor; phase = Drafted; pending = Some (fresh_revision 1 plan); active = None }
 
 -- a revision with the latest weather, which nobody has signed yet
 abbrev pub with_weather : State → Phase → Revision → Revision
-with_weather s phase v = record v { prepared = true; attached = attached_to s.reports v.plan phase; dispatcher = None; captain = None }
+with_weather s phase v = record v { prepared = true; attached = attached_to s.reports v.plan phase; dispatcher = None; captain = None; hours = None }
 
 abbrev pub prepared : State → Release → Revision → Release
 prepared s r v = record r { pending = Some (with_weather s r.phase v) }
@@ -273,9 +274,13 @@ signed_by actor moment digest = record { actor = actor; at = moment; digest = di
 abbrev pub with_dispatcher : Release → Revision → Signature → Release
 with_dispatcher r v signature = record r { pending = Some (record v { dispatcher = Some signature }) }
 
+-- a revision with its captain's signature, and the hours that he has
+abbrev pub with_captain : Revision → Signature → ℕ → Revision
+with_captain v signature hours = record v { captain = Some signature; hours = Some hours }
+
 -- the pending revision becomes the active one
-abbrev pub made_active : Release → Revision → Signature → Release
-made_active r v signature = record r { phase = once_signed r.phase; pending = None; active = Some (record v { captain = Some signature }) }
+abbrev pub made_active : Release → Revision → Signature → ℕ → Release
+made_active r v signature hours = record r { phase = once_signed r.phase; pending = None; active = Some (with_captain v signature hours) }
 
 -- a plan is pending, in a revision of the next number
 abbrev pub amended : Release → Plan → Release
@@ -355,7 +360,7 @@ decide_concur s actor id number digest =
     held s id >>- λ r. pending r >>- λ v.
     unless (unprepared v) (unless (unsigned v.dispatcher) (unless (not_yours v.plan.captain actor) (unless (misnumbered v number)
     (unless (mistaken_text v digest) (unless (outdated s r v) (unless (fails s r v)
-    (Ok (Do (done.Filed r.id v.number) (effect.put_afresh (made_active r v (signed_by actor s.moment digest)))))))))))
+    (Ok (Do (done.Filed r.id v.number) (effect.put_afresh (made_active r v (signed_by actor s.moment digest) (captain_hours s.tables v.plan)))))))))))
 
 abbrev pub decide_amend : State → List ℕ → ℕ → Plan → Result Decision Refusal
 decide_amend s actor id plan =

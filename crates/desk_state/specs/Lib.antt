@@ -5,6 +5,7 @@ pub mod Requests
 pub mod Texts
 pub mod Chain
 pub mod People
+pub mod Hours
 pub mod Decide
 pub mod Step
 pub mod Legal

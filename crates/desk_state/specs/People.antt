@@ -4,7 +4,7 @@ use Rattle.std.specs.Str.{bytes_eq}
 use Rattle.ops_tables.specs.declared.rows.Actor.{Actor}
 use Rattle.ops_tables.specs.declared.rows.Role.{Role}
 use Rattle.ops_tables.specs.declared.rows.Role.TheVariants.{D, C, F, M, S}
-use Rattle.plan.specs.Check.{is_captain_role}
+use Rattle.ops_tables.specs.Tables.{is_captain_role}
 use Rattle.asks.specs.declared.call.Ask.{Ask}
 use Rattle.asks.specs.declared.call.Ask.TheVariants as ask
 use Rattle.asks.specs.declared.reply.Refusal.{Refusal}

@@ -139,10 +139,16 @@ unfoldable pub pending_text : Option Revision → List ℕ
 pending_text None = []
 pending_text (Some v) = prepared_text v.prepared v
 
-abbrev pub active_head : Revision → List ℕ
-active_head v = concat (codes "ACTIVE " ∷ digest_text v ∷ signature_text v.dispatcher ∷ signature_text v.captain ∷ codes "\n" ∷ [])
+-- a captain's hours
+abbrev pub hours_text : Option ℕ → List ℕ
+hours_text None = codes "-"
+hours_text (Some hours) = decimal hours
 
--- the digest of an active revision, who signed it, and its text
+abbrev pub active_head : Revision → List ℕ
+active_head v =
+    concat (codes "ACTIVE " ∷ digest_text v ∷ signature_text v.dispatcher ∷ signature_text v.captain ∷ codes " HOURS " ∷ hours_text v.hours ∷ codes "\n" ∷ [])
+
+-- the digest of an active revision, who signed it, its captain's hours, and its text
 unfoldable pub active_text : Option Revision → List ℕ
 active_text None = []
 active_text (Some v) = active_head v ++ revision_text v

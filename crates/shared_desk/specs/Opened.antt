@@ -30,6 +30,7 @@ no_tables = record {
   mel = [];
   pairs = [];
   actors = [];
+  hours = [];
 }
 
 abbrev pub no_desk : DeskSeen

@@ -63,7 +63,22 @@ fn push_pending(
     }
 }
 
+// A captain's hours, at the end of a line.
+fn push_hours(alloc: Global, out: &mut Vec<u8>, hours: Option<u32>) -> Result<(), OutOfMemory>
+    ensures { OnOk result (out.new.items ≡ out.old.items ++ concat
+        (codes " HOURS " ∷ spec.hours_text hours ∷ codes "\n" ∷ [])) }
+{
+    match hours {
+        None => push_all(out, &[b" HOURS ", b"-", b"\n"]),
+        Some(hours) => {
+            let text = hours.to_string(alloc)?;
+            push_all(out, &[b" HOURS ", text.as_bytes(), b"\n"])
+        }
+    }
+}
+
 fn push_active_head(
+    alloc: Global,
     out: &mut Vec<u8>,
     revision: &Revision,
     digest: &[u8; 32],
@@ -75,7 +90,7 @@ fn push_active_head(
     push_all(out, &[b"ACTIVE ", &digits_of(digest)])?;
     push_signed_by(out, &revision.dispatcher)?;
     push_signed_by(out, &revision.captain)?;
-    push_all(out, &[b"\n"])
+    push_hours(alloc, out, revision.hours)
 }
 
 fn push_signed(alloc: Global, out: &mut Vec<u8>, revision: &Revision) -> Result<(), OutOfMemory>
@@ -84,7 +99,7 @@ fn push_signed(alloc: Global, out: &mut Vec<u8>, revision: &Revision) -> Result<
         revision.now)) }
 {
     let written = written_text(alloc, revision)?;
-    push_active_head(out, revision, &written.digest)?;
+    push_active_head(alloc, out, revision, &written.digest)?;
     push_all(out, &[written.text.bytes()])
 }
 
@@ -117,8 +132,8 @@ fn push_head(alloc: Global, out: &mut Vec<u8>, release: &Release) -> Result<(), 
 }
 
 /// A release with the texts of its revisions (14 CFR 121.687): its number and its phase; the digest and the text of
-/// its pending revision, once that is prepared; and the digest of its active revision, who signed it and when, and
-/// its text.
+/// its pending revision, once that is prepared; and the digest of its active revision, who signed it and when, its
+/// captain's hours, and its text.
 #[tactic(auto, unfolding(desk_state::specs::Texts::release_view))]
 pub fn release_view(alloc: Global, release: &Release) -> Result<Text, OutOfMemory>
     requires { ReleaseInBounds release.now }

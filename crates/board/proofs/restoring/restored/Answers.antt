@@ -1,5 +1,5 @@
 use Rattle.std.proofs.Common.{◌∙◌, ap, subst, sym}
-use Rattle.kept_state.specs.Judged.{judged_changes}
+use Rattle.kept_state.specs.Upgraded.{opened_changes}
 use Rattle.desk_state.specs.Effects.{nothing}
 use Rattle.desk_state.specs.Events.{alert_changes}
 use Rattle.kept_state.specs.Opening.{MayReopen}
@@ -9,7 +9,7 @@ use Rattle.board.proofs.restoring.restored.Goals as goal
 
 pub returns-in-Ok-clause-kept : goal.returns-in-Ok-clause-kept
 returns-in-Ok-clause-kept g c =
-    rows_kept c.args.tables c.args.records.items _ c.are_named.ensures c.requires (c.in-Ok.ensures.changes ∙ ap (λ s. judged_changes s (alert_changes nothing s)) c.in_ok-content.ensures.state)
+    rows_kept c.args.tables c.args.records.items c.args.is_old _ c.are_named.ensures c.requires (c.in-Ok.ensures.changes ∙ ap (λ s. opened_changes c.args.is_old s (alert_changes nothing s)) c.in_ok-content.ensures.state)
 
 pub of-requires : goal.of-requires
 of-requires g c =

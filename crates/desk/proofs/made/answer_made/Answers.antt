@@ -1,12 +1,15 @@
-use Rattle.std.proofs.Common.{◌∙◌}
+use Rattle.std.proofs.Common.{◌∙◌, ap}
+use Rattle.made_items.specs.Calls.{made_at}
+use Rattle.desk.specs.Keeping.{answer_with}
 use Rattle.desk.proofs.made.answer_made.Goals as goal
 
 pub returns-clause-given : goal.returns-clause-given
 returns-clause-given g c =
     let given = c.in_ok-answered.ensures.given in
+    let is = c.in_ok-of.ensures in
     record {
       choice = given.choice;
       counted = given.counted;
-      outcome = c.outcome_of.ensures ∙ given.is.its_outcome;
-      state = given.is.its_state;
+      outcome = c.outcome_of.ensures ∙ given.is.its_outcome ∙ ap (λ call. (answer_with given.choice 1 c.args.desk.now.board.state made_at call).outcome) is;
+      state = given.is.its_state ∙ ap (λ call. (answer_with given.choice 1 c.args.desk.now.board.state made_at call).state) is;
     }

@@ -1,9 +1,16 @@
-use Rattle.std.proofs.Common.{◌∙◌, ap}
+use Rattle.std.proofs.Common.{◌∙◌, ap, subst}
 use Rattle.keeper.specs.Order.{rising}
-use Rattle.desk.proofs.Opened.{of_desk, match_ok}
+use Rattle.records.specs.Checks.{IsChecked}
+use Rattle.desk.proofs.Opened.{checked_desk, checked_loaded, match_ok}
 use Rattle.desk.proofs.opening.records_of.Goals as goal
+
+pub returns-clause-loaded : goal.returns-clause-loaded
+returns-clause-loaded g c =
+    let same = c.deref.ensures.value in
+    let read = c.in_ok-rows.ensures in
+    match_ok _ _ _ c.checked.result (λ found is. checked_loaded _ _ found read.rows read.order (subst (λ rows. IsChecked rows found) same is)) c.checked.ensures
 
 pub returns-clause-desk : goal.returns-clause-desk
 returns-clause-desk g c =
     let order = ap rising c.deref.ensures.value ∙ c.in_ok-rows.ensures.order in
-    match_ok _ _ _ c.checked.result (λ records is. of_desk _ _ is order) c.checked.ensures
+    match_ok _ _ _ c.checked.result (λ found is. checked_desk _ found is order) c.checked.ensures

@@ -3,10 +3,10 @@ use Rattle.desk.proofs.opening.restore.Goals as goal
 
 pub returns-clause-kept : goal.returns-clause-kept
 returns-clause-kept g c =
-    restored_keeps _ _ _ _ _ _ c.finish.result c.finish.ensures.board c.finish.ensures.ok c.requires.loaded c.in_ok-restored.ensures.board c.in_ok-restored.ensures.rows
+    restored_keeps _ _ _ _ _ _ _ c.finish.result c.finish.ensures.board c.finish.ensures.ok c.requires.loaded c.in_ok-restored.ensures.board c.in_ok-restored.ensures.rows
 
 pub returns-clause-asked : goal.returns-clause-asked
-returns-clause-asked g c = restored_asks _ _ _ _ _ _ c.finish.ensures.asked c.in_ok-restored.ensures.changes
+returns-clause-asked g c = restored_asks _ _ _ _ _ _ _ c.finish.ensures.asked c.in_ok-restored.ensures.changes
 
 pub returns-clause-failed : goal.returns-clause-failed
-returns-clause-failed g c = restored_failed _ _ _ _ _ _ c.finish.ensures.asked c.in_ok-restored.ensures.changes
+returns-clause-failed g c = restored_failed _ _ _ _ _ _ _ c.finish.ensures.asked c.in_ok-restored.ensures.changes

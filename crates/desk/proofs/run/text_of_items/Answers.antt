@@ -35,41 +35,6 @@ loop-out-preserved-in_ok-push_outcome g c =
     let next = told_next 1 _ _ _ _ _ _ _ _ _ _ _ _ is.given.choice _ left c.loop-out.invariant.told is.given.counted is.given.is.its_outcome is.given.is.its_state c.in_ok-push_outcome.ensures in
     record { told = next; on = desk_on _ _ _ c.loop-out.invariant.on is.on }
 
-pub loop-out-preserved-in_ok-push_outcome-2 : goal.loop-out-preserved-in_ok-push_outcome-2
-loop-out-preserved-in_ok-push_outcome-2 g c =
-    let is = c.in_ok-answered.ensures in
-    let left = comes_first _ c.in-Some.item _ _ c.in-Some.is c.in_ok-item.ensures.comes in
-    let next = told_next 1 _ _ _ _ _ _ _ _ _ _ _ _ is.given.choice _ left c.loop-out.invariant.told is.given.counted is.given.is.its_outcome is.given.is.its_state c.in_ok-push_outcome.ensures in
-    record { told = next; on = desk_on _ _ _ c.loop-out.invariant.on is.on }
-
-pub loop-out-preserved-in_ok-push_outcome-3 : goal.loop-out-preserved-in_ok-push_outcome-3
-loop-out-preserved-in_ok-push_outcome-3 g c =
-    let is = c.in_ok-answered.ensures in
-    let left = comes_first _ c.in-Some.item _ _ c.in-Some.is c.in_ok-item.ensures.comes in
-    let next = told_next 1 _ _ _ _ _ _ _ _ _ _ _ _ is.given.choice _ left c.loop-out.invariant.told is.given.counted is.given.is.its_outcome is.given.is.its_state c.in_ok-push_outcome.ensures in
-    record { told = next; on = desk_on _ _ _ c.loop-out.invariant.on is.on }
-
-pub loop-out-preserved-in_ok-push_outcome-4 : goal.loop-out-preserved-in_ok-push_outcome-4
-loop-out-preserved-in_ok-push_outcome-4 g c =
-    let is = c.in_ok-answered.ensures in
-    let left = comes_first _ c.in-Some.item _ _ c.in-Some.is c.in_ok-item.ensures.comes in
-    let next = told_next 1 _ _ _ _ _ _ _ _ _ _ _ _ is.given.choice _ left c.loop-out.invariant.told is.given.counted is.given.is.its_outcome is.given.is.its_state c.in_ok-push_outcome.ensures in
-    record { told = next; on = desk_on _ _ _ c.loop-out.invariant.on is.on }
-
-pub loop-out-preserved-in_ok-push_outcome-5 : goal.loop-out-preserved-in_ok-push_outcome-5
-loop-out-preserved-in_ok-push_outcome-5 g c =
-    let is = c.in_ok-answered.ensures in
-    let left = comes_first _ c.in-Some.item _ _ c.in-Some.is c.in_ok-item.ensures.comes in
-    let next = told_next 1 _ _ _ _ _ _ _ _ _ _ _ _ is.given.choice _ left c.loop-out.invariant.told is.given.counted is.given.is.its_outcome is.given.is.its_state c.in_ok-push_outcome.ensures in
-    record { told = next; on = desk_on _ _ _ c.loop-out.invariant.on is.on }
-
-pub loop-out-preserved-in_ok-push_outcome-6 : goal.loop-out-preserved-in_ok-push_outcome-6
-loop-out-preserved-in_ok-push_outcome-6 g c =
-    let is = c.in_ok-answered.ensures in
-    let left = comes_first _ c.in-Some.item _ _ c.in-Some.is c.in_ok-item.ensures.comes in
-    let next = told_next 1 _ _ _ _ _ _ _ _ _ _ _ _ is.given.choice _ left c.loop-out.invariant.told is.given.counted is.given.is.its_outcome is.given.is.its_state c.in_ok-push_outcome.ensures in
-    record { told = next; on = desk_on _ _ _ c.loop-out.invariant.on is.on }
-
 pub returns-in_err-push_closing-clause-err : goal.returns-in_err-push_closing-clause-err
 returns-in_err-push_closing-clause-err g c = on_err c.from_residual-in_err-push_closing.result (told_before 1 _ _ _ _ _ _ _ c.loop-out.invariant.told)
 
