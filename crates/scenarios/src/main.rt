@@ -8,7 +8,7 @@
 //! lacks it takes from there. A case has
 //!
 //! - `name`: what must hold, as a sentence.
-//! - `tables`: a folder with the twelve tables, or an object of texts by the names of their files.
+//! - `tables`: a folder with the thirteen tables, or an object of texts by the names of their files.
 //! - `sources`: an object of further texts by their names. One with the name of a table counts before that table.
 //! - `words`: the command, cut at blanks, or a list of words.
 //! - `rows`: the rows that the keeper holds at first, lines `KIND KEY BODY` in order.

@@ -7,8 +7,8 @@ use desk_io::{MemoryShelf, Shelf, Text, read_whole};
 use serde_json::{Map, Value};
 use std::alloc::Global;
 
-// The names of the twelve tables.
-const TABLES: [&str; 12] = [
+// The names of the thirteen tables.
+const TABLES: [&str; 13] = [
     "settings.csv",
     "airports.csv",
     "approaches.csv",
@@ -21,6 +21,7 @@ const TABLES: [&str; 12] = [
     "mel.csv",
     "pairs.csv",
     "actors.csv",
+    "hours.csv",
 ];
 
 type Sources = Vec<(Text, Text)>;
