@@ -114,7 +114,7 @@ class Form {
       this.field('tail', 'Aircraft', plan, 'tail', { width: 8 }), this.field('captain', 'Captain', plan, 'captain', { width: 14 }),
       h('p', { class: 'kinds', role: 'radiogroup', 'aria-label': 'Kind of flight' }, kind('domestic', 'Domestic'), kind('flag', 'Flag'))),
     plan.legs.map((leg, number) => this.leg(leg, number)),
-    plan.legs.length < 5 && h('p', {}, plainButton('Add leg', () => this.change(() => plan.legs.push(emptyLeg(plan.legs.at(-1).to)), `legs.${plan.legs.length}.to`))));
+    plan.legs.length < 8 && h('p', {}, plainButton('Add leg', () => this.change(() => plan.legs.push(emptyLeg(plan.legs.at(-1).to)), `legs.${plan.legs.length}.to`))));
     this.check();
   }
 

@@ -78,7 +78,7 @@ export function pasted(text) {
   }
   plan = plan?.ask?.plan ?? plan?.plan ?? plan;
   if (!hasKeys(plan, KEYS) || !['domestic', 'flag'].includes(plan.kind)) return { fault: `A plan has just these keys: ${KEYS.join(', ')}.` };
-  if (!Array.isArray(plan.legs) || plan.legs.length < 1 || plan.legs.length > 5) return { fault: 'A plan has 1 to 5 legs.' };
+  if (!Array.isArray(plan.legs) || plan.legs.length < 1 || plan.legs.length > 8) return { fault: 'A plan has 1 to 8 legs.' };
   const isLeg = (leg) => hasKeys(leg, LEG_KEYS) && Array.isArray(leg.alternates) && leg.alternates.length <= 3
     && leg.alternates.every((it) => hasKeys(it, ['fuel', 'minutes', 'station'])) && (leg.takeoff_alternate === null || hasKeys(leg.takeoff_alternate, ['minutes', 'station']));
   return plan.legs.every(isLeg) ? { plan } : { fault: `A leg has just these keys: ${LEG_KEYS.join(', ')}.` };

@@ -8,7 +8,7 @@ import { picture, releaseOf, rowOf } from './picture.js';
 import { planPage } from './plan_form.js';
 import { emptyPlan } from './plans.js';
 import * as texts from './texts.js';
-import { amount, clock, near, phaseText, reading, refusal } from './words.js';
+import { amount, clock, hoursText, near, phaseText, reading, refusal } from './words.js';
 
 // How the digest of a text, made here, compares with the one that the desk names.
 async function check({ text, digest }) {
@@ -43,8 +43,8 @@ function alertPart(row, release) {
 // A revision as the paper that is signed.
 function paper(id, revision, isPending) {
   if (!revision) return null;
-  const { number, dispatcher, signed, captain, concurred } = revision;
-  const signs = isPending ? 'Waits for signatures. Not valid for dispatch.' : `Dispatcher ${dispatcher}, ${signed}. Captain ${captain}, ${concurred}.`;
+  const { number, dispatcher, signed, captain, concurred, hours } = revision;
+  const signs = isPending ? 'Waits for signatures. Not valid for dispatch.' : `Dispatcher ${dispatcher}, ${signed}. Captain ${captain}, ${concurred}, ${hoursText(hours)}.`;
   return h('article', { class: `paper ${isPending ? 'pending' : 'signed'}` },
     h('h2', {}, `Revision ${number}, ${isPending ? 'to be signed' : 'signed by both'}`), h('p', { class: 'signs' }, signs),
     h('pre', { class: 'text', tabindex: '0' }, revision.text), digestLine(revision),

@@ -65,8 +65,8 @@ export function release(text) {
   const part = (word) => {
     const found = new RegExp(`(?:^|\n)${word} ([^\n]*)\n(DISPATCH RELEASE\n[^]*?\nEND\n)`).exec(text);
     if (!found) return null;
-    const [digest, dispatcher, signed, captain, concurred] = found[1].split(' ');
-    return { ...revision(found[2]), digest, dispatcher, signed, captain, concurred };
+    const [digest, dispatcher, signed, captain, concurred, , hours] = found[1].split(' ');
+    return { ...revision(found[2]), digest, dispatcher, signed, captain, concurred, hours };
   };
   return { id: Number(id), phase: phase(stands, Boolean(again)), pending: part('PENDING'), active: part('ACTIVE') };
 }

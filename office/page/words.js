@@ -2,7 +2,7 @@
 
 export const clock = (moment) => (moment ? `${moment.slice(11, 16)}Z` : '');
 export const amount = (number) => Number(number).toLocaleString('en-US');
-
+export const hoursText = (hours) => (hours === '-' ? 'before hours were kept' : `with ${amount(hours)} hour${hours === '1' ? '' : 's'} in the type`);
 // A moment as the time of its day, with the day where it is another one.
 export const near = (moment, today) => (moment.slice(0, 10) === today.slice(0, 10) ? clock(moment) : `${moment.slice(5, 10)} ${clock(moment)}`);
 const later = (moment, minutes) => clock(new Date(Date.parse(moment) + minutes * 60000).toISOString());
@@ -23,8 +23,8 @@ const AGAIN = 'Release it again: amend (with the same plan, if it still fits), p
 const RULES = {
   '121.593': ['14 CFR 121.593', STOP('an hour'), AGAIN],
   121.595: ['14 CFR 121.595', STOP('six hours'), AGAIN],
-  121.613: ['14 CFR 121.613', (leg) => `${to(leg)} is below every landing minimum that this aircraft can use${at('ETA', leg.eta)}`,
-    'Another destination or time; a newer report; mend what took a capability away.'],
+  121.613: ['14 CFR 121.613, 121.652', (leg) => `${to(leg)} is below every landing minimum that this aircraft and its captain can use${at('ETA', leg.eta)}`,
+    'Another destination or time; a newer report; mend what took a capability away; a captain with 100 hours in the type.'],
   '121.617-ALT': ['14 CFR 121.617(a)', (leg) => `${from(leg)} is below its landing minima${at('ETD', leg.etd)}, and no takeoff alternate is listed`,
     'List a takeoff alternate, or wait.'],
   '121.617-RANGE': ['14 CFR 121.617(a)', (leg) => `${from(leg)} is below its landing minima, and ${takeoff(leg)} is too far away with one engine out`,
@@ -72,7 +72,7 @@ const REPORT_FAULTS = {
 };
 const PLAN_FAULTS = {
   UnknownTail: 'The airline has no such aircraft.', UnknownCaptain: 'No captain has this name.', Amount: 'An amount of fuel is above 1,000,000 lb.',
-  Count: 'A plan has 1 to 5 legs, and a leg at most 3 alternates.', NoAirport: 'A station isn’t among the airline’s airports.',
+  Count: 'A plan has 1 to 8 legs, and a leg at most 3 alternates.', NoAirport: 'A station isn’t among the airline’s airports.',
   Repeated: 'A station stands twice where it may not.', Unjoined: 'The leg doesn’t begin where the one before ended.',
   Times: 'Times are out of order, or the minutes don’t fit between ETD and ETA.', Flown: 'What is flown must stay as it was.',
   Changed: 'Flight number and kind must stay, and the aircraft too while a leg is flown.',

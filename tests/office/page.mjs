@@ -25,6 +25,11 @@ const filed = read('examples/one_flight/script').split('\n').filter(Boolean).map
 const release = texts.release(seen.find((text) => text.startsWith('RELEASE')));
 assert.deepEqual(release.active.plan, filed.at(-1));
 assert.equal(release.active.captain, 'hayes');
+assert.equal(words.hoursText(release.active.hours), 'with 2,140 hours in the type');
+assert.equal(words.hoursText('1'), 'with 1 hour in the type');
+const before = texts.release(seen.find((text) => text.startsWith('RELEASE')).replace(' HOURS 2140\n', ' HOURS -\n'));
+assert.equal(words.hoursText(before.active.hours), 'before hours were kept');
+assert.deepEqual(before.active.plan, release.active.plan);
 assert.equal(release.active.number, 2);
 assert.equal(release.pending, null);
 assert.deepEqual(release.active.reports.map((it) => it.id), [2, 3, 5]);
@@ -76,6 +81,9 @@ Object.assign(broken.legs[1], { from: 'KBOI', etd: '2026-11-12T16:00Z', minutes:
 assert.deepEqual([...plans.faults(broken).keys()].sort(),
   ['legs.0.alternates.1.station', 'legs.1.burn', 'legs.1.etd', 'legs.1.from', 'legs.1.minutes']);
 assert.deepEqual(plans.pasted(JSON.stringify({ do: 'draft', plan: filed[0] })).plan, filed[0]);
+const ofLegs = (count) => JSON.stringify({ ...filed[0], legs: Array(count).fill(filed[0].legs[0]) });
+assert.equal(plans.pasted(ofLegs(8)).plan.legs.length, 8);
+assert.equal(plans.pasted(ofLegs(9)).fault, 'A plan has 1 to 8 legs.');
 assert.ok(plans.pasted('{}').fault && plans.pasted('x').fault && plans.pasted(JSON.stringify({ ...filed[0], legs: [{}] })).fault);
 const now = Date.parse('2026-11-12T14:00Z');
 assert.equal(plans.moment('1530', '', now), '2026-11-12T15:30Z');
