@@ -1,6 +1,6 @@
 -- The states and actions of csv's machine that its default settings reach.
-use Rattle.std.specs.Prelude.{ℕ, List, drop}
-use Rattle.csv.specs.Machine.{Read}
+use Rattle.std.specs.Prelude.{ℕ, nat_le, if◌then◌else◌, List, length, take, drop}
+use Rattle.csv.specs.Machine.{Read, fields_after, field_after}
 use Rattle.csv_text.specs.declared.steps.Taken.{Taken}
 use Rattle.csv.specs.declared.parser.State.{State}
 use Rattle.csv.specs.declared.parser.State.TheVariants as st
@@ -24,6 +24,17 @@ action_of does.Skip = act.Skip
 action_of does.Copy = act.Copy
 action_of does.EndField = act.EndField
 action_of does.EndRecord = act.EndRecord
+
+-- the first fields after an action, where no more than so many are kept, and the field at hand
+abbrev pub fields_kept : ℕ → Action → List (List ℕ) → List ℕ → List (List ℕ)
+fields_kept most action fields field = if nat_le most (length fields) then fields else fields_after action fields field
+
+abbrev pub field_kept : ℕ → Action → ℕ → List (List ℕ) → List ℕ → List ℕ
+field_kept most action b fields field = if nat_le most (length fields) then field else field_after action b field
+
+-- a record that was read, with so many fields at most
+abbrev pub first_of : ℕ → Read → Read
+first_of most r = (take most r.0, r.1, r.2)
 
 -- a record that was read from a text, and what is left of the text
 abbrev pub taken_from : List ℕ → Taken → Read

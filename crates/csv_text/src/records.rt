@@ -42,13 +42,14 @@ impl<'a> Records<'a> {
         }
     }
 
-    /// The next record, none after the last one. Where memory runs out the reader stays as it was.
-    pub fn next(&mut self, alloc: Global) -> Result<Option<Listed<Text>>, OutOfMemory>
-        ensures given { IfOk result (λ fields. (text : List ℕ) → (earlier : List (List (List ℕ)))
-            → HasGiven text earlier self.old → GivesNext text earlier fields self.new) }
+    /// The first fields of the next record, so many at most, and none after the last record. Who asks for one more than
+    /// a record should have sees whether it has more. Where memory runs out the reader stays as it was.
+    pub fn next(&mut self, alloc: Global, most: usize) -> Result<Option<Listed<Text>>, OutOfMemory>
+        ensures given { IfOk result (λ first. (text : List ℕ) → (earlier : List (List (List ℕ)))
+            → HasGiven text earlier self.old → GivesNext most text earlier first self.new) }
         ensures kept { OnErr result (self.new ≡ self.old) }
     {
-        match read_record(alloc, self.place, self.rest) {
+        match read_record(alloc, most, self.place, self.rest) {
             Err(fault) => Err(fault),
             Ok(None) => Ok(None),
             Ok(Some(taken)) => {

@@ -1,7 +1,8 @@
 ghost use Rattle.std.specs.Prelude.{◌≡◌, ◌≤◌, IfOk, IfSome, OnOk, [], length, option_map};
-ghost use Rattle.csv.specs.Machine.{step, is_end, ends_at_end, fields_after, field_after, in_field as machine_in_field, start_field as machine_start_field, start_record as machine_start_record, next_record};
+ghost use Rattle.csv.specs.Machine.{step, is_end, ends_at_end, next_record};
+ghost use Rattle.csv.specs.Machine as machine;
 ghost use Rattle.csv.specs.Reading.{default_config};
-ghost use Rattle.csv_text.specs.Steps.{state_of, action_of, taken_from};
+ghost use Rattle.csv_text.specs.Steps.{state_of, action_of, taken_from, first_of, fields_kept, field_kept};
 
 use desk_io::{Listed, OutOfMemory, Text};
 use std::alloc::Global;
@@ -28,7 +29,7 @@ enum Act {
 }
 
 fn in_field(b: u8) -> (Place, Act)
-    ensures { (state_of result.0, action_of result.1) ≡ machine_in_field default_config b }
+    ensures { (state_of result.0, action_of result.1) ≡ machine.in_field default_config b }
 {
     match b {
         b',' => (Place::StartField, Act::EndField),
@@ -39,7 +40,7 @@ fn in_field(b: u8) -> (Place, Act)
 }
 
 fn start_field(b: u8) -> (Place, Act)
-    ensures { (state_of result.0, action_of result.1) ≡ machine_start_field default_config b }
+    ensures { (state_of result.0, action_of result.1) ≡ machine.start_field default_config b }
 {
     if b == b'"' {
         (Place::InQuoted, Act::Skip)
@@ -49,7 +50,7 @@ fn start_field(b: u8) -> (Place, Act)
 }
 
 fn start_record(b: u8) -> (Place, Act)
-    ensures { (state_of result.0, action_of result.1) ≡ machine_start_record default_config b }
+    ensures { (state_of result.0, action_of result.1) ≡ machine.start_record default_config b }
 {
     if b == b'\r' || b == b'\n' {
         (Place::StartRecord, Act::Skip)
@@ -93,17 +94,23 @@ fn is_open(place: Place) -> bool
     }
 }
 
-// What one byte does to the fields of its record and to the field at hand.
+// What one byte does to the first fields of its record and to the field at hand.
 fn take_byte(
     alloc: Global,
+    most: usize,
     act: Act,
     b: u8,
     fields: &mut Vec<Text>,
     field: &mut Vec<u8>,
 ) -> Result<(), OutOfMemory>
-    ensures fields { OnOk result (fields.new.items ≡ fields_after (action_of act) fields.old.items field.old.items) }
-    ensures field { OnOk result (field.new.items ≡ field_after (action_of act) b field.old.items) }
+    ensures fields { OnOk result
+        (fields.new.items ≡ fields_kept most (action_of act) fields.old.items field.old.items) }
+    ensures field { OnOk result
+        (field.new.items ≡ field_kept most (action_of act) b fields.old.items field.old.items) }
 {
+    if fields.as_slice().len() >= most {
+        return Ok(());
+    }
     match act {
         Act::Skip => {}
         Act::Copy => field.push(b)?,
@@ -115,7 +122,7 @@ fn take_byte(
     Ok(())
 }
 
-/// A record that was read: its fields, how many bytes of the text it took, and where the reading
+/// A record that was read: its first fields, how many bytes of the text it took, and where the reading
 /// stands after it.
 #[derive(Drop)]
 pub(crate) struct Taken {
@@ -124,14 +131,15 @@ pub(crate) struct Taken {
     pub length: usize,
 }
 
-/// The next record of a text.
+/// The next record of a text, with so many of its fields at most.
 pub(crate) fn read_record(
     alloc: Global,
+    most: usize,
     start: Place,
     text: &[u8],
 ) -> Result<Option<Taken>, OutOfMemory>
     ensures value { IfOk result (λ taken. option_map (taken_from text.now) taken
-        ≡ next_record default_config (state_of start) [] [] text.now) }
+        ≡ option_map (first_of most) (next_record default_config (state_of start) [] [] text.now)) }
     ensures within { IfOk result (λ taken. IfSome taken (λ t. t.length ≤ length text.now)) }
 {
     let mut fields = Vec::new(alloc);
@@ -139,7 +147,7 @@ pub(crate) fn read_record(
     let mut place = start;
     for (i, b) in text.iter().enumerate() {
         let (next, act) = step(place, *b);
-        take_byte(alloc, act, *b, &mut fields, &mut field)?;
+        take_byte(alloc, most, act, *b, &mut fields, &mut field)?;
         place = next;
         if ends(act) {
             return Ok(Some(Taken {
@@ -152,7 +160,7 @@ pub(crate) fn read_record(
     if !is_open(place) {
         return Ok(None);
     }
-    fields.push(Text::from_vec(field))?;
+    take_byte(alloc, most, Act::EndRecord, 0, &mut fields, &mut field)?;
     Ok(Some(Taken {
         fields: Listed::from_vec(fields),
         place: Place::StartRecord,

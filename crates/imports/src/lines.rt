@@ -11,6 +11,9 @@ use csv_text::Records;
 use desk_io::{OutOfMemory, Text};
 use std::alloc::Global;
 
+// How many fields of a record are asked for: one more than a line has.
+const MOST_FIELDS: usize = 6;
+
 // Whether the fields are the names of the columns.
 fn is_header(fields: &[Text]) -> bool
     ensures { result ≡ spec.is_header fields.now }
@@ -31,7 +34,7 @@ fn is_header(fields: &[Text]) -> bool
 fn has_header(alloc: Global, reader: &mut Records<'_>) -> Result<bool, OutOfMemory>
     ensures { IfOk result (λ good. (text : List ℕ) → HasGiven text [] reader.old → Begins text good reader.new) }
 {
-    match reader.next(alloc)? {
+    match reader.next(alloc, MOST_FIELDS)? {
         None => Ok(false),
         Some(header) => Ok(is_header(header.as_slice())),
     }
@@ -46,7 +49,7 @@ fn lines_left(alloc: Global, reader: &mut Records<'_>) -> Result<Vec<Line>, OutO
     let mut lines = Vec::new(alloc);
     // A text has fewer records.
     for _ in 0..u64::MAX {
-        let Some(fields) = reader.next(alloc)? else {
+        let Some(fields) = reader.next(alloc, MOST_FIELDS)? else {
             return Ok(lines);
         };
         lines.push(read_record(alloc, fields.as_slice())?)?;

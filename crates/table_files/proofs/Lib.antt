@@ -7,3 +7,4 @@ pub mod Naming
 pub mod GoodRows
 pub mod GoodSettings
 pub mod GoodFiles
+pub mod Told

@@ -6,3 +6,4 @@ pub mod Files
 pub mod Good
 pub mod Filling
 pub mod Whole
+pub mod Told

@@ -1,5 +1,5 @@
 -- A table is read record by record, the header first. The first record that is bad is named.
-use Rattle.std.specs.Prelude.{◌≡◌, ℕ, ◌+◌, nat_le, Bool, true, false, ◌&&◌, List, [], ◌∷◌, ◌++◌, length, if◌then◌else◌, Option, None, Some, Result, Ok, Err}
+use Rattle.std.specs.Prelude.{◌≡◌, ℕ, ◌+◌, nat_le, Bool, true, false, ◌&&◌, List, [], ◌∷◌, ◌++◌, length, take, if◌then◌else◌, Option, None, Some, Result, Ok, Err}
 use Rattle.std.specs.List.{list_any}
 use Rattle.std.specs.Str.{bytes_eq}
 use Rattle.csv_text.specs.Records.{AreRecordsOf, HasGiven}
@@ -16,6 +16,10 @@ pub record Table (R : Type 0) : Type 0 where
   pub row_of : List (List ℕ) → Option R
   pub is_linked : TableRows → R → Bool
   pub with_rows : TableRows → List R → TableRows
+
+-- the row of a record is told by its first fields, one more than there are columns
+abbrev pub IsToldByFirst : {R : Type 0} → Table R → Type 0
+IsToldByFirst table = (fields : List (List ℕ)) → table.row_of (take (length table.columns + 1) fields) ≡ table.row_of fields
 
 -- the same fields, in the same order
 abbrev pub are_same : List (List ℕ) → List (List ℕ) → Bool

@@ -1,5 +1,6 @@
 ghost use Rattle.std.specs.Prelude.{◌≡◌, refl};
 ghost use Rattle.table_files.specs.Files as files;
+ghost use Rattle.table_files.specs.Told as told;
 
 use crate::reading::{FileRow, Layout};
 use crate::records::{
@@ -17,6 +18,8 @@ impl FileRow<4> for Airport {
     ghost table = { files.airports };
 
     ghost bounded = { refl };
+
+    ghost told = { told.airport_told };
 
     fn layout() -> Layout {
         Layout {
@@ -38,6 +41,8 @@ impl FileRow<4> for Approach {
     ghost table = { files.approaches };
 
     ghost bounded = { refl };
+
+    ghost told = { told.approach_told };
 
     fn layout() -> Layout {
         Layout {
@@ -68,6 +73,8 @@ impl FileRow<4> for AlternateRow {
 
     ghost bounded = { refl };
 
+    ghost told = { told.alternate_told };
+
     fn layout() -> Layout {
         Layout {
             columns: &["station", "ceiling", "vis16"],
@@ -88,6 +95,8 @@ impl FileRow<48> for TypeRow {
     ghost table = { files.types };
 
     ghost bounded = { refl };
+
+    ghost told = { told.type_told };
 
     fn layout() -> Layout {
         Layout {
@@ -117,6 +126,8 @@ impl FileRow<48> for Tail {
 
     ghost bounded = { refl };
 
+    ghost told = { told.tail_told };
+
     fn layout() -> Layout {
         Layout {
             columns: &["tail", "kind"],
@@ -137,6 +148,8 @@ impl FileRow<48> for Use {
     ghost table = { files.uses };
 
     ghost bounded = { refl };
+
+    ghost told = { told.use_told };
 
     fn layout() -> Layout {
         Layout {
@@ -159,6 +172,8 @@ impl FileRow<48> for Distance {
 
     ghost bounded = { refl };
 
+    ghost told = { told.distance_told };
+
     fn layout() -> Layout {
         Layout {
             columns: &["from", "to", "miles"],
@@ -180,6 +195,8 @@ impl FileRow<48> for Route {
 
     ghost bounded = { refl };
 
+    ghost told = { told.route_told };
+
     fn layout() -> Layout {
         Layout {
             columns: &["from", "to"],
@@ -200,6 +217,8 @@ impl FileRow<48> for MelRow {
     ghost table = { files.mel };
 
     ghost bounded = { refl };
+
+    ghost told = { told.item_told };
 
     fn layout() -> Layout {
         Layout {
@@ -231,6 +250,8 @@ impl FileRow<48> for ItemPair {
 
     ghost bounded = { refl };
 
+    ghost told = { told.pair_told };
+
     fn layout() -> Layout {
         Layout {
             columns: &["kind", "item", "other"],
@@ -254,6 +275,8 @@ impl FileRow<48> for Actor {
 
     ghost bounded = { refl };
 
+    ghost told = { told.actor_told };
+
     fn layout() -> Layout {
         Layout {
             columns: &["name", "key", "role"],
@@ -274,6 +297,8 @@ impl FileRow<48> for CaptainHours {
     ghost table = { files.hours };
 
     ghost bounded = { refl };
+
+    ghost told = { told.hours_told };
 
     fn layout() -> Layout {
         Layout {

@@ -1,10 +1,11 @@
-ghost use Rattle.std.specs.Prelude.{◌≡◌, ◌≤◌, nat_le, true, false, ◌++◌, [], List, ℕ, ◌<◌, length, map, IfOk, OnOk, IfSome};
+ghost use Rattle.std.specs.Prelude.{◌≡◌, ◌≤◌, nat_le, true, false, ◌+◌, ◌++◌, [], List, ℕ, ◌<◌, length, map};
+ghost use Rattle.std.specs.Prelude.{IfOk, OnOk, IfSome};
 ghost use Rattle.std.specs.List.{list_any};
 ghost use Rattle.csv_text.specs.Records.{AreRecordsOf, HasGiven};
 ghost use Rattle.ops_tables.specs.Shown.{shown};
 ghost use Rattle.table_files.specs.Filling.{Gives};
 ghost use Rattle.table_files.specs.Reading as spec;
-ghost use Rattle.table_files.specs.Reading.{Table};
+ghost use Rattle.table_files.specs.Reading.{IsToldByFirst, Table};
 
 use crate::faults::{BadRecord, TableWhy};
 use csv_text::Records;
@@ -38,6 +39,16 @@ pub(crate) trait FileRow<const N: usize>: Row<N> {
         ensures { result ≡ table.is_linked (shown loaded.now) self.now };
 
     ghost bounded: { nat_le Self.Row.limit 200_000 ≡ true };
+
+    ghost told: { IsToldByFirst table };
+}
+
+// How many fields of a record are asked for: one more than there are columns, which no row has.
+fn most_fields<R: FileRow<N>, const N: usize>() -> usize
+    requires { N ≤ 48 }
+    ensures { result ≡ length R.table.columns + 1 }
+{
+    R::layout().columns.len() + 1
 }
 
 /// Whether the fields are these names of columns, in this order.
@@ -97,7 +108,7 @@ fn rows_under<R: FileRow<N>, const N: usize>(
 {
     let mut rows = Grouped::new(alloc);
     loop {
-        let Some(fields) = reader.next(alloc)? else {
+        let Some(fields) = reader.next(alloc, most_fields::<R, N>())? else {
             return Ok(Ok(rows));
         };
         match row_after(alloc, &rows, fields.as_slice(), loaded)? {
@@ -140,7 +151,7 @@ pub(crate) fn has_header(
     ensures { IfOk result (λ good. (text : List ℕ) → HasGiven text [] reader.old
         → spec.Begins text (map (λ c. c.now) columns.now) good reader.new) }
 {
-    match reader.next(alloc)? {
+    match reader.next(alloc, columns.len() + 1)? {
         None => Ok(false),
         Some(header) => Ok(is_header(header.as_slice(), columns)),
     }

@@ -91,7 +91,7 @@ fn next_value(
         → HasGiven text earlier reader.old → spec.GivesValue text earlier setting value reader.new) }
     ensures bound { IfOk result (λ value. IfSome value (λ n. n ≤ spec.most_of setting)) }
 {
-    match reader.next(alloc)? {
+    match reader.next(alloc, 3)? {
         None => Ok(None),
         Some(fields) => Ok(value_of(setting, fields.as_slice())),
     }
@@ -126,7 +126,7 @@ fn read_values(
             None => return Ok(Err(bad_after(values.as_slice(), TableWhy::BadField))),
         }
     }
-    match reader.next(alloc)? {
+    match reader.next(alloc, 0)? {
         None => Ok(Ok(values)),
         Some(_) => Ok(Err(bad_after(values.as_slice(), TableWhy::OverLimit))),
     }

@@ -63,9 +63,9 @@ pub returns-in-Some-2-clause-value : goal.returns-in-Some-2-clause-value
 returns-in-Some-2-clause-value c = λ text earlier h.
     let i = c.loop-setting.setting-index in
     let vs : List ℕ = c.loop-setting.values in
-    let fields : List (List ℕ) = c.in-Some-2.field-0 in
+    let first : List (List ℕ) = c.in-Some-2.field-0 in
     let a = c.loop-setting.invariant.after text earlier h in
-    let given : GivesNext text (earlier ++ a.seen) (Some fields) c.next.new.self = rw c.in-Some-2.is at (c.in_ok-next.ensures.given text (earlier ++ a.seen) a.given) in
-    one_tells text earlier (values_after [] settings) (values_after vs (drop i settings)) (Err c.bad_after-in-Some-2.result) c.loop-setting.reader c.next.new.self fields a given
+    let given : GivesNext 0 text (earlier ++ a.seen) (Some first) c.next.new.self = rw c.in-Some-2.is at (c.in_ok-next.ensures.given text (earlier ++ a.seen) a.given) in
+    one_tells text earlier (values_after [] settings) (values_after vs (drop i settings)) (Err c.bad_after-in-Some-2.result) c.loop-setting.reader c.next.new.self given.0 a given.1
     (λ others. is_bad why.OverLimit c.as_slice-in-Some-2.result.now vs c.bad_after-in-Some-2.result c.bad_after-in-Some-2.ensures c.as_slice-in-Some-2.ensures _
-    (ap (λ ss. values_after vs ss (fields ∷ others)) (drop_all i settings (omega (arith, c.loop-setting-test.false)))))
+    (ap (λ ss. values_after vs ss (given.0 ∷ others)) (drop_all i settings (omega (arith, c.loop-setting-test.false)))))
