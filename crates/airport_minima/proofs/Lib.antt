@@ -3,3 +3,5 @@ mod FloorLaws
 mod AlternateLaws
 mod FlownLaws
 mod RaisedLaws
+mod DoubleWithin
+mod RaisedWithin

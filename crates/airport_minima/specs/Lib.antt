@@ -5,3 +5,4 @@ pub mod Lowest
 pub mod Raised
 pub mod FewHours
 pub mod Alternate
+pub mod Within

@@ -56,7 +56,7 @@ pub fn landing(
     landing_of_usable(alloc, tables, kind, station, lost)
 }
 
-fn single_addend(settings: Settings) -> Pair
+pub(crate) fn single_addend(settings: Settings) -> Pair
     requires { FitsSettings settings }
     ensures value { result ≡ spec.single_addend settings }
     ensures ceiling { result.ceiling ≤ 20_000 }
@@ -68,7 +68,7 @@ fn single_addend(settings: Settings) -> Pair
     }
 }
 
-fn double_addend(settings: Settings) -> Pair
+pub(crate) fn double_addend(settings: Settings) -> Pair
     requires { FitsSettings settings }
     ensures value { result ≡ spec.double_addend settings }
     ensures ceiling { result.ceiling ≤ 20_000 }
@@ -117,7 +117,7 @@ fn double(addend: Pair, first: &Approach, second: &Approach) -> Pair
     minima_of(first).higher(minima_of(second)).raised(addend)
 }
 
-fn are_apart(first: &Approach, second: &Approach) -> bool
+pub(crate) fn are_apart(first: &Approach, second: &Approach) -> bool
     ensures { result ≡ spec.are_apart first.now second.now }
 {
     second.runway.bytes() != first.runway.bytes()

@@ -5,8 +5,10 @@ mod derived;
 mod floors;
 mod increase;
 mod usable;
+mod within;
 
 pub use derived::{alternate_pairs, landing};
 pub use floors::flag_floor;
 pub use increase::raised;
 pub use usable::millimetres;
+pub use within::{Bounds, has_alternate_within, has_raised_within};

@@ -8,7 +8,7 @@ use stations::Pair;
 use std::alloc::Global;
 
 /// Millimetres in a sixteenth of a statute mile.
-const SIXTEENTH: u32 = 100_584;
+pub(crate) const SIXTEENTH: u32 = 100_584;
 
 /// Sixteenths of a statute mile in millimetres, of at most ten miles.
 pub fn millimetres(sixteenths: u32) -> u32

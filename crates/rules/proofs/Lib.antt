@@ -19,3 +19,4 @@ pub mod WeatherTells
 pub mod SectionTells
 pub mod FuelTells
 pub mod RegulationLaws
+pub mod HighestMet

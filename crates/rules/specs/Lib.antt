@@ -9,6 +9,7 @@ pub mod Fuel
 pub mod Time
 pub mod Judgement
 pub mod Due
+pub mod HighestMet
 pub mod Sights
 pub mod Frame
 pub mod Touches

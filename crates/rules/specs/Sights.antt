@@ -10,6 +10,7 @@ use Rattle.plan.specs.Phases.{standing}
 use Rattle.plan.specs.declared.flights.Plan.{Plan}
 use Rattle.plan.specs.declared.flights.Leg.{Leg}
 use Rattle.plan.specs.declared.flights.Alternate.{Alternate}
+use Rattle.plan.specs.declared.flights.TakeoffAlternate.{TakeoffAlternate}
 use Rattle.plan.specs.declared.release.Phase.{Phase}
 use Rattle.plan.specs.declared.release.Standing.{Standing}
 use Rattle.plan.specs.declared.release.Standing.TheVariants.{Ahead, InFlight, Flown}
@@ -59,10 +60,13 @@ pub record IsReported (g : Grounds) (station : Station) (reported : Reported) : 
   pub hold : reported.hold ≡ g.tables.settings.hold_minutes
   pub within : reported.hold ≤ 1440
 
--- the rules on takeoff alternates, where it is known whether one is needed
+-- the rules on takeoff alternates, where it is known whether one is needed and which is listed
+abbrev pub takeoff_by : Bool → Case → Leg → Option TakeoffAlternate → Takeoff
+takeoff_by needed c leg listed = record { lacks = needed && is_none listed; is_far = needed && is_far c leg listed; is_low = needed && is_below_there c leg listed }
+
+-- of a leg
 abbrev pub takeoff_where : Bool → Case → Leg → Takeoff
-takeoff_where needed c leg =
-    record { lacks = needed && is_none leg.takeoff_alternate; is_far = needed && is_far c leg leg.takeoff_alternate; is_low = needed && is_below_there c leg leg.takeoff_alternate }
+takeoff_where needed c leg = takeoff_by needed c leg leg.takeoff_alternate
 
 abbrev pub takeoff_of : Case → Leg → Takeoff
 takeoff_of c leg = takeoff_where (needs_takeoff_alternate c leg) c leg

@@ -10,7 +10,7 @@ use crate::circumstances::Circumstances;
 use crate::weather::Reported;
 use airport_minima::{flag_floor, millimetres};
 use alternates::{is_marginal, needs_destination};
-use codes::{Cond, meets};
+use codes::Cond;
 use desk_io::{Listed, OutOfMemory};
 use ops_tables::Settings;
 use plan::{Alternate, Kind, Leg};
@@ -151,16 +151,16 @@ impl<'a> Circumstances<'a> {
         }
     }
 
-    fn there(&self, alloc: Global, leg: &Leg, it: &Alternate) -> Result<There, OutOfMemory>
+    fn there(&self, leg: &Leg, it: &Alternate) -> There
         requires { HasMoments leg.now }
-        ensures { IfOk result (λ t. t ≡ there_of (case_by self.now) leg.now it.now) }
+        ensures { result ≡ there_of (case_by self.now) leg.now it.now }
     {
         let weather = self.weather_at(it.station, leg.eta + u64::from(it.minutes));
-        let pairs = self.alternate_at(alloc, it.station)?;
-        Ok(There {
-            is_low: !meets(weather, pairs.as_slice()),
-            is_marginal: self.is_marginal(weather, pairs.as_slice()),
-        })
+        let margin = margin(self.evidence.tables.settings());
+        There {
+            is_low: self.is_below_alternate(it.station, weather),
+            is_marginal: self.is_marginal_alternate(it.station, weather, margin),
+        }
     }
 
     fn all_there(&self, alloc: Global, leg: &Leg) -> Result<AllThere, OutOfMemory>
@@ -170,7 +170,7 @@ impl<'a> Circumstances<'a> {
         let mut low = Listed::new(alloc);
         let mut are_marginal = true;
         for (i, it) in leg.alternates.as_slice().iter().enumerate() {
-            let there = self.there(alloc, leg, it)?;
+            let there = self.there(leg, it);
             are_marginal = are_marginal && there.is_marginal;
             if there.is_low {
                 low.push(i as u64 + 1)?;
@@ -199,7 +199,7 @@ impl<'a> Circumstances<'a> {
         let need = self.need(leg, &reported);
         let weather = reported.at(leg.eta);
         let landing = self.landing_at(alloc, leg.to)?;
-        let is_below_landing = self.is_below_landing(alloc, leg.to, weather, &landing)?;
+        let is_below_landing = self.is_below_landing(leg.to, weather, &landing);
         let is_marginal = self.is_marginal(weather, landing.as_slice());
         let there = self.all_there(alloc, leg)?;
         let are_marginal = self.are_marginal(leg, is_marginal, there.are_marginal);

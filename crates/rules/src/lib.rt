@@ -6,6 +6,7 @@ mod destination_alternates;
 mod due;
 mod equipment;
 mod evidence;
+mod highest_met;
 mod judgement;
 mod required_fuel;
 mod sights;

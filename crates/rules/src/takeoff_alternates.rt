@@ -2,11 +2,10 @@ ghost use Rattle.std.specs.Prelude.{◌≡◌, true, Some, IfOk};
 ghost use Rattle.plan.specs.Check.{HasMoments};
 ghost use Rattle.rules.specs.Circumstances as spec;
 ghost use Rattle.rules.specs.TakeoffAlternates as departure;
-ghost use Rattle.rules.specs.Sights.{case_by, takeoff_where, takeoff_of, IsWithin};
+ghost use Rattle.rules.specs.Sights.{case_by, takeoff_by, takeoff_where, takeoff_of, IsWithin};
 
 use crate::circumstances::Circumstances;
 use alternates::{in_range, needs_takeoff};
-use codes::meets;
 use desk_io::OutOfMemory;
 use desk_time::Minute;
 use plan::{Leg, TakeoffAlternate};
@@ -34,53 +33,49 @@ impl Takeoff {
 }
 
 impl<'a> Circumstances<'a> {
-    // The weather at a station is below its minima as an alternate.
-    fn is_below_alternate(
-        &self,
-        alloc: Global,
-        station: Station,
-        minute: Minute,
-    ) -> Result<bool, OutOfMemory>
-        ensures { IfOk result (λ b. b ≡ spec.is_below_alternate (case_by self.now) station minute) }
-    {
-        let pairs = self.alternate_at(alloc, station)?;
-        Ok(!meets(self.weather_at(station, minute), pairs.as_slice()))
-    }
-
-    fn is_far(&self, leg: &Leg, it: TakeoffAlternate) -> bool
+    fn is_far(&self, leg: &Leg, it: &TakeoffAlternate) -> bool
         requires { IsWithin self.now }
-        ensures { result ≡ departure.is_far (case_by self.now) leg.now (Some it) }
+        ensures { result ≡ departure.is_far (case_by self.now) leg.now (Some it.now) }
     {
         let miles = self.evidence.tables.miles(leg.from, it.station);
         !in_range(self.aircraft.engines, self.aircraft.oei_knots, miles)
     }
 
     // The weather there, once the aircraft comes from the airport of departure, is below its minima.
-    fn is_low(&self, alloc: Global, leg: &Leg, it: TakeoffAlternate) -> Result<bool, OutOfMemory>
+    fn is_low(&self, leg: &Leg, it: &TakeoffAlternate) -> bool
         requires { HasMoments leg.now }
-        ensures { IfOk result (λ b. b ≡ departure.is_below_there (case_by self.now) leg.now (Some it)) }
+        ensures { result ≡ departure.is_below_there (case_by self.now) leg.now (Some it.now) }
     {
         let arrival = leg.etd + u64::from(it.minutes);
-        self.is_below_alternate(alloc, it.station, arrival)
+        self.is_below_alternate(it.station, self.weather_at(it.station, arrival))
+    }
+
+    // What the rules say of the one that is listed.
+    fn takeoff_listed(&self, leg: &Leg, it: &TakeoffAlternate) -> Takeoff
+        requires within { IsWithin self.now }
+        requires moments { HasMoments leg.now }
+        ensures { result ≡ takeoff_by true (case_by self.now) leg.now (Some it.now) }
+    {
+        Takeoff {
+            lacks: false,
+            is_far: self.is_far(leg, it),
+            is_low: self.is_low(leg, it),
+        }
     }
 
     // What the rules say where a takeoff alternate is needed.
-    fn takeoff_needed(&self, alloc: Global, leg: &Leg) -> Result<Takeoff, OutOfMemory>
+    fn takeoff_needed(&self, leg: &Leg) -> Takeoff
         requires within { IsWithin self.now }
         requires moments { HasMoments leg.now }
-        ensures { IfOk result (λ t. t ≡ takeoff_where true (case_by self.now) leg.now) }
+        ensures { result ≡ takeoff_where true (case_by self.now) leg.now }
     {
-        match leg.takeoff_alternate {
-            None => Ok(Takeoff {
+        match &leg.takeoff_alternate {
+            None => Takeoff {
                 lacks: true,
                 is_far: false,
                 is_low: false,
-            }),
-            Some(it) => Ok(Takeoff {
-                lacks: false,
-                is_far: self.is_far(leg, it),
-                is_low: self.is_low(alloc, leg, it)?,
-            }),
+            },
+            Some(it) => self.takeoff_listed(leg, it),
         }
     }
 
@@ -92,7 +87,7 @@ impl<'a> Circumstances<'a> {
     {
         let landing = self.landing_at(alloc, leg.from)?;
         if needs_takeoff(self.weather_at(leg.from, leg.etd), landing.as_slice()) {
-            self.takeoff_needed(alloc, leg)
+            Ok(self.takeoff_needed(leg))
         } else {
             Ok(Takeoff::CLEAR)
         }

@@ -1,21 +1,24 @@
 ghost use Rattle.std.specs.Prelude.{◌≡◌, ◌≤◌, ◌+◌, ◌-◌, not, IfOk};
 ghost use Rattle.std.specs.Option.{option_copied};
-ghost use Rattle.stations.specs.Pair.{AreWithin};
 ghost use Rattle.desk_time.specs.Limits.{IsMoment};
 ghost use Rattle.weather_window.specs.Window.{cond_at, worst_cond};
 ghost use Rattle.codes.specs.Minima.{meets};
+ghost use Rattle.alternates.specs.Needs.{is_marginal};
+ghost use Rattle.airport_minima.specs.Raised.{raised};
 ghost use Rattle.rules.specs.Grounds.{grounds_of};
 ghost use Rattle.rules.specs.Circumstances as spec;
+ghost use Rattle.rules.specs.HighestMet.{met_within};
 ghost use Rattle.rules.specs.Sights.{IsReported, case_by};
 
 use crate::circumstances::Circumstances;
 use crate::evidence::Evidence;
-use airport_minima::{alternate_pairs, landing, raised};
+use crate::highest_met::{NO_MARGIN, highest_met};
+use airport_minima::{Bounds, has_alternate_within, has_raised_within, landing};
 use codes::{Cond, meets};
 use desk_io::OutOfMemory;
 use desk_time::Minute;
 use metar::Metar;
-use stations::{Pairs, Station};
+use stations::{Pair, Pairs, Station};
 use std::alloc::Global;
 use taf::Taf;
 use weather_window::{at, worst};
@@ -71,8 +74,7 @@ impl<'a> Circumstances<'a> {
 
     /// The landing minima of a station for the aircraft.
     pub(crate) fn landing_at(&self, alloc: Global, station: Station) -> Result<Pairs, OutOfMemory>
-        ensures value { IfOk result (λ pairs. pairs ≡ spec.landing_at (case_by self.now) station) }
-        ensures within { IfOk result (λ pairs. AreWithin 20_000 16_093_440 pairs) }
+        ensures { IfOk result (λ pairs. pairs ≡ spec.landing_at (case_by self.now) station) }
     {
         landing(
             alloc,
@@ -84,36 +86,76 @@ impl<'a> Circumstances<'a> {
     }
 
     /// Weather is below the landing minima of a station for the aircraft, as they hold for its captain.
-    pub(crate) fn is_below_landing(
-        &self,
-        alloc: Global,
-        station: Station,
-        weather: Cond,
-        landing: &Pairs,
-    ) -> Result<bool, OutOfMemory>
-        requires minima { landing.now ≡ spec.landing_at (case_by self.now) station }
-        requires within { AreWithin 20_000 16_093_440 landing.now }
-        ensures { IfOk result (λ below. below ≡ not (meets weather (spec.arrival_minima (case_by self.now) station))) }
+    pub(crate) fn is_below_landing(&self, station: Station, weather: Cond, landing: &Pairs) -> bool
+        requires { landing.now ≡ spec.landing_at (case_by self.now) station }
+        ensures { result ≡ not (meets weather (spec.arrival_minima (case_by self.now) station)) }
     {
         if self.hours < 100 {
-            let alternate = self.alternate_at(alloc, station)?;
-            let minima = raised(alloc, landing, &alternate)?;
-            Ok(!meets(weather, minima.as_slice()))
+            !self.meets_raised_landing(station, weather, landing)
         } else {
-            Ok(!meets(weather, landing.as_slice()))
+            !meets(weather, landing.as_slice())
         }
     }
 
-    /// The minima of a station as an alternate for the aircraft.
-    pub(crate) fn alternate_at(&self, alloc: Global, station: Station) -> Result<Pairs, OutOfMemory>
-        ensures { IfOk result (λ pairs. pairs ≡ spec.alternate_at (case_by self.now) station) }
+    // Weather meets some of these landing minima as they are raised for a captain with few hours in the type.
+    #[tactic(auto, using(crate::proofs::HighestMet::met_unraised))]
+    fn meets_raised_landing(&self, station: Station, weather: Cond, landing: &Pairs) -> bool
+        ensures { result ≡ meets weather (raised landing.now (spec.alternate_at (case_by self.now) station)) }
     {
-        alternate_pairs(
-            alloc,
-            self.evidence.tables,
-            self.aircraft,
-            station,
-            &self.limits.lost,
-        )
+        self.has_raised_met(station, landing, highest_met(weather, NO_MARGIN))
+    }
+
+    // Some of these landing minima, as they are raised, are within the highest that weather meets.
+    fn has_raised_met(&self, station: Station, landing: &Pairs, highest: Option<Bounds>) -> bool
+        ensures { result ≡ met_within highest (raised landing.now (spec.alternate_at (case_by self.now) station)) }
+    {
+        match highest {
+            None => false,
+            Some(bounds) => has_raised_within(
+                self.evidence.tables,
+                self.aircraft,
+                station,
+                &self.limits.lost,
+                landing.as_slice(),
+                bounds,
+            ),
+        }
+    }
+
+    /// Weather is below the minima of a station as an alternate for the aircraft.
+    #[tactic(auto, using(crate::proofs::HighestMet::met_unraised))]
+    pub(crate) fn is_below_alternate(&self, station: Station, weather: Cond) -> bool
+        ensures { result ≡ not (meets weather (spec.alternate_at (case_by self.now) station)) }
+    {
+        !self.has_alternate_met(station, highest_met(weather, NO_MARGIN))
+    }
+
+    /// Weather is marginal at the minima of a station as an alternate for the aircraft.
+    #[tactic(auto, using(crate::proofs::HighestMet::met_raised))]
+    pub(crate) fn is_marginal_alternate(
+        &self,
+        station: Station,
+        weather: Cond,
+        margin: Pair,
+    ) -> bool
+        ensures { result ≡ is_marginal weather (spec.alternate_at (case_by self.now) station) margin }
+    {
+        !self.has_alternate_met(station, highest_met(weather, margin))
+    }
+
+    // Some minima of a station as an alternate are within the highest that weather meets.
+    fn has_alternate_met(&self, station: Station, highest: Option<Bounds>) -> bool
+        ensures { result ≡ met_within highest (spec.alternate_at (case_by self.now) station) }
+    {
+        match highest {
+            None => false,
+            Some(bounds) => has_alternate_within(
+                self.evidence.tables,
+                self.aircraft,
+                station,
+                &self.limits.lost,
+                bounds,
+            ),
+        }
     }
 }

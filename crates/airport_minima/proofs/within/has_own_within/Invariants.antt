@@ -1,0 +1,7 @@
+use Rattle.std.proofs.Common.{◌≡◌, drop, map}
+use Rattle.airport_minima.specs.Minima.{own_minima}
+use Rattle.airport_minima.specs.Within.{has_within}
+use Rattle.airport_minima.proofs.within.has_own_within.Given as goal
+
+abbrev pub invariant-loop-row : goal.invariant-loop-row
+invariant-loop-row l = has_within l.bounds (map (λ r. own_minima r) (drop l.row-index l.rows)) ≡ has_within l.bounds (map (λ r. own_minima r) l.rows)
