@@ -172,9 +172,9 @@ fn serve_next_in_turn<R: Wait, K: Keeper, B: Bell, N: Link, C: Clock, A: Opened,
 ///
 /// What was written is the responses to the requests of the link's bytes. Each reply has a place in the list that the
 /// pass has seen then, in order and not before what it had seen; it is the answer there, and what it adds stands there.
-/// The lane has added nothing else, but after all of these the miss of a clock that failed, or at most a tick where memory
-/// ran out. Where what the pass had seen is the list of a shared desk, a legal history with its misses, so is what it has
-/// seen then.
+/// The lane has added nothing else, but after all of these the miss of a clock that failed, or at most a tick where
+/// memory ran out. Where what the pass had seen is the list of a shared desk, a legal history with its misses, so is
+/// what it has seen then.
 pub fn serve_turns<R: Wait, K: Keeper, B: Bell, N: Link, C: Clock, A: Opened, L: Ledger>(
     rt: &R,
     alloc: Global,

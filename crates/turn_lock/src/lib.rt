@@ -8,6 +8,7 @@ mod lock;
 mod pass;
 mod plays;
 mod rule;
+mod sleepers;
 mod view;
 
 pub use laws::{elements_are_found, turns_are_single};

@@ -4,6 +4,7 @@ use crate::listed::Listed;
 use crate::pass::{Pass, Place, Turn};
 use crate::plays::{Compare, Count, Draw, Lift, Look, Lower, Part, ServeNext, TakeIn};
 use crate::rule::Turns;
+use crate::sleepers::Sleepers;
 use crate::view::View;
 use atomic_table::Table;
 use desk_io::OutOfMemory;
@@ -17,12 +18,10 @@ const DRAWN: usize = 1;
 
 const SERVED: usize = 2;
 
-// A sleeping thread compares 32 bits.
-const LOW: u64 = 0xffff_ffff;
-
 /// A lock round a value.
 pub struct TurnLock<T: Listed> {
     table: Table<Option<T>, View<T::Element>, (), Turns<T>, Global>,
+    sleepers: Sleepers,
     ghost sized: { (table.shared.table_id.words ≡ 3) × (table.shared.table_id.slots ≡ 1) },
 }
 
@@ -50,7 +49,8 @@ impl<T: Listed> TurnLock<T> {
             return Err(OutOfMemoryWith { value });
         };
         table.shared.load::<Lift>(&mut seat, SERVED);
-        let lock = TurnLock { table };
+        let sleepers = Sleepers::new();
+        let lock = TurnLock { table, sleepers };
         let pass = lock.give(Turn {
             place: Place { seat, splits: 0 },
             value,
@@ -111,6 +111,7 @@ impl<T: Listed> TurnLock<T> {
         let shared = &self.table.shared;
         let ticket = shared.fetch_add::<Draw>(&mut seat, DRAWN, 1);
         for _ in rt.forever() {
+            let rung = self.sleepers.rung(ticket);
             let served = shared.load::<Look>(&mut seat, SERVED);
             if served == ticket {
                 let value = shared.exchange(&mut seat, 0, None).unwrap();
@@ -119,7 +120,7 @@ impl<T: Listed> TurnLock<T> {
                     value,
                 };
             }
-            shared.park(rt, SERVED, (served & LOW) as u32);
+            self.sleepers.sleep(rt, ticket, rung);
         }
         unreachable!()
     }
@@ -140,8 +141,8 @@ impl<T: Listed> TurnLock<T> {
             Some(_) => unreachable!(),
         }
         shared.store::<Count>(&mut seat, LENGTH, length);
-        shared.fetch_add::<ServeNext>(&mut seat, SERVED, 1);
-        shared.wake_all(SERVED);
+        let served = shared.fetch_add::<ServeNext>(&mut seat, SERVED, 1);
+        self.sleepers.ring(served.wrapping_add(1));
         Pass { seat, splits }
     }
 
@@ -155,7 +156,7 @@ impl<T: Listed> TurnLock<T> {
             mut seat,
             splits: _,
         } = place;
-        let TurnLock { table } = self;
+        let TurnLock { table, sleepers: _ } = self;
         table.shared.load::<Lower>(&mut seat, SERVED);
         let mut closed = table.close_with(seat);
         match closed.take(0) {

@@ -19,8 +19,8 @@ store-requires g c =
           (subst (λ (v : View g.row.T-Element.Denot). Continues g.T.Listed.bears v.number v.seen (g.T.Listed.list c.args.turn.value)) (sym view) c.requires.list) c.length-length.ensures,
     )
 
-pub fetch_add-requires : goal.fetch_add-requires
-fetch_add-requires g c =
+pub fetch_add-served-requires : goal.fetch_add-served-requires
+fetch_add-served-requires g c =
     let held = c.args.turn.place.out in
     let now = c.exchange.ensures.3 in
     let view = ap (λ m. m.0) now in
@@ -39,7 +39,7 @@ invariant_of-result g c =
     let view = ap (λ m. m.0) now in
     let has = ap (λ m. m.1) now ∙ ap (λ l. (0, Some c.args.turn.value) ∷ l) (ap rest held.0) in
     let counted = c.store.ensures.2 c.args.turn.value has in
-    let served = c.fetch_add.ensures.2 in
+    let served = c.fetch_add-served.ensures.2 in
     record {
       idle = (
         served.1,
