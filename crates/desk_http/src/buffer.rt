@@ -8,8 +8,7 @@ use std::marker::Model;
 #[derive(Debug, Drop)]
 pub struct Buffer {
     pub(crate) bytes: Vec<u8>,
-    // Where bytes are read to, and the places of fields: empty until the first request.
-    pub(crate) piece: Vec<u8>,
+    // The places of fields: empty until the first request.
     pub(crate) spans: Vec<HeaderSpan>,
 }
 
@@ -28,7 +27,6 @@ impl Buffer {
     {
         Buffer {
             bytes: Vec::new(alloc),
-            piece: Vec::new(alloc),
             spans: Vec::new(alloc),
         }
     }

@@ -1,4 +1,4 @@
-ghost use Rattle.std.specs.Prelude.{◌≡◌, ◌<◌, ◌≤◌, ◌+◌, length, take, IfOk, IfErr, OnErr, IsErrOf, MatchResult};
+ghost use Rattle.std.specs.Prelude.{◌≡◌, ◌<◌, ◌≤◌, ◌+◌, length, take, drop, IfOk, IfErr, OnErr, IsErrOf, MatchResult};
 ghost use Rattle.desk_io.specs.Health.{HasCause, HasFailed};
 ghost use Rattle.desk_net.specs.Seen.{LinkGoesOn};
 ghost use Rattle.desk_net.specs.Streams.{unread, OnlyRead};
@@ -8,9 +8,12 @@ ghost use Rattle.desk_http.specs.Requests.{Splits, HasRead, AtEnd};
 
 use crate::fields::front;
 use crate::{FIELD_ROOM, Front, HEAD_LIMIT, WireFault, front_of};
-use desk_io::Failed;
+use desk_io::{Failed, OutOfMemory};
 use desk_net::Link;
 use httparse::spans::{HeaderSpan, RequestSpans};
+
+// How many bytes are asked for at once.
+const PIECE: usize = 4096;
 
 // Reads some bytes, and answers how many: 0 exactly at the end.
 fn read_piece<N: Link>(link: &mut N, into: &mut [u8]) -> Result<usize, Failed>
@@ -27,13 +30,36 @@ fn read_piece<N: Link>(link: &mut N, into: &mut [u8]) -> Result<usize, Failed>
     link.read(into)
 }
 
+// Room after the bytes that are kept, and how many those are.
+fn add_room(bytes: &mut Vec<u8>) -> Result<usize, OutOfMemory>
+    ensures kept { IfOk result (λ kept. kept ≡ length bytes.old.items) }
+    ensures front { IfOk result (λ kept. take kept bytes.new.items ≡ bytes.old.items) }
+    ensures room { IfOk result (λ kept. kept < length bytes.new.items) }
+    ensures err { OnErr result (bytes.new.items ≡ bytes.old.items) }
+{
+    let kept = bytes.len();
+    bytes.resize(kept + PIECE, 0)?;
+    Ok(kept)
+}
+
+// Reads some bytes over those from a place on, and answers how many: 0 exactly at the end.
+fn read_after<N: Link>(link: &mut N, bytes: &mut Vec<u8>, kept: usize) -> Result<usize, Failed>
+    requires { kept < length bytes.old.items }
+    ensures front { take kept bytes.new.items ≡ take kept bytes.old.items }
+    ensures bound { IfOk result (λ n. kept + n ≤ length bytes.new.items) }
+    ensures given { IfOk result (λ n. Splits (unread (N.seen link.old).stream) (take n (drop kept bytes.new.items))
+        (unread (N.seen link.new).stream)) }
+    ensures at_end { IfOk result (λ n. n ≡ 0 → AtEnd (unread (N.seen link.new).stream)) }
+    ensures stays { OnErr result (unread (N.seen link.new).stream ≡ unread (N.seen link.old).stream) }
+    ensures same { OnlyRead (N.seen link.old).stream (N.seen link.new).stream }
+    ensures on { LinkGoesOn (N.seen link.old) (N.seen link.new) }
+    ensures cause { OnErr result (HasFailed (N.seen link.old).health (N.seen link.new).health) }
+{
+    read_piece(link, &mut bytes[kept..])
+}
+
 /// Reads some bytes to the end of those that are kept, and answers how many: 0 exactly at the end.
-pub(crate) fn read_more<N: Link>(
-    link: &mut N,
-    bytes: &mut Vec<u8>,
-    piece: &mut [u8],
-) -> Result<usize, WireFault>
-    requires { 0 < length piece.old }
+pub(crate) fn read_more<N: Link>(link: &mut N, bytes: &mut Vec<u8>) -> Result<usize, WireFault>
     ensures more { IfOk result (λ _. HasRead (unread (N.seen link.old).stream) (unread (N.seen link.new).stream)
         bytes.old.items bytes.new.items) }
     ensures count { IfOk result (λ n. length bytes.new.items ≡ length bytes.old.items + n) }
@@ -45,9 +71,17 @@ pub(crate) fn read_more<N: Link>(
     ensures on { LinkGoesOn (N.seen link.old) (N.seen link.new) }
     ensures cause { HasCause WireFault.ReadFault (N.seen link.old).health (N.seen link.new).health result }
 {
-    let count = read_piece(link, piece)?;
-    bytes.extend_from_slice(&piece[..count])?;
-    Ok(count)
+    let kept = add_room(bytes)?;
+    match read_after(link, bytes, kept) {
+        Ok(count) => {
+            bytes.truncate(kept + count);
+            Ok(count)
+        }
+        Err(fault) => {
+            bytes.truncate(kept);
+            Err(WireFault::from(fault))
+        }
+    }
 }
 
 /// The bytes in which a head is looked for.
@@ -62,11 +96,9 @@ pub(crate) fn head_bytes(bytes: &[u8]) -> &[u8]
 pub(crate) fn read_head<N: Link>(
     link: &mut N,
     bytes: &mut Vec<u8>,
-    piece: &mut [u8],
     spans: &mut [HeaderSpan],
 ) -> Result<RequestSpans, WireFault>
-    requires piece { 0 < length piece.old }
-    requires room { FIELD_ROOM ≤ length spans.old }
+    requires { FIELD_ROOM ≤ length spans.old }
     ensures next { spec.ReadsHead (unread (N.seen link.old).stream) (unread (N.seen link.new).stream)
         bytes.old.items bytes.new.items spans.new result }
     ensures same { OnlyRead (N.seen link.old).stream (N.seen link.new).stream }
@@ -82,7 +114,7 @@ pub(crate) fn read_head<N: Link>(
         if bytes.len() >= HEAD_LIMIT {
             return Err(WireFault::TooLarge);
         }
-        if read_more(link, bytes, piece)? == 0 {
+        if read_more(link, bytes)? == 0 {
             return Err(if bytes.as_slice().is_empty() {
                 WireFault::End
             } else {
@@ -96,10 +128,8 @@ pub(crate) fn read_head<N: Link>(
 pub(crate) fn read_up_to<N: Link>(
     link: &mut N,
     bytes: &mut Vec<u8>,
-    piece: &mut [u8],
     count: usize,
 ) -> Result<bool, WireFault>
-    requires { 0 < length piece.old }
     ensures read { IfOk result (λ _. HasRead (unread (N.seen link.old).stream) (unread (N.seen link.new).stream)
         bytes.old.items bytes.new.items) }
     ensures next { MatchResult result (spec.IsUpTo count bytes.new.items (unread (N.seen link.new).stream))
@@ -110,7 +140,7 @@ pub(crate) fn read_up_to<N: Link>(
     ensures cause { HasCause WireFault.ReadFault (N.seen link.old).health (N.seen link.new).health result }
 {
     while bytes.len() < count {
-        if read_more(link, bytes, piece)? == 0 {
+        if read_more(link, bytes)? == 0 {
             return Ok(false);
         }
     }

@@ -12,19 +12,6 @@ use desk_net::Link;
 use httparse::spans::{EMPTY_HEADER_SPAN, HeaderSpan};
 use std::alloc::Global;
 
-// How many bytes are asked for at once.
-const PIECE: usize = 4096;
-
-// Room to read to.
-fn make_piece(piece: &mut Vec<u8>) -> Result<(), OutOfMemory>
-    ensures { OnOk result (0 < length piece.new.items) }
-{
-    if piece.is_empty() {
-        piece.resize(PIECE, 0)?;
-    }
-    Ok(())
-}
-
 // Room for the fields of a head.
 fn make_room(spans: &mut Vec<HeaderSpan>) -> Result<(), OutOfMemory>
     ensures { OnOk result (FIELD_ROOM ≤ length spans.new.items) }
@@ -40,18 +27,16 @@ fn begin<N: Link>(
     alloc: Global,
     link: &mut N,
     bytes: &mut Vec<u8>,
-    piece: &mut [u8],
     spans: &mut [HeaderSpan],
 ) -> Result<(Asked, usize), WireFault>
-    requires piece { 0 < length piece.old }
-    requires room { FIELD_ROOM ≤ length spans.old }
+    requires { FIELD_ROOM ≤ length spans.old }
     ensures next { spec.Begun (unread (N.seen link.old).stream) (unread (N.seen link.new).stream)
         bytes.old.items bytes.new.items result }
     ensures same { OnlyRead (N.seen link.old).stream (N.seen link.new).stream }
     ensures on { LinkGoesOn (N.seen link.old) (N.seen link.new) }
     ensures cause { HasCause WireFault.ReadFault (N.seen link.old).health (N.seen link.new).health result }
 {
-    let head = read_head(link, bytes, piece, spans)?;
+    let head = read_head(link, bytes, spans)?;
     match asked(alloc, head_bytes(bytes), &head, spans)? {
         Ok(asked) => Ok((asked, head.len)),
         Err(fault) => Err(fault),
@@ -105,20 +90,18 @@ fn request_in<N: Link>(
     alloc: Global,
     link: &mut N,
     bytes: &mut Vec<u8>,
-    piece: &mut [u8],
     spans: &mut [HeaderSpan],
 ) -> Result<Wire, WireFault>
-    requires piece { 0 < length piece.old }
-    requires room { FIELD_ROOM ≤ length spans.old }
+    requires { FIELD_ROOM ≤ length spans.old }
     ensures next { NextRequest (unread (N.seen link.old).stream) (unread (N.seen link.new).stream)
         bytes.old.items bytes.new.items result }
     ensures same { OnlyRead (N.seen link.old).stream (N.seen link.new).stream }
     ensures on { LinkGoesOn (N.seen link.old) (N.seen link.new) }
     ensures cause { HasCause WireFault.ReadFault (N.seen link.old).health (N.seen link.new).health result }
 {
-    let (asked, start) = begin(alloc, link, bytes, piece, spans)?;
+    let (asked, start) = begin(alloc, link, bytes, spans)?;
     let end = start + asked.length as usize;
-    if !read_up_to(link, bytes, piece, end)? {
+    if !read_up_to(link, bytes, end)? {
         return Err(WireFault::Cut);
     }
     Ok(finish(alloc, bytes, asked, start, end)?)
@@ -147,13 +130,6 @@ pub fn next_request<N: Link>(
     ensures on { LinkGoesOn (N.seen link.old) (N.seen link.new) }
     ensures cause { HasCause WireFault.ReadFault (N.seen link.old).health (N.seen link.new).health result }
 {
-    make_piece(&mut buffer.piece)?;
     make_room(&mut buffer.spans)?;
-    request_in(
-        alloc,
-        link,
-        &mut buffer.bytes,
-        &mut buffer.piece,
-        &mut buffer.spans,
-    )
+    request_in(alloc, link, &mut buffer.bytes, &mut buffer.spans)
 }

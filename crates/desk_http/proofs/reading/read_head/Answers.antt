@@ -48,6 +48,5 @@ loop-head-preserved g c =
       read = read_on _ _ _ _ _ _ c.loop-head.invariant.read c.in_ok-read_more.ensures.more;
       same = only_on _ _ _ c.loop-head.invariant.same c.in_ok-read_more.ensures.same;
       on = goes_on _ _ _ c.loop-head.invariant.on c.in_ok-read_more.ensures.on;
-      room = search rules;
       spans = search rules;
     }

@@ -1,4 +1,3 @@
-use Rattle.std.proofs.Common.{rules}
 use Rattle.desk_io.proofs.HealthLaws.{goes_on}
 use Rattle.desk_http.proofs.Links.{only_on}
 use Rattle.desk_http.proofs.Streams.{read_on}
@@ -10,5 +9,4 @@ loop-link-preserved g c =
       read = read_on _ _ _ _ _ _ c.loop-link.invariant.read c.in_ok-read_more.ensures.more;
       same = only_on _ _ _ c.loop-link.invariant.same c.in_ok-read_more.ensures.same;
       on = goes_on _ _ _ c.loop-link.invariant.on c.in_ok-read_more.ensures.on;
-      room = search rules;
     }

@@ -1,4 +1,4 @@
-use Rattle.std.proofs.Common.{◌-◌, ◌<◌, length}
+use Rattle.std.proofs.Common.{◌-◌, length}
 use Rattle.desk_net.specs.Seen.{LinkGoesOn}
 use Rattle.desk_net.specs.Streams.{unread, OnlyRead}
 use Rattle.desk_http.specs.Requests.{HasRead}
@@ -9,7 +9,6 @@ invariant-loop-link g l = record {
   read : HasRead (unread (g.N.Link.seen l.fn.link).stream) (unread (g.N.Link.seen l.link).stream) l.initial.bytes.items l.bytes.items;
   same : OnlyRead (g.N.Link.seen l.fn.link).stream (g.N.Link.seen l.link).stream;
   on : LinkGoesOn (g.N.Link.seen l.fn.link) (g.N.Link.seen l.link);
-  room : 0 < length l.piece;
 }
 
 abbrev pub decreases-loop-link : goal.decreases-loop-link
