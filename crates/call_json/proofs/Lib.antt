@@ -1,7 +1,6 @@
 pub mod Puts
 pub mod Lists
 pub mod Joined
-pub mod LegCounts
 pub mod DigestLaws
 pub mod Texts
 pub mod DoneForms
@@ -14,4 +13,5 @@ pub mod MomentRange
 pub mod PlanForms
 pub mod AskForms
 pub mod ValueTexts
+pub mod DocumentTexts
 pub mod Printable

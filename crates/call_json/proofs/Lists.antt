@@ -4,9 +4,6 @@ use Rattle.std.proofs.lemmas.List.{map-append}
 use Rattle.std.specs.List.{AllByRecursion}
 use Rattle.serde_json.specs.Data.{Data, Items, no_items, item}
 use Rattle.serde_json.specs.Events.{items_len}
-use Rattle.serde_json.specs.View.{view, items_view}
-use Rattle.serde_json.specs.declared.value.Value.{Value}
-use Rattle.serde_json.proofs.Views.{items_len-items_view}
 use Rattle.desk_time.specs.Digits.{◌>>=◌}
 use Rattle.call_json.specs.Fields.{each_read}
 
@@ -18,15 +15,10 @@ onto_one : {A : Type 0} (before : List A) (x : A) (o : Option (List A)) → onto
 onto_one before x None = refl
 onto_one before x (Some xs) = ap Some (sym (append_assoc before (x ∷ []) xs))
 
-first_read : {A : Type 0} (read_one : Data → Option A) (vs : List Value) (i : ℕ) (v : Value) → i < length vs → get_or vs i v ≡ v
-    → each_read read_one (items_view (drop i vs)) ≡ (read_one (view v) >>= λ x. each_read read_one (items_view (drop (i + 1) vs)) >>= λ xs. Some (x ∷ xs))
-first_read read_one vs i v within is = rw (add-one, drop-cons vs i v, is) refl
-
 -- an item that is read goes behind those before it
-pub read_on : {A : Type 0} (read_one : Data → Option A) (vs : List Value) (i : ℕ) (v : Value) (before : List A) (x : A)
-    → i < length vs → get_or vs i v ≡ v → read_one (view v) ≡ Some x
-    → onto (before ++ x ∷ []) (each_read read_one (items_view (drop (i + 1) vs))) ≡ onto before (each_read read_one (items_view (drop i vs)))
-read_on read_one vs i v before x within is found = rw (first_read read_one vs i v within is, found) (sym (onto_one before x _))
+pub read_on : {A : Type 0} (read_one : Data → Option A) (left after : Items) (d : Data) (before : List A) (x : A)
+    → left ≡ item d after → read_one d ≡ Some x → onto (before ++ x ∷ []) (each_read read_one after) ≡ onto before (each_read read_one left)
+read_on read_one left after d before x is found = rw (is, found) (sym (onto_one before x (each_read read_one after)))
 
 one_more : {A : Type 0} (o : Option A) (rest : Option (List A)) (n : ℕ) → IfSome rest (λ xs. length xs ≡ n) → IfSome (o >>= λ x. rest >>= λ xs. Some (x ∷ xs)) (λ xs. length xs ≡ suc n)
 one_more None rest n is = tt
@@ -42,8 +34,8 @@ at_most None n limit is few = tt
 at_most (Some xs) n limit is few = omega arith
 
 -- no more is read than there are items
-pub few_read : {A : Type 0} (read_one : Data → Option A) (vs : List Value) (limit : ℕ) → length vs ≤ limit → IfSome (each_read read_one (items_view vs)) (λ xs. length xs ≤ limit)
-few_read read_one vs limit few = at_most _ (items_len (items_view vs)) limit (as_many read_one (items_view vs)) (rw (items_len-items_view vs) few)
+pub few_read : {A : Type 0} (read_one : Data → Option A) (ds : Items) (limit : ℕ) → items_len ds ≤ limit → IfSome (each_read read_one ds) (λ xs. length xs ≤ limit)
+few_read read_one ds limit few = at_most (each_read read_one ds) (items_len ds) limit (as_many read_one ds) few
 
 first_is : {A : Type 0} (xs : List A) (i : ℕ) (x : A) → i < length xs → get_or xs i x ≡ x → drop i xs ≡ x ∷ drop (i + 1) xs
 first_is xs i x within is = rw (add-one, drop-cons xs i x, is) refl

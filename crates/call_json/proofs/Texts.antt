@@ -33,7 +33,7 @@ valid_front : (t : List ℕ) (n : ℕ) → IsUtf8 (take (valid_len_up_to t n) t)
 valid_front t zero = IsUtf8-nil
 valid_front t (suc n) = front_by t n (is_utf8 (take (suc n) t)) refl (valid_front t n)
 
-valid : (t : List ℕ) → IsUtf8 (take (utf8_valid_len t) t)
+pub valid : (t : List ℕ) → IsUtf8 (take (utf8_valid_len t) t)
 unfolding utf8_valid_len
 valid t = valid_front t (length t)
 

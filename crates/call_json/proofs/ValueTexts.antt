@@ -1,47 +1,13 @@
--- Each text of a value is UTF-8, and so is each that is read at a key.
-use Rattle.std.proofs.Common.{ℕ, List, [], ◌∷◌, length, map, Option, None, Some, IfSome, IsUtf8, String, Global, sym, subst, nat_le, option_and_then, Ordering, Less, Equal, Greater, leb-true}
+-- Where each text of data is UTF-8, so is each that is read at a key.
+use Rattle.std.proofs.Common.{ℕ, List, length, Option, None, Some, IfSome, IsUtf8, nat_le, option_and_then, Ordering, Less, Equal, Greater, leb-true}
 use Rattle.std.specs.Ordering.{nat_cmp, match_ordering}
 use Rattle.std.specs.Cmp.Lexicographic.{slice_cmp}
-use Rattle.std.proofs.lemmas.Str.{IsUtf8-string_bytes}
 use Rattle.serde_json.specs.Data.{Data, null, boolean, number, string, array, object, Members, no_members, member}
 use Rattle.serde_json.specs.Find.{get, get_member, as_str}
-use Rattle.serde_json.specs.View.{view, view_step, items_of, members_of}
-use Rattle.serde_json.specs.declared.value.Value.{Value, fold-roll-Value, ind-Value, map-Value}
-use Rattle.serde_json.specs.declared.value.Value.TheOpen.{Value-F}
 use Rattle.call_json.specs.Fields.{text_at, short, short_at}
 use Rattle.call_json.specs.Forms.{IsShort}
-use Rattle.call_json.specs.Plain.{HasText, ItemsHaveText, MembersHaveText}
+use Rattle.call_json.specs.Plain.{HasText, MembersHaveText}
 use Rattle.desk_time.proofs.Chains.{under}
-
-abbrev ValueHasText : Value → Type 0
-ValueHasText v = HasText (view v)
-
--- a value with its law
-abbrev Known : Type 0
-Known = (v : Value) × ValueHasText v
-
-items_have_text : (vs : List Known) → ItemsHaveText (items_of (map view (map (λ e. e.0) vs)))
-items_have_text [] = tt
-items_have_text (v ∷ vs) = (v.1, items_have_text vs)
-
-members_have_text : (ms : List (String Global × Known)) → MembersHaveText (members_of (map (λ (m : String Global × Value). (m.0, view m.1)) (map (λ (m : String Global × Known). (m.0, m.1.0)) ms)))
-members_have_text [] = tt
-members_have_text (m ∷ ms) = (IsUtf8-string_bytes m.0, m.1.1, members_have_text ms)
-
-layer : (y : Value-F Known) → HasText (view_step (map-Value Value Data view (map-Value Known Value (λ e. e.0) y)))
-layer Value-F.Null = tt
-layer (Value-F.Bool b) = tt
-layer (Value-F.Number x) = tt
-layer (Value-F.String s) = IsUtf8-string_bytes s
-layer (Value-F.Array v) = items_have_text v.items
-layer (Value-F.Object m) = members_have_text m.entries
-
-pub view_has_text : (v : Value) → ValueHasText v
-view_has_text = ind-Value ValueHasText (λ x y is.
-    let whole = subst (λ z. HasText (view_step (map-Value Value Data view z))) is (layer y) in
-    subst HasText (sym (fold-roll-Value Data view_step x)) whole)
-
--- ---- what is read at a key
 
 found_by : (o : Ordering) (before found after : Option Data) → IfSome before HasText → IfSome found HasText → IfSome after HasText → IfSome (match_ordering o before found after) HasText
 found_by Less before found after low here high = low

@@ -8,6 +8,7 @@ ghost use Rattle.call_json.specs.Digests.{digest_of, IsDigestAgain};
 
 use crate::fields::text_at;
 use crate::members::{Members, with_value};
+use compact_json::Json;
 use desk_io::OutOfMemory;
 use hex::FromHex;
 use serde_json::Value;
@@ -54,8 +55,8 @@ fn read_digest(text: &[u8]) -> Option<[u8; 32]>
 }
 
 /// The digest at a key.
-pub fn digest_at(key: &str, value: &Value) -> Option<[u8; 32]>
-    ensures { result ≡ spec.digest_at key.now (view value.now) }
+pub fn digest_at<'a, V: Json<'a>>(key: &str, value: V) -> Option<[u8; 32]>
+    ensures { result ≡ spec.digest_at key.now (V.told value) }
 {
     read_digest(text_at(key, value)?.as_bytes())
 }

@@ -10,6 +10,7 @@ use crate::digests::{digest_at, with_digest};
 use crate::fields::{has_members, number_at};
 use crate::members::{Members, with_count};
 use asks::Done;
+use compact_json::Json;
 use desk_io::OutOfMemory;
 use serde_json::{Map, Value};
 use std::alloc::Global;
@@ -59,8 +60,8 @@ pub fn done_value(alloc: Global, done: &Done) -> Result<Value, OutOfMemory>
     Ok(Value::Object(done_members(alloc, done)?))
 }
 
-fn report_of(ids: u64, value: &Value) -> Option<Done>
-    ensures { result ≡ dones.report_of ids (view value.now) }
+fn report_of<'a, V: Json<'a>>(ids: u64, value: V) -> Option<Done>
+    ensures { result ≡ dones.report_of ids (V.told value) }
 {
     let id = number_at("report", ids, value)?;
     if has_members(1, value) {
@@ -70,8 +71,8 @@ fn report_of(ids: u64, value: &Value) -> Option<Done>
     }
 }
 
-fn deferral_of(ids: u64, value: &Value) -> Option<Done>
-    ensures { result ≡ dones.deferral_of ids (view value.now) }
+fn deferral_of<'a, V: Json<'a>>(ids: u64, value: V) -> Option<Done>
+    ensures { result ≡ dones.deferral_of ids (V.told value) }
 {
     let id = number_at("deferral", ids, value)?;
     if has_members(1, value) {
@@ -81,8 +82,8 @@ fn deferral_of(ids: u64, value: &Value) -> Option<Done>
     }
 }
 
-fn filed_of(ids: u64, value: &Value) -> Option<Done>
-    ensures { result ≡ dones.filed_of ids (view value.now) }
+fn filed_of<'a, V: Json<'a>>(ids: u64, value: V) -> Option<Done>
+    ensures { result ≡ dones.filed_of ids (V.told value) }
 {
     let release = number_at("release", ids, value)?;
     let revision = number_at("revision", ids, value)?;
@@ -93,8 +94,8 @@ fn filed_of(ids: u64, value: &Value) -> Option<Done>
     }
 }
 
-fn prepared_of(ids: u64, value: &Value) -> Option<Done>
-    ensures { result ≡ dones.prepared_of ids (view value.now) }
+fn prepared_of<'a, V: Json<'a>>(ids: u64, value: V) -> Option<Done>
+    ensures { result ≡ dones.prepared_of ids (V.told value) }
 {
     let release = number_at("release", ids, value)?;
     let revision = number_at("revision", ids, value)?;
@@ -110,8 +111,8 @@ fn prepared_of(ids: u64, value: &Value) -> Option<Done>
     }
 }
 
-fn release_of(ids: u64, value: &Value) -> Option<Done>
-    ensures { result ≡ dones.release_of ids (view value.now) }
+fn release_of<'a, V: Json<'a>>(ids: u64, value: V) -> Option<Done>
+    ensures { result ≡ dones.release_of ids (V.told value) }
 {
     let id = number_at("release", ids, value)?;
     if has_members(1, value) {
@@ -121,8 +122,8 @@ fn release_of(ids: u64, value: &Value) -> Option<Done>
     }
 }
 
-fn swept_of(counts: u64, value: &Value) -> Option<Done>
-    ensures { result ≡ dones.swept_of counts (view value.now) }
+fn swept_of<'a, V: Json<'a>>(counts: u64, value: V) -> Option<Done>
+    ensures { result ≡ dones.swept_of counts (V.told value) }
 {
     let reports = number_at("reports", counts, value)?;
     let kept = number_at("kept", counts, value)?;
@@ -134,8 +135,8 @@ fn swept_of(counts: u64, value: &Value) -> Option<Done>
 }
 
 #[tactic(auto, unfolding(crate::specs::Dones::done_within))]
-fn done_in(ids: u64, counts: u64, value: &Value) -> Option<Done>
-    ensures { result ≡ done_within ids counts (view value.now) }
+fn done_in<'a, V: Json<'a>>(ids: u64, counts: u64, value: V) -> Option<Done>
+    ensures { result ≡ done_within ids counts (V.told value) }
 {
     report_of(ids, value)
         .or(deferral_of(ids, value))
@@ -145,8 +146,8 @@ fn done_in(ids: u64, counts: u64, value: &Value) -> Option<Done>
         .or(swept_of(counts, value))
 }
 
-fn done_within(ids: u64, counts: u64, value: &Value) -> Option<Done>
-    ensures value { result ≡ done_within ids counts (view value.now) }
+fn done_within<'a, V: Json<'a>>(ids: u64, counts: u64, value: V) -> Option<Done>
+    ensures value { result ≡ done_within ids counts (V.told value) }
     ensures form { IfSome result (DoneWithin ids counts) }
 {
     done_in(ids, counts, value)
@@ -155,16 +156,16 @@ fn done_within(ids: u64, counts: u64, value: &Value) -> Option<Done>
 /// What was done, as it is kept, where an object has exactly the keys of one kind, and each field its form: ids and
 /// numbers of revisions of at most 10^15, counts of at most 4,294,967,295, and 64 hexadecimal digits, none of them a
 /// capital letter.
-pub fn read_done(value: &Value) -> Option<Done>
-    ensures value { result ≡ done_of (view value.now) }
+pub fn read_done<'a, V: Json<'a>>(value: V) -> Option<Done>
+    ensures value { result ≡ done_of (V.told value) }
     ensures form { IfSome result DoneHasForms }
 {
     done_within(1_000_000_000_000_000, 4_294_967_295, value)
 }
 
 /// What was done, as a reply says it: the same, but each number as far as its 64 bits go.
-pub fn read_said_done(value: &Value) -> Option<Done>
-    ensures value { result ≡ said_done_of (view value.now) }
+pub fn read_said_done<'a, V: Json<'a>>(value: V) -> Option<Done>
+    ensures value { result ≡ said_done_of (V.told value) }
     ensures form { IfSome result SaidDoneHasForms }
 {
     done_within(u64::MAX, u64::MAX, value)

@@ -1,16 +1,15 @@
 ghost use Rattle.std.specs.Prelude.{◌≡◌, ◌≤◌, length, IfOk, IfSome};
 ghost use Rattle.std.specs.List.{AllByRecursion};
-ghost use Rattle.serde_json.specs.View.{view, items_view};
 ghost use Rattle.desk_time.specs.Limits.{IsMoment};
 ghost use Rattle.plan.specs.Check.{HasMoments};
 ghost use Rattle.call_json.specs.Fields.{each_read};
 ghost use Rattle.call_json.specs.Legs as spec;
 
 use crate::fields::{amount_at, has_members, list_at, moment_at, station_at};
+use compact_json::Json;
 use desk_io::OutOfMemory;
 use desk_time::Minute;
 use plan::{Alternate, Alternates, Leg, Legs, TakeoffAlternate};
-use serde_json::Value;
 use stations::Station;
 use std::alloc::Global;
 
@@ -38,8 +37,8 @@ struct Fuel {
     onboard: u32,
 }
 
-fn alternate_of(value: &Value) -> Option<Alternate>
-    ensures { result ≡ spec.alternate_of (view value.now) }
+fn alternate_of<'a, V: Json<'a>>(value: V) -> Option<Alternate>
+    ensures { result ≡ spec.alternate_of (V.told value) }
 {
     let fuel = amount_at("fuel", value)?;
     let minutes = amount_at("minutes", value)?;
@@ -55,11 +54,15 @@ fn alternate_of(value: &Value) -> Option<Alternate>
     }
 }
 
-fn alternates_of(alloc: Global, items: &[Value]) -> Result<Option<Alternates>, OutOfMemory>
-    ensures { IfOk result (λ alternates. alternates ≡ each_read spec.alternate_of (items_view items.now)) }
+fn alternates_of<'a, V: Json<'a>>(
+    alloc: Global,
+    items: V::Left,
+) -> Result<Option<Alternates>, OutOfMemory>
+    ensures { IfOk result (λ alternates. alternates ≡ each_read spec.alternate_of (V.left items)) }
 {
+    let mut left = items;
     let mut alternates = Alternates::new(alloc);
-    for item in items {
+    'items: while let Some(item) = V::next(&mut left) {
         match alternate_of(item) {
             Some(alternate) => alternates.push(alternate)?,
             None => return Ok(None),
@@ -68,17 +71,20 @@ fn alternates_of(alloc: Global, items: &[Value]) -> Result<Option<Alternates>, O
     Ok(Some(alternates))
 }
 
-fn alternates_at(alloc: Global, value: &Value) -> Result<Option<Alternates>, OutOfMemory>
-    ensures { IfOk result (λ alternates. alternates ≡ spec.alternates_at (view value.now)) }
+fn alternates_at<'a, V: Json<'a>>(
+    alloc: Global,
+    value: V,
+) -> Result<Option<Alternates>, OutOfMemory>
+    ensures { IfOk result (λ alternates. alternates ≡ spec.alternates_at (V.told value)) }
 {
     match list_at("alternates", value) {
-        Some(items) => alternates_of(alloc, items),
+        Some(items) => alternates_of::<V>(alloc, items),
         None => Ok(None),
     }
 }
 
-fn takeoff_of(value: &Value) -> Option<TakeoffAlternate>
-    ensures { result ≡ spec.takeoff_of (view value.now) }
+fn takeoff_of<'a, V: Json<'a>>(value: V) -> Option<TakeoffAlternate>
+    ensures { result ≡ spec.takeoff_of (V.told value) }
 {
     let minutes = amount_at("minutes", value)?;
     let station = station_at("station", value)?;
@@ -89,8 +95,8 @@ fn takeoff_of(value: &Value) -> Option<TakeoffAlternate>
     }
 }
 
-fn takeoff_in(value: &Value) -> Option<Option<TakeoffAlternate>>
-    ensures { result ≡ spec.takeoff_in (view value.now) }
+fn takeoff_in<'a, V: Json<'a>>(value: V) -> Option<Option<TakeoffAlternate>>
+    ensures { result ≡ spec.takeoff_in (V.told value) }
 {
     if value.is_null() {
         Some(None)
@@ -99,8 +105,8 @@ fn takeoff_in(value: &Value) -> Option<Option<TakeoffAlternate>>
     }
 }
 
-fn takeoff_at(value: &Value) -> Option<Option<TakeoffAlternate>>
-    ensures { result ≡ spec.takeoff_at (view value.now) }
+fn takeoff_at<'a, V: Json<'a>>(value: V) -> Option<Option<TakeoffAlternate>>
+    ensures { result ≡ spec.takeoff_at (V.told value) }
 {
     match value.get("takeoff_alternate") {
         Some(found) => takeoff_in(found),
@@ -108,16 +114,16 @@ fn takeoff_at(value: &Value) -> Option<Option<TakeoffAlternate>>
     }
 }
 
-fn route_of(value: &Value) -> Option<Route>
-    ensures { result ≡ spec.route_of (view value.now) }
+fn route_of<'a, V: Json<'a>>(value: V) -> Option<Route>
+    ensures { result ≡ spec.route_of (V.told value) }
 {
     let from = station_at("from", value)?;
     let to = station_at("to", value)?;
     Some(Route { from, to })
 }
 
-fn times_of(value: &Value) -> Option<Times>
-    ensures value { result ≡ spec.times_of (view value.now) }
+fn times_of<'a, V: Json<'a>>(value: V) -> Option<Times>
+    ensures value { result ≡ spec.times_of (V.told value) }
     ensures moments { IfSome result (λ times. IsMoment times.etd × IsMoment times.eta) }
 {
     let etd = moment_at("etd", value)?;
@@ -126,8 +132,8 @@ fn times_of(value: &Value) -> Option<Times>
     Some(Times { etd, eta, minutes })
 }
 
-fn fuel_of(value: &Value) -> Option<Fuel>
-    ensures { result ≡ spec.fuel_of (view value.now) }
+fn fuel_of<'a, V: Json<'a>>(value: V) -> Option<Fuel>
+    ensures { result ≡ spec.fuel_of (V.told value) }
 {
     let burn = amount_at("burn", value)?;
     let extra = amount_at("extra", value)?;
@@ -165,15 +171,15 @@ fn leg_with(
     }
 }
 
-fn leg_of_parts(
+fn leg_of_parts<'a, V: Json<'a>>(
     alloc: Global,
-    value: &Value,
+    value: V,
     route: Route,
     times: Times,
     fuel: Fuel,
 ) -> Result<Option<Leg>, OutOfMemory>
     requires { IsMoment times.etd × IsMoment times.eta }
-    ensures value { IfOk result (λ leg. leg ≡ spec.leg_of_parts (view value.now) route times fuel) }
+    ensures value { IfOk result (λ leg. leg ≡ spec.leg_of_parts (V.told value) route times fuel) }
     ensures moments { IfOk result (λ leg. IfSome leg HasMoments) }
 {
     let Some(takeoff) = takeoff_at(value) else {
@@ -187,8 +193,8 @@ fn leg_of_parts(
     }
 }
 
-fn leg_of(alloc: Global, value: &Value) -> Result<Option<Leg>, OutOfMemory>
-    ensures value { IfOk result (λ leg. leg ≡ spec.leg_of (view value.now)) }
+fn leg_of<'a, V: Json<'a>>(alloc: Global, value: V) -> Result<Option<Leg>, OutOfMemory>
+    ensures value { IfOk result (λ leg. leg ≡ spec.leg_of (V.told value)) }
     ensures moments { IfOk result (λ leg. IfSome leg HasMoments) }
 {
     let Some(route) = route_of(value) else {
@@ -203,12 +209,13 @@ fn leg_of(alloc: Global, value: &Value) -> Result<Option<Leg>, OutOfMemory>
     }
 }
 
-fn legs_in(alloc: Global, items: &[Value]) -> Result<Option<Legs>, OutOfMemory>
-    ensures value { IfOk result (λ legs. legs ≡ each_read spec.leg_of (items_view items.now)) }
+fn legs_in<'a, V: Json<'a>>(alloc: Global, items: V::Left) -> Result<Option<Legs>, OutOfMemory>
+    ensures value { IfOk result (λ legs. legs ≡ each_read spec.leg_of (V.left items)) }
     ensures moments { IfOk result (λ legs. IfSome legs (AllByRecursion HasMoments)) }
 {
+    let mut left = items;
     let mut legs = Legs::new(alloc);
-    for item in items {
+    'items: while let Some(item) = V::next(&mut left) {
         match leg_of(alloc, item)? {
             Some(leg) => legs.push(leg)?,
             None => return Ok(None),
@@ -217,26 +224,26 @@ fn legs_in(alloc: Global, items: &[Value]) -> Result<Option<Legs>, OutOfMemory>
     Ok(Some(legs))
 }
 
-fn legs_of(alloc: Global, items: &[Value]) -> Result<Option<Legs>, OutOfMemory>
-    ensures value { IfOk result (λ legs. legs ≡ spec.legs_of (items_view items.now)) }
+fn legs_of<'a, V: Json<'a>>(alloc: Global, items: V::Left) -> Result<Option<Legs>, OutOfMemory>
+    ensures value { IfOk result (λ legs. legs ≡ spec.legs_of (V.left items)) }
     ensures few { IfOk result (λ legs. IfSome legs (λ all. length all ≤ 1000)) }
     ensures moments { IfOk result (λ legs. IfSome legs (AllByRecursion HasMoments)) }
 {
-    if items.len() <= 1000 {
-        legs_in(alloc, items)
+    if V::are_at_most(items, 1000) {
+        legs_in::<V>(alloc, items)
     } else {
         Ok(None)
     }
 }
 
 /// The list of at most 1,000 legs of a plan.
-pub fn legs_at(alloc: Global, value: &Value) -> Result<Option<Legs>, OutOfMemory>
-    ensures value { IfOk result (λ legs. legs ≡ spec.legs_at (view value.now)) }
+pub fn legs_at<'a, V: Json<'a>>(alloc: Global, value: V) -> Result<Option<Legs>, OutOfMemory>
+    ensures value { IfOk result (λ legs. legs ≡ spec.legs_at (V.told value)) }
     ensures few { IfOk result (λ legs. IfSome legs (λ all. length all ≤ 1000)) }
     ensures moments { IfOk result (λ legs. IfSome legs (AllByRecursion HasMoments)) }
 {
     match list_at("legs", value) {
-        Some(items) => legs_of(alloc, items),
+        Some(items) => legs_of::<V>(alloc, items),
         None => Ok(None),
     }
 }

@@ -16,8 +16,8 @@ pub use ask_values::{ask_digest, ask_text, ask_value};
 pub use digests::{digest_at, digest_value, with_digest};
 pub use dones::{done_value, read_done, read_said_done};
 pub use fields::{
-    amount_at, data_of, has_members, id_at, list_at, moment_at, number_at, short_at, station_at,
-    text_at,
+    amount_at, data_of, document_of, has_members, id_at, list_at, moment_at, number_at, short_at,
+    station_at, text_at,
 };
 pub use members::{Members, with_count, with_moment, with_name, with_text, with_value};
 pub use plan_values::{plan_text, plan_value};

@@ -1,7 +1,6 @@
 ghost use Rattle.std.specs.Prelude.{◌≡◌, ◌≤◌, length, IfOk, IfSome};
 ghost use Rattle.std.specs.List.{AllByRecursion, list_all};
 ghost use Rattle.std.specs.Option.{option_map};
-ghost use Rattle.serde_json.specs.View.{view};
 ghost use Rattle.plan.specs.Check.{HasMoments, IsPlan};
 ghost use Rattle.call_json.specs.Plans as spec;
 ghost use Rattle.stations.specs.Station.{is_capital_or_digit};
@@ -9,9 +8,9 @@ ghost use Rattle.call_json.specs.Plans.{plan_of};
 
 use crate::fields::{has_members, text_at};
 use crate::legs::legs_at;
+use compact_json::Json;
 use desk_io::{OutOfMemory, Text};
 use plan::{Kind, Legs, Plan};
-use serde_json::Value;
 use std::alloc::Global;
 
 // What a name is of.
@@ -60,8 +59,8 @@ fn has_form(form: Form, text: &[u8]) -> bool
     1 <= text.len() && text.len() <= longest(form) && all_of_form(form, text)
 }
 
-fn name_at<'a>(key: &str, form: Form, value: &'a Value) -> Option<&'a str>
-    ensures { option_map (λ t. t.now) result ≡ spec.name_at key.now form (view value.now) }
+fn name_at<'a, V: Json<'a>>(key: &str, form: Form, value: V) -> Option<&'a str>
+    ensures { option_map (λ t. t.now) result ≡ spec.name_at key.now form (V.told value) }
 {
     match text_at(key, value) {
         Some(text) if has_form(form, text.as_bytes()) => Some(text),
@@ -81,21 +80,21 @@ fn kind_of(name: &str) -> Option<Kind>
     }
 }
 
-fn kind_at(value: &Value) -> Option<Kind>
-    ensures { result ≡ spec.kind_at (view value.now) }
+fn kind_at<'a, V: Json<'a>>(value: V) -> Option<Kind>
+    ensures { result ≡ spec.kind_at (V.told value) }
 {
     kind_of(text_at("kind", value)?)
 }
 
-fn named_plan(
+fn named_plan<'a, V: Json<'a>>(
     alloc: Global,
-    value: &Value,
+    value: V,
     kind: Kind,
     legs: Legs,
 ) -> Result<Option<Plan>, OutOfMemory>
     requires few { length legs ≤ 1000 }
     requires moments { AllByRecursion HasMoments legs }
-    ensures value { IfOk result (λ p. p ≡ spec.named_plan (view value.now) kind legs) }
+    ensures value { IfOk result (λ p. p ≡ spec.named_plan (V.told value) kind legs) }
     ensures form { IfOk result (λ p. IfSome p IsPlan) }
 {
     let Some(flight) = name_at("flight", Form::Flight, value) else {
@@ -121,8 +120,8 @@ fn named_plan(
 
 /// The plan of an object, where it has exactly the keys of a plan and each field has its form.
 #[tactic(auto, unfolding(crate::specs::Plans::plan_of))]
-pub fn read_plan(alloc: Global, value: &Value) -> Result<Option<Plan>, OutOfMemory>
-    ensures value { IfOk result (λ p. p ≡ plan_of (view value.now)) }
+pub fn read_plan<'a, V: Json<'a>>(alloc: Global, value: V) -> Result<Option<Plan>, OutOfMemory>
+    ensures value { IfOk result (λ p. p ≡ plan_of (V.told value)) }
     ensures form { IfOk result (λ p. IfSome p IsPlan) }
 {
     let Some(kind) = kind_at(value) else {

@@ -3,8 +3,6 @@ use Rattle.std.proofs.Common.{ℕ, ◌≤◌, List, IfSome, IfOk, Result, Ok, Er
 use Rattle.std.specs.Prelude.{is_some, option_and_then}
 use Rattle.serde_json.specs.Data.{Data}
 use Rattle.serde_json.specs.Find.{get, as_object}
-use Rattle.serde_json.specs.View.{view}
-use Rattle.serde_json.specs.declared.value.Value.{Value}
 use Rattle.desk_time.specs.Limits.{IsMoment}
 use Rattle.asks.specs.declared.call.Ask.{Ask}
 use Rattle.asks.specs.declared.call.Ask.TheVariants.{Prepare, Cancel, Purge, ViewRelease}
@@ -18,7 +16,9 @@ use Rattle.call_json.specs.Forms.{IsAmount, IsId, IsShort, HasForms, AskHasForms
 use Rattle.desk_time.proofs.Chains.{then_if, under}
 use Rattle.call_json.proofs.PlanForms.{IsAirport, number_formed, id_formed, amount_formed, station_formed, moment_formed, plan_formed}
 use Rattle.call_json.proofs.DoneForms.{digest_is}
-use Rattle.call_json.proofs.ValueTexts.{view_has_text, found_has_text, text_formed, short_formed}
+use Rattle.compact_json.specs.Kept as kept
+use Rattle.call_json.proofs.DocumentTexts.{data_has_text}
+use Rattle.call_json.proofs.ValueTexts.{found_has_text, text_formed, short_formed}
 use Rattle.desk_json.specs.declared.asked.Signed.{Signed}
 use Rattle.desk_json.specs.declared.asked.Flown.{Flown}
 use Rattle.desk_json.specs.declared.keys.AskKind.{AskKind}
@@ -139,10 +139,10 @@ line_formed d has =
     moment_then (codes "at") d _ LineHasForms (λ at is_at.
     formed_after (call_by actor ask d) _ CallHasForms LineHasForms (by_call_formed actor ask d has_ask has is_actor) (λ call is. (is_at, is)))))
 
--- ---- what is answered of a value
+-- ---- what is answered of boxes
 
-pub call_forms : (v : Value) (r : Result Call CallFault) → Answers (call_in (view v)) r → IfOk r CallHasForms
-call_forms v r is = answered (λ (x : Result Call CallFault). IfOk x CallHasForms) (call_in (view v)) r tt (call_formed (view v) (view_has_text v)) is
+pub call_forms : (bytes : List ℕ) (r : Result Call CallFault) → Answers (call_in (kept.data_of bytes)) r → IfOk r CallHasForms
+call_forms bytes r is = answered (λ (x : Result Call CallFault). IfOk x CallHasForms) (call_in (kept.data_of bytes)) r tt (call_formed (kept.data_of bytes) (data_has_text bytes)) is
 
-pub line_forms : (v : Value) (r : Result (ℕ × Call) CallFault) → Answers (line_in (view v)) r → IfOk r LineHasForms
-line_forms v r is = answered (λ (x : Result (ℕ × Call) CallFault). IfOk x LineHasForms) (line_in (view v)) r tt (line_formed (view v) (view_has_text v)) is
+pub line_forms : (bytes : List ℕ) (r : Result (ℕ × Call) CallFault) → Answers (line_in (kept.data_of bytes)) r → IfOk r LineHasForms
+line_forms bytes r is = answered (λ (x : Result (ℕ × Call) CallFault). IfOk x LineHasForms) (line_in (kept.data_of bytes)) r tt (line_formed (kept.data_of bytes) (data_has_text bytes)) is

@@ -5,8 +5,6 @@ use Rattle.std.specs.Prelude.{is_some, nat_le, if◌then◌else◌, option_and_t
 use Rattle.std.specs.List.{AllByRecursion}
 use Rattle.serde_json.specs.Data.{Data}
 use Rattle.serde_json.specs.Find.{get, as_str}
-use Rattle.serde_json.specs.View.{view}
-use Rattle.serde_json.specs.declared.value.Value.{Value}
 use Rattle.desk_time.specs.Digits.{◌>>=◌}
 use Rattle.desk_time.specs.Limits.{last_moment, last_shown, IsMoment}
 use Rattle.desk_time.specs.Moments.{minute_of, shown_of, up_to, written}
@@ -24,7 +22,9 @@ use Rattle.desk_time.proofs.Chains.{bind_if, bind_any, then_if, under, either}
 use Rattle.call_json.proofs.DoneForms.{digest_is, done_formed}
 use Rattle.call_json.proofs.MomentRange.{minute_within}
 use Rattle.call_json.proofs.PlanForms.{number_formed, amount_formed, each_formed}
-use Rattle.call_json.proofs.ValueTexts.{view_has_text, text_formed}
+use Rattle.compact_json.specs.Kept.{data_of}
+use Rattle.call_json.proofs.DocumentTexts.{data_has_text}
+use Rattle.call_json.proofs.ValueTexts.{text_formed}
 use Rattle.kept_releases.specs.Findings.{said_finding_of}
 use Rattle.kept_releases.specs.Phases.{phase_of, IsPhase}
 use Rattle.kept_releases.proofs.FindingLaws.{finding_formed}
@@ -195,10 +195,10 @@ reply_shown (Done done) is = tt
 reply_shown (Seen text) is = tt
 reply_shown (Refused refusal) is = refusal_shown refusal is
 
--- ---- what is read of a value
+-- ---- what is read of boxes
 
-pub value_forms : (v : Value) (read : Option Reply) → read ≡ reply_of (view v) → IfSome read ReplyHasForms
-value_forms v read is = subst (λ (o : Option Reply). IfSome o ReplyHasForms) (sym is) (reply_formed (view v) (view_has_text v))
+pub box_forms : (bytes : List ℕ) (read : Option Reply) → read ≡ reply_of (data_of bytes) → IfSome read ReplyHasForms
+box_forms bytes read is = subst (λ (o : Option Reply). IfSome o ReplyHasForms) (sym is) (reply_formed (data_of bytes) (data_has_text bytes))
 
-pub value_shown : (v : Value) (read : Option Reply) → read ≡ reply_of (view v) → IfSome read ReplyHasMoment
-value_shown v read is = IfSome_then read (value_forms v read is) reply_shown
+pub box_shown : (bytes : List ℕ) (read : Option Reply) → read ≡ reply_of (data_of bytes) → IfSome read ReplyHasMoment
+box_shown bytes read is = IfSome_then read (box_forms bytes read is) reply_shown

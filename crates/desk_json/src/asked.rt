@@ -1,5 +1,5 @@
 ghost use Rattle.std.specs.Prelude.{◌≡◌};
-ghost use Rattle.serde_json.specs.View.{view};
+ghost use Rattle.compact_json.specs.Elements.{data_at};
 ghost use Rattle.desk_json.specs.Faults as spec;
 ghost use Rattle.desk_json.specs.Faults.{Answers};
 
@@ -8,7 +8,7 @@ use crate::fields::{id_of, moment_of, plan_of, short_of, text_of};
 use crate::keys::{AskKind, Object, kind_of, only_keys};
 use asks::{Ask, CallWhy};
 use call_json::{amount_at, digest_at, station_at, text_at};
-use serde_json::Value;
+use compact_json::Element;
 use std::alloc::Global;
 
 // A revision of a release, and the digest of its text.
@@ -26,14 +26,14 @@ struct Flown {
     leg: u32,
 }
 
-fn release_of(alloc: Global, value: &Value) -> Result<u64, CallFault>
-    ensures { Answers (spec.release_of (view value.now)) result }
+fn release_of(alloc: Global, value: Element<'_>) -> Result<u64, CallFault>
+    ensures { Answers (spec.release_of (data_at value.entry)) result }
 {
     id_of(alloc, "release", value)
 }
 
-fn defer_of(alloc: Global, value: &Value) -> Result<Ask, CallFault>
-    ensures { Answers (spec.defer_of (view value.now)) result }
+fn defer_of(alloc: Global, value: Element<'_>) -> Result<Ask, CallFault>
+    ensures { Answers (spec.defer_of (data_at value.entry)) result }
 {
     let found = moment_of(alloc, "found", value)?;
     let item = short_of(alloc, "item", value)?;
@@ -41,8 +41,8 @@ fn defer_of(alloc: Global, value: &Value) -> Result<Ask, CallFault>
     Ok(Ask::Defer { tail, item, found })
 }
 
-fn signed_of(alloc: Global, value: &Value) -> Result<Signed, CallFault>
-    ensures { Answers (spec.signed_of (view value.now)) result }
+fn signed_of(alloc: Global, value: Element<'_>) -> Result<Signed, CallFault>
+    ensures { Answers (spec.signed_of (data_at value.entry)) result }
 {
     let digest = found(alloc, "digest", value, digest_at("digest", value))?;
     let release = release_of(alloc, value)?;
@@ -54,8 +54,8 @@ fn signed_of(alloc: Global, value: &Value) -> Result<Signed, CallFault>
     })
 }
 
-fn sign_of(alloc: Global, value: &Value) -> Result<Ask, CallFault>
-    ensures { Answers (spec.ask_of_kind AskKind.Sign (view value.now)) result }
+fn sign_of(alloc: Global, value: Element<'_>) -> Result<Ask, CallFault>
+    ensures { Answers (spec.ask_of_kind AskKind.Sign (data_at value.entry)) result }
 {
     let Signed {
         release,
@@ -69,8 +69,8 @@ fn sign_of(alloc: Global, value: &Value) -> Result<Ask, CallFault>
     })
 }
 
-fn concur_of(alloc: Global, value: &Value) -> Result<Ask, CallFault>
-    ensures { Answers (spec.ask_of_kind AskKind.Concur (view value.now)) result }
+fn concur_of(alloc: Global, value: Element<'_>) -> Result<Ask, CallFault>
+    ensures { Answers (spec.ask_of_kind AskKind.Concur (data_at value.entry)) result }
 {
     let Signed {
         release,
@@ -84,40 +84,40 @@ fn concur_of(alloc: Global, value: &Value) -> Result<Ask, CallFault>
     })
 }
 
-fn amend_of(alloc: Global, value: &Value) -> Result<Ask, CallFault>
-    ensures { Answers (spec.amend_of (view value.now)) result }
+fn amend_of(alloc: Global, value: Element<'_>) -> Result<Ask, CallFault>
+    ensures { Answers (spec.amend_of (data_at value.entry)) result }
 {
     let plan = plan_of(alloc, "plan", value)?;
     let release = release_of(alloc, value)?;
     Ok(Ask::Amend { release, plan })
 }
 
-fn flown_of(alloc: Global, value: &Value) -> Result<Flown, CallFault>
-    ensures { Answers (spec.flown_of (view value.now)) result }
+fn flown_of(alloc: Global, value: Element<'_>) -> Result<Flown, CallFault>
+    ensures { Answers (spec.flown_of (data_at value.entry)) result }
 {
     let leg = found(alloc, "leg", value, amount_at("leg", value))?;
     let release = release_of(alloc, value)?;
     Ok(Flown { release, leg })
 }
 
-fn acknowledge_of(alloc: Global, value: &Value) -> Result<Ask, CallFault>
-    ensures { Answers (spec.acknowledge_of (view value.now)) result }
+fn acknowledge_of(alloc: Global, value: Element<'_>) -> Result<Ask, CallFault>
+    ensures { Answers (spec.acknowledge_of (data_at value.entry)) result }
 {
     let release = release_of(alloc, value)?;
     let version = id_of(alloc, "version", value)?;
     Ok(Ask::Acknowledge { release, version })
 }
 
-fn weather_of(alloc: Global, value: &Value) -> Result<Ask, CallFault>
-    ensures { Answers (spec.ask_of_kind AskKind.Weather (view value.now)) result }
+fn weather_of(alloc: Global, value: Element<'_>) -> Result<Ask, CallFault>
+    ensures { Answers (spec.ask_of_kind AskKind.Weather (data_at value.entry)) result }
 {
     let station = found(alloc, "station", value, station_at("station", value))?;
     Ok(Ask::ViewWeather { station })
 }
 
 // What is read of the keys of an ask of a kind.
-fn ask_of_kind(alloc: Global, kind: AskKind, value: &Value) -> Result<Ask, CallFault>
-    ensures { Answers (spec.ask_of_kind kind (view value.now)) result }
+fn ask_of_kind(alloc: Global, kind: AskKind, value: Element<'_>) -> Result<Ask, CallFault>
+    ensures { Answers (spec.ask_of_kind kind (data_at value.entry)) result }
 {
     match kind {
         AskKind::Admit => text_of(alloc, "text", value).map(|text| Ask::Admit { text }),
@@ -147,8 +147,8 @@ fn ask_of_kind(alloc: Global, kind: AskKind, value: &Value) -> Result<Ask, CallF
 }
 
 /// The ask that an object is, or its first fault: of its name, of a key more, and then of each key.
-pub(crate) fn ask_or_fault(alloc: Global, value: &Value) -> Result<Ask, CallFault>
-    ensures { Answers (spec.ask_or_fault (view value.now)) result }
+pub(crate) fn ask_or_fault(alloc: Global, value: Element<'_>) -> Result<Ask, CallFault>
+    ensures { Answers (spec.ask_or_fault (data_at value.entry)) result }
 {
     let Some(name) = text_at("do", value) else {
         return Err(lack(alloc, "do", value));

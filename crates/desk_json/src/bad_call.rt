@@ -1,13 +1,13 @@
 ghost use Rattle.std.specs.Prelude.{◌≡◌};
-ghost use Rattle.serde_json.specs.View.{view};
+ghost use Rattle.compact_json.specs.Elements.{data_at};
 ghost use Rattle.serde_json.specs.Find.{get};
 ghost use Rattle.desk_json.specs.Keys as spec;
 ghost use Rattle.desk_json.specs.Faults.{Answers, IsFault};
 ghost use Rattle.desk_json.specs.declared.bad_call.CallFault.TheVariants.{OutOfMemory as FaultMemory};
 
 use asks::{BadCall, CallWhy};
+use compact_json::Element;
 use desk_io::{OutOfMemory, Text};
-use serde_json::Value;
 use std::alloc::Global;
 
 /// Why a text was not read.
@@ -38,8 +38,8 @@ pub(crate) fn bad(alloc: Global, why: CallWhy, key: &str) -> CallFault
 }
 
 /// The fault of a value in which nothing is read at a key: the key isn't there, or its value hasn't its form.
-pub(crate) fn lack(alloc: Global, key: &str, value: &Value) -> CallFault
-    ensures { IsFault (spec.bad (spec.lack (get key.now (view value.now))) key.now) result }
+pub(crate) fn lack(alloc: Global, key: &str, value: Element<'_>) -> CallFault
+    ensures { IsFault (spec.bad (spec.lack (get key.now (data_at value.entry))) key.now) result }
 {
     match value.get(key) {
         Some(_) => bad(alloc, CallWhy::BadValue, key),
@@ -51,10 +51,10 @@ pub(crate) fn lack(alloc: Global, key: &str, value: &Value) -> CallFault
 pub(crate) fn found<T: Drop>(
     alloc: Global,
     key: &str,
-    value: &Value,
+    value: Element<'_>,
     read: Option<T>,
 ) -> Result<T, CallFault>
-    ensures { Answers (spec.found key.now (view value.now) read) result }
+    ensures { Answers (spec.found key.now (data_at value.entry) read) result }
 {
     match read {
         Some(read) => Ok(read),

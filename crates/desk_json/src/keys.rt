@@ -1,13 +1,12 @@
 ghost use Rattle.std.specs.Prelude.{◌≡◌};
 ghost use Rattle.std.specs.Option.{option_map};
-ghost use Rattle.serde_json.specs.View.{view, members_view};
+ghost use Rattle.compact_json.specs.Elements.{data_at, keys_left};
 ghost use Rattle.desk_json.specs.Keys as spec;
 ghost use Rattle.desk_json.specs.Faults.{kind_of, Answers};
 
 use crate::bad_call::{CallFault, bad};
 use asks::CallWhy;
-use call_json::Members;
-use serde_json::Value;
+use compact_json::{Element, Keys};
 use std::alloc::Global;
 
 /// A kind of ask.
@@ -81,25 +80,26 @@ fn is_key(object: Object, key: &str) -> bool
 }
 
 // The least key, in byte order, that an object doesn't have.
-fn first_extra(object: Object, members: &Members) -> Option<&str>
-    ensures { option_map (λ s. s.now) result ≡ spec.first_extra object (members_view members.now.entries) }
+fn first_extra<'a>(object: Object, keys: Keys<'a>) -> Option<&'a str>
+    ensures { option_map (λ s. s.now) result ≡ spec.first_extra object (keys_left keys.entry) }
 {
-    for (key, _value) in members.iter() {
-        if !is_key(object, key.as_str()) {
-            return Some(key.as_str());
+    let mut left = keys;
+    'keys: while let Some(key) = left.next() {
+        if !is_key(object, key) {
+            return Some(key);
         }
     }
     None
 }
 
 /// Finds no fault in an object that has no key more.
-pub(crate) fn only_keys(alloc: Global, object: Object, value: &Value) -> Result<(), CallFault>
-    ensures { Answers (spec.only_keys object (view value.now)) result }
+pub(crate) fn only_keys(alloc: Global, object: Object, value: Element<'_>) -> Result<(), CallFault>
+    ensures { Answers (spec.only_keys object (data_at value.entry)) result }
 {
-    let Some(members) = value.as_object() else {
+    let Some(keys) = value.keys() else {
         return Err(bad(alloc, CallWhy::NotObject, ""));
     };
-    match first_extra(object, members) {
+    match first_extra(object, keys) {
         Some(key) => Err(bad(alloc, CallWhy::Extra, key)),
         None => Ok(()),
     }

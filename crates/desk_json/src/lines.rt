@@ -1,5 +1,5 @@
 ghost use Rattle.std.specs.Prelude.{◌≡◌, IfOk};
-ghost use Rattle.serde_json.specs.View.{view};
+ghost use Rattle.compact_json.specs.Elements.{data_at};
 ghost use Rattle.desk_time.specs.Limits.{IsMoment};
 ghost use Rattle.call_json.specs.Forms.{CallHasForms};
 ghost use Rattle.desk_json.specs.Keys.{is_call_key, is_line_key};
@@ -14,15 +14,20 @@ use crate::bad_call::{CallFault, bad, found, lack};
 use crate::fields::{moment_of, object_at, short_of};
 use crate::keys::{Object, only_keys};
 use asks::{Call, CallWhy};
-use call_json::{data_of, number_at};
+use call_json::{document_of, number_at};
+use compact_json::Element;
 use desk_io::Text;
 use desk_time::Minute;
-use serde_json::Value;
 use std::alloc::Global;
 
 // A call whose keys up to `ask` were read: its key and its number, and then its ask.
-fn call_by(alloc: Global, actor: Text, ask: &Value, value: &Value) -> Result<Call, CallFault>
-    ensures { Answers (spec.call_by actor (view ask.now) (view value.now)) result }
+fn call_by(
+    alloc: Global,
+    actor: Text,
+    ask: Element<'_>,
+    value: Element<'_>,
+) -> Result<Call, CallFault>
+    ensures { Answers (spec.call_by actor (data_at ask.entry) (data_at value.entry)) result }
 {
     let key = short_of(alloc, "key", value)?;
     let number = number_at("number", 1_000_000_000_000, value);
@@ -36,8 +41,8 @@ fn call_by(alloc: Global, actor: Text, ask: &Value, value: &Value) -> Result<Cal
     })
 }
 
-fn call_in(alloc: Global, value: &Value) -> Result<Call, CallFault>
-    ensures { Answers (spec.call_in (view value.now)) result }
+fn call_in(alloc: Global, value: Element<'_>) -> Result<Call, CallFault>
+    ensures { Answers (spec.call_in (data_at value.entry)) result }
 {
     only_keys(alloc, Object::Call, value)?;
     let actor = short_of(alloc, "actor", value)?;
@@ -47,8 +52,8 @@ fn call_in(alloc: Global, value: &Value) -> Result<Call, CallFault>
     }
 }
 
-fn line_in(alloc: Global, value: &Value) -> Result<(Minute, Call), CallFault>
-    ensures { Answers (spec.line_in (view value.now)) result }
+fn line_in(alloc: Global, value: Element<'_>) -> Result<(Minute, Call), CallFault>
+    ensures { Answers (spec.line_in (data_at value.entry)) result }
 {
     only_keys(alloc, Object::Line, value)?;
     let actor = short_of(alloc, "actor", value)?;
@@ -64,8 +69,8 @@ fn call_in_text(alloc: Global, bytes: &[u8]) -> Result<Call, CallFault>
     ensures answer { Answers (call_or_fault bytes.now) result }
     ensures forms { IfOk result CallHasForms }
 {
-    match data_of(alloc, bytes)? {
-        Some(value) => call_in(alloc, &value),
+    match document_of(alloc, bytes)? {
+        Some(document) => call_in(alloc, document.root()),
         None => Err(bad(alloc, CallWhy::NotJson, "")),
     }
 }
@@ -75,8 +80,8 @@ fn line_in_text(alloc: Global, line: &[u8]) -> Result<(Minute, Call), CallFault>
     ensures answer { Answers (line_or_fault line.now) result }
     ensures forms { IfOk result LineHasForms }
 {
-    match data_of(alloc, line)? {
-        Some(value) => line_in(alloc, &value),
+    match document_of(alloc, line)? {
+        Some(document) => line_in(alloc, document.root()),
         None => Err(bad(alloc, CallWhy::NotJson, "")),
     }
 }

@@ -1,6 +1,6 @@
 ghost use Rattle.std.specs.Prelude.{◌≡◌, IfOk, IfSome};
 ghost use Rattle.std.specs.Str.{bytes_eq};
-ghost use Rattle.serde_json.specs.View.{view, items_view};
+ghost use Rattle.compact_json.specs.Elements.{data_at, items_left};
 ghost use Rattle.call_json.specs.Fields.{each_read};
 ghost use Rattle.desk_json.specs.Replies.{reply_text};
 ghost use Rattle.desk_json.specs.ReadReplies as spec;
@@ -11,23 +11,23 @@ ghost use Rattle.desk_json.specs.ReadReplies.{AnswersReply, IsReplyOf, IsReplyAg
 use crate::bad_call::{CallFault, bad};
 use crate::replies::reply_text;
 use asks::{CallWhy, Refusal, Reply};
-use call_json::{amount_at, data_of, digest_at, list_at, number_at, read_said_done, text_at};
+use call_json::{amount_at, digest_at, document_of, list_at, number_at, read_said_done, text_at};
 use codes::Why;
+use compact_json::{Element, Items};
 use desk_io::{OutOfMemory, Text};
 use desk_time::{Minute, read_shown};
 use kept_releases::{read_phase, read_said_finding};
 use plan::{Finding, Findings, PlanWhy};
-use serde_json::Value;
 use std::alloc::Global;
 
-fn wide_at(key: &str, value: &Value) -> Option<u64>
-    ensures { result ≡ spec.wide_at key.now (view value.now) }
+fn wide_at(key: &str, value: Element<'_>) -> Option<u64>
+    ensures { result ≡ spec.wide_at key.now (data_at value.entry) }
 {
     number_at(key, u64::MAX, value)
 }
 
-fn shown_at(key: &str, value: &Value) -> Option<Minute>
-    ensures { result ≡ spec.shown_at key.now (view value.now) }
+fn shown_at(key: &str, value: Element<'_>) -> Option<Minute>
+    ensures { result ≡ spec.shown_at key.now (data_at value.entry) }
 {
     read_shown(text_at(key, value)?.as_bytes())
 }
@@ -104,8 +104,8 @@ fn plain_of(number: u64) -> Option<Refusal>
 }
 
 // Those that say one number of 64 bits, and else the last.
-fn counted_of(number: u64, value: &Value) -> Option<Refusal>
-    ensures { result ≡ spec.counted_of number (view value.now) }
+fn counted_of(number: u64, value: Element<'_>) -> Option<Refusal>
+    ensures { result ≡ spec.counted_of number (data_at value.entry) }
 {
     match number {
         4 => Some(Refusal::NumberReused {
@@ -139,32 +139,32 @@ fn counted_of(number: u64, value: &Value) -> Option<Refusal>
     }
 }
 
-fn bad_report_of(value: &Value) -> Option<Refusal>
-    ensures { result ≡ spec.bad_report_of (view value.now) }
+fn bad_report_of(value: Element<'_>) -> Option<Refusal>
+    ensures { result ≡ spec.bad_report_of (data_at value.entry) }
 {
     let group = amount_at("group", value)?;
     let what = why_of(text_at("what", value)?)?;
     Some(Refusal::BadReport { group, what })
 }
 
-fn bad_plan_of(value: &Value) -> Option<Refusal>
-    ensures { result ≡ spec.bad_plan_of (view value.now) }
+fn bad_plan_of(value: Element<'_>) -> Option<Refusal>
+    ensures { result ≡ spec.bad_plan_of (data_at value.entry) }
 {
     let leg = amount_at("leg", value)?;
     let what = plan_why_of(text_at("what", value)?)?;
     Some(Refusal::BadPlan { leg, what })
 }
 
-fn wrong_phase_of(value: &Value) -> Option<Refusal>
-    ensures { result ≡ spec.wrong_phase_of (view value.now) }
+fn wrong_phase_of(value: Element<'_>) -> Option<Refusal>
+    ensures { result ≡ spec.wrong_phase_of (data_at value.entry) }
 {
     Some(Refusal::WrongPhase {
         phase: read_phase(text_at("phase", value)?.as_bytes())?,
     })
 }
 
-fn history_full_of(value: &Value) -> Option<Refusal>
-    ensures { result ≡ spec.history_full_of (view value.now) }
+fn history_full_of(value: Element<'_>) -> Option<Refusal>
+    ensures { result ≡ spec.history_full_of (data_at value.entry) }
 {
     let entries = wide_at("entries", value)?;
     let kept = wide_at("kept", value)?;
@@ -177,8 +177,8 @@ fn history_full_of(value: &Value) -> Option<Refusal>
 }
 
 // Those that say something else, and else the next.
-fn fixed_of(number: u64, value: &Value) -> Option<Refusal>
-    ensures { result ≡ spec.fixed_of number (view value.now) }
+fn fixed_of(number: u64, value: Element<'_>) -> Option<Refusal>
+    ensures { result ≡ spec.fixed_of number (data_at value.entry) }
 {
     match number {
         5 => bad_report_of(value),
@@ -204,8 +204,8 @@ fn fixed_of(number: u64, value: &Value) -> Option<Refusal>
     }
 }
 
-fn not_yours_of(alloc: Global, value: &Value) -> Result<Option<Refusal>, OutOfMemory>
-    ensures { IfOk result (λ r. r ≡ spec.not_yours_of (view value.now)) }
+fn not_yours_of(alloc: Global, value: Element<'_>) -> Result<Option<Refusal>, OutOfMemory>
+    ensures { IfOk result (λ r. r ≡ spec.not_yours_of (data_at value.entry)) }
 {
     match text_at("holder", value) {
         Some(holder) => Ok(Some(Refusal::NotYours {
@@ -215,17 +215,18 @@ fn not_yours_of(alloc: Global, value: &Value) -> Result<Option<Refusal>, OutOfMe
     }
 }
 
-fn finding_of(value: &Value) -> Option<Finding>
-    ensures { result ≡ finding_in (view value.now) }
+fn finding_of(value: Element<'_>) -> Option<Finding>
+    ensures { result ≡ finding_in (data_at value.entry) }
 {
     read_said_finding(value.as_str()?.as_bytes())
 }
 
-fn findings_of(alloc: Global, items: &[Value]) -> Result<Option<Findings>, OutOfMemory>
-    ensures { IfOk result (λ findings. findings ≡ each_read finding_in (items_view items.now)) }
+fn findings_of(alloc: Global, items: Items<'_>) -> Result<Option<Findings>, OutOfMemory>
+    ensures { IfOk result (λ findings. findings ≡ each_read finding_in (items_left items.entry)) }
 {
+    let mut left = items;
     let mut findings = Findings::new(alloc);
-    for item in items {
+    'items: while let Some(item) = left.next() {
         match finding_of(item) {
             Some(finding) => findings.push(finding)?,
             None => return Ok(None),
@@ -234,8 +235,8 @@ fn findings_of(alloc: Global, items: &[Value]) -> Result<Option<Findings>, OutOf
     Ok(Some(findings))
 }
 
-fn rule_fails_of(alloc: Global, value: &Value) -> Result<Option<Refusal>, OutOfMemory>
-    ensures { IfOk result (λ r. r ≡ spec.rule_fails_of (view value.now)) }
+fn rule_fails_of(alloc: Global, value: Element<'_>) -> Result<Option<Refusal>, OutOfMemory>
+    ensures { IfOk result (λ r. r ≡ spec.rule_fails_of (data_at value.entry)) }
 {
     let Some(items) = list_at("findings", value) else {
         return Ok(None);
@@ -247,8 +248,12 @@ fn rule_fails_of(alloc: Global, value: &Value) -> Result<Option<Refusal>, OutOfM
 }
 
 // The refusal of a number, with its fields.
-fn refusal_of(alloc: Global, number: u64, value: &Value) -> Result<Option<Refusal>, OutOfMemory>
-    ensures { IfOk result (λ r. r ≡ spec.refusal_of number (view value.now)) }
+fn refusal_of(
+    alloc: Global,
+    number: u64,
+    value: Element<'_>,
+) -> Result<Option<Refusal>, OutOfMemory>
+    ensures { IfOk result (λ r. r ≡ spec.refusal_of number (data_at value.entry)) }
 {
     match number {
         11 => not_yours_of(alloc, value),
@@ -257,14 +262,14 @@ fn refusal_of(alloc: Global, number: u64, value: &Value) -> Result<Option<Refusa
     }
 }
 
-fn done_in(value: &Value) -> Option<Reply>
-    ensures { result ≡ spec.done_in (view value.now) }
+fn done_in(value: Element<'_>) -> Option<Reply>
+    ensures { result ≡ spec.done_in (data_at value.entry) }
 {
     Some(Reply::Done(read_said_done(value.get("done")?)?))
 }
 
-fn seen_in(alloc: Global, value: &Value) -> Result<Option<Reply>, OutOfMemory>
-    ensures { IfOk result (λ r. r ≡ spec.seen_in (view value.now)) }
+fn seen_in(alloc: Global, value: Element<'_>) -> Result<Option<Reply>, OutOfMemory>
+    ensures { IfOk result (λ r. r ≡ spec.seen_in (data_at value.entry)) }
 {
     match text_at("seen", value) {
         Some(text) => Ok(Some(Reply::Seen(Text::of(alloc, text.as_bytes())?))),
@@ -272,8 +277,8 @@ fn seen_in(alloc: Global, value: &Value) -> Result<Option<Reply>, OutOfMemory>
     }
 }
 
-fn refused_in(alloc: Global, value: &Value) -> Result<Option<Reply>, OutOfMemory>
-    ensures { IfOk result (λ r. r ≡ spec.refused_in (view value.now)) }
+fn refused_in(alloc: Global, value: Element<'_>) -> Result<Option<Reply>, OutOfMemory>
+    ensures { IfOk result (λ r. r ≡ spec.refused_in (data_at value.entry)) }
 {
     let Some(number) = wide_at("refused", value) else {
         return Ok(None);
@@ -285,8 +290,8 @@ fn refused_in(alloc: Global, value: &Value) -> Result<Option<Reply>, OutOfMemory
 }
 
 // What is read of JSON, whatever else it says.
-fn reply_of(alloc: Global, value: &Value) -> Result<Option<Reply>, OutOfMemory>
-    ensures { IfOk result (λ r. r ≡ spec.reply_of (view value.now)) }
+fn reply_of(alloc: Global, value: Element<'_>) -> Result<Option<Reply>, OutOfMemory>
+    ensures { IfOk result (λ r. r ≡ spec.reply_of (data_at value.entry)) }
 {
     if value.get("done").is_some() {
         Ok(done_in(value))
@@ -297,8 +302,8 @@ fn reply_of(alloc: Global, value: &Value) -> Result<Option<Reply>, OutOfMemory>
     }
 }
 
-fn reply_with_forms(alloc: Global, value: &Value) -> Result<Option<Reply>, OutOfMemory>
-    ensures reply { IfOk result (λ r. r ≡ spec.reply_of (view value.now)) }
+fn reply_with_forms(alloc: Global, value: Element<'_>) -> Result<Option<Reply>, OutOfMemory>
+    ensures reply { IfOk result (λ r. r ≡ spec.reply_of (data_at value.entry)) }
     ensures forms { IfOk result (λ r. IfSome r ReplyHasForms) }
     ensures shown { IfOk result (λ r. IfSome r ReplyHasMoment) }
 {
@@ -318,10 +323,10 @@ fn reply_in(alloc: Global, bytes: &[u8]) -> Result<Option<Reply>, OutOfMemory>
     ensures reply { IfOk result (λ r. r ≡ reply_in bytes.now) }
     ensures forms { IfOk result (λ r. IfSome r ReplyHasForms) }
 {
-    let Some(value) = data_of(alloc, bytes)? else {
+    let Some(document) = document_of(alloc, bytes)? else {
         return Ok(None);
     };
-    let Some(reply) = reply_with_forms(alloc, &value)? else {
+    let Some(reply) = reply_with_forms(alloc, document.root())? else {
         return Ok(None);
     };
     if is_text(alloc, bytes, &reply)? {

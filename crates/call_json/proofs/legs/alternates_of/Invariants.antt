@@ -1,9 +1,12 @@
-use Rattle.std.proofs.Common.{◌≡◌, drop}
-use Rattle.serde_json.specs.View.{items_view}
+use Rattle.std.proofs.Common.{◌≡◌}
+use Rattle.serde_json.specs.Events.{items_len}
 use Rattle.call_json.specs.Fields.{each_read}
 use Rattle.call_json.specs.Legs.{alternate_of}
 use Rattle.call_json.proofs.Lists.{onto}
 use Rattle.call_json.proofs.legs.alternates_of.Given as goal
 
-abbrev pub invariant-loop-item : goal.invariant-loop-item
-invariant-loop-item l = onto l.alternates (each_read alternate_of (items_view (drop l.item-index l.items))) ≡ each_read alternate_of (items_view l.items)
+abbrev pub invariant-items : goal.invariant-items
+invariant-items g l = onto l.alternates (each_read alternate_of (g.V.Json.left l.left)) ≡ each_read alternate_of (g.V.Json.left l.fn.items)
+
+abbrev pub decreases-items : goal.decreases-items
+decreases-items g l = items_len (g.V.Json.left l.left)

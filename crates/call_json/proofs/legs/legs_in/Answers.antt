@@ -1,16 +1,17 @@
-use Rattle.std.proofs.Common.{◌∙◌, sym}
+use Rattle.std.proofs.Common.{◌≡◌, Some, ◌∙◌, sym}
 use Rattle.plan.specs.Check.{HasMoments}
 use Rattle.call_json.specs.Legs.{leg_of}
 use Rattle.call_json.proofs.Lists.{read_on}
 use Rattle.call_json.proofs.legs.legs_in.Goals as goal
 use Rattle.desk_io.proofs.Each.{each_push}
 
-pub loop-item-preserved : goal.loop-item-preserved
-loop-item-preserved c =
-    let found = sym c.in_ok-leg.ensures.value ∙ c.in-Some.is in
-    let more = read_on leg_of c.args.items.now c.loop-item.item-index c.item-item.result c.loop-item.legs c.in-Some.leg c.loop-item-test.true (sym c.item-item.is) found in
-    let here = rw c.in-Some.is at c.in_ok-leg.ensures.moments in
-    rw c.in_ok-push-in-Some.ensures.ok (record {
-      read = more ∙ c.loop-item.invariant.read;
-      moments = each_push HasMoments c.loop-item.legs c.in-Some.leg c.loop-item.invariant.moments here;
+pub items-preserved : goal.items-preserved
+items-preserved g c =
+    let leg = c.in-Some-2.leg in
+    let found : leg_of (g.V.Json.told c.in-Some.item) ≡ Some leg = sym c.in_ok-leg.ensures.value ∙ c.in-Some-2.is in
+    let more = read_on leg_of (g.V.Json.left c.items.left) (g.V.Json.left c.next.new.items) (g.V.Json.told c.in-Some.item) c.items.legs leg c.in-Some.ensures found in
+    let here = rw c.in-Some-2.is at c.in_ok-leg.ensures.moments in
+    rw c.in_ok-push-in-Some-2.ensures.ok (record {
+      read = more ∙ c.items.invariant.read;
+      moments = each_push HasMoments c.items.legs leg c.items.invariant.moments here;
     })

@@ -1,7 +1,11 @@
 use Rattle.std.proofs.Common.{◌≡◌}
-use Rattle.serde_json.specs.View.{members_view}
+use Rattle.serde_json.specs.Events.{members_len}
+use Rattle.compact_json.specs.Elements.{keys_left}
 use Rattle.desk_json.specs.Keys.{first_extra}
 use Rattle.desk_json.proofs.keys.first_extra.Given as goal
 
-abbrev pub invariant-loop-key : goal.invariant-loop-key
-invariant-loop-key l = first_extra l.object (members_view l.members.entries) ≡ first_extra l.object (members_view l.key-iterator)
+abbrev pub invariant-keys : goal.invariant-keys
+invariant-keys l = first_extra l.object (keys_left l.keys) ≡ first_extra l.object (keys_left l.left)
+
+abbrev pub decreases-keys : goal.decreases-keys
+decreases-keys l = members_len (keys_left l.left)

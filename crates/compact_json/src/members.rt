@@ -1,0 +1,36 @@
+ghost use Rattle.std.specs.Prelude.{◌≡◌, Some, cond, option_map};
+ghost use Rattle.std.specs.Str.{bytes_eq};
+ghost use Rattle.serde_json.specs.Find.{get_member};
+ghost use Rattle.compact_json.specs.Boxes.{content, after};
+ghost use Rattle.compact_json.specs.Kept.{data_of, members_of};
+ghost use Rattle.compact_json.specs.Elements.{data_at};
+
+use crate::boxes::{after_box, content_of};
+use crate::element::Element;
+
+// The value of the first member, where it has that key, and else what was found before.
+fn chosen<'a>(key: &str, left: &'a [u8], found: Option<Element<'a>>) -> Option<Element<'a>>
+    ensures { option_map data_at result ≡ cond (bytes_eq (content left.now) key.now) (Some (data_of (after left.now)))
+        (option_map data_at found.entry) }
+{
+    if content_of(left) == key.as_bytes() {
+        Some(Element {
+            bytes: after_box(left),
+        })
+    } else {
+        found
+    }
+}
+
+/// The value at a key: of the members of that key it is the last.
+pub(crate) fn member_at<'a>(key: &str, members: &'a [u8]) -> Option<Element<'a>>
+    ensures { option_map data_at result ≡ get_member key.now (members_of members.now) }
+{
+    let mut left = members;
+    let mut found = None;
+    'members: while !left.is_empty() {
+        found = chosen(key, left, found);
+        left = after_box(after_box(left));
+    }
+    found
+}
