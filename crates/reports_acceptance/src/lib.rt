@@ -11,6 +11,8 @@ mod moments;
 #[cfg(test)]
 mod outside;
 #[cfg(test)]
+mod readers;
+#[cfg(test)]
 mod readings;
 #[cfg(test)]
 mod swept;
