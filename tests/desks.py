@@ -17,6 +17,7 @@ from pathlib import Path
 HERE = Path(__file__).resolve().parent.parent
 PROGRAM = HERE / "crates" / "release_desk" / "out" / "release_desk"
 TABLES = HERE / "examples" / "morning"
+SMALL = HERE / "crates" / "scenarios" / "data" / "small_airline"
 
 KEYS = {"okafor": "pine-4417", "hayes": "gate-7730", "wxfeed": "feed-9051", "hangar": "bolt-6248", "records": "file-3375"}
 STATIONS = ("KGEG", "KBOI", "CYVR")
@@ -258,6 +259,18 @@ def expect_alone(rows, kept, replies):
         hold(events <= more, "events", more, "where the calls by themselves make", events)
 
 
+def replies_kept(rows):
+    """The rows of kept replies, in order."""
+    return [(row, rows[row]) for row in sorted(rows) if row[0] == REPLY]
+
+
+def expect_front(whole, rows):
+    """The replies that are kept are the first of others. How many these are is answered."""
+    kept = replies_kept(rows)
+    expect("the replies that are kept", replies_kept(whole)[:len(kept)], kept)
+    return len(kept)
+
+
 def uncounted(rows):
     """Rows without the number of events, and that number."""
     meta = json.loads(rows[META, 0])
@@ -302,13 +315,19 @@ class Service:
         self.out = tempfile.TemporaryFile()
         self.process = desk.start("serve", str(self.port), str(connections), out=self.out, **how)
 
-    def __enter__(self):
+    def listens(self):
+        """Whether it comes to listen before it ends."""
         for _ in range(2_000):
             if listening(self.port):
-                return self
+                return True
             if self.process.poll() is not None:
                 break
             time.sleep(0.005)
+        return False
+
+    def __enter__(self):
+        if self.listens():
+            return self
         status = self.process.returncode
         self.__exit__()
         raise Differs("nothing listens at port %d: status %s" % (self.port, status))
