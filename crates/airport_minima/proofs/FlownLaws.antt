@@ -1,5 +1,5 @@
 -- The approaches that count are those that the type can fly, and they give the minima for landing.
-use Rattle.std.proofs.Common.{◌≡◌, ℕ, Bool, true, false, not, ◌&&◌, List, length, map, filter, get_or, All, Contains, refl, sym, subst}
+use Rattle.std.proofs.Common.{◌≡◌, ℕ, Bool, true, false, not, List, map, get_or, Contains, refl, sym, subst}
 use Rattle.std.specs.Prelude.{Any}
 use Rattle.std.specs.Str.{bytes_eq}
 use Rattle.std.proofs.lemmas.Bool.{not-true, and_parts, and_from}

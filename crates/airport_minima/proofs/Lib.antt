@@ -5,3 +5,4 @@ mod FlownLaws
 mod RaisedLaws
 mod DoubleWithin
 mod RaisedWithin
+mod RowLaws

@@ -8,7 +8,7 @@ ghost use Rattle.airport_minima.specs.Flown.{AreFlown, AreLandingMinima};
 
 use crate::usable::{millimetres, minima_of, usable};
 use desk_io::{Listed, OutOfMemory};
-use ops_tables::{AlternateRow, Approach, Lost, Settings, Tables, TypeRow};
+use ops_tables::{AlternateRow, Approach, Group, Lost, Settings, Tables, TypeRow};
 use stations::{Pair, Pairs, Station};
 use std::alloc::Global;
 
@@ -35,7 +35,7 @@ fn landing_of_usable(
     ensures value { IfOk result (λ pairs. pairs ≡ landing tables.now kind.now station lost.now) }
     ensures within { IfOk result (λ pairs. AreWithin 20_000 16_093_440 pairs) }
 {
-    let usable = usable(alloc, tables.approaches(station), kind, lost)?;
+    let usable = usable(alloc, &tables.approaches(station), kind, lost)?;
     Ok(Listed::from_vec(landing_minima(alloc, &usable)?))
 }
 
@@ -194,14 +194,15 @@ fn own_minima(row: &AlternateRow) -> Pair
     }
 }
 
-fn all_own_minima(alloc: Global, rows: &[AlternateRow]) -> Result<Vec<Pair>, OutOfMemory>
+#[tactic(auto, using(crate::proofs::RowLaws::alternate_fits))]
+fn all_own_minima(alloc: Global, rows: &Group<'_, AlternateRow>) -> Result<Vec<Pair>, OutOfMemory>
     requires { All FitsAlternate rows.now }
     ensures value { IfOk result (λ v. v.items ≡ map (λ r. spec.own_minima r) rows.now) }
     ensures within { IfOk result (λ v. AreWithin 40_000 32_186_880 v.items) }
 {
     let mut pairs = Vec::new(alloc);
-    for row in rows {
-        pairs.push(own_minima(row))?;
+    for place in 0..rows.len() {
+        pairs.push(own_minima(rows.row(place)))?;
     }
     Ok(pairs)
 }
@@ -219,9 +220,9 @@ fn own_or_derived(
 {
     let own = tables.alternates(station);
     if !own.is_empty() {
-        return Ok(Listed::from_vec(all_own_minima(alloc, own)?));
+        return Ok(Listed::from_vec(all_own_minima(alloc, &own)?));
     }
-    let usable = usable(alloc, tables.approaches(station), kind, lost)?;
+    let usable = usable(alloc, &tables.approaches(station), kind, lost)?;
     Ok(Listed::from_vec(derived(alloc, tables.settings(), &usable)?))
 }
 

@@ -7,7 +7,7 @@ ghost use Rattle.airport_minima.specs.Floor.{flag_floor};
 ghost use Rattle.airport_minima.specs.Lowest.{IsFlagFloor};
 
 use crate::usable::{is_usable, millimetres};
-use ops_tables::{Approach, Lost, Tables, TypeRow};
+use ops_tables::{Approach, Group, Lost, Tables, TypeRow};
 use stations::{MILE, Pair, Station};
 
 /// The least height in feet and the least visibility in sixteenths of a statute mile of some
@@ -33,13 +33,15 @@ fn lower(lowest: Option<Lowest>, approach: &Approach) -> Lowest
     }
 }
 
-fn lowest_usable(approaches: &[Approach], kind: &TypeRow, lost: &Lost) -> Option<Lowest>
+#[tactic(auto, using(crate::proofs::RowLaws::approach_fits))]
+fn lowest_usable(approaches: &Group<'_, Approach>, kind: &TypeRow, lost: &Lost) -> Option<Lowest>
     requires { All FitsApproach approaches.now }
     ensures value { result ≡ spec.lowest_of (filter (λ a. is_usable kind.now lost.now a) approaches.now) }
     ensures within { IfSome result (λ l. (l.height ≤ 20_000) × (l.vis16 ≤ 160)) }
 {
     let mut lowest = None;
-    for approach in approaches {
+    for place in 0..approaches.len() {
+        let approach = approaches.row(place);
         if is_usable(kind, lost, approach) {
             lowest = Some(lower(lowest, approach));
         }
@@ -80,7 +82,7 @@ fn floor_vis(vis16: u32) -> u32
 fn floor_over(tables: &Tables, kind: &TypeRow, station: Station, lost: &Lost) -> Option<Pair>
     ensures { result ≡ flag_floor tables.now kind.now station lost.now }
 {
-    let lowest = lowest_usable(tables.approaches(station), kind, lost)?;
+    let lowest = lowest_usable(&tables.approaches(station), kind, lost)?;
     Some(Pair {
         ceiling: floor_ceiling(circle_of(tables, station), lowest.height),
         vis: floor_vis(lowest.vis16),

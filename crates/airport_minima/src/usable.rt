@@ -3,7 +3,7 @@ ghost use Rattle.ops_tables.specs.Limits.{FitsApproach};
 ghost use Rattle.airport_minima.specs.Minima as spec;
 
 use desk_io::OutOfMemory;
-use ops_tables::{Approach, Lost, TypeRow, has_name};
+use ops_tables::{Approach, Group, Lost, TypeRow, has_name};
 use stations::Pair;
 use std::alloc::Global;
 
@@ -23,7 +23,7 @@ pub(crate) fn is_usable(kind: &TypeRow, lost: &Lost, approach: &Approach) -> boo
     ensures { result ≡ spec.is_usable kind.now lost.now approach.now }
 {
     let capability = approach.capability.bytes();
-    has_name(&kind.capabilities, capability) && !has_name(lost, capability)
+    kind.capabilities.has(capability) && !has_name(lost, capability)
 }
 
 // The landing minima of an approach.
@@ -42,7 +42,7 @@ pub(crate) fn minima_of(approach: &Approach) -> Pair
 // Those of the approaches that a type can fly.
 pub(crate) fn usable<'a>(
     alloc: Global,
-    approaches: &'a [Approach],
+    approaches: &Group<'a, Approach>,
     kind: &TypeRow,
     lost: &Lost,
 ) -> Result<Vec<&'a Approach>, OutOfMemory>
@@ -52,7 +52,8 @@ pub(crate) fn usable<'a>(
     ensures within { IfOk result (λ v. All (λ a. FitsApproach a.now) v.items) }
 {
     let mut usable = Vec::new(alloc);
-    for approach in approaches {
+    for place in 0..approaches.len() {
+        let approach = approaches.row(place);
         if is_usable(kind, lost, approach) {
             usable.push(approach)?;
         }

@@ -8,7 +8,7 @@ ghost use Rattle.airport_minima.specs.Within.{has_within, is_within};
 
 use crate::derived::{are_apart, double_addend, single_addend};
 use crate::usable::{SIXTEENTH, is_usable};
-use ops_tables::{AlternateRow, Approach, Lost, Tables, TypeRow};
+use ops_tables::{AlternateRow, Approach, Group, Lost, Tables, TypeRow};
 use stations::{MILE, Pair, Station};
 
 /// Bounds of a ceiling in feet and of a visibility in millimetres, each where there is one.
@@ -52,11 +52,11 @@ fn is_row_within(bounds: Bounds, row: &AlternateRow) -> bool
 }
 
 // Whether some of an airport's own minima are within bounds.
-fn has_own_within(bounds: Bounds, rows: &[AlternateRow]) -> bool
+fn has_own_within(bounds: Bounds, rows: &Group<'_, AlternateRow>) -> bool
     ensures { result ≡ has_within bounds (map (λ r. minima.own_minima r) rows.now) }
 {
-    for row in rows {
-        if is_row_within(bounds, row) {
+    for place in 0..rows.len() {
+        if is_row_within(bounds, rows.row(place)) {
             return true;
         }
     }
@@ -75,14 +75,15 @@ fn is_single_within(bounds: Bounds, addend: Pair, approach: &Approach) -> bool
 fn has_single_within(
     bounds: Bounds,
     addend: Pair,
-    approaches: &[Approach],
+    approaches: &Group<'_, Approach>,
     kind: &TypeRow,
     lost: &Lost,
 ) -> bool
     ensures { result ≡ has_within bounds (map (λ a. minima.single addend a)
         (filter (λ a. is_usable kind.now lost.now a) approaches.now)) }
 {
-    for approach in approaches {
+    for place in 0..approaches.len() {
+        let approach = approaches.row(place);
         if is_usable(kind, lost, approach) && is_single_within(bounds, addend, approach) {
             return true;
         }
@@ -95,7 +96,7 @@ fn has_single_within(
 fn has_double_within(
     bounds: Bounds,
     addend: Pair,
-    approaches: &[Approach],
+    approaches: &Group<'_, Approach>,
     kind: &TypeRow,
     lost: &Lost,
 ) -> bool
@@ -103,7 +104,8 @@ fn has_double_within(
         (filter (λ a. is_usable kind.now lost.now a) approaches.now)) }
 {
     let mut first: Option<&Approach> = None;
-    for approach in approaches {
+    for place in 0..approaches.len() {
+        let approach = approaches.row(place);
         if is_usable(kind, lost, approach) && is_single_within(bounds, addend, approach) {
             match first {
                 None => first = Some(approach),
@@ -127,8 +129,8 @@ fn has_derived_within(
 {
     let settings = tables.settings();
     let approaches = tables.approaches(station);
-    has_single_within(bounds, single_addend(settings), approaches, kind, lost)
-        || has_double_within(bounds, double_addend(settings), approaches, kind, lost)
+    has_single_within(bounds, single_addend(settings), &approaches, kind, lost)
+        || has_double_within(bounds, double_addend(settings), &approaches, kind, lost)
 }
 
 /// Whether some minima of a station as an alternate (14 CFR 121.625) are at or below these bounds in both elements.
@@ -145,7 +147,7 @@ pub fn has_alternate_within(
 {
     let own = tables.alternates(station);
     if !own.is_empty() {
-        return has_own_within(bounds, own);
+        return has_own_within(bounds, &own);
     }
     has_derived_within(tables, kind, station, lost, bounds)
 }

@@ -7,7 +7,7 @@ ghost use Rattle.deferrals.specs.Limits as spec;
 use crate::by_tail::is_of;
 use crate::held::{DEFERRAL_LIMIT, Deferrals};
 use crate::items::Deferral;
-use desk_io::{Copied, Listed, OutOfMemory};
+use desk_io::{Listed, OutOfMemory, Text};
 use ops_tables::{Lost, MelRow, Tables, has_name};
 use std::alloc::Global;
 
@@ -87,7 +87,7 @@ fn lost_by(alloc: Global, rows: &[&MelRow]) -> Result<Lost, OutOfMemory>
     let mut lost = Listed::new(alloc);
     for row in rows {
         if loses_more(row, &lost) {
-            lost.push(row.capability.copy(alloc)?)?;
+            lost.push(Text::of(alloc, row.capability.bytes())?)?;
         }
     }
     Ok(lost)

@@ -1,3 +1,3 @@
-pub mod Groups
+pub mod Orders
 pub mod Found
 pub mod Distinct

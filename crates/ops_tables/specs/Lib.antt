@@ -2,6 +2,7 @@ pub mod Tables
 pub mod Forms
 pub mod Limits
 pub mod Names
+pub mod Order
 pub mod Grouped
 pub mod Keys
 pub mod Linked

@@ -1,7 +1,9 @@
 -- Rows of the same key stand in one group.
-use Rattle.std.proofs.Common.{◌≡◌, ◌∙◌, ap, ℕ, List, [], Bool, true, ◌&&◌, bytes_eq}
+use Rattle.std.proofs.Common.{◌≡◌, ◌∙◌, ap, refl, arith, ℕ, List, [], ◌∷◌, length, Bool, true, ◌&&◌, bytes_eq}
+use Rattle.std.specs.Prelude.{◌==◌}
 use Rattle.ops_tables.specs.Grouped.{group_name}
 use Rattle.std.proofs.lemmas.Bool.{and_parts}
+use Rattle.std.proofs.lemmas.Bool.Decides.{nat_tests}
 use Rattle.desk_io.proofs.Bytes.{same_bytes, equal_bytes}
 
 -- keys that are the same name the same group
@@ -28,3 +30,22 @@ first_of_two a b h = (and_parts a b h).0
 
 pub first_of_three : (a b c : Bool) → (a && b && c) ≡ true → a ≡ true
 first_of_three a b c h = first_of_two a b (first_of_two (a && b) c h)
+
+zero_if : (n : ℕ) → (n == 0) ≡ true → n ≡ 0
+zero_if n h = grind (arith, nat_tests, h)
+
+none_there : (b : List ℕ) → (length b == 0) ≡ true → b ≡ []
+none_there [] h = refl
+none_there (x ∷ xs) h = absurd (omega (arith, zero_if (length (x ∷ xs)) h))
+
+-- a row of one part stands in the group of the key that it has, of which the other parts are empty
+pub by_one : (a b c k : List ℕ) → ((length b == 0) && (length c == 0) && bytes_eq k a) ≡ true → bytes_eq (group_name k [] []) (group_name a b c) ≡ true
+by_one a b c k h =
+    let each = and_parts ((length b == 0) && (length c == 0)) (bytes_eq k a) h in
+    let front = and_parts (length b == 0) (length c == 0) each.0 in
+    rw (none_there b front.0, none_there c front.1) (one_part k a each.1)
+
+pub by_two : (a b c k l : List ℕ) → ((length c == 0) && (bytes_eq k a && bytes_eq l b)) ≡ true → bytes_eq (group_name k l []) (group_name a b c) ≡ true
+by_two a b c k l h =
+    let each = and_parts (length c == 0) (bytes_eq k a && bytes_eq l b) h in
+    rw (none_there c each.0) (two_parts k l a b each.1)

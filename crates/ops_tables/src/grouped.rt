@@ -1,14 +1,17 @@
-ghost use Rattle.std.specs.Prelude.{◌≡◌, ◌≤◌, ◌<◌, ◌++◌, ◌∷◌, [], List, ℕ, Bool, true, false, All, IfOk, OnOk, length, take, cond};
+ghost use Rattle.std.specs.Prelude.{◌≡◌, ◌≤◌, [], List, ℕ, Bool, true, All, IfOk, IfSome, MatchResult, length, find, take, nat_le};
 ghost use Rattle.std.specs.List.{list_any};
+ghost use Rattle.std.specs.Option.{option_copied};
 ghost use Rattle.std.specs.Str.{bytes_eq};
 ghost use Rattle.ops_tables.specs.Grouped as spec;
-ghost use Rattle.ops_tables.specs.Grouped.{group_at, rows_at};
+ghost use Rattle.ops_tables.specs.Grouped.{rows_at, group_name};
+ghost use Rattle.ops_tables.specs.Keys.{AreNew};
+ghost use Rattle.ops_tables.specs.Order.{IsOrder, IsFirstDoubled};
 
+use crate::group::Group;
+use crate::order::{first_doubled, order_of, places_at};
 use desk_io::OutOfMemory;
 use std::alloc::Global;
-use std::collections::BTreeMap;
 use std::marker::Model;
-use std::snapshot::Snapshot;
 
 /// The name of a group: the first sixteen bytes of each part of a key.
 pub type GroupName = [u8; 48];
@@ -25,9 +28,7 @@ fn write(over: &mut GroupName, place: usize, part: &[u8])
     requires part { length part.now ≤ 16 }
     ensures { over.new ≡ spec.written over.old place part.now }
 {
-    for (i, b) in part.iter().enumerate() {
-        over[place + i] = *b;
-    }
+    over[place..place + part.len()].copy_from_slice(part);
 }
 
 /// The name of the group of a key. A part that a key doesn't have is empty.
@@ -42,10 +43,7 @@ pub(crate) fn group_name(first: &[u8], second: &[u8], third: &[u8]) -> GroupName
     name
 }
 
-/// Groups of rows by their names.
-type Groups<R, const N: usize> = BTreeMap<[u8; N], Vec<R>>;
-
-/// A row of a table, which is found by its key. Its group has a name of so many bytes.
+/// A row of a table. Its group has a name of so many bytes, and rows of the same key stand in one group.
 pub trait Row<const N: usize>: Sized + Drop {
     ghost name: { Self → List ℕ };
 
@@ -66,116 +64,141 @@ pub trait Row<const N: usize>: Sized + Drop {
         ensures { result ≡ is_same_key self.now other.now };
 
     ghost same_group: { (a : Self) → (b : Self) → is_same_key a b ≡ true → bytes_eq (name b) (name a) ≡ true };
+
+    ghost bounded: { nat_le limit 200_000 ≡ true };
+
+    ghost short: { nat_le N 48 ≡ true };
+}
+
+/// A row that is found by the parts of its key; those that its key doesn't have are empty.
+pub(crate) trait Keyed: Row<48> {
+    ghost is_of: { List ℕ → List ℕ → List ℕ → Self → Bool };
+
+    /// Whether these are the parts of its key.
+    fn is_of(&self, first: &[u8], second: &[u8], third: &[u8]) -> bool
+        ensures { result ≡ is_of first.now second.now third.now self.now };
+
+    ghost in_group: { (a b c : List ℕ) → (r : Self) → is_of a b c r ≡ true
+        → bytes_eq (Self.Row.name r) (group_name a b c) ≡ true };
 }
 
 /// The rows of a table, which are found by their keys. No two have the same one. A contract sees them
 /// in the order in which they came.
 #[derive(Drop)]
 pub struct Grouped<R: Row<N>, const N: usize> {
-    groups: Groups<R, N>,
-    rows: Vec<Snapshot<R>>,
+    rows: Vec<R>,
+    order: Vec<u32>,
 }
 
 impl<R: Row<N>, const N: usize> Model for Grouped<R, N> {
-    ghost use Rattle.std.specs.Prelude.{List, map};
-    ghost use Rattle.ops_tables.specs.Grouped.{AreGrouped};
+    ghost use Rattle.std.specs.Prelude.{List};
+    ghost use Rattle.ops_tables.specs.Grouped.{IsTable};
 
     ghost Value = { List R };
 
-    ghost view = { λ g. map (λ row. row.value) g.rows.items };
+    ghost view = { λ g. g.rows.items };
 
-    ghost invariant = { λ g. AreGrouped N R.name R.is_same_key R.Fits R.limit g.groups
-        (map (λ row. row.value) g.rows.items) };
+    ghost invariant = { λ g. IsTable N R.name R.is_same_key R.Fits R.limit g.rows.items g.order.items };
 }
 
-// Adds a row at the end of the group of that name.
-fn add<R: Drop, const N: usize>(
-    alloc: Global,
-    groups: &mut Groups<R, N>,
-    name: [u8; N],
-    row: R,
-) -> Result<(), OutOfMemory>
-    ensures { OnOk result ((s : List ℕ) → group_at groups.new s
-        ≡ group_at groups.old s ++ cond (bytes_eq name.entry s) (row ∷ []) []) }
+// The rows of the group of that name.
+fn group_in<'a, R: Row<N>, const N: usize>(
+    rows: &'a [R],
+    order: &'a [u32],
+    name: &[u8; N],
+) -> Group<'a, R>
+    requires size { N ≤ 48 }
+    requires order { IsOrder N R.name rows.now order.now }
+    ensures { result ≡ rows_at R.name name.now rows.now }
 {
-    let mut group = groups.remove(&name).unwrap_or(Vec::new(alloc));
-    group.push(row)?;
-    groups.insert(name, group)?;
-    Ok(())
-}
-
-// The rows of the group of that name, in their order.
-fn at<'a, R: Drop, const N: usize>(groups: &'a Groups<R, N>, name: &[u8; N]) -> &'a [R]
-    ensures { result.now ≡ group_at groups.now name.now }
-{
-    match groups.get(name) {
-        None => &[],
-        Some(group) => group.as_slice(),
-    }
-}
-
-// Whether one of the rows has the key of that row.
-fn is_among<R: Row<N>, const N: usize>(rows: &[R], row: &R) -> bool
-    ensures { result ≡ list_any (R.is_same_key row.now) rows.now }
-{
-    for other in rows {
-        if row.has_key_of(other) {
-            return true;
-        }
-    }
-    false
+    Group::of(rows, places_at(rows, order, name))
 }
 
 impl<R: Row<N>, const N: usize> Grouped<R, N> {
     /// No rows.
     pub fn new(alloc: Global) -> Grouped<R, N>
-        requires { N ≤ 48 }
         ensures { result ≡ [] }
     {
         Grouped {
-            groups: BTreeMap::new(alloc),
             rows: Vec::new(alloc),
+            order: Vec::new(alloc),
         }
     }
 
-    /// How many rows there are.
-    pub fn len(&self) -> usize
-        ensures { result ≡ length self.now }
+    /// The rows as a table, or the place of the first whose key an earlier one has.
+    pub fn of(alloc: Global, rows: Vec<R>) -> Result<Result<Grouped<R, N>, usize>, OutOfMemory>
+        requires fits { All R.Fits rows.items }
+        requires within { length rows.items ≤ R.limit }
+        ensures { IfOk result (λ made. MatchResult made (λ g. g ≡ rows.items)
+            (λ place. IsFirstDoubled R.is_same_key rows.items place)) }
     {
-        self.rows.len()
+        let order = order_of(alloc, &rows)?;
+        match first_doubled(&rows, &order) {
+            None => Ok(Ok(Grouped { rows, order })),
+            Some(place) => Ok(Err(place)),
+        }
     }
 
-    /// Whether a row has the key of that one.
-    pub fn has_key_of(&self, row: &R) -> bool
-        requires { N ≤ 48 }
-        ensures { result ≡ list_any (R.is_same_key row.now) self.now }
+    /// No two have the same key: a law, which does nothing.
+    pub fn are_distinct(&self)
+        ensures { AreNew R.is_same_key [] self.now }
     {
-        let name = row.group_name();
-        is_among(self.at(&name), row)
-    }
-
-    /// The rows and one more, whose key is new.
-    pub fn with(self, alloc: Global, row: R) -> Result<Grouped<R, N>, OutOfMemory>
-        requires group { N ≤ 48 }
-        requires fits { R.Fits row }
-        requires fresh { list_any (R.is_same_key row) self ≡ false }
-        requires room { length self < R.limit }
-        ensures { IfOk result (λ rows. rows ≡ self ++ row ∷ []) }
-    {
-        let Grouped {
-            mut groups,
-            mut rows,
-        } = self;
-        rows.push(Snapshot::of(&row))?;
-        add(alloc, &mut groups, row.group_name(), row)?;
-        Ok(Grouped { groups, rows })
+        let _ = &self.rows;
     }
 
     /// The rows of the group of that name, in their order.
-    pub(crate) fn at(&self, name: &[u8; N]) -> &[R]
-        ensures value { result.now ≡ rows_at R.name name.now self.now }
-        ensures fits { All R.Fits result.now }
+    pub(crate) fn at(&self, name: &[u8; N]) -> Group<'_, R>
+        ensures value { result ≡ rows_at R.name name.now self.now }
+        ensures fits { All R.Fits result }
     {
-        at(&self.groups, name)
+        group_in(&self.rows, &self.order, name)
     }
+}
+
+// The first row of a group of which these are the parts of the key.
+fn found_in<'a, R: Keyed>(
+    group: &Group<'a, R>,
+    first: &[u8],
+    second: &[u8],
+    third: &[u8],
+) -> Option<&'a R>
+    ensures { option_copied result ≡ find (R.is_of first.now second.now third.now) group.now }
+{
+    for place in 0..group.len() {
+        let row = group.row(place);
+        if row.is_of(first, second, third) {
+            return Some(row);
+        }
+    }
+    None
+}
+
+/// The row of which these are the parts of the key.
+pub(crate) fn found<'a, R: Keyed>(
+    rows: &'a Grouped<R, 48>,
+    first: &[u8],
+    second: &[u8],
+    third: &[u8],
+) -> Option<&'a R>
+    ensures value { option_copied result ≡ find (R.is_of first.now second.now third.now) rows.now }
+    ensures fits { IfSome result (λ r. R.Row.Fits r.now) }
+{
+    found_in(
+        &rows.at(&group_name(first, second, third)),
+        first,
+        second,
+        third,
+    )
+}
+
+/// Whether there is a row of which these are the parts of the key.
+pub(crate) fn has<R: Keyed>(
+    rows: &Grouped<R, 48>,
+    first: &[u8],
+    second: &[u8],
+    third: &[u8],
+) -> bool
+    ensures { result ≡ list_any (R.is_of first.now second.now third.now) rows.now }
+{
+    found(rows, first, second, third).is_some()
 }

@@ -1,18 +1,19 @@
-ghost use Rattle.std.specs.Prelude.{◌≡◌, ◌==◌, []};
+ghost use Rattle.std.specs.Prelude.{◌≡◌, ◌==◌, ◌&&◌, [], length, refl};
 ghost use Rattle.std.specs.Str.{bytes_eq};
 ghost use Rattle.ops_tables.specs.Grouped as spec;
 ghost use Rattle.ops_tables.specs.Keys as keys;
 ghost use Rattle.ops_tables.specs.Limits as limits;
 ghost use Rattle.ops_tables.specs.SameGroup as same;
+ghost use Rattle.ops_tables.specs.Tables.{is_station, is_pair};
 
-use crate::grouped::{GroupName, Row, group_name};
+use crate::grouped::{GroupName, Keyed, Row, group_name};
 use crate::{
     Actor, Airport, AlternateRow, Approach, CaptainHours, Distance, ItemPair, MelRow, Route, Tail,
     TypeRow, Use,
 };
 
-impl Row<4> for Airport {
-    ghost name = { λ r. r.station };
+impl Row<48> for Airport {
+    ghost name = { λ r. spec.group_name r.station [] [] };
 
     ghost is_same_key = { keys.is_same_airport };
 
@@ -20,14 +21,28 @@ impl Row<4> for Airport {
 
     ghost limit = { 5_000 };
 
-    ghost same_group = { λ a b h. h };
+    ghost same_group = { λ a b h. same.one_part b.station a.station h };
 
-    fn group_name(&self) -> [u8; 4] {
-        self.station.bytes()
+    ghost bounded = { refl };
+
+    ghost short = { refl };
+
+    fn group_name(&self) -> GroupName {
+        group_name(&self.station.bytes(), b"", b"")
     }
 
     fn has_key_of(&self, other: &Airport) -> bool {
-        other.station.bytes() == self.station.bytes()
+        other.is_of(&self.station.bytes(), b"", b"")
+    }
+}
+
+impl Keyed for Airport {
+    ghost is_of = { λ a b c r. (length b == 0) && (length c == 0) && is_station r.station a };
+
+    ghost in_group = { λ a b c r h. same.by_one a b c r.station h };
+
+    fn is_of(&self, first: &[u8], second: &[u8], third: &[u8]) -> bool {
+        second.is_empty() && third.is_empty() && self.station.bytes().as_slice() == first
     }
 }
 
@@ -41,6 +56,10 @@ impl Row<4> for Approach {
     ghost limit = { 50_000 };
 
     ghost same_group = { λ a b h. same.first_of_two (bytes_eq b.station a.station) (bytes_eq b.name a.name) h };
+
+    ghost bounded = { refl };
+
+    ghost short = { refl };
 
     fn group_name(&self) -> [u8; 4] {
         self.station.bytes()
@@ -62,6 +81,10 @@ impl Row<4> for AlternateRow {
 
     ghost same_group = { λ a b h. same.first_of_three (bytes_eq b.station a.station) (b.ceiling == a.ceiling)
         (b.vis16 == a.vis16) h };
+
+    ghost bounded = { refl };
+
+    ghost short = { refl };
 
     fn group_name(&self) -> [u8; 4] {
         self.station.bytes()
@@ -85,12 +108,26 @@ impl Row<48> for TypeRow {
 
     ghost same_group = { λ a b h. same.one_part b.kind a.kind h };
 
+    ghost bounded = { refl };
+
+    ghost short = { refl };
+
     fn group_name(&self) -> GroupName {
         group_name(self.kind.bytes(), b"", b"")
     }
 
     fn has_key_of(&self, other: &TypeRow) -> bool {
-        other.kind.bytes() == self.kind.bytes()
+        other.is_of(self.kind.bytes(), b"", b"")
+    }
+}
+
+impl Keyed for TypeRow {
+    ghost is_of = { λ a b c r. (length b == 0) && (length c == 0) && bytes_eq r.kind a };
+
+    ghost in_group = { λ a b c r h. same.by_one a b c r.kind h };
+
+    fn is_of(&self, first: &[u8], second: &[u8], third: &[u8]) -> bool {
+        second.is_empty() && third.is_empty() && self.kind.bytes() == first
     }
 }
 
@@ -105,12 +142,26 @@ impl Row<48> for Tail {
 
     ghost same_group = { λ a b h. same.one_part b.tail a.tail h };
 
+    ghost bounded = { refl };
+
+    ghost short = { refl };
+
     fn group_name(&self) -> GroupName {
         group_name(self.tail.bytes(), b"", b"")
     }
 
     fn has_key_of(&self, other: &Tail) -> bool {
-        other.tail.bytes() == self.tail.bytes()
+        other.is_of(self.tail.bytes(), b"", b"")
+    }
+}
+
+impl Keyed for Tail {
+    ghost is_of = { λ a b c r. (length b == 0) && (length c == 0) && bytes_eq r.tail a };
+
+    ghost in_group = { λ a b c r h. same.by_one a b c r.tail h };
+
+    fn is_of(&self, first: &[u8], second: &[u8], third: &[u8]) -> bool {
+        second.is_empty() && third.is_empty() && self.tail.bytes() == first
     }
 }
 
@@ -125,12 +176,26 @@ impl Row<48> for Use {
 
     ghost same_group = { λ a b h. same.two_parts b.kind b.station a.kind a.station h };
 
+    ghost bounded = { refl };
+
+    ghost short = { refl };
+
     fn group_name(&self) -> GroupName {
         group_name(self.kind.bytes(), &self.station.bytes(), b"")
     }
 
     fn has_key_of(&self, other: &Use) -> bool {
-        other.kind.bytes() == self.kind.bytes() && other.station.bytes() == self.station.bytes()
+        other.is_of(self.kind.bytes(), &self.station.bytes(), b"")
+    }
+}
+
+impl Keyed for Use {
+    ghost is_of = { λ a b c r. (length c == 0) && (bytes_eq r.kind a && is_station r.station b) };
+
+    ghost in_group = { λ a b c r h. same.by_two a b c r.kind r.station h };
+
+    fn is_of(&self, first: &[u8], second: &[u8], third: &[u8]) -> bool {
+        third.is_empty() && self.kind.bytes() == first && self.station.bytes().as_slice() == second
     }
 }
 
@@ -145,12 +210,28 @@ impl Row<48> for Distance {
 
     ghost same_group = { λ a b h. same.two_parts b.from b.to a.from a.to h };
 
+    ghost bounded = { refl };
+
+    ghost short = { refl };
+
     fn group_name(&self) -> GroupName {
         group_name(&self.from.bytes(), &self.to.bytes(), b"")
     }
 
     fn has_key_of(&self, other: &Distance) -> bool {
-        other.from.bytes() == self.from.bytes() && other.to.bytes() == self.to.bytes()
+        other.is_of(&self.from.bytes(), &self.to.bytes(), b"")
+    }
+}
+
+impl Keyed for Distance {
+    ghost is_of = { λ a b c r. (length c == 0) && (is_station r.from a && is_station r.to b) };
+
+    ghost in_group = { λ a b c r h. same.by_two a b c r.from r.to h };
+
+    fn is_of(&self, first: &[u8], second: &[u8], third: &[u8]) -> bool {
+        third.is_empty()
+            && self.from.bytes().as_slice() == first
+            && self.to.bytes().as_slice() == second
     }
 }
 
@@ -165,12 +246,28 @@ impl Row<48> for Route {
 
     ghost same_group = { λ a b h. same.two_parts b.from b.to a.from a.to h };
 
+    ghost bounded = { refl };
+
+    ghost short = { refl };
+
     fn group_name(&self) -> GroupName {
         group_name(&self.from.bytes(), &self.to.bytes(), b"")
     }
 
     fn has_key_of(&self, other: &Route) -> bool {
-        other.from.bytes() == self.from.bytes() && other.to.bytes() == self.to.bytes()
+        other.is_of(&self.from.bytes(), &self.to.bytes(), b"")
+    }
+}
+
+impl Keyed for Route {
+    ghost is_of = { λ a b c r. (length c == 0) && (is_station r.from a && is_station r.to b) };
+
+    ghost in_group = { λ a b c r h. same.by_two a b c r.from r.to h };
+
+    fn is_of(&self, first: &[u8], second: &[u8], third: &[u8]) -> bool {
+        third.is_empty()
+            && self.from.bytes().as_slice() == first
+            && self.to.bytes().as_slice() == second
     }
 }
 
@@ -185,12 +282,26 @@ impl Row<48> for MelRow {
 
     ghost same_group = { λ a b h. same.two_parts b.kind b.item a.kind a.item h };
 
+    ghost bounded = { refl };
+
+    ghost short = { refl };
+
     fn group_name(&self) -> GroupName {
         group_name(self.kind.bytes(), self.item.bytes(), b"")
     }
 
     fn has_key_of(&self, other: &MelRow) -> bool {
-        other.kind.bytes() == self.kind.bytes() && other.item.bytes() == self.item.bytes()
+        other.is_of(self.kind.bytes(), self.item.bytes(), b"")
+    }
+}
+
+impl Keyed for MelRow {
+    ghost is_of = { λ a b c r. (length c == 0) && (bytes_eq r.kind a && bytes_eq r.item b) };
+
+    ghost in_group = { λ a b c r h. same.by_two a b c r.kind r.item h };
+
+    fn is_of(&self, first: &[u8], second: &[u8], third: &[u8]) -> bool {
+        third.is_empty() && self.kind.bytes() == first && self.item.bytes() == second
     }
 }
 
@@ -205,14 +316,26 @@ impl Row<48> for ItemPair {
 
     ghost same_group = { λ a b h. same.three_parts b.kind b.item b.other a.kind a.item a.other h };
 
+    ghost bounded = { refl };
+
+    ghost short = { refl };
+
     fn group_name(&self) -> GroupName {
         group_name(self.kind.bytes(), self.item.bytes(), self.other.bytes())
     }
 
     fn has_key_of(&self, other: &ItemPair) -> bool {
-        other.kind.bytes() == self.kind.bytes()
-            && other.item.bytes() == self.item.bytes()
-            && other.other.bytes() == self.other.bytes()
+        other.is_of(self.kind.bytes(), self.item.bytes(), self.other.bytes())
+    }
+}
+
+impl Keyed for ItemPair {
+    ghost is_of = { λ a b c r. is_pair r a b c };
+
+    ghost in_group = { λ a b c r h. same.three_parts r.kind r.item r.other a b c h };
+
+    fn is_of(&self, first: &[u8], second: &[u8], third: &[u8]) -> bool {
+        self.kind.bytes() == first && self.item.bytes() == second && self.other.bytes() == third
     }
 }
 
@@ -227,12 +350,26 @@ impl Row<48> for Actor {
 
     ghost same_group = { λ a b h. same.one_part b.name a.name h };
 
+    ghost bounded = { refl };
+
+    ghost short = { refl };
+
     fn group_name(&self) -> GroupName {
         group_name(self.name.bytes(), b"", b"")
     }
 
     fn has_key_of(&self, other: &Actor) -> bool {
-        other.name.bytes() == self.name.bytes()
+        other.is_of(self.name.bytes(), b"", b"")
+    }
+}
+
+impl Keyed for Actor {
+    ghost is_of = { λ a b c r. (length b == 0) && (length c == 0) && bytes_eq r.name a };
+
+    ghost in_group = { λ a b c r h. same.by_one a b c r.name h };
+
+    fn is_of(&self, first: &[u8], second: &[u8], third: &[u8]) -> bool {
+        second.is_empty() && third.is_empty() && self.name.bytes() == first
     }
 }
 
@@ -247,11 +384,25 @@ impl Row<48> for CaptainHours {
 
     ghost same_group = { λ a b h. same.two_parts b.captain b.kind a.captain a.kind h };
 
+    ghost bounded = { refl };
+
+    ghost short = { refl };
+
     fn group_name(&self) -> GroupName {
         group_name(self.captain.bytes(), self.kind.bytes(), b"")
     }
 
     fn has_key_of(&self, other: &CaptainHours) -> bool {
-        other.captain.bytes() == self.captain.bytes() && other.kind.bytes() == self.kind.bytes()
+        other.is_of(self.captain.bytes(), self.kind.bytes(), b"")
+    }
+}
+
+impl Keyed for CaptainHours {
+    ghost is_of = { λ a b c r. (length c == 0) && (bytes_eq r.captain a && bytes_eq r.kind b) };
+
+    ghost in_group = { λ a b c r h. same.by_two a b c r.captain r.kind h };
+
+    fn is_of(&self, first: &[u8], second: &[u8], third: &[u8]) -> bool {
+        third.is_empty() && self.captain.bytes() == first && self.kind.bytes() == second
     }
 }

@@ -1,20 +1,27 @@
 //! The operations tables of an airline, and what is looked up in them.
 #![tactic(auto)]
 
+mod capabilities;
+mod group;
 mod grouped;
 mod keys;
 mod loading;
 mod lookups;
 mod names;
+mod order;
 mod rows;
-mod search;
+mod short_text;
 mod tables;
 
+pub use capabilities::Capabilities;
+pub use group::Group;
 pub use grouped::{Grouped, Row};
 pub use loading::Loading;
 pub use names::has_name;
 pub use rows::{
-    Actor, Airport, AlternateRow, Approach, CaptainHours, Category, Distance, ItemPair, Lost,
-    MelRow, Names, Role, Route, Settings, Tail, TypeRow, Use,
+    Actor, Airport, AlternateRow, Approach, CaptainHours, Category, Distance, ItemName, ItemPair,
+    Lost, MelRow, Name, PersonKey, PersonName, Registration, Role, Route, Settings, Tail, TypeRow,
+    Use,
 };
+pub use short_text::ShortText;
 pub use tables::Tables;

@@ -14,7 +14,7 @@ use stations::Station;
 #[derive(Drop)]
 pub struct Loading {
     pub settings: Settings,
-    pub airports: Grouped<Airport, 4>,
+    pub airports: Grouped<Airport, 48>,
     pub approaches: Grouped<Approach, 4>,
     pub alternates: Grouped<AlternateRow, 4>,
     pub types: Grouped<TypeRow, 48>,

@@ -5,22 +5,18 @@ ghost use Rattle.std.specs.Str.{bytes_eq};
 ghost use Rattle.ops_tables.specs.Limits.{FitsAirport, FitsType, FitsItem, FitsHours};
 ghost use Rattle.ops_tables.specs.Tables.{is_station, is_pair, is_captain, hours_by};
 
-use crate::grouped::{Grouped, group_name};
-use crate::search::{
-    actor_among, airport_among, hours_among, is_paired, is_route, is_used, item_among, miles_among,
-    tail_among, type_among,
-};
+use crate::grouped::{Grouped, found, has};
 use crate::{
     Actor, Airport, CaptainHours, Distance, ItemPair, MelRow, Role, Route, Tail, TypeRow, Use,
 };
 use stations::Station;
 
 /// The airport of a station.
-pub(crate) fn airport_in(rows: &Grouped<Airport, 4>, s: Station) -> Option<&Airport>
+pub(crate) fn airport_in(rows: &Grouped<Airport, 48>, s: Station) -> Option<&Airport>
     ensures value { option_copied result ≡ find (λ a. is_station a.station s) rows.now }
     ensures within { IfSome result (λ a. FitsAirport a.now) }
 {
-    airport_among(rows.at(&s.bytes()), s)
+    found(rows, &s.bytes(), b"", b"")
 }
 
 /// The type of that name.
@@ -28,21 +24,21 @@ pub(crate) fn type_in<'a>(rows: &'a Grouped<TypeRow, 48>, kind: &[u8]) -> Option
     ensures value { option_copied result ≡ find (λ r. bytes_eq r.kind kind.now) rows.now }
     ensures within { IfSome result (λ r. FitsType r.now) }
 {
-    type_among(rows.at(&group_name(kind, b"", b"")), kind)
+    found(rows, kind, b"", b"")
 }
 
 /// The aircraft of that registration.
 pub(crate) fn tail_in<'a>(rows: &'a Grouped<Tail, 48>, tail: &[u8]) -> Option<&'a Tail>
     ensures { option_copied result ≡ find (λ r. bytes_eq r.tail tail.now) rows.now }
 {
-    tail_among(rows.at(&group_name(tail, b"", b"")), tail)
+    found(rows, tail, b"", b"")
 }
 
 /// Whether the type may use the airport.
 pub(crate) fn is_used_in(rows: &Grouped<Use, 48>, kind: &[u8], s: Station) -> bool
     ensures { result ≡ list_any (λ u. bytes_eq u.kind kind.now && is_station u.station s) rows.now }
 {
-    is_used(rows.at(&group_name(kind, &s.bytes(), b"")), kind, s)
+    has(rows, kind, &s.bytes(), b"")
 }
 
 /// The miles from one airport to another.
@@ -51,22 +47,15 @@ pub(crate) fn miles_in(rows: &Grouped<Distance, 48>, from: Station, to: Station)
         rows.now) }
     ensures within { IfSome result (λ miles. miles ≤ 20_000) }
 {
-    miles_among(
-        rows.at(&group_name(&from.bytes(), &to.bytes(), b"")),
-        from,
-        to,
-    )
+    let row = found(rows, &from.bytes(), &to.bytes(), b"")?;
+    Some(row.miles)
 }
 
 /// Whether the route is there.
 pub(crate) fn is_route_in(rows: &Grouped<Route, 48>, from: Station, to: Station) -> bool
     ensures { result ≡ list_any (λ r. is_station r.from from && is_station r.to to) rows.now }
 {
-    is_route(
-        rows.at(&group_name(&from.bytes(), &to.bytes(), b"")),
-        from,
-        to,
-    )
+    has(rows, &from.bytes(), &to.bytes(), b"")
 }
 
 /// The item of that name and type.
@@ -78,7 +67,7 @@ pub(crate) fn item_in<'a>(
     ensures value { option_copied result ≡ find (λ r. bytes_eq r.kind kind.now && bytes_eq r.item item.now) rows.now }
     ensures within { IfSome result (λ r. FitsItem r.now) }
 {
-    item_among(rows.at(&group_name(kind, item, b"")), kind, item)
+    found(rows, kind, item, b"")
 }
 
 /// Whether the pair is there.
@@ -90,14 +79,14 @@ pub(crate) fn is_paired_in(
 ) -> bool
     ensures { result ≡ list_any (λ p. is_pair p kind.now item.now other.now) rows.now }
 {
-    is_paired(rows.at(&group_name(kind, item, other)), kind, item, other)
+    has(rows, kind, item, other)
 }
 
 /// The person of that name.
 pub(crate) fn actor_in<'a>(rows: &'a Grouped<Actor, 48>, name: &[u8]) -> Option<&'a Actor>
     ensures { option_copied result ≡ find (λ a. bytes_eq a.name name.now) rows.now }
 {
-    actor_among(rows.at(&group_name(name, b"", b"")), name)
+    found(rows, name, b"", b"")
 }
 
 /// Whether the person of that name may be the pilot in command.
@@ -122,7 +111,7 @@ fn hours_row_in<'a>(
         ≡ find (λ h. bytes_eq h.captain captain.now && bytes_eq h.kind kind.now) rows.now }
     ensures within { IfSome result (λ h. FitsHours h.now) }
 {
-    hours_among(rows.at(&group_name(captain, kind, b"")), captain, kind)
+    found(rows, captain, kind, b"")
 }
 
 /// The hours of a captain in a type; 0 where there is no row.

@@ -1,10 +1,10 @@
 ghost use Rattle.std.specs.Prelude.{◌≡◌};
 ghost use Rattle.ops_tables.specs.Names as spec;
 
-use crate::Names;
+use crate::Lost;
 
 /// Whether a name is among some names.
-pub fn has_name(names: &Names, name: &[u8]) -> bool
+pub fn has_name(names: &Lost, name: &[u8]) -> bool
     ensures { result ≡ spec.has_name names.now name.now }
 {
     names.as_slice().iter().any(|n| n.bytes() == name)

@@ -1,11 +1,25 @@
+use crate::capabilities::Capabilities;
+use crate::short_text::ShortText;
 use desk_io::{Listed, Text};
 use stations::Station;
 
-/// A list of names: capabilities of a type, or capabilities that are lost.
-pub type Names = Listed<Text>;
-
 /// Capabilities that open deferrals take away.
-pub type Lost = Names;
+pub type Lost = Listed<Text>;
+
+/// The name of a type of aircraft, of an approach, of a runway or of a capability.
+pub type Name = ShortText<8>;
+
+/// The registration of an aircraft.
+pub type Registration = ShortText<8>;
+
+/// The name of an item of a minimum equipment list.
+pub type ItemName = ShortText<16>;
+
+/// The name of a person.
+pub type PersonName = ShortText<16>;
+
+/// The key by which a person is known.
+pub type PersonKey = ShortText<64>;
 
 /// The settings of the airline. Minutes, feet, and sixteenths of a statute mile.
 #[derive(Clone, Copy, Debug, PartialEq, Eq)]
@@ -44,10 +58,10 @@ pub struct Airport {
 #[derive(Debug, Drop)]
 pub struct Approach {
     pub station: Station,
-    pub name: Text,
-    pub runway: Text,
+    pub name: Name,
+    pub runway: Name,
     /// What an aircraft needs to fly it.
-    pub capability: Text,
+    pub capability: Name,
     /// The height above touchdown of its minimum altitude, in feet.
     pub height: u32,
     /// Its landing minimum ceiling, in feet.
@@ -69,7 +83,7 @@ pub struct AlternateRow {
 /// A type of aircraft.
 #[derive(Debug, Drop)]
 pub struct TypeRow {
-    pub kind: Text,
+    pub kind: Name,
     /// 2 to 4.
     pub engines: u8,
     /// The speed with one engine inoperative, in knots.
@@ -78,20 +92,20 @@ pub struct TypeRow {
     pub cruise_pph: u32,
     /// Fuel flow in holding, in pounds per hour.
     pub hold_pph: u32,
-    pub capabilities: Names,
+    pub capabilities: Capabilities,
 }
 
 /// An aircraft, and its type.
 #[derive(Debug, Drop)]
 pub struct Tail {
-    pub tail: Text,
-    pub kind: Text,
+    pub tail: Registration,
+    pub kind: Name,
 }
 
 /// A type may use an airport.
 #[derive(Debug, Drop)]
 pub struct Use {
-    pub kind: Text,
+    pub kind: Name,
     pub station: Station,
 }
 
@@ -126,13 +140,13 @@ pub enum Category {
 /// An item of a type's minimum equipment list.
 #[derive(Debug, Drop)]
 pub struct MelRow {
-    pub kind: Text,
-    pub item: Text,
+    pub kind: Name,
+    pub item: ItemName,
     pub category: Category,
     /// The days of category A.
     pub days: u32,
     /// What is lost while the item is deferred; empty for nothing.
-    pub capability: Text,
+    pub capability: Name,
     /// What each leg carries more, in pounds.
     pub extra_fuel: u32,
     /// Whether a flag flight may go with it.
@@ -144,9 +158,9 @@ pub struct MelRow {
 /// Two items of a type that may not be deferred together.
 #[derive(Debug, Drop)]
 pub struct ItemPair {
-    pub kind: Text,
-    pub item: Text,
-    pub other: Text,
+    pub kind: Name,
+    pub item: ItemName,
+    pub other: ItemName,
 }
 
 /// What a person does.
@@ -167,15 +181,15 @@ pub enum Role {
 /// A person, and the key by which he is known.
 #[derive(Debug, Drop)]
 pub struct Actor {
-    pub name: Text,
-    pub key: Text,
+    pub name: PersonName,
+    pub key: PersonKey,
     pub role: Role,
 }
 
 /// The hours of a captain as pilot in command in a type of aircraft.
 #[derive(Debug, Drop)]
 pub struct CaptainHours {
-    pub captain: Text,
-    pub kind: Text,
+    pub captain: PersonName,
+    pub kind: Name,
     pub hours: u32,
 }

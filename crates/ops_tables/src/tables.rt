@@ -6,6 +6,7 @@ ghost use Rattle.ops_tables.specs.Named.{AreNamed};
 ghost use Rattle.ops_tables.specs.Shown.{shown};
 ghost use Rattle.ops_tables.specs.Tables.{airport_of, tail_named, type_of, may_use, miles_of, route_free, item_of, are_paired, actor_of, hours_of, has_captain, approaches_of, alternates_of};
 
+use crate::group::Group;
 use crate::loading::Loading;
 use crate::lookups::{
     actor_in, airport_in, captain_in, hours_in, is_paired_in, is_route_in, is_used_in, item_in,
@@ -152,18 +153,18 @@ impl Tables {
     }
 
     /// The approaches of a station in the order of the file, none where there are none.
-    pub fn approaches(&self, s: Station) -> &[Approach]
-        ensures value { result.now ≡ approaches_of self.now s }
-        ensures within { All FitsApproach result.now }
+    pub fn approaches(&self, s: Station) -> Group<'_, Approach>
+        ensures value { result ≡ approaches_of self.now s }
+        ensures within { All FitsApproach result }
     {
         self.loaded.approaches.at(&s.bytes())
     }
 
     /// The alternate minima of a station that has its own, in the order of the file, none where
     /// there are none.
-    pub fn alternates(&self, s: Station) -> &[AlternateRow]
-        ensures value { result.now ≡ alternates_of self.now s }
-        ensures within { All FitsAlternate result.now }
+    pub fn alternates(&self, s: Station) -> Group<'_, AlternateRow>
+        ensures value { result ≡ alternates_of self.now s }
+        ensures within { All FitsAlternate result }
     {
         self.loaded.alternates.at(&s.bytes())
     }

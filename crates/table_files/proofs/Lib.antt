@@ -1,4 +1,5 @@
 pub mod Steps
+pub mod Passes
 pub mod SettingSteps
 pub mod Headers
 pub mod WholeLaws

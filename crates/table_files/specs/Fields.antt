@@ -1,10 +1,11 @@
 -- The fields of the records of a table: numbers, names and marks.
-use Rattle.std.specs.Prelude.{ℕ, ◌==◌, nat_le, Bool, true, false, List, [], ◌∷◌, length, if◌then◌else◌, Option, None, Some, codes}
-use Rattle.std.specs.List.{list_all, slice_split}
+use Rattle.std.specs.Prelude.{ℕ, ◌==◌, nat_le, Bool, true, false, List, [], ◌∷◌, if◌then◌else◌, Option, None, Some, codes}
+use Rattle.std.specs.List.{list_all}
 use Rattle.std.specs.Str.{bytes_eq}
 use Rattle.desk_time.specs.Digits.{◌>>=◌}
 use Rattle.desk_time.specs.Numbers.{number_in}
 use Rattle.ops_tables.specs.Forms.{is_name, in_name, in_mark, in_person, in_key}
+use Rattle.ops_tables.specs.Names.{names_of}
 use Rattle.table_files.specs.declared.fields.Class.{Class}
 use Rattle.table_files.specs.declared.fields.Class.TheVariants as class
 use Rattle.ops_tables.specs.declared.rows.Category.{Category}
@@ -18,13 +19,6 @@ is_of class.Name b = in_name b
 is_of class.Mark b = in_mark b
 is_of class.Person b = in_person b
 is_of class.Key b = in_key b
-
-abbrev pub is_blank : ℕ → Bool
-is_blank b = b == 32
-
--- the names between single blanks, none for the empty field
-abbrev pub names_of : List ℕ → List (List ℕ)
-names_of field = if length field == 0 then [] else slice_split is_blank field
 
 -- the names of a field, where all between the blanks are names
 unfoldable pub capabilities_of : List ℕ → Option (List (List ℕ))

@@ -1,6 +1,7 @@
 pub mod Fields
 pub mod Records
 pub mod Reading
+pub mod Passes
 pub mod Settings
 pub mod Files
 pub mod Good

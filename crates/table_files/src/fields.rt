@@ -1,12 +1,13 @@
-ghost use Rattle.std.specs.Prelude.{◌≡◌, ◌≤◌, ℕ, Bool, IfSome, IfOk, IsTrue, map, nat_le, if◌then◌else◌, Some, None};
+ghost use Rattle.std.specs.Prelude.{◌≡◌, ◌≤◌, ℕ, Bool, IfSome, IfOk, IsTrue, length, nat_le, if◌then◌else◌, Some, None};
 ghost use Rattle.std.specs.List.{list_all, slice_split};
 ghost use Rattle.ops_tables.specs.Forms as form;
+ghost use Rattle.ops_tables.specs.Names as names;
 ghost use Rattle.table_files.specs.Fields as spec;
 
-use desk_io::{Listed, OutOfMemory, Text};
+use desk_io::{OutOfMemory, Text};
 use desk_time::{is_digit, read_number};
-use ops_tables::{Category, Names, Role};
-use std::alloc::{AllocError, Global};
+use ops_tables::{Capabilities, Category, Role};
+use std::alloc::Global;
 
 /// The characters of which a name is made.
 #[derive(Clone, Copy, Debug)]
@@ -52,7 +53,8 @@ fn has_length(field: &[u8], most: usize) -> bool
 
 // Whether the field is one to so many characters of a class.
 fn is_word(class: Class, most: usize, field: &[u8]) -> bool
-    ensures { result ≡ form.is_word (spec.is_of class) most field.now }
+    ensures value { result ≡ form.is_word (spec.is_of class) most field.now }
+    ensures short { IsTrue result → length field.now ≤ most }
 {
     has_length(field, most) && all_of(class, field)
 }
@@ -60,14 +62,16 @@ fn is_word(class: Class, most: usize, field: &[u8]) -> bool
 /// Whether the field names a type, an approach, a runway or a capability.
 #[tactic(auto, unfolding(ops_tables::specs::Forms::is_name))]
 pub(crate) fn is_name(field: &[u8]) -> bool
-    ensures { result ≡ form.is_name field.now }
+    ensures value { result ≡ form.is_name field.now }
+    ensures short { IsTrue result → length field.now ≤ 8 }
 {
     is_word(Class::Name, 8, field)
 }
 
 /// Whether it is a capability, or empty for none.
 pub(crate) fn is_name_or_none(field: &[u8]) -> bool
-    ensures { result ≡ form.is_name_or_none field.now }
+    ensures value { result ≡ form.is_name_or_none field.now }
+    ensures short { IsTrue result → length field.now ≤ 8 }
 {
     field.is_empty() || is_name(field)
 }
@@ -75,7 +79,8 @@ pub(crate) fn is_name_or_none(field: &[u8]) -> bool
 /// Whether it is a registration.
 #[tactic(auto, unfolding(ops_tables::specs::Forms::is_tail))]
 pub(crate) fn is_tail(field: &[u8]) -> bool
-    ensures { result ≡ form.is_tail field.now }
+    ensures value { result ≡ form.is_tail field.now }
+    ensures short { IsTrue result → length field.now ≤ 8 }
 {
     is_word(Class::Mark, 8, field)
 }
@@ -83,7 +88,8 @@ pub(crate) fn is_tail(field: &[u8]) -> bool
 /// Whether it is an item of a minimum equipment list.
 #[tactic(auto, unfolding(ops_tables::specs::Forms::is_item))]
 pub(crate) fn is_item(field: &[u8]) -> bool
-    ensures { result ≡ form.is_item field.now }
+    ensures value { result ≡ form.is_item field.now }
+    ensures short { IsTrue result → length field.now ≤ 16 }
 {
     is_word(Class::Mark, 16, field)
 }
@@ -91,7 +97,8 @@ pub(crate) fn is_item(field: &[u8]) -> bool
 /// Whether it is the name of a person.
 #[tactic(auto, unfolding(ops_tables::specs::Forms::is_person))]
 pub(crate) fn is_person(field: &[u8]) -> bool
-    ensures { result ≡ form.is_person field.now }
+    ensures value { result ≡ form.is_person field.now }
+    ensures short { IsTrue result → length field.now ≤ 16 }
 {
     is_word(Class::Person, 16, field)
 }
@@ -99,52 +106,35 @@ pub(crate) fn is_person(field: &[u8]) -> bool
 /// Whether it is the key of a person.
 #[tactic(auto, unfolding(ops_tables::specs::Forms::is_key))]
 pub(crate) fn is_key(field: &[u8]) -> bool
-    ensures { result ≡ form.is_key field.now }
+    ensures value { result ≡ form.is_key field.now }
+    ensures short { IsTrue result → length field.now ≤ 64 }
 {
     is_word(Class::Key, 64, field)
 }
 
-fn pieces(alloc: Global, field: &[u8]) -> Result<Vec<&[u8]>, AllocError>
-    ensures { IfOk result (λ v. map (λ x. x.now) v.items ≡ slice_split spec.is_blank field.now) }
+// Whether each part between single blanks is a name.
+fn are_parts_names(field: &[u8]) -> bool
+    ensures { result ≡ list_all form.is_name (slice_split names.is_blank field.now) }
 {
-    field.split(|b| *b == b' ').collect(alloc)
+    field.split(|b| *b == b' ').all(|part| is_name(part))
 }
 
-fn are_names(names: &[&[u8]]) -> bool
-    ensures { result ≡ list_all form.is_name (map (λ x. x.now) names.now) }
+fn are_names(field: &[u8]) -> bool
+    ensures { result ≡ list_all form.is_name (names.names_of field.now) }
 {
-    for name in names {
-        if !is_name(name) {
-            return false;
-        }
-    }
-    true
-}
-
-fn texts(alloc: Global, names: &[&[u8]]) -> Result<Names, OutOfMemory>
-    ensures { IfOk result (λ texts. texts ≡ map (λ x. x.now) names.now) }
-{
-    let mut texts = Vec::new(alloc);
-    for name in names {
-        texts.push(Text::of(alloc, name)?)?;
-    }
-    Ok(Listed::from_vec(texts))
+    field.is_empty() || are_parts_names(field)
 }
 
 /// The names of a field, with one blank between any two; none where it is empty.
 #[tactic(auto, unfolding(crate::specs::Fields::capabilities_of))]
-pub(crate) fn capabilities(alloc: Global, field: &[u8]) -> Result<Option<Names>, OutOfMemory>
+pub(crate) fn capabilities(alloc: Global, field: &[u8]) -> Result<Option<Capabilities>, OutOfMemory>
     ensures value { IfOk result (λ names. names ≡ spec.capabilities_of field.now) }
     ensures forms { IfOk result (λ names. IfSome names (λ each. IsTrue (list_all form.is_name each))) }
 {
-    if field.is_empty() {
-        return Ok(Some(Listed::new(alloc)));
-    }
-    let pieces = pieces(alloc, field)?;
-    if !are_names(&pieces) {
+    if !are_names(field) {
         return Ok(None);
     }
-    Ok(Some(texts(alloc, &pieces)?))
+    Ok(Some(Capabilities::of(Text::of(alloc, field)?)))
 }
 
 /// The number of a field, from a least to a greatest one. It has no sign and begins with no zero but

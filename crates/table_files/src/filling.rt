@@ -9,7 +9,7 @@ use crate::faults::BadRecord;
 use crate::files::File;
 use crate::reading::read_rows;
 use crate::settings::read_settings;
-use desk_io::OutOfMemory;
+use desk_io::{OutOfMemory, Text};
 use ops_tables::{Grouped, Loading, Row, Settings};
 use std::alloc::Global;
 
@@ -50,7 +50,6 @@ fn place_rows<R: Row<N>, const N: usize>(
     rows: &mut Grouped<R, N>,
     read: Result<Grouped<R, N>, BadRecord>,
 ) -> Result<(), BadRecord>
-    requires { N ≤ 48 }
     ensures { Places read result rows.old rows.new }
 {
     match read {
@@ -84,14 +83,14 @@ fn fill_settings(
 pub(crate) fn fill(
     alloc: Global,
     file: File,
-    text: &[u8],
+    text: Text,
     loaded: &mut Loading,
 ) -> Result<Result<(), BadRecord>, OutOfMemory>
-    ensures value { IfOk result (λ made. Fills text.now (with_file file (shown loaded.old)) made (shown loaded.new)) }
+    ensures value { IfOk result (λ made. Fills text (with_file file (shown loaded.old)) made (shown loaded.new)) }
     ensures settings { FitsSettings loaded.old.settings → OnOk result (FitsSettings loaded.new.settings) }
 {
     match file {
-        File::Settings => fill_settings(alloc, text, loaded),
+        File::Settings => fill_settings(alloc, text.bytes(), loaded),
         File::Airports => {
             let read = read_rows(alloc, text, loaded)?;
             Ok(place_rows(&mut loaded.airports, read))

@@ -1,4 +1,4 @@
-ghost use Rattle.std.specs.Prelude.{◌≡◌, refl};
+ghost use Rattle.std.specs.Prelude.{◌≡◌};
 ghost use Rattle.table_files.specs.Files as files;
 ghost use Rattle.table_files.specs.Told as told;
 
@@ -14,10 +14,8 @@ use ops_tables::{
 };
 use std::alloc::Global;
 
-impl FileRow<4> for Airport {
+impl FileRow<48> for Airport {
     ghost table = { files.airports };
-
-    ghost bounded = { refl };
 
     ghost told = { told.airport_told };
 
@@ -40,8 +38,6 @@ impl FileRow<4> for Airport {
 impl FileRow<4> for Approach {
     ghost table = { files.approaches };
 
-    ghost bounded = { refl };
-
     ghost told = { told.approach_told };
 
     fn layout() -> Layout {
@@ -59,8 +55,8 @@ impl FileRow<4> for Approach {
         }
     }
 
-    fn of_fields(alloc: Global, fields: &[Text]) -> Result<Option<Approach>, OutOfMemory> {
-        approach_row(alloc, fields)
+    fn of_fields(_: Global, fields: &[Text]) -> Result<Option<Approach>, OutOfMemory> {
+        Ok(approach_row(fields))
     }
 
     fn is_linked(&self, loaded: &Loading) -> bool {
@@ -70,8 +66,6 @@ impl FileRow<4> for Approach {
 
 impl FileRow<4> for AlternateRow {
     ghost table = { files.alternates };
-
-    ghost bounded = { refl };
 
     ghost told = { told.alternate_told };
 
@@ -93,8 +87,6 @@ impl FileRow<4> for AlternateRow {
 
 impl FileRow<48> for TypeRow {
     ghost table = { files.types };
-
-    ghost bounded = { refl };
 
     ghost told = { told.type_told };
 
@@ -124,8 +116,6 @@ impl FileRow<48> for TypeRow {
 impl FileRow<48> for Tail {
     ghost table = { files.tails };
 
-    ghost bounded = { refl };
-
     ghost told = { told.tail_told };
 
     fn layout() -> Layout {
@@ -135,8 +125,8 @@ impl FileRow<48> for Tail {
         }
     }
 
-    fn of_fields(alloc: Global, fields: &[Text]) -> Result<Option<Tail>, OutOfMemory> {
-        tail_row(alloc, fields)
+    fn of_fields(_: Global, fields: &[Text]) -> Result<Option<Tail>, OutOfMemory> {
+        Ok(tail_row(fields))
     }
 
     fn is_linked(&self, loaded: &Loading) -> bool {
@@ -147,8 +137,6 @@ impl FileRow<48> for Tail {
 impl FileRow<48> for Use {
     ghost table = { files.uses };
 
-    ghost bounded = { refl };
-
     ghost told = { told.use_told };
 
     fn layout() -> Layout {
@@ -158,8 +146,8 @@ impl FileRow<48> for Use {
         }
     }
 
-    fn of_fields(alloc: Global, fields: &[Text]) -> Result<Option<Use>, OutOfMemory> {
-        use_row(alloc, fields)
+    fn of_fields(_: Global, fields: &[Text]) -> Result<Option<Use>, OutOfMemory> {
+        Ok(use_row(fields))
     }
 
     fn is_linked(&self, loaded: &Loading) -> bool {
@@ -169,8 +157,6 @@ impl FileRow<48> for Use {
 
 impl FileRow<48> for Distance {
     ghost table = { files.distances };
-
-    ghost bounded = { refl };
 
     ghost told = { told.distance_told };
 
@@ -193,8 +179,6 @@ impl FileRow<48> for Distance {
 impl FileRow<48> for Route {
     ghost table = { files.routes };
 
-    ghost bounded = { refl };
-
     ghost told = { told.route_told };
 
     fn layout() -> Layout {
@@ -216,8 +200,6 @@ impl FileRow<48> for Route {
 impl FileRow<48> for MelRow {
     ghost table = { files.mel };
 
-    ghost bounded = { refl };
-
     ghost told = { told.item_told };
 
     fn layout() -> Layout {
@@ -236,8 +218,8 @@ impl FileRow<48> for MelRow {
         }
     }
 
-    fn of_fields(alloc: Global, fields: &[Text]) -> Result<Option<MelRow>, OutOfMemory> {
-        item_row(alloc, fields)
+    fn of_fields(_: Global, fields: &[Text]) -> Result<Option<MelRow>, OutOfMemory> {
+        Ok(item_row(fields))
     }
 
     fn is_linked(&self, loaded: &Loading) -> bool {
@@ -248,8 +230,6 @@ impl FileRow<48> for MelRow {
 impl FileRow<48> for ItemPair {
     ghost table = { files.pairs };
 
-    ghost bounded = { refl };
-
     ghost told = { told.pair_told };
 
     fn layout() -> Layout {
@@ -259,8 +239,8 @@ impl FileRow<48> for ItemPair {
         }
     }
 
-    fn of_fields(alloc: Global, fields: &[Text]) -> Result<Option<ItemPair>, OutOfMemory> {
-        pair_row(alloc, fields)
+    fn of_fields(_: Global, fields: &[Text]) -> Result<Option<ItemPair>, OutOfMemory> {
+        Ok(pair_row(fields))
     }
 
     fn is_linked(&self, loaded: &Loading) -> bool {
@@ -273,8 +253,6 @@ impl FileRow<48> for ItemPair {
 impl FileRow<48> for Actor {
     ghost table = { files.actors };
 
-    ghost bounded = { refl };
-
     ghost told = { told.actor_told };
 
     fn layout() -> Layout {
@@ -284,8 +262,8 @@ impl FileRow<48> for Actor {
         }
     }
 
-    fn of_fields(alloc: Global, fields: &[Text]) -> Result<Option<Actor>, OutOfMemory> {
-        actor_row(alloc, fields)
+    fn of_fields(_: Global, fields: &[Text]) -> Result<Option<Actor>, OutOfMemory> {
+        Ok(actor_row(fields))
     }
 
     fn is_linked(&self, _: &Loading) -> bool {
@@ -296,8 +274,6 @@ impl FileRow<48> for Actor {
 impl FileRow<48> for CaptainHours {
     ghost table = { files.hours };
 
-    ghost bounded = { refl };
-
     ghost told = { told.hours_told };
 
     fn layout() -> Layout {
@@ -307,8 +283,8 @@ impl FileRow<48> for CaptainHours {
         }
     }
 
-    fn of_fields(alloc: Global, fields: &[Text]) -> Result<Option<CaptainHours>, OutOfMemory> {
-        hours_row(alloc, fields)
+    fn of_fields(_: Global, fields: &[Text]) -> Result<Option<CaptainHours>, OutOfMemory> {
+        Ok(hours_row(fields))
     }
 
     fn is_linked(&self, loaded: &Loading) -> bool {

@@ -1,9 +1,9 @@
-ghost use Rattle.std.specs.Prelude.{◌≡◌, ◌≤◌, nat_le, true, false, ◌+◌, ◌++◌, [], List, ℕ, ◌<◌, length, map};
+ghost use Rattle.std.specs.Prelude.{◌≡◌, ◌≤◌, ◌+◌, ◌++◌, [], List, ℕ, ◌<◌, length, map, All, Ok};
 ghost use Rattle.std.specs.Prelude.{IfOk, OnOk, IfSome};
-ghost use Rattle.std.specs.List.{list_any};
 ghost use Rattle.csv_text.specs.Records.{AreRecordsOf, HasGiven};
 ghost use Rattle.ops_tables.specs.Shown.{shown};
 ghost use Rattle.table_files.specs.Filling.{Gives};
+ghost use Rattle.table_files.specs.Passes as passes;
 ghost use Rattle.table_files.specs.Reading as spec;
 ghost use Rattle.table_files.specs.Reading.{IsToldByFirst, Table};
 
@@ -12,6 +12,7 @@ use csv_text::Records;
 use desk_io::{OutOfMemory, Text};
 use ops_tables::{Grouped, Loading, Row};
 use std::alloc::Global;
+use std::marker::Model;
 
 /// The names of a table's columns, and how many rows it may have.
 #[derive(Drop)]
@@ -38,14 +39,11 @@ pub(crate) trait FileRow<const N: usize>: Row<N> {
     fn is_linked(&self, loaded: &Loading) -> bool
         ensures { result ≡ table.is_linked (shown loaded.now) self.now };
 
-    ghost bounded: { nat_le Self.Row.limit 200_000 ≡ true };
-
     ghost told: { IsToldByFirst table };
 }
 
 // How many fields of a record are asked for: one more than there are columns, which no row has.
 fn most_fields<R: FileRow<N>, const N: usize>() -> usize
-    requires { N ≤ 48 }
     ensures { result ≡ length R.table.columns + 1 }
 {
     R::layout().columns.len() + 1
@@ -66,56 +64,150 @@ pub(crate) fn is_header(fields: &[Text], columns: &[&str]) -> bool
     true
 }
 
-// The row of a record after some rows.
-fn row_after<R: FileRow<N>, const N: usize>(
+// The row of a record that comes after so many others.
+fn row_at<R: FileRow<N>, const N: usize>(
     alloc: Global,
-    earlier: &Grouped<R, N>,
+    count: usize,
     fields: &[Text],
-    loaded: &Loading,
 ) -> Result<Result<R, TableWhy>, OutOfMemory>
-    requires { N ≤ 48 }
-    ensures value { IfOk result (λ row. row ≡ spec.row_after R.is_same_key R.limit R.table (shown loaded.now)
-        earlier.now fields.now) }
+    ensures value { IfOk result (λ row. row ≡ passes.row_at R.limit R.table count fields.now) }
     ensures fits { IfOk result (λ row. IfOk row R.Fits) }
-    ensures fresh { IfOk result (λ row. IfOk row (λ one. list_any (R.is_same_key one) earlier.now ≡ false)) }
-    ensures room { IfOk result (λ row. OnOk row (length earlier.now < R.limit)) }
+    ensures room { IfOk result (λ row. OnOk row (count < R.limit)) }
 {
-    if earlier.len() >= R::layout().limit {
+    if count >= R::layout().limit {
         return Ok(Err(TableWhy::OverLimit));
     }
-    let Some(row) = R::of_fields(alloc, fields)? else {
-        return Ok(Err(TableWhy::BadField));
-    };
-    if earlier.has_key_of(&row) {
-        return Ok(Err(TableWhy::Doubled));
+    match R::of_fields(alloc, fields)? {
+        Some(row) => Ok(Ok(row)),
+        None => Ok(Err(TableWhy::BadField)),
     }
-    if !row.is_linked(loaded) {
-        return Ok(Err(TableWhy::Unlinked));
-    }
-    Ok(Ok(row))
 }
 
-// The rows of the records that are left.
+// What the next record gives, which comes after so many rows.
+fn next_row<R: FileRow<N>, const N: usize>(
+    alloc: Global,
+    reader: &mut Records,
+    count: usize,
+) -> Result<Option<Result<R, TableWhy>>, OutOfMemory>
+    ensures value { IfOk result (λ row. (text : List ℕ) → (earlier : List (List (List ℕ)))
+        → HasGiven text earlier reader.old → passes.GivesRow R.limit R.table count text earlier row reader.new) }
+    ensures fits { IfOk result (λ row. IfSome row (λ r. IfOk r R.Fits)) }
+    ensures room { IfOk result (λ row. IfSome row (λ r. OnOk r (count < R.limit))) }
+{
+    match reader.next(alloc, most_fields::<R, N>())? {
+        None => Ok(None),
+        Some(fields) => Ok(Some(row_at(alloc, count, fields.as_slice())?)),
+    }
+}
+
+/// The rows of records, and the record at which reading stopped, where it wasn't the end. A row that names
+/// something that isn't there is the last one.
+#[derive(Drop)]
+struct ReadRows<R: Drop> {
+    rows: Vec<R>,
+    stop: Option<BadRecord>,
+}
+
+impl<R: Drop> Model for ReadRows<R> {
+    ghost use Rattle.table_files.specs.Passes.{RowsRead};
+
+    ghost Value = { RowsRead R };
+
+    ghost view = { λ read. record { rows = read.rows.items; stop = read.stop } };
+}
+
+fn line_ends(text: &[u8]) -> usize {
+    text.iter().filter(|b| **b == b'\n' || **b == b'\r').count()
+}
+
+// How many rows a table with this text may have, by its lines. Its room is taken at once, since a list that
+// grows takes twice what it holds.
+fn most_rows<R: FileRow<N>, const N: usize>(text: &[u8]) -> usize {
+    R::layout().limit.min(line_ends(text).saturating_add(1))
+}
+
+// Rows at the end of which reading stopped, at the record after so many others.
+fn stopped<R: Drop>(rows: Vec<R>, count: usize, why: TableWhy) -> ReadRows<R>
+    requires { count ≤ 200_000 }
+    ensures { result ≡ passes.stopped rows.items count why }
+{
+    let line = count as u32 + 2;
+    let stop = Some(BadRecord { line, why });
+    ReadRows { rows, stop }
+}
+
+// The rows of the records that are left, in a list with so much room.
 fn rows_under<R: FileRow<N>, const N: usize>(
     alloc: Global,
     reader: &mut Records,
     loaded: &Loading,
-) -> Result<Result<Grouped<R, N>, BadRecord>, OutOfMemory>
-    requires { N ≤ 48 }
-    ensures { IfOk result (λ rows. (text : List ℕ) → (earlier : List (List (List ℕ))) → HasGiven text earlier reader.old
-        → (others : List (List (List ℕ))) × AreRecordsOf text (earlier ++ others)
-        × (spec.rows_after R.is_same_key R.limit R.table (shown loaded.now) [] others ≡ rows)) }
+    room: usize,
+) -> Result<ReadRows<R>, OutOfMemory>
+    ensures value { IfOk result (λ read. (text : List ℕ) → (earlier : List (List (List ℕ)))
+        → HasGiven text earlier reader.old → (others : List (List (List ℕ))) × AreRecordsOf text (earlier ++ others)
+        × (passes.rows_read R.limit R.table (shown loaded.now) 0 others ≡ read)) }
+    ensures fits { IfOk result (λ read. All R.Fits read.rows) }
+    ensures within { IfOk result (λ read. length read.rows ≤ R.limit) }
 {
-    let mut rows = Grouped::new(alloc);
+    let mut rows = Vec::with_capacity(alloc, room)?;
     loop {
-        let Some(fields) = reader.next(alloc, most_fields::<R, N>())? else {
-            return Ok(Ok(rows));
-        };
-        match row_after(alloc, &rows, fields.as_slice(), loaded)? {
-            Ok(row) => rows = rows.with(alloc, row)?,
-            Err(why) => {
-                let line = rows.len() as u32 + 2;
-                return Ok(Err(BadRecord { line, why }));
+        let count = rows.len();
+        match next_row::<R, N>(alloc, reader, count)? {
+            None => return Ok(ReadRows { rows, stop: None }),
+            Some(Err(why)) => return Ok(stopped(rows, count, why)),
+            Some(Ok(row)) => {
+                let linked = row.is_linked(loaded);
+                rows.push(row)?;
+                if !linked {
+                    return Ok(stopped(rows, count, TableWhy::Unlinked));
+                }
+            }
+        }
+    }
+}
+
+// The rows of a table with this text, the header first. The text is let go at the end.
+fn rows_in<R: FileRow<N>, const N: usize>(
+    alloc: Global,
+    text: Text,
+    loaded: &Loading,
+) -> Result<Result<ReadRows<R>, BadRecord>, OutOfMemory>
+    ensures value { IfOk result (λ read. Gives text (spec.under_header R.table.columns
+        (λ records. Ok (passes.rows_read R.limit R.table (shown loaded.now) 0 records))) read) }
+    ensures fits { IfOk result (λ read. IfOk read (λ r. All R.Fits r.rows)) }
+    ensures within { IfOk result (λ read. IfOk read (λ r. length r.rows ≤ R.limit)) }
+{
+    let mut reader = Records::of(text.bytes());
+    if has_header(alloc, &mut reader, R::layout().columns)? {
+        let room = most_rows::<R, N>(text.bytes());
+        Ok(Ok(rows_under(alloc, &mut reader, loaded, room)?))
+    } else {
+        Ok(Err(BadRecord {
+            line: 1,
+            why: TableWhy::BadField,
+        }))
+    }
+}
+
+// The rows as a table, or the first bad record.
+fn tested<R: FileRow<N>, const N: usize>(
+    alloc: Global,
+    read: ReadRows<R>,
+) -> Result<Result<Grouped<R, N>, BadRecord>, OutOfMemory>
+    requires fits { All R.Fits read.rows }
+    requires within { length read.rows ≤ R.limit }
+    ensures { IfOk result (λ made. made ≡ passes.keyed R.is_same_key [] read.rows read.stop) }
+{
+    match Grouped::of(alloc, read.rows)? {
+        Err(place) => Ok(Err(BadRecord {
+            line: place as u32 + 2,
+            why: TableWhy::Doubled,
+        })),
+        Ok(rows) => {
+            rows.are_distinct();
+            match read.stop {
+                None => Ok(Ok(rows)),
+                Some(bad) => Ok(Err(bad)),
             }
         }
     }
@@ -124,21 +216,14 @@ fn rows_under<R: FileRow<N>, const N: usize>(
 /// The rows of a table with this text, the header first, or the first bad record.
 pub(crate) fn read_rows<R: FileRow<N>, const N: usize>(
     alloc: Global,
-    text: &[u8],
+    text: Text,
     loaded: &Loading,
 ) -> Result<Result<Grouped<R, N>, BadRecord>, OutOfMemory>
-    requires { N ≤ 48 }
-    ensures { IfOk result
-        (λ rows. Gives text.now (spec.rows_of R.is_same_key R.limit R.table (shown loaded.now)) rows) }
+    ensures { IfOk result (λ rows. Gives text (spec.rows_of R.is_same_key R.limit R.table (shown loaded.now)) rows) }
 {
-    let mut reader = Records::of(text);
-    if has_header(alloc, &mut reader, R::layout().columns)? {
-        Ok(rows_under(alloc, &mut reader, loaded)?)
-    } else {
-        Ok(Err(BadRecord {
-            line: 1,
-            why: TableWhy::BadField,
-        }))
+    match rows_in(alloc, text, loaded)? {
+        Ok(read) => tested(alloc, read),
+        Err(bad) => Ok(Err(bad)),
     }
 }
 

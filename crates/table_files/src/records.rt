@@ -1,4 +1,4 @@
-ghost use Rattle.std.specs.Prelude.{◌≡◌, ◌≤◌, IfOk, IfSome};
+ghost use Rattle.std.specs.Prelude.{◌≡◌, ◌≤◌, IfOk, IfSome, IsTrue, length};
 ghost use Rattle.table_files.specs.Records as spec;
 ghost use Rattle.table_files.specs.Fields.{number_within};
 ghost use Rattle.ops_tables.specs.Forms as form;
@@ -8,10 +8,10 @@ use crate::fields::{
     capabilities, category_of, is_item, is_key, is_name, is_name_or_none, is_person, is_tail,
     mark_of, number_within, role_of,
 };
-use desk_io::{Copied, OutOfMemory, Text};
+use desk_io::{OutOfMemory, Text};
 use ops_tables::{
     Actor, Airport, AlternateRow, Approach, CaptainHours, Category, Distance, ItemPair, MelRow,
-    Route, Tail, TypeRow, Use,
+    Route, ShortText, Tail, TypeRow, Use,
 };
 use stations::Station;
 use std::alloc::Global;
@@ -60,19 +60,15 @@ fn approach_terms(
 
 #[tactic(auto, unfolding(ops_tables::specs::Forms::are_names))]
 fn are_names(a: &Text, b: &Text, c: &Text) -> bool
-    ensures { result ≡ form.are_names a.now b.now c.now }
+    ensures value { result ≡ form.are_names a.now b.now c.now }
+    ensures short { IsTrue result → (length a.now ≤ 8) × (length b.now ≤ 8) × (length c.now ≤ 8) }
 {
     is_name(a.bytes()) && is_name(b.bytes()) && is_name(c.bytes())
 }
 
-fn named_approach(
-    alloc: Global,
-    terms: ApproachTerms,
-    name: &Text,
-    runway: &Text,
-    capability: &Text,
-) -> Result<Approach, OutOfMemory>
-    ensures { IfOk result (λ row. row ≡ record {
+fn named_approach(terms: ApproachTerms, name: &Text, runway: &Text, capability: &Text) -> Approach
+    requires { (length name.now ≤ 8) × (length runway.now ≤ 8) × (length capability.now ≤ 8) }
+    ensures { result ≡ record {
       station = terms.station;
       name = name.now;
       runway = runway.now;
@@ -80,35 +76,32 @@ fn named_approach(
       height = terms.height;
       ceiling = terms.ceiling;
       vis16 = terms.vis16;
-    }) }
+    } }
 {
-    Ok(Approach {
+    Approach {
         station: terms.station,
-        name: name.copy(alloc)?,
-        runway: runway.copy(alloc)?,
-        capability: capability.copy(alloc)?,
+        name: ShortText::of(name.bytes()),
+        runway: ShortText::of(runway.bytes()),
+        capability: ShortText::of(capability.bytes()),
         height: terms.height,
         ceiling: terms.ceiling,
         vis16: terms.vis16,
-    })
+    }
 }
 
 /// The approach of a record.
-pub(crate) fn approach_row(alloc: Global, fields: &[Text]) -> Result<Option<Approach>, OutOfMemory>
-    ensures value { IfOk result (λ row. row ≡ spec.approach_row fields.now) }
-    ensures fits { IfOk result (λ row. IfSome row FitsApproach) }
+pub(crate) fn approach_row(fields: &[Text]) -> Option<Approach>
+    ensures value { result ≡ spec.approach_row fields.now }
+    ensures fits { IfSome result FitsApproach }
 {
     let [station, name, runway, capability, height, ceiling, vis16] = fields else {
-        return Ok(None);
+        return None;
     };
     if !are_names(name, runway, capability) {
-        return Ok(None);
+        return None;
     }
-    let Some(terms) = approach_terms(station, height, ceiling, vis16) else {
-        return Ok(None);
-    };
-    let row = named_approach(alloc, terms, name, runway, capability)?;
-    Ok(Some(row))
+    let terms = approach_terms(station, height, ceiling, vis16)?;
+    Some(named_approach(terms, name, runway, capability))
 }
 
 /// The alternate minimum of a record.
@@ -187,7 +180,7 @@ pub(crate) fn type_row(alloc: Global, fields: &[Text]) -> Result<Option<TypeRow>
         return Ok(None);
     };
     Ok(Some(TypeRow {
-        kind: kind.copy(alloc)?,
+        kind: ShortText::of(kind.bytes()),
         engines: terms.engines,
         oei_knots: terms.oei_knots,
         cruise_pph: terms.cruise_pph,
@@ -197,40 +190,38 @@ pub(crate) fn type_row(alloc: Global, fields: &[Text]) -> Result<Option<TypeRow>
 }
 
 /// The aircraft of a record.
-pub(crate) fn tail_row(alloc: Global, fields: &[Text]) -> Result<Option<Tail>, OutOfMemory>
-    ensures value { IfOk result (λ row. row ≡ spec.tail_row fields.now) }
-    ensures fits { IfOk result (λ row. IfSome row FitsTail) }
+pub(crate) fn tail_row(fields: &[Text]) -> Option<Tail>
+    ensures value { result ≡ spec.tail_row fields.now }
+    ensures fits { IfSome result FitsTail }
 {
     let [tail, kind] = fields else {
-        return Ok(None);
+        return None;
     };
     if !(is_tail(tail.bytes()) && is_name(kind.bytes())) {
-        return Ok(None);
+        return None;
     }
-    Ok(Some(Tail {
-        tail: tail.copy(alloc)?,
-        kind: kind.copy(alloc)?,
-    }))
+    Some(Tail {
+        tail: ShortText::of(tail.bytes()),
+        kind: ShortText::of(kind.bytes()),
+    })
 }
 
 /// The use of a record.
-pub(crate) fn use_row(alloc: Global, fields: &[Text]) -> Result<Option<Use>, OutOfMemory>
-    ensures value { IfOk result (λ row. row ≡ spec.use_row fields.now) }
-    ensures fits { IfOk result (λ row. IfSome row FitsUse) }
+pub(crate) fn use_row(fields: &[Text]) -> Option<Use>
+    ensures value { result ≡ spec.use_row fields.now }
+    ensures fits { IfSome result FitsUse }
 {
     let [kind, station] = fields else {
-        return Ok(None);
+        return None;
     };
     if !is_name(kind.bytes()) {
-        return Ok(None);
+        return None;
     }
-    let Some(station) = Station::read(station.bytes()) else {
-        return Ok(None);
-    };
-    Ok(Some(Use {
-        kind: kind.copy(alloc)?,
+    let station = Station::read(station.bytes())?;
+    Some(Use {
+        kind: ShortText::of(kind.bytes()),
         station,
-    }))
+    })
 }
 
 /// The distance of a record.
@@ -263,7 +254,8 @@ pub(crate) fn route_row(fields: &[Text]) -> Option<Route>
 
 #[tactic(auto, unfolding(ops_tables::specs::Forms::are_item_names))]
 fn are_item_names(kind: &[u8], item: &[u8], capability: &[u8]) -> bool
-    ensures { result ≡ form.are_item_names kind.now item.now capability.now }
+    ensures value { result ≡ form.are_item_names kind.now item.now capability.now }
+    ensures short { IsTrue result → (length kind.now ≤ 8) × (length item.now ≤ 16) × (length capability.now ≤ 8) }
 {
     is_name(kind) && is_item(item) && is_name_or_none(capability)
 }
@@ -299,9 +291,9 @@ fn item_terms(
 }
 
 /// The item of a record.
-pub(crate) fn item_row(alloc: Global, fields: &[Text]) -> Result<Option<MelRow>, OutOfMemory>
-    ensures value { IfOk result (λ row. row ≡ spec.item_row fields.now) }
-    ensures fits { IfOk result (λ row. IfSome row FitsItem) }
+pub(crate) fn item_row(fields: &[Text]) -> Option<MelRow>
+    ensures value { result ≡ spec.item_row fields.now }
+    ensures fits { IfSome result FitsItem }
 {
     let [
         kind,
@@ -314,10 +306,10 @@ pub(crate) fn item_row(alloc: Global, fields: &[Text]) -> Result<Option<MelRow>,
         max_minutes,
     ] = fields
     else {
-        return Ok(None);
+        return None;
     };
     if !are_item_names(kind.bytes(), item.bytes(), capability.bytes()) {
-        return Ok(None);
+        return None;
     }
     let terms = item_terms(
         category.bytes(),
@@ -325,85 +317,79 @@ pub(crate) fn item_row(alloc: Global, fields: &[Text]) -> Result<Option<MelRow>,
         extra_fuel.bytes(),
         flag_ok.bytes(),
         max_minutes.bytes(),
-    );
-    let Some(terms) = terms else {
-        return Ok(None);
-    };
-    Ok(Some(MelRow {
-        kind: kind.copy(alloc)?,
-        item: item.copy(alloc)?,
+    )?;
+    Some(MelRow {
+        kind: ShortText::of(kind.bytes()),
+        item: ShortText::of(item.bytes()),
         category: terms.category,
         days: terms.days,
-        capability: capability.copy(alloc)?,
+        capability: ShortText::of(capability.bytes()),
         extra_fuel: terms.extra_fuel,
         flag_ok: terms.flag_ok,
         max_minutes: terms.max_minutes,
-    }))
+    })
 }
 
 #[tactic(auto, unfolding(ops_tables::specs::Forms::are_two_items))]
 fn are_two_items(kind: &[u8], item: &[u8], other: &[u8]) -> bool
-    ensures { result ≡ form.are_two_items kind.now item.now other.now }
+    ensures value { result ≡ form.are_two_items kind.now item.now other.now }
+    ensures short { IsTrue result → (length kind.now ≤ 8) × (length item.now ≤ 16) × (length other.now ≤ 16) }
 {
     is_name(kind) && is_item(item) && is_item(other) && item != other
 }
 
 /// The two items of a record.
-pub(crate) fn pair_row(alloc: Global, fields: &[Text]) -> Result<Option<ItemPair>, OutOfMemory>
-    ensures value { IfOk result (λ row. row ≡ spec.pair_row fields.now) }
-    ensures fits { IfOk result (λ row. IfSome row FitsPair) }
+pub(crate) fn pair_row(fields: &[Text]) -> Option<ItemPair>
+    ensures value { result ≡ spec.pair_row fields.now }
+    ensures fits { IfSome result FitsPair }
 {
     let [kind, item, other] = fields else {
-        return Ok(None);
+        return None;
     };
     if !are_two_items(kind.bytes(), item.bytes(), other.bytes()) {
-        return Ok(None);
+        return None;
     }
-    Ok(Some(ItemPair {
-        kind: kind.copy(alloc)?,
-        item: item.copy(alloc)?,
-        other: other.copy(alloc)?,
-    }))
+    Some(ItemPair {
+        kind: ShortText::of(kind.bytes()),
+        item: ShortText::of(item.bytes()),
+        other: ShortText::of(other.bytes()),
+    })
 }
 
 /// The person of a record.
-pub(crate) fn actor_row(alloc: Global, fields: &[Text]) -> Result<Option<Actor>, OutOfMemory>
-    ensures value { IfOk result (λ row. row ≡ spec.actor_row fields.now) }
-    ensures fits { IfOk result (λ row. IfSome row FitsActor) }
+pub(crate) fn actor_row(fields: &[Text]) -> Option<Actor>
+    ensures value { result ≡ spec.actor_row fields.now }
+    ensures fits { IfSome result FitsActor }
 {
     let [name, key, role] = fields else {
-        return Ok(None);
+        return None;
     };
     if !(is_person(name.bytes()) && is_key(key.bytes())) {
-        return Ok(None);
+        return None;
     }
-    let Some(role) = role_of(role.bytes()) else {
-        return Ok(None);
-    };
-    Ok(Some(Actor {
-        name: name.copy(alloc)?,
-        key: key.copy(alloc)?,
+    let role = role_of(role.bytes())?;
+    Some(Actor {
+        name: ShortText::of(name.bytes()),
+        key: ShortText::of(key.bytes()),
         role,
-    }))
+    })
 }
 
 /// The hours of a record.
-pub(crate) fn hours_row(alloc: Global, fields: &[Text]) -> Result<Option<CaptainHours>, OutOfMemory>
-    ensures value { IfOk result (λ row. row ≡ spec.hours_row fields.now) }
-    ensures fits { IfOk result (λ row. IfSome row FitsHours) }
+pub(crate) fn hours_row(fields: &[Text]) -> Option<CaptainHours>
+    ensures value { result ≡ spec.hours_row fields.now }
+    ensures fits { IfSome result FitsHours }
 {
     let [captain, kind, hours] = fields else {
-        return Ok(None);
+        return None;
     };
     if !(is_person(captain.bytes()) && is_name(kind.bytes())) {
-        return Ok(None);
+        return None;
     }
-    let Some(hours) = number_within(0, 100_000, hours.bytes()) else {
-        return Ok(None);
-    };
-    Ok(Some(CaptainHours {
-        captain: captain.copy(alloc)?,
-        kind: kind.copy(alloc)?,
+    let hours = number_within(0, 100_000, hours.bytes())?;
+    Some(CaptainHours {
+        captain: ShortText::of(captain.bytes()),
+        kind: ShortText::of(kind.bytes()),
         hours,
-    }))
+    })
 }

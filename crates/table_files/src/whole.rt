@@ -69,7 +69,7 @@ fn read_file<S: Shelf>(
     ensures cause { IfErr result (RoseAt (S.seen shelf.old).health (S.seen shelf.new).health) }
 {
     let text = read_text(alloc, shelf, file)?;
-    match fill(alloc, file, text.bytes(), loaded)? {
+    match fill(alloc, file, text, loaded)? {
         Ok(()) => Ok(()),
         Err(bad) => Err(TableFault::Bad(bad_table(alloc, file, bad)?)),
     }

@@ -1,4 +1,4 @@
-use Rattle.std.proofs.Common.{◌≡◌, ◌∙◌, ◌+◌, ◌<◌, sym, ap, subst, add-one, ℕ, suc, Bool, true, Option, Some, List, ◌∷◌, length, drop, drop-cons, filter, slice_index_or, Bor}
+use Rattle.std.proofs.Common.{◌≡◌, ◌∙◌, ◌+◌, sym, subst, Bool, true, Option, Some, List, ◌∷◌, drop, filter, Bor}
 use Rattle.std.specs.Option.{option_copied}
 use Rattle.ops_tables.specs.declared.rows.Approach.{Approach}
 use Rattle.airport_minima.specs.Minima.{is_usable, doubles}
@@ -7,22 +7,19 @@ use Rattle.airport_minima.proofs.DoubleWithin.{left_after, passed, missed, begun
 use Rattle.airport_minima.proofs.within.has_double_within.Goals as goal
 use Rattle.airport_minima.proofs.within.has_double_within.Goals.{then-is_usable+then-is_single_within+in-None, then-is_usable+then-is_single_within+in-Some+else-are_apart, else-is_usable, else-is_usable-via-then-is_usable+else-is_single_within, else-is_usable-via-else-is_usable}
 
-cut : (xs : List Approach) (i : ℕ) (x : Approach) → i < length xs → x ≡ slice_index_or xs i x → drop i xs ≡ x ∷ drop (i + 1) xs
-cut xs i x within is = drop-cons xs i x within ∙ ap (λ y. y ∷ drop (suc i) xs) (sym is) ∙ ap (λ k. x ∷ drop k xs) (sym (add-one i))
-
-pub loop-approach-preserved : goal.loop-approach-preserved
-loop-approach-preserved c =
+pub loop-place-preserved : goal.loop-place-preserved
+loop-place-preserved c =
     let bounds = c.args.bounds in
     let addend = c.args.addend in
     let flown : Approach → Bool = λ a. is_usable c.args.kind.now c.args.lost.now a in
     let all : List Approach = c.args.approaches.now in
-    let x = c.approach-item.result in
-    let rest = drop (c.loop-approach.approach-index + 1) all in
+    let x = c.row-approach.result.now in
+    let rest = drop (c.loop-place.place + 1) all in
     let found = has_within bounds (doubles addend (filter flown all)) in
     let at = λ (f : Option (Bor Approach)) (xs : List Approach). left_after bounds addend (option_copied f) (filter flown xs) ≡ found in
-    let old = c.loop-approach.first in
+    let old = c.loop-place.first in
     let now = c.if-is_usable.first in
-    let before : at old (x ∷ rest) = subst (at old) (cut all c.loop-approach.approach-index x c.loop-approach-test.true c.approach-item.is) c.loop-approach.invariant in
+    let before : at old (x ∷ rest) = subst (at old) c.row-approach.ensures c.loop-place.invariant in
     elim c.if-is_usable.branch [
       | then-is_usable+then-is_single_within+in-None w ↦
           let flies : flown x ≡ true = sym c.is_usable.ensures ∙ w.if-is_usable.true in

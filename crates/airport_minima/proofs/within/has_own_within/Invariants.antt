@@ -3,5 +3,5 @@ use Rattle.airport_minima.specs.Minima.{own_minima}
 use Rattle.airport_minima.specs.Within.{has_within}
 use Rattle.airport_minima.proofs.within.has_own_within.Given as goal
 
-abbrev pub invariant-loop-row : goal.invariant-loop-row
-invariant-loop-row l = has_within l.bounds (map (λ r. own_minima r) (drop l.row-index l.rows)) ≡ has_within l.bounds (map (λ r. own_minima r) l.rows)
+abbrev pub invariant-loop-place : goal.invariant-loop-place
+invariant-loop-place l = has_within l.bounds (map (λ r. own_minima r) (drop l.place l.rows)) ≡ has_within l.bounds (map (λ r. own_minima r) l.rows)

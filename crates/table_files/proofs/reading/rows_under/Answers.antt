@@ -1,67 +1,71 @@
-use Rattle.std.proofs.Common.{◌≡◌, ◌∙◌, ◌+◌, ◌<◌, sym, ap, refl, ℕ, List, [], ◌∷◌, ◌++◌, take, Ok, Err, Some, arith, length, length-append}
-use Rattle.csv_text.specs.Records.{AreRecordsOf, GivesNext}
+use Rattle.std.proofs.Common.{◌≡◌, ◌<◌, [], ◌∷◌, ◌++◌, length, Ok, Err, Some, None, arith, length-append}
+use Rattle.std.proofs.lemmas.List.Elements.{All-push}
+use Rattle.csv_text.specs.Records.{AreRecordsOf}
 use Rattle.ops_tables.specs.Shown.{shown}
-use Rattle.table_files.specs.Reading.{row_after, rows_after}
-use Rattle.table_files.proofs.Told.{row_told}
-use Rattle.table_files.proofs.Steps.{at_start, one_more, no_more, one_tells, good_row, bad_row}
+use Rattle.table_files.specs.Passes.{rows_read, GivesRow}
+use Rattle.table_files.proofs.Passes.{ReadsOn, one_more, last, none, at_end}
+use Rattle.table_files.proofs.Steps.{one_more as one_seen, no_more, one_tells}
 use Rattle.table_files.proofs.reading.rows_under.Goals as goal
 
-pub loop-rows-init : goal.loop-rows-init
-loop-rows-init g c =
-    let read = rows_after g.R.Row.is_same_key g.R.Row.limit g.R.FileRow.table (shown c.args.loaded.now) in
-    rw c.new-rows.ensures (record { after = λ text earlier h. at_start text earlier (read []) c.args.reader.now h; within = omega arith })
-
-pub returns-in_default : goal.returns-in_default
-returns-in_default g c = λ text earlier h.
-    let read = rows_after g.R.Row.is_same_key g.R.Row.limit g.R.FileRow.table (shown c.args.loaded.now) in
-    let rows = c.loop-rows.rows in
-    let a = c.loop-rows.invariant.after text earlier h in
-    let all : AreRecordsOf text (earlier ++ a.seen) = rw c.in_default.is at (c.in_ok-fields.ensures.given text (earlier ++ a.seen) a.given) in
-    no_more text earlier (read []) (read rows) (Ok rows) c.loop-rows.reader a all refl
-
-pub returns-in-Err : goal.returns-in-Err
-returns-in-Err g c = λ text earlier h.
-    let same = g.R.Row.is_same_key in
+pub returns-in-None-clause-value : goal.returns-in-None-clause-value
+returns-in-None-clause-value g c = λ text earlier h.
     let limit = g.R.Row.limit in
     let table = g.R.FileRow.table in
     let t = shown c.args.loaded.now in
-    let read = rows_after same limit table t in
-    let rows = c.loop-rows.rows in
-    let first : List (List ℕ) = c.in-Some.fields in
-    let most = c.most_fields.result in
+    let rows = c.loop-rows.rows.items in
     let a = c.loop-rows.invariant.after text earlier h in
-    let given : GivesNext most text (earlier ++ a.seen) (Some first) c.next.new.self = rw c.in-Some.is at (c.in_ok-fields.ensures.given text (earlier ++ a.seen) a.given) in
-    let e : row_after same limit table t rows first ≡ Err c.in-Err.why = ap (row_after same limit table t rows) (sym c.as_slice.ensures) ∙ sym c.in_ok-row.ensures.value ∙ c.in-Err.is in
-    let whole : (fields : List (List ℕ)) → first ≡ take most fields → row_after same limit table t rows fields ≡ row_after same limit table t rows first =
-    λ fields is. sym (ap (row_after same limit table t rows) is ∙ row_told same limit table t rows g.met.R.FileRow.told most c.most_fields.ensures fields) in
-    one_tells text earlier (read []) (read rows) (Err (record { line = c.len.result + 2; why = c.in-Err.why })) c.loop-rows.reader c.next.new.self given.0 a given.1
-    (λ others. bad_row same limit table t rows c.in-Err.why given.0 others (whole given.0 given.2 ∙ e) ∙ ap (λ n. Err (record { line = n + 2; why = c.in-Err.why })) (sym c.len.ensures))
+    let all : AreRecordsOf text (earlier ++ a.seen) = rw c.in-None.is at (c.in_ok-next_row.ensures.value text (earlier ++ a.seen) a.given) in
+    no_more text earlier (rows_read limit table t 0) (ReadsOn limit table t rows) (record { rows = rows; stop = None }) c.loop-rows.reader a all (at_end limit table t rows)
 
-pub loop-rows-smaller : goal.loop-rows-smaller
-loop-rows-smaller g c =
-    let room : length c.loop-rows.rows < g.R.Row.limit = rw c.in-Ok.is at c.in_ok-row.ensures.room in
-    omega (arith, room, length-append c.loop-rows.rows (c.in-Ok.row ∷ []), ap length c.in_ok-rows-in-Ok.ensures)
+pub returns-in-Some-Err-clause-value : goal.returns-in-Some-Err-clause-value
+returns-in-Some-Err-clause-value g c = λ text earlier h.
+    let limit = g.R.Row.limit in
+    let table = g.R.FileRow.table in
+    let t = shown c.args.loaded.now in
+    let rows = c.loop-rows.rows.items in
+    let count = c.len-count.result in
+    let counted : count ≡ length rows = omega (arith, c.len-count.ensures, c.loop-rows.rows.ok.0) in
+    let reason = c.in-Some-Err.why in
+    let a = c.loop-rows.invariant.after text earlier h in
+    let given : GivesRow limit table count text (earlier ++ a.seen) (Some (Err reason)) c.next_row.new.reader =
+    rw (c.in-Some-Err.is, c.in-Some-Err.field-0-is) at (c.in_ok-next_row.ensures.value text (earlier ++ a.seen) a.given) in
+    one_tells text earlier (rows_read limit table t 0) (ReadsOn limit table t rows) c.stopped.result c.loop-rows.reader c.next_row.new.reader given.0 a given.1
+    (λ others. none limit table t rows count reason given.0 others c.stopped.result counted given.2 c.stopped.ensures)
+
+pub returns-then-not-linked-clause-value : goal.returns-then-not-linked-clause-value
+returns-then-not-linked-clause-value g c = λ text earlier h.
+    let limit = g.R.Row.limit in
+    let table = g.R.FileRow.table in
+    let t = shown c.args.loaded.now in
+    let rows = c.loop-rows.rows.items in
+    let count = c.len-count.result in
+    let counted : count ≡ length rows = omega (arith, c.len-count.ensures, c.loop-rows.rows.ok.0) in
+    let row = c.in-Some-Ok.row in
+    let a = c.loop-rows.invariant.after text earlier h in
+    let given : GivesRow limit table count text (earlier ++ a.seen) (Some (Ok row)) c.next_row.new.reader =
+    rw (c.in-Some-Ok.is, c.in-Some-Ok.field-0-is) at (c.in_ok-next_row.ensures.value text (earlier ++ a.seen) a.given) in
+    let made = c.stopped-then-not-linked in
+    one_tells text earlier (rows_read limit table t 0) (ReadsOn limit table t rows) made.result c.loop-rows.reader c.next_row.new.reader given.0 a given.1
+    (λ others. last limit table t rows count row given.0 others c.push.new.self.items made.result counted given.2 c.if-not-linked.ensures c.in_ok-push-in-Some-Ok.ensures.items made.ensures)
 
 pub loop-rows-preserved : goal.loop-rows-preserved
 loop-rows-preserved g c =
-    let same = g.R.Row.is_same_key in
     let limit = g.R.Row.limit in
     let table = g.R.FileRow.table in
     let t = shown c.args.loaded.now in
-    let read = rows_after same limit table t in
-    let rows = c.loop-rows.rows in
-    let first : List (List ℕ) = c.in-Some.fields in
-    let most = c.most_fields.result in
-    let row = c.in-Ok.row in
-    let room : length rows < limit = rw c.in-Ok.is at c.in_ok-row.ensures.room in
-    let e : row_after same limit table t rows first ≡ Ok row = ap (row_after same limit table t rows) (sym c.as_slice.ensures) ∙ sym c.in_ok-row.ensures.value ∙ c.in-Ok.is in
-    let whole : (fields : List (List ℕ)) → first ≡ take most fields → row_after same limit table t rows fields ≡ row_after same limit table t rows first =
-    λ fields is. sym (ap (row_after same limit table t rows) is ∙ row_told same limit table t rows g.met.R.FileRow.told most c.most_fields.ensures fields) in
-    record {
+    let rows = c.loop-rows.rows.items in
+    let count = c.len-count.result in
+    let counted : count ≡ length rows = omega (arith, c.len-count.ensures, c.loop-rows.rows.ok.0) in
+    let row = c.in-Some-Ok.row in
+    let room : count < limit = rw (c.in-Some-Ok.is, c.in-Some-Ok.field-0-is) at c.in_ok-next_row.ensures.room in
+    let fits : g.R.Row.Fits row = rw (c.in-Some-Ok.is, c.in-Some-Ok.field-0-is) at c.in_ok-next_row.ensures.fits in
+    rw c.in_ok-push-in-Some-Ok.ensures.items (record {
       after = λ text earlier h.
           let a = c.loop-rows.invariant.after text earlier h in
-          let given : GivesNext most text (earlier ++ a.seen) (Some first) c.next.new.self = rw c.in-Some.is at (c.in_ok-fields.ensures.given text (earlier ++ a.seen) a.given) in
-          one_more text earlier (read []) (read rows) (read c.in_ok-rows-in-Ok.rows) c.loop-rows.reader c.next.new.self given.0 a given.1
-          (λ others. good_row same limit table t rows row given.0 others (whole given.0 given.2 ∙ e) ∙ ap (λ rs. read rs others) (sym c.in_ok-rows-in-Ok.ensures));
-      within = omega (arith, room, length-append rows (row ∷ []), ap length c.in_ok-rows-in-Ok.ensures);
-    }
+          let given : GivesRow limit table count text (earlier ++ a.seen) (Some (Ok row)) c.next_row.new.reader =
+          rw (c.in-Some-Ok.is, c.in-Some-Ok.field-0-is) at (c.in_ok-next_row.ensures.value text (earlier ++ a.seen) a.given) in
+          one_seen text earlier (rows_read limit table t 0) (ReadsOn limit table t rows) (ReadsOn limit table t (rows ++ row ∷ [])) c.loop-rows.reader c.next_row.new.reader given.0 a given.1
+          (λ others. one_more limit table t rows count row given.0 others counted given.2 c.if-not-linked.ensures);
+      within = omega (arith, room, counted, length-append rows (row ∷ []));
+      fits = All-push g.R.Row.Fits rows row c.loop-rows.invariant.fits fits;
+    })

@@ -27,6 +27,6 @@ returns-clause-value c =
     let f : List ℕ = c.ceiling-item.result in
     let g : List ℕ = c.vis16-item.result in
     let all = seven c.args.fields.now a b r d e f g c.in-len7.len_at_least c.in-len7.len_below c.station-item.is c.name-item.is c.runway-item.is c.capability-item.is c.height-item.is c.ceiling-item.is c.vis16-item.is in
-    let h : are_names b r d ≡ true = sym c.are_names.ensures ∙ c.if-not-are_names.false in
-    let t : approach_terms a e f g ≡ Some c.in-Some.terms = sym c.approach_terms.ensures.value ∙ c.in-Some.is in
-    ap Some c.in_ok-row.ensures ∙ sym (ap approach_row all ∙ rw (h, t) refl)
+    let h : are_names b r d ≡ true = sym c.are_names.ensures.value ∙ c.if-not-are_names.false in
+    let t : approach_terms a e f g ≡ Some c.in_ok-terms.terms = sym c.approach_terms.ensures.value ∙ c.in_ok-terms.was in
+    ap Some c.named_approach.ensures ∙ sym (ap approach_row all ∙ rw (h, t) refl)
