@@ -114,6 +114,36 @@ def view(at):
     return {"actor": "wxfeed", "ask": {"do": "weather", "station": "KBOI"}, "at": at, "key": KEYS["wxfeed"], "number": 0}
 
 
+# --- tables
+
+
+def coded(first, number, digits):
+    """A capital and some of 0-9 and A-Z, for a number."""
+    signs = "0123456789ABCDEFGHIJKLMNOPQRSTUVWXYZ"
+    return first + "".join(signs[number // 36**place % 36] for place in reversed(range(digits)))
+
+
+def records():
+    """Of each table its limit, and a record more than that."""
+    station = [coded("K", i, 3) for i in range(5_001)]
+    kind = [coded("T", i, 2) for i in range(201)]
+    item = [coded("I", i, 2) for i in range(251)]
+    two = lambda firsts, seconds: itertools.product(range(firsts), range(seconds))
+    yield "settings", 9, [*(TABLES / "settings.csv").read_text().splitlines()[1:], "late_on,30"]
+    yield "airports", 5_000, (f"{it},1,0" for it in station)
+    yield "approaches", 50_000, (f"{station[i % 5_000]},A{i // 5_000},01,ILS,200,200,8" for i in range(50_001))
+    yield "alternates", 20_000, (f"{station[i % 5_000]},{600 + i // 5_000},32" for i in range(20_001))
+    yield "types", 200, (f"{it},2,380,5300,4600,ILS" for it in kind)
+    yield "tails", 5_000, (f"{coded('N', i, 3)},{kind[i % 200]}" for i in range(5_001))
+    yield "uses", 200_000, (f"{kind[j]},{station[i]}" for i, j in two(1_001, 200))
+    yield "distances", 200_000, (f"{station[j]},{station[1_000 + i]},112" for i, j in two(1_001, 200))
+    yield "routes", 50_000, (f"{station[j]},{station[1_000 + i]}" for i, j in two(251, 200))
+    yield "mel", 50_000, (f"{kind[j]},{item[i]},C,0,,0,1,0" for i, j in two(251, 200))
+    yield "pairs", 50_000, (f"{kind[j]},{item[i % 250]},{item[(i + 1 + i // 250) % 250]}" for i, j in two(251, 200))
+    yield "actors", 5_000, (f"{coded('a', i, 3)},key,{'C' if i <= 100 else 'D'}" for i in range(5_001))
+    yield "hours", 20_000, (f"{coded('a', i, 3)},{kind[j]},250" for i, j in two(101, 200))
+
+
 # --- the program in a folder
 
 
