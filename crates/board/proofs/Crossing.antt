@@ -14,9 +14,9 @@ use Rattle.ops_tables.specs.contracts.rows.Use as Use
 use Rattle.ops_tables.specs.contracts.rows.Distance as Distance
 use Rattle.ops_tables.specs.contracts.rows.Route as Route
 use Rattle.ops_tables.specs.contracts.rows.MelRow as MelRow
-use Rattle.ops_tables.specs.contracts.rows.ItemPair as ItemPair
-use Rattle.ops_tables.specs.contracts.rows.Actor as Actor
-use Rattle.ops_tables.specs.contracts.rows.CaptainHours as CaptainHours
+use Rattle.ops_tables.specs.contracts.small_rows.ItemPair as ItemPair
+use Rattle.ops_tables.specs.contracts.small_rows.Actor as Actor
+use Rattle.ops_tables.specs.contracts.small_rows.CaptainHours as CaptainHours
 use Rattle.ops_tables.specs.contracts.grouped.Grouped as Grouped
 use Rattle.ops_tables.specs.declared.grouped.Row as Row
 use Rattle.ops_tables.specs.contracts.loading.Loading as Loading

@@ -44,7 +44,7 @@ fn flies_by<'a>(person: Option<&Actor>, release: &'a Release) -> &'a Text
     ensures { result.now ≡ spec.flies_by (option_copied person.entry) release.now }
 {
     match person {
-        Some(person) if is_captain(person.role) => active_captain(release),
+        Some(person) if is_captain(person.role()) => active_captain(release),
         _ => &release.holder,
     }
 }

@@ -84,7 +84,7 @@ pub fn mistaken(person: Option<&Actor>, key: &[u8]) -> Option<Refusal>
 {
     match person {
         None => Some(Refusal::UnknownActor),
-        Some(person) if person.key.bytes() == key => None,
+        Some(person) if person.key() == key => None,
         Some(_) => Some(Refusal::WrongKey),
     }
 }
@@ -95,6 +95,6 @@ pub(crate) fn not_his_role(person: Option<&Actor>, ask: &Ask) -> Result<(), Stop
 {
     match person {
         None => Err(Stop::Refused(Refusal::NotYourRole)),
-        Some(person) => refused_if(!may_ask(ask, person.role), Refusal::NotYourRole),
+        Some(person) => refused_if(!may_ask(ask, person.role()), Refusal::NotYourRole),
     }
 }

@@ -6,7 +6,7 @@ use Rattle.std.proofs.lemmas.Bool.{leb-true, leb-false, ltb-true, ltb-false, eqb
 use Rattle.std.specs.Str.{bytes_eq}
 use Rattle.std.specs.List.{list_any}
 use Rattle.codes.specs.Groups.{groups_of, canonical}
-use Rattle.ops_tables.specs.declared.rows.Actor.{Actor}
+use Rattle.ops_tables.specs.Rows.{Actor}
 use Rattle.ops_tables.specs.declared.rows.TypeRow.{TypeRow}
 use Rattle.ops_tables.specs.declared.rows.MelRow.{MelRow}
 use Rattle.ops_tables.specs.Tables.{actor_of, type_of, item_of, has_airport, is_captain_role}

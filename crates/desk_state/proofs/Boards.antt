@@ -32,7 +32,7 @@ use Rattle.desk_state.specs.Events.{effected, releases_after, reports_after}
 use Rattle.desk_state.specs.Decide.{decide, is_view, decide_new, decide_numbered}
 use Rattle.desk_state.specs.Step.{entry, entered, kept_of, kept_reply, next_kept, accepted, enter, finish, do_call, changes, changes_by, do_unless, answer_call, ticked, tick_unless, tick_to, without_key}
 use Rattle.std.specs.Str.{bytes_eq}
-use Rattle.ops_tables.specs.declared.rows.Actor.{Actor}
+use Rattle.ops_tables.specs.Rows.{Actor}
 use Rattle.asks.specs.declared.reply.Refusal.TheVariants.{WrongKey}
 use Rattle.desk_state.specs.Chain.{unless, refused_if}
 use Rattle.desk_state.specs.People.{mistaken, not_his_role}

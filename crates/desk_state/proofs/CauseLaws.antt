@@ -15,7 +15,7 @@ use Rattle.codes.specs.declared.fault.Why.{Why}
 use Rattle.codes.specs.declared.fault.Why.TheVariants as why
 use Rattle.stations.specs.Station.{Station}
 use Rattle.ops_tables.specs.Tables.{actor_of, type_of, item_of, has_airport}
-use Rattle.ops_tables.specs.declared.rows.Actor.{Actor}
+use Rattle.ops_tables.specs.Rows.{Actor}
 use Rattle.ops_tables.specs.declared.rows.MelRow.{MelRow}
 use Rattle.deferrals.specs.Held.{has_id}
 use Rattle.facts.specs.Reading.{read_of}

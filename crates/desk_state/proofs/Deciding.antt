@@ -12,7 +12,7 @@ use Rattle.facts.specs.Same.{same_id, minute_of_read, station_of_read}
 use Rattle.facts.specs.Reading.{read_of}
 use Rattle.facts.specs.declared.report.Read.{Read}
 use Rattle.ops_tables.specs.Tables.{TableRows, actor_of, has_captain, tail_named, type_of}
-use Rattle.ops_tables.specs.declared.rows.Actor.{Actor}
+use Rattle.ops_tables.specs.Rows.{Actor}
 use Rattle.plan.proofs.ChangeLaws.{may_follow}
 use Rattle.plan.specs.Change.{change_fault, MayFollow}
 use Rattle.plan.specs.Check.{fault_or, first_fault, has_legs, plan_fault, whole_fault, IsPlan}

@@ -2,7 +2,7 @@
 use Rattle.std.proofs.Common.{◌≡◌, ◌≤◌, ℕ, Bool, ◌&&◌, true, List, Option, None, Some, IfSome, find, sym, subst, arith}
 use Rattle.ops_tables.specs.Named.{AreNamed}
 use Rattle.ops_tables.specs.Tables.{TableRows, hours_by, hours_of, type_of}
-use Rattle.ops_tables.specs.declared.rows.CaptainHours.{CaptainHours}
+use Rattle.ops_tables.specs.Rows.{CaptainHours}
 use Rattle.ops_tables.specs.declared.rows.TypeRow.{TypeRow}
 use Rattle.plan.specs.declared.flights.Plan.{Plan}
 use Rattle.call_json.specs.Forms.{IsHours}

@@ -4,7 +4,7 @@ use Rattle.std.specs.Option.{option_map}
 use Rattle.std.proofs.lemmas.Bool.{ne_eqb}
 use Rattle.std.specs.Str.{bytes_eq}
 use Rattle.std.specs.List.{AllByRecursion}
-use Rattle.ops_tables.specs.declared.rows.Actor.{Actor}
+use Rattle.ops_tables.specs.Rows.{Actor}
 use Rattle.ops_tables.specs.Tables.{actor_of}
 use Rattle.alerts.specs.declared.alert.Alert.{Alert}
 use Rattle.desk_state.specs.Sound.{Sound, InBounds, IsLater, EffectFits, DecisionFits}

@@ -12,7 +12,7 @@ use Rattle.desk_state.specs.People.{mistaken}
 use Rattle.desk_state.specs.State.{State}
 use Rattle.ops_tables.specs.Forms.{is_tail, is_item, is_person}
 use Rattle.ops_tables.specs.Tables.{TableRows, actor_of, item_of, tail_named, type_of, type_of_tail}
-use Rattle.ops_tables.specs.declared.rows.Actor.{Actor}
+use Rattle.ops_tables.specs.Rows.{Actor}
 use Rattle.ops_tables.specs.declared.rows.MelRow.{MelRow}
 use Rattle.ops_tables.specs.declared.rows.Tail.{Tail}
 use Rattle.ops_tables.specs.declared.rows.TypeRow.{TypeRow}

@@ -9,7 +9,7 @@ use Rattle.codes.specs.declared.fault.BadReport.{BadReport}
 use Rattle.codes.specs.declared.fault.Why.{Why}
 use Rattle.codes.specs.declared.fault.Why.TheVariants as why
 use Rattle.ops_tables.specs.Tables.{has_airport, type_of, item_of, actor_of, is_captain_role}
-use Rattle.ops_tables.specs.declared.rows.Actor.{Actor}
+use Rattle.ops_tables.specs.Rows.{Actor}
 use Rattle.ops_tables.specs.declared.rows.TypeRow.{TypeRow}
 use Rattle.alerts.specs.declared.alert.Alert.{Alert}
 use Rattle.deferrals.specs.Held.{has_id}

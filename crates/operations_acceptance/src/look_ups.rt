@@ -32,7 +32,7 @@ fn has_items_and_people(tables: &Tables) -> bool {
         && tables.item(b"B763", b"22-1").is_none()
         && tables.paired(b"A320", b"34-1", b"22-1")
         && !tables.paired(b"B763", b"34-1", b"22-1")
-        && matches!(tables.actor(b"C7"), Some(person) if person.role == Role::C)
+        && matches!(tables.actor(b"C7"), Some(person) if person.role() == Role::C)
         && tables.actor(b"C8").is_none()
 }
 

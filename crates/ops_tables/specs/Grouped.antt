@@ -1,13 +1,10 @@
--- Rows that stand in groups by their key. A key has up to three parts, and a group is named by the
--- front of each, so rows of the same key stand in one group.
-use Rattle.std.specs.Prelude.{ℕ, ◌+◌, Bool, List, [], ◌∷◌, ◌++◌, length, take, drop, filter}
+-- Rows that are found by their key. A key has up to three parts, and the name of a row's group is the front of
+-- each, so rows of the same key have the same group. Two tables have the station alone for it.
+use Rattle.std.specs.Prelude.{ℕ, Bool, List, [], ◌∷◌, take, filter}
 use Rattle.std.specs.Str.{bytes_eq}
 use Rattle.ops_tables.specs.Keys.{AreRows}
 use Rattle.ops_tables.specs.Order.{IsOrder}
-
--- bytes that are written over others from a place on
-abbrev pub written : List ℕ → ℕ → List ℕ → List ℕ
-written over place part = take place over ++ part ++ drop (place + length part) over
+use Rattle.ops_tables.specs.Parts.{written}
 
 abbrev pub zeros : List ℕ
 zeros = 0 ∷ 0 ∷ 0 ∷ 0 ∷ 0 ∷ 0 ∷ 0 ∷ 0 ∷ 0 ∷ 0 ∷ 0 ∷ 0 ∷ 0 ∷ 0 ∷ 0 ∷ 0 ∷ 0 ∷ 0 ∷ 0 ∷ 0 ∷ 0 ∷ 0 ∷ 0 ∷ 0 ∷ 0 ∷ 0 ∷ 0 ∷ 0 ∷ 0 ∷ 0 ∷ 0 ∷ 0 ∷ 0 ∷ 0 ∷ 0 ∷ 0 ∷ 0 ∷ 0 ∷ 0 ∷ 0 ∷ 0 ∷ 0 ∷ 0 ∷ 0 ∷ 0 ∷ 0 ∷ 0 ∷ 0 ∷ []

@@ -12,9 +12,7 @@ use Rattle.ops_tables.specs.declared.rows.Use.{Use}
 use Rattle.ops_tables.specs.declared.rows.Distance.{Distance}
 use Rattle.ops_tables.specs.declared.rows.Route.{Route}
 use Rattle.ops_tables.specs.declared.rows.MelRow.{MelRow}
-use Rattle.ops_tables.specs.declared.rows.ItemPair.{ItemPair}
-use Rattle.ops_tables.specs.declared.rows.Actor.{Actor}
-use Rattle.ops_tables.specs.declared.rows.CaptainHours.{CaptainHours}
+use Rattle.ops_tables.specs.Rows.{ItemPair, Actor, CaptainHours}
 
 abbrev pub is_same_airport : Airport → Airport → Bool
 is_same_airport a b = is_station b.station a.station

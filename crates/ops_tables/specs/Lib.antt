@@ -1,3 +1,6 @@
+pub mod Rows
+pub mod Parts
+pub mod Texts
 pub mod Tables
 pub mod Forms
 pub mod Limits

@@ -12,9 +12,7 @@ use Rattle.ops_tables.specs.declared.rows.Tail.{Tail}
 use Rattle.ops_tables.specs.declared.rows.Use.{Use}
 use Rattle.ops_tables.specs.declared.rows.Distance.{Distance}
 use Rattle.ops_tables.specs.declared.rows.MelRow.{MelRow}
-use Rattle.ops_tables.specs.declared.rows.ItemPair.{ItemPair}
-use Rattle.ops_tables.specs.declared.rows.Actor.{Actor}
-use Rattle.ops_tables.specs.declared.rows.CaptainHours.{CaptainHours}
+use Rattle.ops_tables.specs.Rows.{ItemPair, Actor, CaptainHours}
 
 pub record FitsSettings (s : Settings) : Type 0 where
   pub hold_minutes : s.hold_minutes ≤ 1440

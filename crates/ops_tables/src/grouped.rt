@@ -9,12 +9,13 @@ ghost use Rattle.ops_tables.specs.Order.{IsOrder, IsFirstDoubled};
 
 use crate::group::Group;
 use crate::order::{first_doubled, order_of, places_at};
+use crate::packed::write;
 use desk_io::OutOfMemory;
 use std::alloc::Global;
 use std::marker::Model;
 
 /// The name of a group: the first sixteen bytes of each part of a key.
-pub type GroupName = [u8; 48];
+pub(crate) type GroupName = [u8; 48];
 
 fn front(part: &[u8]) -> &[u8]
     ensures value { result.now ≡ take 16 part.now }
@@ -23,23 +24,16 @@ fn front(part: &[u8]) -> &[u8]
     if part.len() > 16 { &part[..16] } else { part }
 }
 
-fn write(over: &mut GroupName, place: usize, part: &[u8])
-    requires place { place ≤ 32 }
-    requires part { length part.now ≤ 16 }
-    ensures { over.new ≡ spec.written over.old place part.now }
-{
-    over[place..place + part.len()].copy_from_slice(part);
-}
-
 /// The name of the group of a key. A part that a key doesn't have is empty.
 #[tactic(auto, unfolding(crate::specs::Grouped::group_name))]
 pub(crate) fn group_name(first: &[u8], second: &[u8], third: &[u8]) -> GroupName
     ensures { result ≡ spec.group_name first.now second.now third.now }
 {
     let mut name = [0; 48];
-    write(&mut name, 0, front(first));
-    write(&mut name, 16, front(second));
-    write(&mut name, 32, front(third));
+    let over = &mut name[..];
+    write(over, 0, front(first));
+    write(over, 16, front(second));
+    write(over, 32, front(third));
     name
 }
 

@@ -321,11 +321,11 @@ impl Row<48> for ItemPair {
     ghost short = { refl };
 
     fn group_name(&self) -> GroupName {
-        group_name(self.kind.bytes(), self.item.bytes(), self.other.bytes())
+        group_name(self.kind(), self.item(), self.other())
     }
 
     fn has_key_of(&self, other: &ItemPair) -> bool {
-        other.is_of(self.kind.bytes(), self.item.bytes(), self.other.bytes())
+        other.is_of(self.kind(), self.item(), self.other())
     }
 }
 
@@ -335,7 +335,7 @@ impl Keyed for ItemPair {
     ghost in_group = { λ a b c r h. same.three_parts r.kind r.item r.other a b c h };
 
     fn is_of(&self, first: &[u8], second: &[u8], third: &[u8]) -> bool {
-        self.kind.bytes() == first && self.item.bytes() == second && self.other.bytes() == third
+        self.kind() == first && self.item() == second && self.other() == third
     }
 }
 
@@ -355,11 +355,11 @@ impl Row<48> for Actor {
     ghost short = { refl };
 
     fn group_name(&self) -> GroupName {
-        group_name(self.name.bytes(), b"", b"")
+        group_name(self.name(), b"", b"")
     }
 
     fn has_key_of(&self, other: &Actor) -> bool {
-        other.is_of(self.name.bytes(), b"", b"")
+        other.is_of(self.name(), b"", b"")
     }
 }
 
@@ -369,7 +369,7 @@ impl Keyed for Actor {
     ghost in_group = { λ a b c r h. same.by_one a b c r.name h };
 
     fn is_of(&self, first: &[u8], second: &[u8], third: &[u8]) -> bool {
-        second.is_empty() && third.is_empty() && self.name.bytes() == first
+        second.is_empty() && third.is_empty() && self.name() == first
     }
 }
 
@@ -389,11 +389,11 @@ impl Row<48> for CaptainHours {
     ghost short = { refl };
 
     fn group_name(&self) -> GroupName {
-        group_name(self.captain.bytes(), self.kind.bytes(), b"")
+        group_name(self.captain(), self.kind(), b"")
     }
 
     fn has_key_of(&self, other: &CaptainHours) -> bool {
-        other.is_of(self.captain.bytes(), self.kind.bytes(), b"")
+        other.is_of(self.captain(), self.kind(), b"")
     }
 }
 
@@ -403,6 +403,6 @@ impl Keyed for CaptainHours {
     ghost in_group = { λ a b c r h. same.by_two a b c r.captain r.kind h };
 
     fn is_of(&self, first: &[u8], second: &[u8], third: &[u8]) -> bool {
-        third.is_empty() && self.captain.bytes() == first && self.kind.bytes() == second
+        third.is_empty() && self.captain() == first && self.kind() == second
     }
 }

@@ -9,8 +9,11 @@ mod loading;
 mod lookups;
 mod names;
 mod order;
+mod packed;
+mod row_texts;
 mod rows;
 mod short_text;
+mod small_rows;
 mod tables;
 
 pub use capabilities::Capabilities;
@@ -19,9 +22,9 @@ pub use grouped::{Grouped, Row};
 pub use loading::Loading;
 pub use names::has_name;
 pub use rows::{
-    Actor, Airport, AlternateRow, Approach, CaptainHours, Category, Distance, ItemName, ItemPair,
-    Lost, MelRow, Name, PersonKey, PersonName, Registration, Role, Route, Settings, Tail, TypeRow,
-    Use,
+    Airport, AlternateRow, Approach, Category, Distance, ItemName, Lost, MelRow, Name,
+    Registration, Role, Route, Settings, Tail, TypeRow, Use,
 };
 pub use short_text::ShortText;
+pub use small_rows::{Actor, CaptainHours, ItemPair};
 pub use tables::Tables;

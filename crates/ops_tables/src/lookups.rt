@@ -2,7 +2,7 @@ ghost use Rattle.std.specs.Prelude.{◌≡◌, ◌≤◌, ◌&&◌, IfSome, find
 ghost use Rattle.std.specs.List.{list_any};
 ghost use Rattle.std.specs.Option.{option_copied, option_map};
 ghost use Rattle.std.specs.Str.{bytes_eq};
-ghost use Rattle.ops_tables.specs.Limits.{FitsAirport, FitsType, FitsItem, FitsHours};
+ghost use Rattle.ops_tables.specs.Limits.{FitsAirport, FitsType, FitsItem, FitsActor, FitsHours};
 ghost use Rattle.ops_tables.specs.Tables.{is_station, is_pair, is_captain, hours_by};
 
 use crate::grouped::{Grouped, found, has};
@@ -84,7 +84,8 @@ pub(crate) fn is_paired_in(
 
 /// The person of that name.
 pub(crate) fn actor_in<'a>(rows: &'a Grouped<Actor, 48>, name: &[u8]) -> Option<&'a Actor>
-    ensures { option_copied result ≡ find (λ a. bytes_eq a.name name.now) rows.now }
+    ensures value { option_copied result ≡ find (λ a. bytes_eq a.name name.now) rows.now }
+    ensures within { IfSome result (λ a. FitsActor a.now) }
 {
     found(rows, name, b"", b"")
 }
@@ -95,7 +96,7 @@ pub(crate) fn captain_in(rows: &Grouped<Actor, 48>, name: &[u8]) -> bool
 {
     match actor_in(rows, name) {
         None => false,
-        Some(actor) => match actor.role {
+        Some(actor) => match actor.role() {
             Role::C => true,
             Role::D | Role::F | Role::M | Role::S => false,
         },
@@ -122,6 +123,6 @@ pub(crate) fn hours_in(rows: &Grouped<CaptainHours, 48>, captain: &[u8], kind: &
 {
     match hours_row_in(rows, captain, kind) {
         None => 0,
-        Some(row) => row.hours,
+        Some(row) => row.hours(),
     }
 }

@@ -81,7 +81,8 @@ pub(crate) fn places_at<'a, R: Row<N>, const N: usize>(
 {
     let start = order.partition_point(
         |place: &u32| -> bool
-            ensures { result ≡ is_lt (slice_cmp nat_cmp (spec.name_at N R.name rows.entry.now place.now) name.entry.now) }
+            ensures { result
+                ≡ is_lt (slice_cmp nat_cmp (spec.name_at N R.name rows.entry.now place.now) name.entry.now) }
         { is_before(rows, *place, name) },
     );
     let rest = after(order, start);
@@ -130,7 +131,8 @@ fn is_doubled<R: Row<N>, const N: usize>(rows: &[R], order: &[u32], place: usize
 pub(crate) fn first_doubled<R: Row<N>, const N: usize>(rows: &[R], order: &[u32]) -> Option<usize>
     requires size { N ≤ 48 }
     requires order { IsOrder N R.name rows.now order.now }
-    ensures { MatchOption result (AreNew R.is_same_key [] rows.now) (λ place. IsFirstDoubled R.is_same_key rows.now place) }
+    ensures { MatchOption result (AreNew R.is_same_key [] rows.now)
+        (λ place. IsFirstDoubled R.is_same_key rows.now place) }
 {
     for place in 0..rows.len() {
         if is_doubled(rows, order, place) {

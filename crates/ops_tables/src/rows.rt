@@ -15,12 +15,6 @@ pub type Registration = ShortText<8>;
 /// The name of an item of a minimum equipment list.
 pub type ItemName = ShortText<16>;
 
-/// The name of a person.
-pub type PersonName = ShortText<16>;
-
-/// The key by which a person is known.
-pub type PersonKey = ShortText<64>;
-
 /// The settings of the airline. Minutes, feet, and sixteenths of a statute mile.
 #[derive(Clone, Copy, Debug, PartialEq, Eq)]
 pub struct Settings {
@@ -155,14 +149,6 @@ pub struct MelRow {
     pub max_minutes: u32,
 }
 
-/// Two items of a type that may not be deferred together.
-#[derive(Debug, Drop)]
-pub struct ItemPair {
-    pub kind: Name,
-    pub item: ItemName,
-    pub other: ItemName,
-}
-
 /// What a person does.
 #[derive(Clone, Copy, Debug, PartialEq, Eq)]
 pub enum Role {
@@ -176,20 +162,4 @@ pub enum Role {
     M,
     /// The supervisor of kept records.
     S,
-}
-
-/// A person, and the key by which he is known.
-#[derive(Debug, Drop)]
-pub struct Actor {
-    pub name: PersonName,
-    pub key: PersonKey,
-    pub role: Role,
-}
-
-/// The hours of a captain as pilot in command in a type of aircraft.
-#[derive(Debug, Drop)]
-pub struct CaptainHours {
-    pub captain: PersonName,
-    pub kind: Name,
-    pub hours: u32,
 }

@@ -1,6 +1,7 @@
 ghost use Rattle.std.specs.Prelude.{◌≡◌, ◌≤◌, All, IfSome, IsSome, is_some};
 ghost use Rattle.std.specs.Option.{option_copied};
 ghost use Rattle.ops_tables.specs.Limits.{FitsSettings, FitsAirport, FitsApproach, FitsAlternate, FitsType, FitsItem};
+ghost use Rattle.ops_tables.specs.Limits.{FitsActor};
 ghost use Rattle.ops_tables.specs.Linked.{AreLinked};
 ghost use Rattle.ops_tables.specs.Named.{AreNamed};
 ghost use Rattle.ops_tables.specs.Shown.{shown};
@@ -131,7 +132,8 @@ impl Tables {
 
     /// The person of that name.
     pub fn actor(&self, name: &[u8]) -> Option<&Actor>
-        ensures { option_copied result ≡ actor_of self.now name.now }
+        ensures value { option_copied result ≡ actor_of self.now name.now }
+        ensures within { IfSome result (λ a. FitsActor a.now) }
     {
         actor_in(&self.loaded.actors, name)
     }

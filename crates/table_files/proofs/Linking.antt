@@ -6,9 +6,8 @@ use Rattle.ops_tables.specs.Limits.{FitsSettings}
 use Rattle.ops_tables.specs.Linked.{AreLinked}
 use Rattle.ops_tables.specs.declared.rows.AlternateRow.{AlternateRow}
 use Rattle.ops_tables.specs.declared.rows.Approach.{Approach}
-use Rattle.ops_tables.specs.declared.rows.CaptainHours.{CaptainHours}
+use Rattle.ops_tables.specs.Rows.{CaptainHours, ItemPair}
 use Rattle.ops_tables.specs.declared.rows.Distance.{Distance}
-use Rattle.ops_tables.specs.declared.rows.ItemPair.{ItemPair}
 use Rattle.ops_tables.specs.declared.rows.MelRow.{MelRow}
 use Rattle.ops_tables.specs.declared.rows.Route.{Route}
 use Rattle.ops_tables.specs.declared.rows.Tail.{Tail}

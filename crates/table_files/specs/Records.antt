@@ -13,9 +13,7 @@ use Rattle.ops_tables.specs.declared.rows.Use.{Use}
 use Rattle.ops_tables.specs.declared.rows.Distance.{Distance}
 use Rattle.ops_tables.specs.declared.rows.Route.{Route}
 use Rattle.ops_tables.specs.declared.rows.MelRow.{MelRow}
-use Rattle.ops_tables.specs.declared.rows.ItemPair.{ItemPair}
-use Rattle.ops_tables.specs.declared.rows.Actor.{Actor}
-use Rattle.ops_tables.specs.declared.rows.CaptainHours.{CaptainHours}
+use Rattle.ops_tables.specs.Rows.{ItemPair, Actor, CaptainHours}
 use Rattle.table_files.specs.declared.records.ApproachTerms.{ApproachTerms}
 use Rattle.table_files.specs.declared.records.TypeTerms.{TypeTerms}
 use Rattle.table_files.specs.declared.records.ItemTerms.{ItemTerms}

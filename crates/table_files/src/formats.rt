@@ -239,14 +239,14 @@ impl FileRow<48> for ItemPair {
         }
     }
 
-    fn of_fields(_: Global, fields: &[Text]) -> Result<Option<ItemPair>, OutOfMemory> {
-        Ok(pair_row(fields))
+    fn of_fields(alloc: Global, fields: &[Text]) -> Result<Option<ItemPair>, OutOfMemory> {
+        pair_row(alloc, fields)
     }
 
     fn is_linked(&self, loaded: &Loading) -> bool {
-        loaded.has_type(self.kind.bytes())
-            && loaded.has_item(self.kind.bytes(), self.item.bytes())
-            && loaded.has_item(self.kind.bytes(), self.other.bytes())
+        loaded.has_type(self.kind())
+            && loaded.has_item(self.kind(), self.item())
+            && loaded.has_item(self.kind(), self.other())
     }
 }
 
@@ -262,8 +262,8 @@ impl FileRow<48> for Actor {
         }
     }
 
-    fn of_fields(_: Global, fields: &[Text]) -> Result<Option<Actor>, OutOfMemory> {
-        Ok(actor_row(fields))
+    fn of_fields(alloc: Global, fields: &[Text]) -> Result<Option<Actor>, OutOfMemory> {
+        actor_row(alloc, fields)
     }
 
     fn is_linked(&self, _: &Loading) -> bool {
@@ -283,11 +283,11 @@ impl FileRow<48> for CaptainHours {
         }
     }
 
-    fn of_fields(_: Global, fields: &[Text]) -> Result<Option<CaptainHours>, OutOfMemory> {
-        Ok(hours_row(fields))
+    fn of_fields(alloc: Global, fields: &[Text]) -> Result<Option<CaptainHours>, OutOfMemory> {
+        hours_row(alloc, fields)
     }
 
     fn is_linked(&self, loaded: &Loading) -> bool {
-        loaded.has_captain(self.captain.bytes()) && loaded.has_type(self.kind.bytes())
+        loaded.has_captain(self.captain()) && loaded.has_type(self.kind())
     }
 }

@@ -339,57 +339,53 @@ fn are_two_items(kind: &[u8], item: &[u8], other: &[u8]) -> bool
 }
 
 /// The two items of a record.
-pub(crate) fn pair_row(fields: &[Text]) -> Option<ItemPair>
-    ensures value { result ≡ spec.pair_row fields.now }
-    ensures fits { IfSome result FitsPair }
+pub(crate) fn pair_row(alloc: Global, fields: &[Text]) -> Result<Option<ItemPair>, OutOfMemory>
+    ensures value { IfOk result (λ row. row ≡ spec.pair_row fields.now) }
+    ensures fits { IfOk result (λ row. IfSome row FitsPair) }
 {
     let [kind, item, other] = fields else {
-        return None;
+        return Ok(None);
     };
     if !are_two_items(kind.bytes(), item.bytes(), other.bytes()) {
-        return None;
+        return Ok(None);
     }
-    Some(ItemPair {
-        kind: ShortText::of(kind.bytes()),
-        item: ShortText::of(item.bytes()),
-        other: ShortText::of(other.bytes()),
-    })
+    let pair = ItemPair::of(alloc, kind.bytes(), item.bytes(), other.bytes())?;
+    Ok(Some(pair))
 }
 
 /// The person of a record.
-pub(crate) fn actor_row(fields: &[Text]) -> Option<Actor>
-    ensures value { result ≡ spec.actor_row fields.now }
-    ensures fits { IfSome result FitsActor }
+pub(crate) fn actor_row(alloc: Global, fields: &[Text]) -> Result<Option<Actor>, OutOfMemory>
+    ensures value { IfOk result (λ row. row ≡ spec.actor_row fields.now) }
+    ensures fits { IfOk result (λ row. IfSome row FitsActor) }
 {
     let [name, key, role] = fields else {
-        return None;
+        return Ok(None);
     };
     if !(is_person(name.bytes()) && is_key(key.bytes())) {
-        return None;
+        return Ok(None);
     }
-    let role = role_of(role.bytes())?;
-    Some(Actor {
-        name: ShortText::of(name.bytes()),
-        key: ShortText::of(key.bytes()),
-        role,
-    })
+    match role_of(role.bytes()) {
+        None => Ok(None),
+        Some(role) => Ok(Some(Actor::of(alloc, name.bytes(), key.bytes(), role)?)),
+    }
 }
 
 /// The hours of a record.
-pub(crate) fn hours_row(fields: &[Text]) -> Option<CaptainHours>
-    ensures value { result ≡ spec.hours_row fields.now }
-    ensures fits { IfSome result FitsHours }
+pub(crate) fn hours_row(alloc: Global, fields: &[Text]) -> Result<Option<CaptainHours>, OutOfMemory>
+    ensures value { IfOk result (λ row. row ≡ spec.hours_row fields.now) }
+    ensures fits { IfOk result (λ row. IfSome row FitsHours) }
 {
     let [captain, kind, hours] = fields else {
-        return None;
+        return Ok(None);
     };
     if !(is_person(captain.bytes()) && is_name(kind.bytes())) {
-        return None;
+        return Ok(None);
     }
-    let hours = number_within(0, 100_000, hours.bytes())?;
-    Some(CaptainHours {
-        captain: ShortText::of(captain.bytes()),
-        kind: ShortText::of(kind.bytes()),
-        hours,
-    })
+    match number_within(0, 100_000, hours.bytes()) {
+        None => Ok(None),
+        Some(hours) => {
+            let row = CaptainHours::of(alloc, captain.bytes(), kind.bytes(), hours)?;
+            Ok(Some(row))
+        }
+    }
 }
