@@ -14,6 +14,8 @@ mod flights;
 #[cfg(test)]
 mod look_ups;
 #[cfg(test)]
+mod name_lengths;
+#[cfg(test)]
 mod needs;
 #[cfg(test)]
 mod releases;
