@@ -1,7 +1,7 @@
--- Texts that stand one behind the other in some bytes.
+-- Texts that stand one behind the other in some bytes, and bytes that are written over others.
 use Rattle.std.specs.Prelude.{ℕ, ◌+◌, List, ◌++◌, take, drop, length}
 
--- three texts of a row, of which one that has two has nothing for the third
+-- three texts of a row; the third is empty where a row has two
 pub record Parts : Type 0 where
   pub first : List ℕ
   pub second : List ℕ

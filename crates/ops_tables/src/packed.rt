@@ -47,9 +47,9 @@ impl<const N: usize> Model for Packed<N> {
 }
 
 impl<const N: usize> Packed<N> {
-    /// These texts, which have at most so many bytes together.
+    /// These texts, which have at most so many bytes together; a length is kept in a byte.
     pub(crate) fn of(first: &[u8], second: &[u8], third: &[u8]) -> Packed<N>
-        requires size { N ≤ 80 }
+        requires size { N ≤ 255 }
         requires room { length first.now + length second.now + length third.now ≤ N }
         ensures { result ≡ record { first = first.now; second = second.now; third = third.now } }
     {

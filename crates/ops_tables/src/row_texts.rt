@@ -1,4 +1,4 @@
-ghost use Rattle.std.specs.Prelude.{◌≡◌, ◌≤◌, ◌+◌, length, IfOk};
+ghost use Rattle.std.specs.Prelude.{◌≡◌, ◌≤◌, ◌+◌, length, IfOk, IsOk};
 
 use crate::packed::Packed;
 use desk_io::OutOfMemory;
@@ -6,7 +6,7 @@ use std::alloc::Global;
 use std::marker::Model;
 
 // Where the texts of a row stand: in a place for N bytes where they have no more, and else by themselves, in one
-// for M.
+// for M. What else the row says stands in each: behind both it would begin at a multiple of eight bytes.
 #[derive(Drop)]
 enum Place<T: Copy + Drop, const N: usize, const M: usize> {
     Here(Packed<N>, T),
@@ -28,11 +28,12 @@ impl<T: Copy + Drop, const N: usize, const M: usize> Model for RowTexts<T, N, M>
 
     ghost view = { λ t. texts_at t.place };
 
+    // so that what stands by itself has a size that can be read
     ghost invariant = { λ t. M ≤ 80 };
 }
 
 impl<T: Copy + Drop, const N: usize, const M: usize> RowTexts<T, N, M> {
-    /// These texts.
+    /// These texts. Short ones take no memory.
     pub(crate) fn of(
         alloc: Global,
         first: &[u8],
@@ -43,8 +44,9 @@ impl<T: Copy + Drop, const N: usize, const M: usize> RowTexts<T, N, M> {
         requires here { N ≤ 80 }
         requires away { M ≤ 80 }
         requires room { length first.now + length second.now + length third.now ≤ M }
-        ensures { IfOk result (λ t. t
+        ensures value { IfOk result (λ t. t
             ≡ record { parts = record { first = first.now; second = second.now; third = third.now }; rest = rest }) }
+        ensures short { length first.now + length second.now + length third.now ≤ N → IsOk result }
     {
         let place = if first.len() + second.len() + third.len() <= N {
             Place::Here(Packed::of(first, second, third), rest)

@@ -1,4 +1,4 @@
-ghost use Rattle.std.specs.Prelude.{◌≡◌, ◌≤◌, length, IfOk};
+ghost use Rattle.std.specs.Prelude.{◌≡◌, ◌≤◌, ◌+◌, length, IfOk, IsOk};
 
 use crate::Role;
 use crate::row_texts::RowTexts;
@@ -9,6 +9,7 @@ use std::marker::Model;
 /// Two items of a type that may not be deferred together.
 #[derive(Drop)]
 pub struct ItemPair {
+    // 8, 16 and 16 bytes of text at most; with 20 in place the row has 24
     row: RowTexts<(), 20, 40>,
 }
 
@@ -21,7 +22,7 @@ impl Model for ItemPair {
 }
 
 impl ItemPair {
-    /// Two items of a type.
+    /// Two items of a type. It takes no memory where their names and that of the type have at most 20 bytes together.
     pub fn of(
         alloc: Global,
         kind: &[u8],
@@ -31,7 +32,8 @@ impl ItemPair {
         requires kind { length kind.now ≤ 8 }
         requires item { length item.now ≤ 16 }
         requires other { length other.now ≤ 16 }
-        ensures { IfOk result (λ p. p ≡ record { kind = kind.now; item = item.now; other = other.now }) }
+        ensures value { IfOk result (λ p. p ≡ record { kind = kind.now; item = item.now; other = other.now }) }
+        ensures short { length kind.now + length item.now + length other.now ≤ 20 → IsOk result }
     {
         Ok(ItemPair {
             row: RowTexts::of(alloc, kind, item, other, ())?,
@@ -60,9 +62,10 @@ impl ItemPair {
     }
 }
 
-/// A person, and the key by which he is known.
+/// A person: a name, the key that is asked for with it, and a role.
 #[derive(Drop)]
 pub struct Actor {
+    // 16 and 64 bytes of text at most; with 19 in place the row has 24
     row: RowTexts<Role, 19, 80>,
 }
 
@@ -75,11 +78,12 @@ impl Model for Actor {
 }
 
 impl Actor {
-    /// A person.
+    /// A person. It takes no memory where name and key have at most 19 bytes together.
     pub fn of(alloc: Global, name: &[u8], key: &[u8], role: Role) -> Result<Actor, OutOfMemory>
         requires name { length name.now ≤ 16 }
         requires key { length key.now ≤ 64 }
-        ensures { IfOk result (λ a. a ≡ record { name = name.now; key = key.now; role = role }) }
+        ensures value { IfOk result (λ a. a ≡ record { name = name.now; key = key.now; role = role }) }
+        ensures short { length name.now + length key.now ≤ 19 → IsOk result }
     {
         Ok(Actor {
             row: RowTexts::of(alloc, name, key, b"", role)?,
@@ -111,6 +115,7 @@ impl Actor {
 /// The hours of a captain as pilot in command in a type of aircraft.
 #[derive(Drop)]
 pub struct CaptainHours {
+    // 16 and 8 bytes of text at most; with 13 in place, and the hours at a multiple of four, the row has 24
     row: RowTexts<u32, 13, 24>,
 }
 
@@ -123,7 +128,7 @@ impl Model for CaptainHours {
 }
 
 impl CaptainHours {
-    /// The hours of a captain in a type.
+    /// The hours of a captain in a type. It takes no memory where the two names have at most 13 bytes together.
     pub fn of(
         alloc: Global,
         captain: &[u8],
@@ -132,7 +137,8 @@ impl CaptainHours {
     ) -> Result<CaptainHours, OutOfMemory>
         requires captain { length captain.now ≤ 16 }
         requires kind { length kind.now ≤ 8 }
-        ensures { IfOk result (λ h. h ≡ record { captain = captain.now; kind = kind.now; hours = hours }) }
+        ensures value { IfOk result (λ h. h ≡ record { captain = captain.now; kind = kind.now; hours = hours }) }
+        ensures short { length captain.now + length kind.now ≤ 13 → IsOk result }
     {
         Ok(CaptainHours {
             row: RowTexts::of(alloc, captain, kind, b"", hours)?,
