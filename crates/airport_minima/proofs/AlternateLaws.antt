@@ -5,8 +5,8 @@ use Rattle.std.proofs.lemmas.Bool.{not-true}
 use Rattle.std.proofs.lemmas.List.Elements.{All-nil, All-cons, All-map, All-append, All-filter, filter_passes, All-contains_itself, Contains-append_left, Contains-append_right, All-weaker}
 use Rattle.std.proofs.lemmas.List.Kept.{AllPairs-cons}
 use Rattle.desk_io.proofs.Bytes.{equal_bytes, same_bytes}
-use Rattle.stations.specs.Station.{Station}
-use Rattle.stations.specs.declared.pair.Pair.{Pair}
+use Rattle.desk_io.specs.Station.{Station}
+use Rattle.desk_io.specs.declared.pair.Pair.{Pair}
 use Rattle.ops_tables.specs.declared.rows.Settings.{Settings}
 use Rattle.ops_tables.specs.declared.rows.Approach.{Approach}
 use Rattle.ops_tables.specs.declared.rows.AlternateRow.{AlternateRow}

@@ -6,7 +6,7 @@ use Rattle.std.proofs.lemmas.Bool.{not-false}
 use Rattle.std.proofs.lemmas.Bool.Decides.{nat_tests}
 use Rattle.std.proofs.lemmas.List.Folds.{list_any-append}
 use Rattle.desk_io.proofs.Bytes.{same_bytes}
-use Rattle.stations.specs.declared.pair.Pair.{Pair}
+use Rattle.desk_io.specs.declared.pair.Pair.{Pair}
 use Rattle.ops_tables.specs.declared.rows.Approach.{Approach}
 use Rattle.airport_minima.specs.Minima.{single, double, are_apart, doubles_with, doubles}
 use Rattle.airport_minima.specs.Within.{is_low, is_within, has_within}

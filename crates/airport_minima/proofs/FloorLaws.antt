@@ -2,8 +2,8 @@
 use Rattle.std.proofs.Common.{◌≡◌, ℕ, ◌≤◌, min, nat_lt, true, false, List, [], ◌∷◌, length, map, All, Contains, Option, MatchOption, refl, ap, sym, subst, arith}
 use Rattle.std.proofs.lemmas.Bool.{ltb-true, ltb-false, lt-ltb, le-ltb, cond-true, cond-false}
 use Rattle.std.proofs.lemmas.List.Elements.{All-nil, All-cons, Contains-append_right}
-use Rattle.stations.specs.Station.{Station}
-use Rattle.stations.specs.declared.pair.Pair.{Pair}
+use Rattle.desk_io.specs.Station.{Station}
+use Rattle.desk_io.specs.declared.pair.Pair.{Pair}
 use Rattle.ops_tables.specs.declared.rows.Approach.{Approach}
 use Rattle.ops_tables.specs.declared.rows.TypeRow.{TypeRow}
 use Rattle.ops_tables.specs.Tables.{TableRows}

@@ -6,8 +6,8 @@ use Rattle.std.proofs.lemmas.Bool.{not-true, and_parts, and_from}
 use Rattle.std.proofs.lemmas.List.Elements.{All-map, All-filter, filter_passes, All-contains_itself, All-weaker}
 use Rattle.std.proofs.lemmas.List.Folds.{Any-from_list_any, list_any-from_Any}
 use Rattle.std.proofs.lemmas.Slice.Eq.{bytes_eq-Decides}
-use Rattle.stations.specs.Station.{Station}
-use Rattle.stations.specs.declared.pair.Pair.{Pair}
+use Rattle.desk_io.specs.Station.{Station}
+use Rattle.desk_io.specs.declared.pair.Pair.{Pair}
 use Rattle.ops_tables.specs.Names.{has_name}
 use Rattle.ops_tables.specs.declared.rows.Approach.{Approach}
 use Rattle.ops_tables.specs.declared.rows.TypeRow.{TypeRow}

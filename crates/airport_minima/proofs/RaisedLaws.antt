@@ -1,7 +1,7 @@
 -- Raised minima are what the landing minima give, and all of it.
 use Rattle.std.proofs.Common.{◌≡◌, suc, List, [], ◌∷◌, ◌++◌, map, All, Contains, refl, sym, subst, arith}
 use Rattle.std.proofs.lemmas.List.Elements.{All-nil, All-cons, All-map, All-append, All-contains_itself, Contains-append_left, Contains-append_right, All-weaker}
-use Rattle.stations.specs.declared.pair.Pair.{Pair}
+use Rattle.desk_io.specs.declared.pair.Pair.{Pair}
 use Rattle.airport_minima.specs.Raised.{raised_freely, raised_to, raised_by, each_raised, raised}
 use Rattle.airport_minima.specs.FewHours.{IsRaisedFreely, IsRaisedTo, IsRaised, IsAtOrOver, AreRaised}
 use Rattle.airport_minima.specs.FewHours.IsRaised.{Freely, To}

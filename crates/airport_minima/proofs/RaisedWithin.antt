@@ -3,8 +3,8 @@ use Rattle.std.proofs.Common.{◌≡◌, ◌∙◌, ◌+◌, ℕ, min, max, Bool
 use Rattle.std.specs.List.{list_any}
 use Rattle.std.proofs.lemmas.Bool.Decides.{nat_tests}
 use Rattle.std.proofs.lemmas.List.Folds.{list_any-append}
-use Rattle.stations.specs.declared.pair.Pair.{Pair}
-use Rattle.stations.specs.Pair.{higher}
+use Rattle.desk_io.specs.declared.pair.Pair.{Pair}
+use Rattle.desk_io.specs.Pair.{higher}
 use Rattle.airport_minima.specs.Raised.{least, raised_to, raised_freely, raised_by, each_raised, raised}
 use Rattle.airport_minima.specs.Within.{is_low, is_within, has_within, found_among, found_for, is_raised_within}
 use Rattle.airport_minima.specs.declared.within.Bounds.{Bounds}

@@ -1,8 +1,8 @@
 -- The minima of an airport as an alternate: its own, or those that its approaches give (14 CFR 121.625). The addends
 -- are the airline's, of its operations specifications.
 use Rattle.std.specs.Prelude.{◌≡◌, ℕ, ◌+◌, ◌*◌, ◌<◌, max, List, length, map, All, AllPairs, Contains}
-use Rattle.stations.specs.Station.{Station}
-use Rattle.stations.specs.declared.pair.Pair.{Pair}
+use Rattle.desk_io.specs.Station.{Station}
+use Rattle.desk_io.specs.declared.pair.Pair.{Pair}
 use Rattle.ops_tables.specs.declared.rows.Settings.{Settings}
 use Rattle.ops_tables.specs.declared.rows.Approach.{Approach}
 use Rattle.ops_tables.specs.declared.rows.TypeRow.{TypeRow}

@@ -2,7 +2,7 @@
 -- feet and the visibility by half a statute mile, but not above the minima of the airport as an alternate; and no landing
 -- minimum is less than 300 feet and one mile.
 use Rattle.std.specs.Prelude.{◌≡◌, ◌+◌, ◌≤◌, min, max, List, [], All, Any, Contains}
-use Rattle.stations.specs.declared.pair.Pair.{Pair}
+use Rattle.desk_io.specs.declared.pair.Pair.{Pair}
 
 -- where the airport has no minima as an alternate
 pub record IsRaisedFreely (landing pair : Pair) : Type 0 where

@@ -1,11 +1,11 @@
 -- The weather at the destination with which a flag flight needs no alternate (14 CFR 121.621(a)(1)).
 use Rattle.std.specs.Prelude.{ℕ, ◌+◌, ◌*◌, nat_lt, min, max, if◌then◌else◌, List, [], ◌∷◌, Option, None, Some}
-use Rattle.stations.specs.Station.{Station}
+use Rattle.desk_io.specs.Station.{Station}
 use Rattle.ops_tables.specs.declared.rows.Airport.{Airport}
 use Rattle.ops_tables.specs.declared.rows.Approach.{Approach}
 use Rattle.ops_tables.specs.declared.rows.TypeRow.{TypeRow}
 use Rattle.ops_tables.specs.Tables.{TableRows, airport_of}
-use Rattle.stations.specs.declared.pair.Pair.{Pair}
+use Rattle.desk_io.specs.declared.pair.Pair.{Pair}
 use Rattle.airport_minima.specs.declared.floors.Lowest.{Lowest}
 use Rattle.airport_minima.specs.Minima.{usable, millimetres}
 

@@ -1,7 +1,7 @@
 -- Which approaches of a station count, and the landing minima that they give (14 CFR 121.613).
 use Rattle.std.specs.Prelude.{◌≡◌, ℕ, ◌*◌, List, All, Any, Contains}
-use Rattle.stations.specs.Station.{Station}
-use Rattle.stations.specs.declared.pair.Pair.{Pair}
+use Rattle.desk_io.specs.Station.{Station}
+use Rattle.desk_io.specs.declared.pair.Pair.{Pair}
 use Rattle.ops_tables.specs.declared.rows.Approach.{Approach}
 use Rattle.ops_tables.specs.declared.rows.TypeRow.{TypeRow}
 use Rattle.ops_tables.specs.Tables.{TableRows, approaches_of}

@@ -1,8 +1,8 @@
 -- The lowest approach of a station, and the weather with which a flag flight to it needs no alternate (14 CFR
 -- 121.621(a)(1)).
 use Rattle.std.specs.Prelude.{◌≡◌, ℕ, ◌+◌, ◌*◌, ◌<◌, ◌≤◌, max, List, map, All, Contains}
-use Rattle.stations.specs.Station.{Station}
-use Rattle.stations.specs.declared.pair.Pair.{Pair}
+use Rattle.desk_io.specs.Station.{Station}
+use Rattle.desk_io.specs.declared.pair.Pair.{Pair}
 use Rattle.ops_tables.specs.declared.rows.TypeRow.{TypeRow}
 use Rattle.ops_tables.specs.Tables.{TableRows}
 use Rattle.airport_minima.specs.Minima.{usable}

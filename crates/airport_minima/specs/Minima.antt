@@ -1,15 +1,15 @@
 -- The minima of an airport for landing, and as an alternate (14 CFR 121.613, 121.625).
 use Rattle.std.specs.Prelude.{ℕ, ◌*◌, Bool, not, ◌&&◌, List, [], ◌∷◌, ◌++◌, map, filter}
 use Rattle.std.specs.Str.{bytes_eq}
-use Rattle.stations.specs.Station.{Station}
+use Rattle.desk_io.specs.Station.{Station}
 use Rattle.ops_tables.specs.declared.rows.Settings.{Settings}
 use Rattle.ops_tables.specs.declared.rows.Approach.{Approach}
 use Rattle.ops_tables.specs.declared.rows.AlternateRow.{AlternateRow}
 use Rattle.ops_tables.specs.declared.rows.TypeRow.{TypeRow}
 use Rattle.ops_tables.specs.Names.{has_name}
 use Rattle.ops_tables.specs.Tables.{TableRows, approaches_of, alternates_of}
-use Rattle.stations.specs.declared.pair.Pair.{Pair}
-use Rattle.stations.specs.Pair.{raised, higher}
+use Rattle.desk_io.specs.declared.pair.Pair.{Pair}
+use Rattle.desk_io.specs.Pair.{raised, higher}
 
 -- sixteenths of a statute mile in millimetres
 abbrev pub millimetres : ℕ → ℕ

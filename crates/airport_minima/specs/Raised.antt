@@ -1,8 +1,8 @@
 -- The landing minima for a captain with few hours in the type (14 CFR 121.652).
 use Rattle.std.specs.Prelude.{min, List, [], ◌∷◌, ◌++◌, map}
-use Rattle.stations.specs.declared.pair.Pair.{Pair}
-use Rattle.stations.specs.Pair.{higher}
-use Rattle.stations.specs.Pair as pair
+use Rattle.desk_io.specs.declared.pair.Pair.{Pair}
+use Rattle.desk_io.specs.Pair.{higher}
+use Rattle.desk_io.specs.Pair as pair
 
 -- 100 feet and half a statute mile more
 abbrev pub increased : Pair → Pair

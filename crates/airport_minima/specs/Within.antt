@@ -1,8 +1,8 @@
 -- Whether some minima are at or below bounds, as those are that weather meets. No list of minima is needed to tell.
 use Rattle.std.specs.Prelude.{ℕ, ◌+◌, nat_le, Bool, true, false, ◌&&◌, List, if◌then◌else◌, Option, None, Some}
 use Rattle.std.specs.List.{list_any}
-use Rattle.stations.specs.declared.pair.Pair.{Pair}
-use Rattle.stations.specs.Pair.{higher}
+use Rattle.desk_io.specs.declared.pair.Pair.{Pair}
+use Rattle.desk_io.specs.Pair.{higher}
 use Rattle.airport_minima.specs.Raised.{least, raised_freely}
 use Rattle.airport_minima.specs.declared.within.Bounds.{Bounds}
 use Rattle.airport_minima.specs.declared.within.Found.{Found}

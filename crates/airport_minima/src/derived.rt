@@ -1,15 +1,14 @@
 ghost use Rattle.std.specs.Prelude.{◌≡◌, ◌≤◌, ◌++◌, map, filter, All, IfOk, OnOk};
 ghost use Rattle.ops_tables.specs.Limits.{FitsApproach, FitsAlternate, FitsSettings};
-ghost use Rattle.stations.specs.Pair.{AreWithin};
+ghost use Rattle.desk_io.specs.Pair.{AreWithin};
 ghost use Rattle.airport_minima.specs.Minima as spec;
 ghost use Rattle.airport_minima.specs.Minima.{landing, alternate_pairs};
 ghost use Rattle.airport_minima.specs.Alternate.{AreAlternateMinima};
 ghost use Rattle.airport_minima.specs.Flown.{AreFlown, AreLandingMinima};
 
 use crate::usable::{millimetres, minima_of, usable};
-use desk_io::{Listed, OutOfMemory};
+use desk_io::{Listed, OutOfMemory, Pair, Pairs, Station};
 use ops_tables::{AlternateRow, Approach, Group, Lost, Settings, Tables, TypeRow};
-use stations::{Pair, Pairs, Station};
 use std::alloc::Global;
 
 fn landing_minima(alloc: Global, usable: &[&Approach]) -> Result<Vec<Pair>, OutOfMemory>

@@ -1,11 +1,10 @@
 ghost use Rattle.std.specs.Prelude.{◌≡◌, ◌≤◌, ◌++◌, map, IfOk, OnOk};
-ghost use Rattle.stations.specs.Pair.{AreWithin};
+ghost use Rattle.desk_io.specs.Pair.{AreWithin};
 ghost use Rattle.airport_minima.specs.Raised as spec;
 ghost use Rattle.airport_minima.specs.Raised.{raised};
 ghost use Rattle.airport_minima.specs.FewHours.{AreRaised};
 
-use desk_io::{Listed, OutOfMemory};
-use stations::{MILE, Pair, Pairs};
+use desk_io::{Listed, MILE, OutOfMemory, Pair, Pairs};
 use std::alloc::Global;
 
 fn increased(landing: Pair) -> Pair

@@ -2,9 +2,8 @@ ghost use Rattle.std.specs.Prelude.{◌≡◌, ◌≤◌, map, filter, All, IfOk
 ghost use Rattle.ops_tables.specs.Limits.{FitsApproach};
 ghost use Rattle.airport_minima.specs.Minima as spec;
 
-use desk_io::OutOfMemory;
+use desk_io::{OutOfMemory, Pair};
 use ops_tables::{Approach, Group, Lost, TypeRow, has_name};
-use stations::Pair;
 use std::alloc::Global;
 
 /// Millimetres in a sixteenth of a statute mile.

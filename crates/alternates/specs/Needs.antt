@@ -5,9 +5,9 @@ use Rattle.codes.specs.declared.cond.Cond.{Cond}
 use Rattle.plan.specs.declared.flights.Leg.{Leg}
 use Rattle.plan.specs.declared.flights.Kind.{Kind}
 use Rattle.plan.specs.declared.flights.Kind.TheVariants.{Domestic, Flag}
-use Rattle.stations.specs.declared.pair.Pair.{Pair}
+use Rattle.desk_io.specs.declared.pair.Pair.{Pair}
 use Rattle.codes.specs.Minima.{is_met, meets}
-use Rattle.stations.specs.Pair.{raised}
+use Rattle.desk_io.specs.Pair.{raised}
 
 -- a takeoff alternate is needed where the weather is below all landing minima
 unfoldable pub needs_takeoff : Cond → List Pair → Bool

@@ -1,7 +1,6 @@
-use desk_io::{Copied, OutOfMemory, Text};
+use desk_io::{Copied, OutOfMemory, Station, Text};
 use desk_time::Minute;
 use plan::Plan;
-use stations::Station;
 use std::alloc::Global;
 
 /// What is asked.

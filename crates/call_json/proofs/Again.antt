@@ -8,7 +8,7 @@ use Rattle.serde_json.specs.Events.{items_len}
 use Rattle.serde_json.specs.View.{items_of}
 use Rattle.desk_time.specs.Moments.{shown, minute_of, up_to}
 use Rattle.desk_time.proofs.MomentLaws.{minute_again}
-use Rattle.stations.specs.Station.{Station, is_station, station_of}
+use Rattle.desk_io.specs.Station.{Station, is_station, station_of}
 use Rattle.desk_time.specs.Limits.{IsMoment}
 use Rattle.plan.specs.declared.flights.Kind.{Kind}
 use Rattle.plan.specs.declared.flights.Kind.TheVariants.{Domestic, Flag}

@@ -5,7 +5,7 @@ use Rattle.serde_json.specs.Data.{Data, Items, no_items, item}
 use Rattle.serde_json.specs.Events.{items_len}
 use Rattle.serde_json.specs.Find.{get, as_null, as_number, as_u64}
 use Rattle.desk_time.specs.Moments.{minute_of, up_to}
-use Rattle.stations.specs.Station.{Station, is_station, station_of}
+use Rattle.desk_io.specs.Station.{Station, is_station, station_of}
 use Rattle.plan.specs.Check.{HasMoments, IsPlan}
 use Rattle.desk_time.specs.Limits.{IsMoment}
 use Rattle.plan.specs.declared.flights.Kind.{Kind}

@@ -3,7 +3,7 @@ use Rattle.std.proofs.Common.{◌≡◌, ℕ, ◌&&◌, true, List, [], ◌∷�
 use Rattle.std.specs.List.{list_all}
 use Rattle.std.proofs.lemmas.Bool.{and_parts}
 use Rattle.std.proofs.lemmas.Bool.Decides.{nat_tests}
-use Rattle.stations.specs.Station.{is_station}
+use Rattle.desk_io.specs.Station.{is_station}
 use Rattle.ops_tables.specs.Forms.{in_key}
 use Rattle.plan.specs.declared.flights.Plan.{Plan}
 use Rattle.call_json.specs.declared.plans.Form.{Form}

@@ -14,7 +14,7 @@ use Rattle.jiff_core.proofs.SignedLemmas.{signed_arith}
 use Rattle.desk_time.specs.Calendar.{civil_of}
 use Rattle.desk_time.specs.Moments.{two, shown}
 use Rattle.desk_time.proofs.CalendarLaws.{civil_of-law}
-use Rattle.stations.specs.Station.{is_station, is_capital_or_digit}
+use Rattle.desk_io.specs.Station.{is_station, is_capital_or_digit}
 use Rattle.call_json.specs.declared.plans.Form.{Form}
 use Rattle.call_json.specs.declared.plans.Form.TheVariants.{Flight, Tail, Captain}
 use Rattle.hex.specs.Hex.{encode_lower}

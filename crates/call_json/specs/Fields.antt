@@ -7,7 +7,7 @@ use Rattle.serde_json.specs.Read.{read}
 use Rattle.serde_json.specs.Find.{get, as_str, as_number, as_u64, as_array, as_object}
 use Rattle.desk_time.specs.Digits.{◌>>=◌}
 use Rattle.desk_time.specs.Moments.{minute_of, up_to}
-use Rattle.stations.specs.Station.{Station, station_of}
+use Rattle.desk_io.specs.Station.{Station, station_of}
 
 -- the data of a line, where it is UTF-8 and JSON
 abbrev pub data_of : List ℕ → Option Data

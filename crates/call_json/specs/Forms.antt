@@ -4,7 +4,7 @@ use Rattle.std.specs.List.{AllByRecursion}
 use Rattle.std.specs.Ordering.{nat_cmp}
 use Rattle.std.specs.declared.cmp.Ordering.TheVariants.{Less}
 use Rattle.std.specs.Cmp.Lexicographic.{slice_cmp}
-use Rattle.stations.specs.Station.{is_station}
+use Rattle.desk_io.specs.Station.{is_station}
 use Rattle.ops_tables.specs.Forms.{is_person}
 use Rattle.plan.specs.Texts.{HasMoment}
 use Rattle.desk_time.specs.Limits.{IsMoment}

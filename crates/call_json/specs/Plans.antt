@@ -4,7 +4,7 @@ use Rattle.std.specs.List.{list_all}
 use Rattle.std.specs.Str.{bytes_eq}
 use Rattle.serde_json.specs.Data.{Data}
 use Rattle.desk_time.specs.Digits.{◌>>=◌}
-use Rattle.stations.specs.Station.{is_capital_or_digit}
+use Rattle.desk_io.specs.Station.{is_capital_or_digit}
 use Rattle.plan.specs.declared.flights.Kind.{Kind}
 use Rattle.plan.specs.declared.flights.Kind.TheVariants.{Domestic, Flag}
 use Rattle.plan.specs.declared.flights.Leg.{Leg}

@@ -7,10 +7,9 @@ ghost use Rattle.desk_time.specs.Limits.{IsMoment};
 ghost use Rattle.call_json.specs.Fields as spec;
 
 use compact_json::{Document, Json};
-use desk_io::OutOfMemory;
+use desk_io::{OutOfMemory, Station};
 use desk_time::{Minute, read_minute};
 use serde_json::Value;
-use stations::Station;
 use std::alloc::Global;
 use std::str;
 

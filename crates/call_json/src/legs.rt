@@ -7,10 +7,9 @@ ghost use Rattle.call_json.specs.Legs as spec;
 
 use crate::fields::{amount_at, has_members, list_at, moment_at, station_at};
 use compact_json::Json;
-use desk_io::OutOfMemory;
+use desk_io::{OutOfMemory, Station};
 use desk_time::Minute;
 use plan::{Alternate, Alternates, Leg, Legs, TakeoffAlternate};
-use stations::Station;
 use std::alloc::Global;
 
 // The airports of a leg.

@@ -3,7 +3,7 @@ ghost use Rattle.std.specs.List.{AllByRecursion, list_all};
 ghost use Rattle.std.specs.Option.{option_map};
 ghost use Rattle.plan.specs.Check.{HasMoments, IsPlan};
 ghost use Rattle.call_json.specs.Plans as spec;
-ghost use Rattle.stations.specs.Station.{is_capital_or_digit};
+ghost use Rattle.desk_io.specs.Station.{is_capital_or_digit};
 ghost use Rattle.call_json.specs.Plans.{plan_of};
 
 use crate::fields::{has_members, text_at};

@@ -1,5 +1,5 @@
 ghost use Rattle.std.specs.Prelude.{◌≤◌, IfOk, IfSome};
-ghost use Rattle.stations.specs.Pair.{AreWithin};
+ghost use Rattle.desk_io.specs.Pair.{AreWithin};
 
 use crate::fields::{
     is_written, items_at, number_at, number_within, small_number_at, text_at, truth_at,
@@ -7,12 +7,11 @@ use crate::fields::{
 use crate::tables::{Files, NAMES, push_file, tables_of};
 use crate::written::{option_pair_text, pairs_text};
 use airport_minima::{alternate_pairs, flag_floor, landing, raised};
-use desk_io::{Listed, OutOfMemory, Text, push_all};
+use desk_io::{Listed, OutOfMemory, Pair, Pairs, Station, Text, push_all};
 use fuel::{Basis, required};
 use ops_tables::{Lost, Tables, TypeRow};
 use plan::{Alternate, Alternates, Leg};
 use serde_json::Value;
-use stations::{Pair, Pairs, Station};
 use std::alloc::Global;
 use table_files::TableFault;
 

@@ -1,7 +1,6 @@
 use codes::{BadReport, Cond, Why};
-use desk_io::OutOfMemory;
+use desk_io::{OutOfMemory, Pair};
 use metar::Metar;
-use stations::Pair;
 use std::alloc::Global;
 use std::str;
 use table_files::{BadTable, TableWhy};

@@ -7,7 +7,7 @@ use Rattle.std.proofs.lemmas.List.Splits.{slice_split-cons_yes, slice_split-cons
 use Rattle.desk_io.specs.Runs.{blanks, is_among, has_bytes, kept, runs_between}
 use Rattle.codes.specs.Groups.{IsGroup, last_without_end_sign, spaced, joined, groups_of, canonical}
 use Rattle.codes.proofs.CanonicalLaws.{last_byte, last_byte_after, group_has_bytes, runs_are_groups, last_are_groups}
-use Rattle.stations.specs.Station.{is_station}
+use Rattle.desk_io.specs.Station.{is_station}
 
 -- the bytes of lists, and one more for each
 abbrev size : List (List ℕ) → ℕ

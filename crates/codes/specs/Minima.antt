@@ -2,7 +2,7 @@
 use Rattle.std.specs.Prelude.{ℕ, ◌==◌, nat_le, Bool, ◌&&◌, List, Option, None, Some}
 use Rattle.std.specs.List.{list_any}
 use Rattle.codes.specs.declared.cond.Cond.{Cond}
-use Rattle.stations.specs.declared.pair.Pair.{Pair}
+use Rattle.desk_io.specs.declared.pair.Pair.{Pair}
 
 -- whether an element of the weather is at or above its minimum; one that isn't known meets only 0
 abbrev pub reaches : Option ℕ → ℕ → Bool

@@ -2,7 +2,7 @@ ghost use Rattle.std.specs.Prelude.{◌≡◌};
 ghost use Rattle.codes.specs.Minima as spec;
 
 use crate::cond::Cond;
-use stations::Pair;
+use desk_io::Pair;
 
 fn reaches(value: Option<u32>, least: u32) -> bool
     ensures { result ≡ spec.reaches value least }

@@ -9,10 +9,9 @@ ghost use Rattle.decisions.specs.Reads.{DecisionAdmitsRead};
 use crate::chain::{Stop, refused_if};
 use asks::{Done, Refusal, Reply};
 use codes::{BadReport, ReportFault, Why};
-use desk_io::Text;
+use desk_io::{Station, Text};
 use desk_state::{Content, Decision, Effect};
 use facts::{HELD_LIMIT, Received, Report, receive};
-use stations::Station;
 use std::alloc::Global;
 use views::weather_view;
 

@@ -4,7 +4,7 @@ use Rattle.std.specs.List.{list_any, list_all}
 use Rattle.std.specs.Str.{bytes_eq, is_utf8}
 use Rattle.std.proofs.lemmas.Bool.{and_right, and_parts, cases_eq, eqb-true, false_from_ne_true}
 use Rattle.matchit.specs.Seek.{first, has_slash}
-use Rattle.stations.specs.Station.{is_capital, is_capital_or_digit, is_station}
+use Rattle.desk_io.specs.Station.{is_capital, is_capital_or_digit, is_station}
 use Rattle.desk_time.specs.Numbers.{is_digit, digits_after}
 use Rattle.desk_http.specs.Digits.{has_length}
 use Rattle.desk_http.specs.Routes.{after, fixed_route, release_route, weather_route, deferred_route, route_among, route_in, route_of}

@@ -3,7 +3,7 @@ use Rattle.std.specs.Prelude.{◌≡◌, ℕ, ◌==◌, Bool, not, ◌&&◌, Lis
 use Rattle.std.specs.List.{list_any}
 use Rattle.std.specs.Option.{option_map}
 use Rattle.std.specs.Str.{bytes_eq, is_utf8}
-use Rattle.stations.specs.Station.{station_of}
+use Rattle.desk_io.specs.Station.{station_of}
 use Rattle.desk_http.specs.Digits.{has_length, number_of}
 use Rattle.desk_http.specs.declared.wire.Wire.{Wire}
 use Rattle.desk_http.specs.declared.routes.Routed.{Routed}

@@ -10,8 +10,7 @@ ghost use Rattle.desk_http.specs.declared.routes.RouteFault.TheVariants.{OutOfMe
 use crate::Wire;
 use crate::digits::{has_length, number_of};
 use crate::router::{Named, Patterns};
-use desk_io::{OutOfMemory, Text};
-use stations::Station;
+use desk_io::{OutOfMemory, Station, Text};
 use std::alloc::Global;
 use std::str;
 

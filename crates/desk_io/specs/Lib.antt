@@ -8,3 +8,5 @@ pub mod Planned
 pub mod InMemory
 pub mod Grown
 pub mod Rows
+pub mod Station
+pub mod Pair

@@ -17,7 +17,7 @@ use Rattle.facts.specs.Reading.{read_of}
 use Rattle.facts.specs.declared.report.Read.{Read}
 use Rattle.codes.specs.declared.fault.BadReport.{BadReport}
 use Rattle.alerts.specs.declared.alert.Alert.{Alert}
-use Rattle.stations.specs.Station.{Station}
+use Rattle.desk_io.specs.Station.{Station}
 use Rattle.plan.specs.Change.{change_fault}
 use Rattle.plan.specs.Check.{plan_fault}
 use Rattle.release_text.specs.Revisions.{revision_digest}

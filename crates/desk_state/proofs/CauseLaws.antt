@@ -13,7 +13,7 @@ use Rattle.codes.specs.Groups.{groups_of, canonical}
 use Rattle.codes.specs.declared.fault.BadReport.{BadReport}
 use Rattle.codes.specs.declared.fault.Why.{Why}
 use Rattle.codes.specs.declared.fault.Why.TheVariants as why
-use Rattle.stations.specs.Station.{Station}
+use Rattle.desk_io.specs.Station.{Station}
 use Rattle.ops_tables.specs.Tables.{actor_of, type_of, item_of, has_airport}
 use Rattle.ops_tables.specs.Rows.{Actor}
 use Rattle.ops_tables.specs.declared.rows.MelRow.{MelRow}

@@ -21,7 +21,7 @@ use Rattle.plan.specs.declared.check.PlanWhy.{PlanWhy}
 use Rattle.plan.specs.declared.check.PlanWhy.TheVariants.{UnknownTail, UnknownCaptain, Count}
 use Rattle.plan.specs.declared.flights.Leg.{Leg}
 use Rattle.release_text.specs.Revisions.{revision_digest}
-use Rattle.stations.specs.Station.{Station}
+use Rattle.desk_io.specs.Station.{Station}
 use Rattle.plan.specs.declared.check.BadPlan.{BadPlan}
 use Rattle.plan.specs.declared.flights.Plan.{Plan}
 use Rattle.plan.specs.declared.findings.Finding.{Finding}

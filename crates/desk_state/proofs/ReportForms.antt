@@ -2,7 +2,7 @@
 use Rattle.std.proofs.Common.{ℕ, ◌≤◌, Bool, true, false, cond, List, [], ◌∷◌, Option, None, Some, IfSome, IsUtf8, arith}
 use Rattle.std.specs.Prelude.{map, nat_lt}
 use Rattle.std.specs.List.{AllByRecursion}
-use Rattle.stations.specs.Station.{Station}
+use Rattle.desk_io.specs.Station.{Station}
 use Rattle.facts.specs.Latest.{is_of, where_of, later, latest, latest_metar, latest_taf}
 use Rattle.facts.specs.Same.{minute_of_report}
 use Rattle.facts.specs.declared.latest.Kind.{Kind}

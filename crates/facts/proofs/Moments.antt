@@ -5,7 +5,7 @@ use Rattle.codes.specs.Cond.{is_period, stretch_of}
 use Rattle.codes.specs.Groups.{first_of}
 use Rattle.codes.specs.Moment.{written_moment, moment_or, time_of}
 use Rattle.codes.specs.Period.{end_of, ends, period_of}
-use Rattle.stations.specs.Station.{Station, station_of}
+use Rattle.desk_io.specs.Station.{Station, station_of}
 use Rattle.codes.specs.declared.cond.Stretch.{Stretch}
 use Rattle.codes.specs.declared.fault.BadReport.{BadReport}
 use Rattle.codes.specs.declared.fault.Form.TheVariants.{Report}

@@ -11,7 +11,7 @@ use Rattle.std.proofs.lemmas.List.Sorted.{searched}
 use Rattle.std.proofs.lemmas.Map.Text.{is_eq-slice_cmp}
 use Rattle.std.proofs.lemmas.Slice.Eq.{bytes_eq-Decides}
 use Rattle.std.specs.Cmp.{both_ways}
-use Rattle.stations.specs.Station.{Station}
+use Rattle.desk_io.specs.Station.{Station}
 use Rattle.facts.specs.declared.index.Places.{Places}
 use Rattle.facts.specs.declared.latest.Kind.{Kind}
 use Rattle.facts.specs.declared.latest.Kind.TheVariants as kind

@@ -7,7 +7,7 @@ use Rattle.std.specs.Ordering.{nat_cmp, match_ordering}
 use Rattle.std.specs.Cmp.Lexicographic.{slice_cmp}
 use Rattle.desk_time.specs.Moments.{shown}
 use Rattle.codes.specs.declared.cond.Cond.{Cond}
-use Rattle.stations.specs.Station.{Station}
+use Rattle.desk_io.specs.Station.{Station}
 use Rattle.metar.specs.declared.metar.Metar.{Metar}
 use Rattle.taf.specs.declared.forecast.Taf.{Taf}
 use Rattle.taf.specs.declared.forecast.TafState.{TafState}

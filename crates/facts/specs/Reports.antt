@@ -1,6 +1,6 @@
 -- The reports that were admitted, and the one that may be admitted with no more memory.
 use Rattle.std.specs.Prelude.{ℕ, ◌<◌, List, [], ◌∷◌, ◌++◌, All, AllPairs, Option, None, Some}
-use Rattle.stations.specs.Station.{Station}
+use Rattle.desk_io.specs.Station.{Station}
 use Rattle.facts.specs.declared.report.Report.{Report}
 use Rattle.facts.specs.Same.{station_of_report, minute_of_report}
 use Rattle.facts.specs.Reading.{IsRead}

@@ -3,7 +3,7 @@ use Rattle.std.specs.Prelude.{ℕ, Bool, ◌&&◌, ◌==◌, List, Option, None,
 use Rattle.std.specs.Str.{bytes_eq}
 use Rattle.std.specs.List.{find}
 use Rattle.std.specs.Option.{option_map}
-use Rattle.stations.specs.Station.{Station}
+use Rattle.desk_io.specs.Station.{Station}
 use Rattle.metar.specs.declared.metar.Metar.{Metar}
 use Rattle.taf.specs.declared.forecast.Taf.{Taf}
 use Rattle.facts.specs.declared.report.Read.{Read}

@@ -7,7 +7,7 @@ use Rattle.facts.specs.declared.latest.Kind.TheVariants as kind
 use Rattle.facts.specs.declared.report.Read.{Read}
 use Rattle.facts.specs.declared.report.Read.TheVariants as read
 use Rattle.facts.specs.declared.report.Report.{Report}
-use Rattle.stations.specs.Station.{Station}
+use Rattle.desk_io.specs.Station.{Station}
 use Rattle.facts.specs.Same.{minute_of_report, station_of_report}
 use Rattle.facts.specs.Latest.{latest}
 use Rattle.facts.specs.Index.{place_of, places_or, of_station}

@@ -17,11 +17,10 @@ use crate::index::Places;
 use crate::report::{Read, Report};
 use crate::reports::Reports;
 use codes::Cond;
-use desk_io::{OutOfMemory, or_undone, push_all};
+use desk_io::{OutOfMemory, Station, or_undone, push_all};
 use desk_time::{FIRST, LAST, Minute, show};
 use itoa::Buffer;
 use metar::Metar;
-use stations::Station;
 use taf::{Taf, TafState};
 
 #[tactic(auto, unfolding(crate::specs::Lines::moment_text))]

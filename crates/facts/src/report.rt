@@ -2,10 +2,9 @@ ghost use Rattle.std.specs.Prelude.{◌≡◌};
 ghost use Rattle.std.specs.Option.{option_copied};
 ghost use Rattle.facts.specs.Same as spec;
 
-use desk_io::{Copied, OutOfMemory, Text};
+use desk_io::{Copied, OutOfMemory, Station, Text};
 use desk_time::Minute;
 use metar::Metar;
-use stations::Station;
 use std::alloc::Global;
 use taf::Taf;
 

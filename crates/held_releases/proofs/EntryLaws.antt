@@ -6,7 +6,7 @@ use Rattle.std.specs.BTreeMap.{is_at}
 use Rattle.std.proofs.lemmas.List.Folds.{list_any-append}
 use Rattle.std.proofs.lemmas.Slice.Eq.{bytes_eq-Decides}
 use Rattle.desk_io.proofs.Each.{each_push}
-use Rattle.stations.specs.Station.{Station}
+use Rattle.desk_io.specs.Station.{Station}
 use Rattle.facts.specs.Index.{fingerprint, key_cmp}
 use Rattle.ops_tables.specs.declared.rows.Settings.{Settings}
 use Rattle.rules.specs.Due.{due_minutes}

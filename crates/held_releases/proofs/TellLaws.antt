@@ -2,7 +2,7 @@
 -- to fail for it.
 use Rattle.std.proofs.Common.{inl, inr, ◌≡◌, ◌↔◌, refl, ap, ◌∙◌, ℕ, ◌+◌, arith, Bool, true, List, Option, None, Some}
 use Rattle.std.proofs.lemmas.Bool.{and_parts, and_from, leb-true, le-leb, cases_lt}
-use Rattle.stations.specs.Station.{Station}
+use Rattle.desk_io.specs.Station.{Station}
 use Rattle.ops_tables.specs.declared.rows.Settings.{Settings}
 use Rattle.plan.specs.Phases.{is_active}
 use Rattle.plan.specs.declared.flights.Plan.{Plan}

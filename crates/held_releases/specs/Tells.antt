@@ -1,6 +1,6 @@
 -- What it means that a release is touched, in words of the airline.
 use Rattle.std.specs.Prelude.{◌≡◌, ◌↔◌, ℕ, ◌<◌, ◌≤◌, true, List, Some}
-use Rattle.stations.specs.Station.{Station}
+use Rattle.desk_io.specs.Station.{Station}
 use Rattle.ops_tables.specs.declared.rows.Settings.{Settings}
 use Rattle.plan.specs.Phases.{is_active}
 use Rattle.plan.specs.declared.flights.Plan.{Plan}

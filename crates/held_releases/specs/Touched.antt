@@ -3,7 +3,7 @@
 -- fail.
 use Rattle.std.specs.Prelude.{ℕ, ◌==◌, nat_le, Bool, false, ◌&&◌, List, Option, None, Some}
 use Rattle.std.specs.List.{list_any}
-use Rattle.stations.specs.Station.{Station}
+use Rattle.desk_io.specs.Station.{Station}
 use Rattle.ops_tables.specs.declared.rows.Settings.{Settings}
 use Rattle.plan.specs.Phases.{is_active}
 use Rattle.plan.specs.declared.flights.Plan.{Plan}

@@ -5,7 +5,7 @@ use Rattle.std.specs.List.{list_all}
 use Rattle.std.proofs.lemmas.Bool.{and_parts}
 use Rattle.std.proofs.lemmas.Bool.Decides.{nat_tests}
 use Rattle.std.proofs.lemmas.Fmt.{digits_decimal, length-decimal-le}
-use Rattle.stations.specs.Station.{is_capital_or_digit}
+use Rattle.desk_io.specs.Station.{is_capital_or_digit}
 use Rattle.call_json.specs.Forms.{IsLeg, HasForms}
 use Rattle.desk_time.specs.Numbers.{is_digit}
 use Rattle.desk_time.proofs.NumberLaws.{own}

@@ -1,10 +1,9 @@
 ghost use Rattle.std.specs.Prelude.{◌≡◌, ◌∷◌, [], Some, IfOk};
-ghost use Rattle.stations.specs.Station.{station_of};
+ghost use Rattle.desk_io.specs.Station.{station_of};
 ghost use Rattle.made_items.specs.Plans as spec;
 
-use desk_io::{Listed, OutOfMemory, Text, push_all};
+use desk_io::{Listed, OutOfMemory, Station, Text, push_all};
 use plan::{Alternate, Alternates, Kind, Leg, Legs, Plan};
-use stations::Station;
 use std::alloc::Global;
 
 /// 2025-03-12T18:00Z.

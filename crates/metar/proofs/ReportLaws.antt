@@ -3,7 +3,7 @@ use Rattle.std.proofs.Common.{◌≡◌, ◌↔◌, inl, inr, ℕ, ◌+◌, ◌-
 use Rattle.std.proofs.lemmas.Bool.{or_cases, or_parts, cond-false, false_from_ne_true}
 use Rattle.std.proofs.lemmas.Bool.Decides.{Decides-or, same_from_decides}
 use Rattle.std.proofs.lemmas.List.Elements.{All-nil, All-cons, All-head, All-tail}
-use Rattle.stations.specs.Station.{is_station}
+use Rattle.desk_io.specs.Station.{is_station}
 use Rattle.codes.specs.Groups.{first_of}
 use Rattle.codes.specs.Moment.{time_of}
 use Rattle.codes.specs.Cond.{stretch_of, stretch_with, cond_of, cond_unless, first_fault, shape_fault, named_cond}

@@ -2,7 +2,7 @@
 use Rattle.std.specs.Prelude.{ℕ, ◌-◌, ◌/◌, ◌+◌, nat_lt, Bool, ◌||◌, if◌then◌else◌, true, false, List, [], ◌∷◌, length, take, Option, None, Some, Result, Ok, Err, codes}
 use Rattle.std.specs.Str.{bytes_eq}
 use Rattle.std.specs.List.{list_any}
-use Rattle.stations.specs.Station.{Station, station_of}
+use Rattle.desk_io.specs.Station.{Station, station_of}
 use Rattle.codes.specs.Answers.{too_long}
 use Rattle.codes.specs.Groups.{groups_of, first_of}
 use Rattle.codes.specs.Moment.{time_of}

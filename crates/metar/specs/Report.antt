@@ -1,7 +1,7 @@
 -- What a METAR or SPECI says, as a relation: optional words, a station, a time, and NIL or a body, which is
 -- the groups before the first word that ends it (FMH-1, chapter 12; WMO FM 15).
 use Rattle.std.specs.Prelude.{◌≡◌, ◌⊎◌, ℕ, ◌-◌, ◌/◌, Bool, true, false, List, [], ◌∷◌, ◌++◌, None, Ok, codes, All, Contains, Decides}
-use Rattle.stations.specs.Station.{is_station}
+use Rattle.desk_io.specs.Station.{is_station}
 use Rattle.codes.specs.Moment.{time_of}
 use Rattle.codes.specs.Class.{unread_count}
 use Rattle.codes.specs.Cond.{named_cond, shape_fault}

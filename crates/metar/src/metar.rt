@@ -10,7 +10,7 @@ use codes::{
     first_of, stretch_in, time_of,
 };
 use desk_time::{FIRST, LAST, Minute};
-use stations::Station;
+use desk_io::Station;
 use std::alloc::Global;
 
 /// What a METAR or SPECI says.

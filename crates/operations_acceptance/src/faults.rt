@@ -1,7 +1,6 @@
-use desk_io::{MemoryShelf, OutOfMemory, Text, push_all};
+use desk_io::{MemoryShelf, OutOfMemory, Station, Text, push_all};
 use ops_tables::Tables;
 use small_airline::{lines_of, push_small, shelf_of};
-use stations::Station;
 use std::alloc::Global;
 use std::test::Fail;
 use table_files::{TableFault, TableWhy, read_tables};

@@ -1,7 +1,6 @@
-use desk_io::{Blanks, Listed, OutOfMemory, Text, runs_between};
+use desk_io::{Blanks, Listed, OutOfMemory, Station, Text, runs_between};
 use desk_time::Minute;
 use plan::{Alternate, Kind, Leg, Legs, Plan, TakeoffAlternate};
-use stations::Station;
 use std::alloc::Global;
 
 /// 2025-03-12 18:00.

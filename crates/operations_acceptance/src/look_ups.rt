@@ -1,7 +1,6 @@
-use desk_io::OutOfMemory;
+use desk_io::{OutOfMemory, Station};
 use ops_tables::{Category, Role, Tables};
 use small_airline::holds_with;
-use stations::Station;
 use std::alloc::Global;
 use std::test::Fail;
 

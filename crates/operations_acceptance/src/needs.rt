@@ -1,9 +1,8 @@
 use crate::flights::{ETD, leg_of};
 use alternates::{in_range, is_marginal, needs_destination, needs_takeoff};
 use codes::{Cond, meets};
-use desk_io::OutOfMemory;
+use desk_io::{OutOfMemory, Pair};
 use plan::Kind;
-use stations::Pair;
 use std::alloc::Global;
 use std::test::Fail;
 

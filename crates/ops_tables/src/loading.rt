@@ -8,7 +8,7 @@ use crate::{
     Actor, Airport, AlternateRow, Approach, CaptainHours, Distance, ItemPair, MelRow, Route,
     Settings, Tail, TypeRow, Use,
 };
-use stations::Station;
+use desk_io::Station;
 
 /// The tables while they are loaded, each put in as a whole.
 #[derive(Drop)]

@@ -9,7 +9,7 @@ use crate::grouped::{Grouped, found, has};
 use crate::{
     Actor, Airport, CaptainHours, Distance, ItemPair, MelRow, Role, Route, Tail, TypeRow, Use,
 };
-use stations::Station;
+use desk_io::Station;
 
 /// The airport of a station.
 pub(crate) fn airport_in(rows: &Grouped<Airport, 48>, s: Station) -> Option<&Airport>

@@ -1,7 +1,6 @@
 use crate::capabilities::Capabilities;
 use crate::short_text::ShortText;
-use desk_io::{Listed, Text};
-use stations::Station;
+use desk_io::{Listed, Station, Text};
 
 /// Capabilities that open deferrals take away.
 pub type Lost = Listed<Text>;

@@ -14,7 +14,7 @@ use crate::lookups::{
     miles_in, tail_in, type_in,
 };
 use crate::{Actor, Airport, AlternateRow, Approach, MelRow, Settings, TypeRow};
-use stations::Station;
+use desk_io::Station;
 use std::marker::Model;
 
 /// The operations tables. Each row has the forms and ranges of its columns, no two rows of a table have

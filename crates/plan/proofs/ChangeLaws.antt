@@ -2,7 +2,7 @@
 use Rattle.std.proofs.Common.{◌≡◌, ℕ, zero, suc, ◌+◌, ◌<◌, ◌==◌, Bool, true, false, not, ◌&&◌, ◌||◌, cond, List, [], ◌∷◌, length, take, Option, None, Some, is_some, IfSome, refl, ap, sym, ◌∙◌, arith, ◌≤◌, slice_get, option_map, bytes_eq, length-take-le}
 use Rattle.std.proofs.lemmas.Bool.{eqb-true, and_parts, not-false, or_parts}
 use Rattle.std.proofs.lemmas.Option.{slice_get_within}
-use Rattle.stations.specs.Station.{Station}
+use Rattle.desk_io.specs.Station.{Station}
 use Rattle.plan.specs.Change.{is_same_takeoff, is_same_alternate, are_same_alternates, has_same_ends, has_same_times, has_same_fuel, has_same_alternates, is_same_leg, departs_alike, first_changed, next_fault, flown_fault, is_same_kind, is_changed, flown_at, change_fault, DepartsAlike, BothDepartAlike, MayFollow}
 use Rattle.plan.specs.Phases.{in_flight, flown, PhaseFits}
 use Rattle.plan.specs.declared.check.BadPlan.{BadPlan}

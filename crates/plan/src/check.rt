@@ -8,7 +8,7 @@ ghost use Rattle.plan.specs.Check.{plan_fault, IsPlan};
 use crate::flights::{Alternate, Leg, Plan, TakeoffAlternate};
 use desk_time::{Minute, PLAN_FIRST, PLAN_LAST};
 use ops_tables::Tables;
-use stations::Station;
+use desk_io::Station;
 
 /// Why a plan can't be flown.
 #[derive(Clone, Copy, Debug, PartialEq, Eq)]

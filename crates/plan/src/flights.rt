@@ -1,6 +1,5 @@
-use desk_io::{Copied, Listed, OutOfMemory, Text, copied_option};
+use desk_io::{Copied, Listed, OutOfMemory, Station, Text, copied_option};
 use desk_time::Minute;
-use stations::Station;
 use std::alloc::Global;
 
 /// The legs of a plan, in the order in which they are flown.

@@ -4,7 +4,7 @@ use Rattle.std.specs.Prelude.{map, if◌then◌else◌}
 use Rattle.std.specs.List.{AllByRecursion, list_any}
 use Rattle.std.proofs.lemmas.Bool.Decides.{nat_tests}
 use Rattle.codes.specs.Cond.{lesser}
-use Rattle.stations.specs.Station.{Station}
+use Rattle.desk_io.specs.Station.{Station}
 use Rattle.plan.specs.declared.flights.Plan.{Plan}
 use Rattle.plan.specs.declared.release.Phase.{Phase}
 use Rattle.facts.specs.declared.latest.Kind.{Kind}

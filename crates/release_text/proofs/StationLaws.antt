@@ -3,7 +3,7 @@ use Rattle.std.proofs.Common.{◌≡◌, ◌<◌, ◌+◌, ℕ, List, [], ◌∷
 use Rattle.std.specs.Str.{bytes_eq}
 use Rattle.std.proofs.lemmas.Slice.Eq.{bytes_eq-Decides}
 use Rattle.std.proofs.lemmas.List.{drop_more}
-use Rattle.stations.specs.Station.{Station}
+use Rattle.desk_io.specs.Station.{Station}
 use Rattle.plan.specs.declared.flights.Leg.{Leg}
 use Rattle.plan.specs.declared.flights.Plan.{Plan}
 use Rattle.plan.specs.declared.release.Phase.{Phase}

@@ -3,9 +3,8 @@ ghost use Rattle.plan.specs.Check.{IsPlan};
 ghost use Rattle.release_text.specs.Concerned as spec;
 ghost use Rattle.release_text.specs.Concerned.{AreOnceEach, stations_from};
 
-use desk_io::OutOfMemory;
+use desk_io::{OutOfMemory, Station};
 use plan::{Alternate, Leg, Phase, Plan, Standing, TakeoffAlternate, standing_of};
-use stations::Station;
 use std::alloc::Global;
 
 fn is_among(stations: &[Station], station: Station) -> bool

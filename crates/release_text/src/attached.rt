@@ -5,10 +5,9 @@ ghost use Rattle.release_text.specs.Weather as spec;
 ghost use Rattle.release_text.specs.Laws.{AreCovered, AreLatest};
 
 use crate::airports::concerned;
-use desk_io::{Copied, Listed, OutOfMemory};
+use desk_io::{Copied, Listed, OutOfMemory, Station};
 use facts::{Report, Reports};
 use plan::{Attached, AttachedList, Phase, Plan};
-use stations::Station;
 use std::alloc::Global;
 
 fn attached_of(alloc: Global, report: &Report) -> Result<Attached, OutOfMemory>

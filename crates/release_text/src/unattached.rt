@@ -17,7 +17,7 @@ use facts::{Report, Reports};
 use plan::{
     Alternate, Attached, AttachedList, Leg, Phase, Plan, Standing, TakeoffAlternate, standing_of,
 };
-use stations::Station;
+use desk_io::Station;
 
 fn is_attached(attached: &[Attached], id: u64) -> bool
     ensures { result ≡ spec.is_attached attached.now id }

@@ -1,8 +1,7 @@
 use codes::ReportFault;
-use desk_io::OutOfMemory;
+use desk_io::{OutOfMemory, Station};
 use facts::{Reports, push_weather, push_weather_at};
 use small_airline::{DAY, reports_of};
-use stations::Station;
 use std::alloc::Global;
 use std::test::Fail;
 

@@ -3,8 +3,8 @@ use Rattle.std.proofs.Common.{◌≡◌, ◌∙◌, ℕ, ◌+◌, ◌-◌, ◌==
 use Rattle.std.specs.List.{list_any}
 use Rattle.std.proofs.lemmas.Bool.Decides.{nat_tests}
 use Rattle.desk_time.specs.Digits.{◌>>=◌}
-use Rattle.stations.specs.declared.pair.Pair.{Pair}
-use Rattle.stations.specs.Pair.{raised}
+use Rattle.desk_io.specs.declared.pair.Pair.{Pair}
+use Rattle.desk_io.specs.Pair.{raised}
 use Rattle.codes.specs.declared.cond.Cond.{Cond}
 use Rattle.codes.specs.Minima.{reaches, is_met, meets}
 use Rattle.alternates.specs.Needs.{meets_raised, is_marginal}

@@ -2,7 +2,7 @@
 use Rattle.std.proofs.Common.{◌≡◌, Bool, true, false, ◌&&◌, List, [], ◌∷◌, Option, refl, ap}
 use Rattle.std.specs.List.{list_all}
 use Rattle.codes.specs.declared.cond.Cond.{Cond}
-use Rattle.stations.specs.declared.pair.Pair.{Pair}
+use Rattle.desk_io.specs.declared.pair.Pair.{Pair}
 use Rattle.plan.specs.declared.flights.Kind.TheVariants.{Domestic}
 use Rattle.plan.specs.declared.flights.Leg.{Leg}
 use Rattle.plan.specs.declared.flights.Alternate.{Alternate}

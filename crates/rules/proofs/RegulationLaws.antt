@@ -3,7 +3,7 @@ use Rattle.std.proofs.Common.{◌≡◌, ◌↔◌, inl, inr, ℕ, zero, suc, �
 use Rattle.std.specs.Prelude.{map, filter}
 use Rattle.std.specs.List.{All, AllByRecursion}
 use Rattle.std.proofs.lemmas.List.Elements.{All-nil, All-cons, All-head, All-tail}
-use Rattle.stations.specs.Station.{Station}
+use Rattle.desk_io.specs.Station.{Station}
 use Rattle.ops_tables.specs.declared.rows.TypeRow.{TypeRow}
 use Rattle.ops_tables.specs.Tables.{type_of, may_use}
 use Rattle.plan.specs.Check.{plan_fault}

@@ -1,8 +1,8 @@
 -- The circumstances in which a plan is judged: its aircraft, its captain, the weather, and the minima that hold for them.
 use Rattle.std.specs.Prelude.{ℕ, nat_lt, Bool, not, if◌then◌else◌, List}
-use Rattle.stations.specs.Station.{Station}
+use Rattle.desk_io.specs.Station.{Station}
 use Rattle.codes.specs.declared.cond.Cond.{Cond}
-use Rattle.stations.specs.declared.pair.Pair.{Pair}
+use Rattle.desk_io.specs.declared.pair.Pair.{Pair}
 use Rattle.codes.specs.Minima.{meets}
 use Rattle.ops_tables.specs.Tables.{hours_of}
 use Rattle.ops_tables.specs.declared.rows.TypeRow.{TypeRow}

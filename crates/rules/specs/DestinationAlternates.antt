@@ -1,7 +1,7 @@
 -- The alternates of the destination (14 CFR 121.619, 121.621, 121.625).
 use Rattle.std.specs.Prelude.{ℕ, ◌+◌, ◌-◌, Bool, true, false, not, ◌&&◌, if◌then◌else◌, List, [], ◌∷◌, ◌++◌}
 use Rattle.codes.specs.declared.cond.Cond.{Cond}
-use Rattle.stations.specs.declared.pair.Pair.{Pair}
+use Rattle.desk_io.specs.declared.pair.Pair.{Pair}
 use Rattle.ops_tables.specs.declared.rows.Settings.{Settings}
 use Rattle.ops_tables.specs.Tables.{route_free}
 use Rattle.plan.specs.declared.flights.Kind.{Kind}

@@ -1,7 +1,7 @@
 -- Deferred equipment and the airports that a type may use (14 CFR 121.628, 121.631).
 use Rattle.std.specs.Prelude.{ℕ, nat_lt, nat_le, Bool, true, false, not, ◌&&◌, ◌||◌, List, ◌++◌, map, filter, Option, None, Some}
 use Rattle.std.specs.List.{list_any}
-use Rattle.stations.specs.Station.{Station}
+use Rattle.desk_io.specs.Station.{Station}
 use Rattle.ops_tables.specs.declared.rows.MelRow.{MelRow}
 use Rattle.ops_tables.specs.Tables.{item_of, are_paired, may_use}
 use Rattle.plan.specs.declared.flights.Leg.{Leg}

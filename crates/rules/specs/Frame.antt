@@ -1,7 +1,7 @@
 -- What a judgement reads of the reports and of the deferrals: the latest report of each kind of a station, and what is
 -- open on the aircraft.
 use Rattle.std.specs.Prelude.{◌≡◌, ℕ, List}
-use Rattle.stations.specs.Station.{Station}
+use Rattle.desk_io.specs.Station.{Station}
 use Rattle.facts.specs.declared.report.Report.{Report}
 use Rattle.facts.specs.Latest.{metar_latest, taf_latest}
 use Rattle.deferrals.specs.declared.items.Deferral.{Deferral}

@@ -1,7 +1,7 @@
 -- The highest minima that weather meets, so that all others are compared with them.
 use Rattle.std.specs.Prelude.{ℕ, ◌-◌, nat_le, Bool, false, if◌then◌else◌, List, Option, None, Some}
 use Rattle.desk_time.specs.Digits.{◌>>=◌}
-use Rattle.stations.specs.declared.pair.Pair.{Pair}
+use Rattle.desk_io.specs.declared.pair.Pair.{Pair}
 use Rattle.codes.specs.declared.cond.Cond.{Cond}
 use Rattle.airport_minima.specs.declared.within.Bounds.{Bounds}
 use Rattle.airport_minima.specs.Within.{has_within}

@@ -11,10 +11,9 @@ use crate::weather::Reported;
 use airport_minima::{flag_floor, millimetres};
 use alternates::{is_marginal, needs_destination};
 use codes::Cond;
-use desk_io::{Listed, OutOfMemory};
+use desk_io::{Listed, OutOfMemory, Pair};
 use ops_tables::Settings;
 use plan::{Alternate, Kind, Leg};
-use stations::Pair;
 use std::alloc::Global;
 
 /// Whether a leg needs an alternate of its destination, and what follows (14 CFR 121.619, 121.621).

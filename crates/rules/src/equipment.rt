@@ -8,10 +8,9 @@ ghost use Rattle.rules.specs.Sights.{case_by, of_deferral, limits_of_leg, equipm
 use crate::circumstances::Circumstances;
 use crate::destination_alternates::is_domestic;
 use deferrals::{Deferral, due};
-use desk_io::{Listed, OutOfMemory};
+use desk_io::{Listed, OutOfMemory, Station};
 use ops_tables::MelRow;
 use plan::{Alternate, Leg, TakeoffAlternate};
-use stations::Station;
 use std::alloc::Global;
 
 /// What the rules on deferred equipment say of a leg and a deferral (14 CFR 121.628).

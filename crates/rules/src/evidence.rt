@@ -8,12 +8,11 @@ ghost use Rattle.rules.specs.Grounds.{reports_of, once_cleared, deferrals_of};
 ghost use Rattle.rules.specs.Evidence as spec;
 
 use deferrals::{Deferral, Deferrals};
-use desk_io::OutOfMemory;
+use desk_io::{OutOfMemory, Station};
 use desk_time::Minute;
 use facts::{Read, Report, Reports};
 use metar::Metar;
 use ops_tables::Tables;
-use stations::Station;
 use std::alloc::Global;
 use taf::Taf;
 

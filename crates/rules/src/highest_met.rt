@@ -3,7 +3,7 @@ ghost use Rattle.rules.specs.HighestMet as spec;
 
 use airport_minima::Bounds;
 use codes::Cond;
-use stations::Pair;
+use desk_io::Pair;
 
 /// Nothing is added to minima.
 pub(crate) const NO_MARGIN: Pair = Pair { ceiling: 0, vis: 0 };

@@ -8,7 +8,7 @@ use crate::destination_alternates::{Need, is_domestic, lists_none};
 use fuel::{Basis, required};
 use ops_tables::Tables;
 use plan::Leg;
-use stations::Station;
+use desk_io::Station;
 
 /// What the rules on fuel say of a leg (14 CFR 121.639, 121.645).
 #[derive(Clone, Copy)]

@@ -6,10 +6,9 @@ ghost use Rattle.rules.specs.Sights.{case_by, takeoff_by, takeoff_where, takeoff
 
 use crate::circumstances::Circumstances;
 use alternates::{in_range, needs_takeoff};
-use desk_io::OutOfMemory;
+use desk_io::{OutOfMemory, Station};
 use desk_time::Minute;
 use plan::{Leg, TakeoffAlternate};
-use stations::Station;
 use std::alloc::Global;
 
 /// What the rules on takeoff alternates say of a leg (14 CFR 121.617).

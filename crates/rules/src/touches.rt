@@ -14,7 +14,7 @@ ghost use Rattle.rules.specs.Touches.{
 };
 
 use plan::{Alternate, Leg, Phase, Plan, Standing, TakeoffAlternate, standing_of};
-use stations::Station;
+use desk_io::Station;
 
 fn is_same(a: Station, b: Station) -> bool
     ensures { result ≡ bytes_eq a b }

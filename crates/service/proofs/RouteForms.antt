@@ -11,7 +11,7 @@ use Rattle.std.proofs.lemmas.List.{get_or-take}
 use Rattle.std.proofs.lemmas.Result.{IfOk-weaker}
 use Rattle.std.proofs.lemmas.Slice.Eq.{bytes_eq-Decides}
 use Rattle.std.proofs.lemmas.Str.{IsUtf8-from_is_utf8, IsUtf8-nil, IsUtf8-drop, IsCharBoundary-after_ascii}
-use Rattle.stations.specs.Station.{is_station}
+use Rattle.desk_io.specs.Station.{is_station}
 use Rattle.desk_time.specs.Numbers.{is_digit, digits_after}
 use Rattle.desk_http.specs.Digits.{are_digits, has_length, number_of}
 use Rattle.desk_http.specs.Routes.{after, fixed_route, is_tail, release_route, weather_route, deferred_route, route_among, route_of, routed_by, routed, takes}

@@ -1,6 +1,6 @@
 -- The forms of what is asked.
 use Rattle.std.specs.Prelude.{◌≡◌, true}
-use Rattle.stations.specs.Station.{is_station}
+use Rattle.desk_io.specs.Station.{is_station}
 use Rattle.desk_http.specs.declared.routes.Routed.{Routed}
 use Rattle.desk_http.specs.declared.routes.Routed.TheVariants.{Post, Board, Alerts, Release, Weather, Deferred}
 use Rattle.call_json.specs.Forms.{CallHasForms, IsId, IsShort}

@@ -1,7 +1,7 @@
 -- The rows that records give: each column tested and read, in the order of the columns.
 use Rattle.std.specs.Prelude.{ℕ, ◌&&◌, List, [], ◌∷◌, if◌then◌else◌, Option, None, Some}
 use Rattle.desk_time.specs.Digits.{◌>>=◌}
-use Rattle.stations.specs.Station.{station_of}
+use Rattle.desk_io.specs.Station.{station_of}
 use Rattle.table_files.specs.Fields.{number_within, mark_of, category_of, role_of, capabilities_of}
 use Rattle.ops_tables.specs.Forms.{is_name, is_tail, is_person, is_key, are_names, are_item_names, are_two_items}
 use Rattle.ops_tables.specs.declared.rows.Airport.{Airport}

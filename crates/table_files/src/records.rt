@@ -8,12 +8,11 @@ use crate::fields::{
     capabilities, category_of, is_item, is_key, is_name, is_name_or_none, is_person, is_tail,
     mark_of, number_within, role_of,
 };
-use desk_io::{OutOfMemory, Text};
+use desk_io::{OutOfMemory, Station, Text};
 use ops_tables::{
     Actor, Airport, AlternateRow, Approach, CaptainHours, Category, Distance, ItemPair, MelRow,
     Route, ShortText, Tail, TypeRow, Use,
 };
-use stations::Station;
 use std::alloc::Global;
 
 /// The airport of a record.

@@ -8,7 +8,7 @@ use Rattle.std.proofs.lemmas.Bool.Decides.{same_from_decides}
 use Rattle.std.proofs.Math.Seq.{take-append_seam, drop-append_seam}
 use Rattle.codes.specs.Answers.{Answers}
 use Rattle.codes.proofs.WordLaws.{has_decides}
-use Rattle.stations.specs.Station.{is_station}
+use Rattle.desk_io.specs.Station.{is_station}
 use Rattle.codes.specs.Groups.{first_of}
 use Rattle.codes.specs.Moment.{time_of}
 use Rattle.codes.specs.Shapes.{is_digit, are_digits}

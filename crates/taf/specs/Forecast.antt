@@ -1,7 +1,7 @@
 -- What a TAF says, as a relation: words in front, a station, a time, and then NIL, or a validity and CNL, or a
 -- validity, a base and changes (WMO FM 51).
 use Rattle.std.specs.Prelude.{◌≡◌, ℕ, ◌-◌, ◌/◌, true, List, [], ◌∷◌, ◌++◌, None, Some, Ok, codes, All, Contains, Decides}
-use Rattle.stations.specs.Station.{is_station}
+use Rattle.desk_io.specs.Station.{is_station}
 use Rattle.codes.specs.Moment.{time_of}
 use Rattle.codes.specs.Cond.{named_cond, shape_fault}
 use Rattle.codes.specs.Period.{end_of, period_of}

@@ -1,7 +1,7 @@
 -- What a TAF says, by the list of its groups (WMO FM 51).
 use Rattle.std.specs.Prelude.{◌≡◌, ℕ, ◌+◌, ◌-◌, ◌/◌, ◌<◌, nat_lt, Bool, if◌then◌else◌, List, [], ◌∷◌, length, take, drop, All, Option, None, Some, Result, Ok, Err}
 use Rattle.std.specs.List.{list_any, prefix_len}
-use Rattle.stations.specs.Station.{Station, station_of}
+use Rattle.desk_io.specs.Station.{Station, station_of}
 use Rattle.codes.specs.Answers.{too_long}
 use Rattle.codes.specs.Groups.{groups_of, first_of}
 use Rattle.codes.specs.Moment.{time_of}

@@ -1,7 +1,6 @@
 use codes::Cond;
-use desk_io::{Copied, Listed, OutOfMemory};
+use desk_io::{Copied, Listed, OutOfMemory, Station};
 use desk_time::Minute;
-use stations::Station;
 use std::alloc::Global;
 
 /// Whether a forecast says anything.

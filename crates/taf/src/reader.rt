@@ -16,7 +16,7 @@ use codes::{
     period_in, time_of,
 };
 use desk_time::{FIRST, LAST, Minute};
-use stations::Station;
+use desk_io::Station;
 use std::alloc::Global;
 
 // What stands before the validity.

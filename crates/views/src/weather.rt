@@ -1,9 +1,8 @@
 ghost use Rattle.std.specs.Prelude.{◌≡◌, IfOk};
 ghost use Rattle.facts.specs.Lines.{weather_at};
 
-use desk_io::{OutOfMemory, Text};
+use desk_io::{OutOfMemory, Station, Text};
 use facts::{Reports, push_weather_at};
-use stations::Station;
 use std::alloc::Global;
 
 /// The latest weather of a station: the line of its latest METAR or SPECI, and then that of its latest TAF, where

@@ -1,5 +1,5 @@
 use Rattle.std.proofs.Common.{◌≡◌, ◌++◌, drop, map}
-use Rattle.stations.specs.Pair.{AreWithin}
+use Rattle.desk_io.specs.Pair.{AreWithin}
 use Rattle.airport_minima.specs.Minima.{doubles_with}
 use Rattle.airport_minima.proofs.derived.push_doubles.Given as goal
 

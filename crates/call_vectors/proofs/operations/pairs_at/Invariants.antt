@@ -1,4 +1,4 @@
-use Rattle.stations.specs.Pair.{AreWithin}
+use Rattle.desk_io.specs.Pair.{AreWithin}
 use Rattle.call_vectors.proofs.operations.pairs_at.Given as goal
 
 abbrev pub invariant-loop-item : goal.invariant-loop-item

@@ -1,6 +1,6 @@
 -- Minima: a ceiling in feet and a visibility in millimetres (14 CFR 121.613, 121.625).
 use Rattle.std.specs.Prelude.{ℕ, ◌+◌, ◌≤◌, max, List, All}
-use Rattle.stations.specs.declared.pair.Pair.{Pair}
+use Rattle.desk_io.specs.declared.pair.Pair.{Pair}
 
 -- the minima that are higher by these amounts
 abbrev pub raised : Pair → Pair → Pair

@@ -1,7 +1,8 @@
 ghost use Rattle.std.specs.Prelude.{◌≡◌, ◌+◌, ◌^◌, ◌<◌};
-ghost use Rattle.stations.specs.Pair as spec;
+ghost use Rattle.desk_io.specs.Pair as spec;
 
-use desk_io::{Copied, Listed, OutOfMemory};
+use crate::faults::OutOfMemory;
+use crate::listed::{Copied, Listed};
 use std::alloc::Global;
 
 /// Millimetres in a statute mile.

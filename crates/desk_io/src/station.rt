@@ -1,5 +1,5 @@
 ghost use Rattle.std.specs.Prelude.{◌≡◌};
-ghost use Rattle.stations.specs.Station as spec;
+ghost use Rattle.desk_io.specs.Station as spec;
 
 use std::marker::Model;
 
@@ -11,7 +11,7 @@ pub struct Station {
 
 impl Model for Station {
     ghost use Rattle.std.specs.Prelude.{List, ℕ, IsTrue};
-    ghost use Rattle.stations.specs.Station.{is_station};
+    ghost use Rattle.desk_io.specs.Station.{is_station};
 
     ghost Value = { List ℕ };
 
