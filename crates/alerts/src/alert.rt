@@ -3,10 +3,9 @@ ghost use Rattle.std.specs.Option.{option_copied};
 ghost use Rattle.alerts.specs.Alerts as spec;
 ghost use Rattle.alerts.specs.Follows.{Follows};
 
-use desk_io::{Copied, OutOfMemory, Text};
+use desk_io::{Copied, HasId, OutOfMemory, Text};
 use desk_time::Minute;
 use plan::{Finding, Findings, is_before, is_same};
-use sorted::HasId;
 use std::alloc::Global;
 
 /// What stands open for a release from the first judgement on at which a rule fails, until a captain concurs with

@@ -1,7 +1,6 @@
 use crate::reply::Done;
-use desk_io::{Copied, Listed, OutOfMemory, Text};
+use desk_io::{Copied, HasId, Listed, OutOfMemory, Text};
 use desk_time::Minute;
-use sorted::HasId;
 use std::alloc::Global;
 
 /// What an accepted request has done, kept for the case that it comes again.

@@ -9,7 +9,7 @@ use Rattle.facts.specs.declared.report.Report.{Report}
 use Rattle.held_releases.specs.Changes.{MayChange}
 use Rattle.held_releases.specs.declared.change.OnReleases.{OnReleases}
 use Rattle.held_releases.specs.declared.change.OnReleases.TheVariants as on_releases
-use Rattle.sorted.proofs.ByIdForms.{all_below}
+use Rattle.desk_io.proofs.ByIdForms.{all_below}
 use Rattle.plan.specs.declared.release.Release.{Release}
 use Rattle.desk_state.specs.Holds.{Holds}
 use Rattle.desk_state.specs.Install.{MayAdmit, MayDefer, MayBeMade}

@@ -15,9 +15,9 @@ use Rattle.std.proofs.lemmas.Slice.Eq.{bytes_eq-Decides}
 use Rattle.std.specs.Ordering.{is_eq}
 use Rattle.std.proofs.lemmas.Cmp.{tied_itself}
 use Rattle.desk_io.proofs.Each.{each_weaker}
-use Rattle.sorted.specs.Keys.{is_held, pair_cmp}
-use Rattle.sorted.specs.Sorted.{within}
-use Rattle.sorted.proofs.PairLaws.{pair_at, pair_total, within_first, second_below}
+use Rattle.desk_io.specs.Keys.{is_held, pair_cmp}
+use Rattle.desk_io.specs.Sorted.{within}
+use Rattle.desk_io.proofs.PairLaws.{pair_at, pair_total, within_first, second_below}
 use Rattle.deferrals.specs.declared.items.Deferral.{Deferral}
 use Rattle.deferrals.specs.Held.{AreRising, IsNewest, has_id, without}
 use Rattle.deferrals.specs.Limits.{is_of, open_on}

@@ -2,7 +2,7 @@
 use Rattle.std.specs.Prelude.{◌≡◌, ℕ, ◌+◌, ◌*◌, ◌%◌, ◌^◌, ◌&&◌, List, [], ◌∷◌, ◌++◌, filter, if◌then◌else◌, Option, None, Some}
 use Rattle.std.specs.List.{list_any}
 use Rattle.std.specs.BTreeMap.{is_at}
-use Rattle.sorted.specs.Keys.{is_held, pair_cmp}
+use Rattle.desk_io.specs.Keys.{is_held, pair_cmp}
 use Rattle.deferrals.specs.declared.items.Deferral.{Deferral}
 use Rattle.deferrals.specs.Held.{has_id}
 use Rattle.deferrals.specs.Limits.{is_of}

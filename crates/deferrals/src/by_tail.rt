@@ -8,8 +8,7 @@ ghost use Rattle.deferrals.specs.Held.{AreRising, has_id};
 ghost use Rattle.deferrals.specs.Limits.{is_of, open_on};
 
 use crate::items::Deferral;
-use desk_io::OutOfMemory;
-use sorted::Keys;
+use desk_io::{Keys, OutOfMemory};
 use std::alloc::Global;
 
 /// The number of an aircraft, and the id of a deferral.

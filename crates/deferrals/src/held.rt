@@ -6,8 +6,7 @@ ghost use Rattle.deferrals.specs.Limits.{open_on};
 
 use crate::by_tail::{TailKey, all_keys, deferral_of, key_of, open_among, position_of};
 use crate::items::Deferral;
-use desk_io::OutOfMemory;
-use sorted::Keys;
+use desk_io::{Keys, OutOfMemory};
 use std::alloc::Global;
 use std::marker::Model;
 

@@ -10,3 +10,6 @@ pub mod Grown
 pub mod Rows
 pub mod Station
 pub mod Pair
+pub mod Sorted
+pub mod Keys
+pub mod ById

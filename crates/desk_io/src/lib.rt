@@ -1,7 +1,9 @@
 //! What the desk asks of the outside: sources, a sink, and the texts that pass between.
 #![tactic(auto)]
 
+mod by_id;
 mod faults;
+mod keys;
 mod listed;
 mod memory;
 mod outside;
@@ -12,9 +14,12 @@ mod rows;
 mod runs;
 mod station;
 mod text;
+mod vector;
 mod whole;
 
+pub use by_id::{ById, HasId};
 pub use faults::{Failed, OutOfMemory, PutFault, WholeFault, counted};
+pub use keys::Keys;
 pub use listed::{Copied, Listed, copied_items, copied_option};
 pub use memory::{MemoryShelf, MemorySink};
 pub use outside::{Shelf, Sink};
@@ -25,4 +30,5 @@ pub use rows::{Change, Row};
 pub use runs::{Blanks, LineFeeds, Run, Separators, push_run, runs_between};
 pub use station::Station;
 pub use text::Text;
+pub use vector::Sorted;
 pub use whole::{SOURCE_LIMIT, read_whole};

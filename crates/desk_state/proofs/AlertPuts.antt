@@ -1,7 +1,7 @@
 -- The alert of a release is put in its place, or taken out, as by its id.
 use Rattle.std.proofs.Common.{◌≡◌, refl, ap, ◌∙◌, ℕ, List, Some, None}
-use Rattle.sorted.specs.ById.{AreRising, put, without}
-use Rattle.sorted.proofs.ByIdForms.{put_is, stopped_without_is}
+use Rattle.desk_io.specs.ById.{AreRising, put, without}
+use Rattle.desk_io.proofs.ByIdForms.{put_is, stopped_without_is}
 use Rattle.alerts.specs.declared.alert.Alert.{Alert}
 use Rattle.desk_state.specs.Events.{put_alert}
 use Rattle.desk_state.specs.Install.{IsOf}

@@ -5,7 +5,7 @@ ghost use Rattle.desk_state.specs.Install.{IsOf, IsOwn};
 
 use crate::change::AlertChange;
 use alerts::Alert;
-use sorted::ById;
+use desk_io::ById;
 
 // Puts the alert of a release in its place, or takes it out. It takes no memory.
 #[tactic(auto, using(crate::proofs::AlertPuts::put_own, crate::proofs::AlertPuts::take_none))]

@@ -11,7 +11,7 @@ use facts::Reports;
 use held_releases::Releases;
 use kept_replies::Replies;
 use ops_tables::Tables;
-use sorted::ById;
+use desk_io::ById;
 use std::alloc::Global;
 
 /// The holdings of what the desk holds.

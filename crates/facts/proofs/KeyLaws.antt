@@ -7,8 +7,8 @@ use Rattle.std.specs.Ordering.{is_ge}
 use Rattle.std.specs.List.{AllByRecursion, find, list_any}
 use Rattle.std.specs.List.Sorted.{IsStrictlySortedBy}
 use Rattle.std.specs.BTreeMap.{is_at}
-use Rattle.sorted.specs.ById.{has_id}
-use Rattle.sorted.proofs.ByIdLaws.{same, lower, higher, Above, Rise}
+use Rattle.desk_io.specs.ById.{has_id}
+use Rattle.desk_io.proofs.ByIdLaws.{same, lower, higher, Above, Rise}
 use Rattle.facts.specs.Index.{Key, key_order, is_under}
 use Rattle.facts.proofs.KeyOrder.{at_key, same_keys, by_id, from_least, past}
 

@@ -10,9 +10,9 @@ use Rattle.std.specs.List.{AllByRecursion, list_any, slice_get}
 use Rattle.std.specs.List.Sorted.{IsStrictlySortedBy}
 use Rattle.std.specs.Map.{keys_of}
 use Rattle.std.specs.BTreeMap.{is_at}
-use Rattle.sorted.specs.Keys.{is_held}
-use Rattle.sorted.specs.ById.{AreRising, StandsAt, IsFoundAt, IsGapAt}
-use Rattle.sorted.proofs.ByIdLaws.{same, lower, rise, get_none}
+use Rattle.desk_io.specs.Keys.{is_held}
+use Rattle.desk_io.specs.ById.{AreRising, StandsAt, IsFoundAt, IsGapAt}
+use Rattle.desk_io.proofs.ByIdLaws.{same, lower, rise, get_none}
 use Rattle.facts.specs.declared.report.Report.{Report}
 use Rattle.facts.specs.Same.{minute_of_report, is_same, same_id}
 use Rattle.facts.specs.Swept.{stays, swept}

@@ -8,7 +8,7 @@ use Rattle.std.specs.Option.{option_or}
 use Rattle.std.specs.Map.{lookup, keys_of}
 use Rattle.std.specs.BTreeMap.{is_at}
 use Rattle.std.specs.Prelude.{nat_lt}
-use Rattle.sorted.specs.Keys.{is_held}
+use Rattle.desk_io.specs.Keys.{is_held}
 use Rattle.desk_io.specs.Station.{Station}
 use Rattle.facts.specs.declared.index.Places.{Places}
 use Rattle.facts.specs.declared.latest.Kind.{Kind}

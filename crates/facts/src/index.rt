@@ -5,7 +5,7 @@ ghost use Rattle.facts.specs.Index as spec;
 
 use crate::latest::Kind;
 use crate::report::{Read, Report};
-use sorted::Sorted;
+use desk_io::Sorted;
 
 /// Where the latest reports of a station stand among all reports.
 #[derive(Clone, Copy, Debug, Drop)]

@@ -7,9 +7,8 @@ use crate::index::Places;
 use crate::report::Report;
 use crate::same::key_of;
 use crate::sweeping::index_latest;
-use desk_io::OutOfMemory;
+use desk_io::{Keys, OutOfMemory, Sorted};
 use desk_time::Minute;
-use sorted::{Keys, Sorted};
 use std::alloc::Global;
 
 fn listed_stations(alloc: Global, held: &[Report]) -> Result<Vec<([u8; 4], ())>, OutOfMemory>

@@ -2,7 +2,7 @@ ghost use Rattle.std.specs.Prelude.{◌≡◌, find, filter};
 ghost use Rattle.std.specs.List.{list_any, slice_get};
 ghost use Rattle.std.specs.Map.{keys_of};
 ghost use Rattle.std.specs.Option.{option_and_then, option_copied};
-ghost use Rattle.sorted.specs.ById.{AreRising};
+ghost use Rattle.desk_io.specs.ById.{AreRising};
 ghost use Rattle.facts.specs.Same.{is_same, same_id};
 ghost use Rattle.facts.specs.Index as spec;
 ghost use Rattle.facts.specs.Index.{AreKeysOf, has_number, id_of, leads_to};
@@ -10,7 +10,7 @@ ghost use Rattle.facts.specs.Index.{AreKeysOf, has_number, id_of, leads_to};
 use crate::index::{at_place, fingerprint};
 use crate::report::Report;
 use desk_time::Minute;
-use sorted::Keys;
+use desk_io::Keys;
 
 /// The moment of a report, the fingerprint of its text, and its number.
 pub(crate) fn key_of(report: &Report) -> (Minute, u64, u64)

@@ -10,9 +10,8 @@ ghost use Rattle.facts.specs.Swept.{swept, leaving};
 use crate::index::{Places, place_of, places_at, places_with};
 use crate::latest::Kind;
 use crate::report::{Read, Report};
-use desk_io::{Listed, OutOfMemory};
+use desk_io::{Listed, OutOfMemory, Sorted};
 use desk_time::Minute;
-use sorted::Sorted;
 use std::alloc::Global;
 
 fn kind_of(read: &Read) -> Kind

@@ -4,9 +4,9 @@ use Rattle.std.specs.List.{list_any}
 use Rattle.std.proofs.lemmas.List.Folds.{list_any-append}
 use Rattle.facts.specs.Index.{key_cmp}
 use Rattle.plan.specs.declared.release.Release.{Release}
-use Rattle.sorted.specs.ById.{AreRising, replaced, without}
-use Rattle.sorted.specs.Keys.{is_held}
-use Rattle.sorted.proofs.ByIdLaws.{Rise, rise, Above}
+use Rattle.desk_io.specs.ById.{AreRising, replaced, without}
+use Rattle.desk_io.specs.Keys.{is_held}
+use Rattle.desk_io.proofs.ByIdLaws.{Rise, rise, Above}
 use Rattle.held_releases.specs.declared.change.OnReleases.{OnReleases}
 use Rattle.held_releases.specs.declared.change.OnReleases.TheVariants as on_releases
 use Rattle.held_releases.specs.Changes.{has_id, release_at, releases_after, old_of, fresh_of, MayChange}

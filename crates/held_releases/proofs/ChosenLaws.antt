@@ -7,9 +7,9 @@ use Rattle.std.proofs.lemmas.Bool.{and_parts}
 use Rattle.std.proofs.lemmas.List.Folds.{list_any-append}
 use Rattle.facts.specs.Index.{key_cmp}
 use Rattle.plan.specs.declared.release.Release.{Release}
-use Rattle.sorted.specs.Keys.{is_held}
-use Rattle.sorted.proofs.ByIdLaws.{Rise, Above, higher}
-use Rattle.sorted.proofs.RunLaws.{filtered_twice}
+use Rattle.desk_io.specs.Keys.{is_held}
+use Rattle.desk_io.proofs.ByIdLaws.{Rise, Above, higher}
+use Rattle.desk_io.proofs.KeyRunLaws.{filtered_twice}
 use Rattle.held_releases.specs.Changes.{has_id, release_at}
 use Rattle.held_releases.specs.Chosen.{found_where, chosen_onto}
 use Rattle.held_releases.specs.Index.{IsIndexOf}

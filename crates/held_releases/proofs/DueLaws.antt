@@ -17,10 +17,10 @@ use Rattle.plan.specs.declared.release.Release.{Release}
 use Rattle.plan.specs.declared.release.Revision.{Revision}
 use Rattle.rules.specs.Due.{next_due, due_minutes, first_after}
 use Rattle.rules.proofs.DueMinutes.{are_due}
-use Rattle.sorted.specs.ById.{AreRising}
-use Rattle.sorted.specs.Keys.{is_held}
-use Rattle.sorted.specs.Sorted.{within}
-use Rattle.sorted.proofs.ByIdLaws.{rise}
+use Rattle.desk_io.specs.ById.{AreRising}
+use Rattle.desk_io.specs.Keys.{is_held}
+use Rattle.desk_io.specs.Sorted.{within}
+use Rattle.desk_io.proofs.ByIdLaws.{rise}
 use Rattle.held_releases.specs.Chosen.{chosen_onto, due_at, is_at_minute, leads_by, id_or_none}
 use Rattle.held_releases.specs.Entries.{active_onto, minutes_onto, dues_onto}
 use Rattle.held_releases.specs.Index.{IsIndexOf}

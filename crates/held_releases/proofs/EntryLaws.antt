@@ -21,7 +21,7 @@ use Rattle.plan.specs.declared.release.Revision.{Revision}
 use Rattle.plan.specs.declared.release.Standing.{Standing}
 use Rattle.plan.specs.declared.release.Standing.TheVariants.{Ahead, InFlight, Flown}
 use Rattle.rules.specs.Touches.{is_takeoff_alternate, lists_station, leg_names, names_at, legs_name, names_station, is_of_tail}
-use Rattle.sorted.specs.Keys.{is_held}
+use Rattle.desk_io.specs.Keys.{is_held}
 use Rattle.held_releases.specs.Entries.{text_onto, takeoff_onto, alternates_onto, leg_onto, standing_onto, legs_onto, active_onto, stations_onto, tail_onto, minutes_onto, dues_onto}
 use Rattle.held_releases.specs.Touched.{passes_in, touched_at, touched_on}
 use Rattle.held_releases.specs.declared.moves.By.{By}

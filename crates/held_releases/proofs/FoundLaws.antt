@@ -22,7 +22,7 @@ use Rattle.plan.specs.declared.release.Standing.TheVariants.{Ahead, InFlight, Fl
 use Rattle.rules.specs.Touches.{is_takeoff_alternate, lists_station, leg_names, names_at, legs_name, names_station, is_of_tail}
 use Rattle.rules.proofs.Named.{first_named, second_named, third_named, listed_named}
 use Rattle.rules.proofs.TouchLaws.{named_exactly}
-use Rattle.sorted.specs.Keys.{is_held}
+use Rattle.desk_io.specs.Keys.{is_held}
 use Rattle.held_releases.specs.Entries.{text_onto, takeoff_onto, alternates_onto, leg_onto, standing_onto, legs_onto, active_onto, minutes_onto}
 use Rattle.held_releases.specs.Found.{NamesOne, Touches, IsFoundBy, FindsBy}
 use Rattle.held_releases.specs.Index.{onto_by, IsIndexOf}

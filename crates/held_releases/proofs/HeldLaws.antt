@@ -5,8 +5,8 @@ use Rattle.desk_io.proofs.Each.{each_push}
 use Rattle.facts.specs.Index.{key_cmp}
 use Rattle.ops_tables.specs.declared.rows.Settings.{Settings}
 use Rattle.plan.specs.declared.release.Release.{Release}
-use Rattle.sorted.specs.ById.{AreRising, replaced, without}
-use Rattle.sorted.specs.Keys.{is_held}
+use Rattle.desk_io.specs.ById.{AreRising, replaced, without}
+use Rattle.desk_io.specs.Keys.{is_held}
 use Rattle.held_releases.specs.declared.change.OnReleases.{OnReleases}
 use Rattle.held_releases.specs.declared.change.OnReleases.TheVariants as on_releases
 use Rattle.held_releases.specs.declared.moves.By.TheVariants as by

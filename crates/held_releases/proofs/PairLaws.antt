@@ -4,7 +4,7 @@ use Rattle.std.specs.BTreeMap.{is_at}
 use Rattle.std.proofs.lemmas.Bool.Decides.{nat_tests}
 use Rattle.std.proofs.lemmas.Bool.{and_parts}
 use Rattle.facts.specs.Index.{key_cmp}
-use Rattle.sorted.specs.Sorted.{within}
+use Rattle.desk_io.specs.Sorted.{within}
 
 pair_at : (x y : ℕ × ℕ) → is_at (key_cmp x) y ≡ ((x.0 == y.0) && (x.1 == y.1))
 pair_at x y = grind (arith, nat_tests)

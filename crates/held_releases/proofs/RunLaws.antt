@@ -7,10 +7,10 @@ use Rattle.std.proofs.lemmas.List.Elements.{recursion_from_All}
 use Rattle.desk_io.proofs.Each.{each_weaker}
 use Rattle.facts.specs.Index.{fingerprint, key_cmp}
 use Rattle.plan.specs.declared.release.Release.{Release}
-use Rattle.sorted.specs.ById.{AreRising}
-use Rattle.sorted.specs.Keys.{is_held}
-use Rattle.sorted.specs.Sorted.{within}
-use Rattle.sorted.proofs.ByIdLaws.{rise}
+use Rattle.desk_io.specs.ById.{AreRising}
+use Rattle.desk_io.specs.Keys.{is_held}
+use Rattle.desk_io.specs.Sorted.{within}
+use Rattle.desk_io.proofs.ByIdLaws.{rise}
 use Rattle.held_releases.specs.Chosen.{chosen_onto, leads_where, id_or_none}
 use Rattle.held_releases.specs.Index.{IsIndexOf}
 use Rattle.held_releases.specs.Touched.{held_where, is_among}

@@ -2,7 +2,7 @@
 use Rattle.std.specs.Prelude.{◌≡◌, ℕ, ◌<◌, ◌==◌, Bool, true, List, [], ◌∷◌, ◌++◌, length, All, Option, None, Some, find}
 use Rattle.std.specs.List.{list_any}
 use Rattle.plan.specs.declared.release.Release.{Release}
-use Rattle.sorted.specs.ById.{replaced, without}
+use Rattle.desk_io.specs.ById.{replaced, without}
 use Rattle.held_releases.specs.declared.change.OnReleases.{OnReleases}
 use Rattle.held_releases.specs.declared.change.OnReleases.TheVariants as on_releases
 use Rattle.held_releases.specs.Bounds.{ReleaseInBounds}

@@ -9,7 +9,7 @@ use Rattle.plan.specs.declared.release.Release.{Release}
 use Rattle.plan.specs.declared.release.Revision.{Revision}
 use Rattle.rules.specs.Due.{Begins}
 use Rattle.rules.specs.Touches.{Names}
-use Rattle.sorted.specs.Keys.{is_held}
+use Rattle.desk_io.specs.Keys.{is_held}
 use Rattle.desk_io.specs.Station.{Station}
 use Rattle.held_releases.specs.declared.moves.By.{By}
 use Rattle.held_releases.specs.declared.moves.By.TheVariants as by

@@ -4,7 +4,7 @@ use Rattle.std.specs.List.{list_any}
 use Rattle.facts.specs.Index.{key_cmp}
 use Rattle.ops_tables.specs.declared.rows.Settings.{Settings}
 use Rattle.plan.specs.declared.release.Release.{Release}
-use Rattle.sorted.specs.Keys.{is_held}
+use Rattle.desk_io.specs.Keys.{is_held}
 use Rattle.held_releases.specs.declared.change.OnReleases.{OnReleases}
 use Rattle.held_releases.specs.declared.moves.By.{By}
 use Rattle.held_releases.specs.declared.moves.By.TheVariants as by

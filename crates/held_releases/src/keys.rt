@@ -1,10 +1,9 @@
 ghost use Rattle.std.specs.Prelude.{◌≡◌, ◌≤◌, ◌||◌, length, ℕ, IfOk};
 ghost use Rattle.std.specs.Map.{keys_of};
 ghost use Rattle.facts.specs.Index.{key_cmp};
-ghost use Rattle.sorted.specs.Keys.{is_held};
+ghost use Rattle.desk_io.specs.Keys.{is_held};
 
-use desk_io::OutOfMemory;
-use sorted::Keys;
+use desk_io::{Keys, OutOfMemory};
 use std::alloc::Global;
 
 /// A number of what touches a release, and the release's id.

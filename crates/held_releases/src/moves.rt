@@ -3,7 +3,7 @@ ghost use Rattle.std.specs.List.{AllByRecursion};
 ghost use Rattle.std.specs.Option.{option_copied};
 ghost use Rattle.std.specs.BTreeMap.{is_at};
 ghost use Rattle.facts.specs.Index.{key_cmp};
-ghost use Rattle.sorted.specs.Keys.{is_held};
+ghost use Rattle.desk_io.specs.Keys.{is_held};
 ghost use Rattle.held_releases.specs.Bounds.{ReleaseInBounds};
 ghost use Rattle.held_releases.specs.Changes as changes;
 ghost use Rattle.held_releases.specs.Changes.{MayChange};
@@ -13,10 +13,9 @@ ghost use Rattle.held_releases.specs.Index.{IsIndexOf, IsMove};
 use crate::change::OnReleases;
 use crate::entries::{push_dues, push_stations, push_tail};
 use crate::keys::{Key, enter, set_of};
-use desk_io::OutOfMemory;
+use desk_io::{ById, Keys, OutOfMemory};
 use ops_tables::Settings;
 use plan::Release;
-use sorted::{ById, Keys};
 use std::alloc::Global;
 
 /// By what an index finds releases.

@@ -8,13 +8,12 @@ ghost use Rattle.held_releases.specs.Index.{IsIndexOf};
 ghost use Rattle.held_releases.specs.Touched.{held_where, is_among, touched_at, touched_by, touched_on};
 
 use crate::keys::Key;
-use desk_io::{OutOfMemory, Station};
+use desk_io::{ById, Keys, OutOfMemory, Station};
 use desk_time::Minute;
 use facts::fingerprint;
 use ops_tables::Settings;
 use plan::{Release, is_active};
 use rules::{is_of_tail, names_station, next_due_by};
-use sorted::{ById, Keys};
 
 fn is_touched_at(station: Station, release: &Release) -> bool
     requires { ReleaseInBounds release.now }

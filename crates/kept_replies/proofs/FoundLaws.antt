@@ -7,8 +7,8 @@ use Rattle.std.specs.List.{AllByRecursion, find, list_any}
 use Rattle.std.specs.List.Sorted.{IsStrictlySortedBy}
 use Rattle.std.specs.BTreeMap.{is_at}
 use Rattle.std.specs.Str.{bytes_eq}
-use Rattle.sorted.specs.ById.{AreRising}
-use Rattle.sorted.proofs.ByIdLaws.{same, rise}
+use Rattle.desk_io.specs.ById.{AreRising}
+use Rattle.desk_io.proofs.ByIdLaws.{same, rise}
 use Rattle.facts.specs.Index.{fingerprint}
 use Rattle.facts.proofs.KeyOrder.{parts}
 use Rattle.facts.proofs.KeyLaws as laws

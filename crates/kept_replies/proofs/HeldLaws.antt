@@ -6,9 +6,9 @@ use Rattle.std.specs.Prelude.{IsTrue}
 use Rattle.std.specs.List.{list_any}
 use Rattle.std.specs.Map.{keys_of}
 use Rattle.std.specs.BTreeMap.{is_at}
-use Rattle.sorted.specs.ById.{AreRising}
-use Rattle.sorted.specs.Keys.{is_held}
-use Rattle.sorted.proofs.ByIdLaws.{same, rise}
+use Rattle.desk_io.specs.ById.{AreRising}
+use Rattle.desk_io.specs.Keys.{is_held}
+use Rattle.desk_io.proofs.ByIdLaws.{same, rise}
 use Rattle.facts.proofs.KeyOrder.{at_key}
 use Rattle.facts.proofs.KeyLaws.{leads}
 use Rattle.asks.specs.declared.kept.Floor.{Floor}

@@ -1,7 +1,7 @@
 -- What holds of keys by person once one comes, and once some go.
 use Rattle.std.proofs.Common.{◌≡◌, sym, subst, ℕ, ◌<◌, Bool, false, List, length, Option, Some, IfSome, arith}
 use Rattle.std.specs.List.{AllByRecursion}
-use Rattle.sorted.specs.Keys.{KeySet}
+use Rattle.desk_io.specs.Keys.{KeySet}
 use Rattle.kept_replies.specs.Index.{Key}
 use Rattle.kept_replies.specs.ByPerson.{place_of, HasOne, IsChangedAt, IsPut, IsSpare, AreKept, AreByPerson}
 use Rattle.kept_replies.proofs.SetLaws.{but_here, changed_length, have_kept, kept_length}

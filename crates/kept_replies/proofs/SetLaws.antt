@@ -2,7 +2,7 @@
 use Rattle.std.proofs.Common.{◌≡◌, refl, sym, ap, ◌∙◌, subst, ℕ, zero, suc, ◌<◌, ◌≤◌, ◌+◌, Bool, true, false, ◌||◌, List, [], ◌∷◌, ◌++◌, length, filter, get_or, set, Option, None, Some, Result, Ok, Err, OnOk, arith}
 use Rattle.std.specs.List.{AllByRecursion}
 use Rattle.std.specs.BTreeMap.{is_at}
-use Rattle.sorted.specs.Keys.{KeySet, is_held}
+use Rattle.desk_io.specs.Keys.{KeySet, is_held}
 use Rattle.kept_replies.specs.Index.{Key, key_cmp}
 use Rattle.kept_replies.specs.ByPerson.{at_place, in_set, place_of, HasOne, HaveOneBut, HaveOne, IsChangedAt, IsPut, HasSameKeys, IsKept, AreKept}
 use Rattle.facts.proofs.KeyOrder.{at_key}

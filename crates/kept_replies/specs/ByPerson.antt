@@ -4,7 +4,7 @@ use Rattle.std.specs.List.{AllByRecursion}
 use Rattle.std.specs.Ordering.{nat_cmp}
 use Rattle.std.specs.Map.{lookup}
 use Rattle.std.specs.BTreeMap.{is_at}
-use Rattle.sorted.specs.Keys.{KeySet, is_held}
+use Rattle.desk_io.specs.Keys.{KeySet, is_held}
 use Rattle.kept_replies.specs.Index.{Key, key_cmp}
 
 pub record PersonKeys : Type 0 where

@@ -5,15 +5,14 @@ ghost use Rattle.std.specs.BTreeMap.{is_at};
 ghost use Rattle.std.specs.Map.{keys_of};
 ghost use Rattle.std.specs.Ordering.{is_ge};
 ghost use Rattle.std.specs.Vec.{vec_capacity};
-ghost use Rattle.sorted.specs.Keys.{is_held};
+ghost use Rattle.desk_io.specs.Keys.{is_held};
 ghost use Rattle.kept_replies.specs.ByPerson as spec;
 ghost use Rattle.kept_replies.specs.ByPerson.{HasOne, HaveOne, HasSameKeys, IsSpare, IsChangedAt, IsPut, IsKept, AreKept, at_place, in_set, keys_under, under};
 ghost use Rattle.kept_replies.specs.Index.{Key, key_cmp, leads_to};
 
 use crate::requests::keep_leading;
 use asks::KeptReply;
-use desk_io::OutOfMemory;
-use sorted::{ById, Keys, Sorted};
+use desk_io::{ById, Keys, OutOfMemory, Sorted};
 use std::alloc::Global;
 use std::marker::Model;
 

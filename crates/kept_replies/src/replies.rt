@@ -1,6 +1,6 @@
 ghost use Rattle.std.specs.Prelude.{◌≡◌, ◌==◌, ◌<◌, All, IfOk, IsTrue, OnErr, OnOk, [], length};
 ghost use Rattle.std.specs.Option.{option_copied};
-ghost use Rattle.sorted.specs.ById.{AreRising};
+ghost use Rattle.desk_io.specs.ById.{AreRising};
 ghost use Rattle.kept_replies.specs.Index.{id_of};
 ghost use Rattle.kept_replies.specs.Replies as spec;
 ghost use Rattle.kept_replies.specs.Requests as asked;
@@ -10,9 +10,8 @@ use crate::by_person::ByPerson;
 use crate::floors::floor_at;
 use crate::requests::{keep_since, kept_at, key_of, keys_by_person};
 use asks::{Floor, Floors, KeptReply};
-use desk_io::{Listed, OutOfMemory};
+use desk_io::{ById, Listed, OutOfMemory};
 use desk_time::Minute;
-use sorted::ById;
 use std::alloc::Global;
 use std::marker::Model;
 

@@ -10,10 +10,9 @@ ghost use Rattle.kept_replies.specs.Requests.{is_since};
 
 use crate::by_person::ByPerson;
 use asks::KeptReply;
-use desk_io::OutOfMemory;
+use desk_io::{ById, Keys, OutOfMemory};
 use desk_time::Minute;
 use facts::fingerprint;
-use sorted::{ById, Keys};
 use std::alloc::Global;
 
 /// The fingerprint of the person's name, the number and the id of a reply.

@@ -10,14 +10,13 @@ use crate::telling::alerts_told;
 use alerts::Alert;
 use asks::KeptReply;
 use deferrals::Deferrals;
-use desk_io::OutOfMemory;
+use desk_io::{ById, OutOfMemory};
 use desk_state::{Content, History, Holdings};
 use facts::Reports;
 use held_releases::Releases;
 use kept_replies::Replies;
 use ops_tables::{Settings, Tables};
 use records::{Meta, Record};
-use sorted::ById;
 use std::alloc::Global;
 
 /// What records say, made to be held.

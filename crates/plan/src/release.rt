@@ -2,9 +2,8 @@ ghost use Rattle.std.specs.Prelude.{◌≡◌};
 ghost use Rattle.plan.specs.Phases as spec;
 
 use crate::flights::Plan;
-use desk_io::{Copied, Listed, OutOfMemory, Text, copied_option};
+use desk_io::{Copied, HasId, Listed, OutOfMemory, Text, copied_option};
 use desk_time::Minute;
-use sorted::HasId;
 use std::alloc::Global;
 
 /// Where a release stands.

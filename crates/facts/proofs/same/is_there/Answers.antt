@@ -1,5 +1,5 @@
 use Rattle.std.proofs.Common.{◌∙◌}
-use Rattle.sorted.proofs.ByIdLaws.{any_given}
+use Rattle.desk_io.proofs.ByIdLaws.{any_given}
 use Rattle.facts.specs.Index.{has_number}
 use Rattle.facts.proofs.same.is_there.Goals as goal
 

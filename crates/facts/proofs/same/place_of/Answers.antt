@@ -2,7 +2,7 @@ use Rattle.std.proofs.Common.{rules, ap, ◌∙◌, option_and_then}
 use Rattle.std.proofs.lemmas.Fn.{always_returns_same}
 use Rattle.std.specs.List.{slice_get}
 use Rattle.facts.specs.Index.{id_of}
-use Rattle.sorted.proofs.ByIdLaws.{searched}
+use Rattle.desk_io.proofs.ByIdLaws.{searched}
 use Rattle.facts.proofs.SameLaws.{place_is}
 use Rattle.facts.proofs.same.place_of.Goals as goal
 

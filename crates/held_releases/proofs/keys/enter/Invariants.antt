@@ -1,6 +1,6 @@
 use Rattle.std.proofs.Common.{◌≡◌, ◌≤◌, ◌+◌, ◌||◌, ℕ, drop, length}
 use Rattle.facts.specs.Index.{key_cmp}
-use Rattle.sorted.specs.Keys.{is_held}
+use Rattle.desk_io.specs.Keys.{is_held}
 use Rattle.held_releases.proofs.keys.enter.Given as goal
 
 abbrev pub invariant-loop-key : goal.invariant-loop-key

@@ -1,7 +1,7 @@
 use Rattle.std.proofs.Common.{ap, ◌∙◌}
 use Rattle.std.proofs.lemmas.Result.{IfOk-weaker}
 use Rattle.facts.specs.Index.{key_cmp}
-use Rattle.sorted.specs.Keys.{is_held}
+use Rattle.desk_io.specs.Keys.{is_held}
 use Rattle.held_releases.proofs.EntryLaws.{set_is_index}
 use Rattle.held_releases.proofs.moves.index_of.Goals as goal
 

@@ -1,6 +1,6 @@
 use Rattle.std.proofs.Common.{refl, arith}
 use Rattle.facts.specs.Index.{key_cmp}
-use Rattle.sorted.specs.Keys.{is_held}
+use Rattle.desk_io.specs.Keys.{is_held}
 use Rattle.held_releases.proofs.SetLaws.{spare_one, spared_all}
 use Rattle.held_releases.proofs.moves.leave_others.Goals as goal
 

@@ -1,6 +1,6 @@
 use Rattle.std.proofs.Common.{◌≡◌, ◌||◌, drop}
 use Rattle.std.specs.Map.{keys_of}
-use Rattle.sorted.specs.Keys.{is_held}
+use Rattle.desk_io.specs.Keys.{is_held}
 use Rattle.kept_replies.specs.ByPerson.{keys_under}
 use Rattle.kept_replies.specs.Index.{Key, key_cmp}
 use Rattle.kept_replies.proofs.by_person.ByPerson.from_keys.Given as goal

@@ -1,9 +1,0 @@
-pub mod SortedEdits
-pub mod SortedLaws
-pub mod RunLaws
-pub mod KeyLaws
-pub mod KeySorts
-pub mod ByIdEdits
-pub mod ByIdForms
-pub mod ByIdLaws
-pub mod PairLaws

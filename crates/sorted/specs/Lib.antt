@@ -1,3 +1,0 @@
-pub mod Sorted
-pub mod Keys
-pub mod ById
