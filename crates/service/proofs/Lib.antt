@@ -4,3 +4,8 @@ pub mod RouteForms
 pub mod Endings
 pub mod TurningLaws
 pub mod ServingLaws
+pub mod EventLaws
+pub mod DeskLaws
+pub mod SharedLaws
+pub mod RunLaws
+pub mod Crossing

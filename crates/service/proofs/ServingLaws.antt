@@ -25,14 +25,14 @@ use Rattle.desk_state.specs.declared.entry.Entry.{Entry}
 use Rattle.service.specs.Connections.{in_lane}
 use Rattle.service.specs.Doors.{IsServedInTurns, IsServing}
 use Rattle.service.specs.Turning.{GoesInTurns}
-use Rattle.shared_desk.specs.Events.{entered, faults_of, is_of, lane_of, merged, missed, state_at}
-use Rattle.shared_desk.specs.Runs.{IsLeft, IsRun, Reply, added_for, all_added}
-use Rattle.shared_desk.specs.Shared.{IsSharedSince, SharedSeen, events_in}
-use Rattle.shared_desk.specs.Turns.{added_by, entries_since, given_at, missed_by, missed_with, unkept_in}
-use Rattle.shared_desk.specs.declared.misses.Event.{Event}
-use Rattle.shared_desk.specs.declared.misses.Event.TheVariants.{Entered, Missed}
-use Rattle.shared_desk.specs.declared.misses.Miss.{Miss}
-use Rattle.shared_desk.specs.declared.misses.MissOf.TheVariants as of
+use Rattle.service.specs.Events.{entered, faults_of, is_of, lane_of, merged, missed, state_at}
+use Rattle.service.specs.Runs.{IsLeft, IsRun, Reply, added_for, all_added}
+use Rattle.service.specs.Shared.{IsSharedSince, SharedSeen, events_in}
+use Rattle.service.specs.Turns.{added_by, entries_since, given_at, missed_by, missed_with, unkept_in}
+use Rattle.service.specs.declared.misses.Event.{Event}
+use Rattle.service.specs.declared.misses.Event.TheVariants.{Entered, Missed}
+use Rattle.service.specs.declared.misses.Miss.{Miss}
+use Rattle.service.specs.declared.misses.MissOf.TheVariants as of
 use Rattle.turn_lock.specs.Elements.{elements_of}
 
 -- a link that was ended tells what it told before

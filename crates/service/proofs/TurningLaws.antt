@@ -20,11 +20,11 @@ use Rattle.service.specs.declared.responses.Response.{Response}
 use Rattle.service.specs.declared.requested.Requested.{Requested}
 use Rattle.service.specs.declared.requested.Requested.TheVariants as requested
 use Rattle.service.proofs.ResponseLaws.{calls_is, uncalled, uncalled_by}
-use Rattle.shared_desk.proofs.RunLaws.{no_run, placed_within, reply_of, run_of_miss, run_of_one, run_of_ticks, run_on, run_within, state_still}
-use Rattle.shared_desk.specs.Events.{state_at}
-use Rattle.shared_desk.specs.Runs.{ArePlaced, IsRun, Reply, end_of}
-use Rattle.shared_desk.specs.Turns.{AnsweredOnce, MissedOnce, TickedOnce, Turn, UnansweredOnce}
-use Rattle.shared_desk.specs.declared.misses.Event.{Event}
+use Rattle.service.proofs.RunLaws.{no_run, placed_within, reply_of, run_of_miss, run_of_one, run_of_ticks, run_on, run_within, state_still}
+use Rattle.service.specs.Events.{state_at}
+use Rattle.service.specs.Runs.{ArePlaced, IsRun, Reply, end_of}
+use Rattle.service.specs.Turns.{AnsweredOnce, MissedOnce, TickedOnce, Turn, UnansweredOnce}
+use Rattle.service.specs.declared.misses.Event.{Event}
 
 replies_of-append : (lane : ℕ) (xs ys : List Exchange) → replies_of lane (xs ++ ys) ≡ replies_of lane xs ++ replies_of lane ys
 replies_of-append lane [] ys = refl

@@ -14,7 +14,7 @@ use Rattle.service.specs.Statuses.{status_of}
 use Rattle.service.specs.declared.requested.Requested.{Requested}
 use Rattle.service.specs.declared.requested.Requested.TheVariants as requested
 use Rattle.service.specs.declared.responses.Response.{Response}
-use Rattle.shared_desk.specs.Turns.{Turn}
+use Rattle.service.specs.Turns.{Turn}
 
 -- A request that was answered: its turn, and the state in which that began. Of a request that is no call both say nothing, and of a desk that
 -- is lent the turn's place says nothing.

@@ -18,11 +18,11 @@ use Rattle.desk_state.specs.Legal.{Legal}
 use Rattle.desk_state.specs.State.{State}
 use Rattle.service.specs.Connections.{in_lane}
 use Rattle.service.specs.Turning.{GoesInTurns}
-use Rattle.shared_desk.specs.Events.{are_ordered, faults_of, lane_of, last_or, merged}
-use Rattle.shared_desk.specs.Shared.{IsTimed}
-use Rattle.shared_desk.specs.declared.misses.Event.{Event}
-use Rattle.shared_desk.specs.declared.misses.Miss.{Miss}
-use Rattle.shared_desk.specs.declared.misses.MissOf.TheVariants as of
+use Rattle.service.specs.Events.{are_ordered, faults_of, lane_of, last_or, merged}
+use Rattle.service.specs.Shared.{IsTimed}
+use Rattle.service.specs.declared.misses.Event.{Event}
+use Rattle.service.specs.declared.misses.Miss.{Miss}
+use Rattle.service.specs.declared.misses.MissOf.TheVariants as of
 
 -- What a link gained is what its connection is answered in turns of a lane, whose pass had seen one list before and has seen another since.
 pub record IsServedInTurns {L : Type 0} (link : L → LinkSeen) (opening : State) (clock : ClockSeen) (lane : ℕ) (before seen : List Event) (came went : L) (how : Served) : Type 0 where

@@ -6,3 +6,8 @@ pub mod Connections
 pub mod Alone
 pub mod Doors
 pub mod Turning
+pub mod Events
+pub mod Opened
+pub mod Shared
+pub mod Turns
+pub mod Runs

@@ -9,9 +9,9 @@ use Rattle.service.specs.Connections.{Exchange}
 use Rattle.service.specs.Requested.{requested_by}
 use Rattle.service.specs.declared.requested.Requested.{Requested}
 use Rattle.service.specs.declared.requested.Requested.TheVariants as requested
-use Rattle.shared_desk.specs.Events.{state_at}
-use Rattle.shared_desk.specs.Runs.{IsRun, Reply}
-use Rattle.shared_desk.specs.declared.misses.Event.{Event}
+use Rattle.service.specs.Events.{state_at}
+use Rattle.service.specs.Runs.{IsRun, Reply}
+use Rattle.service.specs.declared.misses.Event.{Event}
 
 -- the reply to a call, in its turn
 abbrev pub replies_for : ℕ → Exchange → Requested → List Reply

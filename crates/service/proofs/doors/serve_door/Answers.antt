@@ -1,5 +1,5 @@
 use Rattle.std.proofs.Common.{◌∙◌, ap}
-use Rattle.shared_desk.specs.Events.{last_or}
+use Rattle.service.specs.Events.{last_or}
 use Rattle.service.proofs.doors.serve_door.Goals as goal
 
 pub returns-clause-still : goal.returns-clause-still

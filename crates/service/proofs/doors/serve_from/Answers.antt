@@ -5,9 +5,9 @@ use Rattle.desk.specs.Seen.{desk_at, desk_seen, DeskGoesOn, DeskSeen}
 use Rattle.desk_io.specs.Over.{over}
 use Rattle.desk_net.specs.Seen.{ClockGoesOn, ClockSeen}
 use Rattle.service.specs.Doors.{IsServing}
-use Rattle.shared_desk.proofs.Crossing.{Shared_send}
-use Rattle.shared_desk.specs.Shared.{seen_by}
-use Rattle.shared_desk.specs.contracts.shared.Shared as Shared
+use Rattle.service.proofs.Crossing.{Shared_send}
+use Rattle.service.specs.Shared.{seen_by}
+use Rattle.service.specs.contracts.shared.Shared as Shared
 use Rattle.service.proofs.ServingLaws.{serving_so}
 use Rattle.service.proofs.doors.serve_from.Goals as goal
 

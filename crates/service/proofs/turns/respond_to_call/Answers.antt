@@ -1,6 +1,6 @@
 use Rattle.std.proofs.Common.{subst}
 use Rattle.service.proofs.TurningLaws.{call_fails, call_responds}
-use Rattle.shared_desk.specs.Turns.{ComesOnce, said_in}
+use Rattle.service.specs.Turns.{ComesOnce, said_in}
 use Rattle.service.proofs.turns.respond_to_call.Goals as goal
 
 pub returns-in-Ok-clause-responds : goal.returns-in-Ok-clause-responds

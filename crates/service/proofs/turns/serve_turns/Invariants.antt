@@ -7,7 +7,7 @@ use Rattle.desk_net.specs.Seen.{LinkGoesOn}
 use Rattle.desk_net.specs.Streams.{unread}
 use Rattle.service.specs.Connections.{in_lane}
 use Rattle.service.specs.Turning.{GoesInTurns}
-use Rattle.shared_desk.specs.Shared.{IsSharedList}
+use Rattle.service.specs.Shared.{IsSharedList}
 use Rattle.turn_lock.specs.Passes.{pass_lock, pass_number, pass_numbers, pass_seen}
 use Rattle.service.proofs.turns.serve_turns.Given as goal
 

@@ -27,7 +27,7 @@ use Rattle.desk_state.specs.declared.entry.What.{What}
 use Rattle.desk_state.specs.declared.entry.What.TheVariants as what
 use Rattle.desk_time.specs.Limits.{IsMoment}
 use Rattle.ops_tables.specs.Tables.{actor_of}
-use Rattle.shared_desk.specs.Turns.{number_in_refusal, number_in_reply, unkept_in}
+use Rattle.service.specs.Turns.{number_in_refusal, number_in_reply, unkept_in}
 
 -- ---- what is added
 

@@ -1,7 +1,7 @@
 use Rattle.std.proofs.Common.{rules, ◌≡◌, ◌+◌, length, sym, ap, ◌∙◌}
-use Rattle.shared_desk.specs.Shared.{events_of}
-use Rattle.shared_desk.proofs.EventLaws.{from_zero, length-merged}
-use Rattle.shared_desk.proofs.shared.SharedListed.length.Goals as goal
+use Rattle.service.specs.Shared.{events_of}
+use Rattle.service.proofs.EventLaws.{from_zero, length-merged}
+use Rattle.service.proofs.shared.SharedListed.length.Goals as goal
 
 pub returns : goal.returns
 returns g c =

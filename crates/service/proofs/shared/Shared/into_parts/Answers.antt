@@ -1,6 +1,6 @@
 use Rattle.std.proofs.Common.{subst}
-use Rattle.shared_desk.specs.Shared.{IsSharedSince, seen_by}
-use Rattle.shared_desk.proofs.shared.Shared.into_parts.Goals as goal
+use Rattle.service.specs.Shared.{IsSharedSince, seen_by}
+use Rattle.service.proofs.shared.Shared.into_parts.Goals as goal
 
 pub returns-clause-since : goal.returns-clause-since
 returns-clause-since g c =

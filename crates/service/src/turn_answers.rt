@@ -4,8 +4,8 @@ ghost use Rattle.call_json.specs.Forms.{CallHasForms};
 ghost use Rattle.connections.specs.declared.answers.Unanswered.TheVariants.{ClockFault as ByClock};
 ghost use Rattle.desk.specs.Shown.{IsShown};
 ghost use Rattle.desk_io.specs.Health.{IsSound};
-ghost use Rattle.shared_desk.specs.Shared.{IsSharedList};
-ghost use Rattle.shared_desk.specs.Turns.{ComesOnce};
+ghost use Rattle.service.specs.Shared.{IsSharedList};
+ghost use Rattle.service.specs.Turns.{ComesOnce};
 ghost use Rattle.turn_lock.specs.Passes.{lock_id, pass_lock, pass_number, pass_numbers, pass_seen};
 
 use crate::opened::Opened;

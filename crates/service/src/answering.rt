@@ -7,11 +7,11 @@ ghost use Rattle.desk_io.specs.Health.{IsStill};
 ghost use Rattle.desk_net.specs.Clocks.{StandsAt, turned};
 ghost use Rattle.desk_net.specs.Seen.{ClockGoesOn};
 ghost use Rattle.desk_time.specs.Limits.{IsMoment};
-ghost use Rattle.shared_desk.specs.Events.{miss};
-ghost use Rattle.shared_desk.specs.Shared.{parts_seen};
-ghost use Rattle.shared_desk.specs.Turns.{GoesInTurn, GoesWithout, missed_by};
+ghost use Rattle.service.specs.Events.{miss};
+ghost use Rattle.service.specs.Shared.{parts_seen};
+ghost use Rattle.service.specs.Turns.{GoesInTurn, GoesWithout, missed_by};
 ghost use Rattle.connections.specs.declared.answers.Unanswered.TheVariants.{ClockFault as ByClock};
-ghost use Rattle.shared_desk.specs.declared.misses.MissOf.TheVariants as of;
+ghost use Rattle.service.specs.declared.misses.MissOf.TheVariants as of;
 
 use crate::misses::{Miss, MissOf};
 use asks::{Call, Refusal, Reply};

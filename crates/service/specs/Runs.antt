@@ -7,10 +7,10 @@ use Rattle.desk_net.specs.Clocks.{Dial}
 use Rattle.desk_state.specs.State.{State}
 use Rattle.desk_state.specs.declared.entry.Entry.{Entry}
 use Rattle.desk_state.specs.declared.lanes.Said.{Said}
-use Rattle.shared_desk.specs.Events.{entered, lane_of, miss, missed}
-use Rattle.shared_desk.specs.Turns.{IsTickTold, IsTurn, Turn, added_at}
-use Rattle.shared_desk.specs.declared.misses.Event.{Event}
-use Rattle.shared_desk.specs.declared.misses.MissOf.TheVariants as of
+use Rattle.service.specs.Events.{entered, lane_of, miss, missed}
+use Rattle.service.specs.Turns.{IsTickTold, IsTurn, Turn, added_at}
+use Rattle.service.specs.declared.misses.Event.{Event}
+use Rattle.service.specs.declared.misses.MissOf.TheVariants as of
 use Rattle.turn_lock.specs.Elements.{elements_of}
 
 -- a call, what is said of it, and its turn

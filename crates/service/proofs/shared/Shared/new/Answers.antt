@@ -1,6 +1,6 @@
 use Rattle.desk.specs.Seen.{desk_seen}
-use Rattle.shared_desk.proofs.SharedLaws.{opened_since}
-use Rattle.shared_desk.proofs.shared.Shared.new.Goals as goal
+use Rattle.service.proofs.SharedLaws.{opened_since}
+use Rattle.service.proofs.shared.Shared.new.Goals as goal
 
 pub invariant_of-result : goal.invariant_of-result
 invariant_of-result g c =

@@ -3,9 +3,9 @@ ghost use Rattle.call_json.specs.Forms.{CallHasForms};
 ghost use Rattle.desk.specs.Seen.{desk_seen};
 ghost use Rattle.desk.specs.Shown.{IsShown};
 ghost use Rattle.desk_io.specs.Health.{IsSound, IsStill};
-ghost use Rattle.shared_desk.specs.Events.{lane_of};
-ghost use Rattle.shared_desk.specs.Shared.{IsSharedSince, events_of, seen_by};
-ghost use Rattle.shared_desk.specs.Turns.{ComesOnce, GoesInTurn};
+ghost use Rattle.service.specs.Events.{lane_of};
+ghost use Rattle.service.specs.Shared.{IsSharedSince, events_of, seen_by};
+ghost use Rattle.service.specs.Turns.{ComesOnce, GoesInTurn};
 ghost use Rattle.connections.specs.declared.answers.Unanswered.TheVariants.{ClockFault as ByClock};
 ghost use Rattle.turn_lock.specs.Elements.{Continues};
 
@@ -34,7 +34,7 @@ pub struct Shared<K: Keeper, B: Bell, C: Clock, A: Opened> {
 }
 
 impl<K: Keeper, B: Bell, C: Clock, A: Opened> Model for Shared<K, B, C, A> {
-    ghost use Rattle.shared_desk.specs.Shared.{parts_seen, IsSharedSince, SharedDesk};
+    ghost use Rattle.service.specs.Shared.{parts_seen, IsSharedSince, SharedDesk};
 
     ghost Value = { SharedDesk K B C };
 
@@ -45,8 +45,8 @@ impl<K: Keeper, B: Bell, C: Clock, A: Opened> Model for Shared<K, B, C, A> {
 }
 
 impl<K: Keeper, B: Bell, C: Clock, A: Opened> Listed for Shared<K, B, C, A> {
-    ghost use Rattle.shared_desk.specs.Events.{lane_of};
-    ghost use Rattle.shared_desk.specs.Shared.{events_of};
+    ghost use Rattle.service.specs.Events.{lane_of};
+    ghost use Rattle.service.specs.Shared.{events_of};
 
     type Element = Event;
 

@@ -4,11 +4,11 @@ use Rattle.std.specs.List.{filter_map}
 use Rattle.desk_state.specs.Legal.{next}
 use Rattle.desk_state.specs.State.{State}
 use Rattle.desk_state.specs.declared.entry.Entry.{Entry}
-use Rattle.shared_desk.specs.declared.misses.Event.{Event}
-use Rattle.shared_desk.specs.declared.misses.Event.TheVariants.{Entered, Missed}
-use Rattle.shared_desk.specs.declared.misses.Miss.{Miss}
-use Rattle.shared_desk.specs.declared.misses.MissOf.{MissOf}
-use Rattle.shared_desk.specs.declared.misses.MissOf.TheVariants as of
+use Rattle.service.specs.declared.misses.Event.{Event}
+use Rattle.service.specs.declared.misses.Event.TheVariants.{Entered, Missed}
+use Rattle.service.specs.declared.misses.Miss.{Miss}
+use Rattle.service.specs.declared.misses.MissOf.{MissOf}
+use Rattle.service.specs.declared.misses.MissOf.TheVariants as of
 
 abbrev pub miss : ℕ → ℕ → MissOf → ℕ → Miss
 miss lane position source faults = record { lane = lane; position = position; source = source; faults = faults }

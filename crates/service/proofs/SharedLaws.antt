@@ -21,17 +21,17 @@ use Rattle.desk_state.specs.declared.lanes.Said.{Said}
 use Rattle.desk_state.specs.declared.entry.What.TheVariants as what
 use Rattle.turn_lock.specs.Elements.{Continues, EachBears, elements_of}
 use Rattle.turn_lock.proofs.ElementLaws.{elements_of-append, prefix_trans}
-use Rattle.shared_desk.specs.Events.{after_entries, are_ordered, entered, entries_in, faults_of, is_of, lane_of, last_or, merged, miss, missed, state_at}
-use Rattle.shared_desk.specs.Shared.{IsSharedSince, IsTimed, IsTold, SharedSeen, events_in}
-use Rattle.shared_desk.specs.Turns.{AnsweredOnce, AnswersInTurn, ComesOnce, FindsNoMemory, GoesInTurn, MissedOnce, MissesClock, TickedOnce, added_at, added_by, IsTickTold, entries_since, missed_by, missed_with, said_in, unkept_in}
+use Rattle.service.specs.Events.{after_entries, are_ordered, entered, entries_in, faults_of, is_of, lane_of, last_or, merged, miss, missed, state_at}
+use Rattle.service.specs.Shared.{IsSharedSince, IsTimed, IsTold, SharedSeen, events_in}
+use Rattle.service.specs.Turns.{AnsweredOnce, AnswersInTurn, ComesOnce, FindsNoMemory, GoesInTurn, MissedOnce, MissesClock, TickedOnce, added_at, added_by, IsTickTold, entries_since, missed_by, missed_with, said_in, unkept_in}
 use Rattle.connections.specs.declared.answers.Unanswered.{Unanswered}
 use Rattle.connections.specs.declared.answers.Unanswered.TheVariants.{ClockFault, OutOfMemory}
-use Rattle.shared_desk.specs.declared.misses.Event.{Event}
-use Rattle.shared_desk.specs.declared.misses.Miss.{Miss}
-use Rattle.shared_desk.specs.declared.misses.MissOf.{MissOf}
-use Rattle.shared_desk.specs.declared.misses.MissOf.TheVariants as of
-use Rattle.shared_desk.proofs.DeskLaws.{IsTickTo, Ticks, all_both, answer_grows, tick_grows, ticks_to, told_rises}
-use Rattle.shared_desk.proofs.EventLaws.{after_entries-legal, bear_both, drop-seam, elements_of-each, entered_bear, entries_in-merged, from_zero, merged-entries, merged-misses, ordered_longer, take-seam}
+use Rattle.service.specs.declared.misses.Event.{Event}
+use Rattle.service.specs.declared.misses.Miss.{Miss}
+use Rattle.service.specs.declared.misses.MissOf.{MissOf}
+use Rattle.service.specs.declared.misses.MissOf.TheVariants as of
+use Rattle.service.proofs.DeskLaws.{IsTickTo, Ticks, all_both, answer_grows, tick_grows, ticks_to, told_rises}
+use Rattle.service.proofs.EventLaws.{after_entries-legal, bear_both, drop-seam, elements_of-each, entered_bear, entries_in-merged, from_zero, merged-entries, merged-misses, ordered_longer, take-seam}
 
 -- ---- numbers that rise
 

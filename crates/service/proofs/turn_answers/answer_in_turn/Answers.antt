@@ -2,11 +2,11 @@ use Rattle.std.proofs.Common.{rules, ◌≡◌, ◌++◌, inl, sym, ap, ◌∙�
 use Rattle.turn_lock.proofs.ElementLaws.{prefix_trans}
 use Rattle.turn_lock.specs.Elements.{elements_of}
 use Rattle.turn_lock.specs.Passes.{pass_seen, turn_taken}
-use Rattle.shared_desk.specs.Events.{lane_of}
-use Rattle.shared_desk.specs.Shared.{events_of, seen_by}
-use Rattle.shared_desk.specs.Turns.{ComesOnce}
-use Rattle.shared_desk.proofs.SharedLaws.{comes_for_pass}
-use Rattle.shared_desk.proofs.turns.answer_in_turn.Goals as goal
+use Rattle.service.specs.Events.{lane_of}
+use Rattle.service.specs.Shared.{events_of, seen_by}
+use Rattle.service.specs.Turns.{ComesOnce}
+use Rattle.service.proofs.SharedLaws.{comes_for_pass}
+use Rattle.service.proofs.turn_answers.answer_in_turn.Goals as goal
 
 pub returns-clause-seen : goal.returns-clause-seen
 returns-clause-seen g c =

@@ -19,14 +19,14 @@ use Rattle.desk_state.specs.declared.lanes.Said.{Said}
 use Rattle.desk_state.specs.declared.lanes.Said.TheVariants as said
 use Rattle.desk_time.specs.Limits.{IsMoment}
 use mathlib.Core.List.{IsPrefix}
-use Rattle.shared_desk.specs.Events.{entered, lane_of, miss, missed, state_at}
-use Rattle.shared_desk.specs.Shared.{IsTold, SharedSeen}
+use Rattle.service.specs.Events.{entered, lane_of, miss, missed, state_at}
+use Rattle.service.specs.Shared.{IsTold, SharedSeen}
 use Rattle.turn_lock.specs.Elements.{elements_of}
 use Rattle.connections.specs.declared.answers.Unanswered.{Unanswered}
 use Rattle.connections.specs.declared.answers.Unanswered.TheVariants.{ClockFault, OutOfMemory}
-use Rattle.shared_desk.specs.declared.misses.Event.{Event}
-use Rattle.shared_desk.specs.declared.misses.Miss.{Miss}
-use Rattle.shared_desk.specs.declared.misses.MissOf.TheVariants as of
+use Rattle.service.specs.declared.misses.Event.{Event}
+use Rattle.service.specs.declared.misses.Miss.{Miss}
+use Rattle.service.specs.declared.misses.MissOf.TheVariants as of
 
 -- ---- what is added
 

@@ -12,7 +12,7 @@ pub trait Opened {
 }
 
 impl Opened for Brand {
-    ghost use Rattle.shared_desk.specs.Opened.{no_clock, no_desk};
+    ghost use Rattle.service.specs.Opened.{no_clock, no_desk};
 
     ghost desk = { no_desk };
 

@@ -11,10 +11,10 @@ use Rattle.desk_state.specs.Legal.{Legal}
 use Rattle.desk_state.specs.declared.entry.What.{What}
 use Rattle.desk_state.specs.declared.entry.What.TheVariants as what
 use Rattle.keeper.specs.Seen.{KeeperSeen}
-use Rattle.shared_desk.specs.Events.{are_ordered, faults_of, last_or, merged}
-use Rattle.shared_desk.specs.declared.misses.Event.{Event}
-use Rattle.shared_desk.specs.declared.misses.Miss.{Miss}
-use Rattle.shared_desk.specs.declared.misses.MissOf.TheVariants as of
+use Rattle.service.specs.Events.{are_ordered, faults_of, last_or, merged}
+use Rattle.service.specs.declared.misses.Event.{Event}
+use Rattle.service.specs.declared.misses.Miss.{Miss}
+use Rattle.service.specs.declared.misses.MissOf.TheVariants as of
 
 -- a shared desk: the desk, its clock and the misses
 pub record SharedDesk (K B C : Type 0) : Type 0 where

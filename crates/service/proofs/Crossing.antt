@@ -6,9 +6,9 @@ use Rattle.bells.specs.declared.bell.Bell as Bell
 use Rattle.desk.proofs.Crossing.{Desk_send}
 use Rattle.desk_net.specs.declared.outside.Clock as Clock
 use Rattle.keeper.specs.declared.keeping.Keeper as Keeper
-use Rattle.shared_desk.specs.contracts.misses.Miss as Miss
-use Rattle.shared_desk.specs.contracts.shared.Shared as Shared
-use Rattle.shared_desk.specs.declared.opened.Opened as Opened
+use Rattle.service.specs.contracts.misses.Miss as Miss
+use Rattle.service.specs.contracts.shared.Shared as Shared
+use Rattle.service.specs.declared.opened.Opened as Opened
 
 Miss_send : IsSend (Miss.the_field).row
 Miss_send = search (sendable, crosses) depth 60 fits 5000

@@ -7,12 +7,12 @@ use Rattle.desk.specs.Keeping.{answer_with}
 use Rattle.desk_net.specs.Clocks.{Dial}
 use Rattle.desk_state.specs.State.{State}
 use Rattle.desk_state.specs.declared.lanes.Said.{Said}
-use Rattle.shared_desk.specs.Events.{after_entries, entered, entries_in, lane_of, miss, missed, state_at}
+use Rattle.service.specs.Events.{after_entries, entered, entries_in, lane_of, miss, missed, state_at}
 use Rattle.connections.specs.Connections.{Answered, ClockFailed, Last, RanOut}
-use Rattle.shared_desk.specs.Runs.{ArePlaced, IsRun, Reply, added_for, all_added, end_of}
-use Rattle.shared_desk.specs.Turns.{AnsweredOnce, IsTurn, MissedOnce, TickedOnce, Turn, added_by}
-use Rattle.shared_desk.specs.declared.misses.Event.{Event}
-use Rattle.shared_desk.specs.declared.misses.MissOf.TheVariants as of
+use Rattle.service.specs.Runs.{ArePlaced, IsRun, Reply, added_for, all_added, end_of}
+use Rattle.service.specs.Turns.{AnsweredOnce, IsTurn, MissedOnce, TickedOnce, Turn, added_by}
+use Rattle.service.specs.declared.misses.Event.{Event}
+use Rattle.service.specs.declared.misses.MissOf.TheVariants as of
 use Rattle.turn_lock.specs.Elements.{elements_of}
 
 -- ---- lists that go on

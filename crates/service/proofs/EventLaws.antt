@@ -7,10 +7,10 @@ use Rattle.desk_state.specs.Legal.{Legal, next}
 use Rattle.desk_state.specs.State.{State}
 use Rattle.desk_state.specs.declared.entry.Entry.{Entry}
 use Rattle.turn_lock.specs.Elements.{EachBears, elements_of}
-use Rattle.shared_desk.specs.Events.{after_entries, are_ordered, entered, entries_in, lane_of, merged, missed}
-use Rattle.shared_desk.specs.declared.misses.Event.{Event}
-use Rattle.shared_desk.specs.declared.misses.Event.TheVariants.{Entered, Missed}
-use Rattle.shared_desk.specs.declared.misses.Miss.{Miss}
+use Rattle.service.specs.Events.{after_entries, are_ordered, entered, entries_in, lane_of, merged, missed}
+use Rattle.service.specs.declared.misses.Event.{Event}
+use Rattle.service.specs.declared.misses.Event.TheVariants.{Entered, Missed}
+use Rattle.service.specs.declared.misses.Miss.{Miss}
 
 -- ---- the order of misses
 

@@ -1,10 +1,10 @@
 use Rattle.std.proofs.Common.{rules, subst}
 use Rattle.turn_lock.specs.Elements.{Continues}
-use Rattle.shared_desk.specs.Events.{lane_of}
-use Rattle.shared_desk.specs.Shared.{events_of, parts_seen}
-use Rattle.shared_desk.specs.Turns.{ComesOnce}
-use Rattle.shared_desk.proofs.SharedLaws.{steady_clock, turn_comes, turn_continues, turn_keeps}
-use Rattle.shared_desk.proofs.shared.Shared.answer.Goals as goal
+use Rattle.service.specs.Events.{lane_of}
+use Rattle.service.specs.Shared.{events_of, parts_seen}
+use Rattle.service.specs.Turns.{ComesOnce}
+use Rattle.service.proofs.SharedLaws.{steady_clock, turn_comes, turn_continues, turn_keeps}
+use Rattle.service.proofs.shared.Shared.answer.Goals as goal
 
 pub invariant_of-self : goal.invariant_of-self
 invariant_of-self g c =

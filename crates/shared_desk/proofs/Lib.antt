@@ -1,5 +1,0 @@
-pub mod EventLaws
-pub mod DeskLaws
-pub mod SharedLaws
-pub mod RunLaws
-pub mod Crossing

@@ -1,5 +1,0 @@
-pub mod Events
-pub mod Opened
-pub mod Shared
-pub mod Turns
-pub mod Runs
