@@ -6,10 +6,9 @@ use codes::{Groups, ReportFault};
 use desk_io::OutOfMemory;
 use desk_time::{BadDay, FIRST, LAST, Minute, SHOWN_LAST, resolve};
 use facts::{Read, read_report};
-use metar::Metar;
+use metar::{Metar, Taf};
 use serde_json::Value;
 use std::alloc::Global;
-use taf::Taf;
 use weather_window::{at, worst};
 
 fn receipt_of(case: &Value) -> Minute

@@ -1,10 +1,9 @@
 use codes::{BadReport, Cond, Why};
 use desk_io::{OutOfMemory, Pair};
-use metar::Metar;
+use metar::{Metar, Part, PartKind, Taf, TafState};
 use std::alloc::Global;
 use std::str;
 use table_files::{BadTable, TableWhy};
-use taf::{Part, PartKind, Taf, TafState};
 
 /// A number, or null.
 fn option_text(alloc: Global, number: Option<u32>) -> Result<String, OutOfMemory> {

@@ -5,10 +5,10 @@ use Rattle.codes.specs.Groups.{groups_of, first_of, canonical}
 use Rattle.codes.specs.declared.fault.BadReport.{BadReport}
 use Rattle.metar.specs.declared.metar.Metar.{Metar}
 use Rattle.codes.specs.Answers.{too_long}
-use Rattle.metar.specs.Reading as observation
-use Rattle.taf.specs.declared.forecast.Taf.{Taf}
-use Rattle.taf.specs.Reading as forecast
-use Rattle.taf.specs.Parts.{HasMoments as PartHasMoments}
+use Rattle.metar.specs.MetarReading as observation
+use Rattle.metar.specs.declared.forecast.Taf.{Taf}
+use Rattle.metar.specs.TafReading as forecast
+use Rattle.metar.specs.Parts.{HasMoments as PartHasMoments}
 use Rattle.desk_time.specs.Limits.{IsMoment}
 use Rattle.facts.specs.declared.report.Read.{Read}
 use Rattle.facts.specs.declared.report.Read.TheVariants as read

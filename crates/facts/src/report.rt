@@ -4,9 +4,8 @@ ghost use Rattle.facts.specs.Same as spec;
 
 use desk_io::{Copied, OutOfMemory, Station, Text};
 use desk_time::Minute;
-use metar::Metar;
+use metar::{Metar, Taf};
 use std::alloc::Global;
-use taf::Taf;
 
 /// The most reports that may be held.
 pub const HELD_LIMIT: usize = 200_000;

@@ -1,1 +1,5 @@
-mod ReportLaws
+mod MetarLaws
+pub mod PartLaws
+pub mod Crossing
+pub mod ForecastLaws
+pub mod TafLaws

@@ -1,9 +1,9 @@
 ghost use Rattle.std.specs.Prelude.{◌≡◌, ◌↔◌, ◌≤◌, ◌<◌, ◌+◌, ◌-◌, ◌/◌, ◌^◌, length, codes, Ok, IfOk};
-ghost use Rattle.metar.specs.Reading as spec;
+ghost use Rattle.metar.specs.MetarReading as spec;
 ghost use Rattle.codes.specs.Answers.{Answers};
 ghost use Rattle.codes.specs.Groups.{groups_of};
-ghost use Rattle.metar.specs.Reading.{reading, metar_of};
-ghost use Rattle.metar.specs.Report.{ReadsMetar};
+ghost use Rattle.metar.specs.MetarReading.{reading, metar_of};
+ghost use Rattle.metar.specs.MetarReport.{ReadsMetar};
 
 use codes::{
     BadReport, Cond, Form, Group, Groups, REPORT_LIMIT, ReportFault, Stretch, TOO_LONG, Why,
@@ -217,7 +217,7 @@ fn from_station(
     }
 }
 
-#[tactic(auto, unfolding(crate::specs::Reading::reading))]
+#[tactic(auto, unfolding(crate::specs::MetarReading::reading))]
 fn reading_in(groups: &[Group<'_>], receipt: Minute) -> Result<Metar, BadReport>
     requires count { length groups.now ≤ 2049 }
     requires low { FIRST ≤ receipt }
@@ -255,7 +255,7 @@ pub fn metar_in(groups: &[Group<'_>], receipt: Minute) -> Result<Metar, BadRepor
 /// is the one within the five days that begin three days before the day of receipt. `Bad` comes
 /// exactly where there is no reading, with the first group from the left that doesn't read; a text of
 /// more than 2,048 bytes is `TooLong` at group 0.
-#[tactic(auto, unfolding(crate::specs::Reading::metar_of))]
+#[tactic(auto, unfolding(crate::specs::MetarReading::metar_of))]
 pub fn read_metar(alloc: Global, text: &[u8], receipt: Minute) -> Result<Metar, ReportFault>
     requires low { FIRST ≤ receipt }
     requires high { receipt ≤ LAST }

@@ -11,10 +11,9 @@ use deferrals::{Deferral, Deferrals};
 use desk_io::{OutOfMemory, Station};
 use desk_time::Minute;
 use facts::{Read, Report, Reports};
-use metar::Metar;
+use metar::{Metar, Taf};
 use ops_tables::Tables;
 use std::alloc::Global;
-use taf::Taf;
 
 /// What a plan is judged by: what is held, and what is about to change of it.
 #[derive(Clone, Copy)]

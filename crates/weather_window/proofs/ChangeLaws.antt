@@ -4,8 +4,8 @@ use Rattle.std.specs.List.{AllByRecursion}
 use Rattle.std.proofs.lemmas.Bool.Decides.{nat_tests}
 use Rattle.std.proofs.lemmas.List.Sums.{length-filter, count_by-le-length}
 use Rattle.codes.specs.Cond.{lesser}
-use Rattle.taf.specs.declared.forecast.Part.{Part}
-use Rattle.taf.specs.declared.forecast.Taf.{Taf}
+use Rattle.metar.specs.declared.forecast.Part.{Part}
+use Rattle.metar.specs.declared.forecast.Taf.{Taf}
 use Rattle.metar.specs.declared.metar.Metar.{Metar}
 use Rattle.codes.proofs.CondLaws.{lesser_assoc, lesser_comm}
 use Rattle.weather_window.specs.Window.{least_of}

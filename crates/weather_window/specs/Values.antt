@@ -5,12 +5,12 @@ use Rattle.std.specs.List.{list_any}
 use Rattle.desk_time.specs.Digits.{or_else}
 use Rattle.codes.specs.declared.cond.Cond.{Cond}
 use Rattle.metar.specs.declared.metar.Metar.{Metar}
-use Rattle.taf.specs.declared.forecast.Part.{Part}
-use Rattle.taf.specs.declared.forecast.PartKind.{PartKind}
-use Rattle.taf.specs.declared.forecast.PartKind.TheVariants.{Base, From, Becoming, Tempo, Prob}
-use Rattle.taf.specs.declared.forecast.Taf.{Taf}
-use Rattle.taf.specs.declared.forecast.TafState.{TafState}
-use Rattle.taf.specs.declared.forecast.TafState.TheVariants.{Normal, Nil, Cancelled}
+use Rattle.metar.specs.declared.forecast.Part.{Part}
+use Rattle.metar.specs.declared.forecast.PartKind.{PartKind}
+use Rattle.metar.specs.declared.forecast.PartKind.TheVariants.{Base, From, Becoming, Tempo, Prob}
+use Rattle.metar.specs.declared.forecast.Taf.{Taf}
+use Rattle.metar.specs.declared.forecast.TafState.{TafState}
+use Rattle.metar.specs.declared.forecast.TafState.TheVariants.{Normal, Nil, Cancelled}
 
 -- one of the two elements of a condition
 abbrev pub Element : Type 0

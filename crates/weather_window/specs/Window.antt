@@ -4,7 +4,7 @@ use Rattle.std.specs.List.{list_any, range_with_len}
 use Rattle.codes.specs.Cond.{lesser}
 use Rattle.codes.specs.declared.cond.Cond.{Cond}
 use Rattle.metar.specs.declared.metar.Metar.{Metar}
-use Rattle.taf.specs.declared.forecast.Taf.{Taf}
+use Rattle.metar.specs.declared.forecast.Taf.{Taf}
 use Rattle.weather_window.specs.Values.{Element, ceiling, visibility, values_at}
 
 -- the least of some values, unknown where there is none

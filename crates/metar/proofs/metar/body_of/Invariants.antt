@@ -1,5 +1,5 @@
 use Rattle.std.proofs.Common.{◌≡◌, ◌+◌, drop}
-use Rattle.metar.specs.Reading.{body_length}
+use Rattle.metar.specs.MetarReading.{body_length}
 use Rattle.metar.proofs.metar.body_of.Given as goal
 
 abbrev pub invariant-loop-i : goal.invariant-loop-i

@@ -1,4 +1,4 @@
-use Rattle.metar.proofs.ReportLaws.{reads_exactly}
+use Rattle.metar.proofs.MetarLaws.{reads_exactly}
 use Rattle.metar.proofs.metar.metar_in.Goals as goal
 
 -- a report is read exactly where the groups say it

@@ -1,5 +1,5 @@
 use Rattle.codes.specs.Groups.{groups_of}
-use Rattle.metar.proofs.ReportLaws.{is_read}
+use Rattle.metar.proofs.MetarLaws.{is_read}
 use Rattle.metar.proofs.metar.read_metar.Goals as goal
 
 -- what the groups of a text say is answered

@@ -8,14 +8,14 @@ use Rattle.codes.specs.Moment.{time_of}
 use Rattle.codes.specs.Period.{numbered, period_due}
 use Rattle.codes.specs.declared.fault.Why.TheVariants.{Missing, NotStation}
 use Rattle.codes.specs.declared.fault.BadReport.{BadReport}
-use Rattle.taf.specs.declared.forecast.Part.{Part}
-use Rattle.taf.specs.declared.forecast.PartKind.TheVariants.{Base}
-use Rattle.taf.specs.declared.forecast.Taf.{Taf}
-use Rattle.taf.specs.declared.forecast.TafState.{TafState}
-use Rattle.taf.specs.declared.forecast.TafState.TheVariants.{Normal, Nil, Cancelled}
-use Rattle.taf.specs.declared.reader.Head.{Head}
-use Rattle.taf.specs.Words.{is_amended, is_corrected, is_modifier, is_nil, is_cancelled}
-use Rattle.taf.specs.Parts.{◌>>=◌, part_of, parts_of, HasMoments, HasBase}
+use Rattle.metar.specs.declared.forecast.Part.{Part}
+use Rattle.metar.specs.declared.forecast.PartKind.TheVariants.{Base}
+use Rattle.metar.specs.declared.forecast.Taf.{Taf}
+use Rattle.metar.specs.declared.forecast.TafState.{TafState}
+use Rattle.metar.specs.declared.forecast.TafState.TheVariants.{Normal, Nil, Cancelled}
+use Rattle.metar.specs.declared.reader.Head.{Head}
+use Rattle.metar.specs.Words.{is_amended, is_corrected, is_modifier, is_nil, is_cancelled}
+use Rattle.metar.specs.Parts.{◌>>=◌, part_of, parts_of, HasMoments, HasBase}
 use Rattle.desk_time.specs.Limits.{IsMoment}
 
 abbrev pub station_or_not : ℕ → Option Station → Result Station BadReport

@@ -2,9 +2,9 @@
 use Rattle.std.specs.Prelude.{ℕ, Bool, true, false, ◌&&◌, ◌||◌, ◌==◌, if◌then◌else◌, List, [], ◌∷◌, Option, None, Some, is_some, codes}
 use Rattle.std.specs.Str.{bytes_eq}
 use Rattle.desk_time.specs.Digits.{digit}
-use Rattle.taf.specs.declared.forecast.PartKind.TheVariants.{Becoming, Tempo}
-use Rattle.taf.specs.declared.change.Change.{Change}
-use Rattle.taf.specs.declared.change.Change.TheVariants.{At, During, Chance, Misshaped}
+use Rattle.metar.specs.declared.forecast.PartKind.TheVariants.{Becoming, Tempo}
+use Rattle.metar.specs.declared.change.Change.{Change}
+use Rattle.metar.specs.declared.change.Change.TheVariants.{At, During, Chance, Misshaped}
 
 -- AMD: the forecast replaces an earlier one
 abbrev pub is_amended : List ℕ → Bool

@@ -2,11 +2,11 @@ ghost use Rattle.std.specs.Prelude.{◌≡◌, ◌≤◌, ◌<◌, ◌+◌, ◌-
 ghost use Rattle.codes.specs.Groups.{groups_of};
 ghost use Rattle.codes.specs.Groups.{first_of as first_group};
 ghost use Rattle.codes.specs.Answers.{Answers};
-ghost use Rattle.taf.specs.Parts.{HasMoments};
+ghost use Rattle.metar.specs.Parts.{HasMoments};
 ghost use Rattle.desk_time.specs.Limits.{IsMoment};
-ghost use Rattle.taf.specs.Forecast.{ReadsTaf};
-ghost use Rattle.taf.specs.Reading as spec;
-ghost use Rattle.taf.specs.Reading.{reading, taf_of, IsInReach, AreParts};
+ghost use Rattle.metar.specs.Forecast.{ReadsTaf};
+ghost use Rattle.metar.specs.TafReading as spec;
+ghost use Rattle.metar.specs.TafReading.{reading, taf_of, IsInReach, AreParts};
 
 use crate::change::{is_amended, is_cancelled, is_corrected, is_modifier, is_nil};
 use crate::forecast::{PartKind, Parts, Taf, TafState};
@@ -230,7 +230,7 @@ fn modifier_count(groups: &[Group<'_>]) -> usize
     groups.len()
 }
 
-#[tactic(auto, unfolding(crate::specs::Reading::reading))]
+#[tactic(auto, unfolding(crate::specs::TafReading::reading))]
 fn reading_in(alloc: Global, groups: &[Group<'_>], receipt: Minute) -> Result<Taf, ReportFault>
     requires count { length groups.now ≤ 2049 }
     requires low { FIRST ≤ receipt }
@@ -268,7 +268,7 @@ pub fn taf_in(alloc: Global, groups: &[Group<'_>], receipt: Minute) -> Result<Ta
 /// the day of receipt, for all others those that begin one day before the day of issue. `Bad` comes
 /// exactly where there is no reading, with the first group from the left that doesn't read; a text of
 /// more than 2,048 bytes is `TooLong` at group 0.
-#[tactic(auto, unfolding(crate::specs::Reading::taf_of))]
+#[tactic(auto, unfolding(crate::specs::TafReading::taf_of))]
 pub fn read_taf(alloc: Global, text: &[u8], receipt: Minute) -> Result<Taf, ReportFault>
     requires forecast { first_group (groups_of text.now) ≡ codes "TAF" }
     requires low { FIRST ≤ receipt }

@@ -6,14 +6,14 @@ use Rattle.codes.specs.Moment.{time_of}
 use Rattle.codes.specs.Cond.{named_cond, shape_fault}
 use Rattle.codes.specs.Period.{end_of, period_of}
 use Rattle.codes.specs.declared.fault.Form.TheVariants.{Forecast}
-use Rattle.taf.specs.declared.change.Change.{Change}
-use Rattle.taf.specs.declared.change.Change.TheVariants.{At, During, Chance}
-use Rattle.taf.specs.declared.forecast.Part.{Part}
-use Rattle.taf.specs.declared.forecast.PartKind.{PartKind}
-use Rattle.taf.specs.declared.forecast.PartKind.TheVariants.{Base, From, Prob}
-use Rattle.taf.specs.declared.forecast.Taf.{Taf}
-use Rattle.taf.specs.declared.forecast.TafState.TheVariants.{Normal, Nil, Cancelled}
-use Rattle.taf.specs.Words.{change_of}
+use Rattle.metar.specs.declared.change.Change.{Change}
+use Rattle.metar.specs.declared.change.Change.TheVariants.{At, During, Chance}
+use Rattle.metar.specs.declared.forecast.Part.{Part}
+use Rattle.metar.specs.declared.forecast.PartKind.{PartKind}
+use Rattle.metar.specs.declared.forecast.PartKind.TheVariants.{Base, From, Prob}
+use Rattle.metar.specs.declared.forecast.Taf.{Taf}
+use Rattle.metar.specs.declared.forecast.TafState.TheVariants.{Normal, Nil, Cancelled}
+use Rattle.metar.specs.Words.{change_of}
 
 -- a word in front of the station
 pub data IsModifier : List ℕ → Type 0 where

@@ -1,9 +1,9 @@
 -- Laws on the parts of a forecast.
 use Rattle.std.proofs.Common.{◌≡◌, ℕ, ◌+◌, false, List, [], ◌∷◌, ◌++◌, map, Option, None, Some, Result, Ok, Err, refl, ap, sym, append_assoc}
-use Rattle.taf.specs.declared.forecast.Part.{Part}
-use Rattle.taf.specs.declared.change.Change.{Change}
-use Rattle.taf.specs.Words.{is_remarks, change_after}
-use Rattle.taf.specs.Parts.{◌>>=◌, Turn, turns, noted, all_or_fault, part_at, part_of_turn, parts_of, onto, and_change}
+use Rattle.metar.specs.declared.forecast.Part.{Part}
+use Rattle.metar.specs.declared.change.Change.{Change}
+use Rattle.metar.specs.Words.{is_remarks, change_after}
+use Rattle.metar.specs.Parts.{◌>>=◌, Turn, turns, noted, all_or_fault, part_at, part_of_turn, parts_of, onto, and_change}
 
 onto_push : {A E : Type 0} (xs : List A) (x : A) (r : Result (List A) E) → onto xs (r >>= λ ys. Ok (x ∷ ys)) ≡ onto (xs ++ x ∷ []) r
 onto_push xs x (Ok ys) = ap Ok (sym (append_assoc xs (x ∷ []) ys))

@@ -8,12 +8,12 @@ use Rattle.codes.specs.Period.{end_of, numbered, period_due}
 use Rattle.codes.specs.declared.fault.Why.TheVariants.{BadPeriod}
 use Rattle.codes.specs.declared.fault.BadReport.{BadReport}
 use Rattle.codes.specs.declared.fault.Form.TheVariants.{Forecast}
-use Rattle.taf.specs.declared.forecast.Part.{Part}
-use Rattle.taf.specs.declared.forecast.PartKind.{PartKind}
-use Rattle.taf.specs.declared.forecast.PartKind.TheVariants.{Base, From, Prob}
-use Rattle.taf.specs.declared.change.Change.{Change}
-use Rattle.taf.specs.declared.change.Change.TheVariants.{At, During, Chance, Misshaped}
-use Rattle.taf.specs.Words.{is_remarks, is_tempo, change_of, change_after}
+use Rattle.metar.specs.declared.forecast.Part.{Part}
+use Rattle.metar.specs.declared.forecast.PartKind.{PartKind}
+use Rattle.metar.specs.declared.forecast.PartKind.TheVariants.{Base, From, Prob}
+use Rattle.metar.specs.declared.change.Change.{Change}
+use Rattle.metar.specs.declared.change.Change.TheVariants.{At, During, Chance, Misshaped}
+use Rattle.metar.specs.Words.{is_remarks, is_tempo, change_of, change_after}
 
 infixl 10 ◌>>=◌
 -- the next step, where the one before it met no fault

@@ -17,9 +17,9 @@ use Rattle.codes.proofs.WordLaws.{has_decides}
 use Rattle.codes.proofs.ShapedLaws.{each_is_shaped}
 use Rattle.metar.specs.declared.metar.Metar.{Metar}
 use Rattle.metar.specs.declared.metar.Head.{Head}
-use Rattle.metar.specs.Reading.{is_speci, is_cor, is_nil, after, after_word, after_words, is_report_word, ends_body, body_length, body_of, has, number_of, nil_report, report_with, with_stretch, after_time, observed_at, after_station, at_station, from_station, reading}
-use Rattle.metar.specs.Report as report
-use Rattle.metar.specs.Report.{IsReportWord, unnamed, metar, speci, IsCorrection, uncorrected, corrected, EndsBody, remarks, no_change, temporary, becoming, FollowsBody, IsBodyOf, SaysBody, SaysNone, SaysAfterTime, ReadsMetar}
+use Rattle.metar.specs.MetarReading.{is_speci, is_cor, is_nil, after, after_word, after_words, is_report_word, ends_body, body_length, body_of, has, number_of, nil_report, report_with, with_stretch, after_time, observed_at, after_station, at_station, from_station, reading}
+use Rattle.metar.specs.MetarReport as report
+use Rattle.metar.specs.MetarReport.{IsReportWord, unnamed, metar, speci, IsCorrection, uncorrected, corrected, EndsBody, remarks, no_change, temporary, becoming, FollowsBody, IsBodyOf, SaysBody, SaysNone, SaysAfterTime, ReadsMetar}
 use Rattle.desk_io.proofs.Bytes.{same_bytes}
 use Rattle.codes.proofs.LengthLaws.{station_length}
 

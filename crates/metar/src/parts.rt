@@ -1,7 +1,7 @@
 ghost use Rattle.std.specs.Prelude.{◌≡◌, ◌≤◌, ◌<◌, ◌+◌, ◌^◌, [], drop, length, All, IfOk};
-ghost use Rattle.taf.specs.Parts as spec;
+ghost use Rattle.metar.specs.Parts as spec;
 ghost use Rattle.codes.specs.Answers.{Answers};
-ghost use Rattle.taf.specs.Parts.{HasMoments, onto};
+ghost use Rattle.metar.specs.Parts.{HasMoments, onto};
 ghost use Rattle.desk_time.specs.Limits.{IsMoment};
 
 use crate::change::{Change, change_after, change_of, is_remarks, is_tempo};

@@ -10,17 +10,17 @@ use Rattle.codes.specs.declared.cond.Cond.{Cond}
 use Rattle.codes.specs.declared.fault.BadReport.{BadReport}
 use Rattle.codes.specs.declared.fault.ReportFault.{ReportFault}
 use Rattle.codes.specs.declared.fault.Form.TheVariants.{Forecast}
-use Rattle.taf.specs.declared.change.Change.{Change}
-use Rattle.taf.specs.declared.change.Change.TheVariants.{At, During, Chance, Misshaped}
-use Rattle.taf.specs.declared.forecast.Part.{Part}
-use Rattle.taf.specs.declared.forecast.PartKind.{PartKind}
-use Rattle.taf.specs.declared.forecast.PartKind.TheVariants.{Base, From, Becoming, Tempo, Prob}
-use Rattle.taf.specs.declared.forecast.Taf.{Taf}
-use Rattle.taf.specs.declared.forecast.TafState.TheVariants.{Normal, Nil, Cancelled}
-use Rattle.taf.specs.declared.reader.Head.{Head}
-use Rattle.taf.specs.Words.{is_remarks, is_tempo, is_cancelled, is_nil, moment_word, chance_word, period_word, other_word, change_of, is_chance, change_after}
-use Rattle.taf.specs.Parts.{◌>>=◌, Turn, turns, noted, all_or_fault, stretch, part_of, part_during, part_at, part_of_turn, parts_of, IsChange}
-use Rattle.taf.specs.Reading.{station_due, time_due, head_of, forecast, with_parts, after_validity, after_time, after_station, after_modifiers, modifier_count, reading, AreParts}
+use Rattle.metar.specs.declared.change.Change.{Change}
+use Rattle.metar.specs.declared.change.Change.TheVariants.{At, During, Chance, Misshaped}
+use Rattle.metar.specs.declared.forecast.Part.{Part}
+use Rattle.metar.specs.declared.forecast.PartKind.{PartKind}
+use Rattle.metar.specs.declared.forecast.PartKind.TheVariants.{Base, From, Becoming, Tempo, Prob}
+use Rattle.metar.specs.declared.forecast.Taf.{Taf}
+use Rattle.metar.specs.declared.forecast.TafState.TheVariants.{Normal, Nil, Cancelled}
+use Rattle.metar.specs.declared.reader.Head.{Head}
+use Rattle.metar.specs.Words.{is_remarks, is_tempo, is_cancelled, is_nil, moment_word, chance_word, period_word, other_word, change_of, is_chance, change_after}
+use Rattle.metar.specs.Parts.{◌>>=◌, Turn, turns, noted, all_or_fault, stretch, part_of, part_during, part_at, part_of_turn, parts_of, IsChange}
+use Rattle.metar.specs.TafReading.{station_due, time_due, head_of, forecast, with_parts, after_validity, after_time, after_station, after_modifiers, modifier_count, reading, AreParts}
 
 -- what a chain answered was answered at each step
 pub record Steps {A B E : Type 0} (r : Result A E) (f : A → Result B E) (b : B) : Type 0 where

@@ -1,6 +1,6 @@
 use Rattle.std.proofs.Common.{◌≡◌, ◌+◌, [], length, All}
-use Rattle.taf.specs.Parts.{HasMoments, onto, parts_of}
-use Rattle.taf.proofs.parts.with_parts.Given as goal
+use Rattle.metar.specs.Parts.{HasMoments, onto, parts_of}
+use Rattle.metar.proofs.parts.with_parts.Given as goal
 
 abbrev pub invariant-loop-rest : goal.invariant-loop-rest
 invariant-loop-rest l = record {

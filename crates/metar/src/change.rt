@@ -1,6 +1,6 @@
 ghost use Rattle.std.specs.Prelude.{◌≡◌};
-ghost use Rattle.taf.specs.Words as spec;
-ghost use Rattle.taf.specs.Words.{change_of};
+ghost use Rattle.metar.specs.Words as spec;
+ghost use Rattle.metar.specs.Words.{change_of};
 
 use crate::forecast::PartKind;
 use desk_time::digit;

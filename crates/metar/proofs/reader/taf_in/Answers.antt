@@ -1,6 +1,6 @@
-use Rattle.taf.proofs.ForecastLaws.{answer_has}
-use Rattle.taf.proofs.ReportLaws.{answer_reads, said_is_answered}
-use Rattle.taf.proofs.reader.taf_in.Goals as goal
+use Rattle.metar.proofs.ForecastLaws.{answer_has}
+use Rattle.metar.proofs.TafLaws.{answer_reads, said_is_answered}
+use Rattle.metar.proofs.reader.taf_in.Goals as goal
 
 -- a base and changes, or no parts
 pub returns-clause-parts : goal.returns-clause-parts

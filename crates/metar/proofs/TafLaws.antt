@@ -20,20 +20,20 @@ use Rattle.codes.specs.declared.fault.Why.TheVariants.{BadPeriod}
 use Rattle.codes.specs.declared.fault.BadReport.{BadReport}
 use Rattle.codes.specs.declared.fault.ReportFault.{ReportFault}
 use Rattle.codes.specs.declared.fault.Form.TheVariants.{Forecast}
-use Rattle.taf.specs.declared.change.Change.{Change}
-use Rattle.taf.specs.declared.change.Change.TheVariants.{At, During, Chance, Misshaped}
-use Rattle.taf.specs.declared.forecast.Part.{Part}
-use Rattle.taf.specs.declared.forecast.PartKind.{PartKind}
-use Rattle.taf.specs.declared.forecast.PartKind.TheVariants.{Base, From, Prob}
-use Rattle.taf.specs.declared.forecast.Taf.{Taf}
-use Rattle.taf.specs.declared.forecast.TafState.TheVariants.{Normal, Nil, Cancelled}
-use Rattle.taf.specs.declared.reader.Head.{Head}
-use Rattle.taf.specs.Words.{is_amended, is_corrected, is_modifier, is_remarks, is_tempo, is_cancelled, is_nil, change_of, is_chance, change_after}
-use Rattle.taf.specs.Parts.{◌>>=◌, turns, noted, all_or_fault, ends_stretch, stretch, part_of, part_during, part_from, part_at, part_of_turn, parts_of}
-use Rattle.taf.specs.Reading.{station_or_not, head_of, are_amended, are_corrected, forecast, with_parts, after_validity, after_time, after_station, after_modifiers, modifier_count, reading}
-use Rattle.taf.specs.Forecast as report
-use Rattle.taf.specs.Forecast.{IsModifier, EndsStretch, SaysPart, SaysChanges, SaysParts, SaysNone, SaysAfterTime, ReadsTaf}
-use Rattle.taf.proofs.ForecastLaws.{steps, inner, part_is, made, if_answered}
+use Rattle.metar.specs.declared.change.Change.{Change}
+use Rattle.metar.specs.declared.change.Change.TheVariants.{At, During, Chance, Misshaped}
+use Rattle.metar.specs.declared.forecast.Part.{Part}
+use Rattle.metar.specs.declared.forecast.PartKind.{PartKind}
+use Rattle.metar.specs.declared.forecast.PartKind.TheVariants.{Base, From, Prob}
+use Rattle.metar.specs.declared.forecast.Taf.{Taf}
+use Rattle.metar.specs.declared.forecast.TafState.TheVariants.{Normal, Nil, Cancelled}
+use Rattle.metar.specs.declared.reader.Head.{Head}
+use Rattle.metar.specs.Words.{is_amended, is_corrected, is_modifier, is_remarks, is_tempo, is_cancelled, is_nil, change_of, is_chance, change_after}
+use Rattle.metar.specs.Parts.{◌>>=◌, turns, noted, all_or_fault, ends_stretch, stretch, part_of, part_during, part_from, part_at, part_of_turn, parts_of}
+use Rattle.metar.specs.TafReading.{station_or_not, head_of, are_amended, are_corrected, forecast, with_parts, after_validity, after_time, after_station, after_modifiers, modifier_count, reading}
+use Rattle.metar.specs.Forecast as report
+use Rattle.metar.specs.Forecast.{IsModifier, EndsStretch, SaysPart, SaysChanges, SaysParts, SaysNone, SaysAfterTime, ReadsTaf}
+use Rattle.metar.proofs.ForecastLaws.{steps, inner, part_is, made, if_answered}
 use Rattle.desk_io.proofs.Bytes.{same_bytes}
 use Rattle.codes.proofs.ShapedLaws.{no_fault_or}
 use Rattle.codes.proofs.LengthLaws.{station_length}

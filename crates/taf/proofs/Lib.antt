@@ -1,4 +1,0 @@
-pub mod PartLaws
-pub mod Crossing
-pub mod ForecastLaws
-pub mod ReportLaws
