@@ -1,0 +1,17 @@
+pub mod Puts
+pub mod Lists
+pub mod Joined
+pub mod DigestLaws
+pub mod Texts
+pub mod DoneForms
+pub mod Again
+pub mod TextsAgain
+pub mod Whole
+pub mod Compact
+pub mod Plain
+pub mod MomentRange
+pub mod PlanForms
+pub mod AskForms
+pub mod ValueTexts
+pub mod DocumentTexts
+pub mod Printable

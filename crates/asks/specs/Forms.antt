@@ -1,75 +1,184 @@
--- What holds of calls that are made and of replies that are written.
-use Rattle.std.specs.Prelude.{ℕ, ◌≤◌}
-use Rattle.plan.specs.Check.{IsPlan}
+-- The forms of what is called and kept: of numbers and texts, of plans and asks, of what was done, and of releases, findings and floors.
+use Rattle.std.specs.Prelude.{◌≡◌, ℕ, ◌≤◌, true, List, [], ◌∷◌, length, Option, None, Some, IfSome, IsUtf8}
+use Rattle.std.specs.List.{AllByRecursion}
+use Rattle.std.specs.Ordering.{nat_cmp}
+use Rattle.std.specs.declared.cmp.Ordering.TheVariants.{Less}
+use Rattle.std.specs.Cmp.Lexicographic.{slice_cmp}
+use Rattle.desk_io.specs.Station.{is_station}
+use Rattle.ops_tables.specs.Forms.{is_person}
 use Rattle.plan.specs.Texts.{HasMoment}
 use Rattle.desk_time.specs.Limits.{IsMoment}
+use Rattle.plan.specs.declared.findings.Finding.{Finding}
+use Rattle.plan.specs.declared.flights.Alternate.{Alternate}
+use Rattle.plan.specs.declared.flights.TakeoffAlternate.{TakeoffAlternate}
+use Rattle.plan.specs.declared.flights.Leg.{Leg}
+use Rattle.plan.specs.declared.flights.Plan.{Plan}
+use Rattle.plan.specs.declared.release.Attached.{Attached}
+use Rattle.plan.specs.declared.release.Release.{Release as ReleaseOf}
+use Rattle.plan.specs.declared.release.Revision.{Revision}
+use Rattle.plan.specs.declared.release.Signature.{Signature}
+use Rattle.asks.specs.declared.call.Call.{Call}
 use Rattle.asks.specs.declared.call.Ask.{Ask}
-use Rattle.asks.specs.declared.call.Ask.TheVariants as ask
-use Rattle.asks.specs.declared.reply.Reply.{Reply}
-use Rattle.asks.specs.declared.reply.Reply.TheVariants.{Done, Seen, Refused}
-use Rattle.asks.specs.declared.reply.Refusal.{Refusal}
-use Rattle.asks.specs.declared.reply.Refusal.TheVariants.{UnknownActor, WrongKey, NotYourRole, NumberReused, BadReport, DayOutOfReach, ReportsFull, UnknownTail, NoSuchDeferral, NoSuchRelease, NotYours, BadPlan, NotPending, WrongRevision, WrongText, WeatherNewer, RuleFails, WrongPhase, AlreadySigned, NoSuchAlert, AlertMoved, TooYoung, ReleasesFull, HistoryFull, NoSuchStation, Unkept, NumberSwept, UnknownItem, BadFound, DeferralsFull}
+use Rattle.asks.specs.declared.call.Ask.TheVariants.{Admit, Defer, Clear, Draft, Prepare, Sign, Concur, Amend, Cancel, Depart, Arrive, Acknowledge, Purge, Sweep, ViewBoard, ViewAlerts, ViewRelease, ViewWeather, ViewDeferred}
+use Rattle.asks.specs.declared.kept.Floor.{Floor}
+use Rattle.asks.specs.declared.reply.Done.{Done}
+use Rattle.asks.specs.declared.reply.Done.TheVariants.{Report, Deferral, Filed, Prepared, Release, Swept}
+use Rattle.asks.specs.declared.plans.Form.TheVariants.{Flight, Tail, Captain}
+use Rattle.asks.specs.Digests.{IsDigest}
+use Rattle.asks.specs.Plans.{has_form}
 
--- a call whose plan has at most 1,000 legs, and whose moments are such as can be read
-abbrev pub IsCall : Ask → Type 0
-IsCall (ask.Admit text) = Unit {0}
-IsCall (ask.Defer tail item found) = IsMoment found
-IsCall (ask.Clear deferral) = Unit {0}
-IsCall (ask.Draft plan) = IsPlan plan
-IsCall (ask.Prepare release) = Unit {0}
-IsCall (ask.Sign release revision digest) = Unit {0}
-IsCall (ask.Concur release revision digest) = Unit {0}
-IsCall (ask.Amend release plan) = IsPlan plan
-IsCall (ask.Cancel release) = Unit {0}
-IsCall (ask.Depart release leg) = Unit {0}
-IsCall (ask.Arrive release leg) = Unit {0}
-IsCall (ask.Acknowledge release version) = Unit {0}
-IsCall (ask.Purge release) = Unit {0}
-IsCall (ask.Sweep before) = IsMoment before
-IsCall ask.ViewBoard = Unit {0}
-IsCall ask.ViewAlerts = Unit {0}
-IsCall (ask.ViewRelease release) = Unit {0}
-IsCall (ask.ViewWeather station) = Unit {0}
-IsCall (ask.ViewDeferred tail) = Unit {0}
+-- a number of 32 bits
+abbrev pub IsAmount : ℕ → Type 0
+IsAmount n = n ≤ 4_294_967_295
 
--- a moment that has a text: until some fourteen months after the last that can be read
-abbrev pub CanBeShown : ℕ → Type 0
-CanBeShown at = (15_778_080 ≤ at) × (at ≤ 69_000_000)
+abbrev pub IsId : ℕ → Type 0
+IsId n = n ≤ 1_000_000_000_000_000
 
--- the moment that a refusal names can be shown
-abbrev pub RefusalHasMoment : Refusal → Type 0
-RefusalHasMoment UnknownActor = Unit {0}
-RefusalHasMoment WrongKey = Unit {0}
-RefusalHasMoment NotYourRole = Unit {0}
-RefusalHasMoment (NumberReused kept) = Unit {0}
-RefusalHasMoment (BadReport group what) = Unit {0}
-RefusalHasMoment (DayOutOfReach group) = Unit {0}
-RefusalHasMoment (ReportsFull held) = Unit {0}
-RefusalHasMoment UnknownTail = Unit {0}
-RefusalHasMoment NoSuchDeferral = Unit {0}
-RefusalHasMoment NoSuchRelease = Unit {0}
-RefusalHasMoment (NotYours holder) = Unit {0}
-RefusalHasMoment (BadPlan leg what) = Unit {0}
-RefusalHasMoment (NotPending stage) = Unit {0}
-RefusalHasMoment (WrongRevision current) = Unit {0}
-RefusalHasMoment (WrongText digest) = Unit {0}
-RefusalHasMoment (WeatherNewer report) = Unit {0}
-RefusalHasMoment (RuleFails findings) = Unit {0}
-RefusalHasMoment (WrongPhase phase) = HasMoment phase
-RefusalHasMoment AlreadySigned = Unit {0}
-RefusalHasMoment NoSuchAlert = Unit {0}
-RefusalHasMoment (AlertMoved version) = Unit {0}
-RefusalHasMoment (TooYoung until) = CanBeShown until
-RefusalHasMoment (ReleasesFull held) = Unit {0}
-RefusalHasMoment (HistoryFull entries kept events) = Unit {0}
-RefusalHasMoment NoSuchStation = Unit {0}
-RefusalHasMoment (Unkept faults) = Unit {0}
-RefusalHasMoment (NumberSwept floor) = Unit {0}
-RefusalHasMoment UnknownItem = Unit {0}
-RefusalHasMoment (BadFound moment) = CanBeShown moment
-RefusalHasMoment (DeferralsFull held) = Unit {0}
+-- a text of at most 64 bytes
+pub record IsShort (t : List ℕ) : Type 0 where
+  pub text : IsUtf8 t
+  pub few : length t ≤ 64
 
-abbrev pub ReplyHasMoment : Reply → Type 0
-ReplyHasMoment (Done done) = Unit {0}
-ReplyHasMoment (Seen text) = Unit {0}
-ReplyHasMoment (Refused refusal) = RefusalHasMoment refusal
+-- an alternate whose fields have their forms
+pub record IsAlternate (a : Alternate) : Type 0 where
+  pub station : is_station a.station ≡ true
+  pub minutes : IsAmount a.minutes
+  pub fuel : IsAmount a.fuel
+
+pub record IsTakeoff (t : TakeoffAlternate) : Type 0 where
+  pub station : is_station t.station ≡ true
+  pub minutes : IsAmount t.minutes
+
+abbrev pub MayBeTakeoff : Option TakeoffAlternate → Type 0
+MayBeTakeoff None = Unit {0}
+MayBeTakeoff (Some t) = IsTakeoff t
+
+-- a leg whose fields have their forms
+pub record IsLeg (l : Leg) : Type 0 where
+  pub from : is_station l.from ≡ true
+  pub to : is_station l.to ≡ true
+  pub etd : IsMoment l.etd
+  pub eta : IsMoment l.eta
+  pub minutes : IsAmount l.minutes
+  pub burn : IsAmount l.burn
+  pub extra : IsAmount l.extra
+  pub minimum : IsAmount l.minimum
+  pub onboard : IsAmount l.onboard
+  pub takeoff : MayBeTakeoff l.takeoff_alternate
+  pub alternates : AllByRecursion IsAlternate l.alternates
+
+-- a plan whose fields have their forms
+pub record HasForms (p : Plan) : Type 0 where
+  pub flight : has_form Flight p.flight ≡ true
+  pub tail : has_form Tail p.tail ≡ true
+  pub captain : has_form Captain p.captain ≡ true
+  pub few : length p.legs ≤ 1000
+  pub legs : AllByRecursion IsLeg p.legs
+
+-- an ask whose fields have their forms
+abbrev pub AskHasForms : Ask → Type 0
+AskHasForms (Admit text) = IsUtf8 text
+AskHasForms (Defer tail item found) = IsShort tail × IsShort item × IsMoment found
+AskHasForms (Clear deferral) = IsId deferral
+AskHasForms (Draft plan) = HasForms plan
+AskHasForms (Prepare release) = IsId release
+AskHasForms (Sign release revision digest) = IsId release × IsId revision × IsDigest digest
+AskHasForms (Concur release revision digest) = IsId release × IsId revision × IsDigest digest
+AskHasForms (Amend release plan) = IsId release × HasForms plan
+AskHasForms (Cancel release) = IsId release
+AskHasForms (Depart release leg) = IsId release × IsAmount leg
+AskHasForms (Arrive release leg) = IsId release × IsAmount leg
+AskHasForms (Acknowledge release version) = IsId release × IsId version
+AskHasForms (Purge release) = IsId release
+AskHasForms (Sweep before) = IsMoment before
+AskHasForms ViewBoard = Unit {0}
+AskHasForms ViewAlerts = Unit {0}
+AskHasForms (ViewRelease release) = IsId release
+AskHasForms (ViewWeather station) = is_station station ≡ true
+AskHasForms (ViewDeferred tail) = IsShort tail
+
+-- a call whose fields have their forms
+pub record CallHasForms (c : Call) : Type 0 where
+  pub actor : IsShort c.actor
+  pub key : IsShort c.key
+  pub number : c.number ≤ 1_000_000_000_000
+  pub ask : AskHasForms c.ask
+
+-- What was done, with its digest in its form: ids and numbers of revisions are within one limit, counts within another.
+abbrev pub DoneWithin : ℕ → ℕ → Done → Type 0
+DoneWithin ids counts (Report id) = id ≤ ids
+DoneWithin ids counts (Deferral id) = id ≤ ids
+DoneWithin ids counts (Filed release revision) = (release ≤ ids) × (revision ≤ ids)
+DoneWithin ids counts (Prepared release revision digest) = (release ≤ ids) × (revision ≤ ids) × IsDigest digest
+DoneWithin ids counts (Release id) = id ≤ ids
+DoneWithin ids counts (Swept reports kept) = (reports ≤ counts) × (kept ≤ counts)
+
+-- as it is kept
+abbrev pub DoneHasForms : Done → Type 0
+DoneHasForms done = DoneWithin 1_000_000_000_000_000 4_294_967_295 done
+
+-- as a reply may say it: numbers of 64 bits
+abbrev pub SaidDoneHasForms : Done → Type 0
+SaidDoneHasForms done = DoneWithin 18_446_744_073_709_551_615 18_446_744_073_709_551_615 done
+
+-- ---- releases
+
+-- an attached report: its number, and any text
+pub record IsAttached (a : Attached) : Type 0 where
+  pub report : IsId a.report
+  pub text : IsUtf8 a.text
+
+-- a signature: a person's name, a moment, a digest
+pub record IsSignature (s : Signature) : Type 0 where
+  pub actor : is_person s.actor ≡ true
+  pub at : IsMoment s.at
+  pub digest : IsDigest s.digest
+
+-- the hours of a captain
+abbrev pub IsHours : ℕ → Type 0
+IsHours n = n ≤ 100_000
+
+-- a revision whose fields have their forms
+pub record IsRevision (v : Revision) : Type 0 where
+  pub number : IsId v.number
+  pub plan : HasForms v.plan
+  pub attached : AllByRecursion IsAttached v.attached
+  pub dispatcher : IfSome v.dispatcher IsSignature
+  pub captain : IfSome v.captain IsSignature
+  pub hours : IfSome v.hours IsHours
+
+-- a release whose fields have their forms
+pub record IsFormed (r : ReleaseOf) : Type 0 where
+  pub holder : is_person r.holder ≡ true
+  pub moment : HasMoment r.phase
+  pub pending : IfSome r.pending IsRevision
+  pub active : IfSome r.active IsRevision
+
+-- ---- findings and floors
+
+-- a finding whose leg is a number of 32 bits, and whose place has a limit
+pub record FindingWithin (places : ℕ) (f : Finding) : Type 0 where
+  pub leg : IsAmount f.leg
+  pub place : f.place ≤ places
+
+-- as it is kept
+abbrev pub IsFinding : Finding → Type 0
+IsFinding f = FindingWithin 1_000_000_000_000_000 f
+
+-- as a reply may say it
+abbrev pub IsSaidFinding : Finding → Type 0
+IsSaidFinding f = FindingWithin 18_446_744_073_709_551_615 f
+
+-- the number of a request
+abbrev pub IsRequest : ℕ → Type 0
+IsRequest n = n ≤ 1_000_000_000_000
+
+-- the name of a person and the number of a request
+pub record IsFloor (f : Floor) : Type 0 where
+  pub actor : is_person f.actor ≡ true
+  pub number : IsRequest f.number
+
+-- names in byte order, each once
+abbrev pub FloorsRise : List Floor → Type 0
+FloorsRise [] = Unit {0}
+FloorsRise (f ∷ fs) = AllByRecursion (λ (g : Floor). slice_cmp nat_cmp f.actor g.actor ≡ Less) fs × FloorsRise fs

@@ -2,7 +2,7 @@
 use Rattle.std.proofs.Common.{◌≡◌, ℕ, ◌+◌, ◌≤◌, Ok, ap, sym, ◌∙◌, subst, arith}
 use Rattle.asks.specs.declared.call.Call.{Call}
 use Rattle.asks.specs.declared.reply.Done.{Done}
-use Rattle.call_json.specs.Forms.{CallHasForms}
+use Rattle.asks.specs.Forms.{CallHasForms}
 use Rattle.desk_state.specs.Allowed.{DecisionOf}
 use Rattle.desk_state.specs.Counting.{count_touched, most_judged, to_decide}
 use Rattle.desk_state.specs.Decide.{decide}

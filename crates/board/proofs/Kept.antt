@@ -4,8 +4,8 @@ use Rattle.alerts.specs.declared.alert.Alert.{Alert}
 use Rattle.asks.specs.declared.call.Call.{Call}
 use Rattle.asks.specs.declared.reply.Done.{Done}
 use Rattle.asks.specs.declared.reply.Reply.{Reply}
-use Rattle.asks.specs.Forms.{ReplyHasMoment}
-use Rattle.call_json.specs.Forms.{CallHasForms}
+use Rattle.asks.specs.Ranges.{ReplyHasMoment}
+use Rattle.asks.specs.Forms.{CallHasForms}
 use Rattle.asks.specs.declared.kept.KeptReply.{KeptReply}
 use Rattle.std.specs.Prelude.{option_to_list}
 use Rattle.desk_state.specs.declared.entry.Entry.{Entry}

@@ -2,7 +2,7 @@
 use Rattle.std.proofs.Common.{◌≡◌, sym, subst, ℕ, ◌+◌, ◌<◌, ◌≤◌, List, [], ◌∷◌, arith, Option, None, Some, IfSome}
 use Rattle.std.specs.List.{All, AllByRecursion}
 use Rattle.std.proofs.lemmas.List.Elements.{All-from_recursion}
-use Rattle.call_json.specs.Forms.{FloorsRise}
+use Rattle.asks.specs.Forms.{FloorsRise}
 use Rattle.deferrals.specs.declared.items.Deferral.{Deferral}
 use Rattle.facts.specs.Reading.{IsRead}
 use Rattle.facts.specs.declared.report.Report.{Report}

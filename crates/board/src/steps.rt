@@ -8,7 +8,7 @@ ghost use Rattle.desk_state.specs.State.{is_full, is_full_for};
 ghost use Rattle.desk_state.specs.Step as step;
 ghost use Rattle.desk_state.specs.Step.{do_call, answer_call, tick_to};
 ghost use Rattle.desk_state.specs.Sound.{IsLater, EffectFits, Sound};
-ghost use Rattle.call_json.specs.Forms.{CallHasForms};
+ghost use Rattle.asks.specs.Forms.{CallHasForms};
 ghost use Rattle.desk_state.specs.Holds.{Holds};
 ghost use Rattle.desk_state.specs.Install.{MayBeMade, room_of, with_events};
 ghost use Rattle.kept_state.specs.Changes as kept_rows;
@@ -18,8 +18,7 @@ ghost use Rattle.board.specs.Prepare.{IsStepped, MayInstall, KeepsRows, IsRecord
 use crate::prepared::Prepared;
 use alert_judging::{notices_of, touched_changes};
 use alerts::Notices;
-use asks::{Call, Done, KeptReply, Refusal, Reply};
-use call_json::ask_digest;
+use asks::{Call, Done, KeptReply, Refusal, Reply, ask_digest};
 use decisions::{Stop, decide, mistaken};
 use desk_io::{Change, Copied, OutOfMemory, Text};
 use desk_state::{AlertChange, Alerted, Content, Decision, Effect, Entry, Event, What};
@@ -84,7 +83,7 @@ fn moment_after(content: &Content, effect: &Effect) -> Minute
     }
 }
 
-#[tactic(auto, using(call_json::proofs::AskForms::call_from_forms))]
+#[tactic(auto, using(asks::proofs::AskForms::call_from_forms))]
 fn kept_reply(
     alloc: Global,
     content: &Content,

@@ -9,7 +9,7 @@ use Rattle.std.proofs.lemmas.Cmp.{nat_list_cmp_total, alike_right}
 use Rattle.std.proofs.lemmas.List.{set_split, drop_more}
 use Rattle.asks.specs.declared.kept.Floor.{Floor}
 use Rattle.asks.specs.declared.kept.KeptReply.{KeptReply}
-use Rattle.call_json.specs.Forms.{FloorsRise}
+use Rattle.asks.specs.Forms.{FloorsRise}
 use Rattle.kept_replies.proofs.FloorLaws.{floors_compare}
 use Rattle.desk_state.proofs.FloorForms.{raised_rise}
 use Rattle.desk_state.specs.Requests.{floor, raised_to, raised_by, kept_before, is_since}

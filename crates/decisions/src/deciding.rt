@@ -1,5 +1,5 @@
 ghost use Rattle.std.specs.Prelude.{◌≡◌, ◌≤◌, ◌+◌, false, IfOk};
-ghost use Rattle.asks.specs.Forms.{IsCall};
+ghost use Rattle.asks.specs.Ranges.{IsCall};
 ghost use Rattle.desk_state.specs.Counting.{to_decide};
 ghost use Rattle.desk_state.specs.Decide as spec;
 ghost use Rattle.desk_state.specs.Decide.{decide};
@@ -18,8 +18,7 @@ use crate::retention::purge;
 use crate::shown::{view_alerts, view_board, view_release};
 use crate::signatures::{concur, sign};
 use crate::sweeps::sweep;
-use asks::{Ask, Call};
-use call_json::ask_digest;
+use asks::{Ask, Call, ask_digest};
 use desk_state::{Content, Decision};
 use rules::Steps;
 use std::alloc::Global;

@@ -1,7 +1,7 @@
 ghost use Rattle.std.specs.Prelude.{◌≡◌, ◌+◌, ◌≤◌, ℕ, length, if◌then◌else◌, OnOk};
 ghost use Rattle.std.specs.Ordering.{nat_cmp};
 ghost use Rattle.std.specs.Cmp.Lexicographic.{slice_cmp};
-ghost use Rattle.call_json.specs.Forms.{FloorsRise};
+ghost use Rattle.asks.specs.Forms.{FloorsRise};
 ghost use Rattle.decisions.specs.Floors as spec;
 ghost use Rattle.desk_state.specs.Requests as requests;
 

@@ -1,6 +1,6 @@
 ghost use Rattle.std.specs.Prelude.{◌≡◌, ◌++◌, ◌∷◌, [], ℕ, length, IfOk, OnOk};
 ghost use Rattle.std.specs.List.Sorted.{IsNonDecreasing};
-ghost use Rattle.call_json.specs.Forms.{FloorsRise};
+ghost use Rattle.asks.specs.Forms.{FloorsRise};
 ghost use Rattle.desk_time.specs.Limits.{IsMoment};
 ghost use Rattle.desk_state.specs.Decide as spec;
 ghost use Rattle.desk_state.specs.Events as events;

@@ -1,5 +1,5 @@
 -- What holds of outcomes that are written.
-use Rattle.asks.specs.Forms.{ReplyHasMoment}
+use Rattle.asks.specs.Ranges.{ReplyHasMoment}
 use Rattle.desk_state.specs.declared.lanes.Outcome.{Outcome}
 use Rattle.desk_state.specs.declared.lanes.Said.{Said}
 use Rattle.desk_state.specs.declared.lanes.Said.TheVariants as said

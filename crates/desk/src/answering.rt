@@ -1,7 +1,7 @@
 ghost use Rattle.std.specs.Prelude.{◌≡◌, ◌<◌, ◌≤◌, ◌+◌, [], ◌∷◌, None, Some, false, true, is_some, IfOk, IfSome, OnErr};
-ghost use Rattle.asks.specs.Forms.{ReplyHasMoment};
+ghost use Rattle.asks.specs.Ranges.{ReplyHasMoment};
 ghost use Rattle.asks.specs.declared.kept.KeptReply.{KeptReply as AKept};
-ghost use Rattle.call_json.specs.Forms.{CallHasForms};
+ghost use Rattle.asks.specs.Forms.{CallHasForms};
 ghost use Rattle.desk_io.specs.Health.{IsSound, IsStill};
 ghost use Rattle.desk_state.specs.Counting.{most_judged, most_ticked};
 ghost use Rattle.desk_state.specs.Lanes as lanes;

@@ -1,5 +1,5 @@
 ghost use Rattle.std.specs.Prelude.{◌≡◌, ◌≤◌, ◌++◌, length, ℕ, IfOk, OnOk, OnErr};
-ghost use Rattle.call_json.specs.Forms.{CallHasForms};
+ghost use Rattle.asks.specs.Forms.{CallHasForms};
 ghost use Rattle.desk.specs.InPart.{MayHaveBegun};
 ghost use Rattle.desk.specs.Keeping.{AreGiven};
 ghost use Rattle.desk.specs.Made as spec;

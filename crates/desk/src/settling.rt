@@ -1,5 +1,5 @@
 ghost use Rattle.std.specs.Prelude.{◌≡◌, ◌≤◌, [], None, Some, false, is_some, IfOk, IfSome, OnErr};
-ghost use Rattle.asks.specs.Forms.{ReplyHasMoment};
+ghost use Rattle.asks.specs.Ranges.{ReplyHasMoment};
 ghost use Rattle.bells.specs.Ringing.{AreRung, hung_all};
 ghost use Rattle.board.specs.Prepare.{KeepsRows, installed};
 ghost use Rattle.desk_io.specs.Planned.{after};

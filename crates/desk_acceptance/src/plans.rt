@@ -1,7 +1,7 @@
 ghost use Rattle.std.specs.Prelude.{IfOk, IfSome};
 ghost use Rattle.plan.specs.Check.{IsPlan};
 
-use call_json::{document_of, plan_text, read_plan};
+use asks::{document_of, plan_text, read_plan};
 use desk_io::OutOfMemory;
 use plan::Plan;
 use std::alloc::Global;

@@ -7,10 +7,10 @@ use Rattle.desk_time.specs.Limits.{IsMoment}
 use Rattle.asks.specs.declared.call.Call.{Call}
 use Rattle.asks.specs.declared.call.Ask.{Ask}
 use Rattle.asks.specs.declared.call.Ask.TheVariants.{Admit, Defer, Clear, Draft, Prepare, Sign, Concur, Amend, Cancel, Depart, Arrive, Acknowledge, Purge, Sweep, ViewBoard, ViewAlerts, ViewRelease, ViewWeather, ViewDeferred}
-use Rattle.call_json.specs.Canonical.{ask_data}
-use Rattle.call_json.specs.Forms.{AskHasForms, CallHasForms}
-use Rattle.call_json.proofs.DigestLaws.{digest_again}
-use Rattle.call_json.proofs.Again.{small_again, amount_again, short_again, station_again, moment_again, id_again, plan_again}
+use Rattle.asks.specs.Canonical.{ask_data}
+use Rattle.asks.specs.Forms.{AskHasForms, CallHasForms}
+use Rattle.asks.proofs.DigestLaws.{digest_again}
+use Rattle.asks.proofs.Again.{small_again, amount_again, short_again, station_again, moment_again, id_again, plan_again}
 use Rattle.desk_json.specs.declared.bad_call.CallFault.{CallFault}
 use Rattle.desk_json.specs.Canonical.{line_data, posted_data, IsLineAgain, IsCallAgain}
 use Rattle.desk_json.specs.Faults.{ask_or_fault, call_in, line_in, read_as, call_or_fault, line_or_fault, Answers}

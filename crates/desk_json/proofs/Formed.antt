@@ -8,17 +8,17 @@ use Rattle.asks.specs.declared.call.Ask.{Ask}
 use Rattle.asks.specs.declared.call.Ask.TheVariants.{Prepare, Cancel, Purge, ViewRelease}
 use Rattle.asks.specs.declared.bad_call.BadCall.{BadCall}
 use Rattle.asks.specs.declared.call.Call.{Call}
-use Rattle.call_json.specs.Plain.{HasText}
-use Rattle.call_json.specs.Digests.{digest_at, IsDigest}
-use Rattle.call_json.specs.Plans.{plan_of}
-use Rattle.call_json.specs.Fields.{text_at, id_at, amount_at, short_at, station_at, moment_at}
-use Rattle.call_json.specs.Forms.{IsAmount, IsId, IsShort, HasForms, AskHasForms, CallHasForms}
+use Rattle.asks.specs.Plain.{HasText}
+use Rattle.asks.specs.Digests.{digest_at, IsDigest}
+use Rattle.asks.specs.Plans.{plan_of}
+use Rattle.asks.specs.Fields.{text_at, id_at, amount_at, short_at, station_at, moment_at}
+use Rattle.asks.specs.Forms.{IsAmount, IsId, IsShort, HasForms, AskHasForms, CallHasForms}
 use Rattle.desk_time.proofs.Chains.{then_if, under}
-use Rattle.call_json.proofs.PlanForms.{IsAirport, number_formed, id_formed, amount_formed, station_formed, moment_formed, plan_formed}
-use Rattle.call_json.proofs.DoneForms.{digest_is}
+use Rattle.asks.proofs.PlanForms.{IsAirport, number_formed, id_formed, amount_formed, station_formed, moment_formed, plan_formed}
+use Rattle.asks.proofs.DoneForms.{digest_is}
 use Rattle.compact_json.specs.Kept as kept
-use Rattle.call_json.proofs.DocumentTexts.{data_has_text}
-use Rattle.call_json.proofs.ValueTexts.{found_has_text, text_formed, short_formed}
+use Rattle.asks.proofs.DocumentTexts.{data_has_text}
+use Rattle.asks.proofs.ValueTexts.{found_has_text, text_formed, short_formed}
 use Rattle.desk_json.specs.declared.asked.Signed.{Signed}
 use Rattle.desk_json.specs.declared.asked.Flown.{Flown}
 use Rattle.desk_json.specs.declared.keys.AskKind.{AskKind}

@@ -6,7 +6,7 @@ use Rattle.serde_json.specs.Find.{get, as_object}
 use Rattle.asks.specs.declared.call.Ask.{Ask}
 use Rattle.asks.specs.declared.call.Call.{Call}
 use Rattle.asks.specs.declared.bad_call.BadCall.{BadCall}
-use Rattle.call_json.specs.Fields.{data_of, text_at, short_at, moment_at}
+use Rattle.asks.specs.Fields.{data_of, text_at, short_at, moment_at}
 use Rattle.desk_json.specs.declared.keys.AskKind.{AskKind}
 use Rattle.desk_json.specs.declared.keys.Object.TheVariants as object
 use Rattle.desk_json.specs.declared.bad_call.CallFault.{CallFault}

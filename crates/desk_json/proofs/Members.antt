@@ -7,7 +7,7 @@ use Rattle.std.proofs.lemmas.Map.Text.{is_eq-slice_cmp}
 use Rattle.std.proofs.lemmas.Slice.Eq.{bytes_eq-Decides}
 use Rattle.serde_json.specs.Data.{Data, null, boolean, number, string, array, object, Members, no_members, member}
 use Rattle.serde_json.specs.Find.{get_member}
-use Rattle.call_json.specs.Plain.{IsBefore, AreInOrder}
+use Rattle.asks.specs.Plain.{IsBefore, AreInOrder}
 use Rattle.desk_json.specs.declared.keys.Object.{Object}
 use Rattle.desk_json.specs.Keys.{is_key, first_extra, no_extra, only_keys}
 use Rattle.desk_json.specs.Calls.{HasOnly}

@@ -10,8 +10,8 @@ use Rattle.json.specs.Lex.{tokens}
 use Rattle.serde_json.specs.Data.{Data, null, boolean, number, string, array, object, Items, no_items, item, Members, no_members, member, put}
 use Rattle.serde_json.specs.Find.{get_member}
 use Rattle.serde_json.specs.Read.{max_depth, read, of_json, of_items, of_members, number_of}
-use Rattle.call_json.specs.Fields.{data_of}
-use Rattle.call_json.specs.Plain.{IsBefore, AreInOrder}
+use Rattle.asks.specs.Fields.{data_of}
+use Rattle.asks.specs.Plain.{IsBefore, AreInOrder}
 use Rattle.desk_time.proofs.Chains.{then_if, under, mapped}
 
 abbrev mutual

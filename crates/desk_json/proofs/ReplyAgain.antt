@@ -17,20 +17,20 @@ use Rattle.plan.specs.Texts.{finding_text, phase_text}
 use Rattle.plan.specs.declared.check.PlanWhy.{PlanWhy}
 use Rattle.plan.specs.declared.check.PlanWhy.TheVariants as plan_why
 use Rattle.plan.specs.declared.findings.Finding.{Finding}
-use Rattle.asks.specs.Forms.{CanBeShown}
+use Rattle.asks.specs.Ranges.{CanBeShown}
 use Rattle.asks.specs.declared.reply.Reply.{Reply}
 use Rattle.asks.specs.declared.reply.Reply.TheVariants.{Done, Seen, Refused}
 use Rattle.asks.specs.declared.reply.Refusal.{Refusal}
 use Rattle.asks.specs.declared.reply.Refusal.TheVariants.{UnknownActor, WrongKey, NotYourRole, NumberReused, BadReport, DayOutOfReach, ReportsFull, UnknownTail, NoSuchDeferral, NoSuchRelease, NotYours, BadPlan, NotPending, WrongRevision, WrongText, WeatherNewer, RuleFails, WrongPhase, AlreadySigned, NoSuchAlert, AlertMoved, TooYoung, ReleasesFull, HistoryFull, NoSuchStation, Unkept, NumberSwept, UnknownItem, BadFound, DeferralsFull}
-use Rattle.call_json.specs.Forms.{IsSaidFinding}
-use Rattle.call_json.specs.Fields.{data_of}
-use Rattle.call_json.specs.Plain.{IsPlain, HasText}
-use Rattle.call_json.proofs.Again.{small_again, amount_again, each_again, done_again}
+use Rattle.asks.specs.Forms.{IsSaidFinding}
+use Rattle.asks.specs.Fields.{data_of}
+use Rattle.asks.specs.Plain.{IsPlain, HasText}
+use Rattle.asks.proofs.Again.{small_again, amount_again, each_again, done_again}
 use Rattle.desk_time.proofs.Chains.{bind_any, under}
-use Rattle.call_json.proofs.Compact.{read_compact, utf8_compact}
-use Rattle.call_json.proofs.DigestLaws.{digest_again}
-use Rattle.call_json.proofs.Plain.{order_of, text_of, list_plain, list_has_text, list_depth, done_plain, done_has_text, done_depth, amount_plain}
-use Rattle.call_json.proofs.Texts.{written_utf8, moment_utf8, digest_utf8}
+use Rattle.asks.proofs.Compact.{read_compact, utf8_compact}
+use Rattle.asks.proofs.DigestLaws.{digest_again}
+use Rattle.asks.proofs.Plain.{order_of, text_of, list_plain, list_has_text, list_depth, done_plain, done_has_text, done_depth, amount_plain}
+use Rattle.asks.proofs.Texts.{written_utf8, moment_utf8, digest_utf8}
 use Rattle.kept_releases.proofs.FindingLaws.{finding_again, finding_utf8}
 use Rattle.kept_releases.proofs.ReleaseLaws.{phase_text_again}
 use Rattle.desk_json.specs.Replies.{why_name, plan_why_name, with_fields, refusal_members, refusal_data, reply_data, reply_text}

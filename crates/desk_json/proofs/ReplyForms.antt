@@ -8,23 +8,23 @@ use Rattle.serde_json.specs.Find.{get, as_str}
 use Rattle.desk_time.specs.Digits.{◌>>=◌}
 use Rattle.desk_time.specs.Limits.{last_moment, last_shown, IsMoment}
 use Rattle.desk_time.specs.Moments.{minute_of, shown_of, up_to, written}
-use Rattle.asks.specs.Forms.{CanBeShown, RefusalHasMoment, ReplyHasMoment}
+use Rattle.asks.specs.Ranges.{CanBeShown, RefusalHasMoment, ReplyHasMoment}
 use Rattle.asks.specs.declared.reply.Reply.{Reply}
 use Rattle.asks.specs.declared.reply.Reply.TheVariants.{Done, Seen, Refused}
 use Rattle.asks.specs.declared.reply.Refusal.{Refusal}
 use Rattle.asks.specs.declared.reply.Refusal.TheVariants.{UnknownActor, WrongKey, NotYourRole, NumberReused, BadReport, DayOutOfReach, ReportsFull, UnknownTail, NoSuchDeferral, NoSuchRelease, NotYours, BadPlan, NotPending, WrongRevision, WrongText, WeatherNewer, RuleFails, WrongPhase, AlreadySigned, NoSuchAlert, AlertMoved, TooYoung, ReleasesFull, HistoryFull, NoSuchStation, Unkept, NumberSwept, UnknownItem, BadFound, DeferralsFull}
-use Rattle.call_json.specs.Plain.{HasText}
-use Rattle.call_json.specs.Forms.{IsAmount, SaidDoneHasForms, IsSaidFinding}
-use Rattle.call_json.specs.Digests.{digest_at, IsDigest}
-use Rattle.call_json.specs.Dones.{said_done_of}
-use Rattle.call_json.specs.Fields.{text_at, number_at, amount_at, list_at, each_read}
+use Rattle.asks.specs.Plain.{HasText}
+use Rattle.asks.specs.Forms.{IsAmount, SaidDoneHasForms, IsSaidFinding}
+use Rattle.asks.specs.Digests.{digest_at, IsDigest}
+use Rattle.asks.specs.Dones.{said_done_of}
+use Rattle.asks.specs.Fields.{text_at, number_at, amount_at, list_at, each_read}
 use Rattle.desk_time.proofs.Chains.{bind_if, bind_any, then_if, under, either}
-use Rattle.call_json.proofs.DoneForms.{digest_is, done_formed}
-use Rattle.call_json.proofs.MomentRange.{minute_within}
-use Rattle.call_json.proofs.PlanForms.{number_formed, amount_formed, each_formed}
+use Rattle.asks.proofs.DoneForms.{digest_is, done_formed}
+use Rattle.asks.proofs.MomentRange.{minute_within}
+use Rattle.asks.proofs.PlanForms.{number_formed, amount_formed, each_formed}
 use Rattle.compact_json.specs.Kept.{data_of}
-use Rattle.call_json.proofs.DocumentTexts.{data_has_text}
-use Rattle.call_json.proofs.ValueTexts.{text_formed}
+use Rattle.asks.proofs.DocumentTexts.{data_has_text}
+use Rattle.asks.proofs.ValueTexts.{text_formed}
 use Rattle.kept_releases.specs.Findings.{said_finding_of}
 use Rattle.kept_releases.specs.Phases.{phase_of, IsPhase}
 use Rattle.kept_releases.proofs.FindingLaws.{finding_formed}

@@ -5,7 +5,7 @@ use Rattle.std.specs.Ordering.{is_gt}
 use Rattle.std.specs.Cmp.Lexicographic.{slice_cmp}
 use Rattle.serde_json.specs.Data.{Data, null, boolean, number, string, array, object, Members}
 use Rattle.serde_json.specs.Find.{as_object}
-use Rattle.call_json.specs.Fields.{data_of, short_at, moment_at}
+use Rattle.asks.specs.Fields.{data_of, short_at, moment_at}
 use Rattle.asks.specs.declared.bad_call.BadCall.{BadCall}
 use Rattle.asks.specs.declared.call.Call.{Call}
 use Rattle.desk_json.specs.declared.bad_call.CallFault.{CallFault}

@@ -9,7 +9,7 @@ use Rattle.asks.specs.declared.reply.Refusal.{Refusal}
 use Rattle.asks.specs.declared.reply.Refusal.TheVariants.{UnknownActor, WrongKey, NotYourRole, NumberReused, BadReport, DayOutOfReach, ReportsFull, UnknownTail, NoSuchDeferral, NoSuchRelease, NotYours, BadPlan, NotPending, WrongRevision, WrongText, WeatherNewer, RuleFails, WrongPhase, AlreadySigned, NoSuchAlert, AlertMoved, TooYoung, ReleasesFull, HistoryFull, NoSuchStation, Unkept, NumberSwept, UnknownItem, BadFound, DeferralsFull}
 use Rattle.asks.specs.declared.bad_call.BadCall.{BadCall}
 use Rattle.asks.specs.declared.call.Call.{Call}
-use Rattle.call_json.proofs.Whole.{list_whole, done_whole, ask_whole}
+use Rattle.asks.proofs.Whole.{list_whole, done_whole, ask_whole}
 use Rattle.desk_json.specs.Canonical.{call_data}
 use Rattle.desk_json.specs.Replies.{refusal_data, reply_data, bad_data}
 use Rattle.kept_releases.specs.Findings.{finding_data}

@@ -4,11 +4,11 @@ use Rattle.serde_json.specs.Data.{Data, object, member, no_members}
 use Rattle.serde_json.specs.Written.{compact_text}
 use Rattle.desk_time.specs.Limits.{IsMoment}
 use Rattle.asks.specs.declared.call.Call.{Call}
-use Rattle.call_json.specs.Fields.{data_of}
+use Rattle.asks.specs.Fields.{data_of}
 use Rattle.desk_json.specs.declared.bad_call.CallFault.{CallFault}
 use Rattle.desk_json.specs.Faults.{Gives}
-use Rattle.call_json.specs.Canonical.{count, text_data, moment_data, ask_data}
-use Rattle.call_json.specs.Forms.{CallHasForms}
+use Rattle.asks.specs.Canonical.{count, text_data, moment_data, ask_data}
+use Rattle.asks.specs.Forms.{CallHasForms}
 
 -- the JSON of a moment and a call, as a line of a script has it
 unfoldable pub line_data : ℕ → Call → Data

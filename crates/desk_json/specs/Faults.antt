@@ -9,9 +9,9 @@ use Rattle.plan.specs.declared.flights.Plan.{Plan}
 use Rattle.asks.specs.declared.call.Call.{Call}
 use Rattle.asks.specs.declared.call.Ask.{Ask}
 use Rattle.asks.specs.declared.call.Ask.TheVariants.{Admit, Defer, Clear, Draft, Prepare, Sign, Concur, Amend, Cancel, Depart, Arrive, Acknowledge, Purge, Sweep, ViewBoard, ViewAlerts, ViewRelease, ViewWeather, ViewDeferred}
-use Rattle.call_json.specs.Digests.{digest_at}
-use Rattle.call_json.specs.Plans.{plan_of}
-use Rattle.call_json.specs.Fields.{data_of, text_at, number_at, id_at, amount_at, short_at, station_at, moment_at}
+use Rattle.asks.specs.Digests.{digest_at}
+use Rattle.asks.specs.Plans.{plan_of}
+use Rattle.asks.specs.Fields.{data_of, text_at, number_at, id_at, amount_at, short_at, station_at, moment_at}
 use Rattle.asks.specs.declared.bad_call.BadCall.{BadCall}
 use Rattle.asks.specs.declared.bad_call.CallWhy.TheVariants.{NotJson, Extra, UnknownAsk}
 use Rattle.desk_json.specs.declared.keys.AskKind.{AskKind}

@@ -11,17 +11,17 @@ use Rattle.codes.specs.declared.fault.Why.TheVariants as why
 use Rattle.plan.specs.declared.check.PlanWhy.{PlanWhy}
 use Rattle.plan.specs.declared.check.PlanWhy.TheVariants as plan_why
 use Rattle.plan.specs.declared.findings.Finding.{Finding}
-use Rattle.asks.specs.Forms.{CanBeShown}
+use Rattle.asks.specs.Ranges.{CanBeShown}
 use Rattle.asks.specs.declared.bad_call.BadCall.{BadCall}
 use Rattle.asks.specs.declared.bad_call.CallWhy.TheVariants.{NotJson}
 use Rattle.asks.specs.declared.reply.Reply.{Reply}
 use Rattle.asks.specs.declared.reply.Reply.TheVariants.{Done, Seen, Refused}
 use Rattle.asks.specs.declared.reply.Refusal.{Refusal}
 use Rattle.asks.specs.declared.reply.Refusal.TheVariants.{UnknownActor, WrongKey, NotYourRole, NumberReused, BadReport, DayOutOfReach, ReportsFull, UnknownTail, NoSuchDeferral, NoSuchRelease, NotYours, BadPlan, NotPending, WrongRevision, WrongText, WeatherNewer, RuleFails, WrongPhase, AlreadySigned, NoSuchAlert, AlertMoved, TooYoung, ReleasesFull, HistoryFull, NoSuchStation, Unkept, NumberSwept, UnknownItem, BadFound, DeferralsFull}
-use Rattle.call_json.specs.Forms.{IsAmount, SaidDoneHasForms, IsSaidFinding}
-use Rattle.call_json.specs.Digests.{digest_at, IsDigest}
-use Rattle.call_json.specs.Dones.{said_done_of}
-use Rattle.call_json.specs.Fields.{data_of, text_at, number_at, amount_at, list_at, each_read}
+use Rattle.asks.specs.Forms.{IsAmount, SaidDoneHasForms, IsSaidFinding}
+use Rattle.asks.specs.Digests.{digest_at, IsDigest}
+use Rattle.asks.specs.Dones.{said_done_of}
+use Rattle.asks.specs.Fields.{data_of, text_at, number_at, amount_at, list_at, each_read}
 use Rattle.kept_releases.specs.Findings.{said_finding_of}
 use Rattle.kept_releases.specs.Phases.{phase_of, IsPhase}
 use Rattle.desk_json.specs.Keys.{bad}

@@ -14,8 +14,8 @@ use Rattle.asks.specs.declared.reply.Reply.{Reply}
 use Rattle.asks.specs.declared.reply.Reply.TheVariants.{Done, Seen, Refused}
 use Rattle.asks.specs.declared.reply.Refusal.{Refusal}
 use Rattle.asks.specs.declared.reply.Refusal.TheVariants.{UnknownActor, WrongKey, NotYourRole, NumberReused, BadReport, DayOutOfReach, ReportsFull, UnknownTail, NoSuchDeferral, NoSuchRelease, NotYours, BadPlan, NotPending, WrongRevision, WrongText, WeatherNewer, RuleFails, WrongPhase, AlreadySigned, NoSuchAlert, AlertMoved, TooYoung, ReleasesFull, HistoryFull, NoSuchStation, Unkept, NumberSwept, UnknownItem, BadFound, DeferralsFull}
-use Rattle.call_json.specs.Digests.{digest_data}
-use Rattle.call_json.specs.Canonical.{count, text_data, moment_data, list_data, done_data}
+use Rattle.asks.specs.Digests.{digest_data}
+use Rattle.asks.specs.Canonical.{count, text_data, moment_data, list_data, done_data}
 use Rattle.kept_releases.specs.Findings.{finding_data}
 
 -- the name of a reason

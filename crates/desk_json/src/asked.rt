@@ -6,8 +6,7 @@ ghost use Rattle.desk_json.specs.Faults.{Answers};
 use crate::bad_call::{CallFault, bad, found, lack};
 use crate::fields::{id_of, moment_of, plan_of, short_of, text_of};
 use crate::keys::{AskKind, Object, kind_of, only_keys};
-use asks::{Ask, CallWhy};
-use call_json::{amount_at, digest_at, station_at, text_at};
+use asks::{Ask, CallWhy, amount_at, digest_at, station_at, text_at};
 use compact_json::Element;
 use std::alloc::Global;
 

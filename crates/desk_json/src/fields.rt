@@ -1,13 +1,13 @@
 ghost use Rattle.std.specs.Prelude.{◌≡◌};
 ghost use Rattle.std.specs.Option.{option_map};
 ghost use Rattle.compact_json.specs.Elements.{data_at};
-ghost use Rattle.call_json.specs.Fields as fields;
+ghost use Rattle.asks.specs.Fields as fields;
 ghost use Rattle.desk_json.specs.Keys.{need};
 ghost use Rattle.desk_json.specs.Faults as spec;
 ghost use Rattle.desk_json.specs.Faults.{Answers};
 
 use crate::bad_call::{CallFault, found, lack};
-use call_json::{id_at, moment_at, read_plan, short_at, text_at};
+use asks::{id_at, moment_at, read_plan, short_at, text_at};
 use compact_json::Element;
 use desk_io::Text;
 use desk_time::Minute;

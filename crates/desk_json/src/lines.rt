@@ -1,7 +1,7 @@
 ghost use Rattle.std.specs.Prelude.{◌≡◌, IfOk};
 ghost use Rattle.compact_json.specs.Elements.{data_at};
 ghost use Rattle.desk_time.specs.Limits.{IsMoment};
-ghost use Rattle.call_json.specs.Forms.{CallHasForms};
+ghost use Rattle.asks.specs.Forms.{CallHasForms};
 ghost use Rattle.desk_json.specs.Keys.{is_call_key, is_line_key};
 ghost use Rattle.desk_json.specs.Faults as spec;
 ghost use Rattle.desk_json.specs.Faults.{call_or_fault, line_or_fault, Answers};
@@ -13,8 +13,7 @@ use crate::asked::ask_or_fault;
 use crate::bad_call::{CallFault, bad, found, lack};
 use crate::fields::{moment_of, object_at, short_of};
 use crate::keys::{Object, only_keys};
-use asks::{Call, CallWhy};
-use call_json::{document_of, number_at};
+use asks::{Call, CallWhy, document_of, number_at};
 use compact_json::Element;
 use desk_io::Text;
 use desk_time::Minute;

@@ -1,17 +1,16 @@
 ghost use Rattle.std.specs.Prelude.{◌≡◌, IfOk, IfSome};
 ghost use Rattle.std.specs.Str.{bytes_eq};
 ghost use Rattle.compact_json.specs.Elements.{data_at, items_left};
-ghost use Rattle.call_json.specs.Fields.{each_read};
+ghost use Rattle.asks.specs.Fields.{each_read};
 ghost use Rattle.desk_json.specs.Replies.{reply_text};
 ghost use Rattle.desk_json.specs.ReadReplies as spec;
-ghost use Rattle.asks.specs.Forms.{ReplyHasMoment};
+ghost use Rattle.asks.specs.Ranges.{ReplyHasMoment};
 ghost use Rattle.desk_json.specs.ReadReplies.{finding_in, reply_in, ReplyHasForms};
 ghost use Rattle.desk_json.specs.ReadReplies.{AnswersReply, IsReplyOf, IsReplyAgain};
 
 use crate::bad_call::{CallFault, bad};
 use crate::replies::reply_text;
-use asks::{CallWhy, Refusal, Reply};
-use call_json::{amount_at, digest_at, document_of, list_at, number_at, read_said_done, text_at};
+use asks::{CallWhy, Refusal, Reply, amount_at, digest_at, document_of, list_at, number_at, read_said_done, text_at};
 use codes::Why;
 use compact_json::{Element, Items};
 use desk_io::{OutOfMemory, Text};

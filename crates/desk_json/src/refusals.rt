@@ -2,15 +2,12 @@ ghost use Rattle.std.specs.Prelude.{◌≡◌, codes, IfOk};
 ghost use Rattle.serde_json.specs.Data.{put};
 ghost use Rattle.serde_json.specs.View.{view, members_view};
 ghost use Rattle.plan.specs.Texts.{HasMoment, phase_text};
-ghost use Rattle.call_json.specs.Canonical.{text_data, list_data};
-ghost use Rattle.asks.specs.Forms.{RefusalHasMoment};
+ghost use Rattle.asks.specs.Canonical.{text_data, list_data};
+ghost use Rattle.asks.specs.Ranges.{RefusalHasMoment};
 ghost use Rattle.kept_releases.specs.Findings.{finding_data};
 ghost use Rattle.desk_json.specs.Replies as spec;
 
-use asks::Refusal;
-use call_json::{
-    Members, name_value, with_count, with_digest, with_moment, with_name, with_text, with_value,
-};
+use asks::{Members, Refusal, name_value, with_count, with_digest, with_moment, with_name, with_text, with_value};
 use codes::Why;
 use desk_io::OutOfMemory;
 use kept_releases::findings_value;

@@ -1,12 +1,11 @@
 ghost use Rattle.std.specs.Prelude.{◌≡◌, IfOk};
 ghost use Rattle.serde_json.specs.View.{view};
-ghost use Rattle.asks.specs.Forms.{ReplyHasMoment};
+ghost use Rattle.asks.specs.Ranges.{ReplyHasMoment};
 ghost use Rattle.desk_json.specs.Replies as spec;
 ghost use Rattle.desk_json.specs.Replies.{bad_text, reply_text};
 
 use crate::refusals::refusal_value;
-use asks::{BadCall, CallWhy, Done, Reply};
-use call_json::{done_value, text_value, with_name, with_text};
+use asks::{BadCall, CallWhy, Done, Reply, done_value, text_value, with_name, with_text};
 use desk_io::{OutOfMemory, Text};
 use serde_json::{Map, Value};
 use std::alloc::Global;

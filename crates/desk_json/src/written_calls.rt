@@ -1,10 +1,9 @@
 ghost use Rattle.std.specs.Prelude.{◌≡◌, IfOk};
 ghost use Rattle.serde_json.specs.View.{view};
-ghost use Rattle.asks.specs.Forms.{IsCall};
+ghost use Rattle.asks.specs.Ranges.{IsCall};
 ghost use Rattle.desk_json.specs.Canonical as spec;
 
-use asks::Call;
-use call_json::{ask_value, with_count, with_text, with_value};
+use asks::{Call, ask_value, with_count, with_text, with_value};
 use desk_io::{OutOfMemory, Text};
 use serde_json::{Map, Value};
 use std::alloc::Global;

@@ -14,7 +14,7 @@ use Rattle.plan.specs.declared.findings.Finding.{Finding}
 use Rattle.plan.specs.declared.release.Phase.{Phase}
 use Rattle.plan.specs.declared.release.Release.{Release}
 use Rattle.plan.specs.declared.release.Revision.{Revision}
-use Rattle.call_json.specs.Forms.{IsId, IsFinding}
+use Rattle.asks.specs.Forms.{IsId, IsFinding}
 use Rattle.rules.specs.Grounds.{Grounds}
 use Rattle.desk_io.proofs.Each.{each_weaker}
 

@@ -48,7 +48,7 @@ use Rattle.asks.specs.declared.reply.Reply.{Reply}
 use Rattle.asks.specs.declared.kept.KeptReply.{KeptReply}
 use Rattle.asks.specs.declared.reply.Reply.TheVariants.{Done, Seen, Refused}
 use Rattle.asks.specs.declared.reply.Refusal.TheVariants.{NumberReused}
-use Rattle.call_json.specs.Canonical.{ask_digest}
+use Rattle.asks.specs.Canonical.{ask_digest}
 use Rattle.desk_state.specs.Requests.{kept_at, floor_at}
 use Rattle.desk_state.specs.declared.effect.Effect.{Effect}
 use Rattle.desk_state.specs.declared.effect.Decision.{Decision}

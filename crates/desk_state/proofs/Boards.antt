@@ -40,9 +40,9 @@ use Rattle.desk_state.specs.Legal.{MayCome, next, Legal, IsHistory}
 use Rattle.desk_time.specs.Limits.{IsMoment}
 use Rattle.rules.specs.Grounds.{Grounds}
 use Rattle.desk_state.specs.Sound.{Sound, MayStand, InBounds, ReleaseInBounds, IsBoard, IsNumbered, AreOpen, AreUnlike, AreSingle, IsReplied, IsEntered, IsToldTo, IsAlerted, Rise, EffectFits, DecisionFits}
-use Rattle.asks.specs.Forms.{RefusalHasMoment, ReplyHasMoment}
-use Rattle.call_json.specs.Forms.{CallHasForms}
-use Rattle.call_json.proofs.AskForms.{call_from_forms}
+use Rattle.asks.specs.Ranges.{RefusalHasMoment, ReplyHasMoment}
+use Rattle.asks.specs.Forms.{CallHasForms}
+use Rattle.asks.proofs.AskForms.{call_from_forms}
 use Rattle.desk_state.proofs.Judging.{AreTold, alerts_have, all_own, are_alerted, are_alerts, told_kept}
 use Rattle.desk_state.proofs.AllowedLaws.{decision_is}
 use Rattle.desk_state.specs.Allowed.{DecisionOf}

@@ -38,9 +38,9 @@ use Rattle.asks.specs.declared.reply.Done.{Done as DoneType}
 use Rattle.asks.specs.declared.reply.Reply.TheVariants.{Done}
 use Rattle.asks.specs.declared.reply.Refusal.{Refusal}
 use Rattle.asks.specs.declared.reply.Refusal.TheVariants.{NumberReused}
-use Rattle.call_json.specs.Canonical.{ask_digest}
-use Rattle.call_json.specs.Forms.{CallHasForms}
-use Rattle.call_json.proofs.AskForms.{call_from_forms}
+use Rattle.asks.specs.Canonical.{ask_digest}
+use Rattle.asks.specs.Forms.{CallHasForms}
+use Rattle.asks.proofs.AskForms.{call_from_forms}
 use Rattle.desk_state.specs.Hours.{captain_hours}
 use Rattle.desk_state.specs.declared.effect.Decision.{Decision}
 use Rattle.desk_state.specs.declared.effect.Decision.TheVariants.{Show}
@@ -59,7 +59,7 @@ use Rattle.desk_state.specs.Sound.{Sound, InBounds, ReleaseInBounds, RevisionInB
 use Rattle.release_text.specs.Valid.{IsPhased, IsThere, AreNumbered, Waits, MaySigned, HasLegs, IsSigned}
 use Rattle.desk_state.specs.Effects as effect
 use Rattle.desk_state.specs.Texts.{newest, revision_number}
-use Rattle.asks.specs.Forms.{IsCall, CanBeShown, RefusalHasMoment}
+use Rattle.asks.specs.Ranges.{IsCall, CanBeShown, RefusalHasMoment}
 use Rattle.desk_state.proofs.Each.{found_each}
 use Rattle.desk_state.proofs.Parts.{later_within}
 use Rattle.desk_io.proofs.Each.{each_weaker}

@@ -4,8 +4,8 @@ use Rattle.std.specs.Int.{byte_at, bytes_high_first, to_be_bytes, w32}
 use Rattle.std.specs.List.{AllByRecursion}
 use Rattle.asks.specs.declared.call.Ask.{Ask}
 use Rattle.plan.specs.declared.release.Revision.{Revision}
-use Rattle.call_json.specs.Canonical.{ask_digest}
-use Rattle.call_json.specs.Digests.{IsDigest}
+use Rattle.asks.specs.Canonical.{ask_digest}
+use Rattle.asks.specs.Digests.{IsDigest}
 use Rattle.release_text.specs.Revisions.{text_digest, revision_digest, revision_text}
 use Rattle.sha2.specs.Sha256.{digest_bytes, final_hash, initial_hash_256, sha256}
 use Rattle.sha2.proofs.Facts256.{length-sha256}

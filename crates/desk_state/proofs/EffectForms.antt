@@ -39,8 +39,8 @@ use Rattle.plan.specs.declared.release.Phase.TheVariants.{Drafted, Ready, Flying
 use Rattle.plan.specs.declared.release.Release.{Release}
 use Rattle.plan.specs.declared.release.Revision.{Revision}
 use Rattle.plan.specs.declared.release.Signature.{Signature}
-use Rattle.call_json.specs.Forms.{IsId, HasForms, AskHasForms, DoneHasForms, IsFloor, FloorsRise, IsAttached, IsSignature, IsRevision, IsFormed}
-use Rattle.call_json.specs.Digests.{IsDigest}
+use Rattle.asks.specs.Forms.{IsId, HasForms, AskHasForms, DoneHasForms, IsFloor, FloorsRise, IsAttached, IsSignature, IsRevision, IsFormed}
+use Rattle.asks.specs.Digests.{IsDigest}
 use Rattle.release_text.specs.Revisions.{revision_digest}
 
 -- ---- what an effect brings

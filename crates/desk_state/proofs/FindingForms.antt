@@ -18,7 +18,7 @@ use Rattle.plan.specs.declared.flights.Plan.{Plan}
 use Rattle.plan.specs.declared.release.Phase.{Phase}
 use Rattle.plan.specs.declared.release.Standing.{Standing}
 use Rattle.plan.specs.declared.release.Standing.TheVariants.{Ahead, InFlight, Flown}
-use Rattle.call_json.specs.Forms.{IsAmount, IsId, IsFinding}
+use Rattle.asks.specs.Forms.{IsAmount, IsId, IsFinding}
 use Rattle.rules.specs.Circumstances.{Case, case_of}
 use Rattle.rules.specs.DestinationAlternates.{place_if, places_from}
 use Rattle.rules.specs.Equipment.{is_limiting, is_overdue, is_barred, is_barred_takeoff}

@@ -11,7 +11,7 @@ use Rattle.asks.specs.declared.kept.Floor.{Floor}
 use Rattle.asks.specs.declared.kept.KeptReply.{KeptReply}
 use Rattle.desk_state.specs.Formed.{ReplyHasForms}
 use Rattle.desk_state.specs.Requests.{floor, raised_here, raised_to, raised_by}
-use Rattle.call_json.specs.Forms.{IsRequest, IsFloor, FloorsRise}
+use Rattle.asks.specs.Forms.{IsRequest, IsFloor, FloorsRise}
 
 -- ---- what holds of each floor
 

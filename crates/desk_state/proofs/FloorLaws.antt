@@ -13,7 +13,7 @@ use Rattle.std.proofs.lemmas.Map.Text.{is_eq-slice_cmp}
 use Rattle.std.proofs.lemmas.Slice.Eq.{bytes_eq-Decides}
 use Rattle.asks.specs.declared.kept.Floor.{Floor}
 use Rattle.asks.specs.declared.kept.KeptReply.{KeptReply}
-use Rattle.call_json.specs.Forms.{FloorsRise}
+use Rattle.asks.specs.Forms.{FloorsRise}
 use Rattle.desk_state.specs.Once.{IsCovered}
 use Rattle.desk_state.specs.Requests.{is_request, floor, floor_at, raised_here, raised_to, raised_by}
 use Rattle.desk_state.proofs.FloorForms.{all_later, raised_rises}

@@ -35,7 +35,7 @@ use Rattle.desk_state.proofs.Parts.{filter_each, kept_each, swept_each}
 use Rattle.ops_tables.specs.Forms.{is_person}
 use Rattle.ops_tables.specs.Tables.{TableRows}
 use Rattle.plan.specs.declared.release.Release.{Release}
-use Rattle.call_json.specs.Forms.{CallHasForms, IsFloor, FloorsRise, IsFormed}
+use Rattle.asks.specs.Forms.{CallHasForms, IsFloor, FloorsRise, IsFormed}
 use Rattle.desk_io.proofs.Each.{each_push}
 
 -- nothing is held at the beginning

@@ -5,7 +5,7 @@ use Rattle.ops_tables.specs.Tables.{TableRows, hours_by, hours_of, type_of}
 use Rattle.ops_tables.specs.Rows.{CaptainHours}
 use Rattle.ops_tables.specs.declared.rows.TypeRow.{TypeRow}
 use Rattle.plan.specs.declared.flights.Plan.{Plan}
-use Rattle.call_json.specs.Forms.{IsHours}
+use Rattle.asks.specs.Forms.{IsHours}
 use Rattle.desk_state.specs.Hours.{hours_in, captain_hours}
 use Rattle.desk_state.proofs.NameForms.{found_has}
 use Rattle.std.specs.Str.{bytes_eq}

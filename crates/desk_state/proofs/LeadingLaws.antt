@@ -22,7 +22,7 @@ use Rattle.asks.specs.declared.reply.Refusal.{Refusal}
 use Rattle.asks.specs.declared.reply.Done.{Done as DoneType}
 use Rattle.asks.specs.declared.reply.Reply.{Reply}
 use Rattle.asks.specs.declared.reply.Reply.TheVariants.{Done, Seen, Refused}
-use Rattle.call_json.specs.Forms.{CallHasForms}
+use Rattle.asks.specs.Forms.{CallHasForms}
 use Rattle.desk_state.specs.declared.entry.What.TheVariants as what
 use Rattle.desk_state.specs.declared.entry.Entry.{Entry}
 use Rattle.desk_state.specs.declared.effect.Effect.{Effect}

@@ -8,8 +8,8 @@ use Rattle.asks.specs.declared.call.Call.{Call}
 use Rattle.asks.specs.declared.kept.KeptReply.{KeptReply}
 use Rattle.asks.specs.declared.reply.Reply.{Reply}
 use Rattle.asks.specs.declared.reply.Reply.TheVariants.{Done}
-use Rattle.call_json.specs.Forms.{CallHasForms}
-use Rattle.call_json.specs.Canonical.{ask_digest}
+use Rattle.asks.specs.Forms.{CallHasForms}
+use Rattle.asks.specs.Canonical.{ask_digest}
 use Rattle.desk_state.specs.Allowed.{IsPermitted, MayLeadTo, MayTickTo}
 use Rattle.desk_state.specs.Decide.{decide, is_view}
 use Rattle.desk_state.specs.Events.{effected, kept_after}

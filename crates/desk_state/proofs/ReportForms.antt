@@ -17,7 +17,7 @@ use Rattle.desk_state.specs.State.{State}
 use Rattle.desk_time.specs.Limits.{IsMoment}
 use Rattle.plan.specs.declared.flights.Plan.{Plan}
 use Rattle.plan.specs.declared.release.Phase.{Phase}
-use Rattle.call_json.specs.Forms.{IsId, IsAttached}
+use Rattle.asks.specs.Forms.{IsId, IsAttached}
 use Rattle.release_text.specs.Concerned.{concerned}
 use Rattle.release_text.specs.Weather.{where_held, latest_at, latest_of, weather_for, attached_of, attached_to}
 use Rattle.desk_io.proofs.Each.{each_append}

@@ -15,7 +15,7 @@ use Rattle.asks.specs.declared.call.Call.{Call}
 use Rattle.asks.specs.declared.reply.Refusal.{Refusal}
 use Rattle.asks.specs.declared.reply.Done.{Done as DoneType}
 use Rattle.asks.specs.declared.reply.Reply.TheVariants.{Done}
-use Rattle.call_json.specs.Forms.{CallHasForms}
+use Rattle.asks.specs.Forms.{CallHasForms}
 use Rattle.ops_tables.specs.Tables.{actor_of}
 use Rattle.desk_state.specs.declared.change.AlertChange.{AlertChange}
 use Rattle.desk_state.specs.declared.entry.Entry.{Entry}

@@ -45,7 +45,7 @@ use Rattle.desk_state.specs.Events.{effected, moment_after, reports_after, repor
 use Rattle.desk_state.specs.Decide.{once_signed, kept_until, attached_reports, reports_before}
 use Rattle.desk_state.specs.Hours.{captain_hours}
 use Rattle.desk_state.specs.Requests.{kept_at, floor_at, raised_by, kept_before}
-use Rattle.call_json.specs.Canonical.{ask_digest}
+use Rattle.asks.specs.Canonical.{ask_digest}
 use Rattle.asks.specs.declared.kept.Floor.{Floor}
 use Rattle.asks.specs.declared.kept.KeptReply.{KeptReply}
 use Rattle.desk_state.specs.People.{may_ask}

@@ -33,7 +33,7 @@ use Rattle.asks.specs.declared.reply.Refusal.{Refusal}
 use Rattle.asks.specs.declared.reply.Refusal.TheVariants as refusal
 use Rattle.asks.specs.declared.reply.Reply.{Reply}
 use Rattle.asks.specs.declared.reply.Reply.TheVariants.{Refused}
-use Rattle.call_json.specs.Canonical.{ask_digest}
+use Rattle.asks.specs.Canonical.{ask_digest}
 use Rattle.desk_state.specs.State.{State, grounds_of, failing_of, release_at, alert_at, is_sweep}
 use Rattle.desk_state.specs.Requests.{kept_at, floor_at}
 use Rattle.desk_state.specs.People.{may_ask}

@@ -21,7 +21,7 @@ use Rattle.facts.specs.declared.report.Report.{Report}
 use Rattle.facts.specs.Lines.{weather_at}
 use Rattle.facts.specs.Swept.{leaving}
 use Rattle.asks.specs.declared.kept.KeptReply.{KeptReply}
-use Rattle.call_json.specs.Canonical.{ask_digest}
+use Rattle.asks.specs.Canonical.{ask_digest}
 use Rattle.plan.specs.Change.{change_fault}
 use Rattle.plan.specs.Check.{plan_fault}
 use Rattle.plan.specs.declared.check.BadPlan.{BadPlan}

@@ -9,8 +9,8 @@ use Rattle.facts.specs.declared.report.Report.{Report}
 use Rattle.desk_state.specs.State.{State}
 use Rattle.ops_tables.specs.Forms.{is_tail, is_item, is_person}
 use Rattle.ops_tables.specs.Named.{AreNamed}
-use Rattle.call_json.specs.Forms.{DoneHasForms, IsRequest, IsFloor, FloorsRise, IsFinding, IsFormed}
-use Rattle.call_json.specs.Digests.{IsDigest}
+use Rattle.asks.specs.Forms.{DoneHasForms, IsRequest, IsFloor, FloorsRise, IsFinding, IsFormed}
+use Rattle.asks.specs.Digests.{IsDigest}
 
 -- a canonical text, and what it says as of its receipt
 pub record ReportHasForms (r : Report) : Type 0 where

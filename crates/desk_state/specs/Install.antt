@@ -3,7 +3,7 @@ use Rattle.std.specs.Prelude.{◌≡◌, ℕ, ◌<◌, ◌≤◌, true, IsTrue, 
 use Rattle.std.specs.List.{AllByRecursion}
 use Rattle.alerts.specs.declared.alert.Alert.{Alert}
 use Rattle.asks.specs.declared.kept.KeptReply.{KeptReply}
-use Rattle.call_json.specs.Forms.{FloorsRise}
+use Rattle.asks.specs.Forms.{FloorsRise}
 use Rattle.deferrals.specs.Held.{OpenDeferrals, IsNewest}
 use Rattle.deferrals.specs.declared.items.Deferral.{Deferral}
 use Rattle.facts.specs.Reading.{IsRead}

@@ -5,8 +5,8 @@ use Rattle.ops_tables.specs.Tables.{actor_of}
 use Rattle.asks.specs.declared.call.Call.{Call}
 use Rattle.asks.specs.declared.kept.KeptReply.{KeptReply}
 use Rattle.asks.specs.declared.reply.Reply.TheVariants.{Done}
-use Rattle.call_json.specs.Canonical.{ask_digest}
-use Rattle.call_json.specs.Forms.{CallHasForms}
+use Rattle.asks.specs.Canonical.{ask_digest}
+use Rattle.asks.specs.Forms.{CallHasForms}
 use Rattle.desk_state.specs.declared.lanes.Item.{Item}
 use Rattle.desk_state.specs.declared.lanes.Item.TheVariants as item
 use Rattle.desk_state.specs.declared.lanes.Said.TheVariants as said

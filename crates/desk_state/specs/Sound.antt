@@ -8,7 +8,7 @@ use Rattle.plan.specs.declared.release.Release.{Release}
 use Rattle.facts.specs.declared.report.Report.{Report}
 use Rattle.alerts.specs.declared.alert.Alert.{Alert}
 use Rattle.alerts.specs.Alerts.{IsAlert}
-use Rattle.asks.specs.Forms.{IsCall, RefusalHasMoment, ReplyHasMoment}
+use Rattle.asks.specs.Ranges.{IsCall, RefusalHasMoment, ReplyHasMoment}
 use Rattle.asks.specs.declared.kept.KeptReply.{KeptReply}
 use Rattle.desk_state.specs.declared.entry.What.{What}
 use Rattle.desk_state.specs.declared.entry.What.TheVariants as what

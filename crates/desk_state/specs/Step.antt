@@ -7,7 +7,7 @@ use Rattle.asks.specs.declared.kept.KeptReply.{KeptReply}
 use Rattle.asks.specs.declared.reply.Reply.{Reply}
 use Rattle.asks.specs.declared.reply.Done.{Done as DoneType}
 use Rattle.asks.specs.declared.reply.Reply.TheVariants.{Done, Seen, Refused}
-use Rattle.call_json.specs.Canonical.{ask_digest}
+use Rattle.asks.specs.Canonical.{ask_digest}
 use Rattle.asks.specs.declared.reply.Refusal.{Refusal}
 use Rattle.asks.specs.declared.reply.Refusal.TheVariants.{HistoryFull}
 use Rattle.alerts.specs.declared.notices.Notice.{Notice}

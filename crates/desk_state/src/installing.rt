@@ -1,6 +1,6 @@
 ghost use Rattle.std.specs.Prelude.{◌≡◌, ◌≤◌, ◌++◌, Some, IsTrue, IfSome, length, option_to_list};
 ghost use Rattle.std.specs.List.{AllByRecursion};
-ghost use Rattle.call_json.specs.Forms.{FloorsRise};
+ghost use Rattle.asks.specs.Forms.{FloorsRise};
 ghost use Rattle.held_releases.specs.Releases.{changed};
 ghost use Rattle.desk_state.specs.Contents.{state_of};
 ghost use Rattle.desk_state.specs.Events as events;

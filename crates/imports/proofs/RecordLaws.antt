@@ -5,7 +5,7 @@ use Rattle.std.proofs.lemmas.Str.{utf8_valid_len-IsUtf8}
 use Rattle.asks.specs.declared.call.Ask.{Ask}
 use Rattle.asks.specs.declared.call.Ask.TheVariants.{Admit}
 use Rattle.asks.specs.declared.call.Call.{Call}
-use Rattle.call_json.specs.Forms.{IsShort, AskHasForms}
+use Rattle.asks.specs.Forms.{IsShort, AskHasForms}
 use Rattle.desk_time.specs.Moments.{minute_of, shown}
 use Rattle.desk_time.specs.Numbers.{number_in}
 use Rattle.desk_time.proofs.NumberLaws.{number_again, number_exact}

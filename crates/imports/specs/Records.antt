@@ -6,7 +6,7 @@ use Rattle.asks.specs.declared.bad_call.CallWhy.{CallWhy}
 use Rattle.asks.specs.declared.bad_call.CallWhy.TheVariants.{Missing, BadValue}
 use Rattle.asks.specs.declared.call.Ask.TheVariants.{Admit}
 use Rattle.asks.specs.declared.call.Call.{Call}
-use Rattle.call_json.specs.Forms.{CallHasForms}
+use Rattle.asks.specs.Forms.{CallHasForms}
 use Rattle.desk_time.specs.Limits.{IsMoment}
 use Rattle.desk_time.specs.Moments.{minute_of, shown}
 use Rattle.desk_time.specs.Numbers.{number_in}

@@ -1,5 +1,5 @@
 ghost use Rattle.std.specs.Prelude.{◌≡◌, IsTrue, IsUtf8};
-ghost use Rattle.call_json.specs.Forms.{IsShort};
+ghost use Rattle.asks.specs.Forms.{IsShort};
 ghost use Rattle.imports.specs.Records as spec;
 
 use std::str;

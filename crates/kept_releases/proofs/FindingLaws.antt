@@ -14,12 +14,12 @@ use Rattle.plan.specs.Texts.{finding_text}
 use Rattle.plan.proofs.Rows.{is_before_trans, each_rule}
 use Rattle.plan.specs.declared.findings.Rule.{Rule}
 use Rattle.plan.specs.declared.findings.Finding.{Finding}
-use Rattle.call_json.specs.Fields.{each_read}
-use Rattle.call_json.proofs.Again.{each_again}
+use Rattle.asks.specs.Fields.{each_read}
+use Rattle.asks.proofs.Again.{each_again}
 use Rattle.desk_time.specs.Numbers.{number_in}
 use Rattle.kept_releases.specs.Cuts.{leg_of, cut}
 use Rattle.kept_releases.specs.Findings.{rule_among, rule_of, finding_at, finding_with, finding_within, finding_data, finding_in, comes_before, are_in_order, findings_of}
-use Rattle.call_json.specs.Forms.{IsFinding, FindingWithin}
+use Rattle.asks.specs.Forms.{IsFinding, FindingWithin}
 use Rattle.desk_time.proofs.Chains.{bind_if, bind_any, under, either_known}
 use Rattle.desk_time.proofs.NumberLaws.{number_again, number_within, number_back}
 use Rattle.kept_releases.proofs.CutLaws.{leg_again, IsCut, cut_at, cut_back}

@@ -8,8 +8,8 @@ use Rattle.plan.specs.declared.flights.Alternate.{Alternate}
 use Rattle.plan.specs.declared.flights.TakeoffAlternate.{TakeoffAlternate}
 use Rattle.plan.specs.declared.flights.Leg.{Leg}
 use Rattle.plan.specs.declared.release.Revision.{Revision}
-use Rattle.call_json.specs.Forms.{IsAlternate, IsAmount, IsLeg, IsRevision, MayBeTakeoff}
-use Rattle.call_json.proofs.Printable.{names_printable, station_printable}
+use Rattle.asks.specs.Forms.{IsAlternate, IsAmount, IsLeg, IsRevision, MayBeTakeoff}
+use Rattle.asks.proofs.Printable.{names_printable, station_printable}
 use Rattle.release_text.specs.Legible.{IsLegible, IsLegibleAlternate, IsLegibleLeg, IsLegibleTakeoff, IsNumber, IsWord}
 
 printable : (b : ℕ) → in_key b ≡ true → (not (b == 32) ≡ true) × (not (b == 10) ≡ true)

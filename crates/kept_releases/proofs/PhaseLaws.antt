@@ -15,7 +15,7 @@ use Rattle.desk_time.proofs.Chains.{bind_if, bind_any, under, either, either_kno
 use Rattle.desk_time.proofs.NumberLaws.{number_within, number_back}
 use Rattle.kept_releases.proofs.CutLaws.{leg_again, IsCut, cut_at, cut_back}
 use Rattle.release_text.proofs.Pieces.{decimal_free}
-use Rattle.call_json.proofs.MomentRange.{minute_within}
+use Rattle.asks.proofs.MomentRange.{minute_within}
 
 -- a word and what stands after it
 named : (word rest text : List ℕ) → text ≡ word ++ 32 ∷ rest → cut 32 (word ++ 32 ∷ rest) ≡ Some (word, rest) → phase_in text (cut 32 text) ≡ phase_with (word, rest)

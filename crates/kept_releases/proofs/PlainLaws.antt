@@ -10,11 +10,11 @@ use Rattle.plan.specs.declared.release.Revision.{Revision}
 use Rattle.plan.specs.declared.release.Signature.{Signature}
 use Rattle.plan.specs.Texts.{finding_text, phase_text}
 use Rattle.desk_time.specs.Moments.{shown}
-use Rattle.call_json.specs.Forms.{IsId, IsHours, IsAttached, IsSignature, IsRevision, IsFormed}
-use Rattle.call_json.specs.Plain.{IsPlain, HasText}
-use Rattle.call_json.proofs.Compact.{read_compact}
-use Rattle.call_json.proofs.Plain.{order_of, text_of, list_plain, list_has_text, list_depth, plan_plain, plan_has_text, plan_depth}
-use Rattle.call_json.proofs.Texts.{written_utf8, digest_utf8}
+use Rattle.asks.specs.Forms.{IsId, IsHours, IsAttached, IsSignature, IsRevision, IsFormed}
+use Rattle.asks.specs.Plain.{IsPlain, HasText}
+use Rattle.asks.proofs.Compact.{read_compact}
+use Rattle.asks.proofs.Plain.{order_of, text_of, list_plain, list_has_text, list_depth, plan_plain, plan_has_text, plan_depth}
+use Rattle.asks.proofs.Texts.{written_utf8, digest_utf8}
 use Rattle.std.specs.List.{AllByRecursion}
 use Rattle.kept_releases.specs.Findings.{finding_data, findings_data}
 use Rattle.kept_releases.specs.Kept.{IsKept}

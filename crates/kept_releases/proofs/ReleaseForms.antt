@@ -16,10 +16,10 @@ use Rattle.plan.specs.declared.release.Phase.TheVariants.{Drafted, Ready, Flying
 use Rattle.plan.specs.declared.release.Release.{Release}
 use Rattle.plan.specs.declared.release.Revision.{Revision}
 use Rattle.plan.specs.declared.release.Signature.{Signature}
-use Rattle.call_json.specs.Forms.{IsId, IsHours, HasForms, IsAttached, IsSignature, IsRevision, IsFormed}
-use Rattle.call_json.specs.Digests.{digest_at, IsDigest}
-use Rattle.call_json.specs.Fields.{text_at, id_at, moment_at, list_at, has_members}
-use Rattle.call_json.specs.Plans.{plan_of}
+use Rattle.asks.specs.Forms.{IsId, IsHours, HasForms, IsAttached, IsSignature, IsRevision, IsFormed}
+use Rattle.asks.specs.Digests.{digest_at, IsDigest}
+use Rattle.asks.specs.Fields.{text_at, id_at, moment_at, list_at, has_members}
+use Rattle.asks.specs.Plans.{plan_of}
 use Rattle.kept_releases.specs.Kept.{IsKept, is_valid}
 use Rattle.kept_releases.specs.Phases.{IsPhase, phase_of}
 use Rattle.kept_releases.specs.Plans.{MayHavePlan, HasPlans}
@@ -34,9 +34,9 @@ use Rattle.kept_releases.specs.declared.releases.Revisions.{Revisions}
 use Rattle.desk_time.proofs.Chains.{bind_if, bind_any, then_if, under, either}
 use Rattle.kept_releases.proofs.KeptLaws.{valid_from_test}
 use Rattle.kept_releases.proofs.PhaseLaws.{phase_formed}
-use Rattle.call_json.proofs.PlanForms.{id_formed, moment_formed, each_formed, plan_formed, plan_from_forms}
+use Rattle.asks.proofs.PlanForms.{id_formed, moment_formed, each_formed, plan_formed, plan_from_forms}
 use Rattle.std.proofs.lemmas.Option.{IfSome_then}
-use Rattle.call_json.proofs.DoneForms.{digest_is}
+use Rattle.asks.proofs.DoneForms.{digest_is}
 
 -- ---- fields
 

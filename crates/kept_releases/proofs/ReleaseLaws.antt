@@ -17,10 +17,10 @@ use Rattle.plan.specs.declared.release.Phase.TheVariants.{Drafted, Ready, Flying
 use Rattle.plan.specs.declared.release.Release.{Release}
 use Rattle.plan.specs.declared.release.Revision.{Revision}
 use Rattle.plan.specs.declared.release.Signature.{Signature}
-use Rattle.call_json.proofs.Again.{small_again, id_again, moment_again, plan_again, each_again}
-use Rattle.call_json.proofs.Texts.{passing_utf8, moment_utf8}
-use Rattle.call_json.proofs.DigestLaws.{digest_again}
-use Rattle.call_json.specs.Forms.{IsHours, IsAttached, IsSignature, IsRevision, IsFormed}
+use Rattle.asks.proofs.Again.{small_again, id_again, moment_again, plan_again, each_again}
+use Rattle.asks.proofs.Texts.{passing_utf8, moment_utf8}
+use Rattle.asks.proofs.DigestLaws.{digest_again}
+use Rattle.asks.specs.Forms.{IsHours, IsAttached, IsSignature, IsRevision, IsFormed}
 use Rattle.kept_releases.specs.Kept.{IsKept}
 use Rattle.release_text.specs.Valid.{IsPhased, HasLegs}
 use Rattle.kept_releases.specs.Phases.{IsPhase, phase_of}

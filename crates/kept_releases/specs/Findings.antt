@@ -8,8 +8,8 @@ use Rattle.plan.specs.Findings.{every_rule, code_of, is_before}
 use Rattle.plan.specs.Texts.{finding_text}
 use Rattle.plan.specs.declared.findings.Rule.{Rule}
 use Rattle.plan.specs.declared.findings.Finding.{Finding}
-use Rattle.call_json.specs.Canonical.{text_data, list_data}
-use Rattle.call_json.specs.Fields.{each_read}
+use Rattle.asks.specs.Canonical.{text_data, list_data}
+use Rattle.asks.specs.Fields.{each_read}
 use Rattle.desk_time.specs.Numbers.{number_in}
 use Rattle.kept_releases.specs.Cuts.{leg_of, cut}
 

@@ -6,7 +6,7 @@ use Rattle.plan.specs.declared.release.Phase.TheVariants.{Drafted, Ready, Flying
 use Rattle.plan.specs.declared.release.Release.{Release}
 use Rattle.plan.specs.declared.release.Revision.{Revision}
 use Rattle.plan.specs.declared.release.Signature.{Signature}
-use Rattle.call_json.specs.Forms.{IsFormed}
+use Rattle.asks.specs.Forms.{IsFormed}
 use Rattle.release_text.specs.Revisions.{revision_digest}
 use Rattle.release_text.specs.Valid.{IsValid}
 

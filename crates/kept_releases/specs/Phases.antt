@@ -6,7 +6,7 @@ use Rattle.desk_time.specs.Moments.{minute_of}
 use Rattle.desk_time.specs.Limits.{IsMoment}
 use Rattle.plan.specs.declared.release.Phase.{Phase}
 use Rattle.plan.specs.declared.release.Phase.TheVariants.{Drafted, Ready, Flying, Stopped, Completed, Cancelled}
-use Rattle.call_json.specs.Forms.{IsAmount}
+use Rattle.asks.specs.Forms.{IsAmount}
 use Rattle.kept_releases.specs.Cuts.{leg_of, cut}
 
 abbrev pub ready_of : List ℕ → Option Phase

@@ -12,9 +12,9 @@ use Rattle.plan.specs.declared.release.Phase.{Phase}
 use Rattle.plan.specs.declared.release.Release.{Release}
 use Rattle.plan.specs.declared.release.Revision.{Revision}
 use Rattle.plan.specs.declared.release.Signature.{Signature}
-use Rattle.call_json.specs.Digests.{digest_at}
-use Rattle.call_json.specs.Fields.{text_at, id_at, moment_at, list_at, each_read, has_members}
-use Rattle.call_json.specs.Plans.{plan_of}
+use Rattle.asks.specs.Digests.{digest_at}
+use Rattle.asks.specs.Fields.{text_at, id_at, moment_at, list_at, each_read, has_members}
+use Rattle.asks.specs.Plans.{plan_of}
 use Rattle.kept_releases.specs.Kept.{is_valid, IsKept}
 use Rattle.kept_releases.specs.Phases.{phase_of}
 use Rattle.kept_releases.specs.Rows.{release_data}

@@ -8,8 +8,8 @@ use Rattle.plan.specs.declared.release.Attached.{Attached}
 use Rattle.plan.specs.declared.release.Release.{Release}
 use Rattle.plan.specs.declared.release.Revision.{Revision}
 use Rattle.plan.specs.declared.release.Signature.{Signature}
-use Rattle.call_json.specs.Canonical.{count, text_data, moment_data, list_data, plan_data}
-use Rattle.call_json.specs.Digests.{digest_data}
+use Rattle.asks.specs.Canonical.{count, text_data, moment_data, list_data, plan_data}
+use Rattle.asks.specs.Digests.{digest_data}
 use Rattle.kept_releases.specs.declared.version.Version.{Version}
 use Rattle.kept_releases.specs.declared.version.Version.TheVariants.{First, Second}
 

@@ -2,12 +2,12 @@ ghost use Rattle.std.specs.Prelude.{◌≡◌, ◌↔◌, Some, IfOk, IfSome, ma
 ghost use Rattle.plan.specs.Findings.{AreInOrder};
 ghost use Rattle.serde_json.specs.View.{view, items_view};
 ghost use Rattle.plan.specs.Texts.{finding_text};
-ghost use Rattle.call_json.specs.Fields.{each_read};
-ghost use Rattle.call_json.specs.Forms.{IsFinding, IsSaidFinding};
+ghost use Rattle.asks.specs.Fields.{each_read};
+ghost use Rattle.asks.specs.Forms.{IsFinding, IsSaidFinding};
 ghost use Rattle.kept_releases.specs.Findings as spec;
 
 use crate::cuts::{cut, leg_of};
-use call_json::text_value;
+use asks::text_value;
 use desk_io::OutOfMemory;
 use desk_time::read_number;
 use plan::{EVERY_RULE, Finding, Findings, Rule, finding_text, is_before};

@@ -10,7 +10,7 @@ use crate::kept::is_valid;
 use crate::phases::read_phase;
 use crate::revisions::{person_at, revision_at};
 use crate::version::Version;
-use call_json::{has_members, text_at};
+use asks::{has_members, text_at};
 use desk_io::{OutOfMemory, Text};
 use plan::{Phase, Release, Revision};
 use serde_json::Value;

@@ -3,11 +3,11 @@ ghost use Rattle.std.specs.List.{list_all};
 ghost use Rattle.std.specs.Option.{option_map};
 ghost use Rattle.serde_json.specs.View.{view, items_view};
 ghost use Rattle.ops_tables.specs.Forms as form;
-ghost use Rattle.call_json.specs.Fields.{each_read};
+ghost use Rattle.asks.specs.Fields.{each_read};
 ghost use Rattle.kept_releases.specs.Releases as spec;
 
 use crate::version::{Version, members_of};
-use call_json::{digest_at, has_members, id_at, list_at, moment_at, read_plan, text_at};
+use asks::{digest_at, has_members, id_at, list_at, moment_at, read_plan, text_at};
 use desk_io::{OutOfMemory, Text};
 use plan::{Attached, AttachedList, Plan, Revision, Signature};
 use serde_json::Value;

@@ -3,11 +3,11 @@ ghost use Rattle.serde_json.specs.Data.{put};
 ghost use Rattle.serde_json.specs.View.{view, members_view};
 ghost use Rattle.plan.specs.Texts.{HasMoment, phase_text};
 ghost use Rattle.desk_time.specs.Limits.{IsMoment};
-ghost use Rattle.call_json.specs.Canonical.{list_data, text_data};
+ghost use Rattle.asks.specs.Canonical.{list_data, text_data};
 ghost use Rattle.kept_releases.specs.Rows as spec;
 
 use crate::version::Version;
-use call_json::{
+use asks::{
     Members, count_value, plan_value, with_count, with_digest, with_moment, with_text, with_value,
 };
 use desk_io::OutOfMemory;

@@ -4,7 +4,7 @@ use Rattle.std.specs.Option.{option_map}
 use Rattle.std.specs.Str.{bytes_eq}
 use Rattle.asks.specs.declared.kept.Floor.{Floor}
 use Rattle.asks.specs.declared.kept.KeptReply.{KeptReply}
-pub use Rattle.call_json.specs.Forms.{FloorsRise}
+pub use Rattle.asks.specs.Forms.{FloorsRise}
 
 -- a kept reply to the request of a person under a number
 abbrev pub is_request : List ℕ → ℕ → KeptReply → Bool

@@ -20,7 +20,7 @@ use Rattle.records.specs.Valid.{IsRecord}
 use Rattle.records.specs.declared.faults.RowWhy.TheVariants.{NoMeta, Orphan, OverLimit}
 use Rattle.records.specs.declared.record.Record.{Record}
 use Rattle.records.specs.declared.record.Record.TheVariants.{Meta, Report, Deferral, Release, Kept, Alert}
-use Rattle.call_json.specs.Forms.{IsFormed}
+use Rattle.asks.specs.Forms.{IsFormed}
 use Rattle.kept_state.specs.Held.{AreOfDesk, comes_before}
 use Rattle.kept_state.proofs.Fitting.{Agree, AreFew}
 use Rattle.kept_state.proofs.Lists.{both, weaker_pairs}

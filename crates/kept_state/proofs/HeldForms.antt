@@ -15,7 +15,7 @@ use Rattle.records.specs.declared.record.KeptReport.{KeptReport}
 use Rattle.records.specs.declared.record.Meta.{Meta as MetaOf}
 use Rattle.records.specs.declared.record.Record.{Record}
 use Rattle.records.specs.declared.record.Record.TheVariants.{Meta, Report, Deferral, Release, Kept, Alert}
-use Rattle.call_json.specs.Forms.{IsFormed}
+use Rattle.asks.specs.Forms.{IsFormed}
 use Rattle.kept_state.specs.Held.{AreOfDesk, alert_in, alert_of, alert_with, deferral_in, meta_in, release_in, reply_in, report_if, report_in, report_of, state_with}
 use Rattle.kept_state.proofs.Fitting.{meta_among}
 use Rattle.kept_state.proofs.Lists.{each_mapped}

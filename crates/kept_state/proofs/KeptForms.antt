@@ -15,7 +15,7 @@ use Rattle.desk_state.specs.State.{State}
 use Rattle.desk_time.specs.Limits.{IsMoment}
 use Rattle.plan.specs.declared.release.Release.{Release as ReleaseOf}
 use Rattle.plan.specs.declared.release.Revision.{Revision}
-use Rattle.call_json.specs.Forms.{IsId, FloorsRise, IsFloor, IsFormed}
+use Rattle.asks.specs.Forms.{IsId, FloorsRise, IsFloor, IsFormed}
 use Rattle.records.specs.Faults.{is_ahead, is_late, outruns}
 use Rattle.records.specs.Valid.{IsMeta, IsRecord}
 use Rattle.records.specs.declared.record.Meta.{Meta as MetaOf}

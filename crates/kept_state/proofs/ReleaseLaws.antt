@@ -5,8 +5,8 @@ use Rattle.std.specs.List.{AllByRecursion, filter_map}
 use Rattle.std.proofs.lemmas.Bool.{ltb-true, ltb-false, leb-false, or_parts}
 use Rattle.plan.specs.declared.release.Release.{Release as ReleaseOf}
 use Rattle.plan.specs.declared.release.Revision.{Revision}
-use Rattle.call_json.specs.Forms.{IsRevision}
-use Rattle.call_json.proofs.PlanForms.{plan_from_forms}
+use Rattle.asks.specs.Forms.{IsRevision}
+use Rattle.asks.proofs.PlanForms.{plan_from_forms}
 use Rattle.kept_releases.specs.Kept.{IsKept}
 use Rattle.desk_state.specs.Sound.{MayStand, ReleaseInBounds, RevisionInBounds, Rise}
 use Rattle.records.specs.Faults.{is_late}

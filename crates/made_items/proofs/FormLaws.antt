@@ -8,8 +8,8 @@ use Rattle.json.proofs.Printed.Utf8.{IsUtf8-are_ascii}
 use Rattle.asks.specs.declared.call.Ask.{Ask}
 use Rattle.asks.specs.declared.call.Ask.TheVariants.{Draft, Prepare, Sign, Concur, Cancel}
 use Rattle.asks.specs.declared.call.Call.{Call}
-use Rattle.call_json.specs.Digests.{IsDigest}
-use Rattle.call_json.specs.Forms.{IsId, IsShort, AskHasForms, CallHasForms}
+use Rattle.asks.specs.Digests.{IsDigest}
+use Rattle.asks.specs.Forms.{IsId, IsShort, AskHasForms, CallHasForms}
 use Rattle.made_items.specs.Calls.{no_digest, name_of, key_of, asked_by, first, second, third}
 use Rattle.made_items.specs.Makers.{Making, call_at, next_call}
 use Rattle.made_items.specs.Numbers.{next_number, minimum_of}

@@ -6,7 +6,7 @@ use Rattle.std.proofs.lemmas.Bool.{and_parts}
 use Rattle.std.proofs.lemmas.Bool.Decides.{nat_tests}
 use Rattle.std.proofs.lemmas.Fmt.{digits_decimal, length-decimal-le}
 use Rattle.desk_io.specs.Station.{is_capital_or_digit}
-use Rattle.call_json.specs.Forms.{IsLeg, HasForms}
+use Rattle.asks.specs.Forms.{IsLeg, HasForms}
 use Rattle.desk_time.specs.Numbers.{is_digit}
 use Rattle.desk_time.proofs.NumberLaws.{own}
 use Rattle.made_items.specs.Numbers.{minimum_of}

@@ -1,6 +1,6 @@
 ghost use Rattle.std.specs.Prelude.{◌≡◌, ◌≤◌, ◌↔◌, ◌+◌, ◌*◌, [], None, Some, IfOk, IfSome};
-ghost use Rattle.call_json.specs.Digests.{IsDigest};
-ghost use Rattle.call_json.specs.Forms.{CallHasForms, IsId};
+ghost use Rattle.asks.specs.Digests.{IsDigest};
+ghost use Rattle.asks.specs.Forms.{CallHasForms, IsId};
 ghost use Rattle.made_items.specs.Calls as spec;
 ghost use Rattle.made_items.specs.Calls.{Came, calls, made_at};
 ghost use Rattle.made_items.specs.Makers as making;
@@ -53,8 +53,8 @@ pub struct Maker {
 
 impl Model for Maker {
     ghost use Rattle.std.specs.Prelude.{◌+◌, ◌≤◌};
-    ghost use Rattle.call_json.specs.Forms.{IsId};
-    ghost use Rattle.call_json.specs.Digests.{IsDigest};
+    ghost use Rattle.asks.specs.Forms.{IsId};
+    ghost use Rattle.asks.specs.Digests.{IsDigest};
     ghost use Rattle.made_items.specs.Makers.{Making};
 
     ghost Value = { Making };

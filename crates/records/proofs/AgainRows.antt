@@ -9,8 +9,8 @@ use Rattle.codes.specs.Groups.{groups_of, canonical}
 use Rattle.asks.specs.declared.kept.Floor.{Floor}
 use Rattle.plan.specs.Findings.{AreAmong}
 use Rattle.plan.specs.declared.findings.Finding.{Finding}
-use Rattle.call_json.proofs.Again.{small_again, id_again, moment_again, done_again}
-use Rattle.call_json.proofs.DigestLaws.{digest_again}
+use Rattle.asks.proofs.Again.{small_again, id_again, moment_again, done_again}
+use Rattle.asks.proofs.DigestLaws.{digest_again}
 use Rattle.kept_releases.proofs.FindingLaws.{findings_again}
 use Rattle.kept_releases.proofs.ReleaseLaws.{person_again, release_again}
 use Rattle.records.specs.Kinds.{kind_of, key_of}
@@ -19,7 +19,7 @@ use Rattle.kept_releases.specs.declared.version.Version.{Version}
 use Rattle.kept_releases.specs.declared.version.Version.TheVariants.{First, Second}
 use Rattle.records.specs.Bodies.{floors_data, meta_members, body_data}
 use Rattle.records.specs.Reading as spec
-use Rattle.call_json.specs.Forms.{IsFloor, FloorsRise}
+use Rattle.asks.specs.Forms.{IsFloor, FloorsRise}
 use Rattle.records.specs.Valid.{IsMeta, IsReport, IsRecord, SaysRecord, is_report, are_among}
 use Rattle.records.specs.declared.record.KeptReport.{KeptReport}
 use Rattle.plan.specs.declared.release.Release.{Release as ReleaseOf}

@@ -5,18 +5,18 @@ use Rattle.std.specs.Cmp.Lexicographic.{slice_cmp}
 use Rattle.std.proofs.lemmas.Bool.{and_parts}
 use Rattle.serde_json.specs.Data.{Members, no_members, member, put, members_depth}
 use Rattle.asks.specs.declared.kept.Floor.{Floor}
-use Rattle.call_json.specs.Canonical.{count}
-use Rattle.call_json.specs.Plain.{IsBefore, AreInOrder, MembersArePlain, MembersHaveText}
-use Rattle.call_json.proofs.Again.{small_again}
+use Rattle.asks.specs.Canonical.{count}
+use Rattle.asks.specs.Plain.{IsBefore, AreInOrder, MembersArePlain, MembersHaveText}
+use Rattle.asks.proofs.Again.{small_again}
 use Rattle.kept_releases.proofs.ReleaseLaws.{person_utf8}
 use Rattle.records.specs.Bodies.{with_floors}
 use Rattle.records.specs.Reading.{floor_of, floors_in}
-use Rattle.call_json.specs.Forms.{IsFloor, FloorsRise}
+use Rattle.asks.specs.Forms.{IsFloor, FloorsRise}
 use Rattle.desk_state.proofs.FloorForms.{all_later}
 use Rattle.records.specs.Valid.{comes_before, are_rising}
 use Rattle.records.proofs.NameLaws.{person_lossy, person_known}
-use Rattle.call_json.proofs.Joined.{joined, joined_again, joined_nothing, put_last}
-use Rattle.call_json.proofs.Plain.{less}
+use Rattle.asks.proofs.Joined.{joined, joined_again, joined_nothing, put_last}
+use Rattle.asks.proofs.Plain.{less}
 
 -- the members one after another
 abbrev pub in_turn : List Floor → Members

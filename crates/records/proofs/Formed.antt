@@ -16,13 +16,13 @@ use Rattle.plan.specs.Findings.{AreAmong, is_among}
 use Rattle.desk_time.specs.Limits.{IsMoment}
 use Rattle.plan.specs.declared.findings.Finding.{Finding}
 use Rattle.asks.specs.declared.kept.Floor.{Floor}
-use Rattle.call_json.specs.Forms.{IsId, DoneHasForms, IsFinding, IsRequest, IsFloor, FloorsRise}
-use Rattle.call_json.specs.Digests.{digest_at, IsDigest}
-use Rattle.call_json.specs.Dones.{done_of}
-use Rattle.call_json.specs.Fields.{text_at, number_at, id_at, moment_at, list_at, each_read, has_members}
-use Rattle.call_json.proofs.DoneForms.{done_formed, digest_is}
+use Rattle.asks.specs.Forms.{IsId, DoneHasForms, IsFinding, IsRequest, IsFloor, FloorsRise}
+use Rattle.asks.specs.Digests.{digest_at, IsDigest}
+use Rattle.asks.specs.Dones.{done_of}
+use Rattle.asks.specs.Fields.{text_at, number_at, id_at, moment_at, list_at, each_read, has_members}
+use Rattle.asks.proofs.DoneForms.{done_formed, digest_is}
 use Rattle.desk_time.proofs.Chains.{bind_if, bind_any, then_if, under, either, both_held, mapped}
-use Rattle.call_json.proofs.PlanForms.{id_formed, moment_formed, each_formed}
+use Rattle.asks.proofs.PlanForms.{id_formed, moment_formed, each_formed}
 use Rattle.kept_releases.specs.Findings.{finding_of, finding_in, are_in_order, findings_of}
 use Rattle.kept_releases.proofs.FindingLaws.{finding_formed, order_tested}
 use Rattle.kept_releases.specs.Kept.{IsKept}

@@ -6,7 +6,7 @@ use Rattle.serde_json.specs.View.{view, members_view}
 use Rattle.serde_json.specs.declared.value.Value.{Value}
 use Rattle.desk_time.specs.Digits.{◌>>=◌}
 use Rattle.asks.specs.declared.kept.Floor.{Floor}
-use Rattle.call_json.proofs.Lists.{onto}
+use Rattle.asks.proofs.Lists.{onto}
 use Rattle.records.specs.Reading.{floor_of, floors_in}
 
 onto_one : (before : List Floor) (f : Floor) (rest : Option (List Floor)) → onto (before ++ f ∷ []) rest ≡ onto before (rest >>= λ fs. Some (f ∷ fs))

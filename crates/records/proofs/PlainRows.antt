@@ -3,10 +3,10 @@ use Rattle.std.proofs.Common.{◌^◌, ◌<◌, ◌≤◌, List, refl, sym, arit
 use Rattle.std.specs.List.{AllByRecursion}
 use Rattle.serde_json.specs.Data.{object, depth}
 use Rattle.asks.specs.declared.kept.Floor.{Floor}
-use Rattle.call_json.specs.Forms.{IsFloor, FloorsRise}
-use Rattle.call_json.specs.Plain.{IsPlain, HasText}
-use Rattle.call_json.proofs.Plain.{order_of, text_of, done_plain, done_has_text, done_depth, kept_said}
-use Rattle.call_json.proofs.Texts.{written_utf8, digest_utf8}
+use Rattle.asks.specs.Forms.{IsFloor, FloorsRise}
+use Rattle.asks.specs.Plain.{IsPlain, HasText}
+use Rattle.asks.proofs.Plain.{order_of, text_of, done_plain, done_has_text, done_depth, kept_said}
+use Rattle.asks.proofs.Texts.{written_utf8, digest_utf8}
 use Rattle.kept_releases.proofs.PlainLaws.{id_plain, release_plain, release_has_text, release_depth, findings_plain, findings_have_text, findings_depth}
 use Rattle.kept_releases.specs.Versions.{number_of}
 use Rattle.kept_releases.specs.declared.version.Version.{Version}

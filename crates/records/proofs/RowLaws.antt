@@ -9,8 +9,8 @@ use Rattle.serde_json.specs.Written.{compact_text}
 use Rattle.desk_io.specs.declared.rows.Row.{Row}
 use Rattle.desk_time.specs.Digits.{◌>>=◌}
 use Rattle.desk_time.proofs.Chains.{bind_if, bind_any, both_held}
-use Rattle.call_json.specs.Fields.{data_of}
-use Rattle.call_json.proofs.Compact.{read_compact, utf8_compact}
+use Rattle.asks.specs.Fields.{data_of}
+use Rattle.asks.proofs.Compact.{read_compact, utf8_compact}
 use Rattle.kept_releases.proofs.ReleaseForms.{moments_formed}
 use Rattle.records.specs.Kinds.{kind_of, key_of}
 use Rattle.kept_releases.specs.declared.version.Version.{Version}

@@ -11,8 +11,8 @@ use Rattle.plan.specs.declared.release.Attached.{Attached}
 use Rattle.plan.specs.declared.release.Release.{Release as ReleaseOf}
 use Rattle.plan.specs.declared.release.Revision.{Revision}
 use Rattle.plan.specs.declared.release.Signature.{Signature}
-use Rattle.call_json.specs.Canonical.{count}
-use Rattle.call_json.proofs.Whole.{list_whole, plan_whole, done_whole}
+use Rattle.asks.specs.Canonical.{count}
+use Rattle.asks.proofs.Whole.{list_whole, plan_whole, done_whole}
 use Rattle.kept_releases.specs.Findings.{finding_data}
 use Rattle.kept_releases.specs.Rows.{signature_data, attached_data, hours_data, revision_data, release_data}
 use Rattle.kept_releases.specs.declared.version.Version.{Version}

@@ -8,8 +8,8 @@ use Rattle.asks.specs.declared.kept.KeptReply.{KeptReply}
 use Rattle.deferrals.specs.declared.items.Deferral.{Deferral as DeferralOf}
 use Rattle.desk_io.specs.declared.rows.Row.{Row}
 use Rattle.desk_time.specs.Limits.{IsMoment}
-use Rattle.call_json.specs.Canonical.{count, text_data, moment_data, done_data}
-use Rattle.call_json.specs.Digests.{digest_data}
+use Rattle.asks.specs.Canonical.{count, text_data, moment_data, done_data}
+use Rattle.asks.specs.Digests.{digest_data}
 use Rattle.kept_releases.specs.Findings.{findings_data}
 use Rattle.kept_releases.specs.Rows.{release_data, ReleaseHasMoments}
 use Rattle.kept_releases.specs.Versions.{number_of}

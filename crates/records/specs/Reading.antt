@@ -13,9 +13,9 @@ use Rattle.asks.specs.declared.kept.KeptReply.{KeptReply}
 use Rattle.asks.specs.declared.reply.Done.{Done}
 use Rattle.deferrals.specs.declared.items.Deferral.{Deferral as DeferralOf}
 use Rattle.desk_io.specs.declared.rows.Row.{Row}
-use Rattle.call_json.specs.Digests.{digest_at}
-use Rattle.call_json.specs.Dones.{done_of}
-use Rattle.call_json.specs.Fields.{data_of, text_at, number_at, id_at, moment_at, list_at, has_members}
+use Rattle.asks.specs.Digests.{digest_at}
+use Rattle.asks.specs.Dones.{done_of}
+use Rattle.asks.specs.Fields.{data_of, text_at, number_at, id_at, moment_at, list_at, has_members}
 use Rattle.kept_releases.specs.Findings.{findings_of}
 use Rattle.kept_releases.specs.Releases.{bool_at, person, person_at, release_of}
 use Rattle.kept_releases.specs.Versions.{number_of}

@@ -13,8 +13,8 @@ use Rattle.asks.specs.declared.kept.Floor.{Floor}
 use Rattle.asks.specs.declared.kept.KeptReply.{KeptReply}
 use Rattle.deferrals.specs.declared.items.Deferral.{Deferral as DeferralOf}
 use Rattle.facts.specs.Reading.{read_of}
-use Rattle.call_json.specs.Forms.{IsId, DoneHasForms, IsFinding, IsRequest, IsFloor, FloorsRise}
-use Rattle.call_json.specs.Digests.{IsDigest}
+use Rattle.asks.specs.Forms.{IsId, DoneHasForms, IsFinding, IsRequest, IsFloor, FloorsRise}
+use Rattle.asks.specs.Digests.{IsDigest}
 use Rattle.kept_releases.specs.Kept.{IsKept}
 use Rattle.kept_releases.specs.Versions.{SaysRelease}
 use Rattle.kept_releases.specs.declared.version.Version.{Version}

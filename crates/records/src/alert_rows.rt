@@ -1,13 +1,13 @@
 ghost use Rattle.std.specs.Prelude.{◌≡◌, IfOk, codes, option_and_then};
 ghost use Rattle.plan.specs.Findings.{is_among};
-ghost use Rattle.call_json.specs.Fields.{id_at};
+ghost use Rattle.asks.specs.Fields.{id_at};
 ghost use Rattle.kept_releases.specs.Releases.{bool_at};
 ghost use Rattle.serde_json.specs.View.{view};
 ghost use Rattle.records.specs.Reading as spec;
 ghost use Rattle.records.specs.Valid as valid;
 
 use crate::record::KeptAlert;
-use call_json::{has_members, id_at, list_at, moment_at};
+use asks::{has_members, id_at, list_at, moment_at};
 use desk_io::OutOfMemory;
 use desk_time::Minute;
 use kept_releases::read_findings;

@@ -1,8 +1,8 @@
 ghost use Rattle.std.specs.Prelude.{◌≡◌, codes, IfOk, option_and_then};
 ghost use Rattle.std.specs.Option.{option_map};
 ghost use Rattle.desk_time.specs.Limits.{IsMoment};
-ghost use Rattle.call_json.specs.Dones.{done_of};
-ghost use Rattle.call_json.specs.Fields.{text_at};
+ghost use Rattle.asks.specs.Dones.{done_of};
+ghost use Rattle.asks.specs.Fields.{text_at};
 ghost use Rattle.kept_releases.specs.Releases.{person_at};
 ghost use Rattle.serde_json.specs.Find.{get};
 ghost use Rattle.serde_json.specs.View.{view};
@@ -11,8 +11,7 @@ ghost use Rattle.records.specs.Valid as valid;
 
 use crate::names::{is_item, is_person, is_tail};
 use crate::record::KeptReport;
-use asks::{Done, KeptReply};
-use call_json::{digest_at, has_members, moment_at, number_at, read_done, text_at};
+use asks::{Done, KeptReply, digest_at, has_members, moment_at, number_at, read_done, text_at};
 use codes::ReportFault;
 use deferrals::Deferral;
 use desk_io::{OutOfMemory, Text};

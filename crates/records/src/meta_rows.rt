@@ -7,8 +7,7 @@ ghost use Rattle.records.specs.Valid as valid;
 
 use crate::names::is_person;
 use crate::record::Meta;
-use asks::{Floor, Floors};
-use call_json::{Members, has_members, id_at, moment_at};
+use asks::{Floor, Floors, Members, has_members, id_at, moment_at};
 use desk_io::{OutOfMemory, Text};
 use desk_state::Counters;
 use kept_releases::Version;

@@ -13,7 +13,7 @@ use crate::bodies::row_in;
 use crate::kept_rows::{deferral_of, kept_of, report_of};
 use crate::meta_rows::meta_in;
 use crate::record::Record;
-use call_json::data_of;
+use asks::data_of;
 use desk_io::{OutOfMemory, Row};
 use kept_releases::{Version, read_release};
 use serde_json::Value;

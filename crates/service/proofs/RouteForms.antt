@@ -20,7 +20,7 @@ use Rattle.desk_http.specs.declared.routes.RouteFault.TheVariants.{WrongMethod}
 use Rattle.desk_http.specs.declared.routes.Routed.{Routed}
 use Rattle.desk_http.specs.declared.routes.Routed.TheVariants.{Post, Board, Alerts, Release, Weather, Deferred}
 use Rattle.desk_http.specs.declared.wire.Wire.{Wire}
-use Rattle.call_json.specs.Forms.{IsId, IsShort}
+use Rattle.asks.specs.Forms.{IsId, IsShort}
 use Rattle.service.specs.Forms.{RouteHasForms}
 use Rattle.service.specs.Requested.{is_short, short_or_empty, requested_on, requested_by, asked_by}
 use Rattle.service.specs.declared.requested.Requested.TheVariants as requested

@@ -3,7 +3,7 @@ use Rattle.std.specs.Prelude.{◌≡◌, true}
 use Rattle.desk_io.specs.Station.{is_station}
 use Rattle.desk_http.specs.declared.routes.Routed.{Routed}
 use Rattle.desk_http.specs.declared.routes.Routed.TheVariants.{Post, Board, Alerts, Release, Weather, Deferred}
-use Rattle.call_json.specs.Forms.{CallHasForms, IsId, IsShort}
+use Rattle.asks.specs.Forms.{CallHasForms, IsId, IsShort}
 use Rattle.service.specs.declared.requested.Requested.{Requested}
 use Rattle.service.specs.declared.requested.Requested.TheVariants as requested
 

@@ -1,6 +1,6 @@
 ghost use Rattle.std.specs.Prelude.{◌≡◌, ◌≢◌, ◌<◌, Err, IfOk, IfErr, OnOk, option_to_list, vec_len};
 ghost use Rattle.std.specs.Vec.{vec_capacity};
-ghost use Rattle.call_json.specs.Forms.{CallHasForms};
+ghost use Rattle.asks.specs.Forms.{CallHasForms};
 ghost use Rattle.desk.specs.Seen.{desk_seen, DeskGoesOn};
 ghost use Rattle.desk.specs.Shown.{IsShown};
 ghost use Rattle.desk_io.specs.Health.{IsStill};

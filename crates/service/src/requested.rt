@@ -1,7 +1,7 @@
 ghost use Rattle.std.specs.Prelude.{◌≡◌, IfOk};
 ghost use Rattle.desk_json.specs.Faults.{call_or_fault};
 ghost use Rattle.service.specs.Requested as spec;
-ghost use Rattle.call_json.specs.Forms.{AskHasForms, IsShort};
+ghost use Rattle.asks.specs.Forms.{AskHasForms, IsShort};
 ghost use Rattle.service.specs.Forms.{RequestedHasForms, RouteHasForms};
 
 use asks::{Ask, BadCall, Call};

@@ -5,7 +5,7 @@ ghost use Rattle.connections.specs.Writing.{WroteTo};
 ghost use Rattle.connections.specs.declared.answers.Unanswered.TheVariants.{ClockFault as ByClock};
 ghost use Rattle.connections.specs.declared.serving.Served.TheVariants as ended;
 ghost use Rattle.desk_http.specs.Requests.{unused};
-ghost use Rattle.call_json.specs.Forms.{CallHasForms};
+ghost use Rattle.asks.specs.Forms.{CallHasForms};
 ghost use Rattle.desk_io.specs.Health.{IsSound};
 ghost use Rattle.desk_io.specs.Over.{over};
 ghost use Rattle.desk_net.specs.Seen.{LinkGoesOn};

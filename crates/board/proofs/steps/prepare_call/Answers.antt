@@ -1,5 +1,5 @@
 use Rattle.std.proofs.Common.{ap, subst, ◌∙◌}
-use Rattle.call_json.proofs.AskForms.{call_from_forms}
+use Rattle.asks.proofs.AskForms.{call_from_forms}
 use Rattle.desk_state.specs.Contents.{Held}
 use Rattle.desk_state.specs.Decide.{decide}
 use Rattle.desk_state.specs.Holds.{Holds}

@@ -1,5 +1,5 @@
 use Rattle.std.proofs.Common.{◌≡◌, drop}
-use Rattle.call_json.specs.Forms.{FloorsRise}
+use Rattle.asks.specs.Forms.{FloorsRise}
 use Rattle.desk_state.specs.Requests.{raised_by, kept_before}
 use Rattle.decisions.proofs.sweeps.raised.Given as goal
 

@@ -1,8 +1,8 @@
 use Rattle.std.proofs.Common.{◌≡◌}
 use Rattle.serde_json.specs.Events.{items_len}
 use Rattle.compact_json.specs.Elements.{items_left}
-use Rattle.call_json.specs.Fields.{each_read}
-use Rattle.call_json.proofs.Lists.{onto}
+use Rattle.asks.specs.Fields.{each_read}
+use Rattle.asks.proofs.Lists.{onto}
 use Rattle.desk_json.specs.ReadReplies.{finding_in}
 use Rattle.desk_json.proofs.read_replies.findings_of.Given as goal
 

@@ -1,7 +1,7 @@
 use Rattle.std.proofs.Common.{◌≡◌, drop}
 use Rattle.serde_json.specs.View.{items_view}
-use Rattle.call_json.specs.Fields.{each_read}
-use Rattle.call_json.proofs.Lists.{onto}
+use Rattle.asks.specs.Fields.{each_read}
+use Rattle.asks.proofs.Lists.{onto}
 use Rattle.kept_releases.specs.Releases.{attached_of}
 use Rattle.kept_releases.proofs.revisions.attached_in.Given as goal
 

@@ -1,6 +1,6 @@
 use Rattle.std.proofs.Common.{◌≡◌}
 use Rattle.serde_json.specs.View.{members_view}
-use Rattle.call_json.proofs.Lists.{onto}
+use Rattle.asks.proofs.Lists.{onto}
 use Rattle.records.specs.Reading.{floors_in}
 use Rattle.records.proofs.meta_rows.floors_in.Given as goal
 

@@ -1,5 +1,0 @@
-use Rattle.call_json.proofs.DigestLaws.{digits_of_read}
-use Rattle.call_json.proofs.digests.read_digest.Goals as goal
-
-pub returns-clause-written : goal.returns-clause-written
-returns-clause-written c = digits_of_read c.args.text.now c.digest_of.result c.digest_of.ensures
