@@ -41,7 +41,7 @@ use std::alloc::Global;
 use std::marker::Model;
 use std::snapshot::Snapshot;
 use std::sync::ledger::Ledger;
-use views::closing;
+use decisions::closing;
 
 /// The board of releases. Contracts see its state, the state in which it was opened, of which code keeps
 /// no copy, and the prepared step that may be installed without memory.

@@ -11,7 +11,7 @@ use desk_state::{Content, Decision, Effect};
 use desk_time::Minute;
 use ops_tables::TypeRow;
 use std::alloc::Global;
-use views::deferral_lines;
+use crate::due_lines::deferral_lines;
 
 fn aircraft<'a>(content: &'a Content, tail: &[u8]) -> Result<&'a TypeRow, Stop>
     ensures { Answers (λ k. k.now) result (spec.aircraft content.now.state tail.now) }

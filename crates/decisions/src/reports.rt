@@ -13,7 +13,7 @@ use desk_io::{Station, Text};
 use desk_state::{Content, Decision, Effect};
 use facts::{HELD_LIMIT, Received, Report, receive};
 use std::alloc::Global;
-use views::weather_view;
+use crate::weather::weather_view;
 
 fn refusal_for(bad: BadReport) -> Refusal
     ensures { result ≡ spec.refusal_for bad.group bad.why }

@@ -8,7 +8,9 @@ use crate::releases::held;
 use asks::{Ask, Reply};
 use desk_state::{Content, Decision};
 use std::alloc::Global;
-use views::{alerts_view, board_view, release_view};
+use crate::alert_lines::alerts_view;
+use crate::boards::board_view;
+use crate::release_lines::release_view;
 
 /// The releases.
 pub(crate) fn view_board(alloc: Global, content: &Content) -> Result<Decision, Stop>

@@ -3,7 +3,7 @@ use Rattle.std.specs.Prelude.{map}
 use Rattle.std.specs.List.{AllByRecursion}
 use Rattle.desk_time.specs.Limits.{IsMoment}
 use Rattle.desk_state.specs.Texts.{deferral_lines}
-use Rattle.views.proofs.due_lines.deferral_lines.Given as goal
+use Rattle.decisions.proofs.due_lines.deferral_lines.Given as goal
 
 abbrev pub invariant-loop-deferral : goal.invariant-loop-deferral
 invariant-loop-deferral l = record {

@@ -1,5 +1,5 @@
 use Rattle.std.proofs.Common.{◌≡◌, ℕ, List, [], ◌∷◌, ◌++◌, OnOk, append-nil, ap, subst, ◌∙◌}
-use Rattle.views.proofs.releases.push_signature.Goals as goal
+use Rattle.decisions.proofs.release_lines.push_signature.Goals as goal
 
 -- the pieces of a signature, of which the last one ends the text
 ends : (before actor named at moment : List ℕ) → named ≡ actor → moment ≡ at → before ++ 32 ∷ (named ++ 32 ∷ (moment ++ [])) ≡ before ++ 32 ∷ (actor ++ 32 ∷ at)

@@ -2,7 +2,7 @@ use Rattle.std.proofs.Common.{◌≡◌, ◌++◌, drop}
 use Rattle.std.specs.List.{AllByRecursion}
 use Rattle.desk_state.specs.Texts.{release_lines}
 use Rattle.desk_state.specs.Sound.{ReleaseInBounds}
-use Rattle.views.proofs.boards.push_releases.Given as goal
+use Rattle.decisions.proofs.boards.push_releases.Given as goal
 
 abbrev pub invariant-loop-release : goal.invariant-loop-release
 invariant-loop-release l = record {

@@ -2,7 +2,7 @@ use Rattle.std.proofs.Common.{◌≡◌, ◌++◌, drop}
 use Rattle.std.specs.List.{AllByRecursion}
 use Rattle.desk_state.specs.Texts.{alert_lines}
 use Rattle.alerts.specs.Alerts.{IsAlert}
-use Rattle.views.proofs.alert_lines.push_alerts.Given as goal
+use Rattle.decisions.proofs.alert_lines.push_alerts.Given as goal
 
 abbrev pub invariant-loop-alert : goal.invariant-loop-alert
 invariant-loop-alert l = record {
