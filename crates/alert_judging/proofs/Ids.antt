@@ -7,9 +7,9 @@ use Rattle.std.specs.Prelude.{map}
 use Rattle.std.specs.List.{AllByRecursion, dedup, dedup_from}
 use Rattle.std.specs.List.Sorted.{IsPermutation}
 use Rattle.plan.specs.declared.release.Release.{Release}
-use Rattle.held_releases.specs.declared.change.OnReleases.{OnReleases}
-use Rattle.held_releases.specs.declared.change.OnReleases.TheVariants as on_releases
-use Rattle.held_releases.specs.Touched.{held_where, is_among}
+use Rattle.release_index.specs.declared.change.OnReleases.{OnReleases}
+use Rattle.release_index.specs.declared.change.OnReleases.TheVariants as on_releases
+use Rattle.release_index.specs.Touched.{held_where, is_among}
 use Rattle.desk_io.proofs.Each.{each_push, each_weaker}
 use Rattle.desk_state.specs.declared.effect.Effect.{Effect}
 use Rattle.desk_state.specs.Events.{releases_after}

@@ -3,7 +3,7 @@ use Rattle.std.proofs.Common.{◌≡◌, ℕ, ◌+◌, true, List, [], ◌∷◌
 use Rattle.std.specs.List.{cons_option}
 use Rattle.std.specs.List.Sorted.{IsStrictlyIncreasing}
 use Rattle.plan.specs.declared.release.Release.{Release}
-use Rattle.held_releases.specs.Touched.{is_among}
+use Rattle.release_index.specs.Touched.{is_among}
 use Rattle.desk_state.specs.Counting.{count_touched}
 use Rattle.desk_state.specs.Events.{alert_changes, changes_over}
 use Rattle.desk_state.specs.Holds.{Holds}

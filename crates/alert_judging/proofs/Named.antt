@@ -5,7 +5,7 @@ use Rattle.std.specs.List.{AllByRecursion, AllPairs, filter_map, cons_option}
 use Rattle.std.specs.List.Sorted.{IsStrictlyIncreasing}
 use Rattle.std.proofs.lemmas.List.Kept.{AllPairs-from_increasing}
 use Rattle.plan.specs.declared.release.Release.{Release}
-use Rattle.held_releases.specs.Touched.{is_among}
+use Rattle.release_index.specs.Touched.{is_among}
 use Rattle.desk_state.specs.State.{release_at}
 use Rattle.desk_state.specs.Sound.{Rise}
 

@@ -4,8 +4,8 @@ use Rattle.plan.specs.declared.release.Release.{Release}
 use Rattle.rules.specs.Grounds.{Grounds}
 use Rattle.deferrals.specs.declared.items.Deferral.{Deferral}
 use Rattle.alerts.specs.declared.alert.Alert.{Alert}
-use Rattle.held_releases.specs.declared.change.OnReleases.{OnReleases}
-use Rattle.held_releases.specs.declared.change.OnReleases.TheVariants as on_releases
+use Rattle.release_index.specs.declared.change.OnReleases.{OnReleases}
+use Rattle.release_index.specs.declared.change.OnReleases.TheVariants as on_releases
 use Rattle.desk_state.specs.declared.change.AlertChange.{AlertChange}
 use Rattle.desk_state.specs.declared.effect.OnDeferrals.{OnDeferrals}
 use Rattle.desk_state.specs.declared.effect.OnDeferrals.TheVariants as on_deferrals

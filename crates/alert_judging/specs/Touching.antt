@@ -1,6 +1,6 @@
 -- Which releases are judged, by their ids.
 use Rattle.std.specs.Prelude.{◌≡◌, ℕ, Bool, true, ◌||◌, List}
-use Rattle.held_releases.specs.Touched.{held_where, is_among}
+use Rattle.release_index.specs.Touched.{held_where, is_among}
 use Rattle.desk_state.specs.declared.effect.Effect.{Effect}
 use Rattle.desk_state.specs.State.{State}
 use Rattle.desk_state.specs.Touched.{by_report, by_deferral, by_time, by_release, by_alert}

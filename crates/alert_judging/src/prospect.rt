@@ -19,7 +19,7 @@ use desk_io::{Copied, OutOfMemory};
 use desk_state::{AlertChange, Alerted, Content, Effect, OnAlerts, OnDeferrals};
 use desk_time::Minute;
 use facts::Report;
-use held_releases::OnReleases;
+use release_index::OnReleases;
 use plan::{Findings, Phase, Plan, Release, is_active};
 use rules::{Evidence, Steps, judge_by};
 use std::alloc::Global;

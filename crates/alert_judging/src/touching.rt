@@ -1,7 +1,7 @@
 ghost use Rattle.std.specs.Prelude.{◌≡◌, ◌++◌, ℕ, map, IfOk, OnOk};
 ghost use Rattle.std.specs.Option.{option_copied};
 ghost use Rattle.std.specs.List.Sorted.{IsStrictlyIncreasing};
-ghost use Rattle.held_releases.specs.Touched.{held_where, is_among};
+ghost use Rattle.release_index.specs.Touched.{held_where, is_among};
 ghost use Rattle.desk_state.specs.Touched as touched;
 ghost use Rattle.alert_judging.specs.Touching as spec;
 ghost use Rattle.alert_judging.specs.Touching.{Adds};
@@ -10,7 +10,7 @@ use crate::prospect::Prospect;
 use deferrals::Deferral;
 use desk_io::OutOfMemory;
 use desk_state::{OnAlerts, OnDeferrals};
-use held_releases::OnReleases;
+use release_index::OnReleases;
 use plan::Release;
 use std::alloc::Global;
 

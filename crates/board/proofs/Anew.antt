@@ -4,11 +4,11 @@ use Rattle.std.specs.List.{AllByRecursion}
 use Rattle.desk_io.specs.Rows.{Rows, rows_of, changed, changed_by}
 use Rattle.desk_io.specs.declared.rows.Change.{Change}
 use Rattle.keeper.specs.Kept.{AreSame}
-use Rattle.kept_state.specs.Judged.{judged_changes}
-use Rattle.kept_state.specs.Upgraded.{if_old, opened_changes, upgraded_changes}
-use Rattle.kept_state.specs.Rows.{report_kept, alert_kept, records_of, state_rows, AreKept}
-use Rattle.kept_state.proofs.AlertRows.{changes_own}
-use Rattle.kept_state.proofs.JudgedLaws.{judged_lead, with_alerts}
+use Rattle.row_changes.specs.Judged.{judged_changes}
+use Rattle.row_changes.specs.Upgraded.{if_old, opened_changes, upgraded_changes}
+use Rattle.row_changes.specs.Rows.{report_kept, alert_kept, records_of, state_rows, AreKept}
+use Rattle.row_changes.proofs.AlertRows.{changes_own}
+use Rattle.row_changes.proofs.JudgedLaws.{judged_lead, with_alerts}
 use Rattle.desk_state.specs.declared.change.AlertChange.{AlertChange}
 use Rattle.desk_state.specs.Effects.{nothing}
 use Rattle.desk_state.specs.Events.{alert_changes, put_changes}
@@ -16,24 +16,24 @@ use Rattle.desk_state.specs.Sound.{EffectFits, IsBoard, Sound}
 use Rattle.desk_state.specs.State.{State, start, judged_all}
 use Rattle.ops_tables.specs.Named.{AreNamed}
 use Rattle.ops_tables.specs.Tables.{TableRows}
-use Rattle.kept_releases.specs.declared.version.Version.TheVariants.{First}
+use Rattle.release_json.specs.declared.version.Version.TheVariants.{First}
 use Rattle.records.specs.Bodies.{row_in, row_of}
 use Rattle.records.specs.Reading.{version_if}
 use Rattle.records.specs.declared.record.Meta.{Meta as MetaOf}
 use Rattle.records.specs.declared.record.Record.{Record}
 use Rattle.records.specs.declared.record.Record.TheVariants.{Meta, Report, Deferral, Release, Kept, Alert}
-use Rattle.kept_state.specs.Held.{AreOfDesk, meta_in, state_by, state_in, state_with}
-use Rattle.kept_state.specs.Opening.{MayReopen, counters_with, events_with, reopened}
-use Rattle.kept_state.proofs.OpeningLaws.{changes_lead, reopened_board}
+use Rattle.row_changes.specs.Held.{AreOfDesk, meta_in, state_by, state_in, state_with}
+use Rattle.row_changes.specs.Opening.{MayReopen, counters_with, events_with, reopened}
+use Rattle.row_changes.proofs.OpeningLaws.{changes_lead, reopened_board}
 use Rattle.desk_state.specs.Contents.{Held, held}
 use Rattle.desk_state.specs.Holds.{Holds}
 use Rattle.desk_state.specs.declared.counters.Counters.{Counters}
 use Rattle.desk_state.proofs.Boards.{start_board}
 use Rattle.desk_state.specs.Install.{IsOwn, with_judged}
 use Rattle.desk_state.proofs.HoldLaws.{board_holds}
-use Rattle.kept_state.proofs.RecordLaws.{no_records, records_again}
-use Rattle.kept_state.proofs.StateLaws.{counted_reopens, may_reopen}
-use Rattle.kept_state.proofs.UpgradedLaws.{releases_ascend, upgraded_first, upgraded_lead}
+use Rattle.row_changes.proofs.RecordLaws.{no_records, records_again}
+use Rattle.row_changes.proofs.StateLaws.{counted_reopens, may_reopen}
+use Rattle.row_changes.proofs.UpgradedLaws.{releases_ascend, upgraded_first, upgraded_lead}
 
 -- an effect that changes nothing
 pub nothing_fits : (s : State) → EffectFits s nothing

@@ -44,7 +44,7 @@ use Rattle.asks.specs.contracts.kept.Floor as Floor
 use Rattle.alerts.specs.contracts.alert.Alert as Alert
 use Rattle.deferrals.specs.contracts.items.Deferral as Deferral
 use Rattle.deferrals.specs.contracts.held.Deferrals as Deferrals
-use Rattle.held_releases.specs.contracts.releases.Releases as Releases
+use Rattle.release_index.specs.contracts.releases.Releases as Releases
 use Rattle.kept_replies.specs.contracts.replies.Replies as Replies
 use Rattle.desk_state.specs.contracts.entry.What as What
 use Rattle.desk_state.specs.contracts.entry.Entry as Entry

@@ -45,7 +45,7 @@ use Rattle.asks.specs.declared.reply.Reply.TheVariants as reply
 use Rattle.desk_state.specs.Allowed.{DecisionOf}
 use Rattle.desk_state.proofs.AllowedLaws.{decision_is}
 use Rattle.desk_state.proofs.EffectForms.{floors_rise}
-use Rattle.kept_state.proofs.AlertRows.{changes_own}
+use Rattle.row_changes.proofs.AlertRows.{changes_own}
 use Rattle.desk_state.specs.declared.event.Event.{Event}
 use Rattle.board.specs.declared.prepared.Prepared.{Prepared}
 use Rattle.board.specs.declared.steps.Judged.{Judged}
@@ -54,9 +54,9 @@ use Rattle.board.proofs.Parts.{may_come}
 use Rattle.std.specs.Global.{Vec}
 use Rattle.desk_io.specs.Rows.{changed_by}
 use Rattle.desk_io.specs.declared.rows.Change.{Change}
-use Rattle.kept_state.specs.Changes.{event_changes}
-use Rattle.kept_state.specs.Rows.{AreKept}
-use Rattle.kept_state.proofs.Leading.{kept_lead}
+use Rattle.row_changes.specs.Changes.{event_changes}
+use Rattle.row_changes.specs.Rows.{AreKept}
+use Rattle.row_changes.proofs.Leading.{kept_lead}
 use Rattle.board.specs.Prepare.{installed, IsStepped, KeepsRows, MayInstall, IsReady, Shown, shown}
 
 -- the effect of a call fits

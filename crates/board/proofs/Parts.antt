@@ -6,9 +6,9 @@ use Rattle.asks.specs.Forms.{FloorsRise}
 use Rattle.deferrals.specs.declared.items.Deferral.{Deferral}
 use Rattle.facts.specs.Reading.{IsRead}
 use Rattle.facts.specs.declared.report.Report.{Report}
-use Rattle.held_releases.specs.Changes.{MayChange}
-use Rattle.held_releases.specs.declared.change.OnReleases.{OnReleases}
-use Rattle.held_releases.specs.declared.change.OnReleases.TheVariants as on_releases
+use Rattle.release_index.specs.Changes.{MayChange}
+use Rattle.release_index.specs.declared.change.OnReleases.{OnReleases}
+use Rattle.release_index.specs.declared.change.OnReleases.TheVariants as on_releases
 use Rattle.desk_io.proofs.ByIdForms.{all_below}
 use Rattle.plan.specs.declared.release.Release.{Release}
 use Rattle.desk_state.specs.Holds.{Holds}
@@ -19,8 +19,8 @@ use Rattle.desk_state.specs.declared.effect.Effect.{Effect}
 use Rattle.desk_state.specs.declared.effect.OnDeferrals.{OnDeferrals}
 use Rattle.desk_state.specs.declared.effect.OnDeferrals.TheVariants as on_deferrals
 use Rattle.decisions.specs.Reads.{AdmitsRead}
-use Rattle.kept_state.specs.Shown.{IsSmallDeferral, IsSmallReport}
-use Rattle.kept_state.proofs.ShownLaws.{are_small}
+use Rattle.row_changes.specs.Shown.{IsSmallDeferral, IsSmallReport}
+use Rattle.row_changes.proofs.ShownLaws.{are_small}
 
 above_all : (next id : ℕ) (rs : List Report) → AllByRecursion (IsNumbered next) rs → id ≡ next → AllByRecursion (λ held. held.id < id) rs
 above_all next id [] all is = tt

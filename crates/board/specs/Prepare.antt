@@ -1,7 +1,7 @@
 -- A step that is prepared: what is left is to put it in place.
 use Rattle.std.specs.Prelude.{◌≡◌, Bool, Option, IfSome}
 use Rattle.desk_io.specs.Rows.{Rows, changed_by}
-use Rattle.kept_state.specs.Rows.{AreKept}
+use Rattle.row_changes.specs.Rows.{AreKept}
 use Rattle.desk_state.specs.State.{State}
 use Rattle.desk_state.specs.Events.{effected}
 use Rattle.desk_state.specs.Step.{Stepped, kept_of}

@@ -1,20 +1,20 @@
 ghost use Rattle.std.specs.Prelude.{OnOk, ◌≡◌, ◌<◌, false, map, IfOk};
 ghost use Rattle.desk_io.specs.Rows.{Rows, rows_of, changed_by};
 ghost use Rattle.keeper.specs.Kept.{AreSame};
-ghost use Rattle.kept_state.specs.Upgraded as kept;
-ghost use Rattle.kept_state.specs.Rows.{AreKept};
+ghost use Rattle.row_changes.specs.Upgraded as kept;
+ghost use Rattle.row_changes.specs.Rows.{AreKept};
 ghost use Rattle.desk_state.specs.Effects.{nothing};
 ghost use Rattle.desk_state.specs.Events.{alert_changes};
 ghost use Rattle.records.specs.Bodies.{row_in};
 ghost use Rattle.records.specs.Reading.{version_if};
-ghost use Rattle.kept_state.specs.Held.{AreOfDesk, state_in};
-ghost use Rattle.kept_state.specs.Opening as spec;
-ghost use Rattle.kept_state.specs.Opening.{MayReopen, reopened};
+ghost use Rattle.row_changes.specs.Held.{AreOfDesk, state_in};
+ghost use Rattle.row_changes.specs.Opening as spec;
+ghost use Rattle.row_changes.specs.Opening.{MayReopen, reopened};
 
 use alert_judging::Prospect;
 use desk_io::{Change, OutOfMemory};
 use desk_state::{AlertChange, Alerted, Content, Effect};
-use kept_state::{content_of, opened_changes};
+use row_changes::{content_of, opened_changes};
 use ops_tables::Tables;
 use records::Record;
 use rules::Steps;
@@ -93,7 +93,7 @@ fn leave(_: Content) {}
 
 /// The state that records stand for under some tables, once its active releases are judged, and what that changes of
 /// the rows, which are of the first version where `is_old` says so.
-#[tactic(auto, using(kept_state::proofs::StateLaws::may_reopen))]
+#[tactic(auto, using(row_changes::proofs::StateLaws::may_reopen))]
 pub(crate) fn restored<L: Ledger>(
     alloc: Global,
     tables: Tables,

@@ -15,14 +15,14 @@ ghost use Rattle.asks.specs.Ranges.{ReplyHasMoment};
 ghost use Rattle.asks.specs.Forms.{CallHasForms};
 ghost use Rattle.desk_io.specs.Rows.{Rows, rows_of, changed_by};
 ghost use Rattle.keeper.specs.Kept.{AreSame};
-ghost use Rattle.kept_state.specs.Upgraded.{opened_changes};
-ghost use Rattle.kept_state.specs.Rows.{AreKept};
+ghost use Rattle.row_changes.specs.Upgraded.{opened_changes};
+ghost use Rattle.row_changes.specs.Rows.{AreKept};
 ghost use Rattle.desk_state.specs.Effects.{nothing};
 ghost use Rattle.desk_state.specs.Events.{alert_changes};
 ghost use Rattle.records.specs.Bodies.{row_in};
 ghost use Rattle.records.specs.Reading.{version_if};
-ghost use Rattle.kept_state.specs.Held.{AreOfDesk, state_in};
-ghost use Rattle.kept_state.specs.Opening.{reopened};
+ghost use Rattle.row_changes.specs.Held.{AreOfDesk, state_in};
+ghost use Rattle.row_changes.specs.Opening.{reopened};
 ghost use Rattle.board.specs.Prepare.{shown, installed, IsStepped, IsAnswered, KeepsRows};
 
 use crate::prepared::{Installed, Prepared};
@@ -94,7 +94,7 @@ impl Board {
     /// The board that valid records in order stand for, once its active releases are judged, and what that changed of
     /// the rows. Where these are of the first version, as `is_old` says, all are rewritten that differ in the second.
     /// Its history is empty.
-    #[tactic(auto, using(kept_state::proofs::StateLaws::held_board))]
+    #[tactic(auto, using(row_changes::proofs::StateLaws::held_board))]
     pub fn restore<L: Ledger>(
         alloc: Global,
         tables: Tables,

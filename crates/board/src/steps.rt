@@ -11,7 +11,7 @@ ghost use Rattle.desk_state.specs.Sound.{IsLater, EffectFits, Sound};
 ghost use Rattle.asks.specs.Forms.{CallHasForms};
 ghost use Rattle.desk_state.specs.Holds.{Holds};
 ghost use Rattle.desk_state.specs.Install.{MayBeMade, room_of, with_events};
-ghost use Rattle.kept_state.specs.Changes as kept_rows;
+ghost use Rattle.row_changes.specs.Changes as kept_rows;
 ghost use Rattle.desk_state.specs.State.{State};
 ghost use Rattle.board.specs.Prepare.{IsStepped, MayInstall, KeepsRows, IsRecordedOf};
 
@@ -23,7 +23,7 @@ use decisions::{Stop, decide, mistaken};
 use desk_io::{Change, Copied, OutOfMemory, Text};
 use desk_state::{AlertChange, Alerted, Content, Decision, Effect, Entry, Event, What};
 use desk_time::Minute;
-use kept_state::event_changes;
+use row_changes::event_changes;
 use rules::Steps;
 use std::alloc::Global;
 use std::sync::ledger::Ledger;

@@ -1,6 +1,6 @@
 use codes::{BadReport, Cond, Why};
 use desk_io::{OutOfMemory, Pair};
-use metar::{Metar, Part, PartKind, Taf, TafState};
+use weather_reports::{Metar, Part, PartKind, Taf, TafState};
 use std::alloc::Global;
 use std::str;
 use table_files::{BadTable, TableWhy};

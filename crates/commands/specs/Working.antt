@@ -19,8 +19,8 @@ use Rattle.desk_state.specs.Texts.{closing}
 use Rattle.imports.specs.Records.{Line}
 use Rattle.ops_tables.specs.Tables.{TableRows}
 use Rattle.records.specs.declared.record.Record.{Record}
-use Rattle.kept_state.specs.Held.{state_in}
-use Rattle.kept_state.specs.Opening.{reopened}
+use Rattle.row_changes.specs.Held.{state_in}
+use Rattle.row_changes.specs.Opening.{reopened}
 use Rattle.connections.specs.Doors.{HasLinks}
 use Rattle.connections.specs.declared.doors.ServeEnd.{ServeEnd}
 use Rattle.connections.specs.declared.doors.ServeEnd.TheVariants as ends

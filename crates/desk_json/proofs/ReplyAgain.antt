@@ -31,15 +31,15 @@ use Rattle.asks.proofs.Compact.{read_compact, utf8_compact}
 use Rattle.asks.proofs.DigestLaws.{digest_again}
 use Rattle.asks.proofs.Plain.{order_of, text_of, list_plain, list_has_text, list_depth, done_plain, done_has_text, done_depth, amount_plain}
 use Rattle.asks.proofs.Texts.{written_utf8, moment_utf8, digest_utf8}
-use Rattle.kept_releases.proofs.FindingLaws.{finding_again, finding_utf8}
-use Rattle.kept_releases.proofs.ReleaseLaws.{phase_text_again}
+use Rattle.release_json.proofs.FindingLaws.{finding_again, finding_utf8}
+use Rattle.release_json.proofs.ReleaseLaws.{phase_text_again}
 use Rattle.desk_json.specs.Replies.{why_name, plan_why_name, with_fields, refusal_members, refusal_data, reply_data, reply_text}
 use Rattle.desk_json.specs.ReadReplies.{why_of, plan_why_of, finding_in, reply_of, if_text, reply_in, IsWide, RefusalHasForms, ReplyHasForms, or_fault, AnswersReply, IsReplyOf, IsReplyAgain}
 use Rattle.desk_json.specs.declared.bad_call.CallFault.{CallFault}
 use Rattle.desk_json.specs.declared.bad_call.CallFault.TheVariants as fault
 use Rattle.desk_json.proofs.Results.{gives}
 use Rattle.desk_io.proofs.Bytes.{equal_bytes}
-use Rattle.kept_releases.specs.Findings.{finding_data}
+use Rattle.release_json.specs.Findings.{finding_data}
 
 -- ---- fields
 

@@ -25,13 +25,13 @@ use Rattle.asks.proofs.PlanForms.{number_formed, amount_formed, each_formed}
 use Rattle.compact_json.specs.Kept.{data_of}
 use Rattle.asks.proofs.DocumentTexts.{data_has_text}
 use Rattle.asks.proofs.ValueTexts.{text_formed}
-use Rattle.kept_releases.specs.Findings.{said_finding_of}
-use Rattle.kept_releases.specs.Phases.{phase_of, IsPhase}
-use Rattle.kept_releases.proofs.FindingLaws.{finding_formed}
-use Rattle.kept_releases.proofs.PhaseLaws.{phase_formed}
+use Rattle.release_json.specs.Findings.{said_finding_of}
+use Rattle.release_json.specs.Phases.{phase_of, IsPhase}
+use Rattle.release_json.proofs.FindingLaws.{finding_formed}
+use Rattle.release_json.proofs.PhaseLaws.{phase_formed}
 use Rattle.desk_json.specs.ReadReplies.{wide_at, shown_at, why_of, plan_why_of, plain_of, counted_of, bad_report_of, bad_plan_of, wrong_phase_of, history_full_of, fixed_of, not_yours_of, finding_in, rule_fails_of, refusal_of, done_in, seen_in, refused_in, reply_of, IsWide, RefusalHasForms, ReplyHasForms}
 use Rattle.std.proofs.lemmas.Option.{IfSome_then}
-use Rattle.kept_releases.proofs.ReleaseForms.{moment_of_phase}
+use Rattle.release_json.proofs.ReleaseForms.{moment_of_phase}
 
 -- ---- fields
 

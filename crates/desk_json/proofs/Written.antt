@@ -12,7 +12,7 @@ use Rattle.asks.specs.declared.call.Call.{Call}
 use Rattle.asks.proofs.Whole.{list_whole, done_whole, ask_whole}
 use Rattle.desk_json.specs.Canonical.{call_data}
 use Rattle.desk_json.specs.Replies.{refusal_data, reply_data, bad_data}
-use Rattle.kept_releases.specs.Findings.{finding_data}
+use Rattle.release_json.specs.Findings.{finding_data}
 
 finding_whole : (f : Finding) → has_float (finding_data f) ≡ false
 finding_whole f = refl

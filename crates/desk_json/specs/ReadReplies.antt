@@ -22,8 +22,8 @@ use Rattle.asks.specs.Forms.{IsAmount, SaidDoneHasForms, IsSaidFinding}
 use Rattle.asks.specs.Digests.{digest_at, IsDigest}
 use Rattle.asks.specs.Dones.{said_done_of}
 use Rattle.asks.specs.Fields.{data_of, text_at, number_at, amount_at, list_at, each_read}
-use Rattle.kept_releases.specs.Findings.{said_finding_of}
-use Rattle.kept_releases.specs.Phases.{phase_of, IsPhase}
+use Rattle.release_json.specs.Findings.{said_finding_of}
+use Rattle.release_json.specs.Phases.{phase_of, IsPhase}
 use Rattle.desk_json.specs.Keys.{bad}
 use Rattle.desk_json.specs.Replies.{reply_text}
 use Rattle.desk_json.specs.declared.bad_call.CallFault.{CallFault}

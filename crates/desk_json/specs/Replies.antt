@@ -16,7 +16,7 @@ use Rattle.asks.specs.declared.reply.Refusal.{Refusal}
 use Rattle.asks.specs.declared.reply.Refusal.TheVariants.{UnknownActor, WrongKey, NotYourRole, NumberReused, BadReport, DayOutOfReach, ReportsFull, UnknownTail, NoSuchDeferral, NoSuchRelease, NotYours, BadPlan, NotPending, WrongRevision, WrongText, WeatherNewer, RuleFails, WrongPhase, AlreadySigned, NoSuchAlert, AlertMoved, TooYoung, ReleasesFull, HistoryFull, NoSuchStation, Unkept, NumberSwept, UnknownItem, BadFound, DeferralsFull}
 use Rattle.asks.specs.Digests.{digest_data}
 use Rattle.asks.specs.Canonical.{count, text_data, moment_data, list_data, done_data}
-use Rattle.kept_releases.specs.Findings.{finding_data}
+use Rattle.release_json.specs.Findings.{finding_data}
 
 -- the name of a reason
 abbrev pub why_name : Why → List ℕ

@@ -15,7 +15,7 @@ use codes::Why;
 use compact_json::{Element, Items};
 use desk_io::{OutOfMemory, Text};
 use desk_time::{Minute, read_shown};
-use kept_releases::{read_phase, read_said_finding};
+use release_json::{read_phase, read_said_finding};
 use plan::{Finding, Findings, PlanWhy};
 use std::alloc::Global;
 

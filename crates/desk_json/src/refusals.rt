@@ -4,13 +4,13 @@ ghost use Rattle.serde_json.specs.View.{view, members_view};
 ghost use Rattle.plan.specs.Texts.{HasMoment, phase_text};
 ghost use Rattle.asks.specs.Canonical.{text_data, list_data};
 ghost use Rattle.asks.specs.Ranges.{RefusalHasMoment};
-ghost use Rattle.kept_releases.specs.Findings.{finding_data};
+ghost use Rattle.release_json.specs.Findings.{finding_data};
 ghost use Rattle.desk_json.specs.Replies as spec;
 
 use asks::{Members, Refusal, name_value, with_count, with_digest, with_moment, with_name, with_text, with_value};
 use codes::Why;
 use desk_io::OutOfMemory;
-use kept_releases::findings_value;
+use release_json::findings_value;
 use plan::{Finding, Phase, PlanWhy, phase_text};
 use serde_json::{Map, Value};
 use std::alloc::Global;

@@ -20,8 +20,8 @@ use Rattle.plan.specs.declared.release.Revision.{Revision}
 use Rattle.desk_state.specs.declared.effect.Sweep.{Sweep}
 use Rattle.desk_state.specs.declared.effect.OnDeferrals.{OnDeferrals}
 use Rattle.desk_state.specs.declared.effect.OnDeferrals.TheVariants as on_deferrals
-use Rattle.held_releases.specs.declared.change.OnReleases.{OnReleases}
-use Rattle.held_releases.specs.declared.change.OnReleases.TheVariants as on_releases
+use Rattle.release_index.specs.declared.change.OnReleases.{OnReleases}
+use Rattle.release_index.specs.declared.change.OnReleases.TheVariants as on_releases
 use Rattle.desk_state.specs.Effects.{tick}
 use Rattle.desk_state.specs.Events.{put_release, without_release, moment_after, reports_after, reports_swept, is_since, kept_after, deferrals_after, releases_after, next_report, next_deferral, next_release}
 use Rattle.desk_state.specs.Sound.{Sound, AreJudgeable, IsLater, MayStand, ReleaseInBounds, IsNumbered, IsOpen, AreOpen, MayOpen, IsNext, AreUnlike, AreSingle, IsToldTo, Rise, DeferralsFit, ReleasesFit, EffectFits}

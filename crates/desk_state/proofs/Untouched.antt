@@ -32,8 +32,8 @@ use Rattle.desk_state.specs.declared.effect.OnAlerts.{OnAlerts}
 use Rattle.desk_state.specs.declared.effect.OnAlerts.TheVariants as on_alerts
 use Rattle.desk_state.specs.declared.effect.OnDeferrals.{OnDeferrals}
 use Rattle.desk_state.specs.declared.effect.OnDeferrals.TheVariants as on_deferrals
-use Rattle.held_releases.specs.declared.change.OnReleases.{OnReleases}
-use Rattle.held_releases.specs.declared.change.OnReleases.TheVariants as on_releases
+use Rattle.release_index.specs.declared.change.OnReleases.{OnReleases}
+use Rattle.release_index.specs.declared.change.OnReleases.TheVariants as on_releases
 use Rattle.desk_state.specs.State.{State, grounds_of, failing_if, failing_in, failing_of, alert_at, alert_for}
 use Rattle.desk_state.specs.Events.{effected, moment_after, reports_after, reports_swept, deferrals_after, releases_after, acknowledged_if, kept_alert, is_same_mark, is_same_alert, change_between, changes_from, changes_over, alert_changes}
 use Rattle.desk_state.specs.Sound.{Sound, Matches, IsAlerted, IsLater, EffectFits}

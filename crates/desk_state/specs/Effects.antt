@@ -6,7 +6,7 @@ use Rattle.facts.specs.declared.report.Report.{Report}
 use Rattle.plan.specs.declared.release.Release.{Release}
 use Rattle.desk_state.specs.declared.effect.Effect.{Effect}
 use Rattle.desk_state.specs.declared.effect.OnDeferrals.TheVariants as deferrals
-use Rattle.held_releases.specs.declared.change.OnReleases.TheVariants as releases
+use Rattle.release_index.specs.declared.change.OnReleases.TheVariants as releases
 use Rattle.desk_state.specs.declared.effect.OnAlerts.TheVariants as alerts
 
 abbrev pub nothing : Effect

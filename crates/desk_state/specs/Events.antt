@@ -18,13 +18,13 @@ use Rattle.desk_state.specs.declared.effect.Effect.{Effect}
 use Rattle.desk_state.specs.declared.effect.Sweep.{Sweep}
 use Rattle.desk_state.specs.declared.effect.OnDeferrals.{OnDeferrals}
 use Rattle.desk_state.specs.declared.effect.OnDeferrals.TheVariants as deferrals
-use Rattle.held_releases.specs.declared.change.OnReleases.{OnReleases}
-use Rattle.held_releases.specs.declared.change.OnReleases.TheVariants as releases
+use Rattle.release_index.specs.declared.change.OnReleases.{OnReleases}
+use Rattle.release_index.specs.declared.change.OnReleases.TheVariants as releases
 use Rattle.desk_state.specs.declared.effect.OnAlerts.{OnAlerts}
 use Rattle.desk_state.specs.declared.effect.OnAlerts.TheVariants as alerts
 use Rattle.desk_state.specs.State.{State, alert_at, judged}
 pub use Rattle.kept_replies.specs.Requests.{is_since}
-pub use Rattle.held_releases.specs.Changes.{put_release, without_release, releases_after}
+pub use Rattle.release_index.specs.Changes.{put_release, without_release, releases_after}
 
 -- Each part once an effect is there.
 

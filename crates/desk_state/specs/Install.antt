@@ -9,9 +9,9 @@ use Rattle.deferrals.specs.declared.items.Deferral.{Deferral}
 use Rattle.facts.specs.Reading.{IsRead}
 use Rattle.facts.specs.Reports.{Admissions, room_for}
 use Rattle.facts.specs.declared.report.Report.{Report}
-use Rattle.held_releases.specs.Changes.{MayChange}
-use Rattle.held_releases.specs.declared.change.OnReleases.{OnReleases}
-use Rattle.held_releases.specs.declared.change.OnReleases.TheVariants as on_releases
+use Rattle.release_index.specs.Changes.{MayChange}
+use Rattle.release_index.specs.declared.change.OnReleases.{OnReleases}
+use Rattle.release_index.specs.declared.change.OnReleases.TheVariants as on_releases
 use Rattle.desk_state.specs.Contents.{Held, RoomFor, state_of}
 use Rattle.desk_state.specs.Events.{effected, put_changes}
 use Rattle.desk_state.specs.State.{State}

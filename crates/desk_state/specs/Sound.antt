@@ -21,12 +21,12 @@ use Rattle.desk_state.specs.declared.effect.Effect.{Effect}
 use Rattle.desk_state.specs.declared.effect.Sweep.{Sweep}
 use Rattle.desk_state.specs.declared.effect.OnDeferrals.{OnDeferrals}
 use Rattle.desk_state.specs.declared.effect.OnDeferrals.TheVariants as on_deferrals
-use Rattle.held_releases.specs.declared.change.OnReleases.{OnReleases}
-use Rattle.held_releases.specs.declared.change.OnReleases.TheVariants as on_releases
+use Rattle.release_index.specs.declared.change.OnReleases.{OnReleases}
+use Rattle.release_index.specs.declared.change.OnReleases.TheVariants as on_releases
 use Rattle.desk_state.specs.declared.effect.Decision.{Decision}
 use Rattle.desk_state.specs.declared.effect.Decision.TheVariants.{Show, Do}
 use Rattle.release_text.specs.Valid.{IsValid}
-pub use Rattle.held_releases.specs.Bounds.{RevisionInBounds, ReleaseInBounds}
+pub use Rattle.release_index.specs.Bounds.{RevisionInBounds, ReleaseInBounds}
 use Rattle.desk_state.specs.Formed.{AreFormed}
 use Rattle.desk_state.specs.State.{State, grounds_of, failing_of, alert_at}
 use Rattle.desk_state.specs.Legal.{IsHistory}

@@ -16,7 +16,7 @@ use Rattle.asks.specs.declared.call.Ask.TheVariants as ask
 use Rattle.asks.specs.declared.kept.Floor.{Floor}
 use Rattle.asks.specs.declared.kept.KeptReply.{KeptReply}
 use Rattle.rules.specs.Grounds.{Grounds}
-pub use Rattle.held_releases.specs.Changes.{release_at}
+pub use Rattle.release_index.specs.Changes.{release_at}
 use Rattle.rules.specs.Judgement.{findings_of}
 use Rattle.desk_state.specs.declared.counters.Counters.{Counters}
 use Rattle.desk_state.specs.declared.entry.Entry.{Entry}

@@ -11,12 +11,12 @@ use Rattle.plan.specs.declared.release.Release.{Release}
 use Rattle.desk_state.specs.declared.effect.Effect.{Effect}
 use Rattle.desk_state.specs.declared.effect.OnDeferrals.{OnDeferrals}
 use Rattle.desk_state.specs.declared.effect.OnDeferrals.TheVariants as on_deferrals
-use Rattle.held_releases.specs.declared.change.OnReleases.{OnReleases}
-use Rattle.held_releases.specs.declared.change.OnReleases.TheVariants as on_releases
+use Rattle.release_index.specs.declared.change.OnReleases.{OnReleases}
+use Rattle.release_index.specs.declared.change.OnReleases.TheVariants as on_releases
 use Rattle.desk_state.specs.declared.effect.OnAlerts.{OnAlerts}
 use Rattle.desk_state.specs.declared.effect.OnAlerts.TheVariants as on_alerts
 use Rattle.desk_state.specs.State.{State}
-pub use Rattle.held_releases.specs.Touched.{passes_in, is_active_where, touched_at, touched_on, is_due_by, touched_by}
+pub use Rattle.release_index.specs.Touched.{passes_in, is_active_where, touched_at, touched_on, is_due_by, touched_by}
 
 -- by the parts of an event
 

@@ -21,7 +21,7 @@ use deferrals::Deferrals;
 use desk_io::OutOfMemory;
 use desk_time::Minute;
 use facts::Reports;
-use held_releases::Releases;
+use release_index::Releases;
 use kept_replies::Replies;
 use ops_tables::Tables;
 use plan::Release;

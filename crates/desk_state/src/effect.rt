@@ -6,7 +6,7 @@ use deferrals::Deferral;
 use desk_io::Listed;
 use desk_time::Minute;
 use facts::Report;
-use held_releases::OnReleases;
+use release_index::OnReleases;
 use plan::Release;
 
 /// What an event changes of the open deferrals.

@@ -8,7 +8,7 @@ use alerts::Alert;
 use deferrals::Deferrals;
 use desk_time::{FIRST, Minute};
 use facts::Reports;
-use held_releases::Releases;
+use release_index::Releases;
 use kept_replies::Replies;
 use ops_tables::Tables;
 use desk_io::ById;

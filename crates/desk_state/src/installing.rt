@@ -1,7 +1,7 @@
 ghost use Rattle.std.specs.Prelude.{◌≡◌, ◌≤◌, ◌++◌, Some, IsTrue, IfSome, length, option_to_list};
 ghost use Rattle.std.specs.List.{AllByRecursion};
 ghost use Rattle.asks.specs.Forms.{FloorsRise};
-ghost use Rattle.held_releases.specs.Releases.{changed};
+ghost use Rattle.release_index.specs.Releases.{changed};
 ghost use Rattle.desk_state.specs.Contents.{state_of};
 ghost use Rattle.desk_state.specs.Events as events;
 ghost use Rattle.desk_state.specs.Events.{effected};
@@ -18,7 +18,7 @@ use crate::holdings::Holdings;
 use asks::KeptReply;
 use deferrals::Deferrals;
 use facts::{Report, Reports};
-use held_releases::{OnReleases, Releases};
+use release_index::{OnReleases, Releases};
 use kept_replies::Replies;
 
 fn admit(reports: &mut Reports, next: &mut u64, report: Option<Report>)

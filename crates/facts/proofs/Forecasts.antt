@@ -6,11 +6,11 @@ use Rattle.codes.specs.Moment.{time_of}
 use Rattle.codes.specs.Period.{end_of, period_of}
 use Rattle.facts.specs.Reading.{TafHasMoments}
 use Rattle.facts.proofs.Moments.{ok_has, time_within, end_within, period_within, AreMoments}
-use Rattle.metar.specs.Forecast.{SaysChanges, nothing, remarks_follow, at, during, likely, likely_at_times, SaysAfterTime, none, cancelled, normal, SaysParts, ReadsTaf}
-use Rattle.metar.specs.Parts.{HasMoments}
+use Rattle.weather_reports.specs.Forecast.{SaysChanges, nothing, remarks_follow, at, during, likely, likely_at_times, SaysAfterTime, none, cancelled, normal, SaysParts, ReadsTaf}
+use Rattle.weather_reports.specs.Parts.{HasMoments}
 use Rattle.desk_time.specs.Limits.{IsMoment}
-use Rattle.metar.specs.declared.forecast.Part.{Part}
-use Rattle.metar.specs.declared.forecast.Taf.{Taf}
+use Rattle.weather_reports.specs.declared.forecast.Part.{Part}
+use Rattle.weather_reports.specs.declared.forecast.Taf.{Taf}
 
 -- ---- parts
 

@@ -16,8 +16,8 @@ use Rattle.desk_time.specs.Limits.{first_moment, last_moment, IsMoment}
 use Rattle.desk_time.specs.Moments.{in_reach, at_time, is_time, day_named, resolved}
 use Rattle.desk_time.specs.declared.moments.BadDay.{BadDay}
 use Rattle.desk_time.specs.declared.moments.BadDay.TheVariants.{BadTime, OutOfReach}
-use Rattle.metar.specs.MetarReading.{is_cor, is_nil, is_speci, after_word, after_words, body_of, number_of, nil_report, with_stretch, after_time, observed_at, after_station, at_station, from_station, reading}
-use Rattle.metar.specs.declared.metar.Metar.{Metar}
+use Rattle.weather_reports.specs.MetarReading.{is_cor, is_nil, is_speci, after_word, after_words, body_of, number_of, nil_report, with_stretch, after_time, observed_at, after_station, at_station, from_station, reading}
+use Rattle.weather_reports.specs.declared.metar.Metar.{Metar}
 use Rattle.desk_time.proofs.Chains.{bind_any}
 
 -- on either side of a test

@@ -9,11 +9,11 @@ use Rattle.facts.specs.Reading.{observes, forecasts, is_forecast, read_as, readi
 use Rattle.facts.specs.declared.report.Read.{Read}
 use Rattle.facts.proofs.Moments.{ok_has, HasObserved, observed_within}
 use Rattle.facts.proofs.Forecasts.{forecast_within}
-use Rattle.metar.specs.MetarReading as observation
-use Rattle.metar.specs.declared.metar.Metar.{Metar}
-use Rattle.metar.specs.TafReading as forecast
-use Rattle.metar.specs.declared.forecast.Taf.{Taf}
-use Rattle.metar.proofs.TafLaws.{reads}
+use Rattle.weather_reports.specs.MetarReading as observation
+use Rattle.weather_reports.specs.declared.metar.Metar.{Metar}
+use Rattle.weather_reports.specs.TafReading as forecast
+use Rattle.weather_reports.specs.declared.forecast.Taf.{Taf}
+use Rattle.weather_reports.proofs.TafLaws.{reads}
 use Rattle.desk_io.proofs.Bytes.{same_bytes}
 
 -- ---- what is read has moments

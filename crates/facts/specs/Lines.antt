@@ -8,10 +8,10 @@ use Rattle.std.specs.Cmp.Lexicographic.{slice_cmp}
 use Rattle.desk_time.specs.Moments.{shown}
 use Rattle.codes.specs.declared.cond.Cond.{Cond}
 use Rattle.desk_io.specs.Station.{Station}
-use Rattle.metar.specs.declared.metar.Metar.{Metar}
-use Rattle.metar.specs.declared.forecast.Taf.{Taf}
-use Rattle.metar.specs.declared.forecast.TafState.{TafState}
-use Rattle.metar.specs.declared.forecast.TafState.TheVariants.{Normal, Nil, Cancelled}
+use Rattle.weather_reports.specs.declared.metar.Metar.{Metar}
+use Rattle.weather_reports.specs.declared.forecast.Taf.{Taf}
+use Rattle.weather_reports.specs.declared.forecast.TafState.{TafState}
+use Rattle.weather_reports.specs.declared.forecast.TafState.TheVariants.{Normal, Nil, Cancelled}
 use Rattle.facts.specs.declared.report.Read.{Read}
 use Rattle.facts.specs.declared.report.Read.TheVariants as read
 use Rattle.facts.specs.declared.report.Report.{Report}

@@ -3,12 +3,12 @@ use Rattle.std.specs.Prelude.{◌≡◌, ℕ, nat_lt, Bool, true, false, if◌th
 use Rattle.std.specs.Str.{bytes_eq}
 use Rattle.codes.specs.Groups.{groups_of, first_of, canonical}
 use Rattle.codes.specs.declared.fault.BadReport.{BadReport}
-use Rattle.metar.specs.declared.metar.Metar.{Metar}
+use Rattle.weather_reports.specs.declared.metar.Metar.{Metar}
 use Rattle.codes.specs.Answers.{too_long}
-use Rattle.metar.specs.MetarReading as observation
-use Rattle.metar.specs.declared.forecast.Taf.{Taf}
-use Rattle.metar.specs.TafReading as forecast
-use Rattle.metar.specs.Parts.{HasMoments as PartHasMoments}
+use Rattle.weather_reports.specs.MetarReading as observation
+use Rattle.weather_reports.specs.declared.forecast.Taf.{Taf}
+use Rattle.weather_reports.specs.TafReading as forecast
+use Rattle.weather_reports.specs.Parts.{HasMoments as PartHasMoments}
 use Rattle.desk_time.specs.Limits.{IsMoment}
 use Rattle.facts.specs.declared.report.Read.{Read}
 use Rattle.facts.specs.declared.report.Read.TheVariants as read

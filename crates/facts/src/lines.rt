@@ -20,7 +20,7 @@ use codes::Cond;
 use desk_io::{OutOfMemory, Station, or_undone, push_all};
 use desk_time::{FIRST, LAST, Minute, show};
 use itoa::Buffer;
-use metar::{Metar, Taf, TafState};
+use weather_reports::{Metar, Taf, TafState};
 
 #[tactic(auto, unfolding(crate::specs::Lines::moment_text))]
 fn moment_text(at: Minute) -> [u8; 17]

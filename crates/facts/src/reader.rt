@@ -15,7 +15,7 @@ ghost use Rattle.facts.specs.Reading.{
 use crate::report::{Read, Received};
 use codes::{Group, Groups, REPORT_LIMIT, ReportFault, TOO_LONG, first_of};
 use desk_time::{FIRST, LAST, Minute};
-use metar::{metar_in, taf_in};
+use weather_reports::{metar_in, taf_in};
 use std::alloc::Global;
 
 fn is_forecast(groups: &[Group<'_>]) -> bool

@@ -4,7 +4,7 @@ ghost use Rattle.facts.specs.Same as spec;
 
 use desk_io::{Copied, OutOfMemory, Station, Text};
 use desk_time::Minute;
-use metar::{Metar, Taf};
+use weather_reports::{Metar, Taf};
 use std::alloc::Global;
 
 /// The most reports that may be held.

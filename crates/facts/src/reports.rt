@@ -26,7 +26,7 @@ use crate::same::{keep_leading, key_of, same_in};
 use crate::sweeping::{index_latest, leaving_ids, sweep_held};
 use desk_io::{Keys, Listed, OutOfMemory, Sorted, Station};
 use desk_time::Minute;
-use metar::{Metar, Taf};
+use weather_reports::{Metar, Taf};
 use std::alloc::Global;
 use std::marker::Model;
 use std::snapshot::Snapshot;

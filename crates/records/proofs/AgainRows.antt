@@ -11,12 +11,12 @@ use Rattle.plan.specs.Findings.{AreAmong}
 use Rattle.plan.specs.declared.findings.Finding.{Finding}
 use Rattle.asks.proofs.Again.{small_again, id_again, moment_again, done_again}
 use Rattle.asks.proofs.DigestLaws.{digest_again}
-use Rattle.kept_releases.proofs.FindingLaws.{findings_again}
-use Rattle.kept_releases.proofs.ReleaseLaws.{person_again, release_again}
+use Rattle.release_json.proofs.FindingLaws.{findings_again}
+use Rattle.release_json.proofs.ReleaseLaws.{person_again, release_again}
 use Rattle.records.specs.Kinds.{kind_of, key_of}
-use Rattle.kept_releases.specs.Versions.{SaysRelease}
-use Rattle.kept_releases.specs.declared.version.Version.{Version}
-use Rattle.kept_releases.specs.declared.version.Version.TheVariants.{First, Second}
+use Rattle.release_json.specs.Versions.{SaysRelease}
+use Rattle.release_json.specs.declared.version.Version.{Version}
+use Rattle.release_json.specs.declared.version.Version.TheVariants.{First, Second}
 use Rattle.records.specs.Bodies.{floors_data, meta_members, body_data}
 use Rattle.records.specs.Reading as spec
 use Rattle.asks.specs.Forms.{IsFloor, FloorsRise}

@@ -7,7 +7,7 @@ use Rattle.std.proofs.lemmas.List.{take_more, map-append}
 use Rattle.std.proofs.lemmas.List.Elements.{All-push}
 use Rattle.desk_io.specs.declared.rows.Row.{Row}
 use Rattle.desk_time.specs.Digits.{◌>>=◌}
-use Rattle.kept_releases.specs.declared.version.Version.{Version}
+use Rattle.release_json.specs.declared.version.Version.{Version}
 use Rattle.records.specs.Bodies.{row_in}
 use Rattle.records.specs.Checks.{AreRowsOf, HasNoRecord, IsBadPair, IsBadRow, IsFaultOf, OrMemory, Names, IsUnread, IsReadOf}
 use Rattle.records.specs.Faults.{fit, has_meta, within_limits, have_releases, agree, are_counted, lacks_meta, first_after, is_over, place_of, is_orphan, pair_after, is_bad_pair, ahead_of, meta_from, bad, pair, ◌>>◌}

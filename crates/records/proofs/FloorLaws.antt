@@ -8,7 +8,7 @@ use Rattle.asks.specs.declared.kept.Floor.{Floor}
 use Rattle.asks.specs.Canonical.{count}
 use Rattle.asks.specs.Plain.{IsBefore, AreInOrder, MembersArePlain, MembersHaveText}
 use Rattle.asks.proofs.Again.{small_again}
-use Rattle.kept_releases.proofs.ReleaseLaws.{person_utf8}
+use Rattle.release_json.proofs.ReleaseLaws.{person_utf8}
 use Rattle.records.specs.Bodies.{with_floors}
 use Rattle.records.specs.Reading.{floor_of, floors_in}
 use Rattle.asks.specs.Forms.{IsFloor, FloorsRise}

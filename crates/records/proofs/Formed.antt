@@ -23,14 +23,14 @@ use Rattle.asks.specs.Fields.{text_at, number_at, id_at, moment_at, list_at, eac
 use Rattle.asks.proofs.DoneForms.{done_formed, digest_is}
 use Rattle.desk_time.proofs.Chains.{bind_if, bind_any, then_if, under, either, both_held, mapped}
 use Rattle.asks.proofs.PlanForms.{id_formed, moment_formed, each_formed}
-use Rattle.kept_releases.specs.Findings.{finding_of, finding_in, are_in_order, findings_of}
-use Rattle.kept_releases.proofs.FindingLaws.{finding_formed, order_tested}
-use Rattle.kept_releases.specs.Kept.{IsKept}
-use Rattle.kept_releases.specs.Versions.{SaysRelease}
-use Rattle.kept_releases.specs.declared.version.Version.{Version}
-use Rattle.kept_releases.specs.declared.version.Version.TheVariants.{First, Second}
-use Rattle.kept_releases.specs.Releases.{bool_at, person, person_at, release_of}
-use Rattle.kept_releases.proofs.ReleaseForms.{IsPerson, person_formed, person_at_formed, release_kept, release_named, release_says}
+use Rattle.release_json.specs.Findings.{finding_of, finding_in, are_in_order, findings_of}
+use Rattle.release_json.proofs.FindingLaws.{finding_formed, order_tested}
+use Rattle.release_json.specs.Kept.{IsKept}
+use Rattle.release_json.specs.Versions.{SaysRelease}
+use Rattle.release_json.specs.declared.version.Version.{Version}
+use Rattle.release_json.specs.declared.version.Version.TheVariants.{First, Second}
+use Rattle.release_json.specs.Releases.{bool_at, person, person_at, release_of}
+use Rattle.release_json.proofs.ReleaseForms.{IsPerson, person_formed, person_at_formed, release_kept, release_named, release_says}
 use Rattle.records.specs.Reading as read
 use Rattle.records.specs.Valid.{AreIds, IsMeta, IsReport, IsDeferral, IsKeptReply, AreFindings, IsKeptAlert, IsRecord, SaysRecord, are_rising, is_report, are_among}
 use Rattle.records.specs.declared.alert_rows.Opening.{Opening}

@@ -7,8 +7,8 @@ use Rattle.std.proofs.lemmas.Bool.Decides.{nat_tests}
 use Rattle.std.proofs.lemmas.Str.{utf8_lossy-IsUtf8, is_utf8-from_IsUtf8}
 use Rattle.ops_tables.specs.Forms.{in_mark, is_word, is_tail, is_item, is_person}
 use Rattle.asks.proofs.Texts.{passing_utf8}
-use Rattle.kept_releases.specs.Releases.{person}
-use Rattle.kept_releases.proofs.ReleaseLaws.{person_utf8}
+use Rattle.release_json.specs.Releases.{person}
+use Rattle.release_json.proofs.ReleaseLaws.{person_utf8}
 use Rattle.records.specs.Reading.{tail, item, if_report, report_with, utf8_report}
 use Rattle.records.specs.declared.record.KeptReport.{KeptReport}
 

@@ -7,10 +7,10 @@ use Rattle.asks.specs.Forms.{IsFloor, FloorsRise}
 use Rattle.asks.specs.Plain.{IsPlain, HasText}
 use Rattle.asks.proofs.Plain.{order_of, text_of, done_plain, done_has_text, done_depth, kept_said}
 use Rattle.asks.proofs.Texts.{written_utf8, digest_utf8}
-use Rattle.kept_releases.proofs.PlainLaws.{id_plain, release_plain, release_has_text, release_depth, findings_plain, findings_have_text, findings_depth}
-use Rattle.kept_releases.specs.Versions.{number_of}
-use Rattle.kept_releases.specs.declared.version.Version.{Version}
-use Rattle.kept_releases.specs.declared.version.Version.TheVariants.{First, Second}
+use Rattle.release_json.proofs.PlainLaws.{id_plain, release_plain, release_has_text, release_depth, findings_plain, findings_have_text, findings_depth}
+use Rattle.release_json.specs.Versions.{number_of}
+use Rattle.release_json.specs.declared.version.Version.{Version}
+use Rattle.release_json.specs.declared.version.Version.TheVariants.{First, Second}
 use Rattle.records.specs.Bodies.{floors_data, meta_members, report_members, deferral_members, reply_members, kept_members, alert_members, body_data}
 use Rattle.records.specs.Valid.{IsRecord}
 use Rattle.records.specs.declared.record.Record.{Record}

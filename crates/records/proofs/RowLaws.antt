@@ -11,9 +11,9 @@ use Rattle.desk_time.specs.Digits.{◌>>=◌}
 use Rattle.desk_time.proofs.Chains.{bind_if, bind_any, both_held}
 use Rattle.asks.specs.Fields.{data_of}
 use Rattle.asks.proofs.Compact.{read_compact, utf8_compact}
-use Rattle.kept_releases.proofs.ReleaseForms.{moments_formed}
+use Rattle.release_json.proofs.ReleaseForms.{moments_formed}
 use Rattle.records.specs.Kinds.{kind_of, key_of}
-use Rattle.kept_releases.specs.declared.version.Version.{Version}
+use Rattle.release_json.specs.declared.version.Version.{Version}
 use Rattle.records.specs.Bodies.{body_data, row_in, HasMoments}
 use Rattle.records.specs.Reading as spec
 use Rattle.records.specs.Valid.{IsRecord, SaysRecord}

@@ -9,8 +9,8 @@ use Rattle.std.proofs.lemmas.List.Folds.{Any-from_list_any, list_any-from_Any}
 use Rattle.serde_json.specs.Data.{Data}
 use Rattle.desk_io.specs.declared.rows.Row.{Row}
 use Rattle.desk_time.specs.Digits.{◌>>=◌}
-use Rattle.kept_releases.specs.declared.version.Version.{Version}
-use Rattle.kept_releases.specs.declared.version.Version.TheVariants.{First, Second}
+use Rattle.release_json.specs.declared.version.Version.{Version}
+use Rattle.release_json.specs.declared.version.Version.TheVariants.{First, Second}
 use Rattle.records.specs.Kinds.{kind_of}
 use Rattle.records.specs.Bodies.{body_data, row_in, row_of}
 use Rattle.records.specs.Reading.{IsOldMeta, is_old_meta, are_old, found_in, if_has, record_of, record_with}

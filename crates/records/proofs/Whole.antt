@@ -13,10 +13,10 @@ use Rattle.plan.specs.declared.release.Revision.{Revision}
 use Rattle.plan.specs.declared.release.Signature.{Signature}
 use Rattle.asks.specs.Canonical.{count}
 use Rattle.asks.proofs.Whole.{list_whole, plan_whole, done_whole}
-use Rattle.kept_releases.specs.Findings.{finding_data}
-use Rattle.kept_releases.specs.Rows.{signature_data, attached_data, hours_data, revision_data, release_data}
-use Rattle.kept_releases.specs.declared.version.Version.{Version}
-use Rattle.kept_releases.specs.declared.version.Version.TheVariants.{First, Second}
+use Rattle.release_json.specs.Findings.{finding_data}
+use Rattle.release_json.specs.Rows.{signature_data, attached_data, hours_data, revision_data, release_data}
+use Rattle.release_json.specs.declared.version.Version.{Version}
+use Rattle.release_json.specs.declared.version.Version.TheVariants.{First, Second}
 use Rattle.records.specs.Bodies.{with_floors, floors_data, body_data}
 use Rattle.records.specs.declared.record.Record.{Record}
 use Rattle.records.specs.declared.record.Record.TheVariants.{Meta, Report, Deferral, Release, Kept, Alert}

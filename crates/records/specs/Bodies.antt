@@ -10,11 +10,11 @@ use Rattle.desk_io.specs.declared.rows.Row.{Row}
 use Rattle.desk_time.specs.Limits.{IsMoment}
 use Rattle.asks.specs.Canonical.{count, text_data, moment_data, done_data}
 use Rattle.asks.specs.Digests.{digest_data}
-use Rattle.kept_releases.specs.Findings.{findings_data}
-use Rattle.kept_releases.specs.Rows.{release_data, ReleaseHasMoments}
-use Rattle.kept_releases.specs.Versions.{number_of}
-use Rattle.kept_releases.specs.declared.version.Version.{Version}
-use Rattle.kept_releases.specs.declared.version.Version.TheVariants.{Second}
+use Rattle.release_json.specs.Findings.{findings_data}
+use Rattle.release_json.specs.Rows.{release_data, ReleaseHasMoments}
+use Rattle.release_json.specs.Versions.{number_of}
+use Rattle.release_json.specs.declared.version.Version.{Version}
+use Rattle.release_json.specs.declared.version.Version.TheVariants.{Second}
 use Rattle.records.specs.Kinds.{kind_of, key_of}
 use Rattle.records.specs.declared.record.KeptAlert.{KeptAlert}
 use Rattle.records.specs.declared.record.KeptReport.{KeptReport}

@@ -4,7 +4,7 @@ use Rattle.std.specs.List.{slice_get}
 use Rattle.std.specs.Option.{option_map}
 use Rattle.desk_time.specs.Digits.{◌>>=◌}
 use Rattle.desk_io.specs.declared.rows.Row.{Row}
-use Rattle.kept_releases.specs.declared.version.Version.{Version}
+use Rattle.release_json.specs.declared.version.Version.{Version}
 use Rattle.records.specs.Bodies.{row_in}
 use Rattle.records.specs.Faults.{fit, IsWithin}
 use Rattle.records.specs.Reading.{IsOldMeta, are_old, version_of}

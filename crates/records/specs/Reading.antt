@@ -16,11 +16,11 @@ use Rattle.desk_io.specs.declared.rows.Row.{Row}
 use Rattle.asks.specs.Digests.{digest_at}
 use Rattle.asks.specs.Dones.{done_of}
 use Rattle.asks.specs.Fields.{data_of, text_at, number_at, id_at, moment_at, list_at, has_members}
-use Rattle.kept_releases.specs.Findings.{findings_of}
-use Rattle.kept_releases.specs.Releases.{bool_at, person, person_at, release_of}
-use Rattle.kept_releases.specs.Versions.{number_of}
-use Rattle.kept_releases.specs.declared.version.Version.{Version}
-use Rattle.kept_releases.specs.declared.version.Version.TheVariants.{First, Second}
+use Rattle.release_json.specs.Findings.{findings_of}
+use Rattle.release_json.specs.Releases.{bool_at, person, person_at, release_of}
+use Rattle.release_json.specs.Versions.{number_of}
+use Rattle.release_json.specs.declared.version.Version.{Version}
+use Rattle.release_json.specs.declared.version.Version.TheVariants.{First, Second}
 use Rattle.records.specs.Bodies.{row_in}
 use Rattle.records.specs.Valid.{IsMeta, IsRecord, SaysRecord, are_rising, is_report, are_among}
 use Rattle.records.specs.declared.alert_rows.Opening.{Opening}

@@ -15,10 +15,10 @@ use Rattle.deferrals.specs.declared.items.Deferral.{Deferral as DeferralOf}
 use Rattle.facts.specs.Reading.{read_of}
 use Rattle.asks.specs.Forms.{IsId, DoneHasForms, IsFinding, IsRequest, IsFloor, FloorsRise}
 use Rattle.asks.specs.Digests.{IsDigest}
-use Rattle.kept_releases.specs.Kept.{IsKept}
-use Rattle.kept_releases.specs.Versions.{SaysRelease}
-use Rattle.kept_releases.specs.declared.version.Version.{Version}
-use Rattle.kept_releases.specs.declared.version.Version.TheVariants.{First, Second}
+use Rattle.release_json.specs.Kept.{IsKept}
+use Rattle.release_json.specs.Versions.{SaysRelease}
+use Rattle.release_json.specs.declared.version.Version.{Version}
+use Rattle.release_json.specs.declared.version.Version.TheVariants.{First, Second}
 use Rattle.records.specs.declared.record.KeptAlert.{KeptAlert}
 use Rattle.records.specs.declared.record.KeptReport.{KeptReport}
 use Rattle.desk_state.specs.declared.counters.Counters.{Counters}

@@ -1,7 +1,7 @@
 ghost use Rattle.std.specs.Prelude.{◌≡◌, IfOk, codes, option_and_then};
 ghost use Rattle.plan.specs.Findings.{is_among};
 ghost use Rattle.asks.specs.Fields.{id_at};
-ghost use Rattle.kept_releases.specs.Releases.{bool_at};
+ghost use Rattle.release_json.specs.Releases.{bool_at};
 ghost use Rattle.serde_json.specs.View.{view};
 ghost use Rattle.records.specs.Reading as spec;
 ghost use Rattle.records.specs.Valid as valid;
@@ -10,7 +10,7 @@ use crate::record::KeptAlert;
 use asks::{has_members, id_at, list_at, moment_at};
 use desk_io::OutOfMemory;
 use desk_time::Minute;
-use kept_releases::read_findings;
+use release_json::read_findings;
 use plan::{Finding, Findings, is_same};
 use serde_json::Value;
 use std::alloc::Global;

@@ -11,7 +11,7 @@ use crate::lent::{AlertRef, MetaRef, RecordRef, ReportRef};
 use asks::{Floor, Floors, KeptReply, Members, done_value, with_count, with_digest, with_moment, with_text, with_value};
 use deferrals::Deferral;
 use desk_io::{OutOfMemory, Row, Text};
-use kept_releases::{Version, findings_value, release_value};
+use release_json::{Version, findings_value, release_value};
 use serde_json::{Map, Value};
 use std::alloc::Global;
 

@@ -11,7 +11,7 @@ use crate::marks::{Marks, index_of, marks_of};
 use crate::reading::{RowFault, read_in, record_with};
 use crate::record::Record;
 use desk_io::{Copied, OutOfMemory, Row};
-use kept_releases::Version;
+use release_json::Version;
 use std::alloc::Global;
 
 fn bad_row(alloc: Global, row: &Row, why: RowWhy) -> RowsFault

@@ -3,7 +3,7 @@ ghost use Rattle.std.specs.Option.{option_map};
 ghost use Rattle.desk_time.specs.Limits.{IsMoment};
 ghost use Rattle.asks.specs.Dones.{done_of};
 ghost use Rattle.asks.specs.Fields.{text_at};
-ghost use Rattle.kept_releases.specs.Releases.{person_at};
+ghost use Rattle.release_json.specs.Releases.{person_at};
 ghost use Rattle.serde_json.specs.Find.{get};
 ghost use Rattle.serde_json.specs.View.{view};
 ghost use Rattle.records.specs.Reading as spec;

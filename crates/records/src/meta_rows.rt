@@ -10,7 +10,7 @@ use crate::record::Meta;
 use asks::{Floor, Floors, Members, has_members, id_at, moment_at};
 use desk_io::{OutOfMemory, Text};
 use desk_state::Counters;
-use kept_releases::Version;
+use release_json::Version;
 use serde_json::Value;
 use std::alloc::Global;
 

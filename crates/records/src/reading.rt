@@ -1,6 +1,6 @@
 ghost use Rattle.std.specs.Prelude.{◌≡◌, IfOk, IfSome};
 ghost use Rattle.std.specs.Option.{option_map};
-ghost use Rattle.kept_releases.specs.Releases.{release_of};
+ghost use Rattle.release_json.specs.Releases.{release_of};
 ghost use Rattle.records.specs.Bodies.{HasMoments, row_in as spec_row_in, row_of as spec_row_of};
 ghost use Rattle.records.specs.Valid.{IsRecord, SaysRecord};
 ghost use Rattle.records.specs.declared.record.Record.{Record as Held};
@@ -15,7 +15,7 @@ use crate::meta_rows::meta_in;
 use crate::record::Record;
 use asks::data_of;
 use desk_io::{OutOfMemory, Row};
-use kept_releases::{Version, read_release};
+use release_json::{Version, read_release};
 use serde_json::Value;
 use std::alloc::Global;
 

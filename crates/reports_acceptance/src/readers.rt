@@ -4,7 +4,7 @@ ghost use Rattle.codes.specs.Groups.{groups_of, first_of as first_group};
 use codes::{BadReport, Cond, Groups, ReportFault, Why, first_of};
 use desk_io::OutOfMemory;
 use desk_time::Minute;
-use metar::{Metar, Part, PartKind, Taf, TafState, read_metar, read_taf};
+use weather_reports::{Metar, Part, PartKind, Taf, TafState, read_metar, read_taf};
 use small_airline::DAY;
 use std::alloc::Global;
 use std::test::Fail;

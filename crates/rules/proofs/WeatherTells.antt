@@ -10,8 +10,8 @@ use Rattle.codes.specs.Cond.{lesser}
 use Rattle.codes.specs.Minima.{reaches, is_met, meets}
 use Rattle.desk_io.specs.Station.{Station}
 use Rattle.desk_io.specs.declared.pair.Pair.{Pair}
-use Rattle.metar.specs.declared.metar.Metar.{Metar}
-use Rattle.metar.specs.declared.forecast.Taf.{Taf}
+use Rattle.weather_reports.specs.declared.metar.Metar.{Metar}
+use Rattle.weather_reports.specs.declared.forecast.Taf.{Taf}
 use Rattle.plan.specs.declared.flights.Leg.{Leg}
 use Rattle.weather_window.specs.Values.{Element, ceiling, visibility, values_at}
 use Rattle.weather_window.specs.Window.{least_of, value_at, cond_at, minutes, worst_of, worst_value, worst_cond}

@@ -11,7 +11,7 @@ use deferrals::{Deferral, Deferrals};
 use desk_io::{OutOfMemory, Station};
 use desk_time::Minute;
 use facts::{Read, Report, Reports};
-use metar::{Metar, Taf};
+use weather_reports::{Metar, Taf};
 use ops_tables::Tables;
 use std::alloc::Global;
 

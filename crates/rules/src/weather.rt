@@ -17,7 +17,7 @@ use airport_minima::{Bounds, has_alternate_within, has_raised_within, landing};
 use codes::{Cond, meets};
 use desk_io::{OutOfMemory, Pair, Pairs, Station};
 use desk_time::Minute;
-use metar::{Metar, Taf};
+use weather_reports::{Metar, Taf};
 use std::alloc::Global;
 use weather_window::{at, worst};
 

@@ -4,9 +4,9 @@ use Rattle.std.specs.List.{AllByRecursion}
 use Rattle.std.proofs.lemmas.Bool.Decides.{nat_tests}
 use Rattle.std.proofs.lemmas.List.Sums.{length-filter, count_by-le-length}
 use Rattle.codes.specs.Cond.{lesser}
-use Rattle.metar.specs.declared.forecast.Part.{Part}
-use Rattle.metar.specs.declared.forecast.Taf.{Taf}
-use Rattle.metar.specs.declared.metar.Metar.{Metar}
+use Rattle.weather_reports.specs.declared.forecast.Part.{Part}
+use Rattle.weather_reports.specs.declared.forecast.Taf.{Taf}
+use Rattle.weather_reports.specs.declared.metar.Metar.{Metar}
 use Rattle.codes.proofs.CondLaws.{lesser_assoc, lesser_comm}
 use Rattle.weather_window.specs.Window.{least_of}
 use Rattle.weather_window.specs.Changes.{part_changes, forecast_changes, report_changes, changes, is_between, changes_between, next_change, part_count}

@@ -4,9 +4,9 @@ use Rattle.std.specs.List.{list_any, cons_option}
 use Rattle.std.proofs.lemmas.Bool.Decides.{nat_tests}
 use Rattle.desk_time.specs.Digits.{or_else}
 use Rattle.codes.specs.Cond.{lesser}
-use Rattle.metar.specs.declared.forecast.Part.{Part}
-use Rattle.metar.specs.declared.forecast.PartKind.{PartKind}
-use Rattle.metar.specs.declared.forecast.PartKind.TheVariants.{Base, From, Becoming, Tempo, Prob}
+use Rattle.weather_reports.specs.declared.forecast.Part.{Part}
+use Rattle.weather_reports.specs.declared.forecast.PartKind.{PartKind}
+use Rattle.weather_reports.specs.declared.forecast.PartKind.TheVariants.{Base, From, Becoming, Tempo, Prob}
 use Rattle.codes.proofs.CondLaws.{lesser_assoc, lesser_comm}
 use Rattle.weather_window.specs.declared.parts.Role.{Role}
 use Rattle.weather_window.specs.declared.parts.Role.TheVariants.{Replaces, Lasts, Passes, Silent}

@@ -2,9 +2,9 @@
 use Rattle.std.proofs.Common.{◌≡◌, ℕ, ◌+◌, Bool, true, false, cond, ◌&&◌, nat_le, nat_lt, List, [], ◌∷◌, ◌++◌, Option, None, Some, refl, ap, arith, filter}
 use Rattle.std.specs.List.{list_any, AllByRecursion}
 use Rattle.std.proofs.lemmas.Bool.Decides.{nat_tests}
-use Rattle.metar.specs.declared.forecast.Part.{Part}
-use Rattle.metar.specs.declared.forecast.Taf.{Taf}
-use Rattle.metar.specs.declared.metar.Metar.{Metar}
+use Rattle.weather_reports.specs.declared.forecast.Part.{Part}
+use Rattle.weather_reports.specs.declared.forecast.Taf.{Taf}
+use Rattle.weather_reports.specs.declared.metar.Metar.{Metar}
 use Rattle.weather_window.specs.Values.{Element, replaces, is_becoming, has_replaced, has_become, is_changing, may_hold, in_force, values_in_force, part_values, forecast_values, values_at}
 use Rattle.weather_window.specs.Window.{least_of, value_at}
 use Rattle.weather_window.specs.Changes.{part_changes, forecast_changes, changes}

@@ -2,8 +2,8 @@
 use Rattle.std.proofs.Common.{◌≡◌, ℕ, zero, suc, ◌+◌, ◌-◌, ◌≤◌, ◌<◌, cond, List, [], ◌∷◌, map, Option, None, Some, refl, ap, sym, ◌∙◌, arith, is_none, filter_map}
 use Rattle.std.specs.List.{list_any}
 use Rattle.codes.specs.Cond.{lesser}
-use Rattle.metar.specs.declared.forecast.Taf.{Taf}
-use Rattle.metar.specs.declared.metar.Metar.{Metar}
+use Rattle.weather_reports.specs.declared.forecast.Taf.{Taf}
+use Rattle.weather_reports.specs.declared.metar.Metar.{Metar}
 use Rattle.codes.proofs.CondLaws.{lesser_assoc}
 use Rattle.weather_window.specs.Values.{Element, forecast_values, report_values}
 use Rattle.weather_window.specs.Window.{least_of, value_at, minutes, worst_of, worst_value}

@@ -1,8 +1,8 @@
 -- The moments at which the weather that controls can change.
 use Rattle.std.specs.Prelude.{ℕ, ◌+◌, Bool, ◌&&◌, nat_le, nat_lt, List, [], ◌∷◌, ◌++◌, filter, length, Option, None, Some}
-use Rattle.metar.specs.declared.metar.Metar.{Metar}
-use Rattle.metar.specs.declared.forecast.Part.{Part}
-use Rattle.metar.specs.declared.forecast.Taf.{Taf}
+use Rattle.weather_reports.specs.declared.metar.Metar.{Metar}
+use Rattle.weather_reports.specs.declared.forecast.Part.{Part}
+use Rattle.weather_reports.specs.declared.forecast.Taf.{Taf}
 use Rattle.weather_window.specs.Window.{least_of}
 
 -- each part begins, reaches its last moment, and is over

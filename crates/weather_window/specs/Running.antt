@@ -2,7 +2,7 @@
 use Rattle.std.specs.Prelude.{ℕ, ◌||◌, min, if◌then◌else◌, List, [], ◌∷◌, Option, None, Some}
 use Rattle.desk_time.specs.Digits.{or_else}
 use Rattle.codes.specs.Cond.{lesser}
-use Rattle.metar.specs.declared.forecast.Part.{Part}
+use Rattle.weather_reports.specs.declared.forecast.Part.{Part}
 use Rattle.weather_window.specs.declared.parts.Role.{Role}
 use Rattle.weather_window.specs.declared.parts.Role.TheVariants.{Replaces, Lasts, Passes, Silent}
 use Rattle.weather_window.specs.declared.parts.Holding.{Holding}

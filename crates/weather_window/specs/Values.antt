@@ -4,13 +4,13 @@ use Rattle.std.specs.Prelude.{ℕ, ◌+◌, Bool, true, false, ◌&&◌, not, na
 use Rattle.std.specs.List.{list_any}
 use Rattle.desk_time.specs.Digits.{or_else}
 use Rattle.codes.specs.declared.cond.Cond.{Cond}
-use Rattle.metar.specs.declared.metar.Metar.{Metar}
-use Rattle.metar.specs.declared.forecast.Part.{Part}
-use Rattle.metar.specs.declared.forecast.PartKind.{PartKind}
-use Rattle.metar.specs.declared.forecast.PartKind.TheVariants.{Base, From, Becoming, Tempo, Prob}
-use Rattle.metar.specs.declared.forecast.Taf.{Taf}
-use Rattle.metar.specs.declared.forecast.TafState.{TafState}
-use Rattle.metar.specs.declared.forecast.TafState.TheVariants.{Normal, Nil, Cancelled}
+use Rattle.weather_reports.specs.declared.metar.Metar.{Metar}
+use Rattle.weather_reports.specs.declared.forecast.Part.{Part}
+use Rattle.weather_reports.specs.declared.forecast.PartKind.{PartKind}
+use Rattle.weather_reports.specs.declared.forecast.PartKind.TheVariants.{Base, From, Becoming, Tempo, Prob}
+use Rattle.weather_reports.specs.declared.forecast.Taf.{Taf}
+use Rattle.weather_reports.specs.declared.forecast.TafState.{TafState}
+use Rattle.weather_reports.specs.declared.forecast.TafState.TheVariants.{Normal, Nil, Cancelled}
 
 -- one of the two elements of a condition
 abbrev pub Element : Type 0

@@ -3,8 +3,8 @@ use Rattle.std.specs.Prelude.{ℕ, ◌+◌, ◌-◌, if◌then◌else◌, is_non
 use Rattle.std.specs.List.{list_any, range_with_len}
 use Rattle.codes.specs.Cond.{lesser}
 use Rattle.codes.specs.declared.cond.Cond.{Cond}
-use Rattle.metar.specs.declared.metar.Metar.{Metar}
-use Rattle.metar.specs.declared.forecast.Taf.{Taf}
+use Rattle.weather_reports.specs.declared.metar.Metar.{Metar}
+use Rattle.weather_reports.specs.declared.forecast.Taf.{Taf}
 use Rattle.weather_window.specs.Values.{Element, ceiling, visibility, values_at}
 
 -- the least of some values, unknown where there is none

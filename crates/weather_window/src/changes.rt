@@ -4,7 +4,7 @@ ghost use Rattle.weather_window.specs.Changes.{part_changes, forecast_changes, r
 ghost use Rattle.weather_window.specs.Running.{sooner, soonest};
 
 use desk_time::{Minute, SHOWN_LAST};
-use metar::{Metar, Part, Taf};
+use weather_reports::{Metar, Part, Taf};
 
 // The moments after one moment, up to another.
 #[derive(Clone, Copy)]

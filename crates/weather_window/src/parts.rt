@@ -5,7 +5,7 @@ ghost use Rattle.weather_window.specs.Values.{Element, ceiling as ceiling_elemen
 
 use codes::{Cond, lesser};
 use desk_time::Minute;
-use metar::{Part, PartKind};
+use weather_reports::{Part, PartKind};
 
 // What a part of a forecast does at a moment.
 #[derive(Clone, Copy)]

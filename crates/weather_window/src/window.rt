@@ -10,7 +10,7 @@ use crate::parts::parts_at;
 use crate::steps::Steps;
 use codes::{Cond, lesser};
 use desk_time::{Minute, SHOWN_LAST};
-use metar::{Metar, Taf, TafState};
+use weather_reports::{Metar, Taf, TafState};
 use std::marker::Brand;
 use std::sync::ledger::{Blank, Ledger};
 

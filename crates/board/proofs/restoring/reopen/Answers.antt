@@ -1,5 +1,5 @@
 use Rattle.std.proofs.Common.{◌∙◌}
-use Rattle.kept_state.proofs.JudgedLaws.{judged_opened}
+use Rattle.row_changes.proofs.JudgedLaws.{judged_opened}
 use Rattle.board.proofs.restoring.reopen.Goals as goal
 
 pub opened_changes-requires : goal.opened_changes-requires

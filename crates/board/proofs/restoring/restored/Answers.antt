@@ -1,9 +1,9 @@
 use Rattle.std.proofs.Common.{◌∙◌, ap, subst, sym}
-use Rattle.kept_state.specs.Upgraded.{opened_changes}
+use Rattle.row_changes.specs.Upgraded.{opened_changes}
 use Rattle.desk_state.specs.Effects.{nothing}
 use Rattle.desk_state.specs.Events.{alert_changes}
-use Rattle.kept_state.specs.Opening.{MayReopen}
-use Rattle.kept_state.proofs.StateLaws.{may_reopen}
+use Rattle.row_changes.specs.Opening.{MayReopen}
+use Rattle.row_changes.proofs.StateLaws.{may_reopen}
 use Rattle.board.proofs.Anew.{reopened_sound, rows_kept}
 use Rattle.board.proofs.restoring.restored.Goals as goal
 

@@ -2,7 +2,7 @@ use Rattle.std.proofs.Common.{◌≡◌, sym, subst, Option, None}
 use Rattle.std.specs.Option.{option_copied}
 use Rattle.deferrals.specs.declared.items.Deferral.{Deferral}
 use Rattle.desk_state.specs.Touched.{by_cleared}
-use Rattle.held_releases.specs.Touched.{held_where}
+use Rattle.release_index.specs.Touched.{held_where}
 use Rattle.alert_judging.specs.Touching.{Adds}
 use Rattle.alert_judging.proofs.Ids.{none_added}
 use Rattle.alert_judging.proofs.prospect.Prospect.push_by_cleared.Goals as goal

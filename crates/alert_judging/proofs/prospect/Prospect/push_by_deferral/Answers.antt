@@ -2,7 +2,7 @@ use Rattle.std.proofs.Common.{◌≡◌, sym, subst}
 use Rattle.desk_state.specs.Touched.{by_deferral}
 use Rattle.desk_state.specs.declared.effect.OnDeferrals.{OnDeferrals}
 use Rattle.desk_state.specs.declared.effect.OnDeferrals.TheVariants as on_deferrals
-use Rattle.held_releases.specs.Touched.{held_where}
+use Rattle.release_index.specs.Touched.{held_where}
 use Rattle.alert_judging.specs.Touching.{Adds}
 use Rattle.alert_judging.proofs.Ids.{none_added}
 use Rattle.alert_judging.proofs.prospect.Prospect.push_by_deferral.Goals as goal

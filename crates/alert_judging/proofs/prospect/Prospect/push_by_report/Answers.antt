@@ -1,7 +1,7 @@
 use Rattle.std.proofs.Common.{◌≡◌, sym, subst, Option, None}
 use Rattle.facts.specs.declared.report.Report.{Report}
 use Rattle.desk_state.specs.Touched.{by_report}
-use Rattle.held_releases.specs.Touched.{held_where}
+use Rattle.release_index.specs.Touched.{held_where}
 use Rattle.alert_judging.specs.Touching.{Adds}
 use Rattle.alert_judging.proofs.Ids.{none_added}
 use Rattle.alert_judging.proofs.prospect.Prospect.push_by_report.Goals as goal

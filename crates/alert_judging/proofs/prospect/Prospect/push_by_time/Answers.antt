@@ -1,6 +1,6 @@
 use Rattle.std.proofs.Common.{◌≡◌, sym, subst, Option, None, ℕ}
 use Rattle.desk_state.specs.Touched.{by_time}
-use Rattle.held_releases.specs.Touched.{held_where}
+use Rattle.release_index.specs.Touched.{held_where}
 use Rattle.alert_judging.specs.Touching.{Adds}
 use Rattle.alert_judging.proofs.Ids.{none_added}
 use Rattle.alert_judging.proofs.prospect.Prospect.push_by_time.Goals as goal

@@ -1,7 +1,0 @@
-use Rattle.std.proofs.Common.{subst, sym, IfSome}
-use Rattle.held_releases.specs.Bounds.{ReleaseInBounds}
-use Rattle.held_releases.proofs.HeldLaws.{old_bounds}
-use Rattle.held_releases.proofs.moves.move_of.Goals as goal
-
-pub keys_of-requires : goal.keys_of-requires
-keys_of-requires c = subst (λ o. IfSome o ReleaseInBounds) (sym c.old_of.ensures) (old_bounds c.args.on.now c.args.held.now.list c.requires.each)

@@ -1,8 +1,0 @@
-use Rattle.std.proofs.Common.{sym}
-use Rattle.held_releases.specs.Bounds.{ReleaseInBounds}
-use Rattle.held_releases.specs.Changes.{has_id}
-use Rattle.held_releases.proofs.BoolLaws.{found_each}
-use Rattle.held_releases.proofs.touched.leads_at.Goals as goal
-
-pub is_touched_at-requires : goal.is_touched_at-requires
-is_touched_at-requires c = found_each ReleaseInBounds (has_id c.args.key.1) c.args.held.now.list c.in-Some.release.now c.requires (sym c.in-Some.ensures)

@@ -1,9 +1,0 @@
-use Rattle.std.proofs.Common.{◌≡◌, drop}
-use Rattle.std.specs.Map.{keys_of}
-use Rattle.held_releases.specs.Chosen.{chosen_onto, leads_by}
-use Rattle.held_releases.proofs.touched.push_by.Given as goal
-
-abbrev pub invariant-loop-entry : goal.invariant-loop-entry
-invariant-loop-entry l =
-    chosen_onto (leads_by l.settings l.moment l.held.list) l.ids.items (keys_of (drop l.entry-index l.run))
-    ≡ chosen_onto (leads_by l.settings l.moment l.held.list) l.fn.ids.items (keys_of l.run)

@@ -1,5 +1,0 @@
-use Rattle.kept_state.proofs.ShownLaws.{are_shown}
-use Rattle.kept_state.proofs.changes.event_changes.Goals as goal
-
-pub shown_changes-requires : goal.shown_changes-requires
-shown_changes-requires c = are_shown _ _ c.args.entered.now.what _ _ c.holds.ensures c.requires.fits c.requires.kept c.requires.alerts

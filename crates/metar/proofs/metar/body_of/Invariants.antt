@@ -1,6 +1,0 @@
-use Rattle.std.proofs.Common.{◌≡◌, ◌+◌, drop}
-use Rattle.metar.specs.MetarReading.{body_length}
-use Rattle.metar.proofs.metar.body_of.Given as goal
-
-abbrev pub invariant-loop-i : goal.invariant-loop-i
-invariant-loop-i l = l.i + body_length (drop l.i l.groups) ≡ body_length l.groups

@@ -1,0 +1,9 @@
+use Rattle.std.proofs.Common.{◌≡◌, drop}
+use Rattle.std.specs.Map.{keys_of}
+use Rattle.release_index.specs.Chosen.{chosen_onto, leads_by}
+use Rattle.release_index.proofs.touched.push_by.Given as goal
+
+abbrev pub invariant-loop-entry : goal.invariant-loop-entry
+invariant-loop-entry l =
+    chosen_onto (leads_by l.settings l.moment l.held.list) l.ids.items (keys_of (drop l.entry-index l.run))
+    ≡ chosen_onto (leads_by l.settings l.moment l.held.list) l.fn.ids.items (keys_of l.run)

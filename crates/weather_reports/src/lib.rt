@@ -1,0 +1,12 @@
+//! METAR and SPECI reports (FMH-1, chapter 12; WMO FM 15).
+#![tactic(auto)]
+
+mod change;
+mod forecast;
+mod metar;
+mod parts;
+mod reader;
+
+pub use forecast::{Part, PartKind, Parts, Taf, TafState};
+pub use weather_reports::{Metar, metar_in, read_metar};
+pub use reader::{read_taf, taf_in};
