@@ -3,3 +3,4 @@ pub mod Change
 pub mod Findings
 pub mod Phases
 pub mod Texts
+pub mod Needs

@@ -29,7 +29,7 @@ use Rattle.facts.specs.declared.latest.Kind.TheVariants as kind
 use Rattle.facts.specs.declared.report.Report.{Report}
 use Rattle.facts.proofs.SweepLaws.{latest_swept}
 use Rattle.airport_minima.specs.Floor.{flag_floor}
-use Rattle.alternates.specs.Needs.{needs_takeoff, needs_destination, is_marginal}
+use Rattle.plan.specs.Needs.{needs_takeoff, needs_destination, is_marginal}
 use Rattle.fuel.specs.Sums.{required}
 use Rattle.fuel.specs.declared.sums.Basis.TheVariants as basis
 use Rattle.rules.specs.Grounds.{Grounds}

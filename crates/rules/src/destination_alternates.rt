@@ -3,17 +3,16 @@ ghost use Rattle.std.specs.List.{list_all};
 ghost use Rattle.ops_tables.specs.Limits.{FitsSettings};
 ghost use Rattle.plan.specs.Check.{HasMoments};
 ghost use Rattle.rules.specs.DestinationAlternates as spec;
-ghost use Rattle.alternates.specs.Needs as needs;
+ghost use Rattle.plan.specs.Needs as needs;
 ghost use Rattle.rules.specs.Sights.{case_by, lists_one, need_of, there_of, all_there_of, arrival_of, IsReported};
 
 use crate::circumstances::Circumstances;
 use crate::weather::Reported;
 use airport_minima::{flag_floor, millimetres};
-use alternates::{is_marginal, needs_destination};
+use plan::{Alternate, Kind, Leg, is_marginal, needs_destination};
 use codes::Cond;
 use desk_io::{Listed, OutOfMemory, Pair};
 use ops_tables::Settings;
-use plan::{Alternate, Kind, Leg};
 use std::alloc::Global;
 
 /// Whether a leg needs an alternate of its destination, and what follows (14 CFR 121.619, 121.621).

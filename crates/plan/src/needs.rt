@@ -1,10 +1,10 @@
 ghost use Rattle.std.specs.Prelude.{◌≡◌, ◌≤◌, ◌+◌};
 ghost use Rattle.codes.specs.Minima.{is_met, reaches};
 ghost use Rattle.desk_io.specs.Pair.{raised};
-ghost use Rattle.alternates.specs.Needs as spec;
+ghost use Rattle.plan.specs.Needs as spec;
 
 use codes::{Cond, meets};
-use plan::{Kind, Leg};
+use crate::flights::{Kind, Leg};
 use desk_io::{MILE, Pair};
 
 /// The weather with which a domestic flight needs no alternate: 2,000 feet and 3 statute miles
