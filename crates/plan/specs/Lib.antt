@@ -4,3 +4,5 @@ pub mod Findings
 pub mod Phases
 pub mod Texts
 pub mod Needs
+pub mod Sums
+pub mod Distant

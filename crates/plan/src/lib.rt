@@ -7,6 +7,7 @@ mod findings;
 mod flights;
 mod needs;
 mod release;
+mod sums;
 mod texts;
 
 pub use change::check_change;
@@ -18,4 +19,5 @@ pub use release::{
     Attached, AttachedList, Phase, Release, Revision, Signature, Standing, is_active, is_flying,
     standing_of,
 };
+pub use sums::{Basis, required};
 pub use texts::{finding_text, phase_text};

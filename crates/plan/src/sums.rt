@@ -1,8 +1,8 @@
 ghost use Rattle.std.specs.Prelude.{◌≡◌, ◌≤◌, ◌*◌};
-ghost use Rattle.fuel.specs.Sums as spec;
-ghost use Rattle.fuel.specs.Distant.{IsToMostDistant};
+ghost use Rattle.plan.specs.Sums as spec;
+ghost use Rattle.plan.specs.Distant.{IsToMostDistant};
 
-use plan::{Alternate, Leg};
+use crate::flights::{Alternate, Leg};
 
 /// Which rule the fuel of a leg is counted by.
 #[derive(Clone, Copy, Debug, PartialEq, Eq)]
