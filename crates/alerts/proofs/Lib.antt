@@ -1,2 +1,4 @@
 pub mod Sameness
 pub mod Laws
+pub mod Crossing
+pub mod RungLaws

@@ -2,7 +2,15 @@
 #![tactic(auto)]
 
 mod alert;
+mod bell;
+mod memory;
 mod notices;
+mod ringer;
+mod seat;
 
 pub use alert::{Alert, after};
+pub use bell::Bell;
+pub use memory::MemoryBell;
 pub use notices::{Notice, NoticeKind, Notices, notice_of};
+pub use ringer::{Ringer, Unhung};
+pub use seat::Dropped;

@@ -2,7 +2,7 @@
 use Rattle.std.proofs.Common.{◌≡◌, ℕ, ◌≤◌, Bool, true, List, [], map, Option, None, Some, ap, ◌∙◌, subst, sym, arith}
 use Rattle.std.specs.Prelude.{IfOk, Result, Ok, Err}
 use Rattle.std.specs.List.{concat}
-use Rattle.bells.specs.Seen.{BellSeen}
+use Rattle.alerts.specs.Seen.{BellSeen}
 use Rattle.board.specs.Prepare.{Shown, shown}
 use Rattle.desk.proofs.Choices.{rise_lower, rise_within}
 use Rattle.desk.proofs.Merged.{merged_lower, part_lower}

@@ -1,8 +1,8 @@
 -- Bells that were rung over a desk that was opened.
 use Rattle.std.proofs.Common.{◌≡◌, ℕ, ◌+◌, List, [], ◌∷◌, Option, Some, refl, ap, sym, ◌∙◌, subst}
-use Rattle.bells.proofs.RungLaws.{are_rung_none}
-use Rattle.bells.specs.Ringing.{AreRung, DroppedSeen, Hung, dropped, fresh_from, hung_all, staying}
-use Rattle.bells.specs.Seen.{BellSeen}
+use Rattle.alerts.proofs.RungLaws.{are_rung_none}
+use Rattle.alerts.specs.Ringing.{AreRung, DroppedSeen, Hung, dropped, fresh_from, hung_all, staying}
+use Rattle.alerts.specs.Seen.{BellSeen}
 use Rattle.board.specs.Prepare.{Shown}
 use Rattle.commands.specs.Bells.{AreRungOver}
 use Rattle.commands.specs.declared.working.Ended.{Ended}

@@ -1,7 +1,7 @@
 -- What becomes of the bells that are handed in.
 use Rattle.std.specs.Prelude.{◌≡◌, List, Option, None, Some}
-use Rattle.bells.specs.Ringing.{AreRung, DroppedSeen, Hung, dropped, fresh_from, staying}
-use Rattle.bells.specs.Seen.{BellSeen}
+use Rattle.alerts.specs.Ringing.{AreRung, DroppedSeen, Hung, dropped, fresh_from, staying}
+use Rattle.alerts.specs.Seen.{BellSeen}
 use Rattle.board.specs.Prepare.{Shown}
 use Rattle.desk.specs.Heard.{told_by_all}
 

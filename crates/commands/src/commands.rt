@@ -1,5 +1,5 @@
 ghost use Rattle.std.specs.Prelude.{◌≡◌, ◌<◌, ◌≤◌, None, map, string_bytes};
-ghost use Rattle.bells.specs.Ringing.{hung_all};
+ghost use Rattle.alerts.specs.Ringing.{hung_all};
 ghost use Rattle.commands.specs.Bells.{AreRungOver};
 ghost use Rattle.commands.specs.Answers.{ImportsFile, ImportsUnder, MakesCalls, RacesScripts, RacesUnder};
 ghost use Rattle.commands.specs.Answers.{IsDone, RunsScript, RunsUnder, Says, SaysReports, ServesLinks};
@@ -15,7 +15,7 @@ use crate::working::{
     Answered, Ended, boardless, import_over, make_over, race_over, read_reports, run_over,
     serve_over,
 };
-use bells::{Bell, Ringer};
+use alerts::{Bell, Ringer};
 use desk::{Gate, leave};
 use desk_io::{OutOfMemory, Shelf};
 use desk_net::{Clock, Door};

@@ -1,5 +1,5 @@
 ghost use Rattle.std.specs.Prelude.{map, string_bytes};
-ghost use Rattle.bells.specs.Ringing.{dropped_seen};
+ghost use Rattle.alerts.specs.Ringing.{dropped_seen};
 ghost use Rattle.commands.specs.Answers.{Says};
 ghost use Rattle.commands.specs.Bells.{AreHandedBack};
 ghost use Rattle.commands.specs.Seen.{lent, service};
@@ -9,7 +9,7 @@ ghost use Rattle.words.specs.Words.{command_of};
 use crate::commands::answer_to;
 use crate::fault::Fault;
 use crate::working::{Answered, Ended};
-use bells::{Bell, Dropped, Ringer, Unhung};
+use alerts::{Bell, Dropped, Ringer, Unhung};
 use board::Board;
 use desk::Gate;
 use desk_io::{Shelf, Text};

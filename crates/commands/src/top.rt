@@ -1,6 +1,6 @@
 ghost use Rattle.std.specs.Prelude.{◌≡◌, ◌≢◌, ◌≤◌, [], ◌∷◌, map, string_bytes, IfSome};
 ghost use Rattle.std.specs.List.{Contains};
-ghost use Rattle.bells.specs.Ringing.{dropped_seen};
+ghost use Rattle.alerts.specs.Ringing.{dropped_seen};
 ghost use Rattle.commands.specs.Bells.{AreHandedBack};
 ghost use Rattle.commands.specs.Answers.{AreKeptOver, Blames, EndsProgram, HasDoor, HasSources, Says, Writes};
 ghost use Rattle.commands.specs.Complete.{HaveServed, IsValid};
@@ -16,7 +16,7 @@ ghost use Rattle.words.specs.Words.{command_of};
 
 use crate::fault::{Fault, tell};
 use crate::rung::{Rung, answer_rung};
-use bells::{Bell, Dropped};
+use alerts::{Bell, Dropped};
 use board::Board;
 use desk::Gate;
 use desk_io::{PutFault, Shelf, Sink, Text};

@@ -1,6 +1,6 @@
 ghost use Rattle.std.specs.Prelude.{◌≡◌, ◌≤◌, [], true, None};
 ghost use Rattle.std.specs.List.{AllByRecursion};
-ghost use Rattle.bells.specs.Ringing.{hung_all};
+ghost use Rattle.alerts.specs.Ringing.{hung_all};
 ghost use Rattle.board.specs.Prepare.{shown};
 ghost use Rattle.commands.specs.Bells.{AreRungOver};
 ghost use Rattle.commands.specs.Faults.{Gives};
@@ -15,7 +15,7 @@ ghost use Rattle.keeper.specs.Seen.{KeeperGoesOn};
 
 use crate::fault::Fault;
 use crate::weather::text_of_weather;
-use bells::{Bell, Ringer};
+use alerts::{Bell, Ringer};
 use board::Board;
 use connections::ServeEnd;
 use desk::{Desk, Gate, OpenFault, Raced, make_from, open, race, text_from, text_of_import};

@@ -9,8 +9,8 @@ use Rattle.asks.specs.declared.reply.Refusal.{Refusal}
 use Rattle.asks.specs.declared.reply.Refusal.TheVariants.{Unkept}
 use Rattle.asks.specs.declared.reply.Reply.{Reply}
 use Rattle.asks.specs.declared.reply.Reply.TheVariants.{Done, Refused}
-use Rattle.bells.proofs.RungLaws.{are_rung_on, are_rung_none}
-use Rattle.bells.specs.Ringing.{Hung, AreRung}
+use Rattle.alerts.proofs.RungLaws.{are_rung_on, are_rung_none}
+use Rattle.alerts.specs.Ringing.{Hung, AreRung}
 use Rattle.desk_state.specs.Chain.{unless}
 use Rattle.desk_state.specs.Decide.{decide, is_view, decide_new, decide_numbered}
 use Rattle.desk_state.specs.Legal.{next, Legal, IsHistory}

@@ -20,7 +20,7 @@ use Rattle.desk.specs.Round.{Began, IsRound, AreTaken, items_in}
 use Rattle.desk.specs.Run.{LaneShown, lane_with}
 use Rattle.desk.specs.Seen.{DeskSeen, DeskGoesOn, desk_seen}
 use Rattle.desk.specs.declared.settling.Desk.{Desk}
-use Rattle.bells.specs.Seen.{BellSeen}
+use Rattle.alerts.specs.Seen.{BellSeen}
 use Rattle.keeper.specs.Seen.{KeeperSeen}
 
 -- ---- one more turn

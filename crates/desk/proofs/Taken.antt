@@ -8,7 +8,7 @@ use Rattle.desk.specs.Round.{IsTaken, RoundShown, round_of}
 use Rattle.desk.specs.Run.{LaneShown, lane_with}
 use Rattle.desk.specs.Seen.{desk_seen}
 use Rattle.desk.specs.declared.settling.Desk.{Desk}
-use Rattle.bells.specs.Seen.{BellSeen}
+use Rattle.alerts.specs.Seen.{BellSeen}
 use Rattle.keeper.specs.Seen.{KeeperSeen}
 
 module _ {K B : Type 0} (seen : K → KeeperSeen) (heard : B → BellSeen) (d d' : Desk K B) (lanes : List LaneShown) (place : ℕ) (lane grown : LaneShown) (ended : Bool) (within : place < length lanes) (at : lane ≡ get_or lanes place lane) where

@@ -1,7 +1,7 @@
 -- What contracts see of a desk, in one record, and what goes on through each call of it.
 use Rattle.std.specs.Prelude.{◌≡◌, ℕ, Bool, IsTrue, List}
-use Rattle.bells.specs.Ringing.{Hung, AreRung, hung_all}
-use Rattle.bells.specs.Seen.{BellSeen}
+use Rattle.alerts.specs.Ringing.{Hung, AreRung, hung_all}
+use Rattle.alerts.specs.Seen.{BellSeen}
 use Rattle.desk.specs.Heard.{told_by_all}
 use Rattle.desk.specs.Keeping.{KeepsState}
 use Rattle.desk.specs.declared.settling.Desk.{Desk}

@@ -17,9 +17,8 @@ ghost use Rattle.desk.specs.Settled.{IsSettled, MayHaveTicked, choice_of, Gives,
 ghost use Rattle.desk.specs.Shown.{IsShown, CanBeSaid};
 
 use crate::settling::{Desk, Settled, settle, stayed};
-use alerts::Notices;
+use alerts::{Bell, Notices};
 use asks::{Call, Refusal, Reply};
-use bells::Bell;
 use desk_io::OutOfMemory;
 use desk_state::{Outcome, Said};
 use desk_time::{LAST, Minute};

@@ -12,7 +12,7 @@ use crate::coming::Items;
 use crate::gates::Gate;
 use crate::run::text_of_items;
 use crate::settling::Desk;
-use bells::Bell;
+use alerts::Bell;
 use desk_io::OutOfMemory;
 use desk_state::Item;
 use imports::Line;

@@ -11,7 +11,7 @@ ghost use Rattle.desk.specs.Shown.{IsShown};
 use crate::settling::Desk;
 use crate::turns::outcome;
 use asks::HeldCall;
-use bells::Bell;
+use alerts::Bell;
 use desk_io::{LineFeeds, OutOfMemory, Run, runs_between};
 use desk_json::{CallFault, read_line};
 use desk_state::{Item, Outcome};

@@ -11,7 +11,7 @@ use crate::gates::Gate;
 use crate::run::{answer_passed, outcome_of};
 use crate::settling::Desk;
 use asks::{Call, Done, HeldCall, Reply};
-use bells::Bell;
+use alerts::Bell;
 use board::Board;
 use desk_io::{OutOfMemory, push_all};
 use desk_state::{Item, Outcome, Said};

@@ -17,7 +17,7 @@ ghost use Rattle.desk.specs.Opening.{AreLoaded, board_of, IsLeft, IsOpened, Tell
 ghost use Rattle.desk.specs.declared.opening.OpenWhy.TheVariants.{OutOfMemory as OpenMemory};
 
 use crate::settling::Desk;
-use bells::{Bell, Ringer};
+use alerts::{Bell, Ringer};
 use board::{Board, Restored};
 use desk_io::{Change, OutOfMemory, Row};
 use keeper::{KeepFault, Keeper};

@@ -6,7 +6,7 @@ ghost use Rattle.desk.specs.Seen.{desk_seen, DeskGoesOn};
 
 use crate::lanes::Lane;
 use crate::settling::Desk;
-use bells::Bell;
+use alerts::Bell;
 use desk_io::OutOfMemory;
 use keeper::Keeper;
 use std::alloc::Global;

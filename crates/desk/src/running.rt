@@ -12,7 +12,7 @@ use crate::lanes::Lane;
 use crate::racing::{lanes_of, race_text};
 use crate::round::{Beginning, Round};
 use crate::settling::Desk;
-use bells::Bell;
+use alerts::Bell;
 use desk_io::{OutOfMemory, Text};
 use keeper::Keeper;
 use std::alloc::Global;

@@ -1,6 +1,6 @@
 ghost use Rattle.std.specs.Prelude.{◌≡◌, ◌≤◌, [], None, Some, false, is_some, IfOk, IfSome, OnErr};
 ghost use Rattle.asks.specs.Ranges.{ReplyHasMoment};
-ghost use Rattle.bells.specs.Ringing.{AreRung, hung_all};
+ghost use Rattle.alerts.specs.Ringing.{AreRung, hung_all};
 ghost use Rattle.board.specs.Prepare.{KeepsRows, installed};
 ghost use Rattle.desk_io.specs.Planned.{after};
 ghost use Rattle.keeper.specs.Seen.{KeeperGoesOn};
@@ -8,9 +8,8 @@ ghost use Rattle.desk.specs.Keeping.{asked_if, kept_or, CountedOnce, KeptUnless}
 ghost use Rattle.desk.specs.Seen.{desk_seen, StepGoesOn};
 ghost use Rattle.desk.specs.Settled.{stepped_by, IsSettled};
 
-use alerts::Notices;
+use alerts::{Bell, Notices, Ringer};
 use asks::{Refusal, Reply};
-use bells::{Bell, Ringer};
 use board::{Board, Installed, Prepared};
 use desk_io::{Change, OutOfMemory};
 use keeper::{KeepFault, Keeper};

@@ -7,7 +7,7 @@ ghost use Rattle.desk_state.specs.Repeats.{IsAskable};
 
 use crate::run::{answer_item, outcome_of};
 use crate::settling::Desk;
-use bells::Bell;
+use alerts::Bell;
 use desk_io::OutOfMemory;
 use desk_state::{Item, Outcome};
 use keeper::Keeper;

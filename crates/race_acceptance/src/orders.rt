@@ -4,7 +4,7 @@ ghost use Rattle.desk.specs.Merge.{IsFresh};
 
 use crate::counting::Counting;
 use crate::meeting::Meeting;
-use bells::{MemoryBell, Ringer};
+use alerts::{MemoryBell, Ringer};
 use board::Board;
 use desk::{Desk, Finished, Gate, Lane, run_lanes};
 use desk_io::OutOfMemory;
@@ -90,7 +90,7 @@ fn came_of(
 }
 
 // What comes of two lanes at a gate, of which this is the first.
-#[tactic(auto, using(keeper::proofs::Crossing::MemoryKeeper_send, bells::proofs::Crossing::MemoryBell_send))]
+#[tactic(auto, using(keeper::proofs::Crossing::MemoryKeeper_send, alerts::proofs::Crossing::MemoryBell_send))]
 fn run<G: Gate + Sync, R: Threads + Wait + Sync>(
     rt: &R,
     alloc: Global,

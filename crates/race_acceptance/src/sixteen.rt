@@ -1,5 +1,5 @@
 use crate::gathering::Gathering;
-use bells::{MemoryBell, Ringer};
+use alerts::{MemoryBell, Ringer};
 use board::Board;
 use desk::{Desk, Raced, race};
 use desk_io::{OutOfMemory, Text};
@@ -29,7 +29,7 @@ fn text_of(raced: Raced<MemoryKeeper, MemoryBell>) -> Result<Text, OutOfMemory> 
 }
 
 // The text of their race.
-#[tactic(auto, using(keeper::proofs::Crossing::MemoryKeeper_send, bells::proofs::Crossing::MemoryBell_send))]
+#[tactic(auto, using(keeper::proofs::Crossing::MemoryKeeper_send, alerts::proofs::Crossing::MemoryBell_send))]
 fn raced<R: Threads + Wait + Sync>(
     rt: &R,
     alloc: Global,

@@ -1,8 +1,7 @@
 ghost use Rattle.std.specs.Prelude.{◌≡◌, None, codes};
 ghost use Rattle.desk_io.specs.Health.{unsound};
 
-use alerts::{Notice, NoticeKind};
-use bells::Bell;
+use alerts::{Bell, Notice, NoticeKind};
 use desk_io::{Failed, Text, counted};
 use desk_net::{Clock, SystemClock};
 use desk_time::show;

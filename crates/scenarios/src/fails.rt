@@ -4,7 +4,7 @@ use crate::members::{check_keys, items_of};
 use crate::play::Play;
 use crate::playing::Played;
 use crate::report::Report;
-use bells::{Bell, MemoryBell};
+use alerts::{Bell, MemoryBell};
 use desk_io::{OutOfMemory, Sink};
 use desk_net::{Clock, Link, MemoryLink};
 use keeper::Keeper;

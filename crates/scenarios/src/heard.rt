@@ -1,5 +1,4 @@
-use alerts::{Notice, NoticeKind};
-use bells::{Dropped, MemoryBell};
+use alerts::{Dropped, MemoryBell, Notice, NoticeKind};
 use desk_io::{OutOfMemory, push_all};
 use std::alloc::Global;
 

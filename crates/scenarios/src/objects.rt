@@ -8,7 +8,7 @@ use crate::members::{check_keys, items_of};
 use crate::outside::{CaseClock, CaseDoor, CaseKeeper};
 use crate::play::Play;
 use crate::texts::text_of;
-use bells::MemoryBell;
+use alerts::MemoryBell;
 use desk_io::{MemorySink, OutOfMemory, Row, Shelf, Text};
 use desk_net::{MemoryClock, MemoryDoor, MemoryLink};
 use desk_time::{FIRST, Minute, read_minute};

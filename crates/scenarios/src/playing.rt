@@ -1,6 +1,6 @@
 use crate::counting::GateThatCounts;
 use crate::outside::{CaseClock, CaseDoor, CaseKeeper, CaseShelf};
-use bells::{Bell, Dropped, MemoryBell};
+use alerts::{Bell, Dropped, MemoryBell};
 use commands::{Ending, Gate, desk_main};
 use desk_io::{MemorySink, Shelf, Sink};
 use desk_net::{Clock, Door};
@@ -98,7 +98,7 @@ where
 }
 
 /// Calls the program.
-#[tactic(auto, using(bells::proofs::Crossing::MemoryBell_send))]
+#[tactic(auto, using(alerts::proofs::Crossing::MemoryBell_send))]
 pub fn play<R: Threads + Wait + Sync>(rt: &R, alloc: Global, outside: Outside) -> Played {
     let Outside {
         words,

@@ -2,7 +2,7 @@
 use denote.RattleType.{RattleType}
 use denote.Param.Send.{IsSend, sendable}
 use Rattle.std.proofs.Crossing.{crosses}
-use Rattle.bells.specs.declared.bell.Bell as Bell
+use Rattle.alerts.specs.declared.bell.Bell as Bell
 use Rattle.desk.proofs.Crossing.{Desk_send}
 use Rattle.desk_net.specs.declared.outside.Clock as Clock
 use Rattle.keeper.specs.declared.keeping.Keeper as Keeper

@@ -1,7 +1,7 @@
 -- What is seen of a shared desk, and what holds of it at every turn.
 use Rattle.std.specs.Prelude.{◌≡◌, ℕ, ◌+◌, ◌^◌, ◌<◌, true, List, length, Option, None, Some}
 use Rattle.std.specs.List.{AllByRecursion}
-use Rattle.bells.specs.Seen.{BellSeen}
+use Rattle.alerts.specs.Seen.{BellSeen}
 use Rattle.desk.specs.Keeping.{Rise}
 use Rattle.desk.specs.Seen.{DeskGoesOn, DeskSeen, desk_seen}
 use Rattle.desk.specs.declared.settling.Desk.{Desk}

@@ -15,7 +15,7 @@ ghost use Rattle.service.specs.declared.misses.MissOf.TheVariants as of;
 
 use crate::misses::{Miss, MissOf};
 use asks::{Call, Refusal, Reply};
-use bells::Bell;
+use alerts::Bell;
 use connections::Unanswered;
 use desk::{Answered, Desk, answer};
 use desk_net::Clock;

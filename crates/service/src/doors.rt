@@ -8,7 +8,7 @@ ghost use Rattle.desk_net.specs.Seen.{ClockGoesOn};
 ghost use Rattle.service.specs.Doors.{IsServing};
 
 use crate::rounds::OnDesk;
-use bells::Bell;
+use alerts::Bell;
 use connections::{Finished, ServeEnd, serve_all};
 use desk::{Desk, Gate};
 use desk_net::{Clock, Door};

@@ -16,7 +16,7 @@ use crate::requested::{Requested, requested_by};
 use crate::responding::{response_to, response_without, text_of};
 use crate::responses::Response;
 use asks::Call;
-use bells::Bell;
+use alerts::Bell;
 use connections::Unanswered;
 use desk::{Desk, answer};
 use desk_http::{Patterns, Wire};

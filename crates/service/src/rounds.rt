@@ -4,7 +4,7 @@ ghost use Rattle.service.specs.Doors.{IsServedInTurns};
 ghost use Rattle.turn_lock.specs.Passes.{lock_id, pass_lock, pass_number, pass_numbers, pass_seen};
 
 use crate::turns::serve_turns;
-use bells::Bell;
+use alerts::Bell;
 use connections::{Serving, Visited};
 use desk::Gate;
 use desk_net::{Clock, Link};

@@ -7,7 +7,7 @@ ghost use Rattle.desk_net.specs.Seen.{ClockGoesOn, LinkGoesOn};
 ghost use Rattle.service.specs.Alone.{ServesLink, ServesStep};
 
 use crate::exchange::exchange;
-use bells::Bell;
+use alerts::Bell;
 use connections::{Served, end_without, write_answer};
 use desk::Desk;
 use desk_http::{Buffer, Patterns, next_request};

@@ -13,7 +13,7 @@ use crate::answering::answer_over;
 use crate::misses::{Event, Miss};
 use crate::opened::Opened;
 use asks::Call;
-use bells::Bell;
+use alerts::Bell;
 use connections::Unanswered;
 use desk::{Answered, Desk};
 use desk_net::Clock;

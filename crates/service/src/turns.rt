@@ -22,7 +22,7 @@ use crate::requested::{Requested, requested_by};
 use crate::responding::{response_to, response_without, text_of};
 use crate::responses::Response;
 use asks::Call;
-use bells::Bell;
+use alerts::Bell;
 use connections::{Served, Unanswered, end_without, write_answer};
 use desk_http::{Buffer, Patterns, Wire, next_request};
 use desk_io::{OutOfMemory, Text};

@@ -1,6 +1,6 @@
 ghost use Rattle.std.specs.Prelude.{◌≡◌, ◌<◌};
 
-use bells::{MemoryBell, Ringer};
+use alerts::{MemoryBell, Ringer};
 use board::Board;
 use connections::Served;
 use desk::Desk;

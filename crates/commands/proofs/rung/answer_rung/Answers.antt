@@ -1,5 +1,5 @@
 use Rattle.std.proofs.Common.{map, ap, refl, subst, ◌∙◌}
-use Rattle.bells.specs.Ringing.{dropped_seen, fresh_from, hung_all}
+use Rattle.alerts.specs.Ringing.{dropped_seen, fresh_from, hung_all}
 use Rattle.commands.proofs.RungLaws.{all_stay, none_leaves}
 use Rattle.commands.specs.Bells.{AreRungOver}
 use Rattle.commands.proofs.rung.answer_rung.Goals as goal

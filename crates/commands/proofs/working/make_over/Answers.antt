@@ -1,6 +1,6 @@
 use Rattle.std.proofs.Common.{ap, ◌∙◌, Err}
 use Rattle.commands.proofs.RungLaws.{rung_over}
-use Rattle.bells.specs.Ringing.{hung_all}
+use Rattle.alerts.specs.Ringing.{hung_all}
 use Rattle.commands.proofs.Opened.{keeper_worked, makes_lower, not_opened, worked}
 use Rattle.commands.specs.Working.{Makes}
 use Rattle.commands.proofs.working.make_over.Goals as goal

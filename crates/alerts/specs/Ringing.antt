@@ -4,9 +4,9 @@ use Rattle.std.specs.List.{AllZip}
 use Rattle.std.specs.Option.{option_map}
 use Rattle.std.specs.Str.{bytes_eq}
 use Rattle.alerts.specs.declared.notices.Notice.{Notice}
-use Rattle.bells.specs.Seen.{BellSeen}
-use Rattle.bells.specs.declared.seat.Dropped.{Dropped}
-use Rattle.bells.specs.declared.seat.Seat.{Seat}
+use Rattle.alerts.specs.Seen.{BellSeen}
+use Rattle.alerts.specs.declared.seat.Dropped.{Dropped}
+use Rattle.alerts.specs.declared.seat.Seat.{Seat}
 use Rattle.desk_io.specs.Health.{GoesOn, HasFailed}
 use Rattle.desk_io.specs.Planned.{after}
 

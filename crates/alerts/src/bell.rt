@@ -1,9 +1,9 @@
 ghost use Rattle.std.specs.Prelude.{◌≡◌, ◌++◌, ◌∷◌, [], OnOk, OnErr};
 ghost use Rattle.std.specs.Option.{option_map};
-ghost use Rattle.bells.specs.Seen.{BellSeen};
+ghost use Rattle.alerts.specs.Seen.{BellSeen};
 ghost use Rattle.desk_io.specs.Health.{GoesOn, HasFailed};
 
-use alerts::Notice;
+use crate::notices::Notice;
 use desk_io::{Failed, Text};
 
 /// What hears of the alerts of a dispatcher's releases.

@@ -1,9 +1,9 @@
 ghost use Rattle.std.specs.Prelude.{◌≡◌, ◌∷◌, []};
-ghost use Rattle.bells.specs.Ringing as spec;
-ghost use Rattle.bells.specs.Ringing.{AreRung, IsRung, hung, hung_all};
+ghost use Rattle.alerts.specs.Ringing as spec;
+ghost use Rattle.alerts.specs.Ringing.{AreRung, IsRung, hung, hung_all};
 
 use crate::Bell;
-use alerts::Notice;
+use crate::notices::Notice;
 use desk_io::Failed;
 
 /// A bell that a ringer has: its place among those handed in, how many notices it heard, and whether it stays.

@@ -1,7 +1,7 @@
 use Rattle.std.proofs.Common.{arith, sym}
-use Rattle.bells.specs.Ringing.{hung}
-use Rattle.bells.proofs.RungLaws.{rung_next}
-use Rattle.bells.proofs.seat.ring_seat.Goals as goal
+use Rattle.alerts.specs.Ringing.{hung}
+use Rattle.alerts.proofs.RungLaws.{rung_next}
+use Rattle.alerts.proofs.seat.ring_seat.Goals as goal
 
 pub loop-notice-preserved : goal.loop-notice-preserved
 loop-notice-preserved g c =

@@ -1,6 +1,6 @@
 use Rattle.std.proofs.Common.{take}
-use Rattle.bells.specs.Ringing.{IsRung, hung}
-use Rattle.bells.proofs.seat.ring_seat.Given as goal
+use Rattle.alerts.specs.Ringing.{IsRung, hung}
+use Rattle.alerts.proofs.seat.ring_seat.Given as goal
 
 abbrev pub invariant-loop-notice : goal.invariant-loop-notice
 invariant-loop-notice g l =

@@ -6,7 +6,7 @@ use Rattle.std.proofs.lemmas.List.{take_more}
 use Rattle.std.specs.List.{AllZip}
 use Rattle.std.specs.Option.{option_map}
 use Rattle.alerts.specs.declared.notices.Notice.{Notice}
-use Rattle.bells.specs.Ringing.{Hung, Hears, FailsAmong, IsRung, AreRung, concerns, due, counted}
+use Rattle.alerts.specs.Ringing.{Hung, Hears, FailsAmong, IsRung, AreRung, concerns, due, counted}
 use Rattle.desk_io.proofs.HealthLaws.{stays, goes_on, failed_last}
 use Rattle.desk_io.specs.Health.{GoesOn, HasFailed}
 use Rattle.desk_io.specs.Planned.{after}

@@ -1,7 +1,7 @@
 use Rattle.std.proofs.Common.{◌≡◌, ◌++◌, ◌+◌, ◌≤◌, map, vec_len, vec_capacity}
 use Rattle.std.specs.VecDeque.{deque_len}
-use Rattle.bells.specs.Ringing.{hung_all, fresh_from}
-use Rattle.bells.proofs.ringer.seated.Given as goal
+use Rattle.alerts.specs.Ringing.{hung_all, fresh_from}
+use Rattle.alerts.proofs.ringer.seated.Given as goal
 
 abbrev pub invariant-loop-bell : goal.invariant-loop-bell
 invariant-loop-bell g l =

@@ -1,7 +1,7 @@
 use Rattle.std.proofs.Common.{arith}
-use Rattle.bells.specs.Ringing.{IsRung, hung}
-use Rattle.bells.proofs.RungLaws.{up_to_next, up_to_end}
-use Rattle.bells.proofs.seat.ring_seats.Goals as goal
+use Rattle.alerts.specs.Ringing.{IsRung, hung}
+use Rattle.alerts.proofs.RungLaws.{up_to_next, up_to_end}
+use Rattle.alerts.proofs.seat.ring_seats.Goals as goal
 
 pub loop-seat-preserved : goal.loop-seat-preserved
 loop-seat-preserved g c =

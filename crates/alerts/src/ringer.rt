@@ -1,9 +1,9 @@
 ghost use Rattle.std.specs.Prelude.{◌≡◌, ◌<◌, ◌≤◌, ◌+◌, ◌++◌, ◌∷◌, [], map, vec_len, vec_capacity, IfOk, IfErr};
-ghost use Rattle.bells.specs.Ringing.{AreRung, hung, hung_all, fresh_from, staying, dropped, dropped_seen};
+ghost use Rattle.alerts.specs.Ringing.{AreRung, hung, hung_all, fresh_from, staying, dropped, dropped_seen};
 
 use crate::Bell;
 use crate::seat::{Dropped, Seat, ring_seats};
-use alerts::Notice;
+use crate::notices::Notice;
 use desk_io::OutOfMemory;
 use std::alloc::Global;
 use std::collections::VecDeque;
@@ -33,7 +33,7 @@ pub struct Ringer<B> {
 
 impl<B> Model for Ringer<B> {
     ghost use Rattle.std.specs.Prelude.{◌≡◌, ◌≤◌, List, [], vec_len, vec_capacity};
-    ghost use Rattle.bells.specs.declared.seat.Seat.{Seat};
+    ghost use Rattle.alerts.specs.declared.seat.Seat.{Seat};
 
     ghost Value = { List (Seat B) };
 

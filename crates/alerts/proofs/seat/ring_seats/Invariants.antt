@@ -1,6 +1,6 @@
-use Rattle.bells.specs.Ringing.{IsRung, hung}
-use Rattle.bells.proofs.RungLaws.{UpTo}
-use Rattle.bells.proofs.seat.ring_seats.Given as goal
+use Rattle.alerts.specs.Ringing.{IsRung, hung}
+use Rattle.alerts.proofs.RungLaws.{UpTo}
+use Rattle.alerts.proofs.seat.ring_seats.Given as goal
 
 abbrev pub invariant-loop-seat : goal.invariant-loop-seat
 invariant-loop-seat g l =

@@ -4,7 +4,7 @@ ghost use Rattle.desk_io.specs.Health.{GoesOn, HasFailed};
 ghost use Rattle.desk_io.specs.Planned.{is_planned, after};
 
 use crate::Bell;
-use alerts::{Notice, Notices};
+use crate::notices::{Notice, Notices};
 use desk_io::{Copied, Failed, OutOfMemory, Text};
 use std::alloc::Global;
 
@@ -71,7 +71,7 @@ impl MemoryBell {
 }
 
 impl Bell for MemoryBell {
-    ghost use Rattle.bells.specs.InMemory.{bell_seen};
+    ghost use Rattle.alerts.specs.InMemory.{bell_seen};
 
     ghost seen = { bell_seen };
 

@@ -1,7 +1,7 @@
 use Rattle.std.proofs.Common.{◌≡◌, ◌++◌, ◌+◌, ◌≤◌, map, vec_len, vec_capacity}
 use Rattle.std.specs.VecDeque.{deque_len}
-use Rattle.bells.specs.Ringing.{hung_all, staying, dropped, dropped_seen}
-use Rattle.bells.proofs.ringer.Ringer.finish.Given as goal
+use Rattle.alerts.specs.Ringing.{hung_all, staying, dropped, dropped_seen}
+use Rattle.alerts.proofs.ringer.Ringer.finish.Given as goal
 
 abbrev pub invariant-loop-seat : goal.invariant-loop-seat
 invariant-loop-seat g l =
