@@ -1,7 +1,7 @@
 -- What is seen of the bell in memory. Want of memory may fail any call of it.
 use Rattle.std.specs.Prelude.{Some}
 use Rattle.alerts.specs.Seen.{BellSeen}
-use Rattle.alerts.specs.declared.memory.MemoryBell.{MemoryBell}
+use Rattle.alerts.specs.declared.memory_bell.MemoryBell.{MemoryBell}
 use Rattle.desk_io.specs.Health.{unsound}
 
 abbrev pub bell_seen : MemoryBell → BellSeen

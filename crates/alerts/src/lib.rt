@@ -3,14 +3,14 @@
 
 mod alert;
 mod bell;
-mod memory;
+mod memory_bell;
 mod notices;
 mod ringer;
 mod seat;
 
 pub use alert::{Alert, after};
 pub use bell::Bell;
-pub use memory::MemoryBell;
+pub use memory_bell::MemoryBell;
 pub use notices::{Notice, NoticeKind, Notices, notice_of};
 pub use ringer::{Ringer, Unhung};
 pub use seat::Dropped;

@@ -2,7 +2,7 @@
 use Rattle.std.proofs.Common.{◌≡◌, ℕ, ◌<◌, ◌≤◌, max, nat_lt, true, false, List, [], ◌∷◌, length, map, All, Contains, refl, arith, ltb-true, ltb-false}
 use Rattle.std.proofs.lemmas.List.Elements.{All-nil, All-cons, Contains-append_right}
 use Rattle.plan.specs.declared.flights.Alternate.{Alternate}
-use Rattle.plan.specs.Sums.{most_fuel}
+use Rattle.plan.specs.Fuel.{most_fuel}
 use Rattle.plan.specs.Distant.{IsToMostDistant}
 
 most_within : (alternates : List Alternate) (fuel : ℕ) → most_fuel alternates ≤ fuel → All (λ a. a.fuel ≤ fuel) alternates

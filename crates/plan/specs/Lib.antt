@@ -3,6 +3,6 @@ pub mod Change
 pub mod Findings
 pub mod Phases
 pub mod Texts
-pub mod Needs
-pub mod Sums
+pub mod AlternateNeeds
+pub mod Fuel
 pub mod Distant

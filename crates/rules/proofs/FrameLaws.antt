@@ -29,9 +29,9 @@ use Rattle.facts.specs.declared.latest.Kind.TheVariants as kind
 use Rattle.facts.specs.declared.report.Report.{Report}
 use Rattle.facts.proofs.SweepLaws.{latest_swept}
 use Rattle.airport_minima.specs.Floor.{flag_floor}
-use Rattle.plan.specs.Needs.{needs_takeoff, needs_destination, is_marginal}
-use Rattle.plan.specs.Sums.{required}
-use Rattle.plan.specs.declared.sums.Basis.TheVariants as basis
+use Rattle.plan.specs.AlternateNeeds.{needs_takeoff, needs_destination, is_marginal}
+use Rattle.plan.specs.Fuel.{required}
+use Rattle.plan.specs.declared.fuel.Basis.TheVariants as basis
 use Rattle.rules.specs.Grounds.{Grounds}
 use Rattle.rules.specs.Circumstances.{Case, case_of, weather_at, worst_weather, landing_at, arrival_minima, alternate_at, is_below_alternate}
 use Rattle.rules.specs.Weather.{is_below_landing}

@@ -7,9 +7,9 @@ use Rattle.plan.specs.declared.flights.Kind.{Kind}
 use Rattle.plan.specs.declared.flights.Kind.TheVariants.{Domestic, Flag}
 use Rattle.plan.specs.declared.flights.Leg.{Leg}
 use Rattle.plan.specs.declared.flights.Alternate.{Alternate}
-use Rattle.plan.specs.declared.sums.Basis.{Basis}
-use Rattle.plan.specs.declared.sums.Basis.TheVariants as basis
-use Rattle.plan.specs.Sums.{most_fuel, alternate_fuel, required}
+use Rattle.plan.specs.declared.fuel.Basis.{Basis}
+use Rattle.plan.specs.declared.fuel.Basis.TheVariants as basis
+use Rattle.plan.specs.Fuel.{most_fuel, alternate_fuel, required}
 use Rattle.rules.specs.Circumstances.{Case}
 use Rattle.rules.specs.DestinationAlternates.{is_domestic, is_flag, lists_none, needs_alternate, is_free}
 use Rattle.rules.specs.Fuel.{is_within_states, counts_alternate, is_short_domestic, is_short_flag}

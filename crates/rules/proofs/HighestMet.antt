@@ -7,7 +7,7 @@ use Rattle.desk_io.specs.declared.pair.Pair.{Pair}
 use Rattle.desk_io.specs.Pair.{raised}
 use Rattle.codes.specs.declared.cond.Cond.{Cond}
 use Rattle.codes.specs.Minima.{reaches, is_met, meets}
-use Rattle.plan.specs.Needs.{meets_raised, is_marginal}
+use Rattle.plan.specs.AlternateNeeds.{meets_raised, is_marginal}
 use Rattle.airport_minima.specs.declared.within.Bounds.{Bounds}
 use Rattle.airport_minima.specs.Within.{has_within}
 use Rattle.rules.specs.HighestMet.{no_margin, at_least, highest, highest_met, met_within}

@@ -6,7 +6,7 @@ use Rattle.desk_io.specs.declared.pair.Pair.{Pair}
 use Rattle.plan.specs.declared.flights.Kind.TheVariants.{Domestic}
 use Rattle.plan.specs.declared.flights.Leg.{Leg}
 use Rattle.plan.specs.declared.flights.Alternate.{Alternate}
-use Rattle.plan.specs.Needs.{needs_destination}
+use Rattle.plan.specs.AlternateNeeds.{needs_destination}
 use Rattle.rules.specs.Circumstances.{Case}
 use Rattle.rules.specs.DestinationAlternates.{is_marginal_landing, is_marginal_at, are_marginal}
 use Rattle.rules.specs.Sights.{lists_one}

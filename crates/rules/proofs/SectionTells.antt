@@ -16,7 +16,7 @@ use Rattle.plan.specs.declared.flights.Alternate.{Alternate}
 use Rattle.plan.specs.declared.flights.TakeoffAlternate.{TakeoffAlternate}
 use Rattle.plan.specs.declared.release.Phase.{Phase}
 use Rattle.plan.specs.declared.release.Phase.TheVariants.{Drafted, Ready, Flying, Stopped, Completed, Cancelled}
-use Rattle.plan.specs.Needs.{needs_takeoff, range, in_range, misses, is_long, needs_destination, is_marginal}
+use Rattle.plan.specs.AlternateNeeds.{needs_takeoff, range, in_range, misses, is_long, needs_destination, is_marginal}
 use Rattle.airport_minima.specs.Floor.{flag_floor}
 use Rattle.airport_minima.specs.Raised as landing
 use Rattle.deferrals.specs.Due.{days_allowed}

@@ -10,7 +10,7 @@ use Rattle.plan.specs.declared.flights.Leg.{Leg}
 use Rattle.plan.specs.declared.flights.Alternate.{Alternate}
 use Rattle.airport_minima.specs.Minima.{millimetres}
 use Rattle.airport_minima.specs.Floor.{flag_floor}
-use Rattle.plan.specs.Needs.{needs_destination, is_marginal}
+use Rattle.plan.specs.AlternateNeeds.{needs_destination, is_marginal}
 use Rattle.rules.specs.Circumstances.{Case, weather_at, worst_weather, landing_at, alternate_at, is_below_alternate}
 
 abbrev pub is_domestic : Kind → Bool

@@ -3,9 +3,9 @@ use Rattle.std.specs.Prelude.{ℕ, nat_lt, Bool, false, not, ◌&&◌, ◌||◌,
 use Rattle.ops_tables.specs.Tables.{TableRows, airport_of}
 use Rattle.ops_tables.specs.declared.rows.Airport.{Airport}
 use Rattle.plan.specs.declared.flights.Leg.{Leg}
-use Rattle.plan.specs.declared.sums.Basis.{Basis}
-use Rattle.plan.specs.declared.sums.Basis.TheVariants as basis
-use Rattle.plan.specs.Sums.{required}
+use Rattle.plan.specs.declared.fuel.Basis.{Basis}
+use Rattle.plan.specs.declared.fuel.Basis.TheVariants as basis
+use Rattle.plan.specs.Fuel.{required}
 use Rattle.rules.specs.Circumstances.{Case}
 use Rattle.rules.specs.DestinationAlternates.{is_domestic, is_flag, lists_none, needs_alternate, is_free}
 

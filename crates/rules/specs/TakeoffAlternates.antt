@@ -3,7 +3,7 @@ use Rattle.std.specs.Prelude.{◌+◌, Bool, false, not, ◌&&◌, Option, None,
 use Rattle.ops_tables.specs.Tables.{miles_of}
 use Rattle.plan.specs.declared.flights.Leg.{Leg}
 use Rattle.plan.specs.declared.flights.TakeoffAlternate.{TakeoffAlternate}
-use Rattle.plan.specs.Needs.{needs_takeoff, in_range}
+use Rattle.plan.specs.AlternateNeeds.{needs_takeoff, in_range}
 use Rattle.rules.specs.Circumstances.{Case, weather_at, landing_at, is_below_alternate}
 
 -- the weather at the airport of departure at the ETD is below landing minima

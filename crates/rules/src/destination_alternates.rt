@@ -3,7 +3,7 @@ ghost use Rattle.std.specs.List.{list_all};
 ghost use Rattle.ops_tables.specs.Limits.{FitsSettings};
 ghost use Rattle.plan.specs.Check.{HasMoments};
 ghost use Rattle.rules.specs.DestinationAlternates as spec;
-ghost use Rattle.plan.specs.Needs as needs;
+ghost use Rattle.plan.specs.AlternateNeeds as needs;
 ghost use Rattle.rules.specs.Sights.{case_by, lists_one, need_of, there_of, all_there_of, arrival_of, IsReported};
 
 use crate::circumstances::Circumstances;

@@ -3,7 +3,7 @@ ghost use Rattle.std.specs.Option.{option_copied};
 ghost use Rattle.desk_time.specs.Limits.{IsMoment};
 ghost use Rattle.weather_window.specs.Window.{cond_at, worst_cond};
 ghost use Rattle.codes.specs.Minima.{meets};
-ghost use Rattle.plan.specs.Needs.{is_marginal};
+ghost use Rattle.plan.specs.AlternateNeeds.{is_marginal};
 ghost use Rattle.airport_minima.specs.Raised.{raised};
 ghost use Rattle.rules.specs.Grounds.{grounds_of};
 ghost use Rattle.rules.specs.Circumstances as spec;

@@ -1,7 +1,7 @@
 ghost use Rattle.std.specs.Prelude.{◌≡◌, ◌≤◌, ◌+◌};
 ghost use Rattle.codes.specs.Minima.{is_met, reaches};
 ghost use Rattle.desk_io.specs.Pair.{raised};
-ghost use Rattle.plan.specs.Needs as spec;
+ghost use Rattle.plan.specs.AlternateNeeds as spec;
 
 use codes::{Cond, meets};
 use crate::flights::{Kind, Leg};
@@ -20,7 +20,7 @@ const LONGEST_WITHOUT: u64 = 360;
 
 /// Whether a takeoff alternate is needed: the weather at the airport of departure is below all its
 /// landing minima (14 CFR 121.617(a)). It takes no memory.
-#[tactic(auto, unfolding(crate::specs::Needs::needs_takeoff))]
+#[tactic(auto, unfolding(crate::specs::AlternateNeeds::needs_takeoff))]
 pub fn needs_takeoff(cond: Cond, landing: &[Pair]) -> bool
     ensures { result ≡ spec.needs_takeoff cond landing.now }
 {
@@ -38,7 +38,7 @@ fn range(engines: u8, knots: u32) -> u32
 /// engines, and two hours for one with three or more, at its speed with one engine inoperative (14
 /// CFR 121.617(a)). The miles are nautical, and a distance that isn't known isn't in range. It takes
 /// no memory.
-#[tactic(auto, unfolding(crate::specs::Needs::in_range))]
+#[tactic(auto, unfolding(crate::specs::AlternateNeeds::in_range))]
 pub fn in_range(engines: u8, knots: u32, miles: Option<u32>) -> bool
     requires { knots ≤ 1_000 }
     ensures { result ≡ spec.in_range engines knots miles }
@@ -63,7 +63,7 @@ fn misses(window: Cond, floor: Option<Pair>) -> bool
 /// where that is below 2,000 feet or 3 statute miles (14 CFR 121.619(a)). A flag flight needs one
 /// where it is scheduled for more than six hours, or there is no floor or the weather is below it (14
 /// CFR 121.621(a)(1)). It takes no memory.
-#[tactic(auto, unfolding(crate::specs::Needs::needs_destination))]
+#[tactic(auto, unfolding(crate::specs::AlternateNeeds::needs_destination))]
 pub fn needs_destination(leg: &Leg, kind: Kind, window: Cond, floor: Option<Pair>) -> bool
     ensures { result ≡ spec.needs_destination leg.now kind window floor }
 {
@@ -99,7 +99,7 @@ fn meets_raised(cond: Cond, pairs: &[Pair], margin: Pair) -> bool
 
 /// Whether the weather is marginal: it is below all these minima raised by the margin (14 CFR
 /// 121.619(a)). It takes no memory.
-#[tactic(auto, unfolding(crate::specs::Needs::is_marginal))]
+#[tactic(auto, unfolding(crate::specs::AlternateNeeds::is_marginal))]
 pub fn is_marginal(cond: Cond, pairs: &[Pair], margin: Pair) -> bool
     ensures { result ≡ spec.is_marginal cond pairs.now margin }
 {

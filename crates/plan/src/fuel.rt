@@ -1,5 +1,5 @@
 ghost use Rattle.std.specs.Prelude.{◌≡◌, ◌≤◌, ◌*◌};
-ghost use Rattle.plan.specs.Sums as spec;
+ghost use Rattle.plan.specs.Fuel as spec;
 ghost use Rattle.plan.specs.Distant.{IsToMostDistant};
 
 use crate::flights::{Alternate, Leg};
@@ -56,7 +56,7 @@ fn tenth_for(pph: u32, minutes: u32) -> u64
 /// alternate, the one with the greatest fuel, is counted. `cruise_pph` and `hold_pph` are pounds per
 /// hour. `extra_fuel` is what deferred equipment adds, in pounds. Each division is rounded up. It
 /// takes no memory.
-#[tactic(auto, unfolding(crate::specs::Sums::required), using(crate::proofs::Distances::most_is_to_most_distant))]
+#[tactic(auto, unfolding(crate::specs::Fuel::required), using(crate::proofs::Distances::most_is_to_most_distant))]
 pub fn required(
     leg: &Leg,
     basis: Basis,

@@ -2,8 +2,8 @@
 use Rattle.std.specs.Prelude.{ℕ, ◌+◌, ◌-◌, ◌*◌, ◌/◌, max, Bool, if◌then◌else◌, List, [], ◌∷◌}
 use Rattle.plan.specs.declared.flights.Leg.{Leg}
 use Rattle.plan.specs.declared.flights.Alternate.{Alternate}
-use Rattle.plan.specs.declared.sums.Basis.{Basis}
-use Rattle.plan.specs.declared.sums.Basis.TheVariants.{Domestic, Flag, NoAlternate}
+use Rattle.plan.specs.declared.fuel.Basis.{Basis}
+use Rattle.plan.specs.declared.fuel.Basis.TheVariants.{Domestic, Flag, NoAlternate}
 
 -- a quotient that is rounded up
 abbrev pub rounded_up : ℕ → ℕ → ℕ
