@@ -15,3 +15,4 @@ pub mod AskForms
 pub mod ValueTexts
 pub mod DocumentTexts
 pub mod Printable
+pub mod Crossing

@@ -4,3 +4,4 @@ pub mod DueLaws
 pub mod TailLaws
 pub mod Halves
 pub mod FuelLaws
+pub mod Crossing

@@ -5,7 +5,8 @@ use Rattle.std.proofs.Crossing.{crosses}
 use Rattle.asks.specs.contracts.bad_call.BadCall as BadCall
 use Rattle.alerts.proofs.Crossing.{Ringer_field_send}
 use Rattle.alerts.specs.declared.bell.Bell as Bell
-use Rattle.board.proofs.Crossing.{Board_field_send, Call_field_send, Reply_field_send}
+use Rattle.asks.proofs.Crossing.{Call_field_send, Reply_field_send}
+use Rattle.board.proofs.Crossing.{Board_field_send}
 use Rattle.desk_state.specs.contracts.lanes.Item as Item
 use Rattle.desk_state.specs.contracts.lanes.Outcome as Outcome
 use Rattle.desk_state.specs.contracts.lanes.Said as Said

@@ -28,3 +28,4 @@ pub mod HoursLaws
 pub mod EffectForms
 pub mod ReportForms
 pub mod FormLaws
+pub mod Crossing

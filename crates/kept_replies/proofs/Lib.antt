@@ -4,3 +4,4 @@ pub mod FoundLaws
 pub mod FloorLaws
 pub mod AskedLaws
 pub mod HeldLaws
+pub mod Crossing

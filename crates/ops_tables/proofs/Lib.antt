@@ -1,3 +1,4 @@
 pub mod Orders
 pub mod Found
 pub mod Distinct
+pub mod Crossing

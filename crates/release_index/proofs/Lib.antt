@@ -10,3 +10,4 @@ pub mod DueLaws
 pub mod BeginLaws
 pub mod FoundLaws
 pub mod TellLaws
+pub mod Crossing
