@@ -7,8 +7,8 @@ ghost use Rattle.airport_minima.specs.Floor.{flag_floor};
 ghost use Rattle.airport_minima.specs.Lowest.{IsFlagFloor};
 
 use crate::usable::{is_usable, millimetres};
-use ops_tables::{Approach, Group, Lost, Tables, TypeRow};
 use desk_io::{MILE, Pair, Station};
+use ops_tables::{Approach, Group, Lost, Tables, TypeRow};
 
 /// The least height in feet and the least visibility in sixteenths of a statute mile of some
 /// approaches.

@@ -8,8 +8,8 @@ ghost use Rattle.airport_minima.specs.Within.{has_within, is_within};
 
 use crate::derived::{are_apart, double_addend, single_addend};
 use crate::usable::{SIXTEENTH, is_usable};
-use ops_tables::{AlternateRow, Approach, Group, Lost, Tables, TypeRow};
 use desk_io::{MILE, Pair, Station};
+use ops_tables::{AlternateRow, Approach, Group, Lost, Tables, TypeRow};
 
 /// Bounds of a ceiling in feet and of a visibility in millimetres, each where there is one.
 #[derive(Clone, Copy, Debug)]

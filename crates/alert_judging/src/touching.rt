@@ -10,8 +10,8 @@ use crate::prospect::Prospect;
 use deferrals::Deferral;
 use desk_io::OutOfMemory;
 use desk_state::{OnAlerts, OnDeferrals};
-use release_index::OnReleases;
 use plan::Release;
+use release_index::OnReleases;
 use std::alloc::Global;
 
 // Adds the ids of some releases.

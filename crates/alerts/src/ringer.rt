@@ -2,8 +2,8 @@ ghost use Rattle.std.specs.Prelude.{◌≡◌, ◌<◌, ◌≤◌, ◌+◌, ◌+
 ghost use Rattle.alerts.specs.Ringing.{AreRung, hung, hung_all, fresh_from, staying, dropped, dropped_seen};
 
 use crate::Bell;
-use crate::seat::{Dropped, Seat, ring_seats};
 use crate::notices::Notice;
+use crate::seat::{Dropped, Seat, ring_seats};
 use desk_io::OutOfMemory;
 use std::alloc::Global;
 use std::collections::VecDeque;

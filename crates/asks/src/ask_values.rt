@@ -10,10 +10,10 @@ ghost use Rattle.asks.specs.Digests.{digest_data};
 ghost use Rattle.asks.specs.Canonical as spec;
 ghost use Rattle.asks.specs.Canonical.{ask_data};
 
+use crate::call::Ask;
 use crate::digests::with_digest;
 use crate::members::{Members, with_count, with_moment, with_name, with_text, with_value};
 use crate::plan_values::plan_value;
-use crate::call::Ask;
 use desk_io::{OutOfMemory, Text};
 use desk_time::Minute;
 use plan::Plan;

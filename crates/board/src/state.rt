@@ -30,6 +30,7 @@ use crate::restoring::{Reopened, restored};
 use crate::steps::{install, prepare_answer, prepare_tick};
 use alerts::Alert;
 use asks::Call;
+use decisions::closing;
 use desk_io::{Change, OutOfMemory, Text};
 use desk_state::{Alerted, Content, Entry};
 use desk_time::{LAST, Minute};
@@ -41,7 +42,6 @@ use std::alloc::Global;
 use std::marker::Model;
 use std::snapshot::Snapshot;
 use std::sync::ledger::Ledger;
-use decisions::closing;
 
 /// The board of releases. Contracts see its state, the state in which it was opened, of which code keeps
 /// no copy, and the prepared step that may be installed without memory.

@@ -6,9 +6,9 @@ use codes::{Groups, ReportFault};
 use desk_io::OutOfMemory;
 use desk_time::{BadDay, FIRST, LAST, Minute, SHOWN_LAST, resolve};
 use facts::{Read, read_report};
-use weather_reports::{Metar, Taf};
 use serde_json::Value;
 use std::alloc::Global;
+use weather_reports::{Metar, Taf};
 use weather_window::{at, worst};
 
 fn receipt_of(case: &Value) -> Minute

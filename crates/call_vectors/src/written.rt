@@ -1,9 +1,9 @@
 use codes::{BadReport, Cond, Why};
 use desk_io::{OutOfMemory, Pair};
-use weather_reports::{Metar, Part, PartKind, Taf, TafState};
 use std::alloc::Global;
 use std::str;
 use table_files::{BadTable, TableWhy};
+use weather_reports::{Metar, Part, PartKind, Taf, TafState};
 
 /// A number, or null.
 fn option_text(alloc: Global, number: Option<u32>) -> Result<String, OutOfMemory> {

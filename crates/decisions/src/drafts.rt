@@ -12,9 +12,9 @@ use crate::releases::{held, in_phase, not_yours, out_of_phase, pending, with_pen
 use asks::{Done, Refusal};
 use desk_io::{Copied, Listed, OutOfMemory, Text};
 use desk_state::{Content, Decision, Effect};
-use release_index::RELEASE_LIMIT;
 use ops_tables::Tables;
 use plan::{BadPlan, Phase, Plan, Release, Revision, check_change, check_plan};
+use release_index::RELEASE_LIMIT;
 use release_text::{attach, revision_digest};
 use std::alloc::Global;
 

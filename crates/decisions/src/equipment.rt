@@ -4,6 +4,7 @@ ghost use Rattle.decisions.specs.Answers.{Answers, Passes};
 ghost use Rattle.decisions.specs.Reads.{DecisionAdmitsRead};
 
 use crate::chain::{Stop, refused_if};
+use crate::due_lines::deferral_lines;
 use asks::{Done, Refusal, Reply};
 use deferrals::{DEFERRAL_LIMIT, Deferral};
 use desk_io::{Copied, OutOfMemory, Text};
@@ -11,7 +12,6 @@ use desk_state::{Content, Decision, Effect};
 use desk_time::Minute;
 use ops_tables::TypeRow;
 use std::alloc::Global;
-use crate::due_lines::deferral_lines;
 
 fn aircraft<'a>(content: &'a Content, tail: &[u8]) -> Result<&'a TypeRow, Stop>
     ensures { Answers (λ k. k.now) result (spec.aircraft content.now.state tail.now) }

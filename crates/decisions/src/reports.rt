@@ -7,13 +7,13 @@ ghost use Rattle.decisions.specs.Answers.{Answers, Passes};
 ghost use Rattle.decisions.specs.Reads.{DecisionAdmitsRead};
 
 use crate::chain::{Stop, refused_if};
+use crate::weather::weather_view;
 use asks::{Done, Refusal, Reply};
 use codes::{BadReport, ReportFault, Why};
 use desk_io::{Station, Text};
 use desk_state::{Content, Decision, Effect};
 use facts::{HELD_LIMIT, Received, Report, receive};
 use std::alloc::Global;
-use crate::weather::weather_view;
 
 fn refusal_for(bad: BadReport) -> Refusal
     ensures { result ≡ spec.refusal_for bad.group bad.why }

@@ -3,14 +3,14 @@ ghost use Rattle.desk_state.specs.Decide as spec;
 ghost use Rattle.decisions.specs.Answers.{Answers};
 ghost use Rattle.decisions.specs.Reads.{DecisionAdmitsRead};
 
+use crate::alert_lines::alerts_view;
+use crate::boards::board_view;
 use crate::chain::Stop;
+use crate::release_lines::release_view;
 use crate::releases::held;
 use asks::{Ask, Reply};
 use desk_state::{Content, Decision};
 use std::alloc::Global;
-use crate::alert_lines::alerts_view;
-use crate::boards::board_view;
-use crate::release_lines::release_view;
 
 /// The releases.
 pub(crate) fn view_board(alloc: Global, content: &Content) -> Result<Decision, Stop>

@@ -10,8 +10,8 @@ ghost use Rattle.desk.specs.Shown.{IsShown};
 
 use crate::settling::Desk;
 use crate::turns::outcome;
-use asks::HeldCall;
 use alerts::Bell;
+use asks::HeldCall;
 use desk_io::{LineFeeds, OutOfMemory, Run, runs_between};
 use desk_json::{CallFault, read_line};
 use desk_state::{Item, Outcome};

@@ -7,8 +7,8 @@ ghost use Rattle.std.specs.Ordering.{is_ge};
 ghost use Rattle.desk_io.specs.Keys.{is_held};
 ghost use Rattle.desk_io.specs.Sorted.{within};
 
-use crate::vector::Sorted;
 use crate::faults::OutOfMemory;
+use crate::vector::Sorted;
 use std::alloc::Global;
 use std::marker::Model;
 

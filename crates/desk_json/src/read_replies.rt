@@ -10,13 +10,16 @@ ghost use Rattle.desk_json.specs.ReadReplies.{AnswersReply, IsReplyOf, IsReplyAg
 
 use crate::bad_call::{CallFault, bad};
 use crate::replies::reply_text;
-use asks::{CallWhy, Refusal, Reply, amount_at, digest_at, document_of, list_at, number_at, read_said_done, text_at};
+use asks::{
+    CallWhy, Refusal, Reply, amount_at, digest_at, document_of, list_at, number_at, read_said_done,
+    text_at,
+};
 use codes::Why;
 use compact_json::{Element, Items};
 use desk_io::{OutOfMemory, Text};
 use desk_time::{Minute, read_shown};
-use release_json::{read_phase, read_said_finding};
 use plan::{Finding, Findings, PlanWhy};
+use release_json::{read_phase, read_said_finding};
 use std::alloc::Global;
 
 fn wide_at(key: &str, value: Element<'_>) -> Option<u64>

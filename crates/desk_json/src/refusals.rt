@@ -7,11 +7,14 @@ ghost use Rattle.asks.specs.Ranges.{RefusalHasMoment};
 ghost use Rattle.release_json.specs.Findings.{finding_data};
 ghost use Rattle.desk_json.specs.Replies as spec;
 
-use asks::{Members, Refusal, name_value, with_count, with_digest, with_moment, with_name, with_text, with_value};
+use asks::{
+    Members, Refusal, name_value, with_count, with_digest, with_moment, with_name, with_text,
+    with_value,
+};
 use codes::Why;
 use desk_io::OutOfMemory;
-use release_json::findings_value;
 use plan::{Finding, Phase, PlanWhy, phase_text};
+use release_json::findings_value;
 use serde_json::{Map, Value};
 use std::alloc::Global;
 

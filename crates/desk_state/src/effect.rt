@@ -6,8 +6,8 @@ use deferrals::Deferral;
 use desk_io::Listed;
 use desk_time::Minute;
 use facts::Report;
-use release_index::OnReleases;
 use plan::Release;
+use release_index::OnReleases;
 
 /// What an event changes of the open deferrals.
 #[derive(Debug, Drop)]

@@ -6,12 +6,12 @@ use crate::counters::Counters;
 use crate::history::History;
 use alerts::Alert;
 use deferrals::Deferrals;
+use desk_io::ById;
 use desk_time::{FIRST, Minute};
 use facts::Reports;
-use release_index::Releases;
 use kept_replies::Replies;
 use ops_tables::Tables;
-use desk_io::ById;
+use release_index::Releases;
 use std::alloc::Global;
 
 /// The holdings of what the desk holds.

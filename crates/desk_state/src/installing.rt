@@ -18,8 +18,8 @@ use crate::holdings::Holdings;
 use asks::KeptReply;
 use deferrals::Deferrals;
 use facts::{Report, Reports};
-use release_index::{OnReleases, Releases};
 use kept_replies::Replies;
+use release_index::{OnReleases, Releases};
 
 fn admit(reports: &mut Reports, next: &mut u64, report: Option<Report>)
     requires room { HasReportRoom reports.old report }

@@ -15,8 +15,8 @@ ghost use Rattle.facts.specs.Reading.{
 use crate::report::{Read, Received};
 use codes::{Group, Groups, REPORT_LIMIT, ReportFault, TOO_LONG, first_of};
 use desk_time::{FIRST, LAST, Minute};
-use weather_reports::{metar_in, taf_in};
 use std::alloc::Global;
+use weather_reports::{metar_in, taf_in};
 
 fn is_forecast(groups: &[Group<'_>]) -> bool
     ensures { result ≡ spec.is_forecast groups.now }

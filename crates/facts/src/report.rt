@@ -4,8 +4,8 @@ ghost use Rattle.facts.specs.Same as spec;
 
 use desk_io::{Copied, OutOfMemory, Station, Text};
 use desk_time::Minute;
-use weather_reports::{Metar, Taf};
 use std::alloc::Global;
+use weather_reports::{Metar, Taf};
 
 /// The most reports that may be held.
 pub const HELD_LIMIT: usize = 200_000;

@@ -26,10 +26,10 @@ use crate::same::{keep_leading, key_of, same_in};
 use crate::sweeping::{index_latest, leaving_ids, sweep_held};
 use desk_io::{Keys, Listed, OutOfMemory, Sorted, Station};
 use desk_time::Minute;
-use weather_reports::{Metar, Taf};
 use std::alloc::Global;
 use std::marker::Model;
 use std::snapshot::Snapshot;
+use weather_reports::{Metar, Taf};
 
 /// The reports that were admitted, in order of admission. A contract sees the list of them, and the
 /// station, the text and the moment of the one report whose admission needs no memory. Their numbers

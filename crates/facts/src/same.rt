@@ -9,8 +9,8 @@ ghost use Rattle.facts.specs.Index.{AreKeysOf, has_number, id_of, leads_to};
 
 use crate::index::{at_place, fingerprint};
 use crate::report::Report;
-use desk_time::Minute;
 use desk_io::Keys;
+use desk_time::Minute;
 
 /// The moment of a report, the fingerprint of its text, and its number.
 pub(crate) fn key_of(report: &Report) -> (Minute, u64, u64)

@@ -1,7 +1,7 @@
 use crate::flights::{ETD, leg_of};
-use plan::{Kind, in_range, is_marginal, needs_destination, needs_takeoff};
 use codes::{Cond, meets};
 use desk_io::{OutOfMemory, Pair};
+use plan::{Kind, in_range, is_marginal, needs_destination, needs_takeoff};
 use std::alloc::Global;
 use std::test::Fail;
 

@@ -3,8 +3,8 @@ ghost use Rattle.codes.specs.Minima.{is_met, reaches};
 ghost use Rattle.desk_io.specs.Pair.{raised};
 ghost use Rattle.plan.specs.AlternateNeeds as spec;
 
-use codes::{Cond, meets};
 use crate::flights::{Kind, Leg};
+use codes::{Cond, meets};
 use desk_io::{MILE, Pair};
 
 /// The weather with which a domestic flight needs no alternate: 2,000 feet and 3 statute miles

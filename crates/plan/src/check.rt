@@ -6,9 +6,9 @@ ghost use Rattle.plan.specs.Check as spec;
 ghost use Rattle.plan.specs.Check.{plan_fault, IsPlan};
 
 use crate::flights::{Alternate, Leg, Plan, TakeoffAlternate};
+use desk_io::Station;
 use desk_time::{Minute, PLAN_FIRST, PLAN_LAST};
 use ops_tables::Tables;
-use desk_io::Station;
 
 /// Why a plan can't be flown.
 #[derive(Clone, Copy, Debug, PartialEq, Eq)]

@@ -10,8 +10,8 @@ use crate::record::KeptAlert;
 use asks::{has_members, id_at, list_at, moment_at};
 use desk_io::OutOfMemory;
 use desk_time::Minute;
-use release_json::read_findings;
 use plan::{Finding, Findings, is_same};
+use release_json::read_findings;
 use serde_json::Value;
 use std::alloc::Global;
 

@@ -8,7 +8,10 @@ ghost use Rattle.records.specs.Lent.{alert_lent, lent, meta_lent, report_lent};
 
 use crate::kinds::{key_of, kind_of};
 use crate::lent::{AlertRef, MetaRef, RecordRef, ReportRef};
-use asks::{Floor, Floors, KeptReply, Members, done_value, with_count, with_digest, with_moment, with_text, with_value};
+use asks::{
+    Floor, Floors, KeptReply, Members, done_value, with_count, with_digest, with_moment, with_text,
+    with_value,
+};
 use deferrals::Deferral;
 use desk_io::{OutOfMemory, Row, Text};
 use release_json::{Version, findings_value, release_value};

@@ -13,11 +13,11 @@ ghost use Rattle.release_text.specs.Weather as spec;
 ghost use Rattle.release_text.specs.Laws.{IsNoneNewer};
 
 use codes::least_of;
+use desk_io::Station;
 use facts::{Report, Reports};
 use plan::{
     Alternate, Attached, AttachedList, Leg, Phase, Plan, Standing, TakeoffAlternate, standing_of,
 };
-use desk_io::Station;
 
 fn is_attached(attached: &[Attached], id: u64) -> bool
     ensures { result ≡ spec.is_attached attached.now id }

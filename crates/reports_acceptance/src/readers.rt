@@ -4,10 +4,10 @@ ghost use Rattle.codes.specs.Groups.{groups_of, first_of as first_group};
 use codes::{BadReport, Cond, Groups, ReportFault, Why, first_of};
 use desk_io::OutOfMemory;
 use desk_time::Minute;
-use weather_reports::{Metar, Part, PartKind, Taf, TafState, read_metar, read_taf};
 use small_airline::DAY;
 use std::alloc::Global;
 use std::test::Fail;
+use weather_reports::{Metar, Part, PartKind, Taf, TafState, read_metar, read_taf};
 
 // 2025-03-12 17:00 and 17:25.
 const RECEIPT: Minute = 29_029_980;

@@ -21,9 +21,9 @@ use desk_io::{Change, OutOfMemory};
 use desk_state::{AlertChange, Content, Effect, Entry, OnDeferrals, Sweep};
 use desk_time::Minute;
 use facts::{Report, Reports};
-use release_index::OnReleases;
 use plan::Release;
 use records::{Record, RecordRef};
+use release_index::OnReleases;
 use std::alloc::Global;
 
 // The kinds of rows that may go.

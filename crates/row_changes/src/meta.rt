@@ -9,8 +9,8 @@ use asks::Floors;
 use desk_state::{Content, Counters, Effect, Entry, OnDeferrals, Sweep, What};
 use desk_time::Minute;
 use facts::Report;
-use release_index::OnReleases;
 use records::{MetaRef, Record, RecordRef};
+use release_index::OnReleases;
 
 fn moment_after(to: Option<Minute>, moment: Minute) -> Minute
     ensures { result ≡ events.moment_after to moment }

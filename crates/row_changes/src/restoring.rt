@@ -13,10 +13,10 @@ use deferrals::Deferrals;
 use desk_io::{ById, OutOfMemory};
 use desk_state::{Content, History, Holdings};
 use facts::Reports;
-use release_index::Releases;
 use kept_replies::Replies;
 use ops_tables::{Settings, Tables};
 use records::{Meta, Record};
+use release_index::Releases;
 use std::alloc::Global;
 
 /// What records say, made to be held.

@@ -4,8 +4,8 @@ ghost use Rattle.row_changes.specs.Held as spec;
 
 use alerts::Alert;
 use desk_io::{Copied, OutOfMemory, Text};
-use release_index::Releases;
 use records::KeptAlert;
+use release_index::Releases;
 use std::alloc::Global;
 
 fn told_to(alloc: Global, kept: KeptAlert, holder: &Text) -> Result<Alert, OutOfMemory>

@@ -9,10 +9,10 @@ ghost use Rattle.rules.specs.Sights.{case_by, lists_one, need_of, there_of, all_
 use crate::circumstances::Circumstances;
 use crate::weather::Reported;
 use airport_minima::{flag_floor, millimetres};
-use plan::{Alternate, Kind, Leg, is_marginal, needs_destination};
 use codes::Cond;
 use desk_io::{Listed, OutOfMemory, Pair};
 use ops_tables::Settings;
+use plan::{Alternate, Kind, Leg, is_marginal, needs_destination};
 use std::alloc::Global;
 
 /// Whether a leg needs an alternate of its destination, and what follows (14 CFR 121.619, 121.621).

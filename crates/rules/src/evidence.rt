@@ -11,9 +11,9 @@ use deferrals::{Deferral, Deferrals};
 use desk_io::{OutOfMemory, Station};
 use desk_time::Minute;
 use facts::{Read, Report, Reports};
-use weather_reports::{Metar, Taf};
 use ops_tables::Tables;
 use std::alloc::Global;
+use weather_reports::{Metar, Taf};
 
 /// What a plan is judged by: what is held, and what is about to change of it.
 #[derive(Clone, Copy)]

@@ -5,9 +5,9 @@ ghost use Rattle.rules.specs.Sights.{case_by, need_of, fuel_of, IsWithin};
 
 use crate::circumstances::Circumstances;
 use crate::destination_alternates::{Need, is_domestic, lists_none};
-use plan::{Basis, Leg, required};
-use ops_tables::Tables;
 use desk_io::Station;
+use ops_tables::Tables;
+use plan::{Basis, Leg, required};
 
 /// What the rules on fuel say of a leg (14 CFR 121.639, 121.645).
 #[derive(Clone, Copy)]

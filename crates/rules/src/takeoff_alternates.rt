@@ -5,9 +5,9 @@ ghost use Rattle.rules.specs.TakeoffAlternates as departure;
 ghost use Rattle.rules.specs.Sights.{case_by, takeoff_by, takeoff_where, takeoff_of, IsWithin};
 
 use crate::circumstances::Circumstances;
-use plan::{Leg, TakeoffAlternate, in_range, needs_takeoff};
 use desk_io::{OutOfMemory, Station};
 use desk_time::Minute;
+use plan::{Leg, TakeoffAlternate, in_range, needs_takeoff};
 use std::alloc::Global;
 
 /// What the rules on takeoff alternates say of a leg (14 CFR 121.617).

@@ -13,8 +13,8 @@ ghost use Rattle.rules.specs.Touches.{
   ReadsOpen,
 };
 
-use plan::{Alternate, Leg, Phase, Plan, Standing, TakeoffAlternate, standing_of};
 use desk_io::Station;
+use plan::{Alternate, Leg, Phase, Plan, Standing, TakeoffAlternate, standing_of};
 
 fn is_same(a: Station, b: Station) -> bool
     ensures { result ≡ bytes_eq a b }

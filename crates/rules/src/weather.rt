@@ -17,8 +17,8 @@ use airport_minima::{Bounds, has_alternate_within, has_raised_within, landing};
 use codes::{Cond, meets};
 use desk_io::{OutOfMemory, Pair, Pairs, Station};
 use desk_time::Minute;
-use weather_reports::{Metar, Taf};
 use std::alloc::Global;
+use weather_reports::{Metar, Taf};
 use weather_window::{at, worst};
 
 /// The latest reports of a station.

@@ -14,8 +14,8 @@ ghost use Rattle.connections.specs.declared.answers.Unanswered.TheVariants.{Cloc
 ghost use Rattle.service.specs.declared.misses.MissOf.TheVariants as of;
 
 use crate::misses::{Miss, MissOf};
-use asks::{Call, Refusal, Reply};
 use alerts::Bell;
+use asks::{Call, Refusal, Reply};
 use connections::Unanswered;
 use desk::{Answered, Desk, answer};
 use desk_net::Clock;

@@ -7,14 +7,14 @@ ghost use Rattle.desk_io.specs.Over.{over};
 ghost use Rattle.desk_net.specs.Seen.{ClockGoesOn};
 ghost use Rattle.service.specs.Doors.{IsServing};
 
+use crate::opened::Opened;
 use crate::rounds::OnDesk;
+use crate::shared::Shared;
 use alerts::Bell;
 use connections::{Finished, ServeEnd, serve_all};
 use desk::{Desk, Gate};
 use desk_net::{Clock, Door};
 use keeper::Keeper;
-use crate::opened::Opened;
-use crate::shared::Shared;
 use std::alloc::Global;
 use std::marker::Brand;
 use std::sync::Wait;

@@ -10,8 +10,8 @@ ghost use Rattle.turn_lock.specs.Passes.{lock_id, pass_lock, pass_number, pass_n
 
 use crate::opened::Opened;
 use crate::shared::Shared;
-use asks::Call;
 use alerts::Bell;
+use asks::Call;
 use connections::Unanswered;
 use desk::Answered;
 use desk_net::Clock;

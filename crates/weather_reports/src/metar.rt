@@ -9,8 +9,8 @@ use codes::{
     BadReport, Cond, Form, Group, Groups, REPORT_LIMIT, ReportFault, Stretch, TOO_LONG, Why,
     first_of, stretch_in, time_of,
 };
-use desk_time::{FIRST, LAST, Minute};
 use desk_io::Station;
+use desk_time::{FIRST, LAST, Minute};
 use std::alloc::Global;
 
 /// What a METAR or SPECI says.

@@ -15,8 +15,8 @@ use codes::{
     BadReport, Group, Groups, REPORT_LIMIT, ReportFault, TOO_LONG, Why, first_of, numbered,
     period_in, time_of,
 };
-use desk_time::{FIRST, LAST, Minute};
 use desk_io::Station;
+use desk_time::{FIRST, LAST, Minute};
 use std::alloc::Global;
 
 // What stands before the validity.

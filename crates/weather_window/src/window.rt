@@ -10,9 +10,9 @@ use crate::parts::parts_at;
 use crate::steps::Steps;
 use codes::{Cond, lesser};
 use desk_time::{Minute, SHOWN_LAST};
-use weather_reports::{Metar, Taf, TafState};
 use std::marker::Brand;
 use std::sync::ledger::{Blank, Ledger};
+use weather_reports::{Metar, Taf, TafState};
 
 fn is_normal(state: TafState) -> bool
     ensures { result ≡ is_normal state }
