@@ -16,7 +16,7 @@ use Rattle.desk_state.specs.Sound.{EffectFits, IsBoard, Sound}
 use Rattle.desk_state.specs.State.{State, start, judged_all}
 use Rattle.ops_tables.specs.Named.{AreNamed}
 use Rattle.ops_tables.specs.Tables.{TableRows}
-use Rattle.release_json.specs.declared.version.Version.TheVariants.{First}
+use Rattle.records.specs.Below.VersionVariants.{First}
 use Rattle.records.specs.Bodies.{row_in, row_of}
 use Rattle.records.specs.Reading.{version_if}
 use Rattle.records.specs.declared.record.Meta.{Meta as MetaOf}

@@ -3,3 +3,4 @@ pub mod Kept
 pub mod Anew
 pub mod Counted
 pub mod Crossing
+pub mod Below

@@ -1,1 +1,2 @@
 pub mod Prepare
+pub mod Below

@@ -7,4 +7,5 @@ mod state;
 mod steps;
 
 pub use prepared::{Installed, Prepared};
+pub use records::{Checked, RowWhy, RowsFault, check_rows};
 pub use state::{Board, Restored};

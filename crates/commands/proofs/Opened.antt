@@ -3,7 +3,7 @@ use Rattle.std.proofs.Common.{◌≡◌, ℕ, ◌≤◌, Bool, true, List, [], m
 use Rattle.std.specs.Prelude.{IfOk, Result, Ok, Err}
 use Rattle.std.specs.List.{concat}
 use Rattle.alerts.specs.Seen.{BellSeen}
-use Rattle.board.specs.Prepare.{Shown, shown}
+use Rattle.desk.specs.Below.{Shown, shown}
 use Rattle.desk.proofs.Choices.{rise_lower, rise_within}
 use Rattle.desk.proofs.Merged.{merged_lower, part_lower}
 use Rattle.desk.proofs.Positions.{history_lower}

@@ -3,7 +3,7 @@ use Rattle.std.proofs.Common.{◌≡◌, ℕ, ◌+◌, List, [], ◌∷◌, Opti
 use Rattle.alerts.proofs.RungLaws.{are_rung_none}
 use Rattle.alerts.specs.Ringing.{AreRung, DroppedSeen, Hung, dropped, fresh_from, hung_all, staying}
 use Rattle.alerts.specs.Seen.{BellSeen}
-use Rattle.board.specs.Prepare.{Shown}
+use Rattle.desk.specs.Below.{Shown}
 use Rattle.commands.specs.Bells.{AreRungOver}
 use Rattle.commands.specs.declared.working.Ended.{Ended}
 use Rattle.desk.specs.Heard.{told_by_all}

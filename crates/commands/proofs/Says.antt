@@ -3,7 +3,7 @@ use Rattle.std.proofs.Common.{◌≡◌, ◌≢◌, ℕ, ◌≤◌, List, [], �
 use Rattle.std.specs.Prelude.{◌==◌, All, IfErr, IfOk, IfSome, IsSome, MatchBool, MatchResult, Result, Ok, Err}
 use Rattle.std.specs.List.{Contains}
 use Rattle.std.proofs.lemmas.List.Elements.{All-head}
-use Rattle.board.specs.Prepare.{Shown}
+use Rattle.desk.specs.Below.{Shown}
 use Rattle.desk.specs.Opening.{IsLeft, IsOfKeeper, IsWhy, TellsRowsOf}
 use Rattle.desk.specs.declared.opening.OpenWhy.{OpenWhy}
 use Rattle.desk.specs.declared.opening.OpenWhy.TheVariants as why
@@ -19,7 +19,7 @@ use Rattle.keeper.proofs.SeenLaws.{keeper_stays}
 use Rattle.keeper.specs.Seen.{KeeperSeen, KeeperGoesOn}
 use Rattle.desk_state.specs.Sound.{IsBoard}
 use Rattle.desk_state.specs.State.{State}
-use Rattle.records.specs.declared.faults.RowsFault.TheVariants as fault
+use Rattle.desk.specs.Below.RowsFaultVariants as fault
 use Rattle.connections.specs.Doors.{EndsServing, Visit}
 use Rattle.connections.specs.declared.doors.ServeEnd.{ServeEnd}
 use Rattle.connections.specs.declared.doors.ServeEnd.TheVariants as ends

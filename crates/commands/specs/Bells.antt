@@ -2,7 +2,7 @@
 use Rattle.std.specs.Prelude.{◌≡◌, List, Option, None, Some}
 use Rattle.alerts.specs.Ringing.{AreRung, DroppedSeen, Hung, dropped, fresh_from, staying}
 use Rattle.alerts.specs.Seen.{BellSeen}
-use Rattle.board.specs.Prepare.{Shown}
+use Rattle.desk.specs.Below.{Shown}
 use Rattle.desk.specs.Heard.{told_by_all}
 
 -- Bells are rung for what the history of a board tells, in order, and where there is no board for nothing.

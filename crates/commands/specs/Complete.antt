@@ -6,9 +6,8 @@ use Rattle.desk_io.specs.Over.{Over}
 use Rattle.desk_io.specs.Rows.{Rows}
 use Rattle.desk_io.specs.Seen.{ShelfSeen, SinkSeen}
 use Rattle.desk_io.specs.Told.{OnSource}
-use Rattle.records.specs.Checks.{IsFaultOf}
-use Rattle.records.specs.declared.faults.RowsFault.{RowsFault}
-use Rattle.records.specs.declared.faults.RowsFault.TheVariants as fault
+use Rattle.desk.specs.Below.{IsFaultOf, RowsFault}
+use Rattle.desk.specs.Below.RowsFaultVariants as fault
 use Rattle.imports.specs.Lines.{IsImport}
 use Rattle.table_files.specs.Whole.{ReadsTables, Told}
 use Rattle.table_files.specs.declared.faults.BadTable.{BadTable}

@@ -3,8 +3,8 @@ use Rattle.std.specs.Prelude.{ℕ, List, ◌++◌, codes, decimal, Option, None,
 use Rattle.desk.specs.declared.opening.OpenWhy.{OpenWhy}
 use Rattle.desk.specs.declared.opening.OpenWhy.TheVariants as why
 use Rattle.desk_io.specs.declared.rows.Row.{Row}
-use Rattle.records.specs.declared.faults.RowWhy.{RowWhy}
-use Rattle.records.specs.declared.faults.RowWhy.TheVariants as row_why
+use Rattle.desk.specs.Below.{RowWhy}
+use Rattle.desk.specs.Below.RowWhyVariants as row_why
 use Rattle.table_files.specs.declared.faults.BadTable.{BadTable as ABadTable}
 use Rattle.table_files.specs.declared.faults.TableFault.{TableFault}
 use Rattle.table_files.specs.declared.faults.TableFault.TheVariants as table

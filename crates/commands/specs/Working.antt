@@ -1,6 +1,6 @@
 -- The desk that a command opens, and the work on it.
 use Rattle.std.specs.Prelude.{◌≡◌, ◌≢◌, ℕ, ◌≤◌, Bool, List, Option, None, Some, Result, Ok, Err}
-use Rattle.board.specs.Prepare.{Shown}
+use Rattle.desk.specs.Below.{Shown, Record, state_in, reopened}
 use Rattle.desk.specs.Keeping.{KeepsState}
 use Rattle.desk.specs.InPart.{AreGivenInPart, IsRunInPart}
 use Rattle.desk.specs.Items.{items_of_lines}
@@ -18,9 +18,6 @@ use Rattle.desk_state.specs.State.{State}
 use Rattle.desk_state.specs.Texts.{closing}
 use Rattle.imports.specs.Records.{Line}
 use Rattle.ops_tables.specs.Tables.{TableRows}
-use Rattle.records.specs.declared.record.Record.{Record}
-use Rattle.row_changes.specs.Held.{state_in}
-use Rattle.row_changes.specs.Opening.{reopened}
 use Rattle.connections.specs.Doors.{HasLinks}
 use Rattle.connections.specs.declared.doors.ServeEnd.{ServeEnd}
 use Rattle.connections.specs.declared.doors.ServeEnd.TheVariants as ends

@@ -1,9 +1,8 @@
 ghost use Rattle.std.specs.Prelude.{◌≡◌, ◌++◌, Some, codes, IfOk, OnOk};
 ghost use Rattle.commands.specs.Faults as spec;
 
-use desk::OpenWhy;
+use desk::{OpenWhy, RowWhy};
 use desk_io::{OutOfMemory, Row, Text, push_all};
-use records::RowWhy;
 use std::alloc::{AllocFailed, Global};
 use table_files::{BadTable, TableFault, TableWhy};
 

@@ -8,25 +8,11 @@ use Rattle.desk_io.specs.Rows.{Rows}
 use Rattle.desk_io.specs.declared.rows.Row.{Row}
 use Rattle.keeper.specs.Kept.{Lists}
 use Rattle.keeper.specs.Order as order
-use Rattle.release_json.specs.Versions.{HasNoHours}
-use Rattle.release_json.specs.declared.version.Version.{Version}
-use Rattle.release_json.specs.declared.version.Version.TheVariants.{First, Second}
-use Rattle.row_changes.specs.Rows.{AreKept, AreOldRows, records_of}
-use Rattle.row_changes.proofs.RecordsAgain.{state_again}
-use Rattle.row_changes.proofs.DeskRecords.{records_formed}
-use Rattle.row_changes.proofs.Faultless.{no_bad_row, no_bad_pair}
-use Rattle.row_changes.proofs.SameRows.{AreRowsIn, desk_records, first_rows, listed_as, listed_old, second_rows}
+use Rattle.board.specs.Below.{HasNoHours, Version, First, Second, AreKept, AreOldRows, records_of, row_in, row_of, IsFaultOf, version_of, fit, IsRecord, Record, AreOfDesk, state_in, reopened}
+use Rattle.board.proofs.Below.{state_again, records_formed, no_bad_row, no_bad_pair, AreRowsIn, desk_records, first_rows, listed_as, listed_old, second_rows}
 use Rattle.desk_state.specs.State.{State, start}
 use Rattle.ops_tables.specs.Tables.{TableRows}
-use Rattle.records.specs.Bodies.{row_in, row_of}
-use Rattle.records.specs.Checks.{IsFaultOf}
-use Rattle.records.specs.Reading.{version_of}
-use Rattle.records.specs.Faults.{fit}
-use Rattle.records.specs.Valid.{IsRecord}
-use Rattle.records.specs.declared.faults.RowsFault.TheVariants as fault
-use Rattle.records.specs.declared.record.Record.{Record}
-use Rattle.row_changes.specs.Held.{AreOfDesk, state_in}
-use Rattle.row_changes.specs.Opening.{reopened}
+use Rattle.board.specs.Below.RowsFaultVariants as fault
 use Rattle.desk.specs.Opening.{IsWhy, IsOfKeeper, IsOpened, IsLeft, TellsRowsOf, under}
 use Rattle.desk.specs.declared.opening.OpenWhy.{OpenWhy}
 use Rattle.desk.specs.declared.opening.OpenWhy.TheVariants.{KeeperFault, BadRow, BadPair, OutOfMemory}

@@ -7,20 +7,12 @@ use Rattle.desk_io.specs.declared.rows.Change.{Change}
 use Rattle.desk_io.specs.declared.rows.Row.{Row}
 use Rattle.keeper.specs.Kept.{AreSame, Leads, Lists}
 use Rattle.keeper.specs.Order as order
-use Rattle.row_changes.specs.Rows.{AreKept}
+use Rattle.board.specs.Below.{AreKept, row_in, IsChecked, IsDesk, version_if, version_of, Checked, Record, AreOfDesk, state_in, judged_changes, opened_changes, upgraded_changes}
 use Rattle.desk_state.specs.State.{State}
-use Rattle.records.specs.Bodies.{row_in}
-use Rattle.records.specs.Checks.{IsChecked, IsDesk}
-use Rattle.records.specs.Reading.{version_if, version_of}
-use Rattle.records.specs.declared.checking.Checked.{Checked}
-use Rattle.records.specs.declared.record.Record.{Record}
-use Rattle.row_changes.specs.Held.{AreOfDesk, state_in}
-use Rattle.row_changes.proofs.SameRows.{rise_as}
+use Rattle.board.proofs.Below.{rise_as}
 use Rattle.desk.proofs.Steps.{same_kept, still_keeps}
 use Rattle.desk.specs.Keeping.{KeepsState}
 use Rattle.desk.specs.Opening.{AreLoaded, AreAsked, MayHaveAsked, commits_for, commits_where, commits_to_open}
-use Rattle.row_changes.specs.Judged.{judged_changes}
-use Rattle.row_changes.specs.Upgraded.{opened_changes, upgraded_changes}
 use Rattle.desk_state.specs.Effects.{nothing}
 use Rattle.desk_state.specs.Events.{alert_changes}
 use Rattle.desk_state.specs.declared.change.AlertChange.{AlertChange}

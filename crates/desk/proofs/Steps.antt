@@ -15,7 +15,7 @@ use Rattle.board.specs.declared.prepared.Prepared.{Prepared}
 use Rattle.desk_io.specs.Rows.{Rows, changed_by}
 use Rattle.desk_io.specs.declared.rows.Change.{Change}
 use Rattle.keeper.specs.Kept.{AreSame, Leads}
-use Rattle.row_changes.specs.Rows.{AreKept}
+use Rattle.board.specs.Below.{AreKept}
 use Rattle.desk_state.specs.State.{State}
 use Rattle.desk_state.specs.Step.{Stepped, answer_call}
 use Rattle.desk_state.proofs.Boards.{call_replies}

@@ -10,7 +10,7 @@ use Rattle.desk_io.specs.Planned.{after}
 use Rattle.desk_io.specs.Rows.{Rows}
 use Rattle.desk_io.specs.declared.rows.Change.{Change}
 use Rattle.keeper.specs.Kept.{Leads}
-use Rattle.row_changes.specs.Rows.{AreKept}
+use Rattle.board.specs.Below.{AreKept}
 use Rattle.desk_state.specs.Lanes.{outcomes, after_items, said_of}
 use Rattle.desk_state.specs.State.{State}
 use Rattle.desk_state.specs.Step.{Stepped, stay, answer_call, tick_to}

@@ -14,3 +14,4 @@ pub mod Positions
 pub mod Race
 pub mod Items
 pub mod Made
+pub mod Below

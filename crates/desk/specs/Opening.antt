@@ -11,18 +11,12 @@ use Rattle.desk_io.specs.declared.rows.Row.{Row}
 use Rattle.keeper.specs.Kept.{Lists}
 use Rattle.keeper.specs.Order.{rising}
 use Rattle.keeper.specs.declared.keeping.KeepFault.{KeepFault}
-use Rattle.row_changes.specs.Rows.{AreKept, AreOldRows}
+use Rattle.board.specs.Below.{AreKept, AreOldRows, IsDesk, IsFaultOf, are_old, RowsFault, Record, state_in, reopened}
 use Rattle.desk_state.specs.Sound.{IsBoard}
 use Rattle.desk_state.specs.State.{State}
 use Rattle.keeper.specs.declared.keeping.KeepFault.TheVariants as keep
 use Rattle.ops_tables.specs.Tables.{TableRows}
-use Rattle.records.specs.Checks.{IsDesk, IsFaultOf}
-use Rattle.records.specs.Reading.{are_old}
-use Rattle.records.specs.declared.faults.RowsFault.{RowsFault}
-use Rattle.records.specs.declared.faults.RowsFault.TheVariants as fault
-use Rattle.records.specs.declared.record.Record.{Record}
-use Rattle.row_changes.specs.Held.{state_in}
-use Rattle.row_changes.specs.Opening.{reopened}
+use Rattle.board.specs.Below.RowsFaultVariants as fault
 use Rattle.desk.specs.declared.opening.OpenWhy.{OpenWhy}
 use Rattle.desk.specs.declared.opening.OpenWhy.TheVariants.{KeeperFault, BadRow, BadPair, OutOfMemory}
 

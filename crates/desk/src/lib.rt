@@ -16,6 +16,7 @@ mod settling;
 mod turns;
 
 pub use answering::{Answered, answer};
+pub use board::{Board, RowWhy};
 pub use gates::Gate;
 pub use imported::text_of_import;
 pub use lanes::Lane;

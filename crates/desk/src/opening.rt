@@ -5,11 +5,8 @@ ghost use Rattle.desk_io.specs.Rows.{Rows, rows_of, changed_by};
 ghost use Rattle.keeper.specs.Kept.{AreSame, Lists, Leads};
 ghost use Rattle.keeper.specs.Order.{rising};
 ghost use Rattle.keeper.specs.Seen.{KeeperGoesOn};
-ghost use Rattle.row_changes.specs.Rows.{AreKept};
-ghost use Rattle.records.specs.Checks.{IsChecked};
+ghost use Rattle.board.specs.Below.{AreKept, IsChecked, AreOfDesk, reopened};
 ghost use Rattle.desk_state.specs.State.{State};
-ghost use Rattle.row_changes.specs.Held.{AreOfDesk};
-ghost use Rattle.row_changes.specs.Opening.{reopened};
 ghost use Rattle.desk.specs.Keeping.{KeepsState};
 ghost use Rattle.desk.specs.Opening.{commits_for, commits_to_open, AreAsked, MayHaveAsked, of_keeper, of_rows};
 ghost use Rattle.desk.specs.Opening.{IsOfRows, IsOfKeeper, IsWhy};
@@ -18,11 +15,10 @@ ghost use Rattle.desk.specs.declared.opening.OpenWhy.TheVariants.{OutOfMemory as
 
 use crate::settling::Desk;
 use alerts::{Bell, Ringer};
-use board::{Board, Restored};
+use board::{Board, Checked, Restored, RowWhy, RowsFault, check_rows};
 use desk_io::{Change, OutOfMemory, Row};
 use keeper::{KeepFault, Keeper};
 use ops_tables::Tables;
-use records::{Checked, RowWhy, RowsFault, check_rows};
 use rules::Steps;
 use std::alloc::Global;
 use std::sync::ledger::Ledger;

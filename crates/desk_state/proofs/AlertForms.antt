@@ -15,7 +15,7 @@ use Rattle.plan.specs.declared.release.Phase.{Phase}
 use Rattle.plan.specs.declared.release.Release.{Release}
 use Rattle.plan.specs.declared.release.Revision.{Revision}
 use Rattle.asks.specs.Forms.{IsId, IsFinding}
-use Rattle.rules.specs.Grounds.{Grounds}
+use Rattle.release_index.specs.Below.{Grounds}
 use Rattle.desk_io.proofs.Each.{each_weaker}
 
 -- ---- findings that are put in their places

@@ -22,7 +22,7 @@ use Rattle.plan.specs.Change.{change_fault}
 use Rattle.plan.specs.Check.{plan_fault}
 use Rattle.release_text.specs.Revisions.{revision_digest}
 use Rattle.release_text.specs.Weather.{newer_than}
-use Rattle.rules.specs.Grounds.{Grounds}
+use Rattle.release_index.specs.Below.{Grounds}
 use Rattle.desk_state.proofs.Each.{found_each}
 use Rattle.desk_state.proofs.Passed.{some_given, not_so, so, no_plan_fault}
 use Rattle.desk_state.specs.Sound.{Sound, MayStand}

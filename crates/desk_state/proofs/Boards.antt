@@ -38,7 +38,7 @@ use Rattle.desk_state.specs.Chain.{unless, refused_if}
 use Rattle.desk_state.specs.People.{mistaken, not_his_role}
 use Rattle.desk_state.specs.Legal.{MayCome, next, Legal, IsHistory}
 use Rattle.desk_time.specs.Limits.{IsMoment}
-use Rattle.rules.specs.Grounds.{Grounds}
+use Rattle.release_index.specs.Below.{Grounds}
 use Rattle.desk_state.specs.Sound.{Sound, MayStand, InBounds, ReleaseInBounds, IsBoard, IsNumbered, AreOpen, AreUnlike, AreSingle, IsReplied, IsEntered, IsToldTo, IsAlerted, Rise, EffectFits, DecisionFits}
 use Rattle.asks.specs.Ranges.{RefusalHasMoment, ReplyHasMoment}
 use Rattle.asks.specs.Forms.{CallHasForms}

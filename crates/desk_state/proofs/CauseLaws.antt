@@ -35,7 +35,7 @@ use Rattle.plan.specs.declared.release.Signature.{Signature}
 use Rattle.release_text.specs.Revisions.{revision_digest}
 use Rattle.release_text.specs.Valid.{IsThere}
 use Rattle.release_text.specs.Weather.{newer_than}
-use Rattle.rules.specs.Judgement.{findings_of}
+use Rattle.release_index.specs.Below.{findings_of}
 use Rattle.asks.specs.declared.call.Ask.{Ask}
 use Rattle.asks.specs.declared.call.Ask.TheVariants as ask
 use Rattle.asks.specs.declared.call.Call.{Call}

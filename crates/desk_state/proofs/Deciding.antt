@@ -47,7 +47,7 @@ use Rattle.desk_state.specs.declared.effect.Decision.TheVariants.{Show}
 use Rattle.desk_state.specs.Requests.{kept_at, floor_at}
 use Rattle.desk_time.proofs.MonthLaws.{three_months_low, three_months_range}
 use Rattle.alerts.specs.declared.alert.Alert.{Alert}
-use Rattle.rules.specs.Grounds.{Grounds}
+use Rattle.release_index.specs.Below.{Grounds}
 use Rattle.desk_state.specs.State.{State, grounds_of, failing_in, failing_of, release_at, alert_at}
 use Rattle.desk_state.specs.Chain.{◌>>-◌, unless, some_or, refused_if}
 use Rattle.desk_state.specs.Decide as d

@@ -19,13 +19,8 @@ use Rattle.plan.specs.declared.release.Phase.{Phase}
 use Rattle.plan.specs.declared.release.Standing.{Standing}
 use Rattle.plan.specs.declared.release.Standing.TheVariants.{Ahead, InFlight, Flown}
 use Rattle.asks.specs.Forms.{IsAmount, IsId, IsFinding}
-use Rattle.rules.specs.Circumstances.{Case, case_of}
-use Rattle.rules.specs.DestinationAlternates.{place_if, places_from}
-use Rattle.rules.specs.Equipment.{is_limiting, is_overdue, is_barred, is_barred_takeoff}
-use Rattle.rules.specs.Grounds.{Grounds}
-use Rattle.rules.specs.Judgement.{is_of_departure, places_of, places_at, case_unless, case_for, places_in_case, places_for, finding, findings_from, findings_by, tables_finding, findings_of_tables, findings_of}
+use Rattle.release_index.specs.Below.{Case, case_of, place_if, places_from, is_limiting, is_overdue, is_barred, is_barred_takeoff, Grounds, is_of_departure, places_of, places_at, case_unless, case_for, places_in_case, places_for, finding, findings_from, findings_by, tables_finding, findings_of_tables, findings_of, is_late, late_places}
 use Rattle.plan.specs.Findings.{rules_of_legs}
-use Rattle.rules.specs.Time.{is_late, late_places}
 use Rattle.desk_state.proofs.Parts.{filter_each}
 use Rattle.desk_io.proofs.Each.{each_append, each_weaker, each_of}
 use Rattle.plan.proofs.FewAlternates.{HasFew, few_alternates}

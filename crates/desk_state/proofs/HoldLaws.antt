@@ -5,7 +5,7 @@ use Rattle.std.proofs.Common.{List, [], ◌∷◌}
 use Rattle.std.specs.List.{AllByRecursion}
 use Rattle.alerts.specs.declared.alert.Alert.{Alert}
 use Rattle.plan.specs.declared.release.Release.{Release}
-use Rattle.rules.specs.Grounds.{Grounds}
+use Rattle.release_index.specs.Below.{Grounds}
 use Rattle.desk_state.specs.Formed.{AreFormed}
 use Rattle.desk_state.specs.Holds.{Holds}
 use Rattle.desk_state.specs.Sound.{InBounds, IsAlerted, IsBoard, IsToldTo, Sound}

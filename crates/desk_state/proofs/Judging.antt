@@ -16,8 +16,8 @@ use Rattle.alerts.specs.Alerts.{IsAlert, alert_once_open, are_same}
 use Rattle.alerts.proofs.Sameness.{same_is}
 use Rattle.alerts.proofs.Laws.{after_is}
 use Rattle.deferrals.specs.Held.{AreRising}
-use Rattle.rules.specs.Grounds.{Grounds}
-use Rattle.rules.proofs.Laws.{findings_in_order}
+use Rattle.release_index.specs.Below.{Grounds}
+use Rattle.release_index.proofs.Below.{findings_in_order}
 use Rattle.desk_state.specs.State.{State, grounds_of, failing_if, failing_in, failing_of, alert_at, alert_for, judged, judged_all}
 use Rattle.desk_state.specs.declared.effect.OnAlerts.{OnAlerts}
 use Rattle.desk_state.specs.declared.effect.OnAlerts.TheVariants as on_alerts

@@ -16,16 +16,8 @@ use Rattle.plan.specs.declared.release.Revision.{Revision}
 use Rattle.alerts.specs.declared.alert.Alert.{Alert}
 use Rattle.alerts.specs.Alerts.{alert_once_open, are_same}
 use Rattle.alerts.proofs.Laws.{all_same}
-use Rattle.rules.specs.Grounds.{Grounds}
-use Rattle.rules.specs.Judgement.{findings_of}
-use Rattle.rules.specs.Frame.{with_reports, with_deferrals}
-use Rattle.rules.specs.Touches.{names_station, is_of_tail}
-use Rattle.rules.specs.Due.{next_due, IsBeforeDue, at_moment}
-use Rattle.rules.proofs.FrameLaws.{findings_swept}
-use Rattle.rules.proofs.NextDue.{next_due_is}
-use Rattle.rules.proofs.OpenFrame.{one_of_id}
-use Rattle.rules.proofs.TouchLaws.{ignores_report, ignores_deferral, ignores_clearing}
-use Rattle.rules.proofs.UntilDue.{stays_until}
+use Rattle.release_index.specs.Below.{Grounds, findings_of, with_reports, with_deferrals, names_station, is_of_tail, next_due, IsBeforeDue, at_moment}
+use Rattle.release_index.proofs.Below.{findings_swept, next_due_is, one_of_id, ignores_report, ignores_deferral, ignores_clearing, stays_until}
 use Rattle.desk_state.specs.declared.effect.Effect.{Effect}
 use Rattle.desk_state.specs.declared.effect.Sweep.{Sweep}
 use Rattle.desk_state.specs.declared.effect.OnAlerts.{OnAlerts}

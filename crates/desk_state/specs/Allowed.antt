@@ -17,7 +17,7 @@ use Rattle.plan.specs.Check.{plan_fault}
 use Rattle.release_text.specs.Revisions.{revision_digest}
 use Rattle.release_text.specs.Weather.{attached_to, newer_than}
 use Rattle.alerts.specs.declared.alert.Alert.{Alert}
-use Rattle.rules.specs.Judgement.{findings_of}
+use Rattle.release_index.specs.Below.{findings_of}
 use Rattle.facts.specs.declared.report.Report.{Report}
 use Rattle.plan.specs.declared.flights.Plan.{Plan}
 use Rattle.plan.specs.declared.release.Phase.{Phase}

@@ -42,7 +42,7 @@ use Rattle.asks.specs.declared.reply.Refusal.TheVariants as refusal
 use Rattle.asks.specs.declared.reply.Reply.TheVariants.{Done, Seen}
 use Rattle.release_text.specs.Revisions.{revision_digest}
 use Rattle.release_text.specs.Weather.{attached_to, newer_than}
-use Rattle.rules.specs.Judgement.{findings_of}
+use Rattle.release_index.specs.Below.{findings_of}
 use Rattle.desk_state.specs.Hours.{captain_hours}
 use Rattle.desk_state.specs.declared.effect.Decision.{Decision}
 use Rattle.desk_state.specs.declared.effect.Decision.TheVariants.{Show, Do}

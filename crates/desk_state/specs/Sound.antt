@@ -15,7 +15,7 @@ use Rattle.desk_state.specs.declared.entry.What.TheVariants as what
 use Rattle.asks.specs.declared.reply.Refusal.{Refusal}
 use Rattle.deferrals.specs.declared.items.Deferral.{Deferral}
 use Rattle.deferrals.specs.Held.{AreRising}
-use Rattle.rules.specs.Grounds.{Grounds}
+use Rattle.release_index.specs.Below.{Grounds}
 use Rattle.desk_state.specs.declared.counters.Counters.{Counters}
 use Rattle.desk_state.specs.declared.effect.Effect.{Effect}
 use Rattle.desk_state.specs.declared.effect.Sweep.{Sweep}

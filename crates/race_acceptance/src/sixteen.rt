@@ -1,7 +1,6 @@
 use crate::gathering::Gathering;
 use alerts::{MemoryBell, Ringer};
-use board::Board;
-use desk::{Desk, Raced, race};
+use desk::{Board, Desk, Raced, race};
 use desk_io::{OutOfMemory, Text};
 use keeper::MemoryKeeper;
 use small_airline::{script_of, small_tables};

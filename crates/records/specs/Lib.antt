@@ -6,3 +6,4 @@ pub mod Faults
 pub mod Marks
 pub mod Checks
 pub mod Lent
+pub mod Below

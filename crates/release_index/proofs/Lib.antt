@@ -11,3 +11,4 @@ pub mod BeginLaws
 pub mod FoundLaws
 pub mod TellLaws
 pub mod Crossing
+pub mod Below

@@ -7,3 +7,4 @@ pub mod Index
 pub mod Found
 pub mod Chosen
 pub mod Releases
+pub mod Below

@@ -1,9 +1,8 @@
 ghost use Rattle.std.specs.Prelude.{◌≡◌, ◌<◌};
 
 use alerts::{MemoryBell, Ringer};
-use board::Board;
 use connections::Served;
-use desk::Desk;
+use desk::{Board, Desk};
 use desk_io::OutOfMemory;
 use desk_net::{MemoryClock, MemoryLink};
 use keeper::MemoryKeeper;

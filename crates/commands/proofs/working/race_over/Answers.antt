@@ -1,6 +1,6 @@
 use Rattle.std.proofs.Common.{◌∙◌, Err, ap, subst, sym}
 use Rattle.alerts.specs.Ringing.{hung_all}
-use Rattle.board.specs.Prepare.{Shown}
+use Rattle.desk.specs.Below.{Shown}
 use Rattle.commands.proofs.Opened.{held_opened, keeper_worked, not_opened, opened_fresh, races_lower, races_told, worked}
 use Rattle.commands.proofs.RungLaws.{rung_over}
 use Rattle.commands.specs.Working.{Races, told_of}

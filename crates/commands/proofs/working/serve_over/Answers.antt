@@ -1,6 +1,6 @@
 use Rattle.std.proofs.Common.{ap, sym, ◌∙◌, Err}
 use Rattle.alerts.specs.Ringing.{hung_all}
-use Rattle.board.specs.Prepare.{Shown}
+use Rattle.desk.specs.Below.{Shown}
 use Rattle.commands.proofs.Opened.{keeper_worked, serves_lower, not_opened, opened_fresh, worked}
 use Rattle.commands.proofs.RungLaws.{rung_over}
 use Rattle.commands.specs.Seen.{service}

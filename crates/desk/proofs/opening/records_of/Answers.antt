@@ -1,6 +1,6 @@
 use Rattle.std.proofs.Common.{◌∙◌, ap, subst}
 use Rattle.keeper.specs.Order.{rising}
-use Rattle.records.specs.Checks.{IsChecked}
+use Rattle.board.specs.Below.{IsChecked}
 use Rattle.desk.proofs.Opened.{checked_desk, checked_loaded, match_ok}
 use Rattle.desk.proofs.opening.records_of.Goals as goal
 
