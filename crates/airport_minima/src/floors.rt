@@ -18,7 +18,7 @@ struct Lowest {
     vis16: u32,
 }
 
-fn lower(lowest: Option<Lowest>, approach: &Approach) -> Lowest
+fn lowest_with(lowest: Option<Lowest>, approach: &Approach) -> Lowest
     ensures { result ≡ spec.lower approach.now lowest }
 {
     match lowest {
@@ -43,7 +43,7 @@ fn lowest_usable(approaches: &Group<'_, Approach>, kind: &TypeRow, lost: &Lost) 
     for place in 0..approaches.len() {
         let approach = approaches.row(place);
         if is_usable(kind, lost, approach) {
-            lowest = Some(lower(lowest, approach));
+            lowest = Some(lowest_with(lowest, approach));
         }
     }
     lowest

@@ -38,7 +38,7 @@ fn is_low(bound: Option<u32>, minimum: u64) -> bool
     }
 }
 
-fn millimetres(sixteenths: u32) -> u64
+fn wide_millimetres(sixteenths: u32) -> u64
     ensures value { result ≡ minima.millimetres sixteenths }
     ensures bound { result < 2 ^ 50 }
 {
@@ -48,7 +48,8 @@ fn millimetres(sixteenths: u32) -> u64
 fn is_row_within(bounds: Bounds, row: &AlternateRow) -> bool
     ensures { result ≡ is_within bounds (minima.own_minima row.now) }
 {
-    is_low(bounds.ceiling, u64::from(row.ceiling)) && is_low(bounds.vis, millimetres(row.vis16))
+    is_low(bounds.ceiling, u64::from(row.ceiling))
+        && is_low(bounds.vis, wide_millimetres(row.vis16))
 }
 
 // Whether some of an airport's own minima are within bounds.
@@ -67,7 +68,7 @@ fn is_single_within(bounds: Bounds, addend: Pair, approach: &Approach) -> bool
     ensures { result ≡ is_within bounds (minima.single addend approach.now) }
 {
     let ceiling = u64::from(approach.ceiling) + u64::from(addend.ceiling);
-    let vis = millimetres(approach.vis16) + u64::from(addend.vis);
+    let vis = wide_millimetres(approach.vis16) + u64::from(addend.vis);
     is_low(bounds.ceiling, ceiling) && is_low(bounds.vis, vis)
 }
 

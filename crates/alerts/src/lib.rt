@@ -1,4 +1,4 @@
-//! The alerts of releases that stop meeting a rule.
+//! The alerts of releases that stop meeting a rule, and the bells that ring for them.
 #![tactic(auto)]
 
 mod alert;

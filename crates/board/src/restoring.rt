@@ -89,7 +89,7 @@ fn reopen<L: Ledger>(
 }
 
 // Lets go of what was held.
-fn leave(_: Content) {}
+fn drop_content(_: Content) {}
 
 /// The state that records stand for under some tables, once its active releases are judged, and what that changes of
 /// the rows, which are of the first version where `is_old` says so.
@@ -118,7 +118,7 @@ pub(crate) fn restored<L: Ledger>(
             changes,
         }),
         Err(OutOfMemory) => {
-            leave(content);
+            drop_content(content);
             Err(OutOfMemory)
         }
     }

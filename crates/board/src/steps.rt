@@ -321,14 +321,14 @@ fn prepare_accepted<L: Ledger>(
     match record_call(alloc, held.content(), lane, call, done, &effect) {
         Ok(recorded) => prepare_event(alloc, held, Some(done), effect, recorded, steps),
         Err(OutOfMemory) => {
-            leave(effect);
+            drop_effect(effect);
             Err(OutOfMemory)
         }
     }
 }
 
 // Lets go of an effect.
-fn leave(_: Effect) {}
+fn drop_effect(_: Effect) {}
 
 #[tactic(auto, unfolding(crate::specs::Prepare::installed))]
 fn prepare_entered<L: Ledger>(
@@ -353,7 +353,7 @@ fn prepare_entered<L: Ledger>(
     ensures steps { steps.new ≤ steps.old + count_touched held.old.state effect }
 {
     if held.content().is_full_for(&call.ask) {
-        leave(effect);
+        drop_effect(effect);
         return Ok(stay(alloc, full_reply(held.content())));
     }
     prepare_accepted(alloc, held, lane, call, done, effect, steps)

@@ -173,7 +173,7 @@ fn joined(position: u64, ticked: Notices, tick: Option<u64>, settled: Settled) -
     }
 }
 
-fn answer_made<K: Keeper, B: Bell, L: Ledger>(
+fn answer_now<K: Keeper, B: Bell, L: Ledger>(
     alloc: Global,
     desk: &mut Desk<K, B>,
     lane: u32,
@@ -265,7 +265,7 @@ pub(crate) fn answer_with<K: Keeper, B: Bell, L: Ledger>(
     if desk.board.now() < at {
         answer_late(alloc, desk, lane, at, call, steps)
     } else {
-        answer_made(alloc, desk, lane, call, steps)
+        answer_now(alloc, desk, lane, call, steps)
     }
 }
 

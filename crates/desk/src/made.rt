@@ -63,7 +63,7 @@ fn how_many(count: u32) -> u64
 }
 
 // What comes of a call that is made, the item of that number.
-fn answer_made<K: Keeper, B: Bell, G: Gate, L: Ledger>(
+fn answer_made_call<K: Keeper, B: Bell, G: Gate, L: Ledger>(
     alloc: Global,
     desk: &mut Desk<K, B>,
     call: Call,
@@ -107,7 +107,7 @@ fn outcomes_made<K: Keeper, B: Bell, G: Gate, L: Ledger>(
     let mut next = 1u32;
     let mut outcomes = Vec::new(alloc);
     while let Some(call) = maker.next(alloc)? {
-        let outcome = answer_made(alloc, desk, call, next, gate, steps)?;
+        let outcome = answer_made_call(alloc, desk, call, next, gate, steps)?;
         maker.note(done_of(&outcome.said));
         outcomes.push(outcome)?;
         next = next.saturating_add(1);

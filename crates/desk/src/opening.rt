@@ -126,7 +126,7 @@ fn keep_changes<K: Keeper>(alloc: Global, keeper: &mut K, changes: &[Change]) ->
 }
 
 // A board over rows that can't be kept.
-fn let_go(_: Board) {}
+fn drop_board(_: Board) {}
 
 /// Lets go of tables under which no desk is opened.
 pub fn leave(_: Tables) {}
@@ -144,7 +144,7 @@ fn finish<K: Keeper>(alloc: Global, keeper: &mut K, restored: Restored) -> Resul
     match keep_changes(alloc, keeper, &changes) {
         Ok(()) => Ok(board),
         Err(why) => {
-            let_go(board);
+            drop_board(board);
             Err(why)
         }
     }

@@ -112,7 +112,7 @@ fn install<B: Bell>(board: &mut Board, ringer: &mut Ringer<B>, prepared: Prepare
 }
 
 // A step that isn't put in place.
-fn let_go(_: Prepared) {}
+fn drop_prepared(_: Prepared) {}
 
 /// Keeps what a prepared step changes, puts the step in place, and rings for what it tells. One that changes something
 /// and isn't kept is refused.
@@ -147,11 +147,11 @@ pub(crate) fn settle<K: Keeper, B: Bell>(
     match keep(alloc, &mut desk.keeper, prepared.changes()) {
         Ok(None) => Ok(install(&mut desk.board, &mut desk.ringer, prepared)),
         Ok(Some(faults)) => {
-            let_go(prepared);
+            drop_prepared(prepared);
             Ok(unkept(alloc, faults))
         }
         Err(OutOfMemory) => {
-            let_go(prepared);
+            drop_prepared(prepared);
             Err(OutOfMemory)
         }
     }

@@ -16,7 +16,7 @@ use std::alloc::Global;
 use std::marker::Brand;
 use std::sync::ledger::{Blank, Ledger};
 
-fn answer_with<K: Keeper, B: Bell, L: Ledger>(
+fn outcome_with<K: Keeper, B: Bell, L: Ledger>(
     alloc: Global,
     desk: &mut Desk<K, B>,
     lane: u32,

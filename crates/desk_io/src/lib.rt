@@ -1,4 +1,4 @@
-//! What the desk asks of the outside: sources, a sink, and the texts that pass between.
+//! What the desk asks of the outside: sources, a sink, texts, stations, and values that are found by key.
 #![tactic(auto)]
 
 mod by_id;

@@ -32,7 +32,7 @@ fn is_under(minute: Minute, mark: u64, key: &(Minute, u64, u64)) -> bool
 }
 
 // The place of the report of that number, found by halves where the numbers rise.
-fn place_of(reports: &[Report], id: u64) -> Option<usize>
+fn place_of_id(reports: &[Report], id: u64) -> Option<usize>
     ensures { AreRising id_of reports.now
         → option_and_then (slice_get reports.now) result ≡ find (has_number id) reports.now }
 {
@@ -49,7 +49,7 @@ fn place_of(reports: &[Report], id: u64) -> Option<usize>
 fn report_of(reports: &[Report], id: u64) -> Option<&Report>
     ensures { AreRising id_of reports.now → option_copied result ≡ find (has_number id) reports.now }
 {
-    at_place(reports, place_of(reports, id))
+    at_place(reports, place_of_id(reports, id))
 }
 
 fn is_there(reports: &[Report], id: u64) -> bool

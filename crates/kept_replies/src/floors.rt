@@ -10,7 +10,7 @@ ghost use Rattle.kept_replies.specs.Requests.{FloorsRise};
 use asks::Floor;
 use std::cmp::Ordering;
 
-fn place_of(floors: &[Floor], actor: &[u8]) -> Option<usize>
+fn place_of_actor(floors: &[Floor], actor: &[u8]) -> Option<usize>
     requires { FloorsRise floors.now }
     ensures { option_and_then (slice_get floors.now) result ≡ find (λ f. bytes_eq f.actor actor.now) floors.now }
 {
@@ -35,7 +35,7 @@ pub(crate) fn floor_at(floors: &[Floor], actor: &[u8]) -> Option<u64>
     requires { FloorsRise floors.now }
     ensures { result ≡ spec.floor_at actor.now floors.now }
 {
-    let place = place_of(floors, actor);
+    let place = place_of_actor(floors, actor);
     let floor = at_place(floors, place)?;
     Some(floor.number)
 }

@@ -185,7 +185,7 @@ fn is_changed(phase: Phase, plan: &Plan, old: &Plan) -> bool
 }
 
 #[tactic(auto, unfolding(crate::specs::Change::change_fault))]
-fn fault_of(plan: &Plan, old: &Plan, phase: Phase) -> Option<BadPlan>
+fn fault_of_change(plan: &Plan, old: &Plan, phase: Phase) -> Option<BadPlan>
     requires few { IsPlan old.now }
     requires fits { PhaseFits phase old.now.legs }
     ensures { result ≡ change_fault plan.now old.now phase }
@@ -216,7 +216,7 @@ pub fn check_change(plan: &Plan, old: &Plan, phase: Phase) -> Result<(), BadPlan
         (λ bad. change_fault plan.now old.now phase ≡ Some bad) }
     ensures may { OnOk result (MayFollow plan.now old.now phase) }
 {
-    match fault_of(plan, old, phase) {
+    match fault_of_change(plan, old, phase) {
         None => Ok(()),
         Some(bad) => Err(bad),
     }

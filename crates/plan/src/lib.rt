@@ -1,4 +1,4 @@
-//! The plans of flights that a dispatcher files, their releases, and the rules that they fail.
+//! The plans of flights, their releases, the rules that these fail, and the fuel and the alternates that they need.
 #![tactic(auto)]
 
 mod alternate_needs;

@@ -7,7 +7,7 @@ ghost use Rattle.records.specs.Marks.{marks_of, IsIndex};
 use crate::marks::{Firsts, place_at};
 use crate::record::Record;
 
-fn is_meta(held: &Record) -> bool
+fn is_meta_record(held: &Record) -> bool
     ensures { result ≡ is_kind 0 held.now }
 {
     match held {
@@ -19,7 +19,7 @@ fn is_meta(held: &Record) -> bool
 fn has_meta(records: &[Record]) -> bool
     ensures { result ≡ list_any (is_kind 0) records.now }
 {
-    records.iter().any(|record| is_meta(record))
+    records.iter().any(|record| is_meta_record(record))
 }
 
 /// The place of the first record, where there are some and none is of the meta row.

@@ -32,7 +32,7 @@ fn copied_pair(alloc: Global, one: &Row, two: &Row) -> Result<RowsFault, OutOfMe
     })
 }
 
-fn bad_pair(alloc: Global, one: &Row, two: &Row) -> RowsFault
+fn pair_fault(alloc: Global, one: &Row, two: &Row) -> RowsFault
     ensures { spec.OrMemory (RowsFault.BadPair one.now two.now) result }
 {
     match copied_pair(alloc, one, two) {
@@ -48,11 +48,11 @@ fn fault_at(alloc: Global, rows: &[Row], fault: Fault) -> RowsFault
 {
     match fault {
         Fault::Bad { place, why } => bad_row(alloc, &rows[place], why),
-        Fault::Pair { one, two } => bad_pair(alloc, &rows[one], &rows[two]),
+        Fault::Pair { one, two } => pair_fault(alloc, &rows[one], &rows[two]),
     }
 }
 
-fn record_of(alloc: Global, version: Version, row: &Row) -> Result<Record, RowsFault>
+fn record_of_row(alloc: Global, version: Version, row: &Row) -> Result<Record, RowsFault>
     ensures { MatchResult result (spec.IsReadOf version row.now) (spec.IsUnread version row.now) }
 {
     match read_in(alloc, version, row) {
@@ -112,7 +112,7 @@ fn read_rows(alloc: Global, version: Version, rows: &[Row]) -> Result<Vec<Record
 {
     let mut records = Vec::new(alloc);
     for row in rows {
-        let found = record_of(alloc, version, row)?;
+        let found = record_of_row(alloc, version, row)?;
         push(&mut records, found)?;
     }
     Ok(records)

@@ -11,7 +11,7 @@ use asks::KeptReply;
 use desk_time::Minute;
 use plan::{Release, is_active};
 
-fn is_same_row(one: &Record, two: &Record) -> bool
+fn are_of_one_row(one: &Record, two: &Record) -> bool
     ensures { result ≡ spec.is_same_row one.now two.now }
 {
     let (one, two) = (one.lent(), two.lent());
@@ -65,7 +65,7 @@ fn is_bad_pair(one: &Record, two: &Record, marks_of_one: Marks, marks_of_two: Ma
     requires two { marks_of_two ≡ marks_of two.now }
     ensures { result ≡ spec.is_bad_pair one.now two.now }
 {
-    is_same_row(one, two) || are_at_odds(one, two, marks_of_one, marks_of_two)
+    are_of_one_row(one, two) || are_at_odds(one, two, marks_of_one, marks_of_two)
 }
 
 // The marks of the record at a place.

@@ -33,7 +33,7 @@ fn no_parts(alloc: Global) -> Parts
     }
 }
 
-fn put_meta(held: &mut Option<Meta>, meta: Meta)
+fn keep_first_meta(held: &mut Option<Meta>, meta: Meta)
     ensures { held.new ≡ spec.first_of held.old meta }
 {
     if held.is_none() {
@@ -45,7 +45,7 @@ fn add_record(parts: &mut Parts, found: Record) -> Result<(), OutOfMemory>
     ensures { OnOk result (spec.kinds_of parts.new ≡ spec.with_record found (spec.kinds_of parts.old)) }
 {
     match found {
-        Record::Meta(meta) => put_meta(&mut parts.meta, meta),
+        Record::Meta(meta) => keep_first_meta(&mut parts.meta, meta),
         Record::Report(report) => parts.reports.push(report)?,
         Record::Deferral(deferral) => parts.deferrals.push(deferral)?,
         Record::Release(release) => parts.releases.push(release)?,

@@ -38,7 +38,7 @@ use std::sync::ledger::Ledger;
 use turn_lock::{Pass, TurnLock};
 
 // What a call is answered, in a turn of its own.
-fn respond_to_call<R: Wait, K: Keeper, B: Bell, C: Clock, A: Opened, L: Ledger>(
+fn respond_to_call_in_turn<R: Wait, K: Keeper, B: Bell, C: Clock, A: Opened, L: Ledger>(
     rt: &R,
     alloc: Global,
     lock: &TurnLock<Shared<K, B, C, A>>,
@@ -93,7 +93,7 @@ fn respond_in_turn<R: Wait, K: Keeper, B: Bell, C: Clock, A: Opened, L: Ledger>(
     ensures steady { IsSound A.clock.health → result.0 ≢ Err ByClock }
 {
     if let Requested::Call(call) = requested {
-        return respond_to_call(rt, alloc, lock, pass, lane, wire, call, steps);
+        return respond_to_call_in_turn(rt, alloc, lock, pass, lane, wire, call, steps);
     }
     match response_without(alloc, requested) {
         Ok(response) => (Ok(response), pass),

@@ -119,7 +119,7 @@ fn are_parts_names(field: &[u8]) -> bool
     field.split(|b| *b == b' ').all(|part| is_name(part))
 }
 
-fn are_names(field: &[u8]) -> bool
+fn are_listed_names(field: &[u8]) -> bool
     ensures { result ≡ list_all form.is_name (names.names_of field.now) }
 {
     field.is_empty() || are_parts_names(field)
@@ -131,7 +131,7 @@ pub(crate) fn capabilities(alloc: Global, field: &[u8]) -> Result<Option<Capabil
     ensures value { IfOk result (λ names. names ≡ spec.capabilities_of field.now) }
     ensures forms { IfOk result (λ names. IfSome names (λ each. IsTrue (list_all form.is_name each))) }
 {
-    if !are_names(field) {
+    if !are_listed_names(field) {
         return Ok(None);
     }
     Ok(Some(Capabilities::of(Text::of(alloc, field)?)))

@@ -15,6 +15,7 @@ use Rattle.codes.specs.declared.fault.BadReport.{BadReport}
 use Rattle.codes.specs.declared.fault.Form.TheVariants.{Report}
 use Rattle.weather_reports.specs.declared.metar.Metar.{Metar}
 use Rattle.weather_reports.specs.declared.metar.Head.{Head}
+pub use Rattle.weather_reports.specs.Words.{is_nil}
 
 abbrev pub is_speci : List ℕ → Bool
 is_speci g = bytes_eq g (codes "SPECI")
@@ -24,9 +25,6 @@ is_report_word g = bytes_eq g (codes "METAR") || is_speci g
 
 abbrev pub is_cor : List ℕ → Bool
 is_cor g = bytes_eq g (codes "COR")
-
-abbrev pub is_nil : List ℕ → Bool
-is_nil g = bytes_eq g (codes "NIL")
 
 -- what is left after a first group that may stand there
 abbrev pub after : (List ℕ → Bool) → List (List ℕ) → List (List ℕ)

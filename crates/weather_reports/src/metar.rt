@@ -5,6 +5,7 @@ ghost use Rattle.codes.specs.Groups.{groups_of};
 ghost use Rattle.weather_reports.specs.MetarReading.{reading, metar_of};
 ghost use Rattle.weather_reports.specs.MetarReport.{ReadsMetar};
 
+use crate::change::is_nil;
 use codes::{
     BadReport, Cond, Form, Group, Groups, REPORT_LIMIT, ReportFault, Stretch, TOO_LONG, Why,
     first_of, stretch_in, time_of,
@@ -53,12 +54,6 @@ fn is_cor(group: &[u8]) -> bool
     ensures { result ≡ spec.is_cor group.now }
 {
     group == b"COR".as_slice()
-}
-
-fn is_nil(group: &[u8]) -> bool
-    ensures { result ≡ spec.is_nil group.now }
-{
-    group == b"NIL".as_slice()
 }
 
 fn after_word<'a, 'b>(groups: &'b [Group<'a>]) -> &'b [Group<'a>]

@@ -121,7 +121,7 @@ fn after_validity(
     normal(alloc, head, from, to, number, groups)
 }
 
-fn after_time(
+fn taf_after_time(
     alloc: Global,
     head: &Head,
     number: u32,
@@ -173,7 +173,7 @@ fn head_of(modifiers: &[Group<'_>], station: Station, issued: Minute) -> Head
 }
 
 // The forecast of what follows the station, from that number on.
-fn after_station(
+fn taf_after_station(
     alloc: Global,
     modifiers: &[Group<'_>],
     station: Station,
@@ -189,7 +189,7 @@ fn after_station(
 {
     let issued = time_due(number, groups, first_day)?;
     let head = head_of(modifiers, station, issued);
-    after_time(alloc, &head, number + 1, after_first(groups))
+    taf_after_time(alloc, &head, number + 1, after_first(groups))
 }
 
 // The forecast of what follows the words in front, from that number on.
@@ -207,7 +207,7 @@ fn after_modifiers(
     ensures range { IfOk result IsInReach }
 {
     let station = station_due(number, groups)?;
-    after_station(
+    taf_after_station(
         alloc,
         modifiers,
         station,
@@ -231,7 +231,7 @@ fn modifier_count(groups: &[Group<'_>]) -> usize
 }
 
 #[tactic(auto, unfolding(crate::specs::TafReading::reading))]
-fn reading_in(alloc: Global, groups: &[Group<'_>], receipt: Minute) -> Result<Taf, ReportFault>
+fn taf_reading_in(alloc: Global, groups: &[Group<'_>], receipt: Minute) -> Result<Taf, ReportFault>
     requires count { length groups.now ≤ 2049 }
     requires low { FIRST ≤ receipt }
     requires high { receipt ≤ LAST }
@@ -260,7 +260,7 @@ pub fn taf_in(alloc: Global, groups: &[Group<'_>], receipt: Minute) -> Result<Ta
     ensures report { first_group groups.now ≡ codes "TAF" → IfOk result (ReadsTaf groups.now receipt) }
     ensures read { (taf : Taf) → ReadsTaf groups.now receipt taf → Answers result (Ok taf) }
 {
-    reading_in(alloc, groups, receipt)
+    taf_reading_in(alloc, groups, receipt)
 }
 
 /// The reading of the text of a TAF that was received at that moment. Its first group is `TAF`. A day

@@ -13,5 +13,5 @@ returns-in-Bad c =
 pub returns-in-Pair : goal.returns-in-Pair
 returns-in-Pair c =
     let within = subst (IsWithin (length c.args.rows.now)) c.in-Pair.is c.requires in
-    subst (λ fault. Names c.args.rows.now fault c.bad_pair.result) (sym c.in-Pair.is)
-    (pair_named c.args.rows.now c.in-Pair.one c.in-Pair.two c.index-rows-one.result c.index-rows-two.result c.bad_pair.result within.0 within.1 c.index-rows-one.is c.index-rows-two.is c.bad_pair.ensures)
+    subst (λ fault. Names c.args.rows.now fault c.pair_fault.result) (sym c.in-Pair.is)
+    (pair_named c.args.rows.now c.in-Pair.one c.in-Pair.two c.index-rows-one.result c.index-rows-two.result c.pair_fault.result within.0 within.1 c.index-rows-one.is c.index-rows-two.is c.pair_fault.ensures)

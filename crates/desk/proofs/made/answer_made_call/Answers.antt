@@ -1,7 +1,7 @@
 use Rattle.std.proofs.Common.{◌∙◌, ap}
 use Rattle.made_items.specs.Calls.{made_at}
 use Rattle.desk.specs.Keeping.{answer_with}
-use Rattle.desk.proofs.made.answer_made.Goals as goal
+use Rattle.desk.proofs.made.answer_made_call.Goals as goal
 
 pub returns-clause-given : goal.returns-clause-given
 returns-clause-given g c =

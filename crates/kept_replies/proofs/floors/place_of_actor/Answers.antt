@@ -5,7 +5,7 @@ use Rattle.std.specs.Ordering.{nat_cmp}
 use Rattle.std.specs.Cmp.Lexicographic.{slice_cmp}
 use Rattle.asks.specs.declared.kept.Floor.{Floor}
 use Rattle.kept_replies.proofs.FloorLaws.{place_is}
-use Rattle.kept_replies.proofs.floors.place_of.Goals as goal
+use Rattle.kept_replies.proofs.floors.place_of_actor.Goals as goal
 
 -- the closure compares a floor's name
 pub returns : goal.returns

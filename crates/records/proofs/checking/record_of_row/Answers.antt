@@ -1,7 +1,7 @@
 use Rattle.std.proofs.Common.{Err, subst}
 use Rattle.records.specs.Reading.{ReadsRow}
 use Rattle.records.proofs.CheckLaws.{unread}
-use Rattle.records.proofs.checking.record_of.Goals as goal
+use Rattle.records.proofs.checking.record_of_row.Goals as goal
 
 pub returns-in-Err-NotCanonical : goal.returns-in-Err-NotCanonical
 returns-in-Err-NotCanonical c =

@@ -4,7 +4,7 @@ use Rattle.std.specs.List.{slice_get}
 use Rattle.facts.specs.Index.{id_of}
 use Rattle.desk_io.proofs.ByIdLaws.{searched}
 use Rattle.facts.proofs.SameLaws.{place_is}
-use Rattle.facts.proofs.same.place_of.Goals as goal
+use Rattle.facts.proofs.same.place_of_id.Goals as goal
 
 -- the closure gives a report's number
 pub returns : goal.returns

@@ -1,7 +1,7 @@
 use Rattle.std.proofs.Common.{subst}
 use Rattle.service.proofs.TurningLaws.{call_fails, call_responds}
 use Rattle.service.specs.Turns.{ComesOnce, said_in}
-use Rattle.service.proofs.turns.respond_to_call.Goals as goal
+use Rattle.service.proofs.turns.respond_to_call_in_turn.Goals as goal
 
 pub returns-in-Ok-clause-responds : goal.returns-in-Ok-clause-responds
 returns-in-Ok-clause-responds g c =
