@@ -52,5 +52,5 @@ pub(crate) fn outcome<K: Keeper, B: Bell>(
     ensures err { OnErr result (MayHaveBegun lane item.now desk.old.board.state desk.new.board.state) }
     ensures on { DeskGoesOn (desk_seen K.seen B.seen desk.old) (desk_seen K.seen B.seen desk.new) }
 {
-    answer_with::<K, B, Brand>(alloc, desk, lane, item, Blank::new(1))
+    outcome_with::<K, B, Brand>(alloc, desk, lane, item, Blank::new(1))
 }

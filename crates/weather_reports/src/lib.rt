@@ -9,4 +9,4 @@ mod reader;
 
 pub use forecast::{Part, PartKind, Parts, Taf, TafState};
 pub use reader::{read_taf, taf_in};
-pub use weather_reports::{Metar, metar_in, read_metar};
+pub use metar::{Metar, metar_in, read_metar};
