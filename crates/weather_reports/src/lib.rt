@@ -8,5 +8,5 @@ mod parts;
 mod reader;
 
 pub use forecast::{Part, PartKind, Parts, Taf, TafState};
-pub use reader::{read_taf, taf_in};
 pub use metar::{Metar, metar_in, read_metar};
+pub use reader::{read_taf, taf_in};
