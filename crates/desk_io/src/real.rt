@@ -1,8 +1,10 @@
-ghost use Rattle.std.specs.Prelude.{◌≡◌, ◌≤◌, length, None, IfOk, OnOk};
+ghost use Rattle.std.specs.Prelude.{◌≡◌, ◌≤◌, length, [], None, Some, IfOk, OnOk, OnErr};
 ghost use Rattle.std.specs.Io.KnownBytes.{Appends, ReadConsumes};
 ghost use Rattle.desk_io.specs.Health.{unsound};
+ghost use Rattle.desk_io.specs.Told.{AppendsFront};
 
 use crate::{Failed, PutFault, Shelf, Sink, counted};
+use edge_record::{Event, Record};
 use std::fs::File;
 use std::io;
 use std::io::{Read, Seek, SeekFrom, Write};
@@ -121,37 +123,69 @@ impl<R: Files + Drop> Shelf for FileShelf<R> {
     }
 }
 
-// Writes all of the bytes, unless it answers an error.
-fn write_out<W: Write>(writer: &mut W, bytes: &[u8]) -> io::Result<()>
-    ensures { OnOk result (Appends (W.contents writer.old) (W.contents writer.new) bytes.now) }
-{
-    writer.write_all(bytes)
+// Bytes that a write took.
+#[derive(Drop)]
+struct Taken<'a> {
+    bytes: &'a [u8],
 }
 
-/// Standard output. It tells no content, and each error is a counted fault.
+impl<'a> Event<u8> for Taken<'a> {
+    ghost told = { λ t. t.bytes.now };
+}
+
+// Writes all of the bytes, unless a write fails, and records what each write took.
+#[tactic(auto, using(crate::proofs::Writing::grew_none, crate::proofs::Writing::grew_more, crate::proofs::Writing::grew_front, crate::proofs::Writing::grew_all))]
+fn write_out<W: Write>(writer: &mut W, taken: &mut Record<u8>, bytes: &[u8]) -> Result<(), Failed>
+    ensures ok { OnOk result (Appends (Some taken.old.list) (Some taken.new.list) bytes.now) }
+    ensures err { OnErr result (AppendsFront (Some taken.old.list) (Some taken.new.list) bytes.now) }
+{
+    let mut rest = bytes;
+    while !rest.is_empty() {
+        match writer.write(rest) {
+            Ok(0) => return Err(Failed),
+            Ok(count) => {
+                let (bytes, left) = rest.split_at(count);
+                *taken = taken.with(&Taken { bytes });
+                rest = left;
+            }
+            Err(_) => return Err(Failed),
+        }
+    }
+    Ok(())
+}
+
+/// Standard output. It tells exactly what its writes took, and each error is a counted fault.
 #[derive(Drop)]
 pub struct StdoutSink<R: Print + Drop> {
     out: R,
+    taken: Record<u8>,
     faults: u64,
 }
 
 impl<R: Print + Drop> StdoutSink<R> {
     /// A sink over standard output.
     pub fn new(out: R) -> Self
-        ensures { result.faults ≡ 0 }
+        ensures faults { result.faults ≡ 0 }
+        ensures taken { result.taken.list ≡ [] }
     {
-        StdoutSink { out, faults: 0 }
+        StdoutSink {
+            out,
+            taken: Record::new(),
+            faults: 0,
+        }
     }
 }
 
 impl<R: Print + Drop> Sink for StdoutSink<R> {
-    ghost seen = { λ s. record { content = None; health = unsound s.faults } };
+    ghost seen = { λ s. record { content = Some s.taken.list; health = unsound s.faults } };
 
     fn write(&mut self, bytes: &[u8]) -> Result<(), PutFault> {
-        let answer = write_out(&mut io::writer(&self.out), bytes);
-        match counted(answer, &mut self.faults) {
+        match write_out(&mut io::writer(&self.out), &mut self.taken, bytes) {
             Ok(()) => Ok(()),
-            Err(Failed) => Err(PutFault::Failed),
+            Err(Failed) => {
+                self.faults = self.faults.saturating_add(1);
+                Err(PutFault::Failed)
+            }
         }
     }
 
