@@ -119,6 +119,13 @@ impl<R: Row<N>, const N: usize> Grouped<R, N> {
         }
     }
 
+    /// All rows, in the order of the file.
+    pub fn rows(&self) -> &[R]
+        ensures { result.now ≡ self.now }
+    {
+        self.rows.as_slice()
+    }
+
     /// The rows as a table, or the place of the first whose key an earlier one has.
     pub fn of(alloc: Global, rows: Vec<R>) -> Result<Result<Grouped<R, N>, usize>, OutOfMemory>
         requires fits { All R.Fits rows.items }
