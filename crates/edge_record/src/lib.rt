@@ -1,4 +1,4 @@
-//! Records of what crossed an edge of the program: lists that contracts see and that take no bytes.
+//! Records of what crossed the program's edge: lists that exist only in contracts and take no space at run time.
 #![tactic(auto)]
 
 mod record;
