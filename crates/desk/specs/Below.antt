@@ -1,4 +1,4 @@
--- What of the crates below the clauses above name.
+-- Names from lower crates that this crate's contracts use.
 pub use Rattle.board.specs.Below.{IsFaultOf, Record, RowWhy, RowsFault, reopened, state_in}
 pub use Rattle.board.specs.Prepare.{Shown, shown}
 pub use Rattle.board.specs.Below.RowWhyVariants as RowWhyVariants
