@@ -1,49 +1,49 @@
-"""Hands reports in to the desk over HTTP, and says what comes of each."""
+"""Sends reports to the desk over HTTP, and records the answer to each."""
 import http.client
 import json
 
 TIMEOUT = 20
 
 WHY = {
-    "TooLong": "it has more than 2,048 bytes",
-    "Missing": "it ends before group {group}",
-    "NotStation": "group {group} should be a station: a capital letter, then three capitals or digits",
+    "TooLong": "longer than 2,048 bytes",
+    "Missing": "ends before group {group}",
+    "NotStation": "group {group} should be a station (a capital letter, then three capitals or digits)",
     "NotTime": "group {group} should be a time such as 121651Z",
-    "BadVisibility": "group {group} ends in SM and is no visibility",
-    "BadSky": "group {group} begins as a layer of the sky and goes on wrongly",
-    "BadPeriod": "group {group} isn't the period that is due there, or the word TAF is missing",
+    "BadVisibility": "group {group} ends in SM but isn't a visibility",
+    "BadSky": "group {group} isn't a sky layer, though it begins with FEW, SCT, BKN, OVC or VV",
+    "BadPeriod": "group {group} should be a period such as 1212/1318, or the word TAF is missing",
 }
 
 
 class Unreached(Exception):
-    """No answer came: whether the desk has done it isn't known, so it is asked again under its number."""
+    """The desk didn't answer, so nobody knows whether it admitted the report. The feed sends it again under the same number."""
 
 
 class Stopped(Exception):
-    """The desk can't take reports of this feed until somebody sees to it."""
+    """The feed can't go on until a person repairs something."""
 
 
 def reason(reply):
-    """Why the desk refused a report, in words."""
+    """Why the desk refused a report, in plain English."""
     number = reply["refused"]
     if number == 5:
-        return WHY.get(reply["what"], "it can't be read ({what}, group {group})").format(**reply)
+        return WHY.get(reply["what"], "unreadable ({what}, group {group})").format(**reply)
     if number == 6:
-        return "the day in group %s isn't near today" % reply["group"]
+        return "the day in group %s is too far from today" % reply["group"]
     if number == 25:
-        return "the station isn't in airports.csv"
+        return "its station isn't in airports.csv"
     return "refusal %d %s" % (number, reply["why"])
 
 
 class Desk:
-    """The desk as one actor sees it, over a connection that is closed after each batch, since an open one keeps others waiting."""
+    """A connection to the desk in one actor's name. It is closed after each batch, since an idle connection delays others."""
 
     def __init__(self, host, port, actor, key):
         self.host, self.port, self.actor, self.key = host, port, actor, key
         self.link = None
 
     def admit(self, number, text):
-        """The reply to one report: a dict, as USING says."""
+        """Sends one report and returns the desk's reply as a dict."""
         ask = {"do": "admit", "text": text}
         body = json.dumps({"actor": self.actor, "ask": ask, "key": self.key, "number": number}, ensure_ascii=True)
         try:
@@ -52,10 +52,10 @@ class Desk:
             reply = json.loads(self.link.getresponse().read())
         except (OSError, http.client.HTTPException, ValueError) as fault:
             self.close()
-            raise Unreached(str(fault) or type(fault).__name__) from fault
+            raise Unreached("no answer from the desk: %s" % (str(fault) or type(fault).__name__)) from fault
         if not isinstance(reply, dict) or "error" in reply:
             self.close()
-            raise Unreached("the desk says %s" % reply)
+            raise Unreached("the desk answers %s" % json.dumps(reply))
         return reply
 
     def close(self):
@@ -65,7 +65,7 @@ class Desk:
 
 
 def hand_in(outbox, desk, say, most=25):
-    """Hands in what waits, at most so many reports. Answers how many were answered."""
+    """Sends up to `most` of the reports that wait. Returns how many the desk answered."""
     answered = 0
     try:
         for number, text, origin in outbox.waiting(most):
@@ -78,20 +78,20 @@ def hand_in(outbox, desk, say, most=25):
 
 
 def settle(outbox, number, text, origin, reply, say):
-    """Keeps what a reply says of a report. Answers the number to ask under once more, if it has to be."""
+    """Records the reply to a report. Returns the number under which to send it again, or None."""
     refused = reply.get("refused")
     if "done" in reply:
         outbox.done(number)
     elif refused in (4, 27):
-        # Another command had that number, or numbers up to the floor are swept away: this report wasn't taken under it.
+        # The number belongs to another command (4), or the desk has swept it (27). The report needs a new number.
         outbox.renumber(number, reply.get("floor", number))
         return outbox.number_of(text)
     elif refused in (1, 2, 3):
-        raise Stopped("the desk doesn't let this feed hand in reports (%s): see its name and key, and its role in actors.csv" % reply["why"])
+        raise Stopped("the desk rejects this feed (refusal %d %s): correct its key file, or its line in actors.csv" % (refused, reply["why"]))
     elif refused in (7, 24, 26):
-        raise Unreached("the desk can't keep more now (refusal %d %s)" % (refused, reply["why"]))
+        raise Unreached("the desk can't store reports now (refusal %d %s)" % (refused, reply["why"]))
     else:
-        why = reason(reply) if refused else "the desk couldn't read the call (%s)" % reply
+        why = reason(reply) if refused else "the desk can't read the call (%s)" % json.dumps(reply)
         outbox.refuse(number, text, origin, why)
         say("refused: %s | %s | %s" % (text, why, origin))
     return None

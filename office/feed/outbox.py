@@ -1,14 +1,14 @@
-"""What the feed has taken in and not yet handed in, kept in a file of SQLite, so that a stop at any moment loses and doubles nothing.
+"""The feed's database (SQLite): the reports that the desk hasn't answered yet. A stop at any moment loses and doubles none.
 
-A report gets its number when it is taken in. It goes once the desk has answered it under that number; where no answer came it
-is asked again under the same number, and the desk does nothing twice.
+A report gets a number when the feed reads it, and is removed when the desk has answered it under that number. If no answer
+comes, the feed sends it again under the same number, and the desk doesn't admit it twice.
 """
 import sqlite3
 import time
 
 from reports import KEEP_DAYS
 
-# Hundredths of a second since 2000 as the least next number: so numbers rise too where this file was lost.
+# The next number is at least the hundredths of a second since 2000, so that numbers rise even if this file was lost.
 EPOCH_2000 = 946_684_800
 
 TABLES = """
@@ -36,7 +36,7 @@ class Outbox:
         return number
 
     def take(self, reports, origin, file=None):
-        """Takes reports in, all or none, and with them that the file (its name, size and time) has been read. Answers how many are new."""
+        """Stores the new ones of these reports, and the file (name, size, time) as read, in one transaction. Returns how many are new."""
         new = 0
         with self.changing():
             for text in reports:
@@ -52,10 +52,10 @@ class Outbox:
         return self.db.execute("select 1 from files where (name, size, changed) = (?, ?, ?)", file).fetchone() is not None
 
     def waiting(self, most):
-        """What is next to be handed in; what has waited until a report of its day would look like a new one is refused here."""
+        """The next reports to send. Refuses those that have waited too long: the desk could take their day for a later one."""
         late = "select number, outbox.text, origin from outbox join taken using (text) where at < ?"
         for number, text, origin in self.db.execute(late, (self.oldest(),)).fetchall():
-            self.refuse(number, text, origin, "it has waited for %d days" % KEEP_DAYS)
+            self.refuse(number, text, origin, "not sent within %d days" % KEEP_DAYS)
         return self.db.execute("select number, text, origin from outbox order by number limit ?", (most,)).fetchall()
 
     def done(self, number):
@@ -67,7 +67,7 @@ class Outbox:
             self.done(number)
 
     def renumber(self, number, floor):
-        """Another number for a report: a new one above the floor."""
+        """Gives a report a new number above the floor."""
         with self.changing():
             self.db.execute("insert into last values (?)", (floor,))
             self.db.execute("update outbox set number = ? where number = ?", (self.next_number(), number))
@@ -82,7 +82,7 @@ class Outbox:
         return int(self.clock()) - KEEP_DAYS * 86_400
 
     def forget(self):
-        """What is older than any report that the desk would still take is forgotten."""
+        """Removes records of reports that are too old for the desk to admit."""
         before = self.oldest()
         with self.changing():
             self.db.execute("delete from taken where at < ? and text not in (select text from outbox)", (before,))
@@ -93,7 +93,7 @@ class Outbox:
 
 
 class Change:
-    """A change of the file, which is kept whole or not at all."""
+    """A transaction."""
 
     def __init__(self, db):
         self.db = db

@@ -1,10 +1,10 @@
-"""Parts a text into weather reports, in the layouts in which the public services write them.
+"""Splits a text into weather reports, in the layouts of the public services.
 
-A report stands on one line or on several. It is ended by `=`, by a blank line, by a line that begins another report, by the
-date line of a cycle file, or by the heading of a bulletin. Its word (METAR, SPECI, TAF) may be missing: then it is the word
-that stood alone above it, or what the shape of the report tells.
+A report has one line or several. It ends at `=`, at a blank line, before a line that begins another report, before the
+date line of a cycle file, or before the heading of a bulletin. If its word (METAR, SPECI, TAF) is missing, the splitter adds it:
+the word that stood alone on a line above, or else the one that the report's form implies.
 
-A report says its day and no month, so one that is a month old looks like one of today. Its date line tells.
+A report contains its day but no month, so a month-old report looks like one of today. The date line above it tells them apart.
 """
 import itertools
 import re
@@ -12,23 +12,23 @@ import time
 
 WORDS = ("METAR", "SPECI", "TAF")
 DATE_LINE = re.compile(r"\d{4}/\d\d/\d\d \d\d:\d\d")
-# `FTUS46 KSEW 121120 AAA` heads a bulletin, `TAFSEW` names it once more, `000` is its place in the day
+# The lines above a bulletin: `FTUS46 KSEW 121120 AAA` is its heading, `TAFSEW` its name, `000` its number of the day.
 HEADING = re.compile(r"([A-Z]{4}\d\d) [A-Z]{4} \d{6}( [A-Z]{3})?|(TAF|MTR|SPE|SPC)[A-Z0-9]{3}|\d{3}")
 WORD_ALONE = re.compile(r"(METAR|SPECI|TAF)( TAF| METAR)?( AMD| COR)*")
 BEGINS = re.compile(r"(METAR|SPECI|TAF)\b|((AMD|COR) )?[A-Z][A-Z0-9]{3} \d{6}Z\b")
 PERIOD = re.compile(r"\d{4}/\d{4}")
-# The desk takes no report that is older; one that is weeks older it would take for one of today.
+# In days. The desk refuses older reports, but would take one that is weeks old for a report of today.
 KEEP_DAYS = 5
 KINDS = {"SA": ("METAR",), "SP": ("SPECI",), "FT": ("TAF",), "FC": ("TAF",)}
 
 
 def date_line(moment):
-    """The date line of a moment in seconds since 1970."""
+    """The date line for a time in seconds since 1970."""
     return time.strftime("%Y/%m/%d %H:%M", time.gmtime(moment))
 
 
 def worded(groups, heading):
-    """The report of these groups, with its word in front, and each of the words there once."""
+    """The report of these groups, with its word in front. Words that stand there twice are written once."""
     front = list(itertools.takewhile(lambda it: it in (*WORDS, "AMD", "COR"), groups))
     groups = [*dict.fromkeys(front), *groups[len(front):]]
     if groups[0] not in WORDS:
@@ -40,9 +40,9 @@ def worded(groups, heading):
 
 
 class Splitter:
-    """Takes lines one after another, and answers the reports that each has made whole.
+    """Takes one line after another, and returns the reports that each line completes.
 
-    What belongs to no report is kept in `strays`. Reports below a date line before `oldest` are passed over, and counted in `old`.
+    `strays` collects text outside of reports. Reports below a date line before `oldest` are skipped and counted in `old`.
     """
 
     def __init__(self, oldest=""):
@@ -54,7 +54,7 @@ class Splitter:
         self.old = 0
 
     def end(self):
-        """The report that is open, if one is."""
+        """Ends the open report and returns it, if there is one."""
         groups, self.groups = self.groups, []
         if groups and self.is_old:
             self.old += 1
@@ -67,7 +67,7 @@ class Splitter:
         if not plain or DATE_LINE.fullmatch(plain):
             done = self.end()
             if plain:
-                # a date line begins another entry of a cycle file, which has a word of its own or none
+                # A date line begins the next entry of a cycle file. Words above it don't apply to that entry.
                 self.heading = ()
                 self.is_old = plain < self.oldest
             return done
@@ -99,7 +99,7 @@ class Splitter:
 
 
 def reports_in(text, oldest=""):
-    """All reports of a text, and the splitter, which knows what of it belongs to none and how many are old."""
+    """All reports of a text, and the splitter, which has the strays and the number of old reports."""
     splitter = Splitter(oldest)
     found = [report for line in text.split("\n") for report in splitter.line(line)]
     return found + splitter.end(), splitter

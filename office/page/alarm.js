@@ -1,15 +1,16 @@
-// A new alert is heard, and seen in the title of the tab; a screen reader says it.
+// The alarm: a new alert sounds, shows in the title of the tab, and is read out by screen readers.
 import { at } from './dom.js';
 import { knownOf, picture } from './picture.js';
 import { finding } from './words.js';
 
 const TITLE = 'Dispatch desk';
 const TONES = [880, 660, 880, 660];
+// The versions of alerts that have sounded.
 let heard = new Set();
 let sounds = null;
 let isOn = localStorage.getItem('sound') !== 'off';
 
-// Two tones, twice. A browser lets a page sound only after a press, which signing in is.
+// Plays two tones twice. A browser plays sound only after the user has pressed something, and signing in counts.
 function ring() {
   if (!isOn) return;
   sounds ??= new AudioContext();
@@ -24,11 +25,7 @@ function ring() {
     voice.stop(begins + 0.21);
   });
 }
-
-export function showSound() {
-  at('sound').textContent = isOn ? 'Sound on' : 'Sound off';
-  at('sound').setAttribute('aria-pressed', String(isOn));
-}
+export const showSound = () => { at('sound').textContent = isOn ? 'Mute alarm' : 'Unmute alarm'; };
 
 export function turnSound() {
   isOn = !isOn;
@@ -36,12 +33,12 @@ export function turnSound() {
   showSound();
 }
 
-// Compares the alerts with those before: what is new is said, and rung for.
+// Sounds for each version of an alert that is neither acknowledged nor heard yet, if a rule fails in it.
 export function watch() {
   const loud = picture.releases.filter((row) => row.alert && !row.alert.seen);
   const bad = loud.filter((row) => row.alert.findings.length > 0);
   const flights = loud.map((row) => row.flight).slice(0, 3).join(' ');
-  document.title = loud.length ? `(${loud.length}) ${bad.length ? 'ALERT' : 'Alert to see'} ${flights} – ${TITLE}` : TITLE;
+  document.title = loud.length ? `(${loud.length}) ${bad.length ? 'ALERT' : 'Acknowledge'} ${flights} – ${TITLE}` : TITLE;
   const key = (row) => `${row.id} ${row.alert.version}`;
   const fresh = bad.filter((row) => !heard.has(key(row)));
   heard = new Set(loud.map(key));

@@ -1,27 +1,30 @@
-// The board: a row for each release, those with alerts first.
+// The board: a row for each release, alerts first.
 import { h, show, title } from './dom.js';
+import { kept } from './asking.js';
 import { session } from './desk.js';
 import { knownOf, picture } from './picture.js';
 import { clock, finding, near, phaseText } from './words.js';
 
-const HEADS = ['Flight', 'Tail', 'Route', 'Phase', 'Rev', 'Waits', 'Holder', 'Alert'];
+const HEADS = ['Flight', 'Aircraft', 'Route', 'Phase', 'Revision', 'Next step', 'Holder', 'Alert'];
 const ORDER = ['FLYING', 'STOPPED', 'READY', 'DRAFTED', 'COMPLETED', 'CANCELLED'];
-const BADGES = { open: 'Alert', seen: 'Alert, seen', over: 'Nothing fails now' };
+const BADGES = { open: 'Alert', seen: 'Acknowledged', over: 'No rule fails now' };
+const LEGEND = [
+  ['Route', 'the stations, and ETD → ETA of the leg in bold. All times are UTC'],
+  ['Revision', 'the revision in force, which dispatcher and captain have signed'],
+  ['Next step', 'what the pending revision or the alert needs. “Sign” means the dispatcher first, then the captain'],
+  ['Alert', 'the active release fails a rule. v2 is the second version of the alert'],
+  ['Acknowledged', 'the holder has seen this version of the alert'],
+  ['No rule fails now', 'the alert remains until a captain concurs, the release is cancelled, or the last leg arrives'],
+];
 const filter = { text: '', mine: false, ended: false };
-
-export function alertKind(alert) {
-  if (!alert) return 'none';
-  if (alert.findings.length === 0) return 'over';
-  return alert.seen ? 'seen' : 'open';
-}
-
+export const alertKind = (alert) => (!alert ? 'none' : alert.findings.length === 0 ? 'over' : alert.seen ? 'seen' : 'open');
 export const badge = (alert) => h('strong', { class: `badge ${alertKind(alert)}` }, BADGES[alertKind(alert)]);
 
-// Findings in words, with the names of the plan; with what one can do, where that is wanted.
+// Findings in words, with names and times of the plan; with advice if wanted.
 export function findingsList(codes, plan, withAdvice = false) {
   return h('ul', { class: 'findings' }, codes.map((code) => {
     const said = finding(code, plan);
-    return h('li', { title: code }, h('b', {}, said.leg), ` ${said.text}. `, h('cite', {}, said.section),
+    return h('li', { title: code }, h('b', {}, `${said.leg}:`), ` ${said.text}. `, h('cite', {}, said.section),
       withAdvice && h('span', { class: 'advice' }, said.advice));
   }));
 }
@@ -29,7 +32,7 @@ export function findingsList(codes, plan, withAdvice = false) {
 const rank = (row) => ['open', 'over', 'seen', 'none'].indexOf(alertKind(row.alert)) * 10 + ORDER.indexOf(row.phase.name);
 const planOf = (row) => (knownOf(row)?.active ?? knownOf(row)?.pending)?.plan;
 
-// The stations of the flight, the leg that is next or in flight in bold, with its times.
+// The stations of the flight. The leg that is next or in flight is bold, with its times.
 function route(row) {
   const plan = planOf(row);
   if (!plan) return '';
@@ -40,10 +43,14 @@ function route(row) {
   return [h('span', { class: 'route' }, named), h('span', { class: 'times' }, ` ${near(etd, picture.moment)} → ${clock(eta)}`)];
 }
 
-function waits(row) {
-  if (!row.pending) return row.alert && !row.alert.seen ? 'alert to be seen' : '';
+// What to do next. No view says whether the dispatcher has signed: only the tab in which he did knows.
+function nextStep(row) {
+  if (!row.pending) return row.alert && !row.alert.seen ? 'Acknowledge alert' : '';
   const known = knownOf(row);
-  return `rev ${row.pending}${known ? ` to be ${known.pending ? 'signed' : 'prepared'}` : ''}`;
+  if (!known) return `Rev ${row.pending}`;
+  const { pending } = known;
+  const isSigned = pending && kept('signed', row.id)?.digest === pending.digest;
+  return isSigned ? `Captain: concur, rev ${row.pending}` : `${pending ? 'Sign' : 'Prepare'} rev ${row.pending}`;
 }
 
 function rowOf(row) {
@@ -51,17 +58,17 @@ function rowOf(row) {
   const cell = (name, ...content) => h('td', { 'data-name': name, class: name.toLowerCase() }, ...content);
   return h('tr', { class: `${alertKind(row.alert)} ${phase}`, onclick: () => { location.hash = `#/release/${row.id}`; } },
     h('th', { scope: 'row' }, h('a', { href: `#/release/${row.id}`, id: `row-${row.id}`, class: 'row' }, row.flight), h('small', {}, ` ${row.id}`)),
-    cell('Tail', row.tail),
+    cell('Aircraft', row.tail),
     cell('Route', route(row)),
     cell('Phase', h('span', { class: `phase ${phase}` }, phaseText(row.phase, picture.moment))),
-    cell('Rev', row.rev ? String(row.rev) : '–'),
-    cell('Waits', waits(row)),
+    cell('Revision', row.rev ? String(row.rev) : '–'),
+    cell('Step', nextStep(row)),
     cell('Holder', row.holder),
     cell('Alert', row.alert && h('div', { class: 'said' }, h('span', {}, badge(row.alert), h('small', {}, ` v${row.alert.version}`)),
       findingsList(row.alert.findings, planOf(row)))));
 }
 
-// The wall shows all that hasn't ended, whatever is sought on the board.
+// The wall shows every release that hasn't ended, whatever the filter of the board.
 function isShown(row, me, isWall) {
   if (isWall) return !row.phase.ended;
   if (row.phase.ended && !filter.ended) return false;
@@ -74,10 +81,10 @@ function isShown(row, me, isWall) {
 
 function summary() {
   const count = (test) => picture.releases.filter(test).length;
-  const alerts = ['open', 'seen'].map((kind) => [kind, count((row) => alertKind(row.alert) === kind), `alert ${kind}`]);
-  const phases = ['flying', 'stopped', 'ready', 'drafted'].map((name) => ['', count((row) => row.phase.name === name.toUpperCase()), name]);
-  return h('ul', { class: 'summary', 'aria-label': 'Numbers of releases' },
-    [...alerts, ...phases].map(([kind, number, name]) => h('li', { class: number ? kind : 'zero' }, h('b', {}, String(number)), ` ${name}`)));
+  const alerts = Object.entries(BADGES).map(([kind, name]) => [kind, count((row) => alertKind(row.alert) === kind), name]);
+  const phases = ['Flying', 'Stopped', 'Ready', 'Draft'].map((name) => ['', count((row) => row.phase.name.startsWith(name.toUpperCase())), name]);
+  return h('ul', { class: 'summary', 'aria-label': 'Number of releases' },
+    [...alerts, ...phases].map(([kind, number, name]) => h('li', { class: number ? kind : 'zero' }, `${name} `, h('b', {}, String(number)))));
 }
 
 export function boardPage(place, isWall) {
@@ -86,19 +93,20 @@ export function boardPage(place, isWall) {
   const numbers = h('div');
   const fill = () => {
     const rows = picture.releases.filter((row) => isShown(row, me, isWall)).sort((one, other) => rank(one) - rank(other) || one.id - other.id);
-    const empty = picture.at ? 'No release to show.' : 'Looking at the desk …';
+    const empty = picture.at ? 'No releases to show.' : 'Loading …';
     show(numbers, summary());
     show(body, rows.length ? rows.map(rowOf) : h('tr', { class: 'empty' }, h('td', { colspan: HEADS.length }, empty)));
   };
   const change = (name, value) => { filter[name] = value; fill(); };
   const box = (name, text) => h('label', { class: 'box' },
     h('input', { type: 'checkbox', checked: filter[name], onchange: (event) => change(name, event.target.checked) }), ` ${text}`);
-  const find = h('input', { id: 'find', type: 'search', value: filter.text, size: 24, placeholder: 'flight, tail, station, name',
+  const find = h('input', { id: 'find', type: 'search', value: filter.text, size: 30, placeholder: 'flight, aircraft, station, name',
     oninput: (event) => change('text', event.target.value) });
   show(place,
-    title('Board', numbers, !isWall && h('div', { class: 'filter' }, h('label', { for: 'find' }, 'Find'), find, box('mine', 'Mine'), box('ended', 'Ended too'))),
+    title('Board', numbers, !isWall && h('div', { class: 'filter' }, h('label', { for: 'find' }, 'Find'), find, box('mine', 'My flights only'), box('ended', 'Show ended'))),
     h('div', { class: 'scroll' }, h('table', { class: 'board' },
-      h('thead', {}, h('tr', {}, HEADS.map((name) => h('th', { scope: 'col' }, name)))), body)));
+      h('thead', {}, h('tr', {}, HEADS.map((name) => h('th', { scope: 'col' }, name)))), body)),
+    !isWall && h('details', { class: 'hint' }, h('summary', {}, 'Legend'), LEGEND.map(([name, text]) => h('p', {}, h('b', {}, name), `: ${text}.`))));
   fill();
   return (isNew) => isNew && fill();
 }

@@ -1,12 +1,10 @@
-// The desk over HTTP: who asks, views, and asks under numbers that rise by themselves.
+// The desk over HTTP: the session, views, and calls under numbers that rise by themselves.
 
 const HUNDREDTHS_FROM = Date.UTC(2000, 0, 1);
 const WAITS = [1000, 2000, 4000, 8000];
 const TIMEOUT = 20000;
-
-// No answer of the desk came.
+// The desk didn't answer.
 export class Unreached extends Error {}
-
 // The desk's refusal of a view.
 export class Refused extends Error {
   constructor(reply) {
@@ -15,7 +13,7 @@ export class Refused extends Error {
   }
 }
 
-// The name, the key and the role are kept for this tab alone.
+// The name, key and role, stored in this tab only.
 export const session = {
   get: () => JSON.parse(sessionStorage.getItem('person') ?? 'null'),
   set: (person) => sessionStorage.setItem('person', JSON.stringify(person)),
@@ -46,7 +44,7 @@ export async function view(path) {
   return reply.seen;
 }
 
-// A number above each that this person has used here: hundredths of a second since 2000, so that other windows rise with it.
+// A number above every one that this person has used in this browser: hundredths of a second since 2000, so other windows rise too.
 function nextNumber(name, above = 0) {
   const used = Number(localStorage.getItem(`number.${name}`) ?? 0);
   const next = Math.max(used + 1, above + 1, Math.floor((Date.now() - HUNDREDTHS_FROM) / 10));
@@ -54,8 +52,8 @@ function nextNumber(name, above = 0) {
   return next;
 }
 
-// Asks under one number until an answer comes, so that nothing is done twice. A number that was another command's, or that
-// was swept away, has done nothing: then the next one is taken. It ends where the person signs out.
+// Sends a call under one number until an answer comes, so that nothing is done twice. If the desk refuses the number as
+// used (4) or swept (27), the call takes the next number. Signing out ends the retries.
 async function settled(person, first, ask, onWait) {
   let number = first;
   for (let tries = 0; session.get()?.key === person.key; tries += 1) {
@@ -77,8 +75,7 @@ async function settled(person, first, ask, onWait) {
 }
 
 let last = Promise.resolve();
-
-// The reply to an ask: `done`, `refused` or `bad`. One ask goes after another.
+// The reply to a call: `done`, `refused` or `bad`. Calls go one after another.
 export function call(ask, onWait) {
   const person = session.get();
   const mine = last.then(() => settled(person, nextNumber(person.name), ask, onWait));
@@ -86,7 +83,7 @@ export function call(ask, onWait) {
   return mine;
 }
 
-// An ask of this tab that had no answer when the page was left is asked again under its number.
+// Repeats, under its number, the call of this tab that had no answer when the page was left.
 export async function resumed(onWait) {
   const open = JSON.parse(sessionStorage.getItem('open') ?? 'null');
   if (!open) return null;
@@ -95,7 +92,7 @@ export async function resumed(onWait) {
   return { ask: open.ask, reply: await mine };
 }
 
-// Asks that the desk refuses in any case, each of one role: no release, deferral or report is like these.
+// Calls that the desk always refuses, one for each role: no release, deferral or report is like these.
 const ASKS_OF_ROLES = {
   D: { do: 'acknowledge', release: 0, version: 0 },
   C: { do: 'concur', digest: '0'.repeat(64), release: 0, revision: 0 },
@@ -104,7 +101,7 @@ const ASKS_OF_ROLES = {
   S: { do: 'purge', release: 0 },
 };
 
-// Signs in: the role is the one whose ask isn't refused for the role. Answers the refusal where the desk knows no such person.
+// Signs in. The role is the one whose call the desk doesn't refuse for the role (3). Answers the refusal of a wrong name or key.
 export async function signIn(name, key) {
   for (const [role, ask] of Object.entries(ASKS_OF_ROLES)) {
     const reply = await post({ name, key }, nextNumber(name), ask);

@@ -1,4 +1,4 @@
-// Elements, made of a name, properties and children; and how a part of the page is shown anew without losing the focus.
+// Makes elements, notices and questions, and redraws a part of the page without losing the focus.
 
 export function h(name, props = {}, ...children) {
   const made = document.createElement(name);
@@ -17,7 +17,7 @@ export const title = (text, ...more) => h('div', { class: 'bar' }, h('h1', {}, t
 export const button = (text, onclick, props = {}) => h('button', { type: 'button', onclick, ...props }, text);
 export const plainButton = (text, onclick, label) => button(text, onclick, { class: 'plain', 'aria-label': label });
 
-// Shows these children in place of those that are there; what had the focus gets it again by its id.
+// Replaces the children of a place. The element that had the focus gets it back by its id.
 export function show(place, ...children) {
   const id = place.contains(document.activeElement) && document.activeElement.id;
   place.replaceChildren(...children.flat(Infinity).filter(Boolean));
@@ -25,8 +25,7 @@ export function show(place, ...children) {
 }
 
 let fading;
-
-// Says something below the head of the page for a while, and to a screen reader.
+// Shows a notice below the head of the page: good ones for 6 seconds, bad ones for 30. Screen readers read it out.
 export function notice(text, kind = 'good') {
   const place = at('notice');
   place.textContent = text;
@@ -36,11 +35,12 @@ export function notice(text, kind = 'good') {
   fading = setTimeout(() => { place.hidden = true; }, kind === 'good' ? 6000 : 30000);
 }
 
-// Asks before something is done; the answer is whether to do it. The focus is on the button that does nothing.
-export function confirmed(question, yes, ...body) {
+// Asks before an action, and answers whether to do it. The focus is on the button `no`.
+export function confirmed(question, { yes, no = 'Go back' }, ...body) {
   const dialog = at('confirm');
   at('confirm-title').textContent = question;
   at('confirm-yes').textContent = yes;
+  at('confirm-no').textContent = no;
   show(at('confirm-body'), ...body);
   at('confirm-no').onclick = () => dialog.close('no');
   at('confirm-yes').onclick = () => dialog.close('yes');

@@ -1,6 +1,7 @@
-// The page: who is signed in, which part of it is shown, and the looks at the desk every few seconds.
+// The page: signing in, which part is shown, and the view of the board every three seconds.
 import { at, h, hint, notice, show } from './dom.js';
 import { Refused, resumed, session, signIn, Unreached } from './desk.js';
+import { DONE } from './actions.js';
 import { onWait } from './asking.js';
 import { boardPage } from './board.js';
 import { quiet, showSound, turnSound, watch } from './alarm.js';
@@ -10,16 +11,14 @@ import { releasePage } from './release.js';
 import { equipmentPage, recordsPage, weatherPage } from './other_pages.js';
 import { clock, refusal } from './words.js';
 
-const EVERY = 3000;
-const AGAIN = 1000;
-const OLD = 15;
-// A desk that is started again is away for a moment; only what lasts longer is told.
-const SHORT = 4000;
+// Milliseconds from one view of the board to the next, to a retry, and to the banner: a restarting desk is away for a moment.
+const [EVERY, AGAIN, SHORT] = [3000, 1000, 4000];
+const OLD_SECONDS = 15;
 const ROLES = { D: 'dispatcher', C: 'captain', F: 'feed', M: 'maintenance', S: 'records' };
 const PAGES = [['board', 'Board', 'DCFMS'], ['new', 'New release', 'D'], ['weather', 'Weather', 'DCFMS'], ['equipment', 'Equipment', 'DCFMS'],
   ['records', 'Records', 'S'], ['wall', 'Wall', 'DCFMS']];
 
-// Shows the page anew after a look at the desk, in which something was new or nothing.
+// Redraws the page after each view of the board, given whether anything in it is new.
 let fill = (_) => {};
 let round = 0;
 
@@ -32,7 +31,7 @@ function pageOf(place) {
   return others[name] ? others[name](place, argument) : boardPage(place, name === 'wall');
 }
 
-// Each page has a place of its own, so that what an earlier one is still waiting for isn't shown in it.
+// Each page gets an element of its own, so that a late answer to an earlier page isn't drawn into it.
 function route() {
   const place = h('div');
   show(at('main'), place);
@@ -40,15 +39,15 @@ function route() {
   else signInPage(place);
 }
 
-// How old the picture is, and whether the desk can be reached.
+// Shows how old the page's data is, and whether the desk can be reached.
 function showAge() {
   const isAway = picture.trouble && Date.now() - picture.trouble > SHORT;
   at('moment').textContent = picture.moment ? `${clock(picture.moment)} ${picture.moment.slice(0, 10)}` : '';
-  at('age').textContent = picture.at ? `picture ${age()} s old` : 'no picture yet';
-  at('picture').className = age() > OLD || isAway ? 'old' : '';
+  at('age').textContent = picture.at ? `updated ${age()} s ago` : 'loading';
+  at('picture').className = age() > OLD_SECONDS || isAway ? 'old' : '';
   at('trouble').hidden = !isAway;
   const since = isAway && `${new Date(picture.trouble).toISOString().slice(11, 19)}Z`;
-  const text = isAway ? `The desk can’t be reached since ${since}. What is shown is from ${clock(picture.moment) || 'before'}; it is tried again every second.` : '';
+  const text = isAway ? `No connection to the desk since ${since}. This page ${picture.moment ? `shows ${clock(picture.moment)}` : 'is empty'} and retries every second.` : '';
   if (at('trouble').textContent !== text) at('trouble').textContent = text;
 }
 
@@ -79,7 +78,7 @@ function start() {
   round += 1;
   rounds(round);
   route();
-  resumed(onWait).then((it) => it && notice(it.reply.done ? `Done: ${it.ask.do}.` : refusal(it.reply), it.reply.done ? 'good' : 'bad'));
+  resumed(onWait).then((it) => it && notice(it.reply.done ? `After the reload: ${DONE[it.ask.do]}` : refusal(it.reply), it.reply.done ? 'good' : 'bad'));
 }
 
 function leave(why = '') {
@@ -106,7 +105,7 @@ function signInPage(place, why = '') {
       else start();
     } catch (fault) {
       if (!(fault instanceof Unreached)) throw fault;
-      said.textContent = 'The desk can’t be reached.';
+      said.textContent = 'No connection to the desk. Try again in a moment.';
     }
     yes.disabled = false;
   };
@@ -114,12 +113,12 @@ function signInPage(place, why = '') {
   show(place, h('form', { class: 'sign-in', onsubmit: enter }, h('h1', {}, 'Dispatch desk'),
     field('name', 'Name', { maxlength: 16, autocomplete: 'username', autocapitalize: 'none', spellcheck: 'false' }),
     field('key', 'Key', { type: 'password', maxlength: 64, autocomplete: 'current-password' }), said, yes,
-    hint('Name and key are kept for this tab alone. This page itself is not proved. Each signature names the digest that the desk made of the text, '
-      + 'and the desk judges by its proved rules, whatever a page shows.')));
+    hint('Your name and key stay in this tab only. The desk’s rules are verified, but this page isn’t. '
+      + 'A signature counts only for the text whose digest it names, whatever this page shows.')));
   at('name').focus();
 }
 
-// Keys where nothing is typed: j and k go along the board, b shows it, n a new release, / finds.
+// Keys outside text fields: j and k move along the board, b shows it, n opens a new release, / moves to Find.
 function key(event) {
   const isBusy = event.ctrlKey || event.altKey || event.metaKey || at('confirm').open || event.target.matches('input, textarea');
   if (isBusy || !session.get()) return;
@@ -135,7 +134,7 @@ function key(event) {
 
 addEventListener('hashchange', () => { route(); at('main').focus({ preventScroll: true }); scrollTo(0, 0); });
 addEventListener('keydown', key);
-addEventListener('unhandledrejection', (event) => event.reason instanceof Unreached && event.preventDefault()); // the banner tells
+addEventListener('unhandledrejection', (event) => event.reason instanceof Unreached && event.preventDefault()); // the banner shows it
 setInterval(() => session.get() && showAge(), 1000);
 at('sound').addEventListener('click', turnSound);
 at('leave').addEventListener('click', () => leave());

@@ -1,4 +1,4 @@
-// The pages of the weather feed, of maintenance, and of whoever keeps the records.
+// The pages Weather, Equipment and Records.
 import { confirmed, h, hint, plainButton, show, title } from './dom.js';
 import { session } from './desk.js';
 import { asked, seen } from './asking.js';
@@ -12,7 +12,7 @@ const CODE = { class: 'capitals', autocomplete: 'off', spellcheck: 'false' };
 const UTC = { size: 18, placeholder: '2026-11-12T14:50Z', pattern: MOMENT.source.slice(1, -1) };
 const field = (id, label, props = {}, name = 'input') => h('p', { class: `field ${name}` }, h('label', { for: id }, label), h(name, { id, required: true, ...props }));
 
-// A form whose fields are handed to `done` by their ids.
+// A form. `done` gets the values of its fields by their ids.
 function form(heading, yes, fields, done) {
   const submit = (event) => {
     event.preventDefault();
@@ -29,15 +29,15 @@ export function weatherPage(place, station) {
     const { text, why } = await seen(`/weather/${encodeURIComponent(station)}`);
     const found = why ? [] : texts.weather(text);
     const one = (it) => h('p', {}, h('b', {}, it.kind), ` ${reading(it, picture.moment)}`, h('small', {}, ` (report ${it.id})`));
-    show(said, h('h2', {}, station), why && h('p', {}, why), found.map(one), !why && !found.length && hint('No report of this station.'));
+    show(said, h('h2', {}, station), why && h('p', {}, why), found.map(one), !why && !found.length && hint('No reports for this station.'));
   };
   const admit = async ({ report }, made) => {
-    if (await asked({ do: 'admit', text: report }, (done) => `Admitted as report ${done.report}.`)) made.reset();
+    if (await asked({ do: 'admit', text: report }, (done) => `Accepted as report ${done.report}.`)) made.reset();
     await fill();
   };
-  show(place, title('Weather'), form('Latest reports of a station', 'Show', [field('station', 'Station', { ...CODE, size: 6, value: station, pattern: '[A-Za-z][A-Za-z0-9]{3}' })],
+  show(place, title('Weather'), form('Latest reports of a station', 'Show weather', [field('station', 'Station', { ...CODE, size: 6, value: station, pattern: '[A-Za-z][A-Za-z0-9]{3}' })],
     (values) => { location.hash = `#/weather/${values.station.toUpperCase()}`; }), said,
-  'FD'.includes(role) && form('Hand in a report', 'Admit', [field('report', 'METAR, SPECI or TAF, as it came', { rows: 4, maxlength: 4000, spellcheck: 'false' }, 'textarea')], admit));
+  'FD'.includes(role) && form('Hand in a report', 'Hand in report', [field('report', 'METAR, SPECI or TAF, exactly as received', { rows: 4, maxlength: 4000, spellcheck: 'false' }, 'textarea')], admit));
   fill();
   return (isNew) => isNew && fill();
 }
@@ -48,33 +48,34 @@ export function equipmentPage(place, tail) {
   const fill = async () => {
     if (!tail) return;
     const { text, why } = await seen(`/deferred/${encodeURIComponent(tail)}`);
-    show(said, h('h2', {}, tail), why ? h('p', {}, why) : deferredList(texts.deferred(text), (it) => mends && plainButton('Clear', () => clear(it), `Clear deferral ${it.id}`)));
+    show(said, h('h2', {}, tail), why ? h('p', {}, why) : deferredList(texts.deferred(text), (it) => mends && plainButton(`Clear deferral ${it.id}`, () => clear(it))));
   };
   const clear = async (it) => {
-    if (!await confirmed(`Clear deferral ${it.id}`, 'It is mended', h('p', {}, `${tail}, item ${it.item}.`))) return;
-    await asked({ do: 'clear', deferral: it.id }, () => `Deferral ${it.id} is cleared.`);
+    if (!await confirmed(`Clear deferral ${it.id}`, { yes: `Clear deferral ${it.id}`, no: 'Keep it' }, h('p', {}, `${tail}, item ${it.item}. Clear it only when the item is repaired.`))) return;
+    await asked({ do: 'clear', deferral: it.id }, () => `Deferral ${it.id} cleared.`);
     await fill();
   };
   const defer = async ({ item, found }, made) => {
     const ask = { do: 'defer', found: found || `${new Date().toISOString().slice(0, 16)}Z`, item: item.toUpperCase(), tail };
-    if (await asked(ask, (done) => `Deferral ${done.deferral} is entered.`)) made.reset();
+    if (await asked(ask, (done) => `Entered as deferral ${done.deferral}.`)) made.reset();
     await look();
     await fill();
   };
-  show(place, title('Deferred equipment'), form('Open items of an aircraft', 'Show', [field('tail', 'Aircraft', { ...CODE, size: 9, value: tail, pattern: '[A-Za-z0-9\\-]{1,8}' })],
+  show(place, title('Deferred equipment'), form('Open deferrals of an aircraft', 'Show deferrals', [field('tail', 'Aircraft', { ...CODE, size: 9, value: tail, pattern: '[A-Za-z0-9\\-]{1,8}' })],
     (values) => { location.hash = `#/equipment/${values.tail.toUpperCase()}`; }), said,
-  mends && tail && form(`Defer an item of ${tail}`, 'Defer', [field('item', 'Item', { ...CODE, size: 16, maxlength: 16 }),
-    field('found', 'Found, UTC (now where empty)', { ...UTC, required: null })], defer));
+  mends && tail && form(`Defer an item of ${tail}`, 'Defer item', [field('item', 'Item', { ...CODE, size: 16, maxlength: 16 }),
+    field('found', 'Found, UTC (empty: now)', { ...UTC, required: null })], defer));
   fill();
   return (isNew) => isNew && fill();
 }
 
 export function recordsPage(place) {
   const sweep = async ({ before }) => {
-    if (!await confirmed('Sweep', 'Sweep', h('p', {}, `What is older than ${before} goes: reports, but for the latest of each station and those that are attached; and kept replies.`))) return;
-    await asked({ do: 'sweep', before }, (done) => `${done.reports} reports and ${done.kept} kept replies are swept away.`);
+    const what = `The desk removes reports and stored replies from before ${before}. It keeps the latest reports of each station, and those attached to a release.`;
+    if (!await confirmed('Sweep old reports and replies', { yes: 'Sweep', no: 'Keep them' }, h('p', {}, what))) return;
+    await asked({ do: 'sweep', before }, (done) => `Swept ${done.reports} reports and ${done.kept} stored replies.`);
   };
-  show(place, title('Records'), form('Sweep old reports and replies away', 'Sweep', [field('before', 'Before, UTC (three days ago or more)', UTC)], sweep),
-    hint('To purge a release that has ended, open it on the board (“Ended too”).'));
+  show(place, title('Records'), form('Sweep old reports and replies', 'Sweep', [field('before', 'Older than, UTC (at least three days ago)', UTC)], sweep),
+    hint('To purge an ended release, open it from the board: tick “Show ended”.'));
   return () => {};
 }

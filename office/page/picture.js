@@ -1,19 +1,15 @@
-// The picture of the desk that the page has: the board, the alerts, and the releases that have been looked at; and how old it is.
+// The page's copy of the board, the alerts and the releases it has viewed, and its age.
 import { Refused, Unreached, view } from './desk.js';
 import * as texts from './texts.js';
 
 const OLD_RELEASE = 30000;
 const AT_ONCE = 8;
-
 export const picture = { moment: '', releases: [], alerts: [], at: 0, trouble: null };
 const seen = { board: '', alerts: '' };
 const known = new Map();
-
 export const age = () => (picture.at ? Math.round((Date.now() - picture.at) / 1000) : 0);
-
 const stateOf = (row) => [row.rev, row.pending, ...Object.values(row.phase)].join();
-
-// Looks at the board, and at the alerts where the board says that they have changed. Answers whether something is new.
+// Gets the board, and the alerts if the board shows that they changed. Answers whether anything is new.
 export async function look() {
   try {
     const text = await view('/board');
@@ -43,8 +39,8 @@ export async function releaseOf(id) {
   return { ...release, text };
 }
 
-// Looks at some of the releases on the board whose state has changed since, so that rows can name stations and times.
-// Answers whether something is new.
+// Gets some of the releases that changed on the board, so that rows can name stations and times.
+// Answers whether anything is new.
 export async function lookCloser() {
   const stale = picture.releases.filter((row) => {
     const one = known.get(row.id);

@@ -1,4 +1,4 @@
-// The form of a plan, for a draft and for an amendment. It is checked as it is typed, and by the desk when it is filed.
+// The form of a plan, for a draft and for an amendment. The page checks it while it is typed, and the desk when it is filed.
 import { at, confirmed, h, hint, notice, plainButton, show, title } from './dom.js';
 import { ask, drop, keep, kept } from './asking.js';
 import { emptyLeg, emptyPlan, faults, FUELS, moment, pasted } from './plans.js';
@@ -8,7 +8,7 @@ const LABELS = { burn: 'Burn', extra: 'Extra', minimum: 'Minimum', onboard: 'On 
 const NUMBER = { isNumber: true, width: 6 };
 const AMOUNT = { isNumber: true, width: 8 };
 
-// What must stay in an amendment, by the phase of the release.
+// Which fields an amendment may not change, by the phase of the release.
 function fixedBy({ name, leg }) {
   const flown = name === 'FLYING' || name === 'STOPPED' ? leg - 1 : 0;
   const flying = name === 'FLYING' ? leg - 1 : -1;
@@ -29,7 +29,7 @@ class Form {
     this.draw();
   }
 
-  // A field of the plan: `owner[name]` is what is typed. Its id is its place in the plan.
+  // A field of the plan. What is typed goes into `owner[name]`, and `place` is its path in the plan.
   field(place, label, owner, name, { isNumber = false, from = null, width = 6, tip = null } = {}) {
     const id = `plan.${place}`;
     const typed = (event) => {
@@ -48,7 +48,7 @@ class Form {
       h('span', { class: 'fault', id: `${id}.fault` }));
   }
 
-  // Shows the fault of each field that was touched, and answers the place of the first fault.
+  // Shows the fault of each field that was left, and answers the place of the first fault.
   check() {
     const found = faults(this.plan);
     for (const said of this.place.querySelectorAll('.fault')) {
@@ -58,7 +58,7 @@ class Form {
     }
     this.plan.legs.forEach((leg, number) => {
       const sum = [leg.burn, leg.extra, Math.max(0, ...leg.alternates.map((it) => Number(it.fuel) || 0))].reduce((all, it) => all + (Number(it) || 0), 0);
-      this.place.querySelector(`#sum-${number}`).textContent = sum ? `Burn, extra and alternate: ${amount(sum)} lb, without the reserve` : '';
+      this.place.querySelector(`#sum-${number}`).textContent = sum ? `Burn + extra + alternate = ${amount(sum)} lb, reserve not included` : '';
     });
     keep('plan', this.id, this.plan);
     return [...found.keys()].find((place) => !this.isFixed(place));
@@ -71,7 +71,7 @@ class Form {
     return !first;
   }
 
-  // Does something to the plan and shows the form anew, with the focus on a field.
+  // Changes the plan and redraws the form, with the focus on a field.
   change(what, focus = '') {
     what();
     this.draw();
@@ -86,24 +86,24 @@ class Form {
     const add = (text, what, focus, label) => plainButton(text, () => this.change(what, focus), `${label} leg ${number + 1}`);
     const row = (lead, ...fields) => h('div', { class: 'fields' }, h('span', { class: 'lead' }, lead), fields);
     return h('fieldset', {}, h('legend', {}, `Leg ${number + 1}`, isFlown && h('small', {}, ' flown')),
-      row('Flight', this.field(`${here}.from`, 'From', leg, 'from'), this.field(`${here}.to`, 'To', leg, 'to'),
+      row('Route and times', this.field(`${here}.from`, 'From', leg, 'from'), this.field(`${here}.to`, 'To', leg, 'to'),
         this.field(`${here}.etd`, 'ETD, UTC', leg, 'etd', { from: () => legs[number - 1]?.eta ?? '', width: 18, tip: 'Type 1530 for the next 15:30Z.' }),
         this.field(`${here}.eta`, 'ETA, UTC', leg, 'eta', { from: () => leg.etd, width: 18, tip: 'Type 1630 for the next 16:30Z after the ETD.' }),
-        this.field(`${here}.minutes`, 'Minutes', leg, 'minutes', { ...NUMBER, tip: 'Planned time in the air.' })),
+        this.field(`${here}.minutes`, 'Air time, min', leg, 'minutes', NUMBER)),
       row('Fuel, lb', FUELS.map((fuel) => this.field(`${here}.${fuel}`, LABELS[fuel], leg, fuel, AMOUNT)), h('span', { class: 'hint', id: `sum-${number}` })),
       leg.alternates.map((it, place) => row(`Alternate ${place + 1}`, this.field(`${here}.alternates.${place}.station`, 'Station', it, 'station'),
-        this.field(`${here}.alternates.${place}.minutes`, 'Minutes', it, 'minutes', NUMBER),
-        this.field(`${here}.alternates.${place}.fuel`, 'Fuel, lb', it, 'fuel', AMOUNT),
-        !isFlown && add('Remove', () => leg.alternates.splice(place, 1), '', `Remove alternate ${place + 1} of`))),
+        this.field(`${here}.alternates.${place}.minutes`, 'Time to it, min', it, 'minutes', NUMBER),
+        this.field(`${here}.alternates.${place}.fuel`, 'Fuel to it, lb', it, 'fuel', AMOUNT),
+        !isFlown && add(`Remove alternate ${place + 1}`, () => leg.alternates.splice(place, 1), '', `Remove alternate ${place + 1} of`))),
       leg.takeoff_alternate && row('Takeoff alternate', this.field(`${here}.takeoff.station`, 'Station', leg.takeoff_alternate, 'station'),
-        this.field(`${here}.takeoff.minutes`, 'Minutes', leg.takeoff_alternate, 'minutes', NUMBER),
-        canTakeoff && add('Remove', () => { leg.takeoff_alternate = null; }, '', 'Remove the takeoff alternate of')),
+        this.field(`${here}.takeoff.minutes`, 'Time to it, min', leg.takeoff_alternate, 'minutes', NUMBER),
+        canTakeoff && add('Remove takeoff alternate', () => { leg.takeoff_alternate = null; }, '', 'Remove the takeoff alternate of')),
       !isFlown && h('p', { class: 'buttons' },
         leg.alternates.length < 3 && add('Add alternate', () => leg.alternates.push({ fuel: '', minutes: '', station: '' }),
           `${here}.alternates.${leg.alternates.length}.station`, 'Add an alternate to'),
         !leg.takeoff_alternate && canTakeoff && add('Add takeoff alternate', () => { leg.takeoff_alternate = { minutes: '', station: '' }; },
           `${here}.takeoff.station`, 'Add a takeoff alternate to'),
-        legs.length > 1 && add('Remove leg', () => legs.splice(number, 1), '', 'Remove')));
+        legs.length > 1 && add(`Remove leg ${number + 1}`, () => legs.splice(number, 1), '', 'Remove')));
   }
 
   draw() {
@@ -118,23 +118,23 @@ class Form {
     this.check();
   }
 
-  // The plan as JSON, to copy, and a text to take a plan from.
+  // The plan as JSON, to copy or to replace by a pasted one.
   json() {
     const text = h('textarea', { id: 'plan-json', rows: 8, spellcheck: 'false', 'aria-label': 'The plan as JSON' });
     const write = () => { text.value = JSON.stringify(this.plan, null, 2); };
-    const copy = () => { write(); text.select(); navigator.clipboard?.writeText(text.value).then(() => notice('Copied.'), () => {}); };
+    const copy = () => { write(); text.select(); navigator.clipboard?.writeText(text.value).then(() => notice('Plan copied.'), () => {}); };
     const take = () => {
       const { plan, fault } = pasted(text.value);
       if (fault) return notice(fault, 'bad');
       this.change(() => Object.assign(this.plan, plan));
-      return notice(this.isSound() ? 'The plan was taken into the form.' : 'The plan was taken into the form; see its faults.');
+      return notice(this.isSound() ? 'Plan loaded into the form.' : 'Plan loaded into the form. Correct the marked fields.');
     };
-    return h('details', { class: 'json', ontoggle: write }, h('summary', {}, 'As JSON'), text,
-      h('p', { class: 'buttons' }, plainButton('Copy', copy), plainButton('Take into the form', take)));
+    return h('details', { class: 'json', ontoggle: write }, h('summary', {}, 'Plan as JSON'), text,
+      h('p', { class: 'buttons' }, plainButton('Copy plan', copy), plainButton('Load into form', take)));
   }
 }
 
-// Shows the form: of an amendment with the release's row on the board and the plan to begin with, else of a new release.
+// Shows the form: of an amendment, given the release's row on the board and the plan to start from; otherwise of a new release.
 export function planPage(place, row = null, given = null) {
   const id = row?.id ?? 'new';
   const plan = kept('plan', id) ?? structuredClone(given) ?? emptyPlan();
@@ -145,21 +145,22 @@ export function planPage(place, row = null, given = null) {
     said.textContent = '';
     if (!form.isSound()) return;
     const legs = plan.legs.map((leg) => `${leg.from}–${leg.to} ${leg.etd}`).join(', ');
-    if (!await confirmed(row ? `Amend release ${id}` : 'File a draft', row ? 'Amend' : 'File', h('p', {}, `${plan.flight}, ${plan.tail}, captain ${plan.captain}: ${legs}.`),
-      row && h('p', {}, 'The new revision waits for signatures. Until they are there the flight stands under the one before.'))) return;
+    const yes = row ? 'File amendment' : 'File draft';
+    if (!await confirmed(row ? `Amend release ${id}` : 'File draft', { yes }, h('p', {}, `${plan.flight}, ${plan.tail}, captain ${plan.captain}: ${legs}.`),
+      row && h('p', {}, `The new revision must be prepared and signed by both.${row.rev ? ` Until then revision ${row.rev} stays in force.` : ''}`))) return;
     const reply = await ask(row ? { do: 'amend', plan, release: id } : { do: 'draft', plan });
     said.textContent = reply.done ? '' : refusal(reply);
     if (!reply.done) return;
     const { release, revision } = reply.done;
-    drop('plan', id);
+    for (const name of ['plan', 'refused']) drop(name, id);
     keep('filed', release, { revision, plan });
     notice(`Filed as revision ${revision} of release ${release}. Next: prepare it.`);
     location.hash = `#/release/${release}`;
   };
   const anew = () => { drop('plan', id); planPage(place, row, given); };
   show(place, title(row ? `Amend release ${id}, ${row.flight}` : 'New release'),
-    row?.phase.name === 'FLYING' && hint(`Leg ${row.phase.leg} is in flight: its minutes, burn, extra, minimum and fuel on board speak of the rest of it, from now on.`),
+    row?.phase.name === 'FLYING' && hint(`Leg ${row.phase.leg} is in flight. Give its air time, burn, extra, minimum and fuel on board for the rest of the leg, from now on.`),
     h('form', { class: 'page', onsubmit: file, novalidate: true }, form.place, said,
-      h('p', { class: 'buttons' }, h('button', { class: 'first', id: 'file' }, row ? 'File the amendment' : 'File the draft'), plainButton('Begin anew', anew)), form.json()));
+      h('p', { class: 'buttons' }, h('button', { class: 'first', id: 'file' }, row ? 'File amendment' : 'File draft'), plainButton('Reset form', anew)), form.json()));
   return () => {};
 }

@@ -1,4 +1,4 @@
-// A release: its texts, what is attached to them, its alert, and what its people can do.
+// The page of a release: its alert, actions, texts, weather and deferrals.
 import { h, hint, notice, show, title } from './dom.js';
 import { kept, seen } from './asking.js';
 import { Refused, Unreached } from './desk.js';
@@ -10,7 +10,7 @@ import { emptyPlan } from './plans.js';
 import * as texts from './texts.js';
 import { amount, clock, hoursText, near, phaseText, reading, refusal } from './words.js';
 
-// How the digest of a text, made here, compares with the one that the desk names.
+// Compares the digest of a text, computed here, with the one that the desk names.
 async function check({ text, digest }) {
   const bytes = await crypto.subtle?.digest('SHA-256', new TextEncoder().encode(text));
   if (!bytes) return 'none';
@@ -18,10 +18,10 @@ async function check({ text, digest }) {
   return made === digest ? 'same' : 'other';
 }
 
-// What the desk has read of the stations of a plan, and the open deferrals of its aircraft.
-async function around(plan) {
+// The weather of the stations of a plan, and the open deferrals of its aircraft.
+async function around(plan, phase) {
   const stations = [];
-  for (const station of texts.stationsOf(plan)) {
+  for (const station of texts.stationsOf(plan, phase)) {
     const { text, why } = await seen(`/weather/${station}`);
     stations.push({ station, why, said: why ? [] : texts.weather(text) });
   }
@@ -35,20 +35,21 @@ function alertPart(row, release) {
   const plan = release.active?.plan;
   const { findings, version } = row.alert;
   return h('section', { class: `alert ${alertKind(row.alert)}`, 'aria-label': 'Alert' },
-    h('p', {}, badge(row.alert), ` version ${version}`, whole && `, open since ${near(whole.opened, picture.moment)}`),
-    findings.length ? findingsList(findings, plan, true) : h('p', {}, 'Nothing fails now, but what was signed was once not good. Amend it, or see the alert.'),
-    whole?.ever.length > findings.length && h('details', {}, h('summary', {}, 'All that has failed since it opened'), findingsList(whole.ever, plan)));
+    h('p', {}, badge(row.alert), ` version ${version}`, whole && `, opened ${near(whole.opened, picture.moment)}`),
+    findings.length ? findingsList(findings, plan, true) : h('p', {}, 'No rule fails now, but the signed release failed one since the alert opened. Acknowledge the alert.'),
+    whole?.ever.length > findings.length && h('details', {}, h('summary', {}, 'Every rule that failed since the alert opened'), findingsList(whole.ever, plan)));
 }
 
-// A revision as the paper that is signed.
+// A revision as the sheet that is signed and printed.
 function paper(id, revision, isPending) {
   if (!revision) return null;
   const { number, dispatcher, signed, captain, concurred, hours } = revision;
-  const signs = isPending ? 'Waits for signatures. Not valid for dispatch.' : `Dispatcher ${dispatcher}, ${signed}. Captain ${captain}, ${concurred}, ${hoursText(hours)}.`;
+  const signs = isPending ? 'Not signed by both. Not valid for dispatch.'
+    : `Dispatcher ${dispatcher} signed at ${signed}. Captain ${captain} (${hoursText(hours)}) concurred at ${concurred}.`;
   return h('article', { class: `paper ${isPending ? 'pending' : 'signed'}` },
-    h('h2', {}, `Revision ${number}, ${isPending ? 'to be signed' : 'signed by both'}`), h('p', { class: 'signs' }, signs),
+    h('h2', {}, `Revision ${number}, ${isPending ? 'pending' : 'in force'}`), h('p', { class: 'signs' }, signs),
     h('pre', { class: 'text', tabindex: '0' }, revision.text), digestLine(revision),
-    h('p', { class: 'printed' }, `Release ${id}, printed from the desk’s view of ${picture.moment}. The digest is the SHA-256 of the text.`));
+    h('p', { class: 'printed' }, `Release ${id} at ${picture.moment}, the desk’s time. The digest is the SHA-256 of the text.`));
 }
 
 function legs(plan) {
@@ -60,21 +61,21 @@ function legs(plan) {
     `Fuel: ${fuel(leg)}.`)));
 }
 
-// What the desk has read as the latest of each station, and the report itself where it is attached.
+// The latest reports of each station in words, and the report itself if it is attached.
 function weather(stations, reports) {
   const one = (it) => {
     const raw = reports.find((report) => report.id === it.id);
     return h('div', {}, h('p', {}, h('b', {}, it.kind), ` ${reading(it, picture.moment)}`),
-      raw ? h('p', { class: 'raw' }, raw.text) : h('p', { class: 'newer' }, `Report ${it.id} came in since, and isn’t attached.`));
+      raw ? h('p', { class: 'raw' }, raw.text) : h('p', { class: 'newer' }, `Report ${it.id} is newer and isn’t attached.`));
   };
-  return stations.length > 0 && h('section', {}, h('h2', {}, 'Weather of its stations'), stations.map(({ station, why, said }) => h('div', { class: 'station' },
-    h('h3', {}, station), why && h('p', {}, why), !why && said.length === 0 && hint('No report.'), said.map(one))));
+  return stations.length > 0 && h('section', {}, h('h2', {}, 'Weather at its stations'), stations.map(({ station, why, said }) => h('div', { class: 'station' },
+    h('h3', {}, station), why && h('p', {}, why), !why && said.length === 0 && hint('No reports.'), said.map(one))));
 }
 
 export function deferredList(items, more = (_) => null) {
-  const due = (it) => (it.due === '-' ? 'not in the list of this type' : `due ${near(it.due, picture.moment)}`);
+  const due = (it) => (it.due === '-' ? 'not in this type’s equipment list' : `due ${near(it.due, picture.moment)}`);
   return items.length ? h('ul', { class: 'deferred' }, items.map((it) => h('li', {}, h('b', {}, `${it.id}: ${it.item}`),
-    ` found ${near(it.found, picture.moment)}, ${due(it)} `, more(it)))) : hint('None.');
+    ` found ${near(it.found, picture.moment)}, ${due(it)} `, more(it)))) : hint('No open deferrals.');
 }
 
 export function releasePage(place, id, isAmending) {
@@ -91,16 +92,16 @@ export function releasePage(place, id, isAmending) {
       alertPart(row, release), actions(page, row, release, isStale), refused(page, plan),
       h('div', { class: 'columns' },
         h('div', {}, paper(id, pending, true), paper(id, active, false),
-          row?.pending > 0 && !pending && h('p', { class: 'note' }, `Revision ${row.pending} is filed and waits to be prepared; its text is made then.`)),
+          row?.pending > 0 && !pending && h('p', { class: 'note' }, `Revision ${row.pending} is filed. Prepare it to make the text that is signed.`)),
         h('div', { class: 'aside' }, plan && legs(plan), weather(stations, [...(pending?.reports ?? []), ...(active?.reports ?? [])]),
           deferred && h('section', {}, h('h2', {}, `Deferred equipment of ${plan.tail}`), deferredList(deferred)))));
   };
   const failed = (fault) => {
     if (fault instanceof Refused) show(place, title(`Release ${id}`), h('p', {}, refusal(fault.reply)));
-    else if (fault instanceof Unreached) notice('The desk can’t be reached.', 'bad');
+    else if (fault instanceof Unreached) notice('No connection to the desk.', 'bad');
     else throw fault;
   };
-  // Looks at the release, and where it or the board is new at all that the page shows; shows it where that has changed.
+  // Gets the view of the release. If it or the board is new, gets the other views too, and redraws what changed.
   async function refresh(isAnew = false, isNew = true) {
     const row = rowOf(id);
     const release = await releaseOf(id);
@@ -108,12 +109,12 @@ export function releasePage(place, id, isAmending) {
     text = release.text;
     for (const it of [release.pending, release.active]) if (it) it.check = await check(it);
     const plan = (release.pending ?? release.active)?.plan;
-    const more = plan && !release.phase.ended ? await around(plan) : { stations: [], deferred: null };
+    const more = plan && !release.phase.ended ? await around(plan, release.phase) : { stations: [], deferred: null };
     const all = JSON.stringify([row, release, more, kept('refused', id), kept('signed', id)]);
     if (isAnew || all !== shown) draw(row, release, plan, more);
     shown = all;
   }
-  // The form of an amendment, over the newest plan that this tab knows.
+  // The form of an amendment, filled with the newest plan that this tab knows.
   const amend = async () => {
     const row = rowOf(id);
     const release = await releaseOf(id);

@@ -1,4 +1,4 @@
-// The texts of the views, read into values.
+// Reads the texts of the views into values.
 
 const ROW = /^(\d+) (\S+) (\S+) (DRAFTED|READY 1|FLYING \d+|STOPPED \d+ \S+|COMPLETED \S+|CANCELLED \S+)( AGAIN)? rev (\d+) pending (\d+) (\S+) (?:-|ALERT v(\d+) (open|ack) (.+))$/;
 const ALERT = /^(\d+) (\S+) v(\d+) (\S+) (open|ack) (.+) ever (.+)$/;
@@ -33,7 +33,7 @@ export function alerts(text) {
   });
 }
 
-// The plan and the reports that the text of a revision says.
+// The plan and the reports in the text of a revision.
 function revision(text) {
   const plan = { captain: '', flight: '', kind: '', legs: [], tail: '' };
   const reports = [];
@@ -59,7 +59,7 @@ function revision(text) {
   return { number, plan, reports, text };
 }
 
-// A release: its phase, the revision that waits (where it is prepared), and the one that both signed.
+// A release: its phase, the pending revision if it is prepared, and the revision in force.
 export function release(text) {
   const [, id, stands, again] = /^RELEASE (\d+) (.+?)( AGAIN)?\n/.exec(text);
   const part = (word) => {
@@ -83,8 +83,9 @@ export function weather(text) {
 }
 
 export const deferred = (text) => lines(text).map((line) => line.split(' ')).map(([id, item, found, , due]) => ({ id: Number(id), item, found, due }));
-
-export function stationsOf(plan) {
-  const each = plan.legs.flatMap((leg) => [leg.from, leg.takeoff_alternate?.station, leg.to, ...leg.alternates.map((it) => it.station)]);
+// The stations whose reports the desk attaches: those of legs not flown, without the departure of a leg in flight.
+export function stationsOf(plan, { name = '', leg: next = 0 } = {}) {
+  const ahead = (leg, number) => (name === 'FLYING' && number + 1 === next ? [] : [leg.from, leg.takeoff_alternate?.station]);
+  const each = plan.legs.flatMap((leg, number) => (number + 1 < next ? [] : [...ahead(leg, number), leg.to, ...leg.alternates.map((it) => it.station)]));
   return [...new Set(each.filter(Boolean))];
 }

@@ -1,62 +1,63 @@
-// What the desk's codes say in plain English: findings, refusals, phases, weather, moments.
+// The desk's codes in plain English: findings, refusals, phases, weather and moments.
 
 export const clock = (moment) => (moment ? `${moment.slice(11, 16)}Z` : '');
 export const amount = (number) => Number(number).toLocaleString('en-US');
-export const hoursText = (hours) => (hours === '-' ? 'before hours were kept' : `with ${amount(hours)} hour${hours === '1' ? '' : 's'} in the type`);
-// A moment as the time of its day, with the day where it is another one.
+export const hoursText = (hours) => (hours === '-' ? 'hours not recorded' : `${amount(hours)} hour${hours === '1' ? '' : 's'} in the type`);
+// The time of day of a moment; with month and day unless the moment is of today.
 export const near = (moment, today) => (moment.slice(0, 10) === today.slice(0, 10) ? clock(moment) : `${moment.slice(5, 10)} ${clock(moment)}`);
 const later = (moment, minutes) => clock(new Date(Date.parse(moment) + minutes * 60000).toISOString());
-
-const OWN = 'a rule of this desk';
 const to = (leg) => `destination ${leg.to ?? ''}`.trim();
 const from = (leg) => `departure ${leg.from ?? ''}`.trim();
 const takeoff = (leg) => `takeoff alternate ${leg.takeoff_alternate?.station ?? ''}`.trim();
 const other = (leg, place) => `alternate ${place}${leg.alternates?.[place - 1] ? ` (${leg.alternates[place - 1].station})` : ''}`;
 const airport = (leg, place) => (place === 0 ? to(leg) : place === 9 ? takeoff(leg) : other(leg, place));
-const there = (it, moment) => `${it ? ` at ${later(moment, it.minutes)},` : ''} when the aircraft would be there`;
-const at = (word, moment) => ` at the ${word} ${clock(moment)}`.trimEnd();
+// The arrival at an alternate: its minutes after the ETA, or of a takeoff alternate after the ETD.
+const there = (it, word, moment) => (it ? ` at ${later(moment, it.minutes)} (${word} + ${it.minutes} min)` : ' at the time of arrival there');
+const at = (word, moment) => ` at ${word} ${clock(moment)}`.trimEnd();
 const pounds = (name, number) => (number === undefined ? name : `${name} ${amount(number)} lb`);
-const STOP = (hours) => () => `the stop before this leg has lasted more than ${hours}, and the flight hasn’t been released again`;
-const AGAIN = 'Release it again: amend (with the same plan, if it still fits), prepare, sign, concur.';
+const noMinima = (leg) => `${from(leg)} doesn’t meet landing minima${at('ETD', leg.etd)}`;
+const STOP = (hours) => () => `stopped for more than ${hours} before this leg without a new release`;
+const AGAIN = 'Release the flight again: amend (the same plan will do if it still fits), prepare, sign, concur.';
+const REPORT = 'Or hand in a newer report.';
+const MORE_FUEL = 'Amend: more minimum fuel, and as much on board.';
+const REPAIR = 'Have the item repaired and its deferral cleared. Or amend:';
 
-// Of each rule its section, what it says of a leg and a place, and what one can do.
+// Of each rule: its section, the text of a finding on a leg and a place, and what a dispatcher can do.
 const RULES = {
-  '121.593': ['14 CFR 121.593', STOP('an hour'), AGAIN],
-  121.595: ['14 CFR 121.595', STOP('six hours'), AGAIN],
-  121.613: ['14 CFR 121.613, 121.652', (leg) => `${to(leg)} is below every landing minimum that this aircraft and its captain can use${at('ETA', leg.eta)}`,
-    'Another destination or time; a newer report; mend what took a capability away; a captain with 100 hours in the type.'],
-  '121.617-ALT': ['14 CFR 121.617(a)', (leg) => `${from(leg)} is below its landing minima${at('ETD', leg.etd)}, and no takeoff alternate is listed`,
-    'List a takeoff alternate, or wait.'],
-  '121.617-RANGE': ['14 CFR 121.617(a)', (leg) => `${from(leg)} is below its landing minima, and ${takeoff(leg)} is too far away with one engine out`,
-    'A nearer takeoff alternate, or the distance that the tables lack.'],
-  '121.617-WX': ['14 CFR 121.617(b)', (leg) => `${from(leg)} is below its landing minima, and ${takeoff(leg)} below its alternate minima`
-    + there(leg.takeoff_alternate, leg.etd), 'Another takeoff alternate; a newer report.'],
-  '121.619-NONE': ['14 CFR 121.619(a)', (leg) => `the weather at ${to(leg)} asks for an alternate, and none is listed`, 'List an alternate.'],
-  '121.619-SECOND': ['14 CFR 121.619(a)', (leg) => `${to(leg)} and its only alternate are both marginal`, 'List a second alternate, or a better one.'],
-  '121.621-NONE': ['14 CFR 121.621(a)', (leg) => `${to(leg)} needs an alternate, and none is listed`, 'List an alternate.'],
-  121.625: ['14 CFR 121.625', (leg, place) => `${other(leg, place)} is below its alternate minima${there(leg.alternates?.[place - 1], leg.eta)}`,
-    'Another alternate, or none where none is needed; a newer report.'],
-  '121.628-LIMIT': ['14 CFR 121.628', (_, place) => `deferred item ${place} forbids this leg by the minimum equipment list`,
-    'Mend it; another aircraft; a shorter leg.'],
-  '121.628-DUE': ['14 CFR 121.628', (_, place) => `deferred item ${place} is due before the leg arrives`, 'Mend it; another aircraft; an earlier flight.'],
-  '121.631-TYPE': ['14 CFR 121.631(a)', (leg, place) => `this type of aircraft may not use ${airport(leg, place)}`, 'Another airport, or another type.'],
-  121.639: ['14 CFR 121.639', (leg) => `${pounds('minimum fuel', leg.minimum)} is less than a domestic leg requires`, 'More fuel.'],
-  121.645: ['14 CFR 121.645', (leg) => `${pounds('minimum fuel', leg.minimum)} is less than a flag leg requires`, 'More fuel.'],
-  'DESK-BOARD': [OWN, (leg) => `${pounds('fuel on board', leg.onboard)} is less than the ${pounds('minimum', leg.minimum)}`,
-    'More fuel, or another minimum if it is higher than it has to be.'],
-  'DESK-LATE-OFF': [OWN, (leg) => `it hasn’t departed long after its ETD ${clock(leg.etd)}`.trimEnd(), 'Amend with a later ETD and ETA, or cancel.'],
-  'DESK-LATE-ON': [OWN, (leg) => `it hasn’t arrived long after its ETA ${clock(leg.eta)}`.trimEnd(),
-    'Find out where it is. If it has landed, say so; else amend with a later ETA.'],
-  'DESK-TABLES': [OWN, () => 'the plan doesn’t fit the airline’s tables any longer', 'Mend the tables.'],
+  '121.593': ['14 CFR 121.593', STOP('1 hour'), AGAIN],
+  121.595: ['14 CFR 121.595', STOP('6 hours'), AGAIN],
+  121.613: ['14 CFR 121.613, 121.652', (leg) => `${to(leg)} doesn’t meet any landing minimum that this aircraft and captain can use${at('ETA', leg.eta)}`,
+    `Amend: another destination, another ETA, or a captain with 100 hours in the type. Or have the equipment repaired that the approach needs. ${REPORT}`],
+  '121.617-ALT': ['14 CFR 121.617(a)', (leg) => `${noMinima(leg)}, and no takeoff alternate is listed`, `Amend: add a takeoff alternate, or a later ETD. ${REPORT}`],
+  '121.617-RANGE': ['14 CFR 121.617(a)', (leg) => `${noMinima(leg)}, and ${takeoff(leg)} is too far with one engine out, or its distance isn’t in the tables`,
+    'Amend: a nearer takeoff alternate. Or ask your administrator to add the distance.'],
+  '121.617-WX': ['14 CFR 121.617(b)', (leg) => `${noMinima(leg)}, and ${takeoff(leg)} doesn’t meet its alternate minima${there(leg.takeoff_alternate, 'ETD', leg.etd)}`,
+    `Amend: another takeoff alternate. ${REPORT}`],
+  '121.619-NONE': ['14 CFR 121.619(a)', (leg) => `the weather at ${to(leg)} requires an alternate, and none is listed`, `Amend: add an alternate. ${REPORT}`],
+  '121.619-SECOND': ['14 CFR 121.619(a)', (leg) => `${to(leg)} and its only alternate are both marginal`, `Amend: add a second alternate, or choose a better one. ${REPORT}`],
+  '121.621-NONE': ['14 CFR 121.621(a)', (leg) => `${to(leg)} requires an alternate, and none is listed`, `Amend: add an alternate. ${REPORT}`],
+  121.625: ['14 CFR 121.625', (leg, place) => `${other(leg, place)} doesn’t meet its alternate minima${there(leg.alternates?.[place - 1], 'ETA', leg.eta)}`,
+    `Amend: another alternate, or none if none is required. ${REPORT}`],
+  '121.628-LIMIT': ['14 CFR 121.628', (_, place) => `the equipment list forbids this leg with deferral ${place}`, `${REPAIR} another aircraft or a shorter leg.`],
+  '121.628-DUE': ['14 CFR 121.628', (leg, place) => `deferral ${place} is due${at('or before ETA', leg.eta)}`, `${REPAIR} another aircraft or an earlier ETA.`],
+  '121.631-TYPE': ['14 CFR 121.631(a)', (leg, place) => `this aircraft type may not use ${airport(leg, place)}`, 'Amend: another airport, or an aircraft of another type.'],
+  121.639: ['14 CFR 121.639', (leg) => `${pounds('minimum fuel', leg.minimum)} is less than a domestic leg requires`, MORE_FUEL],
+  121.645: ['14 CFR 121.645', (leg) => `${pounds('minimum fuel', leg.minimum)} is less than a flag leg requires`, MORE_FUEL],
+  'DESK-BOARD': ['', (leg) => `${pounds('fuel on board', leg.onboard)} is less than ${pounds('minimum fuel', leg.minimum)}`,
+    'Amend: more fuel on board, or a lower minimum if the fuel rules allow it.'],
+  'DESK-LATE-OFF': ['', (leg) => `not departed, past the airline’s limit after ETD ${clock(leg.etd)}`.trimEnd(), 'Amend with a later ETD and ETA, or cancel the release.'],
+  'DESK-LATE-ON': ['', (leg) => `not arrived, past the airline’s limit after ETA ${clock(leg.eta)}`.trimEnd(),
+    'Find out where the aircraft is. If it has landed, report the arrival. Otherwise amend with a later ETA.'],
+  'DESK-TABLES': ['', () => 'the plan no longer fits the airline’s tables', 'Amend with a plan that fits them. Or ask your administrator to correct the tables.'],
 };
 
-// A finding such as `121.625/1/1`: its leg, what it says, its section, and what one can do; with the names of the plan where it is known.
+// A finding such as `121.625/1/1` in words: leg, text, section and advice. The plan, if known, gives names and times.
 export function finding(code, plan) {
   const [rule, number, place] = code.split('/');
-  const [section, says, advice] = RULES[rule] ?? ['unknown rule', () => 'a rule that this page doesn’t know', ''];
+  const [section, says, advice] = RULES[rule] ?? ['', () => 'this page doesn’t know this rule', ''];
   const leg = plan?.legs[Number(number) - 1] ?? {};
   const route = leg.from ? ` ${leg.from}–${leg.to}` : '';
-  return { section, advice, leg: Number(number) ? `Leg ${number}${route}` : 'Whole plan', text: says(leg, Number(place)) };
+  return { section: section || `desk rule ${rule}`, advice, leg: Number(number) ? `Leg ${number}${route}` : 'Whole plan', text: says(leg, Number(place)) };
 }
 
 export function phaseText({ name, leg, since, again }, today) {
@@ -65,76 +66,83 @@ export function phaseText({ name, leg, since, again }, today) {
   return { DRAFTED: 'Draft', READY: 'Ready' }[name] ?? `${name === 'COMPLETED' ? 'Completed' : 'Cancelled'} ${near(since, today)}`;
 }
 
+// The phase in a refusal, such as `STOPPED 2 2026-11-12T16:31Z`, in words.
+const phaseIn = ([name, leg, since = leg]) => phaseText({ name, leg, since }, since ?? '');
+
 const REPORT_FAULTS = {
-  TooLong: 'It has more than 2,048 bytes.', Missing: 'It ends too early.', BadVisibility: 'This ends in SM and is no visibility.',
-  NotStation: 'A station is due here: a capital letter, then three capitals or digits.', NotTime: 'A time such as 121651Z is due here.',
-  BadSky: 'This begins as a layer of the sky and goes on wrongly.', BadPeriod: 'This isn’t the period that is due, or the word TAF is missing in front.',
+  TooLong: 'It is longer than 2,048 bytes.', Missing: 'It ends too early.', BadVisibility: 'This isn’t a visibility, such as 4SM or 1 1/2SM.',
+  NotStation: 'A station such as KSEA must come here.', NotTime: 'A time such as 121651Z must come here.', BadSky: 'This isn’t a layer of cloud, such as OVC012.',
+  BadPeriod: 'This isn’t a period such as 1212/1318, or an FM or PROB group; or the word TAF is missing at the start.',
 };
 const PLAN_FAULTS = {
   UnknownTail: 'The airline has no such aircraft.', UnknownCaptain: 'No captain has this name.', Amount: 'An amount of fuel is above 1,000,000 lb.',
-  Count: 'A plan has 1 to 8 legs, and a leg at most 3 alternates.', NoAirport: 'A station isn’t among the airline’s airports.',
-  Repeated: 'A station stands twice where it may not.', Unjoined: 'The leg doesn’t begin where the one before ended.',
-  Times: 'Times are out of order, or the minutes don’t fit between ETD and ETA.', Flown: 'What is flown must stay as it was.',
-  Changed: 'Flight number and kind must stay, and the aircraft too while a leg is flown.',
+  Count: 'A plan has 1 to 8 legs, and a leg has at most 3 alternates.', NoAirport: 'A station isn’t in the airline’s airport table.',
+  Repeated: 'A station appears twice where it may not.', Unjoined: 'The leg doesn’t begin where the previous leg ends.',
+  Times: 'Times are out of order, or the air time doesn’t fit between ETD and ETA.', Flown: 'What has been flown can’t change.',
+  Changed: 'The flight number and the kind of flight can’t change, nor the aircraft while a leg is in flight.',
 };
-const STAGES = ['No revision waits: amend first.', 'The revision isn’t prepared yet.', 'The dispatcher hasn’t signed yet.'];
-const FULL = (what) => (r) => `The desk holds ${amount(r.held)} ${what} and takes no more: whoever keeps the records must see to it.`;
+const STAGES = ['No revision is pending. Amend the release first.', 'The revision isn’t prepared. The dispatcher prepares it first.',
+  'The dispatcher hasn’t signed this text. Concur after the dispatcher has signed.'];
+const full = (what, remedy) => (r) => `The desk holds ${amount(r.held)} ${what} and accepts no more. ${remedy}`;
 
+// Of each refusal by number: the cause, and what to do.
 const REFUSALS = {
-  1: () => 'The desk knows nobody of this name.',
-  2: () => 'The key isn’t this person’s.',
-  3: () => 'This isn’t for your role.',
-  5: (r) => `The report can’t be read${r.group ? `, group ${r.group}` : ''}. ${REPORT_FAULTS[r.what] ?? r.what}`,
-  6: (r) => `The day in group ${r.group} of the report isn’t near today.`,
-  7: FULL('reports'),
-  8: () => 'The airline has no such aircraft.',
-  9: () => 'No deferral with this number is open; it may have been cleared.',
-  10: () => 'There is no such release.',
-  11: (r) => `This is for ${r.holder} to do.`,
-  12: (r) => `The plan isn’t sound${r.leg ? `, leg ${r.leg}` : ''}. ${PLAN_FAULTS[r.what] ?? r.what}`,
+  1: () => 'Unknown name. Check its spelling: capitals matter.',
+  2: () => 'Wrong key. Type it again, or ask your administrator.',
+  3: () => 'Your role may not do this. Ask a colleague whose role it is.',
+  5: (r) => `The desk can’t read ${r.group ? `group ${r.group} of ` : ''}the report. ${REPORT_FAULTS[r.what] ?? r.what} Correct the report and hand it in again.`,
+  6: (r) => `The day in group ${r.group} of the report is too far from today. Check its date: old reports can’t be handed in.`,
+  7: full('reports', 'Ask the records keeper to sweep old ones.'),
+  8: () => 'The airline has no such aircraft. Check its registration.',
+  9: () => 'No open deferral has this number. It may have been cleared already.',
+  10: () => 'No release has this number. Look for the flight on the board.',
+  11: (r) => `Only ${r.holder} may do this. Ask ${r.holder}.`,
+  12: (r) => `The desk can’t accept the plan${r.leg ? `, leg ${r.leg}` : ''}. ${PLAN_FAULTS[r.what] ?? r.what} Correct it and file again.`,
   13: (r) => STAGES[r.stage],
-  14: (r) => `Revision ${r.current} waits now. Read that one.`,
-  15: (r) => `The text has changed since you read it; its digest is ${r.digest.slice(0, 8)}… now. Read it again.`,
-  16: (r) => `Report ${r.report} is newer than what is attached. Prepare again, and sign the new text.`,
+  14: (r) => `Revision ${r.current} is pending now. Read it, then sign that one.`,
+  15: (r) => `The text has changed since you read it: its digest now begins with ${r.digest.slice(0, 8)}. Read it again, then sign it.`,
+  16: (r) => `Report ${r.report} is newer than the attached weather. The dispatcher prepares the revision again, then both sign the new text.`,
   17: () => 'These rules fail now:',
-  18: (r) => `The release is ${r.phase} now, in which this can’t be asked.`,
-  19: () => 'The dispatcher has signed this text already.',
-  20: () => 'The release has no alert; it may have closed.',
-  21: (r) => `The alert has moved on to version ${r.version}. Look at it again.`,
-  22: (r) => `It must be kept until ${r.until}.`,
-  23: FULL('releases'),
-  24: () => 'The desk’s history is full: whoever keeps the records must see to it.',
-  25: () => 'The station isn’t among the airline’s airports.',
-  26: () => 'The desk couldn’t keep this, so nothing was done: its disk or file has failed. Tell whoever runs it.',
-  28: () => 'The equipment list of this type has no such item.',
-  29: (r) => `This lies after the desk’s time, ${r.now}.`,
-  30: FULL('open deferrals'),
+  18: (r) => `The release is now in the phase “${phaseIn(r.phase.split(' '))}”, which doesn’t allow this.`,
+  19: () => 'The dispatcher has signed this text already. The captain concurs next.',
+  20: () => 'The release has no alert. It may have closed already.',
+  21: (r) => `The alert has changed to version ${r.version}. Read it, then acknowledge that version.`,
+  22: (r) => `This must be kept until ${r.until}. Try again then.`,
+  23: full('releases', 'Ask the records keeper to purge old ones.'),
+  24: () => 'The desk’s history is full. Ask your administrator to restart the desk or have old replies swept.',
+  25: () => 'The station isn’t in the airline’s airport table. Check its code.',
+  26: () => 'The desk couldn’t store this, so nothing changed: its disk or file has failed. Call your administrator.',
+  28: () => 'The equipment list of this type has no such item. Check its number.',
+  29: (r) => `This is later than the desk’s time, ${r.now}. Correct the time.`,
+  30: full('open deferrals', 'Ask maintenance to clear repaired ones.'),
 };
-
 export function refusal(reply) {
-  if (reply.bad) return `The desk couldn’t read this (${reply.bad}${reply.key ? ` at ${reply.key}` : ''}).`;
-  return REFUSALS[reply.refused]?.(reply) ?? `The desk says ${reply.error ?? `${reply.refused} ${reply.why}`}.`;
+  if (reply.bad) return `The desk can’t read what this page sent (${reply.bad}${reply.key ? ` at ${reply.key}` : ''}). Call your administrator.`;
+  return REFUSALS[reply.refused]?.(reply) ?? `The desk refused: ${reply.error ?? `${reply.refused} ${reply.why}`}.`;
 }
 
-const MILE = 1609344;
+// A sixteenth of a statute mile and ten kilometres, in the desk's millimetres.
+const [SIXTEENTH, TEN_KILOMETRES] = [100584, 10000000];
 const PARTS = ['', '1/16', '1/8', '3/16', '1/4', '5/16', '3/8', '7/16', '1/2', '9/16', '5/8', '11/16', '3/4', '13/16', '7/8', '15/16'];
-const CEILINGS = { '-': 'ceiling unknown', 100000: 'no ceiling', 12000: 'clear below 12,000 ft', 5000: 'no cloud below 5,000 ft' };
+// The desk gives CLR as 12,000 ft, and NSC, NCD and CAVOK as 5,000 ft.
+const CEILINGS = { '-': 'ceiling unknown', 100000: 'no ceiling', 12000: 'ceiling 12,000 ft or higher', 5000: 'ceiling 5,000 ft or higher' };
 
+// A visibility as dispatchers write it: 4SM, 1 1/2SM, P6SM, M1/4SM. Metres unless it is a whole number of sixteenths, or a millimetre off for P and M.
 function visibility(text) {
   if (text === '-') return 'visibility unknown';
-  const sixteenths = Math.round(Number(text) / (MILE / 16));
-  const off = Number(text) - (sixteenths * MILE) / 16;
-  if (Math.abs(off) > 1) return `visibility ${amount(Math.round(Number(text) / 1000))} m`;
-  const miles = [Math.floor(sixteenths / 16) || '', PARTS[sixteenths % 16]].filter(Boolean).join(' ') || '0';
-  return `visibility ${off > 0 ? 'above ' : off < 0 ? 'below ' : ''}${miles} SM`;
+  const sixteenths = Math.round(Number(text) / SIXTEENTH);
+  const off = Number(text) - sixteenths * SIXTEENTH;
+  if (Math.abs(off) > 1) return `visibility ${amount(Math.round(Number(text) / 1000))} m${Number(text) === TEN_KILOMETRES ? ' or more' : ''}`;
+  const miles = [Math.floor(sixteenths / 16) || '', PARTS[sixteenths % 16]].filter(Boolean).join('\u00a0') || '0';
+  return `visibility ${off > 0 ? 'P' : off < 0 ? 'M' : ''}${miles}SM`;
 }
 
-// What the desk has read in a report of a station, in words.
+// A line of a station's weather in words.
 export function reading(said, today) {
-  if (said.nil) return 'says nothing (NIL)';
-  if (said.cancelled) return 'cancelled (CNL)';
-  const many = (number, word) => `, ${number} ${word}${number === 1 ? '' : 's'}`;
-  if (said.kind === 'TAF') return `issued ${near(said.moment, today)}, valid ${near(said.from, today)} to ${near(said.to, today)}${many(said.parts, 'part')}`;
+  if (said.nil) return 'NIL, no report';
+  if (said.cancelled) return 'CNL, cancelled';
+  const many = (number, words) => `, ${number} ${words}${number === 1 ? '' : 's'}`;
+  if (said.kind === 'TAF') return `issued ${near(said.moment, today)}, valid ${near(said.from, today)} to ${near(said.to, today)}${many(said.parts, 'forecast part')}`;
   const sky = CEILINGS[said.ceiling] ?? `ceiling ${amount(said.ceiling)} ft`;
-  return `observed ${near(said.moment, today)}: ${sky}, ${visibility(said.vis)}${said.unread ? many(said.unread, 'unread group') : ''}`;
+  return `observed ${near(said.moment, today)}: ${sky}, ${visibility(said.vis)}${said.unread ? many(said.unread, 'unknown group') : ''}`;
 }

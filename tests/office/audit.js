@@ -1,4 +1,4 @@
-// What a page must have for those who don't see it, or see it badly: answers what it lacks, a line each.
+// Checks a page for users who can't see it, or see it badly. Returns one line for each fault.
 const lacks = [];
 const all = (css) => [...document.querySelectorAll(css)].filter((it) => it.checkVisibility() && !it.closest('.unseen'));
 const ids = [...document.querySelectorAll('[id]')].map((it) => it.id);
@@ -7,12 +7,12 @@ for (const it of all('input, textarea')) if (!it.labels.length && !it.ariaLabel)
 for (const it of all('button, a')) if (!(it.textContent.trim() || it.ariaLabel)) lacks.push(`no name: ${it.outerHTML.slice(0, 80)}`);
 for (const it of all('[aria-describedby], [aria-labelledby]')) {
   const id = it.getAttribute('aria-describedby') ?? it.getAttribute('aria-labelledby');
-  if (!document.getElementById(id)) lacks.push(`there is no ${id}`);
+  if (!document.getElementById(id)) lacks.push(`no element has the id ${id}`);
 }
-if (all('h1').length !== 1) lacks.push(`${all('h1').length} headings of the first rank`);
-if (document.documentElement.scrollWidth > innerWidth + 1) lacks.push(`it is ${document.documentElement.scrollWidth} wide on ${innerWidth}`);
+if (all('h1').length !== 1) lacks.push(`${all('h1').length} h1 headings instead of one`);
+if (document.documentElement.scrollWidth > innerWidth + 1) lacks.push(`the page is ${document.documentElement.scrollWidth} px wide in a window of ${innerWidth}`);
 
-// The contrast of each text with what is behind it: 4.5, and 3 where it is large (WCAG 2.1, 1.4.3).
+// The contrast of each text with its background: at least 4.5, and 3 for large text (WCAG 2.1, 1.4.3).
 const rgba = (text) => (/^rgba?\(/.test(text) ? text.match(/[\d.]+/g).map(Number) : [0, 0, 0, 0]);
 const over = ([r, g, b, a = 1], below) => [r, g, b].map((it, place) => it * a + below[place] * (1 - a));
 const behind = (it) => (it ? over(rgba(getComputedStyle(it).backgroundColor), behind(it.parentElement)) : [255, 255, 255]);

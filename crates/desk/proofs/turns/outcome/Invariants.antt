@@ -1,4 +1,4 @@
 use Rattle.desk.proofs.turns.outcome.Given as goal
 
-abbrev pub ghosts-answer_with : goal.ghosts-answer_with
-ghosts-answer_with g a = record { name = a.blank.name; parts = a.blank.parts }
+abbrev pub ghosts-outcome_with : goal.ghosts-outcome_with
+ghosts-outcome_with g a = record { name = a.blank.name; parts = a.blank.parts }
