@@ -1,4 +1,4 @@
--- The weather at the destination with which a flag flight needs no alternate (14 CFR 121.621(a)(1)).
+-- The least weather at the destination in which a flag flight needs no alternate (14 CFR 121.621(a)(1)).
 use Rattle.std.specs.Prelude.{ℕ, ◌+◌, ◌*◌, nat_lt, min, max, if◌then◌else◌, List, [], ◌∷◌, Option, None, Some}
 use Rattle.desk_io.specs.Station.{Station}
 use Rattle.ops_tables.specs.declared.rows.Airport.{Airport}
@@ -9,21 +9,21 @@ use Rattle.desk_io.specs.declared.pair.Pair.{Pair}
 use Rattle.airport_minima.specs.declared.floors.Lowest.{Lowest}
 use Rattle.airport_minima.specs.Minima.{usable, millimetres}
 
--- the lesser of the values of an approach and those of others
+-- the lesser of the approach's values and those of the others
 abbrev pub lower : Approach → Option Lowest → Lowest
 lower approach None = record { height = approach.height; vis16 = approach.vis16 }
 lower approach (Some others) = record { height = min approach.height others.height; vis16 = min approach.vis16 others.vis16 }
 
--- the least height and the least visibility of some approaches, where there are any
+-- the least height and the least visibility of the approaches, if there are any
 abbrev pub lowest_of : List Approach → Option Lowest
 lowest_of [] = None
 lowest_of (approach ∷ others) = Some (lower approach (lowest_of others))
 
--- 1,500 feet above the circling minimum, or where there is none 2,000 feet or 1,500 above the lowest height
+-- 1,500 feet above the circling minimum; without circling 1,500 feet above the lowest height, but at least 2,000
 abbrev pub floor_ceiling : ℕ → ℕ → ℕ
 floor_ceiling circle height = if nat_lt 0 circle then circle + 1_500 else max (height + 1_500) 2_000
 
--- 3 statute miles, or 2 more than the lowest visibility
+-- 2 statute miles more than the lowest visibility, but at least 3
 abbrev pub floor_vis : ℕ → ℕ
 floor_vis vis16 = max (millimetres vis16 + 2 * 1_609_344) (3 * 1_609_344)
 
@@ -35,10 +35,10 @@ abbrev pub circle_at : Option Airport → ℕ
 circle_at None = 0
 circle_at (Some airport) = airport.circle
 
--- the circling minimum of a station; 0 where there is none
+-- the circling minimum of a station; 0 if the airline doesn't circle there
 abbrev pub circle_of : TableRows → Station → ℕ
 circle_of tables station = circle_at (airport_of tables station)
 
--- the floor of a station, where the type can fly some approach
+-- the least weather at the station, if the type can fly an approach there
 unfoldable pub flag_floor : TableRows → TypeRow → Station → List (List ℕ) → Option Pair
 flag_floor tables kind station lost = floor_over (circle_of tables station) (lowest_of (usable tables kind station lost))

@@ -1,4 +1,4 @@
--- Which approaches of a station count, and the landing minima that they give (14 CFR 121.613).
+-- The approaches of a station that a type can fly, and the landing minima from them (14 CFR 121.613).
 use Rattle.std.specs.Prelude.{◌≡◌, ℕ, ◌*◌, List, All, Any, Contains}
 use Rattle.desk_io.specs.Station.{Station}
 use Rattle.desk_io.specs.declared.pair.Pair.{Pair}
@@ -7,22 +7,22 @@ use Rattle.ops_tables.specs.declared.rows.TypeRow.{TypeRow}
 use Rattle.ops_tables.specs.Tables.{TableRows, approaches_of}
 use Rattle.airport_minima.specs.Minima.{usable}
 
--- A type can fly an approach: it has the capability that the approach asks for, and hasn't lost it.
+-- The type can fly the approach. It has the capability that the approach needs, and hasn't lost it.
 pub record CanFly (kind : TypeRow) (lost : List (List ℕ)) (approach : Approach) : Type 0 where
   pub has : Any (λ name. name ≡ approach.capability) kind.capabilities
   pub keeps : Any (λ name. name ≡ approach.capability) lost → ⊥
 
--- The approaches that count are those of the station that the type can fly, and all of them.
+-- The usable approaches are all those of the station that the type can fly, and no others.
 pub record AreFlown (tables : TableRows) (kind : TypeRow) (station : Station) (lost : List (List ℕ)) : Type 0 where
   pub only : All (λ a. Contains (approaches_of tables station) a × CanFly kind lost a) (usable tables kind station lost)
   pub each : All (λ a. CanFly kind lost a → Contains (usable tables kind station lost) a) (approaches_of tables station)
 
--- what an approach gives
+-- the landing minima of an approach
 pub record IsLanding (approach : Approach) (pair : Pair) : Type 0 where
   pub ceiling : pair.ceiling ≡ approach.ceiling
   pub visibility : pair.vis ≡ approach.vis16 * 100_584
 
--- The minima for landing are those of the approaches of the station that the type can fly, and all of them.
+-- The landing minima are those of all approaches of the station that the type can fly, and no others.
 pub record AreLandingMinima (tables : TableRows) (kind : TypeRow) (station : Station) (lost : List (List ℕ)) (pairs : List Pair) : Type 0 where
   pub only : All (λ pair. (a : Approach) × Contains (approaches_of tables station) a × CanFly kind lost a × IsLanding a pair) pairs
   pub each : All (λ a. CanFly kind lost a → (pair : Pair) → IsLanding a pair → Contains pairs pair) (approaches_of tables station)

@@ -1,4 +1,4 @@
--- The lowest approach of a station, and the weather with which a flag flight to it needs no alternate (14 CFR
+-- The lowest approaches of a station, and a flag flight's weather without an alternate, from them (14 CFR
 -- 121.621(a)(1)).
 use Rattle.std.specs.Prelude.{◌≡◌, ℕ, ◌+◌, ◌*◌, ◌<◌, ◌≤◌, max, List, map, All, Contains}
 use Rattle.desk_io.specs.Station.{Station}
@@ -8,13 +8,13 @@ use Rattle.ops_tables.specs.Tables.{TableRows}
 use Rattle.airport_minima.specs.Minima.{usable}
 use Rattle.airport_minima.specs.Floor.{circle_of}
 
--- one of some values has the least, and none is lower
+-- the least of the values: one has it, and none is lower
 pub record IsLeastOf (values : List ℕ) (least : ℕ) : Type 0 where
   pub none_is_lower : All (λ value. least ≤ value) values
   pub one_has_it : Contains values least
 
--- The weather at a station with which a flag flight needs no alternate, by the lowest height in feet and the
--- lowest visibility in sixteenths of a mile of the approaches that the type can fly.
+-- The least weather at a station in which a flag flight needs no alternate. It comes from the lowest height in feet
+-- and the lowest visibility in sixteenths of a mile of the approaches that the type can fly.
 pub record IsFlagFloor (tables : TableRows) (kind : TypeRow) (station : Station) (lost : List (List ℕ)) (floor : Pair) : Type 0 where
   pub height : ℕ
   pub lowest_height : IsLeastOf (map (λ a. a.height) (usable tables kind station lost)) height

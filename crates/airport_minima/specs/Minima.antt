@@ -1,4 +1,4 @@
--- The minima of an airport for landing, and as an alternate (14 CFR 121.613, 121.625).
+-- The minima of an airport for landing and as an alternate (14 CFR 121.613, 121.625).
 use Rattle.std.specs.Prelude.{ℕ, ◌*◌, Bool, not, ◌&&◌, List, [], ◌∷◌, ◌++◌, map, filter}
 use Rattle.std.specs.Str.{bytes_eq}
 use Rattle.desk_io.specs.Station.{Station}
@@ -15,11 +15,11 @@ use Rattle.desk_io.specs.Pair.{raised, higher}
 abbrev pub millimetres : ℕ → ℕ
 millimetres sixteenths = sixteenths * 100_584
 
--- whether a type can fly an approach: it has the capability, and hasn't lost it
+-- the type can fly the approach: it has the capability for it and hasn't lost it
 abbrev pub is_usable : TypeRow → List (List ℕ) → Approach → Bool
 is_usable kind lost approach = has_name kind.capabilities approach.capability && not (has_name lost approach.capability)
 
--- the approaches of a station that a type can fly, in the order of the table
+-- the approaches of a station that the type can fly, in the order of the table
 abbrev pub usable : TableRows → TypeRow → Station → List (List ℕ) → List Approach
 usable tables kind station lost = filter (λ a. is_usable kind lost a) (approaches_of tables station)
 
@@ -31,47 +31,47 @@ minima_of approach = record { ceiling = approach.ceiling; vis = millimetres appr
 unfoldable pub landing : TableRows → TypeRow → Station → List (List ℕ) → List Pair
 landing tables kind station lost = map (λ a. minima_of a) (usable tables kind station lost)
 
--- what is added for an alternate to the minima of one approach
+-- the addend for the alternate minima of one approach
 abbrev pub single_addend : Settings → Pair
 single_addend settings = record { ceiling = settings.single_ceiling; vis = millimetres settings.single_vis16 }
 
--- what is added for an alternate to the higher minima of two approaches
+-- the addend for the alternate minima of two approaches
 abbrev pub double_addend : Settings → Pair
 double_addend settings = record { ceiling = settings.double_ceiling; vis = millimetres settings.double_vis16 }
 
--- one approach, with the addend
+-- the minima of one approach plus the addend
 abbrev pub single : Pair → Approach → Pair
 single addend approach = raised addend (minima_of approach)
 
--- two approaches: the higher ceiling and the higher visibility, with the addend
+-- the higher ceiling and the higher visibility of two approaches plus the addend
 abbrev pub double : Pair → Approach → Approach → Pair
 double addend first second = raised addend (higher (minima_of first) (minima_of second))
 
--- whether two approaches lead to different runways
+-- the approaches lead to different runways
 abbrev pub are_apart : Approach → Approach → Bool
 are_apart first second = not (bytes_eq second.runway first.runway)
 
--- an approach with each later one to another runway
+-- the minima of an approach with each later one to another runway
 abbrev pub doubles_with : Pair → Approach → List Approach → List Pair
 doubles_with addend first later = map (λ second. double addend first second) (filter (λ second. are_apart first second) later)
 
--- each approach with each later one to another runway
+-- the minima of every two approaches to different runways
 abbrev pub doubles : Pair → List Approach → List Pair
 doubles addend [] = []
 doubles addend (first ∷ later) = doubles_with addend first later ++ doubles addend later
 
--- the alternate minima that are derived from approaches
+-- the alternate minima from these approaches
 abbrev pub derived : Settings → List Approach → List Pair
 derived settings approaches = map (λ a. single (single_addend settings) a) approaches ++ doubles (double_addend settings) approaches
 
 abbrev pub own_minima : AlternateRow → Pair
 own_minima row = record { ceiling = row.ceiling; vis = millimetres row.vis16 }
 
--- a station's own alternate minima, where it has any, in place of the derived ones
+-- the station's own alternate minima if it has any, otherwise these others
 abbrev pub own_or : List AlternateRow → List Pair → List Pair
 own_or [] others = others
 own_or (row ∷ rows) others = map (λ r. own_minima r) (row ∷ rows)
 
--- the minima of a station as an alternate
+-- the alternate minima of a station
 unfoldable pub alternate_pairs : TableRows → TypeRow → Station → List (List ℕ) → List Pair
 alternate_pairs tables kind station lost = own_or (alternates_of tables station) (derived tables.settings (usable tables kind station lost))

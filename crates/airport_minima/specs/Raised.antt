@@ -1,4 +1,4 @@
--- The landing minima for a captain with few hours in the type (14 CFR 121.652).
+-- Raising landing minima for a captain with few hours in the type (14 CFR 121.652).
 use Rattle.std.specs.Prelude.{min, List, [], ◌∷◌, ◌++◌, map}
 use Rattle.desk_io.specs.declared.pair.Pair.{Pair}
 use Rattle.desk_io.specs.Pair.{higher}
@@ -16,15 +16,15 @@ least = record { ceiling = 300; vis = 1_609_344 }
 abbrev pub lower : Pair → Pair → Pair
 lower a b = record { ceiling = min a.ceiling b.ceiling; vis = min a.vis b.vis }
 
--- where the airport has no minima as an alternate
+-- the increase if the airport has no alternate minima
 abbrev pub raised_freely : Pair → Pair
 raised_freely landing = higher least (increased landing)
 
--- not above minima of the airport as an alternate, and nowhere below the landing minima
+-- the increase up to the airport's alternate minima, but not below the landing minima
 abbrev pub raised_to : Pair → Pair → Pair
 raised_to landing alternate = higher least (higher landing (lower (increased landing) alternate))
 
--- some landing minima, with each of those of the airport as an alternate
+-- the landing minima, raised, and limited by each of the alternate minima in turn
 abbrev pub raised_by : List Pair → Pair → List Pair
 raised_by [] landing = raised_freely landing ∷ []
 raised_by (first ∷ others) landing = map (λ alternate. raised_to landing alternate) (first ∷ others)
@@ -33,6 +33,6 @@ abbrev pub each_raised : List Pair → List Pair → List Pair
 each_raised [] alternate = []
 each_raised (landing ∷ others) alternate = raised_by alternate landing ++ each_raised others alternate
 
--- the landing minima of a station, raised by those that it has as an alternate
+-- the landing minima of a station, raised up to its alternate minima
 unfoldable pub raised : List Pair → List Pair → List Pair
 raised landing alternate = each_raised landing alternate

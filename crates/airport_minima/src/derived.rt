@@ -38,9 +38,8 @@ fn landing_of_usable(
     Ok(Listed::from_vec(landing_minima(alloc, &usable)?))
 }
 
-/// The landing minima of a station: those of each approach that the type can fly, in the order of
-/// the table (14 CFR 121.613). A type can fly an approach where its capability is among the type's
-/// and not among the lost ones.
+/// Returns the landing minima of a station: those of each approach that the type can fly, in the order of the table
+/// (14 CFR 121.613). A type can fly an approach if it has the capability for it and that capability isn't in `lost`.
 pub fn landing(
     alloc: Global,
     tables: &Tables,
@@ -122,7 +121,7 @@ pub(crate) fn are_apart(first: &Approach, second: &Approach) -> bool
     second.runway.bytes() != first.runway.bytes()
 }
 
-// Adds an approach with each later one to another runway.
+// Adds the minima of an approach with each later one to another runway.
 fn push_doubles(
     pairs: &mut Vec<Pair>,
     addend: Pair,
@@ -146,7 +145,7 @@ fn push_doubles(
     Ok(())
 }
 
-// Adds each approach with each later one to another runway.
+// Adds the minima of every two approaches to different runways.
 fn push_all_doubles(
     pairs: &mut Vec<Pair>,
     addend: Pair,
@@ -225,10 +224,9 @@ fn own_or_derived(
     Ok(Listed::from_vec(derived(alloc, tables.settings(), &usable)?))
 }
 
-/// The minima of a station as an alternate (14 CFR 121.625): its own where the table has any, in
-/// the order of the table. Otherwise they are derived from the approaches that the type can fly:
-/// first each with the single addend, then each two to different runways, in the order of the first
-/// and then of the second, with the higher ceiling, the higher visibility and the double addend.
+/// Returns the alternate minima of a station (14 CFR 121.625), which are its own if the table has any. Otherwise they
+/// come from the approaches that the type can fly. Each approach gives its minima plus the single addend. Then every
+/// two approaches to different runways give the higher ceiling and the higher visibility, plus the double addend.
 pub fn alternate_pairs(
     alloc: Global,
     tables: &Tables,

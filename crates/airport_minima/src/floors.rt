@@ -10,8 +10,7 @@ use crate::usable::{is_usable, millimetres};
 use desk_io::{MILE, Pair, Station};
 use ops_tables::{Approach, Group, Lost, Tables, TypeRow};
 
-/// The least height in feet and the least visibility in sixteenths of a statute mile of some
-/// approaches.
+/// The least height in feet and the least visibility in sixteenths of a statute mile of some approaches.
 #[derive(Clone, Copy, Debug)]
 struct Lowest {
     height: u32,
@@ -89,11 +88,10 @@ fn floor_over(tables: &Tables, kind: &TypeRow, station: Station, lost: &Lost) ->
     })
 }
 
-/// The weather at the destination at or above which a flag flight needs no alternate (14 CFR
-/// 121.621(a)(1)); none exactly where there is no approach that the type can fly. The ceiling is
-/// 1,500 feet above the circling minimum. Where the airport has none, it is 2,000 feet or 1,500 above
-/// the lowest height, whichever is greater. The visibility is 3 statute miles, or 2 more than the
-/// lowest visibility, whichever is greater. It takes no memory.
+/// Returns the least weather at the destination in which a flag flight needs no alternate (14 CFR 121.621(a)(1)). It
+/// is None exactly if the type can fly no approach there. The ceiling is 1,500 feet above the circling minimum.
+/// Without circling it is 1,500 feet above the lowest height, but at least 2,000 feet. The visibility is 2 statute
+/// miles more than the lowest of an approach, but at least 3. It allocates nothing.
 pub fn flag_floor(tables: &Tables, kind: &TypeRow, station: Station, lost: &Lost) -> Option<Pair>
     ensures value { result ≡ flag_floor tables.now kind.now station lost.now }
     ensures lowest { MatchOption result (length (usable tables.now kind.now station lost.now) ≡ 0)

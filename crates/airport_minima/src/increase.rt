@@ -54,7 +54,7 @@ fn raised_to(landing: Pair, alternate: Pair) -> Pair
     least().higher(landing.higher(limited))
 }
 
-// Adds landing minima with each of those of the airport as an alternate.
+// Adds the raised landing minima, limited by each of the alternate minima in turn.
 fn push_each(pairs: &mut Vec<Pair>, landing: Pair, alternate: &[Pair]) -> Result<(), OutOfMemory>
     requires ceiling { landing.ceiling ≤ 40_000 }
     requires vis { landing.vis ≤ 32_186_880 }
@@ -66,7 +66,7 @@ fn push_each(pairs: &mut Vec<Pair>, landing: Pair, alternate: &[Pair]) -> Result
     Ok(())
 }
 
-// Adds landing minima as they are raised.
+// Adds the raised landing minima, limited by the alternate minima if there are any.
 fn push_raised(pairs: &mut Vec<Pair>, landing: Pair, alternate: &[Pair]) -> Result<(), OutOfMemory>
     requires ceiling { landing.ceiling ≤ 40_000 }
     requires vis { landing.vis ≤ 32_186_880 }
@@ -103,10 +103,10 @@ fn raised_pairs(alloc: Global, landing: &Pairs, alternate: &Pairs) -> Result<Pai
     Ok(Listed::from_vec(pairs))
 }
 
-/// The landing minima of a station for a captain with few hours in the type (14 CFR 121.652): each 100
-/// feet and half a statute mile higher, but not above the minima of the station as an alternate, and
-/// never below 300 feet and one mile, nor below what they were. Each goes with each of the alternate
-/// minima in turn; where there are none, nothing but the addend counts.
+/// Returns the landing minima of a station for a captain with few hours in the type (14 CFR 121.652). Each is raised
+/// by 100 feet and half a mile, but not above the station's alternate minima. None is below 300 feet and one mile, or
+/// below what it was. Each of the landing minima is limited by each of the alternate minima in turn. Without
+/// alternate minima there is no limit.
 pub fn raised(alloc: Global, landing: &Pairs, alternate: &Pairs) -> Result<Pairs, OutOfMemory>
     requires { AreWithin 40_000 32_186_880 landing.now }
     ensures value { IfOk result (λ pairs. pairs ≡ raised landing.now alternate.now) }

@@ -6,10 +6,10 @@ use desk_io::{OutOfMemory, Pair};
 use ops_tables::{Approach, Group, Lost, TypeRow, has_name};
 use std::alloc::Global;
 
-/// Millimetres in a sixteenth of a statute mile.
+/// A sixteenth of a statute mile in millimetres.
 pub(crate) const SIXTEENTH: u32 = 100_584;
 
-/// Sixteenths of a statute mile in millimetres, of at most ten miles.
+/// Converts sixteenths of a statute mile to millimetres, up to ten miles.
 pub fn millimetres(sixteenths: u32) -> u32
     requires { sixteenths ≤ 160 }
     ensures { result ≡ spec.millimetres sixteenths }
@@ -17,7 +17,7 @@ pub fn millimetres(sixteenths: u32) -> u32
     sixteenths * SIXTEENTH
 }
 
-// Whether a type can fly an approach: it has the capability, and hasn't lost it.
+// Returns true if the type can fly the approach: it has the capability for it and hasn't lost it.
 pub(crate) fn is_usable(kind: &TypeRow, lost: &Lost, approach: &Approach) -> bool
     ensures { result ≡ spec.is_usable kind.now lost.now approach.now }
 {
@@ -25,7 +25,7 @@ pub(crate) fn is_usable(kind: &TypeRow, lost: &Lost, approach: &Approach) -> boo
     kind.capabilities.has(capability) && !has_name(lost, capability)
 }
 
-// The landing minima of an approach.
+// Returns the landing minima of an approach.
 pub(crate) fn minima_of(approach: &Approach) -> Pair
     requires { FitsApproach approach.now }
     ensures value { result ≡ spec.minima_of approach.now }
@@ -38,7 +38,7 @@ pub(crate) fn minima_of(approach: &Approach) -> Pair
     }
 }
 
-// Those of the approaches that a type can fly.
+// Returns the approaches that the type can fly, in the order of the group.
 pub(crate) fn usable<'a>(
     alloc: Global,
     approaches: &Group<'a, Approach>,

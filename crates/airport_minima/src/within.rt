@@ -11,7 +11,7 @@ use crate::usable::{SIXTEENTH, is_usable};
 use desk_io::{MILE, Pair, Station};
 use ops_tables::{AlternateRow, Approach, Group, Lost, Tables, TypeRow};
 
-/// Bounds of a ceiling in feet and of a visibility in millimetres, each where there is one.
+/// Upper bounds of minima. None is no bound.
 #[derive(Clone, Copy, Debug)]
 pub struct Bounds {
     /// The ceiling in feet.
@@ -20,7 +20,7 @@ pub struct Bounds {
     pub vis: Option<u32>,
 }
 
-// Which minima there are: any, some with a ceiling within its bound, some with such a visibility, some with both.
+// Whether there are alternate minima at all, with a ceiling within its bound, with such a visibility, and with both.
 #[derive(Clone, Copy, Debug)]
 struct Found {
     any: bool,
@@ -52,7 +52,7 @@ fn is_row_within(bounds: Bounds, row: &AlternateRow) -> bool
         && is_low(bounds.vis, wide_millimetres(row.vis16))
 }
 
-// Whether some of an airport's own minima are within bounds.
+// Returns true if one of the airport's own alternate minima is within the bounds.
 fn has_own_within(bounds: Bounds, rows: &Group<'_, AlternateRow>) -> bool
     ensures { result ≡ has_within bounds (map (λ r. minima.own_minima r) rows.now) }
 {
@@ -72,7 +72,7 @@ fn is_single_within(bounds: Bounds, addend: Pair, approach: &Approach) -> bool
     is_low(bounds.ceiling, ceiling) && is_low(bounds.vis, vis)
 }
 
-// Whether the minima that some approach gives are within bounds.
+// Returns true if the minima of one approach, with the addend, are within the bounds.
 fn has_single_within(
     bounds: Bounds,
     addend: Pair,
@@ -92,8 +92,8 @@ fn has_single_within(
     false
 }
 
-// Whether the minima that some two approaches to different runways give are within bounds: both of them are, with the
-// addend, so that each further one is compared with the first alone.
+// Returns true if the minima of two approaches to different runways are within the bounds. They are exactly if those
+// of each approach alone, with the addend, are. So each further approach is compared only with the first.
 fn has_double_within(
     bounds: Bounds,
     addend: Pair,
@@ -134,8 +134,9 @@ fn has_derived_within(
         || has_double_within(bounds, double_addend(settings), &approaches, kind, lost)
 }
 
-/// Whether some minima of a station as an alternate (14 CFR 121.625) are at or below these bounds in both elements.
-/// They are those that `alternate_pairs` lists. It takes no memory, and looks at each approach twice at most.
+/// Returns true if one of the station's alternate minima (14 CFR 121.625) is at or below these bounds in both
+/// elements. The minima are those that `alternate_pairs` lists. It allocates nothing and examines each approach at
+/// most twice.
 #[tactic(auto, unfolding(crate::specs::Minima::alternate_pairs))]
 pub fn has_alternate_within(
     tables: &Tables,
@@ -223,9 +224,9 @@ fn some_raised_within(bounds: Bounds, found: Found, landing: &[Pair]) -> bool
         .any(|pair| is_raised_within(bounds, found, *pair))
 }
 
-/// Whether some of these landing minima, as they are raised by the minima of the station as an alternate for a captain
-/// with few hours in the type (14 CFR 121.652), are at or below these bounds in both elements. They are those that
-/// `raised` lists. It takes no memory, and looks at each of the landing minima once.
+/// Returns true if one of the raised landing minima is at or below these bounds in both elements. They are raised for
+/// a captain with few hours in the type (14 CFR 121.652), and are those that `raised` lists. It allocates nothing and
+/// examines each of the landing minima once.
 #[tactic(auto, using(crate::proofs::RaisedWithin::raised_within))]
 pub fn has_raised_within(
     tables: &Tables,

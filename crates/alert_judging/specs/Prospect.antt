@@ -1,4 +1,4 @@
--- What is judged: what the desk holds, once an effect is there.
+-- The state to judge: what the desk holds after an effect.
 use Rattle.std.specs.Prelude.{ℕ, ◌+◌, ◌<◌, ◌==◌, true, if◌then◌else◌, List, [], ◌∷◌, ◌++◌, Option, None, Some}
 use Rattle.plan.specs.declared.release.Release.{Release}
 use Rattle.rules.specs.Grounds.{Grounds}
@@ -16,24 +16,24 @@ use Rattle.desk_state.specs.Sound.{AreOpen}
 use Rattle.desk_state.specs.Events.{effected, reports_after, change_between, changes_from, kept_alert}
 use Rattle.alert_judging.specs.declared.prospect.Prospect.{Prospect}
 
--- a version that leaves room for one more
+-- a version that can be incremented
 abbrev pub IsBounded : Alert → Type 0
 IsBounded a = a.version < 1_000_000_000_000_000
 
--- the state once the effect is there
+-- the state after the effect
 abbrev pub prospect : Prospect → State
 prospect p = effected p.effect.now p.content.now.state
 
--- What a judgement stands on once the effect is there, but for what it sweeps away. A sweep leaves each latest report, so
--- that a judgement finds the same before it and after it.
+-- The facts of a judgement after the effect, except that a sweep removes nothing yet. A sweep keeps each latest
+-- report, so the judgement finds the same before and after it.
 abbrev pub before_sweep : Prospect → Grounds
 before_sweep p = record (grounds_of (prospect p)) { reports = reports_after p.effect.now.report p.content.now.state.reports }
 
--- what holds of open deferrals holds once the effect is there
+-- the open deferrals are within their bounds after the effect
 abbrev pub AreOpenThen : Prospect → Type 0
 AreOpenThen p = AreOpen (prospect p).counters.next_deferral (prospect p).deferrals
 
--- what an effect defers, and what it clears
+-- the deferral that an effect opens, and the one that it clears
 
 abbrev pub deferred_of : OnDeferrals → Option Deferral
 deferred_of on_deferrals.Nothing = None
@@ -45,7 +45,7 @@ cleared_of on_deferrals.Nothing = None
 cleared_of (on_deferrals.Open d) = None
 cleared_of (on_deferrals.Clear id) = Some id
 
--- the release of an id once an effect is there, by the one that is held
+-- the release with this id after an effect, given the stored one
 abbrev pub release_then : OnReleases → ℕ → Option Release → Option Release
 release_then on_releases.Nothing id held = held
 release_then (on_releases.File r) id held = if r.id == id then Some r else held
@@ -56,19 +56,19 @@ abbrev pub seen_by : ℕ → Option Alert → Option Alert
 seen_by seen None = None
 seen_by seen (Some a) = if a.release == seen then Some (record a { acknowledged = true }) else None
 
--- the alert of a release, where an effect acknowledges it
+-- the alert of a release, if an effect acknowledges it
 abbrev pub acknowledged_by : OnAlerts → Option Alert → Option Alert
 acknowledged_by on_alerts.Nothing before = None
 acknowledged_by (on_alerts.Take gone) before = None
 acknowledged_by (on_alerts.Acknowledge seen) before = seen_by seen before
 
--- the alert of a release, unless an effect takes it away
+-- the alert of a release, unless an effect removes it
 abbrev pub left_by : OnAlerts → ℕ → Option Alert → Option Alert
 left_by on_alerts.Nothing id before = before
 left_by (on_alerts.Take gone) id before = if id == gone then None else before
 left_by (on_alerts.Acknowledge seen) id before = before
 
--- the alert of a release once it is judged
+-- the alert of a release after it is judged
 abbrev pub judged_by : Prospect → Release → Option Alert → Option Alert
 judged_by p r kept = alert_for (failing_of (grounds_of (prospect p)) r) kept r (prospect p).moment
 
@@ -76,22 +76,22 @@ judged_by p r kept = alert_for (failing_of (grounds_of (prospect p)) r) kept r (
 abbrev pub changes_of : Prospect → Option Alert → Release → List AlertChange
 changes_of p before r = change_between r.id before (kept_alert p.effect.now.on_alerts r.id before) ++ change_between r.id (kept_alert p.effect.now.on_alerts r.id before) (judged_by p r (kept_alert p.effect.now.on_alerts r.id before))
 
--- those of the alert of a release that was found
+-- the changes of the alert of a release, if it was found
 abbrev pub changes_found : Prospect → Option Release → List AlertChange
 changes_found p None = []
 changes_found p (Some r) = changes_from (prospect p) (alert_at r.id p.content.now.state.alerts) r
 
--- how many were found
+-- the number of releases found
 abbrev pub count_found : Option Release → ℕ
 count_found None = 0
 count_found (Some r) = 1
 
--- the changes of the alerts of the releases of some ids
+-- the changes of the alerts of the releases with these ids
 abbrev pub changes_named : Prospect → List ℕ → List AlertChange
 changes_named p [] = []
 changes_named p (id ∷ ids) = changes_found p (release_at id (prospect p).releases) ++ changes_named p ids
 
--- how many releases have one of some ids
+-- the number of releases with these ids
 abbrev pub count_named : Prospect → List ℕ → ℕ
 count_named p [] = 0
 count_named p (id ∷ ids) = count_found (release_at id (prospect p).releases) + count_named p ids

@@ -17,7 +17,7 @@ fn copied_alert(alloc: Global, alert: Option<&Alert>) -> Result<Option<Alert>, O
     }
 }
 
-// The same version, acknowledged or not.
+// Returns true if both alerts have the same version, and both or neither are acknowledged.
 fn is_same_alert(one: &Alert, two: &Alert) -> bool
     ensures { result ≡ events.is_same_alert one.now two.now }
 {
@@ -30,7 +30,7 @@ fn is_same_mark(one: bool, two: bool) -> bool
     if one { two } else { !two }
 }
 
-/// Adds what became of a release's alert, where it isn't the same.
+/// Appends the change of a release's alert, unless it is the same before and after.
 pub(crate) fn push_change(
     alloc: Global,
     out: &mut Vec<AlertChange>,
@@ -54,7 +54,7 @@ pub(crate) fn push_change(
     Ok(())
 }
 
-/// What is told of changes of alerts.
+/// Returns the notices that dispatchers get of changes of alerts.
 pub fn notices_of(alloc: Global, changes: &[AlertChange]) -> Result<Notices, OutOfMemory>
     ensures { IfOk result (λ n. n ≡ events.notices_of changes.now) }
 {

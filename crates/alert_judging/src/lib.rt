@@ -1,5 +1,5 @@
-//! Which alerts an event changes: the active releases that it touches are found by halves, and judged by what is held
-//! once its effect is there.
+//! The alerts that an event changes. The active releases that it touches are looked up by binary search, and judged
+//! by the state after its effect.
 #![tactic(auto)]
 
 mod changes;

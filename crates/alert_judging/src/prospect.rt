@@ -25,12 +25,12 @@ use rules::{Evidence, Steps, judge_by};
 use std::alloc::Global;
 use std::sync::ledger::Ledger;
 
-/// What is judged: what the board holds, once an effect is there.
+/// The state to judge: what the board holds, after an effect.
 #[derive(Clone, Copy)]
 pub struct Prospect<'a> {
-    /// What the board holds.
+    /// What the board holds now.
     pub content: &'a Content,
-    /// What is about to change.
+    /// The effect to come.
     pub effect: &'a Effect,
 }
 
@@ -44,7 +44,7 @@ impl<'a> Prospect<'a> {
         }
     }
 
-    // The report that is about to be admitted.
+    // Returns the report to be admitted.
     #[tactic(auto, using(crate::proofs::Parts::reports_then))]
     fn fresh(&self) -> Option<&'a Report>
         ensures { events.reports_after self.now.effect.now.report self.now.content.now.state.reports
@@ -53,7 +53,7 @@ impl<'a> Prospect<'a> {
         self.effect.report.as_ref()
     }
 
-    // The item that is about to be deferred.
+    // Returns the deferral to be opened.
     fn deferred(&self) -> Option<&'a Deferral>
         ensures { option_copied result ≡ spec.deferred_of self.now.effect.now.on_deferrals }
     {
@@ -63,7 +63,7 @@ impl<'a> Prospect<'a> {
         }
     }
 
-    // The deferral that is about to go.
+    // Returns the id of the deferral to be cleared.
     fn cleared(&self) -> Option<u64>
         ensures { result ≡ spec.cleared_of self.now.effect.now.on_deferrals }
     {
@@ -88,7 +88,7 @@ impl<'a> Prospect<'a> {
         }
     }
 
-    // The release of an id once the effect is there: the one that it brings, or else the one that is held.
+    // Returns the release with this id after the effect: the one that the effect brings, or else the stored one.
     fn found(&self, id: u64) -> Option<&'a Release>
         ensures { option_copied result ≡ spec.release_then self.now.effect.now.on_releases id
             (release_at id self.now.content.now.state.releases) }
@@ -102,7 +102,7 @@ impl<'a> Prospect<'a> {
         }
     }
 
-    // The release of an id once the effect is there.
+    // Returns the release with this id after the effect.
     #[tactic(auto, using(crate::proofs::Then::then_is))]
     fn release(&self, id: u64) -> Option<&'a Release>
         requires { EffectFits self.now.content.now.state self.now.effect.now }
@@ -112,7 +112,7 @@ impl<'a> Prospect<'a> {
         self.found(id)
     }
 
-    // The rules that a plan fails once the effect is there.
+    // Returns the rules that a plan fails after the effect.
     fn findings<L: Ledger>(
         &self,
         alloc: Global,
@@ -128,7 +128,7 @@ impl<'a> Prospect<'a> {
         judge_by(alloc, plan, phase, self.evidence(), steps)
     }
 
-    // The rules that an active release fails.
+    // Returns the rules that a release fails, if it is active.
     fn failing<L: Ledger>(
         &self,
         alloc: Global,
@@ -149,7 +149,7 @@ impl<'a> Prospect<'a> {
         }
     }
 
-    // The alert of a release, acknowledged where the effect says so.
+    // Returns the acknowledged alert of a release, if the effect acknowledges it.
     fn acknowledged(
         &self,
         alloc: Global,
@@ -168,7 +168,7 @@ impl<'a> Prospect<'a> {
         }
     }
 
-    // The alert of a release that the effect leaves, where it isn't acknowledged by it.
+    // Returns the alert of a release, unless the effect removes it.
     fn left<'b>(&self, before: Option<&'b Alert>, id: u64) -> Option<&'b Alert>
         ensures { option_copied result ≡ spec.left_by self.now.effect.now.on_alerts id (option_copied before.entry) }
     {
@@ -178,7 +178,7 @@ impl<'a> Prospect<'a> {
         }
     }
 
-    // The alert of a release that the effect leaves.
+    // Returns the alert of a release after the effect, before the judgement.
     #[tactic(auto, using(crate::proofs::Then::kept_seen, crate::proofs::Then::kept_left))]
     fn kept<'b>(
         &self,
@@ -246,7 +246,7 @@ impl<'a> Prospect<'a> {
         push_change(alloc, out, release.id, kept, after.as_ref())
     }
 
-    // The changes of the alert of the release of an id, where there is one.
+    // Appends the changes of the alert of the release with this id, if there is one.
     #[tactic(auto, using(crate::proofs::Then::open_then, crate::proofs::Then::alert_bounded, crate::proofs::Then::found_changes))]
     fn push_found<L: Ledger>(
         &self,
@@ -270,7 +270,7 @@ impl<'a> Prospect<'a> {
         }
     }
 
-    // The changes of the alerts of the releases of some ids.
+    // Returns the changes of the alerts of the releases with these ids.
     fn changes_named<L: Ledger>(
         &self,
         alloc: Global,
@@ -288,7 +288,8 @@ impl<'a> Prospect<'a> {
         Ok(out)
     }
 
-    // The changes of the alerts, where these are judged. Only the releases that the effect touches are judged.
+    // Returns the changes of the alerts, which must be judged already. Judges only the releases that the effect
+    // touches.
     fn changes<L: Ledger>(
         &self,
         alloc: Global,
@@ -304,8 +305,8 @@ impl<'a> Prospect<'a> {
         self.changes_named(alloc, &ids, steps)
     }
 
-    /// The changes of the alerts by the effect and by the judgement of every active release, in order of the releases,
-    /// where nothing is known of the alerts but that each is that of a release. Every active release is judged.
+    /// Returns the changes of the alerts by the effect and by the judgement, in order of the releases. The alerts
+    /// need not be judged yet, so it judges every active release.
     pub fn all_changes<L: Ledger>(
         &self,
         alloc: Global,
@@ -320,9 +321,8 @@ impl<'a> Prospect<'a> {
     }
 }
 
-/// The changes of the alerts by an effect that may be made and by the judgement of every active release, in order of
-/// the releases. Only the releases that the effect touches are judged, which are found by halves: the others' rules
-/// find the same as before.
+/// Returns the changes of the alerts by an effect and by the judgement after it, in order of the releases. Judges
+/// only the releases that the effect touches, looked up by binary search. The findings of all others stay the same.
 pub fn touched_changes<L: Ledger>(
     alloc: Global,
     held: &Alerted,

@@ -14,7 +14,7 @@ use plan::Release;
 use release_index::OnReleases;
 use std::alloc::Global;
 
-// Adds the ids of some releases.
+// Appends the ids of the releases.
 fn push_all(ids: &mut Vec<u64>, releases: &[Release]) -> Result<(), OutOfMemory>
     ensures { OnOk result (ids.new.items ≡ ids.old.items ++ map (λ r. r.id) releases.now) }
 {
@@ -24,7 +24,7 @@ fn push_all(ids: &mut Vec<u64>, releases: &[Release]) -> Result<(), OutOfMemory>
     Ok(())
 }
 
-// Puts ids in rising order, each once. It takes no memory.
+// Sorts ids and removes duplicates. Allocates no memory.
 fn sort_once(ids: &mut Vec<u64>)
     ensures rising { IsStrictlyIncreasing ids.new.items }
     ensures same { (id : ℕ) → is_among ids.new.items id ≡ is_among ids.old.items id }
@@ -34,7 +34,7 @@ fn sort_once(ids: &mut Vec<u64>)
 }
 
 impl<'a> Prospect<'a> {
-    // Adds the ids of the releases that the report touches which is admitted.
+    // Appends the ids of the releases that the admitted report touches.
     fn push_by_report(&self, ids: &mut Vec<u64>) -> Result<(), OutOfMemory>
         ensures { OnOk result (Adds (λ id. held_where (touched.by_report self.now.effect.now.report) id
             self.now.content.now.state.releases) ids.old.items ids.new.items) }
@@ -46,7 +46,7 @@ impl<'a> Prospect<'a> {
         }
     }
 
-    // Adds the ids of the releases that a deferral touches which is cleared, where one is open.
+    // Appends the ids of the releases that the cleared deferral touches, if it is open.
     fn push_by_cleared(
         &self,
         ids: &mut Vec<u64>,
@@ -62,7 +62,7 @@ impl<'a> Prospect<'a> {
         }
     }
 
-    // Adds the ids of the releases that the deferral touches which is opened or cleared.
+    // Appends the ids of the releases that the opened or cleared deferral touches.
     fn push_by_deferral(&self, ids: &mut Vec<u64>) -> Result<(), OutOfMemory>
         ensures { OnOk result (Adds (λ id. held_where (touched.by_deferral self.now.effect.now.on_deferrals
             self.now.content.now.state.deferrals) id self.now.content.now.state.releases) ids.old.items
@@ -78,7 +78,7 @@ impl<'a> Prospect<'a> {
         }
     }
 
-    // Adds the ids of the releases that the time touches which passes.
+    // Appends the ids of the releases that the passing time touches.
     fn push_by_time(&self, ids: &mut Vec<u64>) -> Result<(), OutOfMemory>
         ensures { OnOk result (Adds (λ id. held_where (touched.by_time self.now.effect.now.moment
             self.now.content.now.state.tables.settings self.now.content.now.state.moment) id
@@ -91,7 +91,7 @@ impl<'a> Prospect<'a> {
         }
     }
 
-    // Adds the id of the release that is filed or put in the place of another.
+    // Appends the id of the release that is filed or replaced.
     fn push_by_release(&self, ids: &mut Vec<u64>) -> Result<(), OutOfMemory>
         ensures { OnOk result (Adds (touched.by_release self.now.effect.now.on_releases) ids.old.items
             ids.new.items) }
@@ -103,7 +103,7 @@ impl<'a> Prospect<'a> {
         Ok(())
     }
 
-    // Adds the id of the release whose alert is taken away or acknowledged.
+    // Appends the id of the release whose alert is removed or acknowledged.
     fn push_by_alert(&self, ids: &mut Vec<u64>) -> Result<(), OutOfMemory>
         ensures { OnOk result (Adds (touched.by_alert self.now.effect.now.on_alerts) ids.old.items
             ids.new.items) }
@@ -115,7 +115,7 @@ impl<'a> Prospect<'a> {
         Ok(())
     }
 
-    /// The ids of the releases that the effect touches, in rising order. They are found by halves.
+    /// Returns the ids of the releases that the effect touches, in increasing order. Looks them up by binary search.
     pub(crate) fn touched_ids(&self, alloc: Global) -> Result<Vec<u64>, OutOfMemory>
         ensures rising { IfOk result (λ ids. IsStrictlyIncreasing ids.items) }
         ensures touched { IfOk result (λ ids. (id : ℕ) → is_among ids.items id
@@ -131,7 +131,7 @@ impl<'a> Prospect<'a> {
         Ok(ids)
     }
 
-    /// The ids of the releases that are held, and of the one that the effect brings, in rising order.
+    /// Returns the ids of all stored releases and of the one that the effect brings, in increasing order.
     pub(crate) fn all_ids(&self, alloc: Global) -> Result<Vec<u64>, OutOfMemory>
         ensures rising { IfOk result (λ ids. IsStrictlyIncreasing ids.items) }
         ensures there { IfOk result (λ ids. (id : ℕ) → is_among ids.items id

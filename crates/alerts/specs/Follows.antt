@@ -1,10 +1,10 @@
--- What becomes of the alert of a release by a judgement.
+-- What a judgement makes of the alert of a release.
 use Rattle.std.specs.Prelude.{◌≡◌, ◌≢◌, ℕ, ◌+◌, ◌++◌, false, List, [], ◌∷◌, Option, None, Some}
 use Rattle.plan.specs.declared.findings.Finding.{Finding}
 use Rattle.plan.specs.Findings.{AreAmong}
 use Rattle.alerts.specs.declared.alert.Alert.{Alert}
 
--- a new alert: its first version, opened now, told to a dispatcher, naming exactly the rules that fail
+-- a new alert: version 1, opened now, for this dispatcher, with exactly the rules that fail
 pub record IsOpened (id moment : ℕ) (holder : List ℕ) (findings : List Finding) (a : Alert) : Type 0 where
   pub release : a.release ≡ id
   pub desk : a.desk ≡ holder
@@ -14,9 +14,9 @@ pub record IsOpened (id moment : ℕ) (holder : List ℕ) (findings : List Findi
   pub ever : a.ever ≡ findings
   pub acknowledged : a.acknowledged ≡ false
 
--- An alert that was open and stays: it names exactly the rules that fail now, keeps every rule that it ever named, and gains
--- none but those that fail now. Where the same rules fail it is as it was; where others do its version is one more, and
--- nobody has acknowledged it.
+-- An open alert that stays. It has exactly the rules that fail now. `ever` keeps its rules and gains only those that
+-- fail now. If the same rules fail, the alert is unchanged. Otherwise its version is one more and it isn't
+-- acknowledged.
 pub record StaysOpen (old : Alert) (findings : List Finding) (a : Alert) : Type 0 where
   pub release : a.release ≡ old.release
   pub desk : a.desk ≡ old.desk
@@ -27,7 +27,7 @@ pub record StaysOpen (old : Alert) (findings : List Finding) (a : Alert) : Type 
   pub keeps : AreAmong a.ever old.ever
   pub gains : AreAmong (old.ever ++ findings) a.ever
 
--- None opens where no rule fails, and one that is open stays, also where no rule fails any more.
+-- No alert opens if no rule fails. An open alert stays, even if no rule fails any more.
 abbrev pub Follows : Option Alert → ℕ → List ℕ → List Finding → ℕ → Option Alert → Type 0
 Follows None release desk [] moment None = Unit {0}
 Follows None release desk [] moment (Some a) = ⊥

@@ -1,4 +1,4 @@
--- What is seen of the bell in memory. Want of memory may fail any call of it.
+-- The model of the bell in memory, any call of which may fail for lack of memory.
 use Rattle.std.specs.Prelude.{Some}
 use Rattle.alerts.specs.Seen.{BellSeen}
 use Rattle.alerts.specs.declared.memory_bell.MemoryBell.{MemoryBell}

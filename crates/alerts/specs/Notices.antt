@@ -1,4 +1,4 @@
--- What a dispatcher is told of the alerts of his releases.
+-- The notices that a dispatcher receives about the alerts of his releases.
 use Rattle.std.specs.Prelude.{nat_lt, if◌then◌else◌, Option, None, Some}
 use Rattle.alerts.specs.declared.alert.Alert.{Alert}
 use Rattle.alerts.specs.declared.notices.Notice.{Notice}
@@ -8,8 +8,8 @@ use Rattle.alerts.specs.declared.notices.NoticeKind.TheVariants.{Opened, Changed
 abbrev pub made_notice : NoticeKind → Alert → Notice
 made_notice kind a = record { desk = a.desk; release = a.release; version = a.version; kind = kind }
 
--- of a release's alert before and after an event: opened where it is new, changed where its version
--- rose, closed where it went
+-- The notice about a release's alert, from the alert before and after an event. It is opened if it is new, changed if
+-- its version increased, and closed if it is gone.
 abbrev pub notice_of : Option Alert → Option Alert → Option Notice
 notice_of None None = None
 notice_of None (Some a) = Some (made_notice Opened a)

@@ -1,4 +1,4 @@
--- Which notices bells hear, and what becomes of bells when they are rung.
+-- Which notices each bell receives, and which bells are dropped because they failed.
 use Rattle.std.specs.Prelude.{◌≡◌, ℕ, Bool, ◌||◌, ◌+◌, true, false, List, [], ◌∷◌, ◌++◌, filter, map, codes}
 use Rattle.std.specs.List.{AllZip}
 use Rattle.std.specs.Option.{option_map}
@@ -10,19 +10,19 @@ use Rattle.alerts.specs.declared.seat.Seat.{Seat}
 use Rattle.desk_io.specs.Health.{GoesOn, HasFailed}
 use Rattle.desk_io.specs.Planned.{after}
 
--- ---- which notices a bell hears
+-- ---- the notices for a bell
 
--- a bell of this desk hears the notice: it is of the same desk, or the bell hears those of all
+-- a bell of this dispatcher receives the notice: the notice is for him, or the bell receives all
 abbrev pub concerns : List ℕ → Notice → Bool
 concerns desk notice = bytes_eq desk (codes "*") || bytes_eq desk notice.desk
 
--- those of notices that a bell of a desk hears
+-- the notices that a bell of this dispatcher receives
 abbrev pub due : List ℕ → List Notice → List Notice
 due desk notices = filter (concerns desk) notices
 
--- ---- the bells that a ringer has
+-- ---- the bells of a ringer
 
--- a bell at its place among those handed in, from 0, how many notices it heard, and whether it stays
+-- a bell with its place, from 0, how many notices it has received, and whether it stays
 pub record Hung : Type 0 where
   pub place : ℕ
   pub bell : BellSeen
@@ -32,14 +32,14 @@ pub record Hung : Type 0 where
 abbrev pub hung : {B : Type 0} → (B → BellSeen) → Seat B → Hung
 hung seen seat = record { place = seat.place; bell = seen seat.bell; heard = seat.heard; stays = seat.stays }
 
--- ---- how they are rung
+-- ---- delivery
 
--- a count after so many more notices, as far as it goes
+-- the count after this many more notices, up to its limit
 abbrev pub counted : ℕ → List Notice → ℕ
 counted count [] = count
 counted count (notice ∷ more) = counted (after count) more
 
--- a bell has heard these notices more
+-- the bell has received these notices more
 pub record Hears (more : List Notice) (old new : Hung) : Type 0 where
   pub place : new.place ≡ old.place
   pub desk : new.bell.desk ≡ old.bell.desk
@@ -47,7 +47,7 @@ pub record Hears (more : List Notice) (old new : Hung) : Type 0 where
   pub count : new.heard ≡ counted old.heard more
   pub health : GoesOn old.bell.health new.bell.health
 
--- it failed at one of the notices that it was to hear, and has heard those before it
+-- the bell failed at one of the notices for it and has received those before it
 pub record FailsAmong (wanted : List Notice) (old new : Hung) : Type 0 where
   pub front : List Notice
   pub missed : Notice
@@ -56,32 +56,32 @@ pub record FailsAmong (wanted : List Notice) (old new : Hung) : Type 0 where
   pub hears : Hears front old new
   pub failed : HasFailed old.bell.health new.bell.health
 
--- Notices are rung for a bell. One that was dropped before hears nothing. One that stays has heard all that it was to
--- hear, and one that is dropped now has failed among these.
+-- Notices are delivered to a bell. A bell that was dropped before receives none. A bell that stays has received all
+-- that are for it. A bell that is dropped now has failed at one of these.
 pub record IsRung (notices : List Notice) (old new : Hung) : Type 0 where
   pub gone : old.stays ≡ false → new ≡ old
   pub stays : old.stays ≡ true → new.stays ≡ true → Hears (due old.bell.desk notices) old new
   pub fails : old.stays ≡ true → new.stays ≡ false → FailsAmong (due old.bell.desk notices) old new
 
--- for each bell
+-- the same for each bell
 abbrev pub AreRung : List Notice → List Hung → List Hung → Type 0
 AreRung notices = AllZip (IsRung notices)
 
--- ---- bells that are handed in, and handed back
+-- ---- bells that are handed in and handed back
 
 abbrev pub hung_all : {B : Type 0} → (B → BellSeen) → List (Seat B) → List Hung
 hung_all seen seats = map (hung seen) seats
 
--- a bell at its place that heard nothing yet
+-- a bell at its place that has received nothing yet
 abbrev pub fresh : ℕ → BellSeen → Hung
 fresh place bell = record { place = place; bell = bell; heard = 0; stays = true }
 
--- bells, the first of them at a place
+-- new bells, the first of them at this place
 abbrev pub fresh_from : ℕ → List BellSeen → List Hung
 fresh_from place [] = []
 fresh_from place (bell ∷ bells) = fresh place bell ∷ fresh_from (place + 1) bells
 
--- a bell that was dropped: its place, and how many notices it heard
+-- a dropped bell with its place, and how many notices it received
 pub record DroppedSeen : Type 0 where
   pub place : ℕ
   pub bell : BellSeen
@@ -94,7 +94,7 @@ abbrev pub staying_with : Bool → BellSeen → List BellSeen → List BellSeen
 staying_with true bell bells = bell ∷ bells
 staying_with false bell bells = bells
 
--- those that stay, in their order
+-- the bells that stay, in order
 abbrev pub staying : List Hung → List BellSeen
 staying [] = []
 staying (h ∷ hs) = staying_with h.stays h.bell (staying hs)
@@ -103,7 +103,7 @@ abbrev pub dropped_with : Bool → DroppedSeen → List DroppedSeen → List Dro
 dropped_with true d ds = ds
 dropped_with false d ds = d ∷ ds
 
--- those that were dropped, in order of their places
+-- the dropped bells in the order of their places
 abbrev pub dropped : List Hung → List DroppedSeen
 dropped [] = []
 dropped (h ∷ hs) = dropped_with h.stays (record { place = h.place; bell = h.bell; heard = h.heard }) (dropped hs)

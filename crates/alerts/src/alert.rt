@@ -8,21 +8,21 @@ use desk_time::Minute;
 use plan::{Finding, Findings, is_before, is_same};
 use std::alloc::Global;
 
-/// What stands open for a release from the first judgement on at which a rule fails, until a captain concurs with
-/// another revision, it is cancelled, or its last leg arrives.
+/// The alert of a release. It opens at the first judgement at which a rule fails. It closes when a captain concurs
+/// with another revision, when the release is cancelled, or when its last leg arrives.
 #[derive(Debug, Drop)]
 pub struct Alert {
-    /// The release.
+    /// The number of the release.
     pub release: u64,
-    /// The dispatcher whose release it is.
+    /// The dispatcher who holds the release.
     pub desk: Text,
-    /// From 1, one more with each change of what fails.
+    /// The version, from 1. It increases by one whenever other rules fail than before.
     pub version: u64,
-    /// When it was opened.
+    /// The moment at which the alert was opened.
     pub opened: Minute,
-    /// The rules that fail, as judged last.
+    /// The findings of the last judgement.
     pub failing: Findings,
-    /// The rules that have failed since it was opened.
+    /// All findings since the alert was opened.
     pub ever: Findings,
     /// Whether the dispatcher has acknowledged this version.
     pub acknowledged: bool,
@@ -31,7 +31,7 @@ pub struct Alert {
 impl HasId for Alert {
     ghost id_of = { λ a. a.release };
 
-    // Each release has one alert at most.
+    // Each release has at most one alert.
     fn id(&self) -> u64 {
         self.release
     }
@@ -69,7 +69,7 @@ fn are_same(one: &[Finding], two: &[Finding]) -> bool
     left.is_empty()
 }
 
-// The place of a finding among findings in order, unless it is there.
+// Returns the index at which to insert a finding into sorted findings, or None if it is already there.
 fn place_of(findings: &[Finding], finding: &Finding) -> Option<usize>
     ensures place { MatchOption result (spec.with_finding finding.now findings.now ≡ findings.now)
         (λ i. spec.with_finding finding.now findings.now ≡ insert findings.now i finding.now) }
@@ -172,10 +172,10 @@ fn judged(
     }
 }
 
-/// The alert of a release after a judgement. There is none exactly where none was open and no rule
-/// fails. A new alert has version 1, was opened now, and names the findings. One that is open keeps
-/// its opening, and stays as it is where the same rules fail; otherwise its version rises by one, it
-/// names the findings, keeps those that it ever named, and its acknowledgement falls.
+/// Returns the alert of a release after a judgement. It is None exactly if no alert was open and no rule fails. A new
+/// alert has version 1, this moment and the findings. An open alert stays unchanged if the same rules fail. Otherwise
+/// its version increases by one, the findings replace the failing ones and are added to `ever`, and it is no longer
+/// acknowledged.
 #[tactic(auto, using(crate::proofs::Laws::follows_is))]
 pub fn after(
     alloc: Global,

@@ -6,17 +6,17 @@ ghost use Rattle.desk_io.specs.Health.{GoesOn, HasFailed};
 use crate::notices::Notice;
 use desk_io::{Failed, Text};
 
-/// What hears of the alerts of a dispatcher's releases.
+/// A receiver of notices about the alerts of a dispatcher's releases.
 pub trait Bell {
-    /// Whose notices it hears, what it heard of them, where the bell tells it, and how it does. One that people
-    /// listen to doesn't tell.
+    /// The dispatcher, the notices received so far, if contracts know them, and the bell's health. Contracts don't
+    /// know what a bell for people has received.
     ghost seen: { Self → BellSeen };
 
-    /// The dispatcher whose notices it hears, or `*`: then it hears those of all.
+    /// Returns the dispatcher whose notices the bell receives, or `*` for those of all.
     fn desk(&self) -> &Text
         ensures { result.now ≡ (seen self.now).desk };
 
-    /// Lets it hear a notice. Where it fails it hasn't heard it.
+    /// Delivers a notice. If the call fails, the bell hasn't received it.
     fn ring(&mut self, notice: &Notice) -> Result<(), Failed>
         ensures desk { (seen self.new).desk ≡ (seen self.old).desk }
         ensures ok { OnOk result ((seen self.new).heard
@@ -25,7 +25,7 @@ pub trait Bell {
         ensures on { GoesOn (seen self.old).health (seen self.new).health }
         ensures cause { OnErr result (HasFailed (seen self.old).health (seen self.new).health) };
 
-    /// How often it has failed. The count never falls.
+    /// Returns how often the bell has failed. The count never decreases.
     fn faults(&self) -> u64
         ensures { result ≡ (seen self.now).health.faults };
 }

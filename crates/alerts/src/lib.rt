@@ -1,4 +1,4 @@
-//! The alerts of releases that stop meeting a rule, and the bells that ring for them.
+//! The alerts of releases that fail a rule, the notices about them, and the bells that receive these.
 #![tactic(auto)]
 
 mod alert;

@@ -8,8 +8,8 @@ use crate::notices::{Notice, Notices};
 use desk_io::{Copied, Failed, OutOfMemory, Text};
 use std::alloc::Global;
 
-/// A bell in memory. Its calls of `ring` are numbered from 0, and those in `fail` fail. So does one that finds no
-/// memory for what it is to hear.
+/// A bell in memory. The calls of `ring` are numbered from 0, and the calls in `fail` fail. A call also fails if
+/// there is no memory for its notice.
 #[derive(Drop)]
 pub struct MemoryBell {
     alloc: Global,
@@ -32,7 +32,7 @@ fn copied(alloc: Global, notice: &Notice) -> Result<Notice, OutOfMemory>
 }
 
 impl MemoryBell {
-    /// A bell of a dispatcher, or of `*`, that heard nothing yet. It takes no memory.
+    /// Makes a bell for a dispatcher, or for all if `desk` is `*`. It has received nothing yet. It allocates nothing.
     pub fn new(alloc: Global, desk: Text, fail: Vec<u64>) -> Self
         ensures desk { result.desk ≡ desk }
         ensures heard { result.heard ≡ [] }
@@ -50,7 +50,7 @@ impl MemoryBell {
         }
     }
 
-    /// What it heard, in order.
+    /// Returns the received notices in order.
     pub fn heard(&self) -> &[Notice]
         ensures { result.now ≡ self.now.heard }
     {
@@ -86,7 +86,7 @@ impl Bell for MemoryBell {
         ensures err { OnErr result ((bell_seen self.new).heard ≡ (bell_seen self.old).heard) }
         ensures on { GoesOn (bell_seen self.old).health (bell_seen self.new).health }
         ensures cause { OnErr result (HasFailed (bell_seen self.old).health (bell_seen self.new).health) }
-        // It hears only where the call isn't among those that fail.
+        // The bell receives the notice only if the call isn't one of those that fail.
         ensures planned { OnOk result (is_planned self.old.fail.items self.old.calls ≡ false) }
         ensures fail { self.new.fail.items ≡ self.old.fail.items }
         ensures calls { self.new.calls ≡ after self.old.calls }

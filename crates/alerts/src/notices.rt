@@ -6,31 +6,31 @@ use crate::alert::Alert;
 use desk_io::{Copied, Listed, OutOfMemory, Text};
 use std::alloc::Global;
 
-/// What has become of an alert.
+/// What happened to an alert.
 #[derive(Clone, Copy, Debug, PartialEq, Eq)]
 pub enum NoticeKind {
-    /// It is new.
+    /// The alert is new.
     Opened,
-    /// Its version rose.
+    /// The alert has a greater version.
     Changed,
-    /// It went.
+    /// The alert was closed.
     Closed,
 }
 
-/// What a dispatcher is told of an alert.
+/// A notice to a dispatcher about an alert.
 #[derive(Debug, Drop)]
 pub struct Notice {
-    /// The dispatcher.
+    /// The dispatcher who receives the notice.
     pub desk: Text,
-    /// The release.
+    /// The number of the release.
     pub release: u64,
-    /// The version of the alert: the new one, or of one that went the last.
+    /// The version of the alert. A closed alert has its last version.
     pub version: u64,
-    /// What has become of it.
+    /// What happened to the alert.
     pub kind: NoticeKind,
 }
 
-/// Notices in order of the releases.
+/// A list of notices.
 pub type Notices = Listed<Notice>;
 
 fn made_notice(alloc: Global, kind: NoticeKind, alert: &Alert) -> Result<Notice, OutOfMemory>
@@ -44,8 +44,8 @@ fn made_notice(alloc: Global, kind: NoticeKind, alert: &Alert) -> Result<Notice,
     })
 }
 
-/// What is told of a release's alert before and after an event: that it was opened where it is new,
-/// changed where its version rose, closed where it went.
+/// Returns the notice about a release's alert, from the alert before and after an event. The alert was opened if it
+/// is new, changed if its version increased, and closed if it is gone.
 pub fn notice_of(
     alloc: Global,
     before: Option<&Alert>,

@@ -9,13 +9,13 @@ use std::alloc::Global;
 use std::collections::VecDeque;
 use std::marker::Model;
 
-/// Bells for which there was no memory.
+/// The bells that are handed back because memory ran out.
 #[derive(Drop)]
 pub struct Unhung<B> {
     pub bells: Vec<B>,
 }
 
-// Room for so many bells: in their seats, and when they are handed back.
+// Reserved room for the bells: in their seats, and for when they are handed back.
 #[derive(Drop)]
 struct Rooms<B> {
     seats: Vec<Seat<B>>,
@@ -23,7 +23,7 @@ struct Rooms<B> {
     gone: Vec<Dropped<B>>,
 }
 
-/// Who rings bells. All the memory that it needs is taken when it is made.
+/// Delivers notices to bells. It allocates everything it needs when it is made.
 #[derive(Drop)]
 pub struct Ringer<B> {
     seats: Vec<Seat<B>>,
@@ -55,7 +55,7 @@ fn room_for<B: Drop>(alloc: Global, count: usize) -> Result<Rooms<B>, OutOfMemor
     })
 }
 
-// The bells, each at its place.
+// Puts the bells into seats, each with its index.
 fn seated<B: Bell + Drop>(bells: Vec<B>, mut seats: Vec<Seat<B>>) -> Vec<Seat<B>>
     requires empty { seats.items ≡ [] }
     requires none { vec_len seats ≡ 0 }
@@ -96,7 +96,7 @@ fn ringer_in<B: Bell + Drop>(rooms: Rooms<B>, bells: Vec<B>) -> Ringer<B>
     }
 }
 
-// A bell that stayed, or was dropped.
+// Hands back one bell, to those that stayed or to those that were dropped.
 fn hand_back<B: Bell + Drop>(seat: Seat<B>, bells: &mut Vec<B>, gone: &mut Vec<Dropped<B>>)
     requires bell_room { vec_len bells.old < vec_capacity bells.old }
     requires gone_room { vec_len gone.old < vec_capacity gone.old }
@@ -122,8 +122,8 @@ fn hand_back<B: Bell + Drop>(seat: Seat<B>, bells: &mut Vec<B>, gone: &mut Vec<D
 }
 
 impl<B: Bell> Ringer<B> {
-    /// Rings for notices: each bell whose desk is that of a notice, or is `*`, hears it, in order. A bell that fails is
-    /// dropped, and the others hear all. It takes no memory.
+    /// Delivers the notices in order, each to the bells of its dispatcher and to those of `*`. A bell that fails is
+    /// dropped, and the others receive everything. It allocates nothing.
     pub fn ring_all(&mut self, notices: &[Notice])
         ensures { AreRung notices.now (hung_all B.seen self.old) (hung_all B.seen self.new) }
     {
@@ -132,7 +132,8 @@ impl<B: Bell> Ringer<B> {
 }
 
 impl<B: Bell + Drop> Ringer<B> {
-    /// A ringer of bells, in their order, that heard nothing yet. Where there is no memory the bells are handed back.
+    /// Makes a ringer of these bells, which have received nothing from it yet. If memory runs out, it hands the bells
+    /// back.
     pub fn new(alloc: Global, bells: Vec<B>) -> Result<Ringer<B>, Unhung<B>>
         ensures ok { IfOk result (λ r. hung_all B.seen r ≡ fresh_from 0 (map B.seen bells.items)) }
         ensures err { IfErr result (λ u. u.bells ≡ bells) }
@@ -143,7 +144,7 @@ impl<B: Bell + Drop> Ringer<B> {
         }
     }
 
-    /// A ringer without bells. It takes no memory.
+    /// Makes a ringer without bells. It allocates nothing.
     pub fn none(alloc: Global) -> Ringer<B>
         ensures { hung_all B.seen result ≡ [] }
     {
@@ -154,8 +155,8 @@ impl<B: Bell + Drop> Ringer<B> {
         }
     }
 
-    /// The bells that stayed, in their order, and those that were dropped, in order of their places. It takes no
-    /// memory.
+    /// Hands back the bells that stayed, in order, and those that were dropped, in the order of their places. It
+    /// allocates nothing.
     pub fn finish(self) -> (Vec<B>, Vec<Dropped<B>>)
         ensures bells { map B.seen result.0.items ≡ staying (hung_all B.seen self) }
         ensures dropped { map (dropped_seen B.seen) result.1.items ≡ dropped (hung_all B.seen self) }

@@ -6,7 +6,7 @@ use crate::Bell;
 use crate::notices::Notice;
 use desk_io::Failed;
 
-/// A bell that a ringer has: its place among those handed in, how many notices it heard, and whether it stays.
+/// A bell of a ringer: its place, from 0, how many notices it has received, and whether it stays.
 #[derive(Drop)]
 pub(crate) struct Seat<B> {
     pub place: u64,
@@ -15,17 +15,17 @@ pub(crate) struct Seat<B> {
     pub stays: bool,
 }
 
-/// A bell that failed, and hears no more.
+/// A bell that failed and receives nothing more.
 #[derive(Drop)]
 pub struct Dropped<B> {
-    /// Its place among the bells handed in, from 0.
+    /// The place among the bells that were handed in, from 0.
     pub place: u64,
     pub bell: B,
-    /// How many notices it heard, as far as the count goes.
+    /// How many notices the bell received. The count stops at 2^64 - 1.
     pub heard: u64,
 }
 
-// A bell of a desk, or of `*`, hears this notice.
+// Returns true if a bell of this dispatcher, or of `*`, receives the notice.
 fn concerns(desk: &[u8], notice: &Notice) -> bool
     ensures { result ≡ spec.concerns desk.now notice.now }
 {
@@ -48,8 +48,7 @@ fn ring_one<B: Bell>(seat: &mut Seat<B>, notice: &Notice)
     }
 }
 
-// The bell hears those of the notices that concern it, in order, until it fails. Then it is dropped, and hears no
-// more.
+// Delivers the notices that concern the bell, in order, until it fails. It is then dropped and receives nothing more.
 fn ring_seat<B: Bell>(seat: &mut Seat<B>, notices: &[Notice])
     ensures { IsRung notices.now (hung B.seen seat.old) (hung B.seen seat.new) }
 {
@@ -58,7 +57,7 @@ fn ring_seat<B: Bell>(seat: &mut Seat<B>, notices: &[Notice])
     }
 }
 
-/// Each bell hears those of the notices that concern it.
+/// Delivers to each bell the notices that concern it.
 pub(crate) fn ring_seats<B: Bell>(seats: &mut [Seat<B>], notices: &[Notice])
     ensures { AreRung notices.now (hung_all B.seen seats.old) (hung_all B.seen seats.new) }
 {

@@ -1,4 +1,4 @@
--- Plans, asks and what was done, as JSON, each key in its place in byte order.
+-- The JSON of plans, asks and results, with the keys of each object in byte order.
 use Rattle.std.specs.Prelude.{ℕ, List, map, Option, None, Some, codes}
 use Rattle.std.specs.Str.Lossy.{utf8_lossy}
 use Rattle.serde_json.specs.Data.{Data, null, object, Members, member, no_members, put, number, unsigned, string, array}
@@ -23,16 +23,15 @@ use Rattle.asks.specs.Digests.{digest_data}
 abbrev pub count : ℕ → Data
 count n = number (unsigned n)
 
--- A text as a JSON string. Every text of the desk is UTF-8; bytes that weren't would show as the
--- replacement character.
+-- A text as a JSON string. Every text of the desk is UTF-8. Other bytes would become the replacement character.
 abbrev pub text_data : List ℕ → Data
 text_data t = string (utf8_lossy t)
 
--- a moment, as 2025-03-12T17:00Z
+-- a moment, for example 2025-03-12T17:00Z
 abbrev pub moment_data : ℕ → Data
 moment_data at = text_data (shown at)
 
--- null where there is nothing
+-- null if there is no value
 abbrev pub option_data : {A : Type 0} → (A → Data) → Option A → Data
 option_data written None = null
 option_data written (Some x) = written x
@@ -45,14 +44,14 @@ list_data written xs = array (items_of (map written xs))
 abbrev pub alternate_members : Alternate → Members
 alternate_members a = member (codes "fuel") (count a.fuel) (member (codes "minutes") (count a.minutes) (member (codes "station") (text_data a.station) no_members))
 
--- the JSON of an alternate of the destination
+-- the JSON of an alternate
 abbrev pub alternate_data : Alternate → Data
 alternate_data a = object (alternate_members a)
 
 abbrev pub takeoff_members : TakeoffAlternate → Members
 takeoff_members t = member (codes "minutes") (count t.minutes) (member (codes "station") (text_data t.station) no_members)
 
--- the JSON of an alternate of the airport of departure
+-- the JSON of a takeoff alternate
 abbrev pub takeoff_data : TakeoffAlternate → Data
 takeoff_data t = object (takeoff_members t)
 
@@ -114,7 +113,7 @@ ask_name (ViewRelease release) = codes "release"
 ask_name (ViewWeather station) = codes "weather"
 ask_name (ViewDeferred tail) = codes "deferred"
 
--- Some members and those of an ask beside its name, each put where its key belongs in byte order.
+-- Adds the members of an ask other than its name, each in byte order of the keys.
 abbrev pub with_asked : Ask → Members → Members
 with_asked (Admit text) ms = put (codes "text") (text_data text) ms
 with_asked (Defer tail item found) ms = put (codes "tail") (text_data tail) (put (codes "item") (text_data item) (put (codes "found") (moment_data found) ms))
@@ -144,13 +143,13 @@ ask_members a = with_asked a (member (codes "do") (string (ask_name a)) no_membe
 unfoldable pub ask_data : Ask → Data
 ask_data a = object (ask_members a)
 
--- the SHA-256 of that JSON without blanks
+-- the SHA-256 of the compact JSON
 unfoldable pub ask_digest : Ask → List ℕ
 ask_digest a = sha256 (compact_text (ask_data a))
 
--- ---- what was done
+-- ---- results
 
--- the members of what was done
+-- the members of a result
 abbrev pub done_members : Done → Members
 done_members (Report id) = member (codes "report") (count id) no_members
 done_members (Deferral id) = member (codes "deferral") (count id) no_members
@@ -160,6 +159,6 @@ done_members (Prepared release revision digest) =
 done_members (Release id) = member (codes "release") (count id) no_members
 done_members (Swept reports kept) = member (codes "kept") (count kept) (member (codes "reports") (count reports) no_members)
 
--- the JSON of what was done
+-- the JSON of a result
 abbrev pub done_data : Done → Data
 done_data done = object (done_members done)

@@ -1,4 +1,4 @@
--- Digests as texts: 64 hexadecimal digits, none of them a capital letter.
+-- Digests as texts of 64 lower-case hexadecimal digits.
 use Rattle.std.specs.Prelude.{◌≡◌, ℕ, Bool, ◌&&◌, ◌||◌, ◌==◌, nat_le, if◌then◌else◌, List, length, Option, None, Some, option_and_then}
 use Rattle.std.specs.List.{list_all}
 use Rattle.std.specs.Result.{result_ok}
@@ -13,7 +13,7 @@ is_small_digit b = (nat_le 48 b && nat_le b 57) || (nat_le 97 b && nat_le b 102)
 abbrev pub are_digits : List ℕ → Bool
 are_digits text = (length text == 64) && list_all is_small_digit text
 
--- the 32 bytes that 64 such digits name, and nothing where a text is anything else
+-- the 32 bytes that 64 such digits write; none if the text is anything else
 unfoldable pub digest_of : List ℕ → Option (List ℕ)
 digest_of text = if are_digits text then result_ok (decode_sized text 32) else None
 
@@ -30,6 +30,6 @@ pub record IsDigest (digest : List ℕ) : Type 0 where
   pub long : length digest ≡ 32
   pub bytes : IsBytes digest
 
--- What a text is read as. Where it is the digits of a digest, it is that digest.
+-- If the text is the digits of a digest, it is read as this digest.
 abbrev pub IsDigestAgain : List ℕ → Option (List ℕ) → Type 0
 IsDigestAgain text read = (digest : List ℕ) → IsDigest digest → text ≡ encode_lower digest → read ≡ Some digest

@@ -1,5 +1,4 @@
--- What was done, as it is read of JSON: an object of the keys of its kind, and no other. Ids and numbers of revisions have one limit,
--- counts another: those that are kept are smaller than what a reply may say.
+-- Reading the result of a request from a JSON object with exactly the keys of its kind.
 use Rattle.std.specs.Prelude.{ℕ, if◌then◌else◌, Option, None, Some, codes}
 use Rattle.std.specs.Option.{option_or}
 use Rattle.serde_json.specs.Data.{Data}
@@ -33,15 +32,15 @@ infixl 10 ◌otherwise◌
 abbrev pub ◌otherwise◌ : Option Done → Option Done → Option Done
 first otherwise second = option_or first second
 
--- what was done, by the one kind whose keys an object has
+-- the result of the one kind whose keys the object has, within one limit for ids and revisions, another for counts
 unfoldable pub done_within : ℕ → ℕ → Data → Option Done
 done_within ids counts d =
     report_of ids d otherwise deferral_of ids d otherwise filed_of ids d otherwise prepared_of ids d otherwise release_of ids d otherwise swept_of counts d
 
--- what is kept
+-- a result as the desk keeps it
 abbrev pub done_of : Data → Option Done
 done_of d = done_within 1_000_000_000_000_000 4_294_967_295 d
 
--- what a reply says: each number as its type has it
+-- a result as a reply states it, with all 64-bit numbers
 abbrev pub said_done_of : Data → Option Done
 said_done_of d = done_within 18_446_744_073_709_551_615 18_446_744_073_709_551_615 d

@@ -1,4 +1,4 @@
--- The forms of what is called and kept: of numbers and texts, of plans and asks, of what was done, and of releases, findings and floors.
+-- Well-formed requests and records: their numbers, texts, plans, asks, results, releases, findings and floors.
 use Rattle.std.specs.Prelude.{◌≡◌, ℕ, ◌≤◌, true, List, [], ◌∷◌, length, Option, None, Some, IfSome, IsUtf8}
 use Rattle.std.specs.List.{AllByRecursion}
 use Rattle.std.specs.Ordering.{nat_cmp}
@@ -27,19 +27,19 @@ use Rattle.asks.specs.declared.plans.Form.TheVariants.{Flight, Tail, Captain}
 use Rattle.asks.specs.Digests.{IsDigest}
 use Rattle.asks.specs.Plans.{has_form}
 
--- a number of 32 bits
+-- a 32-bit number
 abbrev pub IsAmount : ℕ → Type 0
 IsAmount n = n ≤ 4_294_967_295
 
 abbrev pub IsId : ℕ → Type 0
 IsId n = n ≤ 1_000_000_000_000_000
 
--- a text of at most 64 bytes
+-- a UTF-8 text of at most 64 bytes
 pub record IsShort (t : List ℕ) : Type 0 where
   pub text : IsUtf8 t
   pub few : length t ≤ 64
 
--- an alternate whose fields have their forms
+-- an alternate with well-formed fields
 pub record IsAlternate (a : Alternate) : Type 0 where
   pub station : is_station a.station ≡ true
   pub minutes : IsAmount a.minutes
@@ -53,7 +53,7 @@ abbrev pub MayBeTakeoff : Option TakeoffAlternate → Type 0
 MayBeTakeoff None = Unit {0}
 MayBeTakeoff (Some t) = IsTakeoff t
 
--- a leg whose fields have their forms
+-- a leg with well-formed fields
 pub record IsLeg (l : Leg) : Type 0 where
   pub from : is_station l.from ≡ true
   pub to : is_station l.to ≡ true
@@ -67,7 +67,7 @@ pub record IsLeg (l : Leg) : Type 0 where
   pub takeoff : MayBeTakeoff l.takeoff_alternate
   pub alternates : AllByRecursion IsAlternate l.alternates
 
--- a plan whose fields have their forms
+-- a plan with well-formed fields
 pub record HasForms (p : Plan) : Type 0 where
   pub flight : has_form Flight p.flight ≡ true
   pub tail : has_form Tail p.tail ≡ true
@@ -75,7 +75,7 @@ pub record HasForms (p : Plan) : Type 0 where
   pub few : length p.legs ≤ 1000
   pub legs : AllByRecursion IsLeg p.legs
 
--- an ask whose fields have their forms
+-- an ask with well-formed fields
 abbrev pub AskHasForms : Ask → Type 0
 AskHasForms (Admit text) = IsUtf8 text
 AskHasForms (Defer tail item found) = IsShort tail × IsShort item × IsMoment found
@@ -97,14 +97,14 @@ AskHasForms (ViewRelease release) = IsId release
 AskHasForms (ViewWeather station) = is_station station ≡ true
 AskHasForms (ViewDeferred tail) = IsShort tail
 
--- a call whose fields have their forms
+-- a call with well-formed fields
 pub record CallHasForms (c : Call) : Type 0 where
   pub actor : IsShort c.actor
   pub key : IsShort c.key
   pub number : c.number ≤ 1_000_000_000_000
   pub ask : AskHasForms c.ask
 
--- What was done, with its digest in its form: ids and numbers of revisions are within one limit, counts within another.
+-- A result with a well-formed digest. Ids and numbers of revisions are within one limit, counts within another.
 abbrev pub DoneWithin : ℕ → ℕ → Done → Type 0
 DoneWithin ids counts (Report id) = id ≤ ids
 DoneWithin ids counts (Deferral id) = id ≤ ids
@@ -113,32 +113,32 @@ DoneWithin ids counts (Prepared release revision digest) = (release ≤ ids) × 
 DoneWithin ids counts (Release id) = id ≤ ids
 DoneWithin ids counts (Swept reports kept) = (reports ≤ counts) × (kept ≤ counts)
 
--- as it is kept
+-- a result as the desk keeps it
 abbrev pub DoneHasForms : Done → Type 0
 DoneHasForms done = DoneWithin 1_000_000_000_000_000 4_294_967_295 done
 
--- as a reply may say it: numbers of 64 bits
+-- a result as a reply may state it, with all 64-bit numbers
 abbrev pub SaidDoneHasForms : Done → Type 0
 SaidDoneHasForms done = DoneWithin 18_446_744_073_709_551_615 18_446_744_073_709_551_615 done
 
 -- ---- releases
 
--- an attached report: its number, and any text
+-- an attached report: its number and any UTF-8 text
 pub record IsAttached (a : Attached) : Type 0 where
   pub report : IsId a.report
   pub text : IsUtf8 a.text
 
--- a signature: a person's name, a moment, a digest
+-- a signature: a person's name, a moment and a digest
 pub record IsSignature (s : Signature) : Type 0 where
   pub actor : is_person s.actor ≡ true
   pub at : IsMoment s.at
   pub digest : IsDigest s.digest
 
--- the hours of a captain
+-- the hours of a captain, at most 100,000
 abbrev pub IsHours : ℕ → Type 0
 IsHours n = n ≤ 100_000
 
--- a revision whose fields have their forms
+-- a revision with well-formed fields
 pub record IsRevision (v : Revision) : Type 0 where
   pub number : IsId v.number
   pub plan : HasForms v.plan
@@ -147,7 +147,7 @@ pub record IsRevision (v : Revision) : Type 0 where
   pub captain : IfSome v.captain IsSignature
   pub hours : IfSome v.hours IsHours
 
--- a release whose fields have their forms
+-- a release with well-formed fields
 pub record IsFormed (r : ReleaseOf) : Type 0 where
   pub holder : is_person r.holder ≡ true
   pub moment : HasMoment r.phase
@@ -156,20 +156,20 @@ pub record IsFormed (r : ReleaseOf) : Type 0 where
 
 -- ---- findings and floors
 
--- a finding whose leg is a number of 32 bits, and whose place has a limit
+-- a finding whose leg is a 32-bit number and whose place is within the limit
 pub record FindingWithin (places : ℕ) (f : Finding) : Type 0 where
   pub leg : IsAmount f.leg
   pub place : f.place ≤ places
 
--- as it is kept
+-- a finding as the desk keeps it
 abbrev pub IsFinding : Finding → Type 0
 IsFinding f = FindingWithin 1_000_000_000_000_000 f
 
--- as a reply may say it
+-- a finding as a reply may state it, with a 64-bit place
 abbrev pub IsSaidFinding : Finding → Type 0
 IsSaidFinding f = FindingWithin 18_446_744_073_709_551_615 f
 
--- the number of a request
+-- the number of a request, at most 10^12
 abbrev pub IsRequest : ℕ → Type 0
 IsRequest n = n ≤ 1_000_000_000_000
 
@@ -178,7 +178,7 @@ pub record IsFloor (f : Floor) : Type 0 where
   pub actor : is_person f.actor ≡ true
   pub number : IsRequest f.number
 
--- names in byte order, each once
+-- the names are in byte order without duplicates
 abbrev pub FloorsRise : List Floor → Type 0
 FloorsRise [] = Unit {0}
 FloorsRise (f ∷ fs) = AllByRecursion (λ (g : Floor). slice_cmp nat_cmp f.actor g.actor ≡ Less) fs × FloorsRise fs

@@ -1,4 +1,4 @@
--- The legs of plans, as JSON. An object has the keys that are named here, and no other.
+-- Reading the legs of a plan from JSON objects with exactly their own keys.
 use Rattle.std.specs.Prelude.{nat_le, if◌then◌else◌, List, Option, None, Some, codes, option_and_then, is_some}
 use Rattle.serde_json.specs.Data.{Data, Items}
 use Rattle.serde_json.specs.Events.{items_len}
@@ -18,17 +18,17 @@ alternate_of d =
     amount_at (codes "fuel") d >>= λ fuel. amount_at (codes "minutes") d >>= λ minutes. station_at (codes "station") d >>= λ station.
     if has_members 3 d then Some (record { station = station; minutes = minutes; fuel = fuel }) else None
 
--- a list of alternates, which may be of any length
+-- a list of alternates, of any length
 abbrev pub alternates_at : Data → Option (List Alternate)
 alternates_at d = list_at (codes "alternates") d >>= λ ds. each_read alternate_of ds
 
--- an alternate of the airport of departure
+-- a takeoff alternate
 abbrev pub takeoff_of : Data → Option TakeoffAlternate
 takeoff_of d =
     amount_at (codes "minutes") d >>= λ minutes. station_at (codes "station") d >>= λ station.
     if has_members 2 d then Some (record { station = station; minutes = minutes }) else None
 
--- null, or an alternate
+-- null or a takeoff alternate
 abbrev pub takeoff_in : Data → Option (Option TakeoffAlternate)
 takeoff_in d = if is_some (as_null d) then Some None else (takeoff_of d >>= λ takeoff. Some (Some takeoff))
 

@@ -1,22 +1,22 @@
--- Data that has one text: no number with a fraction or below 0, and the keys of each object in byte order.
+-- JSON data with 64-bit natural numbers only, and with object keys in byte order without duplicates.
 use Rattle.std.specs.Prelude.{◌≡◌, ℕ, ◌^◌, ◌<◌, List, ⊤, IsUtf8}
 use Rattle.std.specs.Ordering.{nat_cmp}
 use Rattle.std.specs.declared.cmp.Ordering.TheVariants.{Less}
 use Rattle.std.specs.Cmp.Lexicographic.{slice_cmp}
 use Rattle.serde_json.specs.Data.{Num, unsigned, negative, float, Data, null, boolean, number, string, array, object, Items, no_items, item, Members, no_members, member}
 
--- a whole number of 64 bits
+-- a 64-bit natural number
 abbrev pub IsPlainNumber : Num → Type 0
 IsPlainNumber (unsigned n) = n < 2 ^ 64
 IsPlainNumber (negative z) = ⊥
 IsPlainNumber (float x) = ⊥
 
--- a key that comes before each of these
+-- the key comes before each of these keys
 abbrev pub IsBefore : List ℕ → Members → Type 0
 IsBefore key no_members = ⊤
 IsBefore key (member k d ms) = (slice_cmp nat_cmp key k ≡ Less) × IsBefore key ms
 
--- keys in byte order, each once
+-- the keys are in byte order without duplicates
 abbrev pub AreInOrder : Members → Type 0
 AreInOrder no_members = ⊤
 AreInOrder (member k d ms) = IsBefore k ms × AreInOrder ms
@@ -38,7 +38,7 @@ abbrev mutual
   MembersArePlain no_members = ⊤
   MembersArePlain (member k d ms) = IsPlain d × MembersArePlain ms
 
--- each key and each string is UTF-8
+-- every key and every string is UTF-8
 abbrev mutual
   pub HasText : Data → Type 0
   HasText null = ⊤

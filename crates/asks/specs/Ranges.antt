@@ -1,4 +1,4 @@
--- What holds of calls that are made and of replies that are written.
+-- Bounds that hold of every request, and moments of replies that can be written.
 use Rattle.std.specs.Prelude.{ℕ, ◌≤◌}
 use Rattle.plan.specs.Check.{IsPlan}
 use Rattle.plan.specs.Texts.{HasMoment}
@@ -10,7 +10,7 @@ use Rattle.asks.specs.declared.reply.Reply.TheVariants.{Done, Seen, Refused}
 use Rattle.asks.specs.declared.reply.Refusal.{Refusal}
 use Rattle.asks.specs.declared.reply.Refusal.TheVariants.{UnknownActor, WrongKey, NotYourRole, NumberReused, BadReport, DayOutOfReach, ReportsFull, UnknownTail, NoSuchDeferral, NoSuchRelease, NotYours, BadPlan, NotPending, WrongRevision, WrongText, WeatherNewer, RuleFails, WrongPhase, AlreadySigned, NoSuchAlert, AlertMoved, TooYoung, ReleasesFull, HistoryFull, NoSuchStation, Unkept, NumberSwept, UnknownItem, BadFound, DeferralsFull}
 
--- a call whose plan has at most 1,000 legs, and whose moments are such as can be read
+-- the plan of the ask has at most 1,000 legs, and its moments are within the range that the desk reads
 abbrev pub IsCall : Ask → Type 0
 IsCall (ask.Admit text) = Unit {0}
 IsCall (ask.Defer tail item found) = IsMoment found
@@ -32,11 +32,11 @@ IsCall (ask.ViewRelease release) = Unit {0}
 IsCall (ask.ViewWeather station) = Unit {0}
 IsCall (ask.ViewDeferred tail) = Unit {0}
 
--- a moment that has a text: until some fourteen months after the last that can be read
+-- the moment can be written: it is at most some fourteen months after the last that the desk reads
 abbrev pub CanBeShown : ℕ → Type 0
 CanBeShown at = (15_778_080 ≤ at) × (at ≤ 69_000_000)
 
--- the moment that a refusal names can be shown
+-- the moment in the refusal, if any, can be written
 abbrev pub RefusalHasMoment : Refusal → Type 0
 RefusalHasMoment UnknownActor = Unit {0}
 RefusalHasMoment WrongKey = Unit {0}

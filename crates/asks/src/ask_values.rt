@@ -47,7 +47,7 @@ fn ask_name(ask: &Ask) -> &'static str
     }
 }
 
-// An item of an aircraft, and when it was found inoperative.
+// Adds an item of an aircraft and the moment at which it was found inoperative.
 fn with_item(
     alloc: Global,
     members: Members,
@@ -81,7 +81,7 @@ fn with_release(alloc: Global, members: Members, release: u64) -> Result<Members
     with_count(alloc, members, "release", release)
 }
 
-// A release, and a number of it.
+// Adds the number of a release and another number at `key`.
 fn with_numbered(
     alloc: Global,
     members: Members,
@@ -96,7 +96,7 @@ fn with_numbered(
     with_count(alloc, members, key, number)
 }
 
-// A revision of a release, and the digest of its text.
+// Adds a revision of a release and the digest of its text.
 fn with_signed(
     alloc: Global,
     members: Members,
@@ -112,7 +112,7 @@ fn with_signed(
     with_digest(alloc, members, digest)
 }
 
-// A plan in the place of the one of a release.
+// Adds a release and the plan that amends it.
 fn with_amended(
     alloc: Global,
     members: Members,
@@ -127,7 +127,7 @@ fn with_amended(
     with_plan(alloc, members, plan)
 }
 
-// Some members and those of an ask beside its name.
+// Adds the members of an ask other than its name.
 fn with_asked(alloc: Global, members: Members, ask: &Ask) -> Result<Members, OutOfMemory>
     requires { IsCall ask.now }
     ensures { IfOk result (λ all. members_view all.entries ≡ spec.with_asked ask.now (members_view members.entries)) }
@@ -169,7 +169,7 @@ fn with_asked(alloc: Global, members: Members, ask: &Ask) -> Result<Members, Out
     }
 }
 
-/// An ask as JSON.
+/// Returns the JSON of an ask.
 #[tactic(auto, unfolding(crate::specs::Canonical::ask_data))]
 pub fn ask_value(alloc: Global, ask: &Ask) -> Result<Value, OutOfMemory>
     requires { IsCall ask.now }
@@ -179,7 +179,7 @@ pub fn ask_value(alloc: Global, ask: &Ask) -> Result<Value, OutOfMemory>
     Ok(Value::Object(with_asked(alloc, members, ask)?))
 }
 
-/// The text of an ask: JSON without blanks, its keys in byte order.
+/// Returns the compact JSON text of an ask, without spaces and with the keys in byte order.
 pub fn ask_text(alloc: Global, ask: &Ask) -> Result<Text, OutOfMemory>
     requires { IsCall ask.now }
     ensures { IfOk result (λ t. t ≡ compact_text (ask_data ask.now)) }
@@ -196,7 +196,7 @@ fn sha256_of(text: &[u8]) -> [u8; 32]
     hasher.finalize()
 }
 
-/// The SHA-256 of the text of an ask, by which one ask is told from another.
+/// Returns the SHA-256 of an ask's compact text, by which a repeated ask is recognized.
 #[tactic(auto, unfolding(crate::specs::Canonical::ask_digest))]
 pub fn ask_digest(alloc: Global, ask: &Ask) -> Result<[u8; 32], OutOfMemory>
     requires { IsCall ask.now }

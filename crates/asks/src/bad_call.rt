@@ -1,29 +1,29 @@
 use desk_io::{Copied, OutOfMemory, Text};
 use std::alloc::Global;
 
-/// Why a text is no call, in the order in which the faults are looked for.
+/// Why a text isn't a call.
 #[derive(Clone, Copy, Debug, PartialEq, Eq)]
 pub enum CallWhy {
-    /// The bytes are no JSON text (RFC 8259).
+    /// The bytes aren't JSON (RFC 8259).
     NotJson,
-    /// The text is no object.
+    /// The JSON isn't an object.
     NotObject,
-    /// A key is there that isn't expected.
+    /// An object has a key that it may not have.
     Extra,
-    /// A key isn't there.
+    /// A key is missing.
     Missing,
-    /// The value of a key hasn't its form.
+    /// The value of a key is malformed or out of range.
     BadValue,
-    /// No ask has that name.
+    /// No ask has this name.
     UnknownAsk,
 }
 
-/// The first fault of a text that is no call.
+/// The first fault of a text that isn't a call.
 #[derive(Debug, Drop)]
 pub struct BadCall {
     /// What is wrong.
     pub why: CallWhy,
-    /// The key at which it is wrong, and empty where it isn't at a key.
+    /// The key at which the text is wrong; empty if the fault isn't at a key.
     pub key: Text,
 }
 

@@ -3,100 +3,100 @@ use desk_time::Minute;
 use plan::Plan;
 use std::alloc::Global;
 
-/// What is asked.
+/// What a person asks of the desk.
 #[derive(Debug, Drop)]
 pub enum Ask {
-    /// The text of a weather report is admitted.
+    /// Admit the text of a weather report.
     Admit {
         text: Text,
     },
-    /// An item of an aircraft's minimum equipment list is deferred.
+    /// Defer the repair of an item of an aircraft (14 CFR 121.628).
     Defer {
         /// The registration of the aircraft, at most 64 bytes.
         tail: Text,
         /// The item, at most 64 bytes.
         item: Text,
-        /// When it was found inoperative.
+        /// When the item was found inoperative.
         found: Minute,
     },
-    /// A deferred item is repaired.
+    /// Clear a deferral, because the item was repaired.
     Clear {
         deferral: u64,
     },
-    /// A release is drafted for a plan.
+    /// Draft a release for a plan.
     Draft {
         plan: Plan,
     },
-    /// The latest weather is attached to the pending revision of a release, which makes its text.
+    /// Attach the latest weather to the pending revision, which makes its text.
     Prepare {
         release: u64,
     },
-    /// The dispatcher signs the pending revision of that number, whose text has that digest (14 CFR 121.663).
+    /// Sign this pending revision as its dispatcher. The digest is that of its text (14 CFR 121.663).
     Sign {
         release: u64,
         revision: u64,
         /// The SHA-256 of the text.
         digest: [u8; 32],
     },
-    /// The captain concurs with the pending revision of that number, whose text has that digest (14 CFR 121.663).
+    /// Concur with this pending revision as its captain. The digest is that of its text (14 CFR 121.663).
     Concur {
         release: u64,
         revision: u64,
         /// The SHA-256 of the text.
         digest: [u8; 32],
     },
-    /// A plan is filed as the pending revision of a release, under the next number. What both have
-    /// signed stays until a concurrence (14 CFR 121.631).
+    /// File a plan as the pending revision, under the next number. The revision that both have signed stays in force
+    /// until the captain concurs with the new one (14 CFR 121.631).
     Amend {
         release: u64,
         plan: Plan,
     },
-    /// A release is cancelled.
+    /// Cancel a release.
     Cancel {
         release: u64,
     },
-    /// A leg has departed.
+    /// Report that a leg has departed.
     Depart {
         release: u64,
-        /// Its number, from 1.
+        /// The number of the leg, from 1.
         leg: u32,
     },
-    /// A leg has arrived.
+    /// Report that a leg has arrived.
     Arrive {
         release: u64,
-        /// Its number, from 1.
+        /// The number of the leg, from 1.
         leg: u32,
     },
-    /// The dispatcher has seen the alert of a release in that version.
+    /// Acknowledge this version of the alert of a release.
     Acknowledge {
         release: u64,
         version: u64,
     },
-    /// A release that ended is removed, from the start of the day after the one that lies three months after
-    /// the day on which it ended (14 CFR 121.695).
+    /// Remove an ended release. It must be kept for three months after the day on which it ended, and can be removed
+    /// from the next day on (14 CFR 121.695).
     Purge {
         release: u64,
     },
-    /// Reports that were observed or issued before that moment are swept away, but for the latest ones and
-    /// those that are attached to a release, and what is kept of requests that were accepted before it.
+    /// Remove old reports, observed or issued before this moment. Latest reports stay, and so do those attached to a
+    /// release. Also remove the replies that are kept of requests accepted before this moment.
     Sweep {
         before: Minute,
     },
-    /// The releases are shown.
+    /// View the releases.
     ViewBoard,
-    /// The alerts of all releases are shown, acknowledged ones too.
+    /// View all alerts, including acknowledged ones.
     ViewAlerts,
-    /// The texts of a release are shown.
+    /// View the texts of a release.
     ViewRelease {
         release: u64,
     },
-    /// The latest weather of an airport is shown.
+    /// View the latest weather of a station.
     ViewWeather {
         station: Station,
     },
-    /// The open deferrals of an aircraft are shown.
+    /// View the open deferrals of an aircraft.
     ViewDeferred {
-        /// Its registration, at most 64 bytes.
+        /// The registration of the aircraft, at most 64 bytes.
         tail: Text,
     },
 }
@@ -104,13 +104,13 @@ pub enum Ask {
 /// A request of a person.
 #[derive(Debug, Drop)]
 pub struct Call {
-    /// Who asks, at most 64 bytes.
+    /// The person's name, at most 64 bytes.
     pub actor: Text,
-    /// The key by which he is known, at most 64 bytes.
+    /// The person's key, at most 64 bytes.
     pub key: Text,
-    /// The number that he gives the request, at most 10^12.
+    /// The person's own number for the request, at most 10^12.
     pub number: u64,
-    /// What he asks.
+    /// What the person asks.
     pub ask: Ask,
 }
 

@@ -43,32 +43,32 @@ fn digest_of(text: &[u8]) -> Option<[u8; 32]>
     }
 }
 
-// The digest of 64 hexadecimal digits, none of them a capital letter.
+// Reads a digest of 64 lower-case hexadecimal digits.
 #[tactic(auto, using(crate::proofs::DigestLaws::read_again))]
 fn read_digest(text: &[u8]) -> Option<[u8; 32]>
     ensures value { result ≡ digest_of text.now }
-    // No other text is read as it.
+    // The text is the only one that is read as this digest.
     ensures written { IfSome result (λ digest. encode_lower digest ≡ text.now) }
     ensures again { IsDigestAgain text.now result }
 {
     digest_of(text)
 }
 
-/// The digest at a key.
+/// Returns the digest at a key.
 pub fn digest_at<'a, V: Json<'a>>(key: &str, value: V) -> Option<[u8; 32]>
     ensures { result ≡ spec.digest_at key.now (V.told value) }
 {
     read_digest(text_at(key, value)?.as_bytes())
 }
 
-/// A digest as a JSON string: 64 hexadecimal digits, with small letters.
+/// Makes a JSON string of a digest, 64 lower-case hexadecimal digits.
 pub fn digest_value(alloc: Global, digest: &[u8; 32]) -> Result<Value, OutOfMemory>
     ensures { IfOk result (λ v. view v ≡ spec.digest_data digest.now) }
 {
     Ok(Value::String(hex::encode(alloc, digest.as_slice())?))
 }
 
-/// Some members with a digest more.
+/// Adds a digest at the key `digest`.
 pub fn with_digest(
     alloc: Global,
     members: Members,

@@ -15,7 +15,7 @@ use desk_io::OutOfMemory;
 use serde_json::{Map, Value};
 use std::alloc::Global;
 
-// The number of a revision of a release.
+// Adds the number of a release and that of a revision.
 fn with_revision(
     alloc: Global,
     members: Members,
@@ -53,7 +53,7 @@ fn done_members(alloc: Global, done: &Done) -> Result<Members, OutOfMemory>
     }
 }
 
-/// What was done, as JSON.
+/// Returns the JSON of the result of a request.
 pub fn done_value(alloc: Global, done: &Done) -> Result<Value, OutOfMemory>
     ensures { IfOk result (λ v. view v ≡ spec.done_data done.now) }
 {
@@ -153,9 +153,9 @@ fn done_within<'a, V: Json<'a>>(ids: u64, counts: u64, value: V) -> Option<Done>
     done_in(ids, counts, value)
 }
 
-/// What was done, as it is kept, where an object has exactly the keys of one kind, and each field its form: ids and
-/// numbers of revisions of at most 10^15, counts of at most 4,294,967,295, and 64 hexadecimal digits, none of them a
-/// capital letter.
+/// Reads the result of a request as the desk keeps it. The object must have exactly the keys of one kind. Ids and
+/// numbers of revisions are at most 10^15, counts at most 4,294,967,295, and a digest has 64 lower-case hexadecimal
+/// digits.
 pub fn read_done<'a, V: Json<'a>>(value: V) -> Option<Done>
     ensures value { result ≡ done_of (V.told value) }
     ensures form { IfSome result DoneHasForms }
@@ -163,7 +163,7 @@ pub fn read_done<'a, V: Json<'a>>(value: V) -> Option<Done>
     done_within(1_000_000_000_000_000, 4_294_967_295, value)
 }
 
-/// What was done, as a reply says it: the same, but each number as far as its 64 bits go.
+/// Reads the result of a request as a reply states it: the same, but with all 64-bit numbers.
 pub fn read_said_done<'a, V: Json<'a>>(value: V) -> Option<Done>
     ensures value { result ≡ said_done_of (V.told value) }
     ensures form { IfSome result SaidDoneHasForms }

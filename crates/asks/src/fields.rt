@@ -13,7 +13,7 @@ use serde_json::Value;
 use std::alloc::Global;
 use std::str;
 
-/// The data of a line, where it is UTF-8 and JSON.
+/// Reads a line as JSON. Returns None if it isn't UTF-8 or isn't JSON.
 pub fn data_of(alloc: Global, line: &[u8]) -> Result<Option<Value>, OutOfMemory>
     ensures { IfOk result (λ v. option_map view v ≡ spec.data_of line.now) }
 {
@@ -32,7 +32,8 @@ pub fn data_of(alloc: Global, line: &[u8]) -> Result<Option<Value>, OutOfMemory>
     }
 }
 
-/// The document of a line, where it is UTF-8 and JSON: it takes few times the bytes of the line, whatever these are.
+/// Reads a line as a JSON document. Returns None if it isn't UTF-8 or isn't JSON. The document takes a small multiple
+/// of the line's memory, whatever the line contains.
 pub fn document_of(alloc: Global, line: &[u8]) -> Result<Option<Document>, OutOfMemory>
     ensures { IfOk result (λ d. option_map data_in d ≡ spec.data_of line.now) }
 {
@@ -42,7 +43,7 @@ pub fn document_of(alloc: Global, line: &[u8]) -> Result<Option<Document>, OutOf
     Document::of(alloc, text)
 }
 
-/// The text at a key.
+/// Returns the string at a key.
 pub fn text_at<'a, V: Json<'a>>(key: &str, value: V) -> Option<&'a str>
     ensures { option_map (λ t. t.now) result ≡ spec.text_at key.now (V.told value) }
 {
@@ -61,7 +62,7 @@ fn whole_number_at<'a, V: Json<'a>>(key: &str, value: V) -> Option<u64>
     }
 }
 
-/// The whole number at a key, at most the limit.
+/// Returns the whole number at a key, if it is at most `limit`.
 pub fn number_at<'a, V: Json<'a>>(key: &str, limit: u64, value: V) -> Option<u64>
     ensures value { result ≡ spec.number_at key.now limit (V.told value) }
     ensures bound { IfSome result (λ n. n ≤ limit) }
@@ -72,21 +73,21 @@ pub fn number_at<'a, V: Json<'a>>(key: &str, limit: u64, value: V) -> Option<u64
     }
 }
 
-/// The id at a key, or the number of a revision or of the version of an alert: at most 10^15.
+/// Returns the number at a key, at most 10^15: an id, or the number of a revision or an alert's version.
 pub fn id_at<'a, V: Json<'a>>(key: &str, value: V) -> Option<u64>
     ensures { result ≡ spec.id_at key.now (V.told value) }
 {
     number_at(key, 1_000_000_000_000_000, value)
 }
 
-/// The whole number of 32 bits at a key.
+/// Returns the 32-bit whole number at a key.
 pub fn amount_at<'a, V: Json<'a>>(key: &str, value: V) -> Option<u32>
     ensures { result ≡ spec.amount_at key.now (V.told value) }
 {
     Some(number_at(key, 4_294_967_295, value)? as u32)
 }
 
-/// The text at a key, of at most 64 bytes.
+/// Returns the string at a key, if it has at most 64 bytes.
 pub fn short_at<'a, V: Json<'a>>(key: &str, value: V) -> Option<&'a str>
     ensures { option_map (λ t. t.now) result ≡ spec.short_at key.now (V.told value) }
 {
@@ -96,14 +97,14 @@ pub fn short_at<'a, V: Json<'a>>(key: &str, value: V) -> Option<&'a str>
     }
 }
 
-/// The airport at a key.
+/// Returns the station at a key.
 pub fn station_at<'a, V: Json<'a>>(key: &str, value: V) -> Option<Station>
     ensures { result ≡ spec.station_at key.now (V.told value) }
 {
     Station::read(text_at(key, value)?.as_bytes())
 }
 
-/// The moment at a key.
+/// Returns the moment at a key.
 pub fn moment_at<'a, V: Json<'a>>(key: &str, value: V) -> Option<Minute>
     ensures value { result ≡ spec.moment_at key.now (V.told value) }
     ensures range { IfSome result IsMoment }
@@ -111,7 +112,7 @@ pub fn moment_at<'a, V: Json<'a>>(key: &str, value: V) -> Option<Minute>
     read_minute(text_at(key, value)?.as_bytes())
 }
 
-/// The items of the list at a key.
+/// Returns the items of the list at a key.
 pub fn list_at<'a, V: Json<'a>>(key: &str, value: V) -> Option<V::Left>
     ensures { option_map V.left result ≡ spec.list_at key.now (V.told value) }
 {
@@ -121,7 +122,7 @@ pub fn list_at<'a, V: Json<'a>>(key: &str, value: V) -> Option<V::Left>
     }
 }
 
-/// Whether a value is an object of so many members.
+/// Returns true if the value is an object of exactly `count` members.
 pub fn has_members<'a, V: Json<'a>>(count: usize, value: V) -> bool
     ensures { result ≡ spec.has_members count (V.told value) }
 {

@@ -5,7 +5,7 @@ use desk_io::OutOfMemory;
 use std::alloc::Global;
 use std::marker::Model;
 
-/// A call that is held by a pointer, so that a list of many lines stays small where most are no calls.
+/// A call in a box, which keeps a list of many lines small if most of them aren't calls.
 #[derive(Debug, Drop)]
 pub struct HeldCall {
     call: Box<Call>,
@@ -20,7 +20,7 @@ impl Model for HeldCall {
 }
 
 impl HeldCall {
-    /// The call, moved to where it is held.
+    /// Moves a call into a box.
     pub fn of(alloc: Global, call: Call) -> Result<HeldCall, OutOfMemory>
         ensures { IfOk result (λ h. h ≡ call) }
     {
@@ -29,7 +29,7 @@ impl HeldCall {
         })
     }
 
-    /// The call.
+    /// Returns the call.
     pub fn get(&self) -> &Call
         ensures { result.now ≡ self.now }
     {

@@ -3,20 +3,20 @@ use desk_io::{Copied, HasId, Listed, OutOfMemory, Text};
 use desk_time::Minute;
 use std::alloc::Global;
 
-/// What an accepted request has done, kept for the case that it comes again.
+/// The result of an accepted request, kept in case the request is repeated.
 #[derive(Debug, Drop)]
 pub struct KeptReply {
-    /// The number under which it is kept.
+    /// The id of the reply.
     pub id: u64,
-    /// Who asked.
+    /// The name of the person.
     pub actor: Text,
-    /// The number that he gave the request.
+    /// The person's own number for the request.
     pub number: u64,
-    /// The SHA-256 of what he asked.
+    /// The SHA-256 of the ask.
     pub digest: [u8; 32],
-    /// When it was accepted.
+    /// When the request was accepted.
     pub at: Minute,
-    /// What it has done.
+    /// What the request did.
     pub done: Done,
 }
 
@@ -28,16 +28,16 @@ impl HasId for KeptReply {
     }
 }
 
-/// The greatest number among the requests of a person whose replies are kept no more.
+/// The greatest number of a person's requests whose replies were swept.
 #[derive(Debug, Drop)]
 pub struct Floor {
-    /// Who asked.
+    /// The name of the person.
     pub actor: Text,
-    /// The number that he gave the request.
+    /// The person's own number for the request.
     pub number: u64,
 }
 
-/// The floors of persons, in byte order of their names, each once.
+/// The floors of all persons in byte order of their names, without duplicates.
 pub type Floors = Listed<Floor>;
 
 impl Copied for KeptReply {

@@ -53,7 +53,7 @@ fn takeoff_or_null(alloc: Global, takeoff: &Option<TakeoffAlternate>) -> Result<
     }
 }
 
-// The airports of a leg.
+// Adds the airports of a leg.
 fn with_airports(alloc: Global, members: Members, leg: &Leg) -> Result<Members, OutOfMemory>
     ensures { IfOk result (λ all. members_view all.entries ≡ put (codes "to") (spec.text_data leg.now.to)
         (put (codes "from") (spec.text_data leg.now.from) (members_view members.entries))) }
@@ -62,7 +62,7 @@ fn with_airports(alloc: Global, members: Members, leg: &Leg) -> Result<Members, 
     with_text(alloc, members, "to", &leg.to.bytes())
 }
 
-// The times of a leg.
+// Adds the times of a leg.
 fn with_times(alloc: Global, members: Members, leg: &Leg) -> Result<Members, OutOfMemory>
     requires { HasMoments leg.now }
     ensures { IfOk result (λ all. members_view all.entries ≡ put (codes "minutes") (spec.count leg.now.minutes)
@@ -74,7 +74,7 @@ fn with_times(alloc: Global, members: Members, leg: &Leg) -> Result<Members, Out
     with_count(alloc, members, "minutes", leg.minutes as u64)
 }
 
-// The fuel of a leg.
+// Adds the fuel of a leg.
 fn with_fuel(alloc: Global, members: Members, leg: &Leg) -> Result<Members, OutOfMemory>
     ensures { IfOk result (λ all. members_view all.entries ≡ put (codes "onboard") (spec.count leg.now.onboard)
         (put (codes "minimum") (spec.count leg.now.minimum) (put (codes "extra") (spec.count leg.now.extra)
@@ -86,7 +86,7 @@ fn with_fuel(alloc: Global, members: Members, leg: &Leg) -> Result<Members, OutO
     with_count(alloc, members, "onboard", leg.onboard as u64)
 }
 
-// The alternates of a leg.
+// Adds the alternates of a leg.
 fn with_alternates(alloc: Global, members: Members, leg: &Leg) -> Result<Members, OutOfMemory>
     ensures { IfOk result (λ all. members_view all.entries ≡ put (codes "takeoff_alternate")
         (spec.option_data spec.takeoff_data leg.now.takeoff_alternate)
@@ -120,7 +120,7 @@ fn leg_values(alloc: Global, legs: &[Leg]) -> Result<Vec<Value>, OutOfMemory>
     Ok(values)
 }
 
-// The legs of a plan, as a JSON list.
+// Returns the JSON list of a plan's legs.
 pub(crate) fn legs_value(alloc: Global, legs: &[Leg]) -> Result<Value, OutOfMemory>
     requires { AllByRecursion HasMoments legs.now }
     ensures { IfOk result (λ v. view v ≡ spec.list_data spec.leg_data legs.now) }

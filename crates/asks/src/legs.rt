@@ -235,7 +235,7 @@ fn legs_of<'a, V: Json<'a>>(alloc: Global, items: V::Left) -> Result<Option<Legs
     }
 }
 
-/// The list of at most 1,000 legs of a plan.
+/// Reads the legs of a plan, at most 1,000.
 pub fn legs_at<'a, V: Json<'a>>(alloc: Global, value: V) -> Result<Option<Legs>, OutOfMemory>
     ensures value { IfOk result (λ legs. legs ≡ spec.legs_at (V.told value)) }
     ensures few { IfOk result (λ legs. IfSome legs (λ all. length all ≤ 1000)) }

@@ -1,4 +1,4 @@
-//! What is asked of the desk, and what it answers.
+//! The requests to the desk and its replies, with their JSON.
 #![tactic(auto)]
 
 mod ask_values;

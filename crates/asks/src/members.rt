@@ -12,7 +12,7 @@ use std::alloc::Global;
 /// The members of a JSON object.
 pub type Members = Map<String, Value>;
 
-/// Some members with one more.
+/// Adds a member to an object.
 #[tactic(auto, using(crate::proofs::Puts::put_member))]
 pub fn with_value(
     alloc: Global,
@@ -26,7 +26,7 @@ pub fn with_value(
     Ok(members)
 }
 
-/// Some members with a number more.
+/// Adds a number to an object.
 pub fn with_count(
     alloc: Global,
     members: Members,
@@ -39,7 +39,7 @@ pub fn with_count(
     with_value(alloc, members, key, count_value(count))
 }
 
-/// Some members with a name more.
+/// Adds a name to an object.
 pub fn with_name(
     alloc: Global,
     members: Members,
@@ -53,7 +53,7 @@ pub fn with_name(
     with_value(alloc, members, key, value)
 }
 
-/// Some members with a text more.
+/// Adds a text to an object.
 pub fn with_text(
     alloc: Global,
     members: Members,
@@ -67,7 +67,7 @@ pub fn with_text(
     with_value(alloc, members, key, value)
 }
 
-/// Some members with a moment more.
+/// Adds a moment to an object.
 pub fn with_moment(
     alloc: Global,
     members: Members,

@@ -21,7 +21,7 @@ fn kind_name(kind: Kind) -> &'static str
     }
 }
 
-/// A plan as JSON.
+/// Returns the JSON of a plan.
 #[tactic(auto, unfolding(crate::specs::Canonical::plan_data))]
 pub fn plan_value(alloc: Global, plan: &Plan) -> Result<Value, OutOfMemory>
     requires { IsPlan plan.now }
@@ -36,7 +36,7 @@ pub fn plan_value(alloc: Global, plan: &Plan) -> Result<Value, OutOfMemory>
     Ok(Value::Object(members))
 }
 
-/// The text of a plan: JSON without blanks, its keys in byte order.
+/// Returns the compact JSON text of a plan, without spaces and with the keys in byte order.
 pub fn plan_text(alloc: Global, plan: &Plan) -> Result<Text, OutOfMemory>
     requires { IsPlan plan.now }
     ensures { IfOk result (λ t. t ≡ compact_text (plan_data plan.now)) }

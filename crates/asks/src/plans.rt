@@ -13,7 +13,7 @@ use desk_io::{OutOfMemory, Text};
 use plan::{Kind, Legs, Plan};
 use std::alloc::Global;
 
-// What a name is of.
+// What a name in a plan names.
 #[derive(Clone, Copy)]
 enum Form {
     Flight,
@@ -118,7 +118,7 @@ fn named_plan<'a, V: Json<'a>>(
     }))
 }
 
-/// The plan of an object, where it has exactly the keys of a plan and each field has its form.
+/// Reads a plan. The object must have exactly the keys of a plan, with well-formed values.
 #[tactic(auto, unfolding(crate::specs::Plans::plan_of))]
 pub fn read_plan<'a, V: Json<'a>>(alloc: Global, value: V) -> Result<Option<Plan>, OutOfMemory>
     ensures value { IfOk result (λ p. p ≡ plan_of (V.told value)) }

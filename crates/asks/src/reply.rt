@@ -4,89 +4,89 @@ use desk_time::Minute;
 use plan::{Findings, Phase, PlanWhy};
 use std::alloc::Global;
 
-/// What an accepted request has done.
+/// The result of an accepted request.
 #[derive(Clone, Copy, Debug, PartialEq, Eq)]
 pub enum Done {
-    /// A report stands under this id.
+    /// The report has this id.
     Report(u64),
-    /// A deferral stands under this id, or stood under it until it was cleared.
+    /// The deferral has this id, or had it until it was cleared.
     Deferral(u64),
     /// A revision of a release was filed or signed.
     Filed {
         release: u64,
         revision: u64,
     },
-    /// A revision of a release has a text, of that SHA-256.
+    /// A revision of a release was prepared. Its text has this SHA-256.
     Prepared {
         release: u64,
         revision: u64,
         digest: [u8; 32],
     },
-    /// A release was changed.
+    /// The release was changed.
     Release(u64),
-    /// So many old reports and kept replies were swept away.
+    /// This many old reports and kept replies were removed.
     Swept {
         reports: u64,
         kept: u64,
     },
 }
 
-/// Why a request was refused, with its number.
+/// Why a request was refused. Each comment begins with the number of the refusal.
 #[derive(Debug, Drop)]
 pub enum Refusal {
-    /// 1: no person has that name.
+    /// 1: no person has this name.
     UnknownActor,
     /// 2: the person has another key.
     WrongKey,
     /// 3: the ask isn't for the person's role.
     NotYourRole,
-    /// 4: the number stands for another request of that person, which is kept under that id.
+    /// 4: the person used the number for another request, which is kept under this id.
     NumberReused {
         kept: u64,
     },
-    /// 5: the text has no reading, for another reason than 6. `group` is the number, from 1, of the first
-    /// group that doesn't read, and 0 where the text is too long.
+    /// 5: the report can't be read, for another reason than 6. `group` is the first malformed group, counted from 1.
+    /// It is 0 if the text is too long.
     BadReport {
         group: u32,
         what: Why,
     },
-    /// 6: the day at that group lies in none of the five days in reach.
+    /// 6: the day in this group isn't among the five days in reach.
     DayOutOfReach {
         group: u32,
     },
-    /// 7: 200,000 reports are held.
+    /// 7: the desk holds 200,000 reports.
     ReportsFull {
         held: u64,
     },
     /// 8: the tables have no such aircraft.
     UnknownTail,
-    /// 9: no open deferral has that id.
+    /// 9: no open deferral has this id.
     NoSuchDeferral,
-    /// 10: no release has that id.
+    /// 10: no release has this id.
     NoSuchRelease,
-    /// 11: it is for another person: the dispatcher who holds the release, or the captain of its plan.
+    /// 11: the ask is for another person: the dispatcher who holds the release, or the captain of its plan.
     NotYours {
         holder: Text,
     },
-    /// 12: a test of the plan fails, of that leg.
+    /// 12: the plan fails a test at this leg.
     BadPlan {
         leg: u32,
         what: PlanWhy,
     },
-    /// 13: no revision is pending (0), or it isn't prepared (1), or the dispatcher hasn't signed it (2).
+    /// 13: no revision is pending (0), it isn't prepared (1), or the dispatcher hasn't signed it (2).
     NotPending {
         stage: u8,
     },
-    /// 14: the pending revision has that other number.
+    /// 14: the pending revision has this number.
     WrongRevision {
         current: u64,
     },
-    /// 15: the text of the pending revision has that other digest.
+    /// 15: the text of the pending revision has this digest.
     WrongText {
         digest: [u8; 32],
     },
-    /// 16: of the latest reports of the stations that the release concerns, one isn't attached to the
-    /// pending revision; that is the least number of such a report.
+    /// 16: a latest report of a station that the release concerns isn't attached to the pending revision. Of several
+    /// this is the least number.
     WeatherNewer {
         report: u64,
     },
@@ -94,45 +94,45 @@ pub enum Refusal {
     RuleFails {
         findings: Findings,
     },
-    /// 18: the release is in a phase that the ask isn't for.
+    /// 18: the ask isn't possible in this phase of the release.
     WrongPhase {
         phase: Phase,
     },
-    /// 19: the dispatcher has signed.
+    /// 19: the dispatcher has already signed.
     AlreadySigned,
     /// 20: the release has no alert.
     NoSuchAlert,
-    /// 21: the alert has that other version.
+    /// 21: the alert has this version now.
     AlertMoved {
         version: u64,
     },
-    /// 22: it may be done from that moment on.
+    /// 22: it isn't allowed before this moment.
     TooYoung {
         until: Minute,
     },
-    /// 23: 20,000 releases are held.
+    /// 23: the desk holds 20,000 releases.
     ReleasesFull {
         held: u64,
     },
-    /// 24: the history has 400,000 entries, or 400,000 replies are kept, or there were too many events.
+    /// 24: the history has 400,000 entries, 400,000 replies are kept, or there were too many events.
     HistoryFull {
         entries: u64,
         kept: u64,
         events: u64,
     },
-    /// 25: the station isn't an airport of the tables.
+    /// 25: the station isn't in the table of airports.
     NoSuchStation,
-    /// 26: the keeper failed, as often as that by now, and what was to be kept wasn't.
+    /// 26: the keeper failed, so the change wasn't made. `faults` counts its failures so far.
     Unkept {
         faults: u64,
     },
-    /// 27: the number is at most the greatest of that person whose replies were swept away, which is that.
+    /// 27: the number is at or below this floor, the greatest number of the person whose reply was swept.
     NumberSwept {
         floor: u64,
     },
-    /// 28: the minimum equipment list of the aircraft's type has no such item.
+    /// 28: the minimum equipment list of the type has no such item.
     UnknownItem,
-    /// 29: the item was found later than the desk's moment, which is that.
+    /// 29: the item was found after the desk's time, which is this moment.
     BadFound {
         moment: Minute,
     },
@@ -142,14 +142,14 @@ pub enum Refusal {
     },
 }
 
-/// The answer to a request.
+/// The desk's reply to a request.
 #[derive(Debug, Drop)]
 pub enum Reply {
-    /// It was accepted.
+    /// The desk accepted the request.
     Done(Done),
-    /// What it asked to see.
+    /// The text of a view.
     Seen(Text),
-    /// It was refused, and changed nothing.
+    /// The desk refused the request and changed nothing.
     Refused(Refusal),
 }
 

@@ -1,4 +1,4 @@
--- What of the crates below the clauses above name.
+-- The definitions of lower crates that the contracts of this crate cite.
 pub use Rattle.records.specs.Below.{HasNoHours, Version}
 pub use Rattle.records.specs.Below.VersionVariants.{First, Second}
 pub use Rattle.records.specs.Bodies.{row_in, row_of}

@@ -1,4 +1,5 @@
-//! The board: the releases, their alerts, the reports, and the history that led to them.
+//! The board: the state of the desk, of which each step is prepared first and then installed. Its invariant ties the
+//! state to its history, and the alerts to the rules that fail.
 #![tactic(auto)]
 
 mod prepared;

@@ -6,7 +6,7 @@ use asks::Reply;
 use desk_io::Change;
 use desk_state::Event;
 
-/// A step that only has to be put in place.
+/// A prepared step, which only has to be installed.
 #[derive(Drop)]
 pub struct Prepared {
     pub(crate) reply: Option<Reply>,
@@ -15,31 +15,31 @@ pub struct Prepared {
     pub(crate) changes: Vec<Change>,
 }
 
-/// What an installed step answers.
+/// The result of an installed step.
 #[derive(Debug, Drop)]
 pub struct Installed {
-    /// The reply: none for a tick that is allowed.
+    /// The reply, which an allowed tick doesn't have.
     pub reply: Option<Reply>,
-    /// What is told of the alerts.
+    /// The notices about alerts.
     pub notices: Notices,
 }
 
 impl Prepared {
-    /// The reply: none for a tick that is allowed.
+    /// Returns the reply, which an allowed tick doesn't have.
     pub fn reply(&self) -> Option<&Reply>
         ensures { option_copied result ≡ self.now.reply }
     {
         self.reply.as_ref()
     }
 
-    /// What the step changes of the rows that are kept: nothing where it changes nothing.
+    /// Returns the changes that the step makes to the stored rows. A step that changes nothing has none.
     pub fn changes(&self) -> &[Change]
         ensures { result.now ≡ self.now.changes.items }
     {
         &self.changes
     }
 
-    /// Whether the step changes anything.
+    /// Returns true if the step changes anything.
     pub fn changed(&self) -> bool
         ensures { result ≡ is_some self.now.event }
     {

@@ -21,15 +21,15 @@ use rules::Steps;
 use std::alloc::Global;
 use std::sync::ledger::Ledger;
 
-/// What records stand for, once its active releases are judged.
+/// The state that records represent, after its active releases are judged.
 #[derive(Drop)]
 pub(crate) struct Reopened {
     pub held: Alerted,
-    /// What that changed of the rows.
+    /// The changes that opening makes to the rows.
     pub changes: Vec<Change>,
 }
 
-// The changes of the alerts once every active release is judged anew.
+// Returns the changes of alerts when every active release is judged again.
 #[tactic(auto, using(crate::proofs::Anew::nothing_fits))]
 fn judge_anew<L: Ledger>(
     alloc: Global,
@@ -47,7 +47,7 @@ fn judge_anew<L: Ledger>(
     .all_changes(alloc, steps)
 }
 
-// A judgement by which an alert changes is an event.
+// A judgement that changes an alert counts as an event.
 fn events_with(alerts: &[AlertChange], events: u64) -> u64
     requires { events < 999_999_999_999_999 }
     ensures { result ≡ spec.events_with alerts.now events }
@@ -58,7 +58,7 @@ fn events_with(alerts: &[AlertChange], events: u64) -> u64
     }
 }
 
-// Puts what a judgement changed in place.
+// Installs the changes of alerts.
 fn put_judged(content: &mut Content, alerts: Vec<AlertChange>) -> Result<(), OutOfMemory>
     requires may { MayReopen content.old.state }
     requires judged { alerts.items ≡ alert_changes nothing content.old.state }
@@ -69,7 +69,7 @@ fn put_judged(content: &mut Content, alerts: Vec<AlertChange>) -> Result<(), Out
     content.put_judged(alerts, events)
 }
 
-// Judges a state anew, and says what that changes of the rows, which are rewritten where they are of the first version.
+// Judges a state again, and returns the changes to the rows. Rows of the first version are rewritten.
 fn reopen<L: Ledger>(
     alloc: Global,
     content: &mut Content,
@@ -88,11 +88,11 @@ fn reopen<L: Ledger>(
     Ok(changes)
 }
 
-// Lets go of what was held.
+// Drops the content in a function of its own, which keeps the caller's proof small.
 fn drop_content(_: Content) {}
 
-/// The state that records stand for under some tables, once its active releases are judged, and what that changes of
-/// the rows, which are of the first version where `is_old` says so.
+/// Restores the state that records represent with these tables, judges its active releases, and returns the changes
+/// to the rows. If `is_old` is true, the rows are of the first version.
 #[tactic(auto, using(row_changes::proofs::StateLaws::may_reopen))]
 pub(crate) fn restored<L: Ledger>(
     alloc: Global,

@@ -43,8 +43,8 @@ use std::marker::Model;
 use std::snapshot::Snapshot;
 use std::sync::ledger::Ledger;
 
-/// The board of releases. Contracts see its state, the state in which it was opened, of which code keeps
-/// no copy, and the prepared step that may be installed without memory.
+/// The board of releases. Contracts model its state, the state in which it opened, and the prepared step that may be
+/// installed without memory. Code keeps no copy of the opening state.
 #[derive(Drop)]
 pub struct Board {
     held: Alerted,
@@ -52,11 +52,12 @@ pub struct Board {
     room: Option<Snapshot<Prepared>>,
 }
 
-/// A board that was restored.
+/// A restored board.
 #[derive(Drop)]
 pub struct Restored {
     pub board: Board,
-    /// What that changed of the rows: nothing where no alert changed and they aren't of the first version.
+    /// The changes that opening makes to the rows. If they are of the second version and no alert changed, there are
+    /// none.
     pub changes: Vec<Change>,
 }
 
@@ -76,7 +77,7 @@ impl Model for Board {
 }
 
 impl Board {
-    /// A board under the tables of an airline, on which nothing is held, at 2000-01-01 00:00.
+    /// Creates an empty board with the airline's tables, at 2000-01-01T00:00Z.
     #[tactic(auto, using(desk_state::proofs::Boards::start_board, desk_state::proofs::HoldLaws::start_sound))]
     pub fn new(alloc: Global, tables: Tables) -> Board
         ensures { result ≡ shown (start tables) (start tables) None false }
@@ -91,9 +92,9 @@ impl Board {
         }
     }
 
-    /// The board that valid records in order stand for, once its active releases are judged, and what that changed of
-    /// the rows. Where these are of the first version, as `is_old` says, all are rewritten that differ in the second.
-    /// Its history is empty.
+    /// Restores the board that records represent, and judges its active releases. The records must be valid and in
+    /// order. Returns the board, whose history is empty, and the changes to the rows. If `is_old` is true, the rows
+    /// are of the first version, and those that differ in the second are rewritten.
     #[tactic(auto, using(row_changes::proofs::StateLaws::held_board))]
     pub fn restore<L: Ledger>(
         alloc: Global,
@@ -105,7 +106,7 @@ impl Board {
         requires { AreOfDesk records.items }
         ensures board { IfOk result (λ r. r.board ≡ shown (reopened (state_in tables records.items))
             (reopened (state_in tables records.items)) None false) }
-        // Nothing where no alert changed and the rows aren't old.
+        // There are none if no alert changed and the rows aren't old.
         ensures changes { IfOk result (λ r. r.changes.items ≡ opened_changes is_old (state_in tables records.items)
             (alert_changes nothing (state_in tables records.items))) }
         ensures rows { IfOk result (λ r. (rows : Rows)
@@ -123,9 +124,9 @@ impl Board {
         Ok(Restored { board, changes })
     }
 
-    /// Prepares a call in a lane: its reply, the state after it and what is told of the alerts are those of
-    /// the call. What is held stays as it is, and the step that was prepared has room. After want of memory
-    /// none has.
+    /// Prepares a call in a lane. The step has the reply, the next state and the notices of that call. The state
+    /// doesn't change, and the step may then be installed without memory. If memory runs out, no step may. `steps`
+    /// counts the plans that are judged.
     pub fn prepare_change<L: Ledger>(
         &mut self,
         alloc: Global,
@@ -154,7 +155,7 @@ impl Board {
         Ok(prepared)
     }
 
-    /// Prepares a tick to a later moment in a lane. It has a reply only where the history is full.
+    /// Prepares a tick to a later moment in a lane. The step has a reply only if the history is full.
     pub fn prepare_tick<L: Ledger>(
         &mut self,
         alloc: Global,
@@ -181,8 +182,7 @@ impl Board {
         Ok(prepared)
     }
 
-    /// Puts a prepared step in place, which has room since nothing was prepared or changed after it. It
-    /// takes no memory.
+    /// Installs a prepared step, which must be the last one prepared, with no change since. Allocates no memory.
     pub fn install(&mut self, prepared: Prepared) -> Installed
         requires { self.old.room ≡ Some prepared }
         ensures reply { result.reply ≡ prepared.reply }
@@ -200,10 +200,10 @@ impl Board {
         Installed { reply, notices }
     }
 
-    /// Makes a call in a lane: its reply, what it changes, and what is told of the alerts are those of
-    /// the call. A refusal, a view and a repeated report change nothing; an accepted call is of a known person, with
-    /// his key and a role for which the ask is, and changes no more than its ask may. After want of memory the board is
-    /// as before.
+    /// Prepares and installs a call in a lane, and returns its reply and its notices. A refusal, a view, a repeated
+    /// command and a report that is stored already change nothing. An accepted call comes from a known person with
+    /// his key, whose role permits the ask. It changes no more than its ask may. If memory runs out, the state
+    /// doesn't change.
     pub fn apply<L: Ledger>(
         &mut self,
         alloc: Global,
@@ -233,8 +233,8 @@ impl Board {
         Ok(self.install(prepared))
     }
 
-    /// Ticks to a later moment in a lane. It has a reply only where the history is full. After want of
-    /// memory the board is as before.
+    /// Prepares and installs a tick to a later moment in a lane. It has a reply only if the history is full. If
+    /// memory runs out, the state doesn't change.
     pub fn tick<L: Ledger>(
         &mut self,
         alloc: Global,
@@ -260,10 +260,10 @@ impl Board {
         Ok(self.install(prepared))
     }
 
-    /// The greatest moment so far. What holds of a board holds whenever it is asked: its history is legal
-    /// from the opening state, and each person's accepted calls stand in it once; each active release has no alert and
-    /// fails no rule, or one alert that names exactly the rules that it fails; each active revision bears both
-    /// signatures; and each part has its forms.
+    /// Returns the board's moment, which is the latest that it has reached. The second clause states what always
+    /// holds of a board. Its history is legal from the opening state, and each person's accepted calls appear in it
+    /// once. Each active release has no alert and fails no rule, or has one alert that names exactly the rules that
+    /// it fails. Each active revision has both signatures, and each part of the state has its forms.
     pub fn now(&self) -> Minute
         ensures moment { result ≡ self.now.state.moment }
         ensures board { IsBoard self.now.opening self.now.state }
@@ -271,21 +271,21 @@ impl Board {
         self.held.content().moment()
     }
 
-    /// How many entries the history has.
+    /// Returns the number of entries in the history.
     pub fn entries(&self) -> usize
         ensures { result ≡ length self.now.state.entries }
     {
         self.held.content().history().len()
     }
 
-    /// Whether it holds the entries of its history, and doesn't count them alone.
+    /// Returns true if the board stores the entries of its history, and doesn't only count them.
     pub fn is_listed(&self) -> bool
         ensures { result ≡ self.now.listed }
     {
         self.held.content().history().is_listed()
     }
 
-    /// An entry of the history, counted from 0, on a board that holds them.
+    /// Returns an entry of the history, counted from 0. The board must store its entries.
     pub fn entry(&self, i: usize) -> &Entry
         requires bound { i < length self.now.state.entries }
         requires listed { IsTrue self.now.listed }
@@ -295,7 +295,8 @@ impl Board {
         self.held.content().history().get(i)
     }
 
-    /// Holds the entries of the history from now on, where there is none yet. A board counts them otherwise.
+    /// If the history is empty, stores its entries from now on. Otherwise they stay stored or counted as before. A
+    /// prepared step can no longer be installed.
     pub fn hold_entries(&mut self, alloc: Global)
         ensures { self.new ≡ shown self.old.opening self.old.state None
             (self.old.listed || (length self.old.state.entries == 0)) }
@@ -304,35 +305,35 @@ impl Board {
         self.held.hold_entries(alloc);
     }
 
-    /// The release of an id.
+    /// Looks up the release with this id.
     pub fn release(&self, id: u64) -> Option<&Release>
         ensures { option_copied result ≡ release_at id self.now.state.releases }
     {
         self.held.content().release(id)
     }
 
-    /// The alert of a release.
+    /// Looks up the alert of a release.
     pub fn alert(&self, id: u64) -> Option<&Alert>
         ensures { option_copied result ≡ alert_at id self.now.state.alerts }
     {
         self.held.content().alert(id)
     }
 
-    /// How many releases are held.
+    /// Returns the number of releases.
     pub fn releases_held(&self) -> usize
         ensures { result ≡ length self.now.state.releases }
     {
         self.held.content().releases().len()
     }
 
-    /// How many reports are held.
+    /// Returns the number of reports.
     pub fn reports_held(&self) -> usize
         ensures { result ≡ length self.now.state.reports }
     {
         self.held.content().reports().len()
     }
 
-    /// The closing text: the releases, and the weather of all stations that have a report.
+    /// Returns the text that ends a run: the releases, and the latest weather of all stations that have a report.
     pub fn closing(&self, alloc: Global) -> Result<Text, OutOfMemory>
         ensures { IfOk result (λ t. t ≡ closing self.now.state) }
     {

@@ -28,14 +28,14 @@ use rules::Steps;
 use std::alloc::Global;
 use std::sync::ledger::Ledger;
 
-/// The alerts that an event changes, and what is told of them.
+/// The alerts that an event changes, and the notices about them.
 #[derive(Drop)]
 struct Judged {
     changes: Vec<AlertChange>,
     notices: Notices,
 }
 
-/// What stays of an event: its entry in the history, and what is kept of an accepted command.
+/// What an event leaves behind: its entry in the history, and the reply to keep if it is an accepted command.
 #[derive(Drop)]
 struct Recorded {
     entered: Entry,
@@ -169,7 +169,7 @@ fn planned(
     }
 }
 
-// What an event changes of the rows.
+// Returns the changes that an event makes to the rows.
 fn rows_of(
     alloc: Global,
     content: &Content,
@@ -203,8 +203,8 @@ fn full_reply(content: &Content) -> Reply
     })
 }
 
-// Judges what an effect touches, as it is once the effect is there, and takes all memory that the event needs. What is
-// held stays as it is.
+// Judges the releases that an effect touches, as they are after it, and reserves all memory that the event needs. The
+// state doesn't change.
 fn judge_touched<L: Ledger>(
     alloc: Global,
     held: &mut Alerted,
@@ -227,7 +227,7 @@ fn judge_touched<L: Ledger>(
     Ok(Judged { changes, notices })
 }
 
-// Judges what an effect touches, and says what the event changes of the rows.
+// Judges the releases that an effect touches, and returns the changes to the rows as well.
 fn work_out<L: Ledger>(
     alloc: Global,
     held: &mut Alerted,
@@ -253,10 +253,10 @@ fn work_out<L: Ledger>(
     Ok((judged, changes))
 }
 
-// Lets go of what an event would have been.
+// Drops both in a function of its own, which keeps the caller's proof small.
 fn let_go(_: Effect, _: Recorded) {}
 
-// The reply that says what was done, where an accepted call has done it; a tick has none.
+// Returns the reply of an accepted call. A tick has none.
 fn replied(done: Option<Done>) -> Option<Reply>
     ensures { result ≡ option_map Reply.Done done }
 {
@@ -266,7 +266,7 @@ fn replied(done: Option<Done>) -> Option<Reply>
     }
 }
 
-// Prepares an event, of which it is made what it records.
+// Prepares an event, given its effect and what it leaves behind.
 fn prepare_event<L: Ledger>(
     alloc: Global,
     held: &mut Alerted,
@@ -327,7 +327,7 @@ fn prepare_accepted<L: Ledger>(
     }
 }
 
-// Lets go of an effect.
+// Drops an effect in a function of its own, which keeps the caller's proof small.
 fn drop_effect(_: Effect) {}
 
 #[tactic(auto, unfolding(crate::specs::Prepare::installed))]
@@ -359,7 +359,7 @@ fn prepare_entered<L: Ledger>(
     prepare_accepted(alloc, held, lane, call, done, effect, steps)
 }
 
-// Prepares a call of a person who may make it, and takes all memory that it needs. What is held stays as it is.
+// Prepares a call whose name and key are right, and reserves all memory that it needs. The state doesn't change.
 #[tactic(auto, unfolding(desk_state::specs::Step::do_call, crate::specs::Prepare::installed), using(crate::proofs::Counted::one_counted))]
 fn prepare_call<L: Ledger>(
     alloc: Global,
@@ -389,7 +389,7 @@ fn prepare_call<L: Ledger>(
     }
 }
 
-/// Prepares a call: the person and his key come first.
+/// Prepares a call. Checks the person's name and key first.
 #[tactic(auto, unfolding(desk_state::specs::Step::answer_call, crate::specs::Prepare::installed))]
 pub fn prepare_answer<L: Ledger>(
     alloc: Global,
@@ -440,7 +440,7 @@ fn prepare_ticked<L: Ledger>(
     prepare_event(alloc, held, None, Effect::tick(to), recorded, steps)
 }
 
-/// Prepares a tick to a later moment, and takes all memory that it needs. What is held stays as it is.
+/// Prepares a tick to a later moment, and reserves all memory that it needs. The state doesn't change.
 #[tactic(auto, unfolding(desk_state::specs::Step::tick_to, crate::specs::Prepare::installed))]
 pub fn prepare_tick<L: Ledger>(
     alloc: Global,
@@ -463,7 +463,7 @@ pub fn prepare_tick<L: Ledger>(
     prepare_ticked(alloc, held, lane, to, steps)
 }
 
-/// Puts what was prepared in place. It takes no memory.
+/// Installs a prepared event. Allocates no memory.
 pub fn install(held: &mut Alerted, event: Option<Event>)
     requires may { MayInstall held.old event }
     requires sound { Sound (with_events event held.old.state) }

@@ -6,7 +6,7 @@ use serde_json::{Error, Value};
 use std::alloc::Global;
 use std::str;
 
-/// The data of a line, where it is UTF-8 and JSON.
+/// The data of a line, if it is JSON in UTF-8.
 pub fn data_of(alloc: Global, line: &[u8]) -> Result<Option<Value>, OutOfMemory> {
     let Ok(text) = str::from_utf8(line) else {
         return Ok(None);
@@ -29,7 +29,7 @@ pub fn has_key(value: &Value, key: &str) -> bool {
     value.get(key).is_some()
 }
 
-/// The text at a key.
+/// The string at a key.
 pub fn text_at<'a>(value: &'a Value, key: &str) -> Option<&'a str> {
     match value.get(key) {
         Some(found) => found.as_str(),
@@ -37,7 +37,7 @@ pub fn text_at<'a>(value: &'a Value, key: &str) -> Option<&'a str> {
     }
 }
 
-/// The whole number at a key, at most the limit.
+/// The whole number at a key, if it is at most the limit.
 pub fn number_at(value: &Value, key: &str, limit: u64) -> Option<u64>
     ensures { IfSome result (λ n. n ≤ limit) }
 {
@@ -47,7 +47,7 @@ pub fn number_at(value: &Value, key: &str, limit: u64) -> Option<u64>
     }
 }
 
-/// The whole number that a value is, at most the limit.
+/// The whole number in a value, if it is at most the limit.
 pub fn number_within(value: &Value, limit: u64) -> Option<u64>
     ensures { IfSome result (λ n. n ≤ limit) }
 {
@@ -57,7 +57,7 @@ pub fn number_within(value: &Value, limit: u64) -> Option<u64>
     }
 }
 
-/// The whole number of 32 bits at a key.
+/// The whole number at a key, if it fits into 32 bits.
 pub fn small_number_at(value: &Value, key: &str) -> Option<u32> {
     match number_at(value, key, 4_294_967_295) {
         Some(number) => Some(number as u32),
@@ -65,7 +65,7 @@ pub fn small_number_at(value: &Value, key: &str) -> Option<u32> {
     }
 }
 
-/// The truth value at a key.
+/// The boolean at a key.
 pub fn truth_at(value: &Value, key: &str) -> Option<bool> {
     match value.get(key) {
         Some(found) => found.as_bool(),
@@ -73,7 +73,7 @@ pub fn truth_at(value: &Value, key: &str) -> Option<bool> {
     }
 }
 
-/// The items of the list at a key; none where there is no list.
+/// The items of the list at a key, or none if there is no list.
 pub fn items_at<'a>(value: &'a Value, key: &str) -> &'a [Value] {
     match value.get(key) {
         Some(found) => match found.as_array() {
@@ -84,7 +84,7 @@ pub fn items_at<'a>(value: &'a Value, key: &str) -> &'a [Value] {
     }
 }
 
-/// The bytes that the text at a key names in hexadecimal.
+/// The bytes of the hexadecimal string at a key.
 pub fn bytes_at(alloc: Global, value: &Value, key: &str) -> Result<Option<Vec<u8>>, OutOfMemory> {
     let Some(text) = text_at(value, key) else {
         return Ok(None);
@@ -96,7 +96,7 @@ pub fn bytes_at(alloc: Global, value: &Value, key: &str) -> Result<Option<Vec<u8
     }
 }
 
-/// Whether the data at a key is written so.
+/// Whether the value at a key, as JSON, is this text.
 pub fn is_written(
     alloc: Global,
     value: &Value,

@@ -1,7 +1,11 @@
-//! Compares calls of the libraries with the results that files of cases ask for. The words name the
-//! files, one JSON object a line; each has the arguments of a call and its result, and its keys say
-//! which call it is. The small tables lie in the working folder. A line is printed for each case that
-//! differs, and a last one with the counts; the status is 0 where none differs.
+//! Compares calls of the libraries with the results that files of cases expect.
+//!
+//! The arguments name the files, which have one JSON object per line. An object has the arguments of a call and its
+//! expected result, and its keys determine the call. The tables of the small airline are in the working directory.
+//! The program prints a line for each case that differs, and then a line with the counts.
+//!
+//! The exit status is 0 if no case differs, and 1 if one does. It is 3 if a file can't be read or memory ran out, and
+//! 8 if the arguments didn't fit into memory.
 #![tactic(auto)]
 
 mod fields;
@@ -18,7 +22,7 @@ use std::alloc::Global;
 use std::env;
 use std::process::ExitCode;
 
-// Whether the call of a case gives its result.
+// Whether the call of a case returns the expected result.
 fn passes(alloc: Global, case: &Value, small: &Files) -> Result<bool, OutOfMemory> {
     if has_key(case, "text_hex") {
         reports::reads(alloc, case)
@@ -44,7 +48,7 @@ fn line_passes(alloc: Global, line: &[u8], small: &Files) -> Result<bool, OutOfM
     }
 }
 
-// The numbers, from 1, of the cases of a file that differ, and how many cases there are.
+// The places, from 0, of the cases of a file that differ, and how many cases there are.
 fn differing(
     alloc: Global,
     text: &[u8],
@@ -60,7 +64,7 @@ fn differing(
     Ok((differing, lines.len()))
 }
 
-// The words after the program's name.
+// The arguments after the program's name.
 fn words_of(rt: &HostRuntime) -> Result<Vec<String>, OutOfMemory> {
     let mut words = Vec::new(rt.alloc());
     let Ok(arguments) = env::args(rt) else {
@@ -72,7 +76,7 @@ fn words_of(rt: &HostRuntime) -> Result<Vec<String>, OutOfMemory> {
     Ok(words)
 }
 
-// Compares the cases of a file, and says which differ. It tells how many there are and how many differ.
+// Compares the cases of a file, and prints which differ. Returns how many there are, and how many differ.
 fn compare(rt: &HostRuntime, name: &str, small: &Files) -> Result<(usize, usize), WholeFault> {
     let text = read_whole(rt.alloc(), &mut FileShelf::new(*rt), name)?;
     let (differing, count) = differing(rt.alloc(), text.bytes(), small)?;
@@ -85,7 +89,7 @@ fn compare(rt: &HostRuntime, name: &str, small: &Files) -> Result<(usize, usize)
     Ok((count, differing.len()))
 }
 
-// Compares the cases of each file.
+// Compares the cases of each file. Returns how many passed, and how many failed.
 fn compare_all(rt: &HostRuntime, names: &[String]) -> Result<(usize, usize), WholeFault> {
     if names.is_empty() {
         return Ok((0, 0));

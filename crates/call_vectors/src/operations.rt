@@ -32,14 +32,14 @@ fn push_given(alloc: Global, files: &mut Files, tables: &Value) -> Result<(), Ou
     Ok(())
 }
 
-// Adds an aircraft N1 of that type.
+// Adds an aircraft N1 of this type.
 fn push_tail(alloc: Global, files: &mut Files, kind: &str) -> Result<(), OutOfMemory> {
     let mut text = Vec::new(alloc);
     push_all(&mut text, &[b"tail,kind\nN1,", kind.as_bytes(), b"\n"])?;
     push_file(alloc, files, "tails.csv", &text)
 }
 
-// Adds empty tables.
+// Adds the other tables without rows. If two files have the same name, the first counts.
 fn push_empty(alloc: Global, files: &mut Files, small: &Files) -> Result<(), OutOfMemory> {
     for (name, text) in small {
         let header = Text::of(alloc, header_of(text.bytes()))?;
@@ -48,7 +48,7 @@ fn push_empty(alloc: Global, files: &mut Files, small: &Files) -> Result<(), Out
     Ok(())
 }
 
-// The tables of a case, with an aircraft N1 of its type.
+// The tables of a case, with an aircraft N1 of the case's type.
 fn tables_in(alloc: Global, case: &Value, small: &Files) -> Result<Option<Tables>, OutOfMemory> {
     let Some(given) = case.get("tables") else {
         return Ok(None);
@@ -115,7 +115,7 @@ fn has_alternates(
     )
 }
 
-// Whether some landing minima are raised so by some minima as an alternate.
+// Whether the landing minima, raised within the alternate minima (14 CFR 121.652), are those that the case expects.
 fn is_raised(
     alloc: Global,
     case: &Value,
@@ -173,7 +173,7 @@ fn pair_of(item: &Value) -> Option<Pair>
     })
 }
 
-// The minima at a key, as far as they are some.
+// The minima at a key: pairs of feet and millimetres. Items that are no such pair are skipped.
 fn pairs_at(alloc: Global, case: &Value, key: &str) -> Result<Pairs, OutOfMemory>
     ensures { IfOk result (λ pairs. AreWithin 20_000 16_093_440 pairs) }
 {
@@ -186,14 +186,15 @@ fn pairs_at(alloc: Global, case: &Value, key: &str) -> Result<Pairs, OutOfMemory
     Ok(pairs)
 }
 
-/// A case of `landing`, `alternate` and `raised`.
+/// Checks a case with the keys `landing`, `alternate` and `raised`.
 pub fn raises(alloc: Global, case: &Value) -> Result<bool, OutOfMemory> {
     let landing = pairs_at(alloc, case, "landing")?;
     let alternate = pairs_at(alloc, case, "alternate")?;
     is_raised(alloc, case, &landing, &alternate)
 }
 
-/// A case of `tables`, `kind`, `station`, `lost`, `landing`, `alternate_pairs`, `flag_floor` and `raised`.
+/// Checks a case with the keys `tables`, `kind`, `station`, `lost`, `landing`, `alternate_pairs`, `flag_floor` and
+/// `raised`.
 pub fn minima(alloc: Global, case: &Value, small: &Files) -> Result<bool, OutOfMemory> {
     let Some(station) = station_at(case, "station") else {
         return Ok(false);
@@ -236,7 +237,7 @@ fn alternates_in(alloc: Global, case: &Value) -> Result<Alternates, OutOfMemory>
     Ok(alternates)
 }
 
-// A leg with the fuel and the time of a case.
+// A leg with the fuel, in pounds, and the minutes of a case.
 fn leg_of(case: &Value, alternates: Alternates) -> Option<Leg> {
     let station = Station::read(b"KJFK")?;
     Some(Leg {
@@ -263,8 +264,8 @@ fn fuel_of(case: &Value, leg: &Leg) -> Option<u64> {
     Some(required(leg, basis, counted, cruise, hold, extra_fuel))
 }
 
-/// A case of `burn`, `extra`, `minutes`, `alternates`, `basis`, `counted`, `cruise_pph`, `hold_pph`,
-/// `extra_fuel` and `required`.
+/// Checks a case with the keys `burn`, `extra`, `minutes`, `alternates`, `basis`, `counted`, `cruise_pph`,
+/// `hold_pph`, `extra_fuel` and `required`.
 pub fn fuel(alloc: Global, case: &Value) -> Result<bool, OutOfMemory> {
     let Some(leg) = leg_of(case, alternates_in(alloc, case)?) else {
         return Ok(false);

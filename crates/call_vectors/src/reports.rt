@@ -20,7 +20,7 @@ fn receipt_of(case: &Value) -> Minute
     }
 }
 
-// The reading of a text as JSON.
+// The reading of a report, or its first fault, as JSON.
 fn reading_text(alloc: Global, text: &[u8], case: &Value) -> Result<String, OutOfMemory> {
     match read_report(alloc, text, receipt_of(case)) {
         Ok(Read::Metar(metar)) => metar_text(alloc, &metar),
@@ -38,7 +38,7 @@ fn is_canonical(alloc: Global, text: &[u8], case: &Value) -> Result<bool, OutOfM
     }
 }
 
-/// A case of `text_hex`, `receipt`, `canonical_hex` and `reading`.
+/// Checks a case with the keys `text_hex`, `receipt`, `canonical_hex` and `reading`.
 pub fn reads(alloc: Global, case: &Value) -> Result<bool, OutOfMemory> {
     let Some(text) = bytes_at(alloc, case, "text_hex")? else {
         return Ok(false);
@@ -47,7 +47,7 @@ pub fn reads(alloc: Global, case: &Value) -> Result<bool, OutOfMemory> {
     Ok(is_written(alloc, case, "reading", &reading)? && is_canonical(alloc, &text, case)?)
 }
 
-// The report of the text at a key, if there is one that can be read.
+// The report at a key, if its text can be read.
 fn report_at(alloc: Global, case: &Value, key: &str) -> Result<Option<Read>, OutOfMemory> {
     let Some(text) = text_at(case, key) else {
         return Ok(None);
@@ -73,7 +73,7 @@ fn metar_in(read: &Option<Read>) -> Option<&Metar> {
     }
 }
 
-// The first and last minute of a case's window, of at most a day.
+// The first and the last minute of a case's window, which is at most a day long.
 fn window_of(case: &Value) -> Option<(Minute, Minute)>
     ensures { IfSome result (λ w. (w.0 ≤ w.1) × (w.1 ≤ SHOWN_LAST) × (w.1 - w.0 ≤ 1440)) }
 {
@@ -86,7 +86,7 @@ fn window_of(case: &Value) -> Option<(Minute, Minute)>
     }
 }
 
-/// A case of `taf`, `metar`, `receipt`, `hold`, `from`, `to`, `at_from` and `worst`.
+/// Checks a case with the keys `taf`, `metar`, `receipt`, `hold`, `from`, `to`, `at_from` and `worst`.
 pub fn controls(alloc: Global, case: &Value) -> Result<bool, OutOfMemory> {
     let taf = report_at(alloc, case, "taf")?;
     let metar = report_at(alloc, case, "metar")?;
@@ -110,7 +110,7 @@ fn resolved_text(alloc: Global, resolved: Result<Minute, BadDay>) -> Result<Stri
     }
 }
 
-/// A case of `first_day`, `day`, `hour`, `minute` and `resolve`.
+/// Checks a case with the keys `first_day`, `day`, `hour`, `minute` and `resolve`.
 pub fn resolves(alloc: Global, case: &Value) -> Result<bool, OutOfMemory> {
     let Some(first_day) = number_at(case, "first_day", 48_000) else {
         return Ok(false);

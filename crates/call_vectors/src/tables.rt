@@ -6,7 +6,7 @@ use serde_json::Value;
 use std::alloc::Global;
 use table_files::{TableFault, read_tables};
 
-/// Files by their names.
+/// Files with their names.
 pub type Files = Vec<(Text, Text)>;
 
 /// The names of the thirteen tables.
@@ -26,7 +26,7 @@ pub const NAMES: [&str; 13] = [
     "hours.csv",
 ];
 
-/// The tables of the small airline, as a shelf holds them.
+/// Reads the tables of the small airline from a shelf.
 pub fn small_files<S: Shelf>(alloc: Global, shelf: &mut S) -> Result<Files, WholeFault> {
     let mut files = Vec::new(alloc);
     for name in &NAMES {
@@ -48,7 +48,7 @@ pub fn push_file(
     Ok(())
 }
 
-/// Adds copies of files. Of two with one name the first counts.
+/// Adds copies of files. If two files have the same name, the first counts.
 pub fn push_files(alloc: Global, files: &mut Files, more: &Files) -> Result<(), OutOfMemory> {
     for (name, text) in more {
         files.push((
@@ -59,13 +59,13 @@ pub fn push_files(alloc: Global, files: &mut Files, more: &Files) -> Result<(), 
     Ok(())
 }
 
-/// The tables of files, or the first fault.
+/// The tables in files, or their first fault.
 pub fn tables_of(alloc: Global, files: Files) -> Result<Tables, TableFault> {
     let mut shelf = MemoryShelf::new(files, Vec::new(alloc));
     read_tables(alloc, &mut shelf)
 }
 
-// The fault of the small tables with one other, as JSON; null where they are good.
+// The first fault of tables as JSON, or null if they are valid.
 fn fault_text(alloc: Global, read: Result<Tables, TableFault>) -> Result<String, OutOfMemory> {
     match read {
         Ok(_) => Ok(String::from_str(alloc, "null")?),
@@ -75,7 +75,8 @@ fn fault_text(alloc: Global, read: Result<Tables, TableFault>) -> Result<String,
     }
 }
 
-/// A case of `name`, `data_hex` and `bad`: a table beside the small ones, and the first fault.
+/// Checks a case with the keys `name`, `data_hex` and `bad`: the first fault of the small tables, if this one
+/// replaces that of its name.
 pub fn faults(alloc: Global, case: &Value, small: &Files) -> Result<bool, OutOfMemory> {
     let Some(name) = text_at(case, "name") else {
         return Ok(false);

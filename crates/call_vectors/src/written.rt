@@ -13,7 +13,8 @@ fn option_text(alloc: Global, number: Option<u32>) -> Result<String, OutOfMemory
     }
 }
 
-/// A condition as JSON. Here and below keys stand in order, as JSON data is written.
+/// A condition as JSON: ceiling in feet, visibility in millimetres. Here and below the keys are in alphabetical
+/// order.
 pub fn cond_text(alloc: Global, cond: Cond) -> Result<String, OutOfMemory> {
     let ceiling = option_text(alloc, cond.ceiling)?;
     let vis = option_text(alloc, cond.vis)?;
@@ -142,7 +143,7 @@ fn pair_text(alloc: Global, pair: Pair) -> Result<String, OutOfMemory> {
     Ok(format!(in alloc; "[{ceiling},{vis}]")?)
 }
 
-/// Pairs of minima as JSON.
+/// Pairs of minima as JSON: feet, and millimetres.
 pub fn pairs_text(alloc: Global, pairs: &[Pair]) -> Result<String, OutOfMemory> {
     let mut texts = Vec::new(alloc);
     for pair in pairs {

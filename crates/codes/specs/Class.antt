@@ -10,32 +10,32 @@ use Rattle.codes.specs.Groups.{first_of}
 use Rattle.codes.specs.declared.shapes.Elements.{Elements}
 use Rattle.codes.specs.Shapes.{is_digit, are_digits, is_cavok, mixed, elements_of}
 
--- the group names something
+-- the group reports something
 abbrev pub is_shaped : Named → Bool
 is_shaped (Value n) = true
 is_shaped Unmeasured = true
 is_shaped Nothing = false
 is_shaped Bad = false
 
--- a distance by itself, or the miles of one whose fraction follows
+-- a visibility, or whole miles whose fraction is in the next group
 abbrev pub is_visibility : Elements → List ℕ → List ℕ → Bool
 is_visibility elements g next = (is_shaped elements.vis && not (is_cavok g)) || is_some (mixed g next)
 
--- two or three digits of speed
+-- a wind speed of two or three digits
 abbrev pub is_speed : List ℕ → Bool
 is_speed text = ((length text == 2) || (length text == 3)) && are_digits text
 
--- the last n digits follow the letter G, and a speed stands before it
+-- a speed, the letter G, and n digits
 abbrev pub is_gust : ℕ → List ℕ → Bool
 is_gust n text =
     let front = length text - (n + 1) in
     nat_le (n + 1) (length text) && (slice_index text front == 71) && is_speed (take front text) && are_digits (drop (front + 1) text)
 
--- a speed, or a speed and its gusts
+-- a speed, or a speed with gusts
 abbrev pub are_speeds : List ℕ → Bool
 are_speeds text = is_speed text || is_gust 2 text || is_gust 3 text
 
--- what stands before the unit of speed: KT, or MPS
+-- the text before the unit of speed, KT or MPS; empty if there is no unit
 abbrev pub before_unit : List ℕ → List ℕ
 before_unit g =
     let n = length g in
@@ -50,7 +50,7 @@ abbrev pub is_wind_at : List ℕ → Bool
 is_wind_at (a ∷ b ∷ c ∷ speeds) = is_direction (a ∷ b ∷ c ∷ []) && are_speeds speeds
 is_wind_at _ = false
 
--- two directions between which the wind varies
+-- the two directions between which the wind varies
 abbrev pub is_variation : List ℕ → Bool
 is_variation (a ∷ b ∷ c ∷ v ∷ d ∷ e ∷ f ∷ []) = (v == 86) && are_digits (a ∷ b ∷ c ∷ []) && are_digits (d ∷ e ∷ f ∷ [])
 is_variation _ = false
@@ -58,7 +58,7 @@ is_variation _ = false
 abbrev pub is_wind : List ℕ → Bool
 is_wind g = is_wind_at (before_unit g) || is_variation g
 
--- R, two digits, and a / somewhere after
+-- R, two digits, and a / somewhere after them
 abbrev pub is_runway : List ℕ → Bool
 is_runway (r ∷ a ∷ b ∷ rest) = (r == 82) && is_digit a && is_digit b && list_any (λ x. x == 47) rest
 is_runway _ = false
@@ -73,13 +73,13 @@ phenomena =
 abbrev pub is_phenomenon : ℕ → ℕ → Bool
 is_phenomenon a b = list_any (λ p. bytes_eq p (a ∷ b ∷ [])) phenomena
 
--- pairs of letters, each a phenomenon
+-- pairs of letters, each a descriptor or phenomenon
 abbrev pub are_phenomena : List ℕ → Bool
 are_phenomena [] = true
 are_phenomena (a ∷ []) = false
 are_phenomena (a ∷ b ∷ rest) = is_phenomenon a b && are_phenomena rest
 
--- what stands after an intensity, or after VC (in the vicinity)
+-- the text after the sign of intensity, or after VC (in the vicinity)
 abbrev pub after_intensity : List ℕ → List ℕ
 after_intensity [] = []
 after_intensity (a ∷ []) = if (a == 43) || (a == 45) then [] else a ∷ []
@@ -89,7 +89,7 @@ after_intensity (a ∷ b ∷ rest) =
 abbrev pub is_weather : List ℕ → Bool
 is_weather g = not (length (after_intensity g) == 0) && are_phenomena (after_intensity g)
 
--- without the letter M of a temperature below zero
+-- the text without a leading M, which marks a temperature below zero
 abbrev pub without_minus : List ℕ → List ℕ
 without_minus [] = []
 without_minus (a ∷ rest) = if a == 77 then rest else a ∷ rest
@@ -122,11 +122,11 @@ other_class g =
     if is_wind g then Wind else (if is_runway g then Runway else (if is_weather g then Weather
     else (if is_temperature g then Temperature else (if is_altimeter g then Altimeter else (if is_mark g then Mark else Unread)))))
 
--- the same of a group that says this of each element
+-- the class of a group with these elements
 abbrev pub class_by : Elements → List ℕ → List ℕ → Class
 class_by elements g next = if is_visibility elements g next then Visibility else (if is_shaped elements.sky then Sky else other_class g)
 
--- the class of a group, by the group that follows it
+-- the class of a group, given the group after it
 unfoldable pub class_of : List ℕ → List ℕ → Class
 class_of g next = class_by (elements_of g) g next
 
@@ -137,7 +137,7 @@ is_unread _ = false
 abbrev pub one_if : Bool → ℕ
 one_if b = if b then 1 else 0
 
--- how many groups are in no class that is read
+-- how many groups have class Unread
 abbrev pub unread_count : List (List ℕ) → ℕ
 unread_count [] = 0
 unread_count (g ∷ gs) = one_if (is_unread (class_of g (first_of gs))) + unread_count gs

@@ -1,10 +1,10 @@
--- The table of sky: the groups that name a height, and the feet that each names (FMH-1, 12.6.9; WMO FM 15, 15.9).
+-- The table of sky groups and the feet that each reports (FMH-1, 12.6.9; WMO FM 15, 15.9).
 use Rattle.std.specs.Prelude.{◌≡◌, ℕ, ◌*◌, List, [], ◌++◌, codes}
 use Rattle.codes.specs.declared.shapes.Named.{Named}
 use Rattle.codes.specs.declared.shapes.Named.TheVariants.{Value, Unmeasured, Nothing, Bad}
 use Rattle.codes.specs.Digits.{ThreeDigits}
 
--- a layer that is no ceiling
+-- a layer that isn't a ceiling
 pub data IsOpenLayer : List ℕ → Type 0 where
   few : IsOpenLayer (codes "FEW")
   scattered : IsOpenLayer (codes "SCT")
@@ -14,19 +14,19 @@ pub data IsCeiling : List ℕ → Type 0 where
   broken : IsCeiling (codes "BKN")
   overcast : IsCeiling (codes "OVC")
 
--- the height of a layer in hundreds of feet, or that it wasn't measured
+-- the height of a layer in hundreds of feet, or /// if it wasn't measured
 pub data ShowsHeight : List ℕ → Named → Type 0 where
   measured : {text : List ℕ} {n : ℕ} → ThreeDigits text n → ShowsHeight text (Value (n * 100))
   unmeasured : ShowsHeight (codes "///") Unmeasured
 
--- what may follow the height: nothing, cumulonimbus, towering cumulus, or that the kind isn't known
+-- the type of cloud after the height: none, cumulonimbus, towering cumulus, or unknown
 pub data IsCloud : List ℕ → Type 0 where
   unnamed : IsCloud []
   cumulonimbus : IsCloud (codes "CB")
   towering : IsCloud (codes "TCU")
   unknown : IsCloud (codes "///")
 
--- what a group of the sky names
+-- a sky group and what it reports
 pub data InSky : List ℕ → Named → Type 0 where
   open_layer : {word text kind : List ℕ} {height : Named} → IsOpenLayer word → ShowsHeight text height → IsCloud kind → InSky (word ++ (text ++ kind)) (Value 100_000)
   ceiling : {word text kind : List ℕ} {height : Named} → IsCeiling word → ShowsHeight text height → IsCloud kind → InSky (word ++ (text ++ kind)) height
@@ -37,13 +37,13 @@ pub data InSky : List ℕ → Named → Type 0 where
   none_detected : InSky (codes "NCD") (Value 5000)
   cavok : InSky (codes "CAVOK") (Value 5000)
 
--- a group begins as one of a layer or of vertical visibility
+-- the group begins like a layer or a vertical visibility
 pub data BeginsAsLayer : List ℕ → Type 0 where
   with_open_layer : {word : List ℕ} → IsOpenLayer word → (rest : List ℕ) → BeginsAsLayer (word ++ rest)
   with_ceiling : {word : List ℕ} → IsCeiling word → (rest : List ℕ) → BeginsAsLayer (word ++ rest)
   with_vertical : (rest : List ℕ) → BeginsAsLayer (codes "VV" ++ rest)
 
--- each row of the table
+-- what the table gives for a group
 pub record IsTabledSky (group : List ℕ) (named : Named) : Type 0 where
   pub in_sky : (value : Named) → InSky group value → named ≡ value
   pub bad : BeginsAsLayer group → ((value : Named) → InSky group value → ⊥) → named ≡ Bad

@@ -9,13 +9,13 @@ use crate::shapes::{Elements, Named, are_digits, elements_of, is_cavok, is_digit
 /// The classes of groups (FMH-1, chapter 12; WMO FM 15).
 #[derive(Clone, Copy, Debug, PartialEq, Eq)]
 pub enum Class {
-    /// A distance, or the miles of one whose fraction follows.
+    /// A visibility, or whole miles whose fraction is in the next group.
     Visibility,
-    /// A layer, a vertical visibility, or a word for a sky without layers.
+    /// A cloud layer, a vertical visibility, or a word for a sky without layers such as `SKC`.
     Sky,
-    /// A direction and a speed, or two directions between which the wind varies.
+    /// A direction and a speed, or the two directions between which the wind varies.
     Wind,
-    /// Runway visual range, or the state of a runway.
+    /// Runway visual range or the state of a runway.
     Runway,
     /// Present weather.
     Weather,
@@ -25,7 +25,7 @@ pub enum Class {
     Altimeter,
     /// `AUTO` or `COR`.
     Mark,
-    /// Every other group.
+    /// A group of none of these classes.
     Unread,
 }
 
@@ -231,7 +231,7 @@ fn other_class(group: &[u8]) -> Class
     }
 }
 
-// The class of a group that says this of each element.
+// The class of a group whose visibility and sky are `elements`.
 fn class_by(elements: Elements, group: &[u8], next: &[u8]) -> Class
     ensures { result ≡ spec.class_by elements group.now next.now }
 {
@@ -251,7 +251,7 @@ fn class_of(group: &[u8], next: &[u8]) -> Class
     class_by(elements_of(group), group, next)
 }
 
-/// The class of the group of that number.
+/// Returns the class of group number `n`, counted from 1.
 pub fn class_at(groups: &Groups<'_>, n: usize) -> Class
     requires low { 1 ≤ n }
     requires high { n ≤ length groups.now }
@@ -269,7 +269,7 @@ fn is_unread(class: Class) -> bool
     }
 }
 
-/// Whether a group that says this of each element is in no class that is read.
+/// Returns true if a group with these elements has class `Unread`.
 #[tactic(auto, unfolding(crate::specs::Class::class_of))]
 pub(crate) fn is_unread_by(elements: Elements, group: &[u8], next: &[u8]) -> bool
     requires { elements ≡ elements_of group.now }

@@ -8,7 +8,7 @@ use crate::fault::{BadReport, Form, Why};
 use crate::groups::{Group, Groups, first_of};
 use crate::shapes::{Elements, Named, are_digits, elements_of, visibility_after};
 
-/// A ceiling in feet and a visibility in millimetres, where they are known.
+/// A weather condition: ceiling and visibility, each None if unknown.
 #[derive(Clone, Copy, Debug, PartialEq, Eq)]
 pub struct Cond {
     /// The ceiling in feet.
@@ -18,36 +18,36 @@ pub struct Cond {
 }
 
 impl Cond {
-    /// Of both elements nothing is known.
+    /// Both elements are unknown.
     pub const UNKNOWN: Cond = Cond {
         ceiling: None,
         vis: None,
     };
 }
 
-/// What a stretch of groups says.
+/// The reading of consecutive groups.
 #[derive(Clone, Copy, Debug, PartialEq, Eq)]
 pub struct Stretch {
-    /// The condition that it names.
+    /// The condition that the groups report.
     pub cond: Cond,
-    /// How many of its groups are in no class that is read. Those of a forecast aren't counted.
+    /// How many of the groups have class `Unread`. It is 0 in a forecast.
     pub unread: u32,
 }
 
-// What was found in the groups so far.
+// The reading of the groups so far.
 #[derive(Clone, Copy)]
 struct Found {
-    // The least visibility that they name.
+    // The least visibility, in millimetres.
     vis: Option<u32>,
-    // The least height that they name.
+    // The least height of the sky, in feet.
     height: Option<u32>,
-    // Whether one is a layer whose height wasn't measured.
+    // Whether a group reports a layer whose height wasn't measured.
     unmeasured: bool,
-    // How many of them are in no class that is read.
+    // How many of the groups have class `Unread`.
     unread: u32,
 }
 
-/// The lesser of two values, where both are there.
+/// Returns the lesser value, or the only value that is present.
 pub fn lesser(a: Option<u32>, b: Option<u32>) -> Option<u32>
     ensures { result ≡ spec.lesser a b }
 {
@@ -58,7 +58,7 @@ pub fn lesser(a: Option<u32>, b: Option<u32>) -> Option<u32>
     }
 }
 
-/// The lesser of two moments or ids, where both are there.
+/// Returns the lesser moment or id, or the only one that is present.
 pub fn least_of(a: Option<u64>, b: Option<u64>) -> Option<u64>
     ensures { result ≡ spec.lesser a b }
 {
@@ -124,7 +124,7 @@ impl Found {
         unread: 0,
     };
 
-    // What was found, and what one more group says, by those before and after it.
+    // Adds one more group, given the groups before and after it.
     fn and(self, form: Form, elements: Elements, before: &[u8], group: &[u8], next: &[u8]) -> Found
         requires elements { elements ≡ elements_of group.now }
         requires fits { self.unread + 1 < 2 ^ 32 }
@@ -141,7 +141,7 @@ impl Found {
         }
     }
 
-    // What a stretch says in which this was found.
+    // Completes the reading.
     fn stretch(self) -> Stretch
         ensures cond { result.cond ≡ spec.cond_with self }
         ensures unread { result.unread ≡ self.unread }
@@ -157,7 +157,7 @@ impl Found {
     }
 }
 
-/// Whether a group is four digits, `/` and four digits, as the period of a forecast is.
+/// Returns true if the group is four digits, `/` and four digits, the form of a forecast's period.
 pub fn is_period(group: &[u8]) -> bool
     ensures { result ≡ spec.is_period group.now }
 {
@@ -183,8 +183,8 @@ fn fault_by(form: Form, elements: Elements, group: &[u8]) -> Option<Why>
     }
 }
 
-/// What a stretch of groups says, the first of which has that number, or its first group that misses
-/// its shape. Each group is looked at once.
+/// Reads consecutive groups in one pass. The first of them has number `number`. The error is the first malformed
+/// group.
 #[tactic(auto, using(crate::proofs::CondLaws::stretch_found, crate::proofs::CondLaws::stretch_fault), unfolding(crate::specs::Cond::shape_fault))]
 pub fn stretch_in(form: Form, number: u32, groups: &[Group<'_>]) -> Result<Stretch, BadReport>
     requires { number + length groups.now < 2 ^ 32 }
@@ -207,8 +207,8 @@ pub fn stretch_in(form: Form, number: u32, groups: &[Group<'_>]) -> Result<Stret
     Ok(found.stretch())
 }
 
-/// The condition that a stretch of groups names, the first of which has that number, or its first
-/// group that misses its shape.
+/// Reads the condition that consecutive groups report. The first of them has number `number`. The error is the first
+/// malformed group.
 #[tactic(auto, unfolding(crate::specs::Cond::stretch_of))]
 pub fn cond_in(form: Form, number: u32, groups: &[Group<'_>]) -> Result<Cond, BadReport>
     requires { number + length groups.now < 2 ^ 32 }
@@ -220,9 +220,9 @@ pub fn cond_in(form: Form, number: u32, groups: &[Group<'_>]) -> Result<Cond, Ba
     }
 }
 
-/// The condition that the groups name from number `from` up to but not including number `to`:
-/// the least visibility and the least ceiling. An unmeasured layer hides a ceiling of 100,000. The
-/// first group that misses its shape is the error.
+/// Reads the condition of a forecast's groups from number `from` up to, but not including, number `to`. The condition
+/// is the least visibility and the least ceiling. If a layer's height wasn't measured, a ceiling of 100,000 feet is
+/// unknown instead. The error is the first malformed group.
 pub fn cond_of(groups: &Groups<'_>, from: usize, to: usize) -> Result<Cond, BadReport>
     requires low { 1 ≤ from }
     requires order { from ≤ to }

@@ -3,50 +3,50 @@ ghost use Rattle.codes.specs.declared.fault.ReportFault.TheVariants.{OutOfMemory
 
 use desk_io::OutOfMemory;
 
-/// The most bytes that the text of a report may have.
+/// The largest text of a report, in bytes.
 pub const REPORT_LIMIT: usize = 2048;
 
-/// A text has more bytes than a report may have.
+/// The fault of a text that has more than `REPORT_LIMIT` bytes.
 pub const TOO_LONG: BadReport = BadReport {
     group: 0,
     why: Why::TooLong,
 };
 
-/// Why a report has no reading.
+/// Why a report can't be read.
 #[derive(Clone, Copy, Debug, PartialEq, Eq)]
 pub enum Why {
     /// The text has more than 2,048 bytes.
     TooLong,
-    /// A group that must be there isn't.
+    /// A required group is missing.
     Missing,
     /// A group isn't a station.
     NotStation,
-    /// A group isn't a time, or names none.
+    /// A group isn't a time, or its time isn't valid.
     NotTime,
-    /// None of the five days in reach has that day of the month, or the moment isn't from 2000 to 2099.
+    /// The day of the month isn't among the five days in reach, or the moment isn't from 2000 to 2099.
     DayOutOfReach,
-    /// A group ends as a visibility and has the shape of none.
+    /// A group ends in `SM`, doesn't begin with `/`, and isn't a visibility.
     BadVisibility,
-    /// A group begins as a layer of clouds and has the shape of none.
+    /// A group begins with `FEW`, `SCT`, `BKN`, `OVC` or `VV`, and isn't a layer or vertical visibility.
     BadSky,
-    /// A group isn't a period of a forecast, or is one where none may stand.
+    /// A forecast's period or change word is malformed or invalid, or the body of a METAR or SPECI contains a period.
     BadPeriod,
 }
 
-/// The first group of a report that doesn't read.
+/// The first group of a report that can't be read.
 #[derive(Clone, Copy, Debug, PartialEq, Eq)]
 pub struct BadReport {
-    /// Its number from 1: one more than the number of groups where one is missing, and 0 for a text
-    /// that is too long.
+    /// The group's number, from 1. A missing group has the number after the last group, and a text that is too long
+    /// has 0.
     pub group: u32,
-    /// The reason.
+    /// Why the group can't be read.
     pub why: Why,
 }
 
-/// Why a reader gave no reading.
+/// Why a reader returned no reading.
 #[derive(Clone, Copy, Debug, PartialEq, Eq)]
 pub enum ReportFault {
-    /// There is no reading.
+    /// The report can't be read.
     Bad(BadReport),
     /// Memory ran out.
     OutOfMemory,
@@ -68,10 +68,10 @@ impl From<BadReport> for ReportFault {
     }
 }
 
-/// Which kind of text the groups stand in.
+/// The kind of report to which groups belong.
 #[derive(Clone, Copy, Debug, PartialEq, Eq)]
 pub enum Form {
-    /// A METAR or SPECI, whose body has no period.
+    /// A METAR or SPECI. Its body contains no period.
     Report,
     /// A TAF.
     Forecast,

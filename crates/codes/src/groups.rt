@@ -13,11 +13,11 @@ use desk_io::{Blanks, OutOfMemory, Run, Text, push_run, runs_between};
 use std::alloc::Global;
 use std::marker::Model;
 
-/// One group of a report's text, which lends it.
+/// One group of a report's text, borrowed from the text.
 pub type Group<'a> = Run<'a>;
 
-/// The groups of a report's text, numbered from 1. Each has bytes, and none of them is blank. The text
-/// lends them.
+/// The groups of a report's text, numbered from 1 and borrowed from the text. A group isn't empty and contains no
+/// blank.
 #[derive(Debug, Drop)]
 pub struct Groups<'a> {
     items: Vec<Group<'a>>,
@@ -34,7 +34,7 @@ impl<'a> Model for Groups<'a> {
     ghost invariant = { λ g. All IsGroup g.items.items };
 }
 
-// The run without one = at its end.
+// The run without a final `=`.
 fn without_end_sign(run: &[u8]) -> &[u8]
     ensures { result.now ≡ without_end_sign run.now }
 {
@@ -54,7 +54,7 @@ fn drop_end_sign(runs: &mut Vec<Run<'_>>) -> Result<(), OutOfMemory>
     Ok(())
 }
 
-// The groups of a text.
+// Splits a text into its groups, without the `=` that ends a report.
 #[tactic(auto, unfolding(crate::specs::Groups::groups_of))]
 fn items_of<'a>(alloc: Global, text: &'a [u8]) -> Result<Vec<Group<'a>>, OutOfMemory>
     ensures { IfOk result (λ v. v.items ≡ groups_of text.now) }
@@ -74,7 +74,7 @@ fn push_spaced(text: &mut Vec<u8>, groups: &[Group<'_>]) -> Result<(), OutOfMemo
     Ok(())
 }
 
-// Room for the groups, with a byte behind each.
+// The bytes of all groups, with one byte more for each.
 fn room_for(groups: &[Group<'_>]) -> usize {
     let mut room = 0_usize;
     for group in groups {
@@ -111,7 +111,7 @@ fn has_end_sign(text: &[u8]) -> bool
     text.last() == Some(&b'=')
 }
 
-/// The first group, or no bytes where there is none.
+/// Returns the first group, or no bytes if there is none.
 pub fn first_of<'a>(groups: &[Group<'a>]) -> &'a [u8]
     ensures { result.now ≡ first_of groups.now }
 {
@@ -122,9 +122,9 @@ pub fn first_of<'a>(groups: &[Group<'a>]) -> &'a [u8]
 }
 
 impl<'a> Groups<'a> {
-    /// The groups of a text: its maximal runs of bytes that aren't blank. One `=` at the end of the
-    /// last is dropped, and so is a last group of that `=` alone. A text has at most one group more
-    /// than bytes.
+    /// Splits a text into its groups, the maximal runs of bytes that aren't blank. Removes one `=` from the end of
+    /// the last group, and the group itself if nothing else is left. There is at most one group more than there are
+    /// bytes.
     #[tactic(auto, using(crate::proofs::GroupLaws::groups_of_length))]
     pub fn of(alloc: Global, text: &'a [u8]) -> Result<Groups<'a>, OutOfMemory>
         ensures groups { IfOk result (λ g. g ≡ groups_of text.now) }
@@ -134,8 +134,8 @@ impl<'a> Groups<'a> {
         Ok(Groups { items })
     }
 
-    /// The canonical text of the groups: they are joined by one blank. Where the last ends in `=`,
-    /// one more follows, so that the text has these groups.
+    /// Returns the canonical text, in which single spaces separate the groups. If the last group ends in `=`, another
+    /// `=` follows, so that the text splits into the same groups.
     #[tactic(auto, using(crate::proofs::CanonicalLaws::groups_of_canonical, crate::proofs::LengthLaws::no_text_is_shorter))]
     pub fn canonical(&self, alloc: Global) -> Result<Text, OutOfMemory>
         ensures text { IfOk result (λ t. t ≡ canonical self.now) }
@@ -146,28 +146,28 @@ impl<'a> Groups<'a> {
         canonical_text(alloc, &self.items)
     }
 
-    /// How many there are.
+    /// Returns the number of groups.
     pub fn len(&self) -> usize
         ensures { result ≡ length self.now }
     {
         self.items.len()
     }
 
-    /// Whether there is none.
+    /// Returns true if there are no groups.
     pub fn is_empty(&self) -> bool
         ensures { result ≡ (length self.now == 0) }
     {
         self.items.is_empty()
     }
 
-    /// The groups in order.
+    /// Returns the groups in order.
     pub fn as_slice(&self) -> &[Group<'a>]
         ensures { result.now ≡ self.now }
     {
         &self.items
     }
 
-    /// The group of that number.
+    /// Returns group number `n`, counted from 1.
     pub fn group(&self, n: usize) -> &'a [u8]
         requires low { 1 ≤ n }
         requires high { n ≤ length self.now }

@@ -1,5 +1,5 @@
-//! The groups of weather reports, their shapes, and the condition that they name (FMH-1; WMO FM 15
-//! and FM 51).
+//! Reads the groups of weather reports: their shapes, and the ceiling and visibility that they report (FMH-1; WMO FM
+//! 15 and FM 51).
 #![tactic(auto)]
 
 mod class;

@@ -14,8 +14,8 @@ fn reaches(value: Option<u32>, least: u32) -> bool
 }
 
 impl Cond {
-    /// Whether the weather is at or above these minima in both elements. An element that isn't known
-    /// meets only 0.
+    /// Returns true if ceiling and visibility are both at or above these minima. An unknown element meets only a
+    /// minimum of 0.
     pub fn is_at_least(self, minima: Pair) -> bool
         ensures { result ≡ spec.is_met self minima }
     {
@@ -23,8 +23,8 @@ impl Cond {
     }
 }
 
-/// Whether the weather is at or above some of these minima in both elements (14 CFR 121.613,
-/// 121.625). An element that isn't known meets only 0.
+/// Returns true if the weather is at or above at least one of these pairs of minima (14 CFR 121.613, 121.625). An
+/// unknown element meets only a minimum of 0.
 #[tactic(auto, unfolding(crate::specs::Minima::meets))]
 pub fn meets(cond: Cond, pairs: &[Pair]) -> bool
     ensures { result ≡ spec.meets cond pairs.now }

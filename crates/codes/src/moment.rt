@@ -5,8 +5,8 @@ ghost use Rattle.codes.specs.Moment.{time_of};
 use crate::fault::Why;
 use desk_time::{BadDay, FIRST, LAST, Minute, pair, resolve};
 
-/// The moment of two digits each of a day, an hour and a minute, in the five days from the first.
-/// There is none where they aren't digits.
+/// Reads a moment: two digits each of day of the month, hour and minute. The day is one of the five from `first_day`.
+/// Returns None if a byte isn't a digit.
 pub fn written_moment(digits: [u8; 6], first_day: u64) -> Option<Result<Minute, BadDay>>
     requires low { 10_000 ≤ first_day }
     requires high { first_day ≤ 48_000 }
@@ -20,7 +20,8 @@ pub fn written_moment(digits: [u8; 6], first_day: u64) -> Option<Result<Minute, 
     Some(resolve(first_day, day, hour, minute))
 }
 
-/// The same moment, or the reason why there is none: `miss` where the digits name no time.
+/// Returns the moment, or the reason why there is none. The reason is `miss` if a byte isn't a digit or the time
+/// isn't valid.
 pub fn moment_or(miss: Why, moment: Option<Result<Minute, BadDay>>) -> Result<Minute, Why>
     requires { IfSome moment (λ r. IfOk r (λ m. (FIRST ≤ m) × (m ≤ LAST))) }
     ensures value { result ≡ spec.moment_or miss moment }
@@ -34,8 +35,8 @@ pub fn moment_or(miss: Why, moment: Option<Result<Minute, BadDay>>) -> Result<Mi
     }
 }
 
-/// The moment of a group `DDHHMMZ`, in the five days from the first (FMH-1, 12.6.3). A group of
-/// another form, or a time that there isn't, is `NotTime`; a day out of reach is `DayOutOfReach`.
+/// Reads a group `DDHHMMZ` (FMH-1, 12.6.3). The day is one of the five from `first_day`. A malformed group or an
+/// invalid time is `NotTime`, and a day out of reach is `DayOutOfReach`.
 #[tactic(auto, unfolding(crate::specs::Moment::time_of))]
 pub fn time_of(group: &[u8], first_day: u64) -> Result<Minute, Why>
     requires low { 10_000 ≤ first_day }

@@ -7,8 +7,8 @@ use crate::groups::{Group, Groups};
 use crate::moment::{moment_or, written_moment};
 use desk_time::{FIRST, LAST, Minute};
 
-/// The moment at which a period begins or ends, of two digits each of a day, an hour and a minute,
-/// in the five days from the first. Where there is none, `DayOutOfReach` or `BadPeriod` says why.
+/// Reads the moment at which a period begins or ends: two digits each of day of the month, hour and minute. The day
+/// is one of the five from `first_day`. The error is `DayOutOfReach` or `BadPeriod`.
 pub fn end_of(digits: [u8; 6], first_day: u64) -> Result<Minute, Why>
     requires low { 10_000 ≤ first_day }
     requires high { first_day ≤ 48_000 }
@@ -40,7 +40,7 @@ fn period_of(group: &[u8], first_day: u64) -> Result<(Minute, Minute), Why>
     }
 }
 
-/// The same value, or the reason why there is none at the group of that number.
+/// Adds the group's number to an error.
 pub fn numbered<T: Drop>(group: u32, value: Result<T, Why>) -> Result<T, BadReport>
     ensures { result ≡ spec.numbered group value }
 {
@@ -50,9 +50,9 @@ pub fn numbered<T: Drop>(group: u32, value: Result<T, Why>) -> Result<T, BadRepo
     }
 }
 
-/// The period `DDHH/DDHH` at the front of the groups that are left, the first of which has that
-/// number (WMO FM 51, 51.1.3). `Missing` comes where no group is left, `DayOutOfReach` for a day out
-/// of reach of the five from the first, and `BadPeriod` for any other miss.
+/// Reads the period `DDHH/DDHH` in the first of the remaining groups, which has number `number` (WMO FM 51, 51.1.3).
+/// The error is `Missing` if no group remains. It is `DayOutOfReach` if a day isn't among the five from `first_day`,
+/// or a moment isn't from 2000 to 2099. Otherwise it is `BadPeriod`.
 pub fn period_in(
     number: u32,
     groups: &[Group<'_>],
@@ -72,7 +72,7 @@ pub fn period_in(
     }
 }
 
-/// The period at the group of that number, as `period_in` reads it.
+/// Reads the period at group number `n` as `period_in` does.
 pub fn period_at(
     groups: &Groups<'_>,
     n: usize,

@@ -6,29 +6,29 @@ ghost use Rattle.codes.specs.SkyTable.{IsTabledSky};
 
 use desk_time::{digit, pair};
 
-/// What a group says of an element.
+/// What a group reports about an element, visibility or sky.
 #[derive(Clone, Copy, Debug, PartialEq, Eq)]
 pub enum Named {
-    /// It names this value.
+    /// The group reports this value.
     Value(u32),
-    /// It says that there is a layer, and not how high.
+    /// The group reports a layer without its height.
     Unmeasured,
-    /// It says nothing.
+    /// The group reports nothing about the element.
     Nothing,
-    /// It begins or ends as a group that names a value, and misses the shape.
+    /// The group begins or ends like one that reports the element, but is malformed.
     Bad,
 }
 
-/// What a group says of each element by itself.
+/// What a group reports about each element, read without the groups beside it.
 #[derive(Clone, Copy, Debug, PartialEq, Eq)]
 pub(crate) struct Elements {
     /// The visibility in millimetres.
     pub vis: Named,
-    /// The height in feet.
+    /// The height of the sky in feet.
     pub sky: Named,
 }
 
-/// What a group says of each element by itself.
+/// Reads what a group reports about each element, without the groups beside it.
 pub(crate) fn elements_of(group: &[u8]) -> Elements
     ensures { result ≡ spec.elements_of group.now }
 {
@@ -107,7 +107,7 @@ fn fraction(text: &[u8]) -> Option<u32>
     }
 }
 
-// One more than a value.
+// `P`, more than a distance, counts as one millimetre more.
 fn above(value: Option<u32>) -> Option<u32>
     requires { IfSome value (λ d. d ≤ 2_000_000_000) }
     ensures { result ≡ spec.above value }
@@ -115,14 +115,14 @@ fn above(value: Option<u32>) -> Option<u32>
     Some(value? + 1)
 }
 
-// One less than a value.
+// `M`, less than a distance, counts as one millimetre less.
 fn below(value: Option<u32>) -> Option<u32>
     ensures { result ≡ spec.below value }
 {
     Some(value?.saturating_sub(1))
 }
 
-// What stands before `SM`.
+// The distance in millimetres that the text before `SM` reports.
 fn distance(text: &[u8]) -> Option<u32>
     ensures { result ≡ spec.distance text.now }
 {
@@ -182,7 +182,7 @@ fn value_or_bad(value: Option<u32>) -> Named
     }
 }
 
-// What stands before the letters SM at the end, where they are there.
+// The text before a final `SM`.
 fn before_sm(group: &[u8]) -> Option<&[u8]>
     ensures { option_map (λ front. front.now) result ≡ spec.before_sm group.now }
 {
@@ -215,8 +215,8 @@ fn visibility_in_group(group: &[u8]) -> Named
     }
 }
 
-/// The visibility in millimetres that a group names by itself: statute miles and sixteenths of one
-/// (FMH-1, 12.6.6), or metres (WMO FM 15, 15.6). `CAVOK` stands for ten kilometres.
+/// Reads the visibility in millimetres that a group reports by itself. It is in statute miles and fractions of a mile
+/// (FMH-1, 12.6.6), or in metres (WMO FM 15, 15.6). `CAVOK` counts as ten kilometres.
 #[tactic(auto, using(crate::proofs::VisibilityLaws::visibility_is_tabled))]
 pub fn visibility(group: &[u8]) -> Named
     ensures value { result ≡ spec.visibility group.now }
@@ -239,7 +239,7 @@ fn sum_of_groups(before: &[u8], group: &[u8]) -> Option<u32>
     Some(miles(before)? + fraction_of_mile(group)?)
 }
 
-/// The visibility of miles and a fraction of one, in two groups.
+/// The visibility in millimetres of two groups, whole miles and a fraction of a mile.
 #[tactic(auto, using(crate::proofs::VisibilityLaws::sum_is_tabled))]
 pub(crate) fn mixed(before: &[u8], group: &[u8]) -> Option<u32>
     ensures value { result ≡ spec.mixed before.now group.now }
@@ -248,7 +248,7 @@ pub(crate) fn mixed(before: &[u8], group: &[u8]) -> Option<u32>
     sum_of_groups(before, group)
 }
 
-/// The visibility that a group, which says `alone` by itself, names together with the one before it.
+/// Returns the visibility of whole miles and a fraction in two groups, or else `alone`, that of the second group.
 pub(crate) fn visibility_after(before: &[u8], group: &[u8], alone: Named) -> Named
     ensures { result ≡ spec.sum_or_alone (spec.mixed before.now group.now) alone }
 {
@@ -348,8 +348,8 @@ fn sky_in_group(group: &[u8]) -> Named
     }
 }
 
-/// The height in feet that a sky group names (FMH-1, 12.6.9; WMO FM 15, 15.9). A layer that is no
-/// ceiling, and a sky without layers, name 100,000; `CLR` 12,000; `NSC`, `NCD` and `CAVOK` 5,000.
+/// Reads the height in feet that a sky group reports (FMH-1, 12.6.9; WMO FM 15, 15.9). A layer that isn't a ceiling
+/// and `SKC` count as 100,000, `CLR` as 12,000, and `NSC`, `NCD` and `CAVOK` as 5,000.
 #[tactic(auto, using(crate::proofs::SkyLaws::sky_is_tabled))]
 pub fn sky(group: &[u8]) -> Named
     ensures value { result ≡ spec.sky group.now }

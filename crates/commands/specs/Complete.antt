@@ -1,4 +1,4 @@
--- When nothing but want of memory is in the way of a command.
+-- When only out of memory can stop a command.
 use Rattle.std.specs.Prelude.{◌≡◌, ◌≢◌, ◌<◌, ℕ, List, Option, None, Some, Err, All, IsSome, length}
 use Rattle.desk.specs.Opening.{OnLoaded}
 use Rattle.desk_io.specs.Health.{Health, RoseOrFull}
@@ -22,19 +22,19 @@ use Rattle.commands.specs.Sources.{first_of, sources_of}
 abbrev pub AreGood : Told → Type 0
 AreGood sources = (bad : BadTable) → ReadsTables sources (Err (table.Bad bad)) → ⊥
 
--- a source has more than 64 MiB
+-- the source has more than 64 MiB
 abbrev pub IsTooLong : Told → List ℕ → Type 0
 IsTooLong sources name = OnSource sources name (λ bytes. 67_108_864 < length bytes)
 
--- none of the sources has more than 64 MiB
+-- no source has more than 64 MiB
 abbrev pub AreShort : Told → List (List ℕ) → Type 0
 AreShort sources names = All (λ name. IsTooLong sources name → ⊥) names
 
--- the first record of a source isn't the header of an import
+-- the first record of the source isn't the header of an import
 abbrev pub IsHeaderless : Told → List ℕ → Type 0
 IsHeaderless sources name = OnSource sources name (λ bytes. IsImport bytes None)
 
--- what a task imports has its header
+-- a file to import has its header
 abbrev pub IsHeaded : Told → Task → List (List ℕ) → Type 0
 IsHeaded sources (Desk Import) names = IsHeaderless sources (first_of names) → ⊥
 IsHeaded sources _ names = Unit {0}
@@ -43,11 +43,11 @@ abbrev pub AreHeaded : Told → Option (Task × List (List ℕ)) → Type 0
 AreHeaded sources None = Unit {0}
 AreHeaded sources (Some command) = IsHeaded sources command.0 command.1
 
--- no row that a keeper tells is bad, and no two are
+-- the keeper's rows, if they are known, have no fault
 abbrev pub AreFaultless : Option Rows → Type 0
 AreFaultless told = (why : RowsFault) → why ≢ fault.OutOfMemory → OnLoaded told (λ rows. IsFaultOf rows why) → ⊥
 
--- The words form a command, and all that it reads is valid: the tables, its sources, the rows.
+-- The arguments form a command, and everything it reads is valid: the tables, its sources and the rows.
 pub record IsValid (shelf : ShelfSeen) (rows : Option Rows) (command : Option (Task × List (List ℕ))) : Type 0 where
   pub formed : IsSome command
   pub tables : AreGood shelf.sources
@@ -55,11 +55,11 @@ pub record IsValid (shelf : ShelfSeen) (rows : Option Rows) (command : Option (T
   pub short : AreShort shelf.sources (sources_of command)
   pub faultless : AreFaultless rows
 
--- no fault was counted, and the count isn't at its end
+-- no fault was counted, and the count isn't saturated
 abbrev pub HasServed : Health → Health → Type 0
 HasServed before after = RoseOrFull before.faults after.faults → ⊥
 
--- nor was one of all that is outside
+-- the same for every external object
 pub record HaveServed {L : Type 0} (shelf : Over ShelfSeen) (sink : Over SinkSeen) (keeper : Lent) (service : Service L) : Type 0 where
   pub by_shelf : HasServed shelf.before.health shelf.after.health
   pub by_sink : HasServed sink.before.health sink.after.health

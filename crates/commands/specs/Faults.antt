@@ -1,4 +1,4 @@
--- What a command comes to: a text, or why there is none; and which status and which line go with it.
+-- The result of a command: a text or a fault, with its exit status and its line.
 use Rattle.std.specs.Prelude.{ℕ, List, ◌++◌, codes, decimal, Option, None, Some, Result, Ok, Err}
 use Rattle.desk.specs.declared.opening.OpenWhy.{OpenWhy}
 use Rattle.desk.specs.declared.opening.OpenWhy.TheVariants as why
@@ -41,7 +41,7 @@ why_name Doubled = codes "Doubled"
 why_name Unlinked = codes "Unlinked"
 why_name OverLimit = codes "OverLimit"
 
--- a table, the number of its first bad record, and why that is bad
+-- a table's name, the number of its first bad record, and why that record is bad
 abbrev pub bad_table : ABadTable → List ℕ
 bad_table bad = codes "error 6 BadTable " ++ bad.name ++ codes " " ++ decimal bad.line ++ codes " " ++ why_name bad.why ++ codes "\n"
 
@@ -55,15 +55,15 @@ row_why_name row_why.OverLimit = codes "OverLimit"
 abbrev pub row_named : Row → List ℕ
 row_named row = decimal row.kind ++ codes " " ++ decimal row.key
 
--- a row that isn't one of a desk, and why
+-- a row that no desk writes, and why it is bad
 abbrev pub bad_row : Row → RowWhy → List ℕ
 bad_row row why = codes "error 7 BadRow " ++ row_named row ++ codes " " ++ row_why_name why ++ codes "\n"
 
--- two rows that don't fit one another
+-- two rows that contradict each other
 abbrev pub bad_pair : Row → Row → List ℕ
 bad_pair one two = codes "error 7 BadPair " ++ row_named one ++ codes " " ++ row_named two ++ codes "\n"
 
--- The line that is written. Where nothing can be written there is none.
+-- The line of a fault. `WriteFault` and `OutOfMemory` have none.
 abbrev pub line_of : Fault → Option (List ℕ)
 line_of Usage = Some (codes "error 2 Usage\n")
 line_of (ReadFault name) = Some (codes "error 3 ReadFault " ++ name ++ codes "\n")
@@ -81,7 +81,7 @@ abbrev pub text_of : Outcome → Option (List ℕ)
 text_of (Ok text) = Some text
 text_of (Err fault) = line_of fault
 
--- ---- why there are no tables, and why no desk is opened
+-- ---- faults of the tables and of opening
 
 abbrev pub of_tables : TableFault → Fault
 of_tables (table.Bad bad) = BadTable bad
@@ -95,7 +95,7 @@ of_opening (why.BadRow row reason) = BadRow row reason
 of_opening (why.BadPair one two) = BadPair one two
 of_opening why.OutOfMemory = OutOfMemory
 
--- a text that has the property; want of memory is free
+-- the text has the property; out of memory is always allowed
 abbrev pub Gives : (List ℕ → Type 0) → Outcome → Type 0
 Gives P (Ok text) = P text
 Gives P (Err OutOfMemory) = Unit {0}

@@ -1,4 +1,4 @@
--- What is seen of the keeper that is lent and given back, and of the clock and the door over a call.
+-- The models of the keeper, the clock and the door, before and after the program used them.
 use Rattle.std.specs.Prelude.{◌≡◌}
 use Rattle.desk_io.specs.Over.{Over, over}
 use Rattle.desk_net.specs.Seen.{ClockSeen, DoorSeen, LinkSeen}
@@ -7,7 +7,7 @@ use Rattle.keeper.specs.Seen.{KeeperSeen}
 pub record Lent : Type 1 where
   pub before : KeeperSeen
   pub after : KeeperSeen
-  -- it is the very same, so nothing was asked of it
+  -- the keeper is the same as before, so nothing was asked of it
   pub same : Type 0
 
 abbrev pub lent : {K : Type 0} → (K → KeeperSeen) → K → K → Lent
@@ -17,7 +17,7 @@ pub record Service (L : Type 0) : Type 1 where
   pub clock : Over ClockSeen
   pub door : Over (DoorSeen L)
   pub link : L → LinkSeen
-  -- the clock and the door are the very same, so nothing was asked of them
+  -- the clock and the door are the same as before, so nothing was asked of them
   pub idle : Type 0
 
 abbrev pub service : {C D L : Type 0} → (C → ClockSeen) → (D → DoorSeen L) → (L → LinkSeen) → C → C → D → D → Service L

@@ -21,7 +21,7 @@ use Rattle.commands.specs.declared.fault.Fault.TheVariants.{ReadFault, BadTable,
 
 -- ---- the sources
 
--- the name of the source of a task that reads one
+-- the name of the source, for a task that reads one
 abbrev pub first_of : List (List ℕ) → List ℕ
 first_of [] = []
 first_of (name ∷ rest) = name
@@ -55,8 +55,8 @@ links_of (Some command) = links_for command.0
 
 -- ---- what was read
 
--- Why a source wasn't read: the shelf's count of faults rose or is full, and the shelf isn't sound or lacks the source; or the source has
--- more than 64 MiB; or memory ran out.
+-- Why a source wasn't read. `ReadFault`: the shelf's count of faults rose or is saturated, and the shelf isn't sound
+-- or lacks the source. `InputTooLong`: the source has more than 64 MiB. Out of memory is always allowed.
 abbrev pub SourceFails : Over ShelfSeen → List ℕ → Fault → Type 0
 SourceFails shelf name (ReadFault file) =
     (file ≡ name) × HasFailedWhere (Holds shelf.before name) shelf.before.health shelf.after.health
@@ -64,23 +64,23 @@ SourceFails shelf name (InputTooLong file) = (file ≡ name) × OnSource shelf.b
 SourceFails shelf name OutOfMemory = Unit {0}
 SourceFails shelf name _ = ⊥
 
--- the whole source of that name
+-- the text is the whole source of this name, and has at most 64 MiB
 abbrev pub IsWhole : Told → List ℕ → List ℕ → Type 0
 IsWhole sources name text = (length text ≤ 67_108_864) × OnSource sources name (λ bytes. bytes ≡ text)
 
--- the whole source of that name, or why it wasn't read
+-- the whole source of this name, or why it wasn't read
 abbrev pub ReadsSource : Over ShelfSeen → List ℕ → Result (List ℕ) Fault → Type 0
 ReadsSource shelf name (Ok text) = IsWhole shelf.before.sources name text
 ReadsSource shelf name (Err fault) = SourceFails shelf name fault
 
--- all sources of those names, in their order
+-- the texts are the whole sources of these names, in order
 abbrev pub AreWhole : Told → List (List ℕ) → List (List ℕ) → Type 0
 AreWhole sources [] [] = Unit {0}
 AreWhole sources [] (text ∷ texts) = ⊥
 AreWhole sources (name ∷ names) [] = ⊥
 AreWhole sources (name ∷ names) (text ∷ texts) = IsWhole sources name text × AreWhole sources names texts
 
--- The first source of those names that wasn't read, and why: all before it were.
+-- The first source that wasn't read, and why. All sources before it were read.
 pub record FailsAt (shelf : Over ShelfSeen) (names : List (List ℕ)) (fault : Fault) : Type 0 where
   pub earlier : List (List ℕ)
   pub name : List ℕ
@@ -94,40 +94,40 @@ abbrev pub SourcesFail : Over ShelfSeen → List (List ℕ) → Fault → Type 0
 SourcesFail shelf names OutOfMemory = Unit {0}
 SourcesFail shelf names fault = FailsAt shelf names fault
 
--- the whole sources of those names, or the first fault of one
+-- the whole sources of these names, or the first fault
 abbrev pub ReadsSources : Over ShelfSeen → List (List ℕ) → Result (List (List ℕ)) Fault → Type 0
 ReadsSources shelf names (Ok texts) = AreWhole shelf.before.sources names texts
 ReadsSources shelf names (Err fault) = SourcesFail shelf names fault
 
--- the first record of an import isn't its header
+-- the fault of a file whose first record isn't the header of an import
 abbrev pub headerless : List ℕ → Fault
 headerless name = BadTable (record { name = name; line = 1; why = BadField })
 
--- the lines of a file that was read, or that it has no header; or memory ran out
+-- the lines of a file that was read, the fault of a file without a header, or out of memory
 abbrev pub SaysLines : List ℕ → List ℕ → Result (List Line) Fault → Type 0
 SaysLines name file (Ok lines) = IsImport file (Some lines)
 SaysLines name file (Err OutOfMemory) = Unit {0}
 SaysLines name file (Err fault) = IsImport file None × (fault ≡ headerless name)
 
--- a file that was read has no header
+-- the file was read, and has no header
 pub record LacksHeader (shelf : Over ShelfSeen) (name : List ℕ) (fault : Fault) : Type 0 where
   pub file : List ℕ
   pub read : ReadsSource shelf name (Ok file)
   pub none : IsImport file None
   pub is : fault ≡ headerless name
 
--- the lines of an import, of the whole source of that name
+-- the lines of an import file that was read whole
 pub record HasLines (shelf : Over ShelfSeen) (name : List ℕ) (lines : List Line) : Type 0 where
   pub file : List ℕ
   pub read : ReadsSource shelf name (Ok file)
   pub are : IsImport file (Some lines)
 
--- the lines of an import, or why there are none: its source wasn't read, or it has no header
+-- the lines of an import file, or why there are none: it wasn't read, or it has no header
 abbrev pub ReadsImport : Over ShelfSeen → List ℕ → Result (List Line) Fault → Type 0
 ReadsImport shelf name (Ok lines) = HasLines shelf name lines
 ReadsImport shelf name (Err fault) = SourceFails shelf name fault ⊎ LacksHeader shelf name fault
 
--- why there are no tables: their first fault
+-- why the tables weren't read: their first fault
 pub record TablesFail (shelf : Over ShelfSeen) (fault : Fault) : Type 0 where
   pub stop : TableFault
   pub is : fault ≡ of_tables stop
@@ -135,7 +135,7 @@ pub record TablesFail (shelf : Over ShelfSeen) (fault : Fault) : Type 0 where
   pub rose : RoseAt shelf.before.health shelf.after.health stop
   pub sound : IsSound shelf.before.health → StopsAtMissing shelf.before.sources stop
 
--- the tables of all files, or their first fault
+-- the tables in all files, or their first fault
 abbrev pub ReadsFiles : Over ShelfSeen → Result TableRows Fault → Type 0
 ReadsFiles shelf (Ok tables) = ReadsTables shelf.before.sources (Ok tables)
 ReadsFiles shelf (Err fault) = TablesFail shelf fault

@@ -28,15 +28,15 @@ use Rattle.commands.specs.declared.fault.Fault.TheVariants.{DoorFault, ClockFaul
 
 -- ---- the work on an open desk
 
--- the closing text of a state, or the fault that ended the serving
+-- the closing text of the state, or the fault that ended the serving
 abbrev pub EndSays : ServeEnd → State → Outcome → Type 0
 EndSays ends.Done s answer = Gives (λ text. text ≡ closing s) answer
 EndSays ends.DoorFault s answer = answer ≡ Err DoorFault
 EndSays ends.ClockFault s answer = answer ≡ Err ClockFault
 EndSays ends.OutOfMemory s answer = answer ≡ Err OutOfMemory
 
--- So many connections are served. A sound clock doesn't end it, nor a sound door that has links enough; and where all was served well
--- no fault of the clock was passed over.
+-- Connections are served. A sound clock doesn't end the serving, and neither does a sound door with enough links. If
+-- the serving ends with `Done`, the clock's count is unchanged.
 pub record Serves {L : Type 0} (service : Service L) (port most : ℕ) (desk : Over DeskAt) (answer : Outcome) : Type 0 where
   pub end : ServeEnd
   pub served : IsServing service.link service.door service.clock desk port most end
@@ -47,31 +47,31 @@ pub record Serves {L : Type 0} (service : Service L) (port most : ℕ) (desk : O
   pub steady_clock : IsSound service.clock.before.health → end ≢ ends.ClockFault
   pub steady_door : IsSound service.door.before.health → HasLinks service.door.before.links most → end ≢ ends.DoorFault
 
--- A script was run on a desk: to its end, with the text of that, or up to where memory ran out.
+-- A script was run on a desk: to its end, with its text, or until memory ran out.
 abbrev pub Runs : List ℕ → Over DeskAt → Outcome → Type 0
 Runs script desk (Ok text) = IsRun desk.before.faults desk.after.faults desk.before.state script desk.after.state text
 Runs script desk (Err OutOfMemory) = IsRunInPart desk.before.faults desk.after.faults desk.before.state script desk.after.state
 Runs script desk (Err other) = ⊥
 
--- a text, or want of memory
+-- a text, or out of memory
 abbrev pub told_of : {E : Type 0} → Result (List ℕ) E → Outcome
 told_of (Ok text) = Ok text
 told_of (Err e) = Err OutOfMemory
 
--- Scripts were the lanes of a race on a desk: to their ends, with the text of that, or up to where memory ran out.
+-- Scripts were raced on a desk: to their ends, with the text of the race, or until memory ran out.
 abbrev pub Races : List (List ℕ) → Over DeskAt → Outcome → Type 0
 Races scripts desk (Ok text) = IsRace desk.before.faults desk.after.faults desk.before.state scripts desk.after.state text
 Races scripts desk (Err OutOfMemory) = IsRaceInPart desk.before.faults desk.after.faults desk.before.state scripts desk.after.state
 Races scripts desk (Err other) = ⊥
 
--- The lines of an import were answered on a desk, as those of a script are.
+-- The lines of an import were answered on a desk, as the lines of a script are.
 abbrev pub Imports : List Line → Over DeskAt → Outcome → Type 0
 Imports lines desk (Ok text) = IsRunOf desk.before.faults desk.after.faults desk.before.state (items_of_lines lines) desk.after.state text
 Imports lines desk (Err OutOfMemory) = AreGivenInPart 1 desk.before.faults desk.after.faults desk.before.state (items_of_lines lines) desk.after.state
 Imports lines desk (Err other) = ⊥
 
--- The calls of a number, with so many flights, were made on a desk: to their end, with the three lines that count them, or up to where memory
--- ran out.
+-- The calls of a seed for `count` flights were made on a desk. Either they were made to their end, with three lines
+-- of counts, or until memory ran out.
 abbrev pub Makes : ℕ → ℕ → Over DeskAt → Outcome → Type 0
 Makes number count desk (Ok text) = IsMade desk.before.faults desk.after.faults desk.before.state number count desk.after.state text
 Makes number count desk (Err OutOfMemory) = IsMadeInPart desk.before.faults desk.after.faults desk.before.state number count desk.after.state
@@ -79,7 +79,7 @@ Makes number count desk (Err other) = ⊥
 
 -- ---- the desk
 
--- A board that was opened over the rows: it is a board, and the rows are kept for it.
+-- A board was opened over the rows. It is valid, and the stored rows match its state.
 pub record IsOpenOver (tables : TableRows) (keeper : Lent) (board : Shown) : Type 0 where
   pub records : List Record
   pub old : Bool
@@ -88,8 +88,8 @@ pub record IsOpenOver (tables : TableRows) (keeper : Lent) (board : Shown) : Typ
   pub holds : IsBoard board.opening board.state
   pub kept : KeepsState keeper.after.rows board.state
 
--- No desk was opened: the keeper failed, its rows aren't those of a desk, or memory ran out. A sound keeper doesn't fail, and the rows of a
--- desk that was left are those of one. The rows are as before, and no commit was asked for but that of opening.
+-- No desk was opened: the keeper failed, its rows aren't those of a desk, or memory ran out. A sound keeper doesn't
+-- fail, and rows that a desk left are valid. The rows are unchanged, and at most the commit of opening was requested.
 pub record IsUnopened (tables : TableRows) (keeper : Lent) (answer : Outcome) : Type 0 where
   pub why : OpenWhy
   pub says : answer ≡ Err (of_opening why)
@@ -98,14 +98,14 @@ pub record IsUnopened (tables : TableRows) (keeper : Lent) (answer : Outcome) : 
   pub rows : keeper.after.rows ≡ keeper.before.rows
   pub asked : MayHaveAsked keeper.before.rows tables keeper.before.commits keeper.after.commits
 
--- a desk over what is seen of the keeper before it was opened: it was opened in that state, and is in this
+-- the desk at its opening, with the keeper's count from before, and the desk now
 abbrev pub desk_over : Lent → Shown → Over DeskAt
 desk_over keeper board = record {
   before = record { state = board.opening; faults = keeper.before.health.faults };
   after = record { state = board.state; faults = keeper.after.health.faults };
 }
 
--- The rows are loaded, a desk is opened over them, and this work is done on it; or none is opened.
+-- A desk is opened over the rows, and the work is done on it; or no desk is opened.
 abbrev pub Opens : TableRows → (Over DeskAt → Outcome → Type 0) → Lent → Option Shown → Outcome → Type 0
 Opens tables Works keeper None answer = IsUnopened tables keeper answer
 Opens tables Works keeper (Some board) answer = IsOpenOver tables keeper board × Works (desk_over keeper board) answer

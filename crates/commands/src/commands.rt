@@ -29,7 +29,7 @@ use std::sync::ledger::{Blank, Ledger};
 use std::thread::Threads;
 use words::{DeskTask, Task, command};
 
-// The reports of a file.
+// Reads a file of reports.
 fn weather<S: Shelf, K: Keeper, B: Bell>(
     alloc: Global,
     name: &str,
@@ -47,7 +47,7 @@ fn weather<S: Shelf, K: Keeper, B: Bell>(
     }
 }
 
-// A script, once the tables are read.
+// Runs a script, after the tables are read.
 fn run_under<S: Shelf, K: Keeper, B: Bell, G: Gate, L: Ledger>(
     alloc: Global,
     tables: Tables,
@@ -71,7 +71,7 @@ fn run_under<S: Shelf, K: Keeper, B: Bell, G: Gate, L: Ledger>(
     }
 }
 
-// A script on the desk of the rows.
+// Reads the tables, then runs a script on the desk of the rows.
 fn run<S: Shelf, K: Keeper, B: Bell, G: Gate, L: Ledger>(
     alloc: Global,
     name: &str,
@@ -91,7 +91,7 @@ fn run<S: Shelf, K: Keeper, B: Bell, G: Gate, L: Ledger>(
     }
 }
 
-// The lanes of a race, once the tables are read.
+// Races scripts, after the tables are read.
 fn race_under<
     R: Threads + Wait + Sync,
     S: Shelf,
@@ -123,7 +123,7 @@ fn race_under<
     }
 }
 
-// Scripts at once on the desk of the rows.
+// Reads the tables, then races scripts on the desk of the rows.
 fn race<
     R: Threads + Wait + Sync,
     S: Shelf,
@@ -151,7 +151,7 @@ fn race<
     }
 }
 
-// Connections to the desk of the rows.
+// Reads the tables, then serves connections over the desk of the rows.
 fn serve<
     R: Threads + Wait + Sync,
     S: Shelf,
@@ -203,7 +203,7 @@ where
     }
 }
 
-// An import, once the tables are read.
+// Imports a file, after the tables are read.
 fn import_under<S: Shelf, K: Keeper, B: Bell, G: Gate, L: Ledger>(
     alloc: Global,
     tables: Tables,
@@ -227,7 +227,7 @@ fn import_under<S: Shelf, K: Keeper, B: Bell, G: Gate, L: Ledger>(
     }
 }
 
-// An import to the desk of the rows.
+// Reads the tables, then imports a file to the desk of the rows.
 fn import_reports<S: Shelf, K: Keeper, B: Bell, G: Gate, L: Ledger>(
     alloc: Global,
     name: &str,
@@ -247,7 +247,7 @@ fn import_reports<S: Shelf, K: Keeper, B: Bell, G: Gate, L: Ledger>(
     }
 }
 
-// The calls of a number on the desk of the rows.
+// Reads the tables, then answers the calls of a seed on the desk of the rows.
 fn make<S: Shelf, K: Keeper, B: Bell, G: Gate, L: Ledger>(
     alloc: Global,
     number: u32,
@@ -269,7 +269,7 @@ fn make<S: Shelf, K: Keeper, B: Bell, G: Gate, L: Ledger>(
     }
 }
 
-// The name of the source of a task that reads one.
+// The name of the source, for a task that reads one.
 fn first_of(names: &[String]) -> &str
     ensures { result.now ≡ first_of (map string_bytes names.now) }
 {
@@ -279,7 +279,7 @@ fn first_of(names: &[String]) -> &str
     }
 }
 
-// What is done of a task on a desk.
+// Does a task on a desk.
 fn on_desk<
     R: Threads + Wait + Sync,
     S: Shelf,
@@ -396,7 +396,7 @@ where
     }
 }
 
-/// What the program says to the words. Only what serves and what races may wait.
+/// Runs the command in the arguments. Only `serve` and `race` may wait.
 pub(crate) fn answer_to<
     R: Threads + Wait + Sync,
     S: Shelf,

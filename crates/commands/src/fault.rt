@@ -6,28 +6,28 @@ use desk_io::{OutOfMemory, Row, Text, push_all};
 use std::alloc::{AllocFailed, Global};
 use table_files::{BadTable, TableFault, TableWhy};
 
-/// Why a command doesn't come to its end.
+/// Why a command fails.
 #[derive(Drop)]
 pub(crate) enum Fault {
-    /// The words form no command.
+    /// The arguments form no command.
     Usage,
-    /// The source of that name can't be read.
+    /// The source of this name can't be read.
     ReadFault(Text),
     /// The text can't be written.
     WriteFault,
-    /// The keeper of the rows failed.
+    /// The keeper failed.
     KeeperFault,
-    /// A table has a bad record.
+    /// A table has a bad record, or an import lacks its header.
     BadTable(BadTable),
-    /// A row isn't one of a desk.
+    /// The row isn't one that a desk writes.
     BadRow { row: Row, why: RowWhy },
-    /// Two rows don't fit one another.
+    /// The two rows contradict each other.
     BadPair { one: Row, two: Row },
     /// Memory ran out.
     OutOfMemory,
     /// The door failed.
     DoorFault,
-    /// The source of that name is too long.
+    /// The source of this name has more than 64 MiB.
     InputTooLong(Text),
     /// The clock failed.
     ClockFault,
@@ -83,7 +83,7 @@ impl From<OpenWhy> for Fault {
     }
 }
 
-// A line that ends in the name of a source.
+// A line that ends with the name of a source.
 fn named(alloc: Global, front: &[u8], name: &[u8]) -> Result<Text, OutOfMemory>
     ensures { IfOk result (λ line. line ≡ front.now ++ name.now ++ codes "\n") }
 {
@@ -157,7 +157,7 @@ fn bad_table_line(alloc: Global, bad: &BadTable) -> Result<Text, OutOfMemory>
 }
 
 impl Fault {
-    /// The status of a program that ends so.
+    /// The exit status for this fault.
     pub fn status(&self) -> u8
         ensures { result ≡ spec.status_of_fault self.now }
     {
@@ -176,7 +176,7 @@ impl Fault {
         }
     }
 
-    /// The line that says it. Where nothing can be written it is want of memory.
+    /// The line for this fault. `WriteFault` and `OutOfMemory` have no line, and return out of memory.
     pub fn line(&self, alloc: Global) -> Result<Text, OutOfMemory>
         ensures { IfOk result (λ line. spec.line_of self.now ≡ Some line) }
     {
@@ -195,14 +195,14 @@ impl Fault {
     }
 }
 
-/// What is written, and the status that goes with it.
+/// The text to write, and the exit status that goes with it.
 #[derive(Drop)]
 pub(crate) struct Told {
     pub status: u8,
     pub text: Text,
 }
 
-/// What is told of what a command came to.
+/// The text and the exit status for the answer of a command.
 pub(crate) fn tell(alloc: Global, answer: Result<Text, Fault>) -> Result<Told, OutOfMemory>
     ensures status { IfOk result (λ t. t.status ≡ spec.status_of answer) }
     ensures text { IfOk result (λ t. spec.text_of answer ≡ Some t.text) }

@@ -1,4 +1,4 @@
-//! What the words of the program ask for, and what it says: the program's top call.
+//! The program's commands, and `desk_main`, which runs the command in the arguments and writes its result.
 #![tactic(auto)]
 
 mod commands;

@@ -18,8 +18,8 @@ use std::alloc::Global;
 use std::sync::Wait;
 use std::thread::Threads;
 
-/// What was said, and what is left: the board, where a desk was opened, the keeper, the clock, the door, the bells that
-/// stayed, and those that were dropped.
+/// The answer of a command, the board if a desk was opened, and everything that was lent. `bells` are those that
+/// stayed, `dropped` those that failed.
 #[derive(Drop)]
 pub(crate) struct Rung<K, B, C, D> {
     pub answer: Result<Text, Fault>,
@@ -31,7 +31,7 @@ pub(crate) struct Rung<K, B, C, D> {
     pub dropped: Vec<Dropped<B>>,
 }
 
-/// What the program says to the words, while bells are rung for what the history tells.
+/// Runs the command in the arguments. The bells are rung for the notices of the history.
 pub(crate) fn answer_rung<
     R: Threads + Wait + Sync,
     S: Shelf,

@@ -14,7 +14,7 @@ use ops_tables::Tables;
 use std::alloc::Global;
 use table_files::{BadTable, TableWhy, read_tables};
 
-/// The whole source of that name.
+/// Reads the whole source of a name.
 pub(crate) fn read_source<S: Shelf>(alloc: Global, shelf: &mut S, name: &str) -> Result<Text, Fault>
     ensures read { ReadsSource (over S.seen shelf.old shelf.new) name.now result }
     ensures on { ShelfGoesOn (Holds (S.seen shelf.old) name.now) (S.seen shelf.old) (S.seen shelf.new) }
@@ -27,7 +27,7 @@ pub(crate) fn read_source<S: Shelf>(alloc: Global, shelf: &mut S, name: &str) ->
     }
 }
 
-/// The whole sources of those names, in their order, or the first fault of one.
+/// Reads the whole sources of names, in order, or returns the first fault.
 pub(crate) fn read_sources<S: Shelf>(
     alloc: Global,
     shelf: &mut S,
@@ -46,7 +46,7 @@ pub(crate) fn read_sources<S: Shelf>(
     Ok(texts)
 }
 
-// The first record of the file of that name isn't the header of an import.
+// The fault of a file whose first record isn't the header of an import.
 fn headerless(alloc: Global, name: &str) -> Result<Fault, OutOfMemory>
     ensures { IfOk result (λ fault. fault ≡ spec.headerless name.now) }
 {
@@ -57,7 +57,7 @@ fn headerless(alloc: Global, name: &str) -> Result<Fault, OutOfMemory>
     }))
 }
 
-// The lines of the file of that name, which was read.
+// The lines of an import file that was read.
 fn lines_in(alloc: Global, name: &str, file: &[u8]) -> Result<Vec<Line>, Fault>
     ensures lines { MatchResult result (λ v. SaysLines name.now file.now (Ok v.items))
         (λ fault. SaysLines name.now file.now (Err fault)) }
@@ -70,7 +70,7 @@ fn lines_in(alloc: Global, name: &str, file: &[u8]) -> Result<Vec<Line>, Fault>
     }
 }
 
-/// The lines of an import.
+/// Reads the lines of an import file.
 pub(crate) fn read_lines<S: Shelf>(
     alloc: Global,
     shelf: &mut S,
@@ -86,7 +86,7 @@ pub(crate) fn read_lines<S: Shelf>(
     }
 }
 
-/// The thirteen tables.
+/// Reads the thirteen tables.
 pub(crate) fn read_files<S: Shelf>(alloc: Global, shelf: &mut S) -> Result<Tables, Fault>
     ensures read { ReadsFiles (over S.seen shelf.old shelf.new) result }
     ensures on { ShelfGoesOn (HoldsFiles (S.seen shelf.old)) (S.seen shelf.old) (S.seen shelf.new) }

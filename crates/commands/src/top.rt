@@ -25,9 +25,8 @@ use std::alloc::Global;
 use std::sync::Wait;
 use std::thread::Threads;
 
-/// How the program ends, and what is left: the board of `run`, `race`, `serve`, `import` and `make`, where a desk was
-/// opened, the keeper, the clock, the door, the bells that stayed, in their order, and those that were dropped, in
-/// order of their places.
+/// How the program ends: its exit status, the board if a desk was opened, and everything that was lent to it. `bells`
+/// are those that stayed, in order. `dropped` are those that failed, in order of their places.
 #[derive(Drop)]
 pub struct Ending<K, C, D, B> {
     pub status: u8,
@@ -39,7 +38,7 @@ pub struct Ending<K, C, D, B> {
     pub dropped: Vec<Dropped<B>>,
 }
 
-// Writes what is told of an answer, and gives the status.
+// Writes an answer to the sink, and returns the exit status.
 fn write<O: Sink>(alloc: Global, answer: Result<Text, Fault>, out: &mut O) -> u8
     ensures { Writes (over O.seen out.old out.new) answer result }
 {
@@ -53,35 +52,40 @@ fn write<O: Sink>(alloc: Global, answer: Result<Text, Fault>, out: &mut O) -> u8
     }
 }
 
-/// Does what the words ask, and answers the status of the program. `run SCRIPT` reads the thirteen tables and then the
-/// script, and loads the rows of the keeper; then the script is run on the desk of these rows. `race` with 2 to 16
-/// scripts does so with all of them at once, a thread for each where one can be had, `import FILE` with the records of
-/// a file, and `make NUMBER COUNT`, which reads no source, with calls that are made of a number. `serve PORT
-/// CONNECTIONS` reads the tables and loads the rows, and then so many connections are served at the port, up to 16 at
-/// once, a thread for each where one can be had. `weather FILE` reads the file alone, and asks nothing of the keeper.
-/// The first fault in this order is answered. Each step that is put in place rings the bells, while nothing else is
-/// done on the desk.
+/// Runs the command in the arguments, writes its result, and returns the program's exit status.
 ///
-/// - 0: all of this was read to its end, and what is said of it was written: of `run SCRIPT` and `import FILE` a reply
-///   for each line or record and the closing text, of `race` the history, what came of each line and the closing text,
-///   of `serve` the closing text, of `weather FILE` a line for each report, of `make NUMBER COUNT` three lines that
-///   count.
-/// - 2: exactly where the words form no command; `error 2 Usage` is written.
-/// - 3: only where the shelf's count of faults rose, or is full; `error 3 ReadFault NAME`.
-/// - 4: only where the sink's count of faults rose, or is full; it gained a front of the text.
-/// - 5: only where the keeper's count of faults rose, or is full; `error 5 KeeperFault`.
-/// - 6: exactly where the table of that name has a bad record, first at that number (the header is 1), or an import
+/// - `run SCRIPT` reads the thirteen tables and the script, loads the keeper's rows, and runs the script on the desk
+///   of these rows.
+/// - `race SCRIPT..` does so with 2 to 16 scripts at once, each in a thread of its own if the machine provides one.
+/// - `import FILE` does so with the records of a file.
+/// - `make NUMBER COUNT` reads only the tables, and answers calls made from the seed NUMBER for COUNT flights.
+/// - `serve PORT CONNECTIONS` reads only the tables, and serves connections at the port, up to 16 at once, each in a
+///   thread of its own if the machine provides one.
+/// - `weather FILE` reads only the file, and doesn't use the keeper.
+///
+/// The first fault in this order is reported. When a step is installed it rings the bells, and meanwhile nothing else
+/// is done on the desk. The exit status is:
+///
+/// - 0: the command was completed, and its result was written. `run` and `import` write a line for each line or
+///   record and the closing text. `race` writes the history, the outcomes of each lane and the closing text. `serve`
+///   writes the closing text, `weather` a line for each report, and `make` three lines of counts.
+/// - 2: exactly if the arguments form no command; `error 2 Usage` is written.
+/// - 3: only if the shelf's count of faults rose or is saturated; `error 3 ReadFault NAME`.
+/// - 4: only if the sink's count of faults rose or is saturated. A prefix of the text was written.
+/// - 5: only if the keeper's count of faults rose or is saturated; `error 5 KeeperFault`.
+/// - 6: exactly if the table NAME has a bad record, the first of which is NUMBER (the header is 1), or an import
 ///   lacks its header; `error 6 BadTable NAME NUMBER WHY`.
-/// - 7: exactly where the rows that were loaded aren't those of a desk: `error 7 BadRow KIND KEY WHY` or
-///   `error 7 BadPair KIND KEY KIND KEY`, their first fault.
-/// - 8: want of memory; the sink gained nothing. What a front of each script changed stays, and at most a tick more.
-/// - 9: only where the door's count of faults rose, or is full; `error 9 DoorFault`.
-/// - 10: exactly where the source of that name has more than 64 MiB; `error 10 InputTooLong NAME`.
-/// - 11: only where the clock's count of faults rose, or is full; `error 11 ClockFault`.
+/// - 7: exactly if the loaded rows aren't those of a desk. `error 7 BadRow KIND KEY WHY` or `error 7 BadPair KIND KEY
+///   KIND KEY` is their first fault.
+/// - 8: memory ran out, and nothing was written. The changes of a prefix of each script stay, and at most one tick
+///   more.
+/// - 9: only if the door's count of faults rose or is saturated; `error 9 DoorFault`.
+/// - 10: exactly if the source NAME has more than 64 MiB; `error 10 InputTooLong NAME`.
+/// - 11: only if the clock's count of faults rose or is saturated; `error 11 ClockFault`.
 ///
-/// 3, 4, 5, 9 and 11 tell that the shelf, the sink, the keeper, the door or the clock isn't sound, or that the shelf
-/// lacks a source, or that fewer links come to the door than are to be served. Where no door is to be opened, or no
-/// desk was, the door and the clock are given back as they were.
+/// A sound shelf, sink, keeper, door or clock doesn't cause 3, 4, 5, 9 or 11. There are two exceptions: the shelf
+/// lacks a source, or the door has fewer links than connections. If nothing is served, or no desk is opened, the
+/// clock and the door are returned unchanged.
 pub fn desk_main<
     R: Threads + Wait + Sync,
     S: Shelf,
@@ -105,14 +109,13 @@ pub fn desk_main<
 ) -> Ending<K, C, D, B>
 where
     D::Link: Send,
-    // Over an outside that is sound, with the sources that the words name and a link to come for each connection,
-    // nothing fails but memory: all was read and said, or the words, a source, a table or a row are at fault.
+    // If every external object is sound, with all sources and enough links, the status is 0, 2, 6, 7, 8 or 10. So
+    // either the command was completed, or memory ran out, or the arguments or the input are at fault.
     ensures complete { HasSources (S.seen shelf.old) (command_of (map string_bytes words.now))
         → HasDoor (D.seen door) (command_of (map string_bytes words.now))
         → IsSound (O.seen out.old).health → IsSound (K.seen keeper).health → IsSound (C.seen clock).health → Contains
         (0 ∷ 2 ∷ 6 ∷ 7 ∷ 8 ∷ 10 ∷ []) result.status }
-    // Where the words form a command, all that it reads is valid, and no fault was counted, all was done, or memory
-    // ran out.
+    // If the arguments form a command, everything it reads is valid, and no fault was counted, the status is 0 or 8.
     ensures done { IsValid (S.seen shelf.old) (K.seen keeper).rows (command_of (map string_bytes words.now))
         → HaveServed (over S.seen shelf.old shelf.new) (over O.seen out.old out.new) (lent K.seen keeper result.keeper)
         (service C.seen D.seen D.Link.seen clock result.clock door result.door) → Contains (0 ∷ 8 ∷ []) result.status }
@@ -124,29 +127,29 @@ where
         (service C.seen D.seen D.Link.seen clock result.clock door result.door)
         (lent K.seen keeper result.keeper) (command_of (map string_bytes words.now)) result.board)
         (over O.seen out.old out.new) result.status }
-    // Whatever the status: the clock tells the same moments and never goes back among them, and neither its count nor
-    // the door's falls. A sound clock stays sound, and its count stands still.
+    // Whatever the status, the clock keeps its moments and never goes back among them. The counts of faults of the
+    // clock and of the door never fall. A sound clock stays sound, and its count is unchanged.
     ensures clock { ClockGoesOn (C.seen clock) (C.seen result.clock) }
-    // At status 0 no fault of the clock was passed over.
+    // At status 0 the clock's count of faults is unchanged.
     ensures still { result.status ≡ 0 → IsStill (C.seen clock).health (C.seen result.clock).health }
     ensures door { (D.seen door).health.faults ≤ (D.seen result.door).health.faults }
-    // The keeper tells its rows exactly where it told them before, and its count never falls. A sound keeper stays
-    // sound, and its count stands still.
+    // The keeper's rows are known exactly if they were known before, and its count never falls. A sound keeper stays
+    // sound, and its count is unchanged.
     ensures keeper { KeeperGoesOn (K.seen keeper) (K.seen result.keeper) }
-    // A sound keeper never ends a run, and since its count stands still nothing is refused for its sake.
+    // A sound keeper never ends a run. Since its count is unchanged, it causes no refusal either.
     ensures steady { IsSound (K.seen keeper).health → result.status ≢ 5 }
-    // Whatever the status: without a board the rows are as before, and else they are kept for its state.
+    // Whatever the status: without a board the rows are unchanged. With a board they match its state.
     ensures kept { AreKeptOver (lent K.seen keeper result.keeper) result.board }
-    // The board is one: its history is legal from its opening state, and each active release bears both signatures on
-    // its very text, and fails no rule or has one alert that names exactly the rules that it fails. And each part of
-    // its state has the forms by which its rows are read again.
+    // The board is valid. Its history is legal from its opening state. Each active release carries both signatures on
+    // its exact text. It fails no rule, or has one alert that names exactly the rules that it fails. Each part of the
+    // state has the form in which its row can be read again.
     ensures board { IfSome result.board (λ b. IsBoard b.opening b.state) }
-    // Whatever the status: each bell has heard the notices of its desk, or of all desks for `*`, that the board's
-    // history tells, in order; or it has failed at one of them, and so counted a fault, and is handed back among those
-    // that were dropped, with its place and with how many it had heard. Without a board none was rung.
+    // Whatever the status, each bell has heard the notices in the board's history for its desk, in order. A bell of
+    // desk `*` has heard all notices. A bell that failed at a notice counted a fault. It is returned in `dropped`,
+    // with its place and with how many notices it heard. Without a board no bell was rung.
     ensures bells { AreHandedBack result.board (map B.seen bells.items) (map B.seen result.bells.items)
         (map (dropped_seen B.seen) result.dropped.items) }
-    // Over the rows of a desk that was left there is no fault of rows.
+    // Rows that a desk left have no fault.
     ensures left { (s : State) → IsLeft s → TellsRowsOf (K.seen keeper).rows s → result.status ≢ 7 }
 {
     let Rung {

@@ -11,7 +11,7 @@ use desk_time::{FIRST, LAST, Minute, read_minute};
 use facts::{Read, Report, push_line, read_report};
 use std::alloc::Global;
 
-// The moment in front of a line, and what stands after the blank that follows it.
+// The moment at the start of a line, and the text after the blank that follows the moment.
 fn stamped(line: &[u8]) -> Option<(Minute, &[u8])>
     ensures value { option_map (λ p. (p.0, p.1.now)) result ≡ spec.stamped line.now }
     ensures range { IfSome result (λ p. (FIRST ≤ p.0) × (p.0 ≤ LAST)) }
@@ -96,7 +96,7 @@ fn push_lines(alloc: Global, out: &mut Vec<u8>, lines: &[Run<'_>]) -> Result<(),
     Ok(())
 }
 
-/// What is said of a file of reports: the weather line of each, or its first fault.
+/// The text for a file of reports. Each nonempty line gives the weather line of its report, or its first fault.
 #[tactic(auto, unfolding(crate::specs::Weather::weather_text))]
 pub fn text_of_weather(alloc: Global, file: &[u8]) -> Result<Vec<u8>, OutOfMemory>
     ensures { IfOk result (λ v. v.items ≡ weather_text file.now) }

@@ -30,7 +30,7 @@ use std::sync::Wait;
 use std::sync::ledger::Ledger;
 use std::thread::Threads;
 
-/// What was said, and what is left: the board, where a desk was opened, the keeper, and who rang the bells.
+/// The answer of a command, the board if a desk was opened, the keeper and the ringer.
 #[derive(Drop)]
 pub(crate) struct Ended<K, B> {
     pub answer: Result<Text, Fault>,
@@ -39,7 +39,7 @@ pub(crate) struct Ended<K, B> {
     pub ringer: Ringer<B>,
 }
 
-/// What was said and what is left of a desk, with the clock and the door.
+/// The result of a command, with the clock and the door.
 #[derive(Drop)]
 pub(crate) struct Answered<K, B, C, D> {
     pub ended: Ended<K, B>,
@@ -47,7 +47,7 @@ pub(crate) struct Answered<K, B, C, D> {
     pub door: D,
 }
 
-/// No desk was opened.
+/// The result if no desk was opened.
 pub(crate) fn boardless<K: Keeper, B: Bell>(
     answer: Result<Text, Fault>,
     keeper: K,
@@ -66,7 +66,7 @@ pub(crate) fn boardless<K: Keeper, B: Bell>(
     }
 }
 
-// What is left of a desk: its board, of which holds what holds of every board, its keeper, and who rang its bells.
+// The result of work on a desk: the answer, and the parts of the desk. The board is valid.
 fn left<K: Keeper, B: Bell>(answer: Result<Text, Fault>, desk: Desk<K, B>) -> Ended<K, B>
     ensures answer { result.answer ≡ answer }
     ensures board { result.board ≡ Some desk.board }
@@ -88,14 +88,14 @@ fn left<K: Keeper, B: Bell>(answer: Result<Text, Fault>, desk: Desk<K, B>) -> En
     }
 }
 
-/// What a file of reports says.
+/// The text for a file of reports.
 pub(crate) fn read_reports(alloc: Global, file: &[u8]) -> Result<Text, Fault>
     ensures { Gives (λ text. text ≡ weather_text file.now) result }
 {
     Ok(Text::from_vec(text_of_weather(alloc, file)?))
 }
 
-// What a script comes to that is run on a desk.
+// Runs a script on a desk.
 fn run<K: Keeper, B: Bell, G: Gate, L: Ledger>(
     alloc: Global,
     desk: &mut Desk<K, B>,
@@ -109,7 +109,7 @@ fn run<K: Keeper, B: Bell, G: Gate, L: Ledger>(
     Ok(Text::from_vec(text_from(alloc, desk, script, gate, steps)?))
 }
 
-/// A desk is opened over the tables and the rows of a keeper, and the script is run on it.
+/// Opens a desk over the tables and the keeper's rows, and runs a script on it.
 pub(crate) fn run_over<K: Keeper, B: Bell, G: Gate, L: Ledger>(
     alloc: Global,
     tables: Tables,
@@ -138,7 +138,7 @@ pub(crate) fn run_over<K: Keeper, B: Bell, G: Gate, L: Ledger>(
     }
 }
 
-// What a race came to: its text, or want of memory.
+// The text of a race, or out of memory.
 fn told_of(text: Result<Text, OutOfMemory>) -> Result<Text, Fault>
     ensures { result ≡ told_of text }
 {
@@ -148,7 +148,7 @@ fn told_of(text: Result<Text, OutOfMemory>) -> Result<Text, Fault>
     }
 }
 
-// A desk without a history holds the entries of it from now on.
+// Makes a board without a history store its entries from now on.
 fn holding<K: Keeper, B: Bell>(alloc: Global, mut desk: Desk<K, B>) -> Desk<K, B>
     requires { desk.board.state.entries ≡ [] }
     ensures board { result.board ≡ shown desk.board.opening desk.board.state None true }
@@ -159,7 +159,7 @@ fn holding<K: Keeper, B: Bell>(alloc: Global, mut desk: Desk<K, B>) -> Desk<K, B
     desk
 }
 
-/// A desk is opened over the tables and the rows of a keeper, and the scripts are the lanes of a race on it.
+/// Opens a desk over the tables and the keeper's rows, and races scripts on it.
 pub(crate) fn race_over<
     R: Threads + Wait + Sync,
     K: Keeper + Send,
@@ -197,7 +197,7 @@ pub(crate) fn race_over<
     }
 }
 
-// What serving came to: the closing text of the board, or the fault that ended it.
+// The closing text after serving, or the fault that ended it.
 fn answer_of_end(alloc: Global, end: ServeEnd, board: &Board) -> Result<Text, Fault>
     ensures { EndSays end board.now.state result }
 {
@@ -209,7 +209,7 @@ fn answer_of_end(alloc: Global, end: ServeEnd, board: &Board) -> Result<Text, Fa
     }
 }
 
-// What connections came to that were served, and the desk, the clock and the door after it.
+// The answer after connections were served, with the desk, the clock and the door.
 struct Served<K, B, C, D> {
     answer: Result<Text, Fault>,
     desk: Desk<K, B>,
@@ -217,7 +217,7 @@ struct Served<K, B, C, D> {
     door: D,
 }
 
-// So many connections are served at a port, on a desk that was just opened.
+// Serves connections at a port over a desk that was just opened.
 fn serve<
     R: Threads + Wait + Sync,
     K: Keeper + Send,
@@ -258,7 +258,7 @@ where
     }
 }
 
-/// A desk is opened over the tables and the rows of a keeper, and connections are served on it.
+/// Opens a desk over the tables and the keeper's rows, and serves connections over it.
 pub(crate) fn serve_over<
     R: Threads + Wait + Sync,
     K: Keeper + Send,
@@ -287,7 +287,7 @@ where
         (lent K.seen keeper result.ended.keeper) result.ended.board result.ended.answer }
     ensures keeper { KeeperGoesOn (K.seen keeper) (K.seen result.ended.keeper) }
     ensures rung { AreRungOver result.ended.board (hung_all B.seen ringer) (hung_all B.seen result.ended.ringer) }
-    // Where no desk was opened the clock and the door are as they were.
+    // If no desk was opened, the clock and the door are unchanged.
     ensures idle { result.ended.board ≡ None → (result.clock ≡ clock) × (result.door ≡ door) }
 {
     match open(alloc, tables, keeper, ringer, steps) {
@@ -315,7 +315,7 @@ where
     }
 }
 
-// What the lines of an import come to on a desk.
+// Answers the lines of an import on a desk.
 fn import_lines<K: Keeper, B: Bell, G: Gate, L: Ledger>(
     alloc: Global,
     desk: &mut Desk<K, B>,
@@ -330,7 +330,7 @@ fn import_lines<K: Keeper, B: Bell, G: Gate, L: Ledger>(
     Ok(Text::from_vec(text_of_import(alloc, desk, lines, gate, steps)?))
 }
 
-/// A desk is opened over the tables and the rows of a keeper, and the lines of an import are answered on it.
+/// Opens a desk over the tables and the keeper's rows, and answers the lines of an import on it.
 pub(crate) fn import_over<K: Keeper, B: Bell, G: Gate, L: Ledger>(
     alloc: Global,
     tables: Tables,
@@ -360,7 +360,7 @@ pub(crate) fn import_over<K: Keeper, B: Bell, G: Gate, L: Ledger>(
     }
 }
 
-// What the calls of a number come to on a desk.
+// Answers the calls of a seed on a desk.
 fn make<K: Keeper, B: Bell, G: Gate, L: Ledger>(
     alloc: Global,
     desk: &mut Desk<K, B>,
@@ -376,7 +376,7 @@ fn make<K: Keeper, B: Bell, G: Gate, L: Ledger>(
     Ok(Text::from_vec(make_from(alloc, desk, number, count, gate, steps)?))
 }
 
-/// A desk is opened over the tables and the rows of a keeper, and the calls of a number are made on it.
+/// Opens a desk over the tables and the keeper's rows, and answers the calls of a seed on it.
 pub(crate) fn make_over<K: Keeper, B: Bell, G: Gate, L: Ledger>(
     alloc: Global,
     tables: Tables,

@@ -1,4 +1,4 @@
--- What a document, an element of it, and what is lent of one are.
+-- The JSON data of documents, elements and iterators.
 use Rattle.serde_json.specs.Data.{Data, Items as DataItems, Members}
 use Rattle.compact_json.specs.Kept.{data_of, items_of, members_of}
 use Rattle.compact_json.specs.Keys.{past}
@@ -11,7 +11,7 @@ use Rattle.compact_json.specs.declared.keys.Keys.{Keys}
 abbrev pub data_in : Document → Data
 data_in d = data_of d.bytes.items
 
--- the data at an element's place
+-- the data of the box at which the element begins
 abbrev pub data_at : Element → Data
 data_at e = data_of e.bytes.now
 

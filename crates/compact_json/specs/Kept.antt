@@ -1,4 +1,4 @@
--- The data that boxes keep. Every list of bytes keeps some data, so that nothing that is read of them has to be refused.
+-- The JSON data that boxes store; every byte string stores some data, so reading never fails.
 use Rattle.std.specs.Prelude.{ℕ, zero, suc, List, [], ◌∷◌, length, Bool, true, false, ◌==◌, if◌then◌else◌, Option, None, Some}
 use Rattle.std.specs.Str.Lossy.{utf8_valid_len}
 use Rattle.serde_json.specs.Data.{Num, Data, null, boolean, number, string, array, object, Items, no_items, item, Members, no_members, put}
@@ -20,7 +20,7 @@ number_data s = number_or_null (number_of s)
 abbrev pub text_data : List ℕ → Data
 text_data s = if is_text s then string s else null
 
--- the data of a kind and a content
+-- the data of a box of this kind and content
 abbrev pub data_by : (List ℕ → Items) → (List ℕ → Members) → List ℕ → Kind → Data
 data_by items members s kind.Null = null
 data_by items members s kind.False = boolean false
@@ -30,24 +30,24 @@ data_by items members s kind.Text = text_data s
 data_by items members s kind.Array = array (items s)
 data_by items members s kind.Object = object (members s)
 
--- a member more, where its key is a text
+-- one more member, if its key is UTF-8
 abbrev pub put_text : List ℕ → Data → Members → Members
 put_text k d found = if is_text k then put k d found else found
 
--- the boxes of a list, one after another, at most so many
+-- the items of consecutive boxes, at most n
 abbrev pub items_by : (List ℕ → Data) → ℕ → List ℕ → Items
 items_by each zero bytes = no_items
 items_by each (suc n) [] = no_items
 items_by each (suc n) (b ∷ bs) = item (each (b ∷ bs)) (items_by each n (after (b ∷ bs)))
 
--- the boxes of an object, a key and a value by turns, at most so many, after those that were found before
+-- the members of consecutive boxes, each a key and a value, at most n, added to those found before
 abbrev pub members_by : (List ℕ → Data) → ℕ → List ℕ → Members → Members
 members_by each zero bytes found = found
 members_by each (suc n) [] found = found
 members_by each (suc n) (b ∷ bs) found =
     members_by each n (after (after (b ∷ bs))) (put_text (content (b ∷ bs)) (each (after (b ∷ bs))) found)
 
--- the data of the first box, where boxes lie in each other at most so deep
+-- the data of the first box, if boxes are nested at most n deep
 unfoldable pub data_within : ℕ → List ℕ → Data
 data_within zero bytes = null
 data_within (suc n) bytes =

@@ -1,4 +1,4 @@
--- The keys of an object in byte order, each once.
+-- The keys of an object in byte order, without duplicates.
 use Rattle.std.specs.Prelude.{ℕ, List, Bool, true, ◌&&◌, ◌||◌, ◌==◌, not, false, if◌then◌else◌, Option, None, Some}
 use Rattle.std.specs.Ordering.{nat_cmp, is_lt}
 use Rattle.std.specs.Cmp.Lexicographic.{slice_cmp}
@@ -10,11 +10,11 @@ use Rattle.compact_json.specs.Kept.{is_text}
 abbrev pub is_below : List ℕ → List ℕ → Bool
 is_below a b = is_lt (slice_cmp nat_cmp a b)
 
--- whether a key comes after the last one, where there was one
+-- the key comes after the last one, or there is no last one
 abbrev pub is_past : Bool → List ℕ → List ℕ → Bool
 is_past started last k = not started || is_below last k
 
--- the members whose keys come after it
+-- the members whose keys come after the last one
 abbrev pub past : Bool → List ℕ → Members → Members
 past started last no_members = no_members
 past started last (member k d ms) = if is_past started last k then member k d (past started last ms) else past started last ms
@@ -27,7 +27,7 @@ abbrev pub is_below_all : List ℕ → Option (List ℕ) → Bool
 is_below_all k None = true
 is_below_all k (Some q) = is_below k q
 
--- of the key of a box and the least key that was found before, the lesser
+-- the lesser of a box's key and the least key found so far, among the keys after the last one
 abbrev pub lesser : Bool → List ℕ → List ℕ → Option (List ℕ) → Option (List ℕ)
 lesser started last k least = if is_text k && is_past started last k && is_below_all k least then Some k else least
 
@@ -35,6 +35,6 @@ abbrev pub has_count : ℕ → Option Members → Bool
 has_count n None = false
 has_count n (Some ms) = members_len ms == n
 
--- an object of so many members
+-- an object of exactly n members
 abbrev pub has_members : ℕ → Data → Bool
 has_members n d = has_count n (as_object d)

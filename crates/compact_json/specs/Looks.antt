@@ -1,4 +1,4 @@
--- What is found in a box, by its kind and its content.
+-- The value of a box, by its kind and its content.
 use Rattle.std.specs.Prelude.{ℕ, Bool, true, false, not, List, Option, None, Some, is_some}
 use Rattle.serde_json.specs.Data.{Num, Items, Members}
 use Rattle.serde_json.specs.Find.{as_str}

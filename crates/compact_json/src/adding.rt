@@ -22,7 +22,7 @@ fn push_long(out: &mut Vec<u8>, byte: u8, text: &[u8]) -> Result<(), OutOfMemory
     }
 }
 
-/// Adds a box of a content. Where its length takes one byte, its first byte is `short`, and else `long`.
+/// Adds a box with this content. Its first byte is `short` if the length fits in one byte, otherwise `long`.
 pub(crate) fn push_box(
     out: &mut Vec<u8>,
     short: u8,
@@ -41,7 +41,7 @@ pub(crate) fn push_box(
     }
 }
 
-/// Adds a box of one byte.
+/// Adds a box of one byte, without content.
 pub(crate) fn push_small(out: &mut Vec<u8>, byte: u8) -> Result<(), OutOfMemory>
     requires { byte < 3 }
     ensures { OnOk result (HasBox (kind_by byte) [] out.old.items out.new.items) }
@@ -49,7 +49,7 @@ pub(crate) fn push_small(out: &mut Vec<u8>, byte: u8) -> Result<(), OutOfMemory>
     push_all(out, &[&[byte]])
 }
 
-/// Begins a box, whose length is set at its end. Answers where it begins.
+/// Begins a box and returns its index. `close_box` sets its length.
 pub(crate) fn open_box(out: &mut Vec<u8>, byte: u8) -> Result<usize, OutOfMemory>
     ensures longer { IfOk result (λ _. out.new.items ≡ out.old.items ++ byte ∷ 0 ∷ 0 ∷ 0 ∷ 0 ∷ []) }
     ensures start { IfOk result (λ start. start ≡ length out.old.items) }
@@ -70,7 +70,7 @@ fn set_length(out: &mut Vec<u8>, start: usize, size: u32)
     out[start + 4] = four[3];
 }
 
-/// Ends the box that begins there.
+/// Ends the box that begins at this index.
 pub(crate) fn close_box(out: &mut Vec<u8>, start: usize) -> Result<(), OutOfMemory>
     requires { start + 5 ≤ length out.old.items }
     ensures sets { OnOk result (SetsLength out.old.items out.new.items start) }

@@ -34,7 +34,7 @@ fn first(bytes: &[u8]) -> u8
     byte_at(bytes, 0)
 }
 
-/// What a box is.
+/// The kind of a box.
 #[derive(Clone, Copy)]
 pub(crate) enum Kind {
     Null,
@@ -60,7 +60,7 @@ fn kind_by(byte: u8) -> Kind
     }
 }
 
-/// The kind of the first box.
+/// Returns the kind of the first box.
 #[tactic(auto, unfolding(crate::specs::Boxes::kind_of))]
 pub(crate) fn kind_of(bytes: &[u8]) -> Kind
     ensures { result ≡ kind_of bytes.now }
@@ -107,7 +107,7 @@ fn size_of_content(bytes: &[u8]) -> usize
     }
 }
 
-/// The content of the first box.
+/// Returns the content of the first box.
 #[tactic(auto, unfolding(crate::specs::Boxes::content))]
 pub(crate) fn content_of(bytes: &[u8]) -> &[u8]
     ensures { result.now ≡ content bytes.now }
@@ -115,7 +115,7 @@ pub(crate) fn content_of(bytes: &[u8]) -> &[u8]
     front(rest(bytes, before_content(bytes)), size_of_content(bytes))
 }
 
-/// What stands after the first box.
+/// Returns the bytes after the first box.
 #[tactic(auto, unfolding(crate::specs::Boxes::after))]
 pub(crate) fn after_box(bytes: &[u8]) -> &[u8]
     ensures { result.now ≡ after bytes.now }

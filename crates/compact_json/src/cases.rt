@@ -1,10 +1,10 @@
-// Values of RFC 8259, and of the ways of `serde_json` where that is free.
+// Test cases from RFC 8259, and from `serde_json` where the RFC leaves a choice.
 use crate::{Document, Element, Items};
 use desk_io::OutOfMemory;
 use std::alloc::Global;
 use std::str;
 
-// Whether a text is JSON, and the whole number that it is.
+// Returns whether a text is JSON, and its value if it is a 64-bit natural number.
 fn whole(alloc: Global, text: &str) -> Result<(bool, Option<u64>), OutOfMemory> {
     match Document::of(alloc, text)? {
         Some(document) => Ok((true, document.root().as_u64())),
@@ -83,7 +83,7 @@ fn are_in_order(element: &Element<'_>) -> bool {
         && left.next() == None
 }
 
-// A key that comes twice, once with an escape, and keys out of order.
+// A key that occurs twice, once with an escape, and keys that aren't in byte order.
 const TWICE: &str = "{\"é\":1,\"a\":2,\"\":4,\"\\u0061\":3}";
 
 fn finds_last(alloc: Global) -> Result<bool, OutOfMemory> {
@@ -98,7 +98,7 @@ fn the_last_of_a_key_counts(rt: HostRuntime) {
     assert!(rt; finds_last(rt.alloc()) == Ok(true));
 }
 
-// So many of one byte, between two others.
+// Returns `count` copies of one byte, between two texts.
 fn many(
     alloc: Global,
     front: &[u8],

@@ -8,7 +8,7 @@ use desk_io::OutOfMemory;
 use json::{Reader, Scratch, Token};
 use std::alloc::Global;
 
-/// A JSON value, in memory of few times the bytes of its text.
+/// A JSON value in compact memory, at most a few times the bytes of its text.
 #[derive(Drop)]
 pub struct Document {
     bytes: Vec<u8>,
@@ -22,7 +22,7 @@ fn room_of_text(text: &str) -> usize {
     }
 }
 
-// As many bytes as a token may take.
+// Returns the most bytes that the box of a token takes.
 fn room_of_token(token: Token<'_>) -> usize {
     match token {
         Token::Key(text) | Token::String(text) | Token::Number(text) => room_of_text(text),
@@ -32,7 +32,7 @@ fn room_of_token(token: Token<'_>) -> usize {
     }
 }
 
-// Room for a document, as far as its tokens tell. No text that is JSON takes more than three times its bytes.
+// Returns the room to reserve for a document, from its tokens. JSON text never takes more than three times its bytes.
 fn room_for(text: &str, scratch: &mut Scratch) -> Result<usize, OutOfMemory> {
     let mut reader = Reader::new(text, scratch)?;
     let mut room = 0usize;
@@ -43,7 +43,7 @@ fn room_for(text: &str, scratch: &mut Scratch) -> Result<usize, OutOfMemory> {
 }
 
 impl Document {
-    /// The document of a text, where it is JSON.
+    /// Reads a document. Returns None if the text isn't JSON.
     pub fn of(alloc: Global, text: &str) -> Result<Option<Document>, OutOfMemory>
         ensures { IfOk result (λ d. option_map data_in d ≡ read text.now) }
     {
@@ -57,7 +57,7 @@ impl Document {
         }
     }
 
-    /// The whole of it.
+    /// Returns the whole value.
     pub fn root(&self) -> Element<'_>
         ensures { data_at result ≡ data_in self.now }
     {

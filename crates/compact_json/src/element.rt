@@ -10,7 +10,7 @@ use crate::keys::{Keys, keys_of};
 use crate::looks::{array_by, bool_by, is_null_by, object_by, str_by, whole_by};
 use crate::members::member_at;
 
-/// A value in a document, which lends it.
+/// A value in a document, borrowed from the document.
 #[derive(Clone, Copy)]
 pub struct Element<'a> {
     pub(crate) bytes: &'a [u8],
@@ -31,7 +31,7 @@ impl<'a> Element<'a> {
         array_by(content_of(self.bytes), kind_of(self.bytes))
     }
 
-    /// The value at a key of an object.
+    /// Returns the value at a key of an object.
     pub fn get(&self, key: &str) -> Option<Element<'a>>
         ensures { option_map data_at result ≡ get key.now (data_at self.now) }
     {
@@ -41,7 +41,7 @@ impl<'a> Element<'a> {
         }
     }
 
-    /// The text that it is.
+    /// Returns the string, if the value is one.
     #[tactic(auto, using(crate::proofs::KindLaws::str_at))]
     pub fn as_str(&self) -> Option<&'a str>
         ensures { option_map (λ t. t.now) result ≡ as_str (data_at self.now) }
@@ -49,7 +49,7 @@ impl<'a> Element<'a> {
         str_by(content_of(self.bytes), kind_of(self.bytes))
     }
 
-    /// The whole number of 64 bits that it is.
+    /// Returns the 64-bit natural number, if the value is one.
     #[tactic(auto, using(crate::proofs::KindLaws::number_at))]
     pub fn as_u64(&self) -> Option<u64>
         ensures { result ≡ option_and_then as_u64 (as_number (data_at self.now)) }
@@ -57,7 +57,7 @@ impl<'a> Element<'a> {
         whole_by(content_of(self.bytes), kind_of(self.bytes))
     }
 
-    /// True or false, where it is one of these.
+    /// Returns the boolean, if the value is one.
     #[tactic(auto, using(crate::proofs::KindLaws::bool_at))]
     pub fn as_bool(&self) -> Option<bool>
         ensures { result ≡ as_bool (data_at self.now) }
@@ -65,7 +65,7 @@ impl<'a> Element<'a> {
         bool_by(kind_of(self.bytes))
     }
 
-    /// Whether it is null.
+    /// Returns true if the value is null.
     #[tactic(auto, using(crate::proofs::KindLaws::null_at))]
     pub fn is_null(&self) -> bool
         ensures { result ≡ is_some (as_null (data_at self.now)) }
@@ -73,14 +73,14 @@ impl<'a> Element<'a> {
         is_null_by(content_of(self.bytes), kind_of(self.bytes))
     }
 
-    /// Whether it is an object.
+    /// Returns true if the value is an object.
     pub fn is_object(&self) -> bool
         ensures { result ≡ is_some (as_object (data_at self.now)) }
     {
         self.object().is_some()
     }
 
-    /// The items of a list.
+    /// Returns the items, if the value is a list.
     pub fn items(&self) -> Option<Items<'a>>
         ensures { option_map items_left result ≡ as_array (data_at self.now) }
     {
@@ -90,7 +90,7 @@ impl<'a> Element<'a> {
         }
     }
 
-    /// The keys of an object, in byte order.
+    /// Returns the keys in byte order, if the value is an object.
     pub fn keys(&self) -> Option<Keys<'a>>
         ensures { option_map keys_left result ≡ as_object (data_at self.now) }
     {
@@ -100,7 +100,7 @@ impl<'a> Element<'a> {
         }
     }
 
-    /// Whether it is an object of so many members, each key counted once.
+    /// Returns true if the value is an object of exactly `count` members. A repeated key counts once.
     pub fn has_members(&self, count: usize) -> bool
         ensures { result ≡ has_members count (data_at self.now) }
     {

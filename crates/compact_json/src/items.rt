@@ -6,14 +6,14 @@ ghost use Rattle.compact_json.specs.Elements.{data_at, items_left};
 use crate::boxes::after_box;
 use crate::element::Element;
 
-/// The items of a list that are left, one after another.
+/// An iterator over the items of a list.
 #[derive(Clone, Copy)]
 pub struct Items<'a> {
     pub(crate) bytes: &'a [u8],
 }
 
 impl<'a> Items<'a> {
-    /// The next item.
+    /// Returns the next item.
     pub fn next(&mut self) -> Option<Element<'a>>
         ensures { MatchOption result ((items_left self.old ≡ no_items) × (items_left self.new ≡ no_items))
             (λ e. items_left self.old ≡ item (data_at e) (items_left self.new)) }
@@ -26,7 +26,7 @@ impl<'a> Items<'a> {
         Some(Element { bytes })
     }
 
-    /// Whether that many items are left, or fewer.
+    /// Returns true if at most `count` items are left.
     pub fn are_at_most(&self, count: usize) -> bool
         ensures { result ≡ nat_le (items_len (items_left self.now)) count }
     {

@@ -8,7 +8,8 @@ ghost use Rattle.compact_json.specs.Elements.{keys_left};
 use crate::boxes::{after_box, content_of};
 use crate::texts::text_of;
 
-/// The keys of an object that are left, in byte order, each once. Each is found in one pass over the object.
+/// An iterator over the keys of an object, in byte order without duplicates. Each step makes one pass over the
+/// object.
 #[derive(Clone, Copy)]
 pub struct Keys<'a> {
     pub(crate) members: &'a [u8],
@@ -37,7 +38,7 @@ fn is_below_all(key: &str, least: Option<&str>) -> bool
     }
 }
 
-// Of the key of a box and the least key that was found before, the lesser.
+// Returns the lesser of a box's key and the least key found so far, among the keys after the last one.
 fn lesser<'a>(
     started: bool,
     last: &str,
@@ -53,7 +54,7 @@ fn lesser<'a>(
     }
 }
 
-// The least key that comes after the last one.
+// Returns the least key after the last one.
 fn next_key<'a>(members: &'a [u8], started: bool, last: &str) -> Option<&'a str>
     ensures { option_map (λ q. q.now) result ≡ first_key (past started last.now (members_of members.now)) }
 {
@@ -66,7 +67,7 @@ fn next_key<'a>(members: &'a [u8], started: bool, last: &str) -> Option<&'a str>
     least
 }
 
-/// The keys of an object.
+/// Starts an iterator over the keys of an object.
 #[tactic(auto, using(crate::proofs::KeyLaws::past_none))]
 pub(crate) fn keys_of(members: &[u8]) -> Keys<'_>
     ensures { keys_left result ≡ members_of members.now }
@@ -79,7 +80,7 @@ pub(crate) fn keys_of(members: &[u8]) -> Keys<'_>
 }
 
 impl<'a> Keys<'a> {
-    /// The next key.
+    /// Returns the next key.
     pub fn next(&mut self) -> Option<&'a str>
         ensures { MatchOption result ((keys_left self.old ≡ no_members) × (keys_left self.new ≡ no_members))
             (λ k. (d : Data) × (keys_left self.old ≡ member k.now d (keys_left self.new))) }
@@ -90,7 +91,7 @@ impl<'a> Keys<'a> {
         Some(key)
     }
 
-    /// Whether exactly so many keys are left.
+    /// Returns true if exactly `count` keys are left.
     pub(crate) fn has_count(&self, count: usize) -> bool
         ensures { result ≡ (members_len (keys_left self.now) == count) }
     {

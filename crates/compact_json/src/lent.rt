@@ -10,51 +10,51 @@ use crate::element::Element;
 use crate::items::Items;
 use serde_json::Value;
 
-/// A JSON value that is lent, whichever way it is kept.
+/// A borrowed JSON value, independent of its representation.
 pub trait Json<'a>: Copy {
-    /// What is left of a list.
+    /// An iterator over the items of a list.
     type Left: Copy;
 
-    /// The data that it says.
+    /// The JSON data of the value.
     ghost told: { Self → Data };
 
     /// The items that are left.
     ghost left: { Self.Left → DataItems };
 
-    /// The value at a key of an object.
+    /// Returns the value at a key of an object.
     fn get(self, key: &str) -> Option<Self>
         ensures { option_map told result ≡ get key.now (told self) };
 
-    /// The text that it is.
+    /// Returns the string, if the value is one.
     fn as_str(self) -> Option<&'a str>
         ensures { option_map (λ t. t.now) result ≡ as_str (told self) };
 
-    /// The whole number of 64 bits that it is.
+    /// Returns the 64-bit natural number, if the value is one.
     fn as_u64(self) -> Option<u64>
         ensures { result ≡ option_and_then as_u64 (as_number (told self)) };
 
-    /// Whether it is null.
+    /// Returns true if the value is null.
     fn is_null(self) -> bool
         ensures { result ≡ is_some (as_null (told self)) };
 
-    /// Whether it is an object.
+    /// Returns true if the value is an object.
     fn is_object(self) -> bool
         ensures { result ≡ is_some (as_object (told self)) };
 
-    /// Whether it is an object of so many members, each key counted once.
+    /// Returns true if the value is an object of exactly `count` members. A repeated key counts once.
     fn has_members(self, count: usize) -> bool
         ensures { result ≡ has_members count (told self) };
 
-    /// The items of a list.
+    /// Returns the items, if the value is a list.
     fn items(self) -> Option<Self::Left>
         ensures { option_map left result ≡ as_array (told self) };
 
-    /// The next item.
+    /// Returns the next item.
     fn next(items: &mut Self::Left) -> Option<Self>
         ensures { MatchOption result ((left items.old ≡ no_items) × (left items.new ≡ no_items))
             (λ e. left items.old ≡ item (told e) (left items.new)) };
 
-    /// Whether that many items are left, or fewer.
+    /// Returns true if at most `count` items are left.
     fn are_at_most(items: Self::Left, count: usize) -> bool
         ensures { result ≡ nat_le (items_len (left items)) count };
 }

@@ -1,4 +1,4 @@
-//! JSON in memory of few times its bytes.
+//! JSON documents in compact memory, at most a few times the bytes of their text.
 #![tactic(auto)]
 
 mod adding;

@@ -7,7 +7,7 @@ use crate::boxes::Kind;
 use crate::numbers::{is_number, whole_number};
 use crate::texts::{text_in, text_of};
 
-/// The text of a content.
+/// Returns the string in a box of this kind.
 pub(crate) fn str_by(content: &[u8], kind: Kind) -> Option<&str>
     ensures { option_map (λ t. t.now) result ≡ str_by content.now kind }
 {
@@ -17,7 +17,7 @@ pub(crate) fn str_by(content: &[u8], kind: Kind) -> Option<&str>
     }
 }
 
-/// The whole number of a content.
+/// Returns the 64-bit natural number in a box of this kind.
 pub(crate) fn whole_by(content: &[u8], kind: Kind) -> Option<u64>
     ensures { result ≡ option_and_then as_u64 (number_by content.now kind) }
 {
@@ -27,7 +27,7 @@ pub(crate) fn whole_by(content: &[u8], kind: Kind) -> Option<u64>
     }
 }
 
-/// Whether a box is true or false, where it is one of these.
+/// Returns the boolean in a box of this kind.
 pub(crate) fn bool_by(kind: Kind) -> Option<bool>
     ensures { result ≡ bool_by kind }
 {
@@ -38,7 +38,7 @@ pub(crate) fn bool_by(kind: Kind) -> Option<bool>
     }
 }
 
-/// The boxes of a list.
+/// Returns the boxes of a list.
 pub(crate) fn array_by(content: &[u8], kind: Kind) -> Option<&[u8]>
     ensures { option_map (λ s. items_of s.now) result ≡ array_by content.now kind }
 {
@@ -48,7 +48,7 @@ pub(crate) fn array_by(content: &[u8], kind: Kind) -> Option<&[u8]>
     }
 }
 
-/// The boxes of an object.
+/// Returns the boxes of an object.
 pub(crate) fn object_by(content: &[u8], kind: Kind) -> Option<&[u8]>
     ensures { option_map (λ s. members_of s.now) result ≡ object_by content.now kind }
 {
@@ -58,7 +58,7 @@ pub(crate) fn object_by(content: &[u8], kind: Kind) -> Option<&[u8]>
     }
 }
 
-/// Whether a box is null.
+/// Returns true if the box is null.
 pub(crate) fn is_null_by(content: &[u8], kind: Kind) -> bool
     ensures { result ≡ is_null_by content.now kind }
 {

@@ -8,7 +8,7 @@ ghost use Rattle.compact_json.specs.Elements.{data_at};
 use crate::boxes::{after_box, content_of};
 use crate::element::Element;
 
-// The value of the first member, where it has that key, and else what was found before.
+// Returns the value of the first member if it has this key, otherwise the value found before.
 fn chosen<'a>(key: &str, left: &'a [u8], found: Option<Element<'a>>) -> Option<Element<'a>>
     ensures { option_map data_at result ≡ cond (bytes_eq (content left.now) key.now) (Some (data_of (after left.now)))
         (option_map data_at found.entry) }
@@ -22,7 +22,7 @@ fn chosen<'a>(key: &str, left: &'a [u8], found: Option<Element<'a>>) -> Option<E
     }
 }
 
-/// The value at a key: of the members of that key it is the last.
+/// Returns the value at a key. If the key is repeated, the last one counts.
 pub(crate) fn member_at<'a>(key: &str, members: &'a [u8]) -> Option<Element<'a>>
     ensures { option_map data_at result ≡ get_member key.now (members_of members.now) }
 {

@@ -33,7 +33,7 @@ fn has_negative(numeral: &Numeral<'_>) -> bool
     is_finite(true, numeral)
 }
 
-/// Whether the text of a number has a value: it isn't too large for a float.
+/// Returns true if the text of a number has a value, because it isn't too large for a 64-bit float.
 pub(crate) fn is_number(text: &[u8]) -> bool
     ensures { result ≡ is_some (number_of text.now) }
 {
@@ -50,7 +50,7 @@ fn whole_of(numeral: &Numeral<'_>) -> Option<u64>
     numeral.to_u64()
 }
 
-/// The whole number that the text of a number says, where it has 64 bits.
+/// Returns the number, if it is a 64-bit natural number.
 pub(crate) fn whole_number(text: &[u8]) -> Option<u64>
     ensures { result ≡ option_and_then as_u64 (number_of text.now) }
 {

@@ -4,7 +4,7 @@ ghost use Rattle.compact_json.specs.Kept.{is_text, text_data};
 
 use std::str;
 
-/// The text that bytes are, where they are UTF-8.
+/// Returns the text of these bytes, if they are UTF-8.
 pub(crate) fn text_of(bytes: &[u8]) -> Option<&str>
     ensures { option_map (λ t. t.now) result ≡ (if is_text bytes.now then Some bytes.now else None) }
 {
@@ -14,7 +14,7 @@ pub(crate) fn text_of(bytes: &[u8]) -> Option<&str>
     }
 }
 
-/// The text that a content is.
+/// Returns the string of a box with this content.
 #[tactic(auto, using(crate::proofs::KindLaws::text_back))]
 pub(crate) fn text_in(content: &[u8]) -> Option<&str>
     ensures { option_map (λ t. t.now) result ≡ as_str (text_data content.now) }

@@ -1,4 +1,4 @@
-// From text to boxes, in one pass over the tokens.
+// Converts text to boxes, in one pass over the tokens.
 ghost use Rattle.std.specs.Prelude.{◌≡◌, ◌<◌, [], length, Err, Some, None, OnOk};
 ghost use Rattle.json.specs.Json.{value, items, members};
 ghost use Rattle.serde_json.specs.Data.{no_members};
@@ -13,13 +13,13 @@ use desk_io::OutOfMemory;
 use json::{Invalid, Reader, Scratch, Token};
 use std::alloc::AllocError;
 
-// How deep arrays and objects may nest.
+// The largest depth of nested arrays and objects.
 const MAX_DEPTH: usize = 127;
 
-/// Why a text was not written.
+/// Why a text wasn't written.
 #[derive(Clone, Copy, Debug, PartialEq, Eq)]
 pub(crate) enum WriteFault {
-    /// It is no JSON.
+    /// The text isn't JSON.
     NotJson,
     /// Memory ran out.
     OutOfMemory,
@@ -147,7 +147,7 @@ fn write_members(reader: &mut Reader<'_>, out: &mut Vec<u8>, depth: usize) -> Re
     Ok(())
 }
 
-/// Writes a whole text, where it is JSON.
+/// Writes the boxes of a whole text, if it is JSON.
 pub(crate) fn write_text(
     text: &str,
     scratch: &mut Scratch,

@@ -1,4 +1,4 @@
--- Connections that come through a door: what became of their links, what they met, and how serving them ended.
+-- Connections of a door: what became of their links, how each ended, and how the serving ended.
 use Rattle.std.specs.Prelude.{◌≡◌, ◌≢◌, ◌⊎◌, ◌<◌, ◌≤◌, ℕ, Bool, true, false, List, [], ◌∷◌, ◌++◌, length, map, filter, Option, None, Some, if◌then◌else◌}
 use Rattle.std.specs.List.{AllByRecursion, list_any}
 use Rattle.connections.specs.declared.doors.Met.{Met}
@@ -8,7 +8,7 @@ use Rattle.connections.specs.declared.serving.Served.{Served}
 use Rattle.connections.specs.declared.serving.Served.TheVariants as served
 use Rattle.desk_net.specs.Doors.{Links}
 
--- a link as it came and as it was when its connection ended, how it ended, and whether the link was given back
+-- a link as it came and as its connection left it, how the connection ended, and whether the link was given back
 pub record Visit (L : Type 0) : Type 0 where
   pub came : L
   pub went : L
@@ -21,7 +21,7 @@ came_of vs = map (λ v. v.came) vs
 abbrev pub back_of : {L : Type 0} → List (Visit L) → List L
 back_of vs = map (λ v. v.went) (filter (λ v. v.back) vs)
 
--- They were the first of those to come, and those that were given back stand last of those that were, in their order.
+-- The links of these connections were the first to come. Those given back are the last of the ended ones, in order.
 pub record TakesLinks {L : Type 0} (old new : Links L) (vs : List (Visit L)) : Type 0 where
   pub coming : old.coming ≡ came_of vs ++ new.coming
   pub ended : new.ended ≡ old.ended ++ back_of vs
@@ -31,16 +31,16 @@ AreTaken None None vs = Unit {0}
 AreTaken (Some old) (Some new) vs = TakesLinks old new vs
 AreTaken _ _ vs = ⊥
 
--- so many links are to come, or the door doesn't tell
+-- at least `n` links are to come, if the door's links are known
 abbrev pub HasLinks : {L : Type 0} → Option (Links L) → ℕ → Type 0
 HasLinks None n = Unit {0}
 HasLinks (Some told) n = n ≤ length told.coming
 
--- memory didn't run out
+-- memory didn't run out for the connection or for its link
 abbrev pub HadMemory : {L : Type 0} → Visit L → Type 0
 HadMemory v = (v.back ≡ true) × (v.served ≢ served.OutOfMemory)
 
--- nor did the clock fail
+-- neither memory nor the clock failed
 abbrev pub IsWell : {L : Type 0} → Visit L → Type 0
 IsWell v = HadMemory v × (v.served ≢ served.ClockFault)
 
@@ -48,30 +48,31 @@ abbrev pub is_clock_fault : Served → Bool
 is_clock_fault served.ClockFault = true
 is_clock_fault other = false
 
--- a connection that ended by a fault of the clock
+-- the connection ended by a fault of the clock
 abbrev pub ended_by_clock : {L : Type 0} → Visit L → Bool
 ended_by_clock v = is_clock_fault v.served
 
--- fewer than so many, or none
+-- there are fewer connections than `most`, or none
 abbrev pub AreFewer : {L : Type 0} → ℕ → List (Visit L) → Type 0
 AreFewer most [] = Unit {0}
 AreFewer most (v ∷ vs) = length (v ∷ vs) < most
 
--- How serving so many connections ends. A fault of the door alone ends it early, but for want of memory before the first: that is free.
+-- How serving `most` connections ends. Only a fault of the door ends the serving early, or out of memory before the
+-- first connection. `door` states that the door failed.
 abbrev pub EndsServing : {L : Type 0} → Type 0 → ℕ → List (Visit L) → ServeEnd → Type 0
 EndsServing door most vs ends.Done = (length vs ≡ most) × AllByRecursion IsWell vs
 EndsServing door most vs ends.DoorFault = door × AreFewer most vs × AllByRecursion HadMemory vs
 EndsServing door most vs ends.ClockFault = (length vs ≡ most) × AllByRecursion HadMemory vs × (list_any ended_by_clock vs ≡ true)
 EndsServing door most vs ends.OutOfMemory = (length vs ≡ most) ⊎ ((door × AreFewer most vs) ⊎ (vs ≡ []))
 
--- Where a link came, that is the port at which the door was opened last.
+-- If a link came, the door was last opened at this port.
 abbrev pub AreAtPort : {L : Type 0} → Option ℕ → ℕ → List (Visit L) → Type 0
 AreAtPort opened_at port [] = Unit {0}
 AreAtPort opened_at port (v ∷ vs) = opened_at ≡ Some port
 
--- ---- what connections have met so far
+-- ---- whether memory or the clock failed so far
 
--- a link that can't be given back counts as want of memory
+-- a link that can't be given back counts as out of memory
 abbrev pub counts_as : {L : Type 0} → Visit L → Served
 counts_as v = if v.back then v.served else served.OutOfMemory
 

@@ -19,7 +19,8 @@ use Rattle.turn_lock.specs.declared.lock.TurnLock.{TurnLock}
 use Rattle.turn_lock.specs.declared.pass.Pass.{Pass}
 use Rattle.turn_lock.specs.Elements.{AddsNoneOf, HasNoneAbove, IsAmong, elements_of}
 
--- what is seen of a lock and of its passes: which lock it is, and of a pass its lock, its number, the numbers that it has taken in, and the list
+-- How contracts see a lock and its passes. A pass has its lock, its number, the numbers that it has taken in, and the
+-- list that it has seen.
 pub record Sight (K P E : Type 0) : Type 0 where
   pub id : K → TableId
   pub lock : P → TableId
@@ -27,11 +28,11 @@ pub record Sight (K P E : Type 0) : Type 0 where
   pub numbers : P → List ℕ
   pub seen : P → List E
 
--- that of a lock by turns and its passes
+-- the view of a `TurnLock` and its passes
 abbrev pub of_turns : {T E : Type 0} {g : Ghosts T E} → Sight (TurnLock T E) (Pass T E g) E
 of_turns = record { id = λ l. lock_id l; lock = λ p. pass_lock p; number = λ p. pass_number p; numbers = λ p. pass_numbers p; seen = λ p. pass_seen p }
 
--- ---- what a pass has seen before its connection, or at its end
+-- ---- the list that a pass has seen before its connection, or at the end
 
 abbrev pub AnyList : {E : Type 0} → ℕ → List E → Type 0
 AnyList lane list = Unit {0}
@@ -39,18 +40,19 @@ AnyList lane list = Unit {0}
 abbrev pub BeginsWith : {E : Type 0} → List E → ℕ → List E → Type 0
 BeginsWith list lane before = IsPrefix list before
 
--- where it comes after the first n rounds of sixteen, it has seen all that these have seen
+-- A connection after the first n rounds of sixteen begins with everything that these rounds have seen.
 abbrev pub ComesAfter : {E : Type 0} → (ℕ → List E) → ℕ → List E → Type 0
 ComesAfter looks lane before = (n : ℕ) → 16 * n < lane → IsPrefix (looks n) before
 
--- where it is one of the first n rounds of sixteen, what it has seen is among what these have seen
+-- A connection within the first n rounds of sixteen has seen only a prefix of what these rounds have seen.
 abbrev pub GoesBefore : {E : Type 0} → (ℕ → List E) → ℕ → List E → Type 0
 GoesBefore looks lane seen = (n : ℕ) → lane ≤ 16 * n → IsPrefix seen (looks n)
 
 -- ---- connections in turns
 
--- It was served in turns within the one list: that begins with what its pass has seen at last, and has no more of the lane. The lane had nothing before.
--- What it had seen before is as one predicate says of its lane, and what it has seen at last as the other does.
+-- A connection was served in turns of its lane within the list. The list begins with what its pass saw, and no
+-- element of the lane follows. Before the connection the lane had no element. `from` holds of what the pass had seen
+-- before, and `to` of what it saw at the end.
 pub record IsInTurns {L E : Type 0} (bears : E → ℕ) (says : ℕ → List E → List E → L → L → Served → Type 0) (from to : ℕ → List E → Type 0) (lane : ℕ) (list : List E) (v : Visit L) : Type 0 where
   pub before : List E
   pub seen : List E
@@ -67,36 +69,36 @@ abbrev pub AreInTurns : {L E : Type 0} → (E → ℕ) → (ℕ → List E → L
 AreInTurns bears says from to lane list [] = Unit {0}
 AreInTurns bears says from to lane list (v ∷ vs) = IsInTurns bears says from to lane list v × AreInTurns bears says from to (lane + 1) list vs
 
--- the links of these connections were the first of those to come
+-- the links of these connections were the first to come, if the door's links are known
 abbrev pub AreAccepted : {L : Type 0} → Option (Links L) → Option (Links L) → List (Visit L) → Type 0
 AreAccepted None None vs = Unit {0}
 AreAccepted (Some old) (Some new) vs = (old.coming ≡ came_of vs ++ new.coming) × (new.ended ≡ old.ended)
 AreAccepted _ _ vs = ⊥
 
--- what is left of connections, the last that came first
+-- connections as they are returned, in reverse order of arrival
 abbrev pub left_by : {L : Type 0} → List (Visit L) → List (Visited L)
 left_by [] = []
 left_by (v ∷ vs) = left_by vs ++ record { link = v.went; served = v.served } ∷ []
 
--- so many lanes from that one on are among the numbers
+-- the numbers contain the `n` lanes from `lane` on
 abbrev pub HasLanes : List ℕ → ℕ → ℕ → Type 0
 HasLanes numbers lane n = (k : ℕ) → lane ≤ k → k < lane + n → IsAmong k numbers
 
--- all numbers of the one list are among the other
+-- every number of the first list is in the second
 abbrev pub HasAllOf : List ℕ → List ℕ → Type 0
 HasAllOf old new = (k : ℕ) → IsAmong k old → IsAmong k new
 
--- no element bears the number of that lane or of a later one
+-- no element carries the number of this lane or of a later one
 unfoldable pub HasNoneFrom : {E : Type 0} → (E → ℕ) → ℕ → List E → Type 0
 HasNoneFrom bears lane list = (n : ℕ) → lane ≤ n → elements_of bears n list ≡ []
 
--- how the accepting ended: as many links came as were asked for, or the door failed
+-- how accepting ended: as many links came as were asked for, or the door failed
 abbrev pub EndsAccepting : {L : Type 0} → Type 0 → ℕ → List (Visit L) → Bool → Type 0
 EndsAccepting door most vs false = length vs ≡ most
 EndsAccepting door most vs true = door × (length vs < most)
 
--- Connections that were served at once, so many at most, from that lane on: all that is said of them in the list that their passes have seen. Each begins
--- with one list.
+-- At most `most` connections were served at once, in lanes from `lane` on. Each took its turns within the list that
+-- the passes have seen, and had seen the list `first` before.
 pub record IsRound {L E : Type 0} (bears : E → ℕ) (says : ℕ → List E → List E → L → L → Served → Type 0) (lane most : ℕ) (door : Over (DoorSeen L)) (first list : List E) (numbers : List ℕ) (splits : ℕ) (done : List (Visited L)) (failed : Bool) : Type 0 where
   pub visits : List (Visit L)
   pub are : AreInTurns bears says (BeginsWith first) AnyList lane list visits
@@ -107,23 +109,23 @@ pub record IsRound {L E : Type 0} (bears : E → ℕ) (says : ℕ → List E →
   pub ends : EndsAccepting (RoseOrFull door.before.health.faults door.after.health.faults) most visits failed
   pub later : door.before.health.faults ≤ door.after.health.faults
   pub port : door.after.opened_at ≡ door.before.opened_at
-  -- a sound door that has links enough doesn't fail
+  -- a sound door with enough links doesn't fail
   pub steady : IsSound door.before.health → IsSound door.after.health × (HasLinks door.before.links most → failed ≡ false)
 
 -- ---- links that are given back
 
--- a link stands last of those that were given back, or could not be given back and is gone
+-- the link is the last of those given back, or it couldn't be given back and was dropped
 abbrev pub IsBack : {L : Type 0} → Bool → Option (Links L) → Option (Links L) → L → Type 0
 IsBack back None None went = Unit {0}
 IsBack true (Some old) (Some new) went = PutsLast old new went
 IsBack false (Some old) (Some new) went = new ≡ old
 IsBack back _ _ went = ⊥
 
--- A link was given back, or not, and so was counted how its connection ended.
+-- A link was given back or dropped, and its connection's end was counted accordingly.
 abbrev pub IsGivenBack : {L : Type 0} → Option (Links L) → Option (Links L) → Met → Visited L → Met → Type 0
 IsGivenBack old new met one next = (back : Bool) × IsBack back old new one.link × (next ≡ met_after met (if back then one.served else served.OutOfMemory))
 
--- Connections' links were given back, the first that came first, and so was counted what they met.
+-- The links were given back in order of arrival, and each connection's end was counted accordingly.
 abbrev pub AreGivenBack : {L : Type 0} → Option (Links L) → Option (Links L) → Met → List (Visit L) → Met → Type 0
 AreGivenBack old new met [] next = (new ≡ old) × (next ≡ met)
 AreGivenBack {L} old new met (v ∷ vs) next =
@@ -131,14 +133,14 @@ AreGivenBack {L} old new met (v ∷ vs) next =
 
 -- ---- rounds, one after another
 
--- what was met is what these connections tell
+-- `met` matches how these connections ended
 pub record HasMet {L : Type 0} (met : Met) (vs : List (Visit L)) : Type 0 where
   pub had : met.memory ≡ false → AllByRecursion HadMemory vs
   pub well : met.memory ≡ false → met.clock ≡ false → AllByRecursion IsWell vs
   pub fault : met.clock ≡ true → list_any ended_by_clock vs ≡ true
 
--- As many connections were served as the first pass was split, since the door was as at first, each within the list that the pass has seen, and each after
--- all that earlier rounds have seen. Their links were given back, and this is what they met.
+-- The connections served so far, as many as the first pass was split. Each took its turns within the list, and began
+-- with everything that earlier rounds have seen. Their links were given back, and `met` is how they ended.
 pub record AreServed {L E : Type 0} (bears : E → ℕ) (says : ℕ → List E → List E → L → L → Served → Type 0) (port : ℕ) (began now : DoorSeen L) (list : List E) (numbers : List ℕ) (splits : ℕ) (met : Met) : Type 0 where
   pub visits : List (Visit L)
   pub looks : ℕ → List E
@@ -154,15 +156,16 @@ pub record AreServed {L E : Type 0} (bears : E → ℕ) (says : ℕ → List E �
   pub later : began.health.faults ≤ now.health.faults
   pub sound : IsSound began.health → IsSound now.health
 
--- how a round ended, once so many connections had come: that were as many as were asked for, or the door failed
+-- how a round ended: as many connections had come as were asked for, or the door failed before
 abbrev pub EndsRound : Type 0 → ℕ → ℕ → Bool → Type 0
 EndsRound door most came false = came ≡ most
 EndsRound door most came true = door × (came < most)
 
--- ---- all that were served
+-- ---- all connections that were served
 
--- Connections of a door at a port were served, so many at most, each in turns of the lane of its number from 1, and so it ended. There are lists, one for
--- each number of rounds of sixteen, that hold all that these have seen and that whoever comes after them begins with. The one list has no other elements.
+-- At most `most` connections at a port were served, each in turns of the lane of its number, from 1. For each number
+-- of rounds, `looks` gives everything that these rounds have seen. Later connections begin with that list. The whole
+-- list has elements of these lanes only.
 pub record HasServed {L E : Type 0} (bears : E → ℕ) (says : ℕ → List E → List E → L → L → Served → Type 0) (door : Over (DoorSeen L)) (list : List E) (port most : ℕ) (end : ServeEnd) : Type 0 where
   pub visits : List (Visit L)
   pub looks : ℕ → List E
@@ -173,7 +176,8 @@ pub record HasServed {L E : Type 0} (bears : E → ℕ) (says : ℕ → List E �
   pub came_at : AreAtPort door.after.opened_at port visits
   pub ends : EndsServing (RoseOrFull door.before.health.faults door.after.health.faults) most visits end
 
--- A list at the end: it goes on from what the first pass has seen, with no more elements of its numbers, and has none of a number that the pass hasn't given.
+-- The list at the end. It continues the list that the first pass has seen, with no element of that pass's numbers. It
+-- has no element of a number that the pass didn't give out.
 pub record IsLast {E : Type 0} (bears : E → ℕ) (seen : List E) (numbers : List ℕ) (splits : ℕ) (list : List E) : Type 0 where
   pub begins : IsPrefix seen list
   pub adds : AddsNoneOf bears numbers seen list

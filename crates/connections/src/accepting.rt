@@ -18,10 +18,10 @@ use std::sync::Wait;
 use std::thread::Threads;
 use turn_lock::{Listed, OutOfMemoryWith, Pass, TurnLock};
 
-// So many connections of a round are served at once.
+// The most connections of a round, all of which are served at once.
 const AT_ONCE: u32 = 16;
 
-/// What is there once all connections were served.
+/// The result of serving connections: the value, the door, and how the serving ended.
 #[derive(Drop)]
 pub struct Finished<T, D> {
     pub value: T,
@@ -29,7 +29,7 @@ pub struct Finished<T, D> {
     pub end: ServeEnd,
 }
 
-// What there is between two rounds: the door, room for the connections of one round, what was met, and the first pass.
+// State carried from one round to the next: the door, room for a round's connections, what was met, and pass 0.
 #[derive(Drop)]
 struct Between<T: Listed, D: Door> {
     door: D,
@@ -38,7 +38,7 @@ struct Between<T: Listed, D: Door> {
     pass: Pass<T>,
 }
 
-// The first pass takes a turn and gives it at once, so that it has seen all that there is.
+// Pass 0 takes a turn and ends it at once. After that it has seen the whole list as of that turn.
 fn look<R: Wait, T: Listed>(rt: &R, lock: &TurnLock<T>, pass: Pass<T>) -> Pass<T>
     requires lock { (pass_lock pass ≡ lock_id lock.now) × (pass_number pass ≡ 0) }
     ensures pass { (pass_lock result ≡ pass_lock pass) × (pass_number result ≡ 0) }
@@ -52,7 +52,8 @@ fn look<R: Wait, T: Listed>(rt: &R, lock: &TurnLock<T>, pass: Pass<T>) -> Pass<T
     lock.give(turn)
 }
 
-// Serves the connections of one round, so many at most, and gives their links back.
+// Serves at most `most` connections in one round, after `before` earlier ones, and gives their links back. Returns
+// whether the door failed.
 fn serve_round<
     R: Threads + Wait + Sync,
     T: Listed + Send,
@@ -106,7 +107,7 @@ where
     (between, failed)
 }
 
-// Serves so many connections at a port, round by round.
+// Opens the door at a port, and serves connections round by round.
 fn serve_rounds<
     R: Threads + Wait + Sync,
     T: Listed + Send,
@@ -155,9 +156,12 @@ where
     (between, end)
 }
 
-/// Serves so many connections at a port, in rounds of at most 16 at once, each by turns of a lock around the value, and
-/// gives each link back in the order in which they came. A link's own fault ends its connection alone; a fault of the
-/// door ends the serving. Where there is no memory to begin with, the door isn't asked.
+/// Serves connections at a port, in rounds of at most 16 at once. A round ends once all of its connections have
+/// ended. Each connection takes turns at a lock around the value. The links are given back in the order in which they
+/// came.
+///
+/// A fault of a link ends that connection only. A fault of the door ends the serving. If memory runs out before the
+/// first round, the door isn't opened.
 pub fn serve_all<
     R: Threads + Wait + Sync,
     T: Listed + Send,
@@ -171,7 +175,7 @@ where
     ensures served { HasServed T.bears W.says (over D.seen door result.door) (T.list result.value) port connections
         result.end }
     ensures count { (D.seen door).health.faults ≤ (D.seen result.door).health.faults }
-    // A sound door that has a link to come for each connection doesn't end the serving.
+    // A sound door with a link for each connection doesn't end the serving.
     ensures steady { IsSound (D.seen door).health → HasLinks (D.seen door).links connections
         → result.end ≢ ends.DoorFault }
 {

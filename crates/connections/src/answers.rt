@@ -8,7 +8,7 @@ use std::alloc::AllocError;
 /// Why a request has no response.
 #[derive(Clone, Copy, Debug, PartialEq, Eq)]
 pub enum Unanswered {
-    /// The clock failed, and counted it.
+    /// The clock failed, and counted the fault.
     ClockFault,
     /// Memory ran out.
     OutOfMemory,
@@ -30,7 +30,7 @@ impl From<AllocError> for Unanswered {
     }
 }
 
-// The answers that end a connection are fixed bytes, so that they take no memory.
+// The responses that end a connection are constants, so writing them needs no memory for their text.
 
 #[tactic(auto, unfolding(desk_http::specs::Responses::response))]
 pub fn bad_head_answer() -> &'static [u8]

@@ -6,17 +6,17 @@ use crate::serving::Served;
 /// How serving connections ended.
 #[derive(Clone, Copy, Debug, PartialEq, Eq)]
 pub enum ServeEnd {
-    /// As many connections as stated were served.
+    /// All connections that were asked for were served.
     Done,
-    /// The door failed, and counted it.
+    /// The door failed, and counted the fault.
     DoorFault,
-    /// The clock failed, and counted it.
+    /// All connections were served, but the clock failed for at least one of them.
     ClockFault,
-    /// Memory ran out.
+    /// Memory ran out, before the first connection or for at least one of them.
     OutOfMemory,
 }
 
-// What connections have met so far: want of memory, and a clock that failed.
+// Whether memory ran out for a connection so far, and whether the clock failed for one.
 #[derive(Clone, Copy, Debug)]
 pub(crate) struct Met {
     pub memory: bool,
@@ -41,7 +41,7 @@ impl Met {
     }
 }
 
-// Want of memory comes before a fault of the clock.
+// Out of memory takes precedence over a fault of the clock.
 pub(crate) fn end_of(met: Met) -> ServeEnd
     ensures { result ≡ spec.end_of met }
 {
@@ -54,7 +54,7 @@ pub(crate) fn end_of(met: Met) -> ServeEnd
     }
 }
 
-// Want of memory comes before a fault of the door.
+// Out of memory takes precedence over a fault of the door.
 pub(crate) fn end_at_door(met: Met) -> ServeEnd
     ensures { result ≡ spec.end_at_door met }
 {

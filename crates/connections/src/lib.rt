@@ -1,5 +1,5 @@
-//! Connections over HTTP, whoever answers their requests: how one goes on and how it ends, and how those of a door are
-//! served in rounds.
+//! HTTP connections, independent of who answers their requests: when a connection ends, and how a door's connections
+//! are served in rounds.
 #![tactic(auto)]
 
 mod accepting;

@@ -18,23 +18,23 @@ use std::sync::Wait;
 use std::thread::{Threads, join};
 use turn_lock::{Listed, Pass, TurnLock};
 
-/// A connection that was served: its link as it is now, and how it ended.
+/// A connection that was served: its link as it is now, and how the connection ended.
 #[derive(Drop)]
 pub struct Visited<N> {
     pub link: N,
     pub served: Served,
 }
 
-/// The way in which a connection is served by turns of a lock. The lock and its passes are any types here, of which is
-/// said how they are seen.
+/// How a connection is served in turns of a lock. The lock and its passes may be of any type: contracts see them only
+/// through `sight`.
 pub trait Serving<E, K, P, N> {
     ghost sight: { Sight K P E };
 
-    /// What is said of it: its lane, what its pass had seen before and has seen since, the link as it came and as it is
-    /// now, and how it ended.
+    /// What contracts state about a served connection. The arguments are its lane, its pass's list before and after,
+    /// its link before and after, and how it ended.
     ghost says: { ℕ → List E → List E → N → N → ServedAs → Type 0 };
 
-    /// Serves a connection, in the lane of its pass.
+    /// Serves a connection in the lane of its pass, and returns the pass.
     fn serve<R: Wait>(
         &self,
         rt: &R,
@@ -51,7 +51,7 @@ pub trait Serving<E, K, P, N> {
         ensures says { says lane (sight.seen pass) (sight.seen result.1) link result.0.link result.0.served };
 }
 
-// Serves a connection that way, where the lock is one by turns.
+// Serves a connection if the lock is a `TurnLock`.
 fn serve_one<R: Wait, T: Listed, N, W: Serving<T::Element, TurnLock<T>, Pass<T>, N>>(
     rt: &R,
     alloc: Global,
@@ -71,8 +71,8 @@ fn serve_one<R: Wait, T: Listed, N, W: Serving<T::Element, TurnLock<T>, Pass<T>,
     way.serve(rt, alloc, lock, pass, lane, link)
 }
 
-// Takes links from the door, so many at most, and serves each in a thread of its own from when it came, while the next
-// is waited for. So many connections came before them. The links come back with the last that came first.
+// Accepts at most `left` links, and serves each in a thread of its own while it waits for the next. `before`
+// connections came earlier. Returns the links in reverse order of arrival, and whether the door failed.
 pub(crate) fn serve_rest<
     R: Threads + Wait + Sync,
     T: Listed + Send,
@@ -146,7 +146,7 @@ where
     (door, done, failed, pass)
 }
 
-// Gives a link back to the door. One that can't be given back counts as want of memory.
+// Gives a link back to the door. A link that can't be given back counts as out of memory.
 fn give_one<D: Door>(door: &mut D, visited: Visited<D::Link>, met: Met) -> Met
     ensures given { IsGivenBack (D.seen door.old).links (D.seen door.new).links met visited result }
     ensures port { (D.seen door.new).opened_at ≡ (D.seen door.old).opened_at }
@@ -159,7 +159,7 @@ fn give_one<D: Door>(door: &mut D, visited: Visited<D::Link>, met: Met) -> Met
     }
 }
 
-// Gives links back to the door, the last of the list first.
+// Gives links back to the door, starting with the last of the list.
 pub(crate) fn give_back<D: Door>(door: &mut D, done: &mut Vec<Visited<D::Link>>, met: Met) -> Met
     ensures back { (vs : List (Visit D.Link)) → done.old.items ≡ left_by vs
         → AreGivenBack (D.seen door.old).links (D.seen door.new).links met vs result }

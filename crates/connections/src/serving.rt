@@ -15,19 +15,19 @@ use desk_net::Link;
 /// How a connection ended.
 #[derive(Clone, Copy, Debug, PartialEq, Eq)]
 pub enum Served {
-    /// The link ended where no request had begun, or a request that was to be the last was answered.
+    /// The link ended before any byte of a further request, or after the response to a last request.
     Ended,
     /// The link ended within a request.
     Cut,
-    /// What came makes no head.
+    /// The bytes can't become a head.
     BadHead,
-    /// No head was whole within as many bytes as one may have, or a body was stated that is too large.
+    /// There is no whole head within the limit of a head, or a head states a body above the limit.
     TooLarge,
-    /// The length of a body wasn't stated as it must be.
+    /// The head doesn't state the length of the body as it must.
     NoLength,
-    /// The method was neither GET nor POST.
+    /// The method is neither GET nor POST.
     WrongMethod,
-    /// The link failed while it was read.
+    /// The link failed during a read.
     ReadFault,
     /// The link failed while a response was written.
     WriteFault,
@@ -37,7 +37,7 @@ pub enum Served {
     OutOfMemory,
 }
 
-// Writes the answer that ends a connection. A link that fails now doesn't change why it ends.
+// Writes the response that ends a connection. If the link fails here, the connection still ends for the same reason.
 fn end_by<N: Link>(link: &mut N, text: &[u8], served: Served) -> Served
     ensures wrote { WroteTo (over N.seen link.old link.new) (λ failed. EndsAs failed served text.now result) }
     ensures link { LinkGoesOn (N.seen link.old) (N.seen link.new) }
@@ -50,7 +50,8 @@ fn end_by<N: Link>(link: &mut N, text: &[u8], served: Served) -> Served
     }
 }
 
-/// There is no further request.
+/// Ends a connection after no further request was read. Writes a response if the request was refused or memory ran
+/// out.
 pub fn end_without<N: Link>(link: &mut N, fault: WireFault) -> Served
     ensures wrote { WroteTo (over N.seen link.old link.new) (λ failed. EndsWithout failed fault result) }
     ensures link { LinkGoesOn (N.seen link.old) (N.seen link.new) }
@@ -68,7 +69,7 @@ pub fn end_without<N: Link>(link: &mut N, fault: WireFault) -> Served
     }
 }
 
-// Writes a response. The connection ends where that fails, or where its request was to be the last.
+// Writes a response. Returns how the connection ended, if writing failed or the request was the last.
 fn write_response<N: Link>(link: &mut N, bytes: &[u8], last: bool) -> Option<Served>
     ensures wrote { WroteTo (over N.seen link.old link.new) (λ failed. WritesAll failed bytes.now last result) }
     ensures link { LinkGoesOn (N.seen link.old) (N.seen link.new) }
@@ -82,7 +83,8 @@ fn write_response<N: Link>(link: &mut N, bytes: &[u8], last: bool) -> Option<Ser
     }
 }
 
-/// Writes what a request is answered, or why it isn't.
+/// Writes the response to a request, or an error response if there is none. Returns how the connection ended, if it
+/// did.
 pub fn write_answer<N: Link>(
     link: &mut N,
     answered: &Result<Text, Unanswered>,

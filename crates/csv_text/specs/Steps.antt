@@ -1,4 +1,4 @@
--- The states and actions of csv's machine that its default settings reach.
+-- The states and actions of the crate csv's machine that its default settings reach.
 use Rattle.std.specs.Prelude.{ℕ, nat_le, if◌then◌else◌, List, length, take, drop}
 use Rattle.csv.specs.Machine.{Read, fields_after, field_after}
 use Rattle.csv_text.specs.declared.steps.Taken.{Taken}
@@ -25,17 +25,18 @@ action_of does.Copy = act.Copy
 action_of does.EndField = act.EndField
 action_of does.EndRecord = act.EndRecord
 
--- the first fields after an action, where no more than so many are kept, and the field at hand
+-- the fields after an action, of which at most `most` are kept
 abbrev pub fields_kept : ℕ → Action → List (List ℕ) → List ℕ → List (List ℕ)
 fields_kept most action fields field = if nat_le most (length fields) then fields else fields_after action fields field
 
+-- the current field after an action
 abbrev pub field_kept : ℕ → Action → ℕ → List (List ℕ) → List ℕ → List ℕ
 field_kept most action b fields field = if nat_le most (length fields) then field else field_after action b field
 
--- a record that was read, with so many fields at most
+-- a record that was read, with at most `most` of its fields
 abbrev pub first_of : ℕ → Read → Read
 first_of most r = (take most r.0, r.1, r.2)
 
--- a record that was read from a text, and what is left of the text
+-- a record that was read from a text, and the rest of the text
 abbrev pub taken_from : List ℕ → Taken → Read
 taken_from text t = (t.fields, state_of t.place, drop t.length text)

@@ -1,4 +1,4 @@
-//! The records of a text of comma-separated values (RFC 4180), one after another.
+//! Reads the records of a text of comma-separated values (RFC 4180) one after another.
 #![tactic(auto)]
 
 mod records;

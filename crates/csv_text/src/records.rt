@@ -6,7 +6,7 @@ use crate::steps::{Place, read_record};
 use desk_io::{Listed, OutOfMemory, Text};
 use std::alloc::Global;
 
-/// A reader that gives the records of a text one after another, each as its fields.
+/// A reader that returns the records of a text one after another, each as its fields.
 #[derive(Debug, Drop)]
 pub struct Records<'a> {
     rest: &'a [u8],
@@ -31,7 +31,7 @@ fn after(text: &[u8], place: usize) -> &[u8]
 }
 
 impl<'a> Records<'a> {
-    /// A reader of a text, which hasn't given a record.
+    /// Creates a reader at the first record of a text. It skips a byte order mark at the start.
     #[tactic(auto, unfolding(crate::specs::Records::HasGiven, csv::specs::Reading::Reached))]
     pub fn of(text: &'a [u8]) -> Records<'a>
         ensures { HasGiven text.now [] result }
@@ -42,8 +42,8 @@ impl<'a> Records<'a> {
         }
     }
 
-    /// The first fields of the next record, so many at most, and none after the last record. Who asks for one more than
-    /// a record should have sees whether it has more. Where memory runs out the reader stays as it was.
+    /// Returns the first fields of the next record, at most `most` of them, or None after the last record. To detect
+    /// too many fields, ask for one more than a record should have. If memory runs out, the reader is unchanged.
     pub fn next(&mut self, alloc: Global, most: usize) -> Result<Option<Listed<Text>>, OutOfMemory>
         ensures given { IfOk result (λ first. (text : List ℕ) → (earlier : List (List (List ℕ)))
             → HasGiven text earlier self.old → GivesNext most text earlier first self.new) }

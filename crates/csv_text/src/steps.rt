@@ -8,7 +8,7 @@ use desk_io::{Listed, OutOfMemory, Text};
 use std::alloc::Global;
 use std::mem;
 
-/// Where the reading of a text stands.
+/// The state of the reader between two bytes.
 #[derive(Clone, Copy, Debug)]
 pub(crate) enum Place {
     StartRecord,
@@ -84,7 +84,7 @@ fn ends(act: Act) -> bool
     }
 }
 
-// Whether the end of the text ends a record.
+// Returns true if the end of the text ends a record.
 fn is_open(place: Place) -> bool
     ensures { result ≡ ends_at_end (state_of place) }
 {
@@ -94,7 +94,7 @@ fn is_open(place: Place) -> bool
     }
 }
 
-// What one byte does to the first fields of its record and to the field at hand.
+// Applies one byte to the fields of its record and to the current field. Keeps at most `most` fields.
 fn take_byte(
     alloc: Global,
     most: usize,
@@ -122,8 +122,8 @@ fn take_byte(
     Ok(())
 }
 
-/// A record that was read: its first fields, how many bytes of the text it took, and where the reading
-/// stands after it.
+/// A record that was read: its first fields, the state of the reader after it, and how many bytes of the text it
+/// took.
 #[derive(Drop)]
 pub(crate) struct Taken {
     pub fields: Listed<Text>,
@@ -131,7 +131,7 @@ pub(crate) struct Taken {
     pub length: usize,
 }
 
-/// The next record of a text, with so many of its fields at most.
+/// Reads the next record of a text, with at most `most` of its fields.
 pub(crate) fn read_record(
     alloc: Global,
     most: usize,

@@ -1,4 +1,4 @@
--- What is known of the newest revision of a release that is held.
+-- The bounds of the newest revision of a stored release.
 use Rattle.std.specs.Prelude.{◌≤◌, IfSome}
 use Rattle.plan.specs.Check.{IsPlan}
 use Rattle.plan.specs.Phases.{PhaseFits}
@@ -7,7 +7,7 @@ use Rattle.plan.specs.declared.release.Release.{Release}
 use Rattle.plan.specs.declared.release.Revision.{Revision}
 use Rattle.desk_state.specs.Texts.{newest}
 
--- its plan is one that another may be compared with, and a next number remains
+-- its plan is in bounds, its legs include the one that the phase names, and its number can be incremented
 pub record IsNewest (phase : Phase) (v : Revision) : Type 0 where
   pub is_plan : IsPlan v.plan
   pub fits : PhaseFits phase v.plan.legs

@@ -1,11 +1,11 @@
--- What is known of a report that is admitted.
+-- What holds of a report that a decision admits.
 use Rattle.std.specs.Prelude.{IfSome}
 use Rattle.facts.specs.Reading.{IsRead}
 use Rattle.desk_state.specs.declared.effect.Effect.{Effect}
 use Rattle.desk_state.specs.declared.effect.Decision.{Decision}
 use Rattle.desk_state.specs.declared.effect.Decision.TheVariants.{Show, Do}
 
--- a report that is admitted is canonical, and its reading that of its text
+-- an admitted report is canonical, and its reading is that of its text
 abbrev pub AdmitsRead : Effect → Type 0
 AdmitsRead e = IfSome e.report IsRead
 

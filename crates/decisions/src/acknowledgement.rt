@@ -31,7 +31,7 @@ fn moved(alert: &Alert, version: u64) -> Result<(), Stop>
     )
 }
 
-/// The dispatcher who holds a release has seen its alert in a version.
+/// Decides an acknowledgement: the dispatcher who holds a release has seen this version of its alert.
 pub(crate) fn acknowledge(
     alloc: Global,
     content: &Content,

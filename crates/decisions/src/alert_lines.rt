@@ -69,7 +69,7 @@ fn push_alerts(alloc: Global, out: &mut Vec<u8>, content: &Content) -> Result<()
     Ok(())
 }
 
-/// The alerts that stand.
+/// Shows the alerts of all releases, acknowledged ones too.
 #[tactic(auto, unfolding(desk_state::specs::Texts::alerts_view))]
 pub fn alerts_view(alloc: Global, content: &Content) -> Result<Text, OutOfMemory>
     ensures { IfOk result (λ t. t ≡ spec.alerts_view content.now.state.moment content.now.state.alerts) }

@@ -136,8 +136,8 @@ fn push_board_head(out: &mut Vec<u8>, content: &Content) -> Result<(), OutOfMemo
     push_all(out, &[b"BOARD ", &show(content.moment()), b"\n"])
 }
 
-/// The releases in order of their numbers: each with its flight, its aircraft and its phase, the numbers of its
-/// active and of its pending revision, its dispatcher and its alert.
+/// Shows the releases in order of their ids. Each line has the flight, the aircraft, the phase, the numbers of the
+/// active and the pending revision, the dispatcher and the alert.
 #[tactic(auto, unfolding(desk_state::specs::Texts::board_view))]
 pub fn board_view(alloc: Global, content: &Content) -> Result<Text, OutOfMemory>
     ensures { IfOk result (λ t. t ≡ spec.board_view content.now.state) }
@@ -148,8 +148,8 @@ pub fn board_view(alloc: Global, content: &Content) -> Result<Text, OutOfMemory>
     Ok(Text::from_vec(out))
 }
 
-/// The closing text: the releases as [`board_view`] shows them, and the latest weather of all stations that have a
-/// report.
+/// Shows the text that ends a run: the releases as [`board_view`] shows them, and the latest weather of all stations
+/// that have a report.
 #[tactic(auto, unfolding(desk_state::specs::Texts::closing))]
 pub fn closing(alloc: Global, content: &Content) -> Result<Text, OutOfMemory>
     ensures { IfOk result (λ t. t ≡ spec.closing content.now.state) }

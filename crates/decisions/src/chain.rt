@@ -4,10 +4,10 @@ ghost use Rattle.decisions.specs.Answers.{Passes, IsWant};
 use asks::Refusal;
 use desk_io::OutOfMemory;
 
-/// Why an ask comes to nothing.
+/// Why a test stops a call.
 #[derive(Debug, Drop)]
 pub enum Stop {
-    /// It is refused.
+    /// The desk refuses the call.
     Refused(Refusal),
     /// Memory ran out.
     OutOfMemory,
@@ -21,7 +21,7 @@ impl From<OutOfMemory> for Stop {
     }
 }
 
-/// A test that refuses where something is so.
+/// Refuses if `refuses` is true.
 pub(crate) fn refused_if(refuses: bool, refusal: Refusal) -> Result<(), Stop>
     ensures { Passes result (spec.refused_if refuses refusal) }
 {

@@ -82,7 +82,7 @@ fn is_view(ask: &Ask) -> bool
     }
 }
 
-// What a command comes to. Its number is looked up first: one that is known has its reply, or is refused.
+// Decides a command. If a reply is kept under its number, the same ask gets that reply, and another one is refused.
 fn decide_command<L: Ledger>(
     alloc: Global,
     content: &Content,
@@ -104,9 +104,9 @@ fn decide_command<L: Ledger>(
     }
 }
 
-/// What a call of a person comes to whose name and key are right: whether the ask is for his role, then what is kept of
-/// its number where it isn't a view, and then the tests of the ask in their order, of which the first that stops it
-/// answers.
+/// Decides a call whose name and key are right. First the person's role must permit the ask. Then a command's number
+/// is looked up; the number of a view is ignored. Then come the tests of the ask in order, and the first one that
+/// fails gives the refusal. `steps` counts the plans that are judged.
 #[tactic(auto, unfolding(desk_state::specs::Decide::decide))]
 pub fn decide<L: Ledger>(
     alloc: Global,

@@ -37,7 +37,7 @@ fn bad_plan(plan: &Plan, tables: &Tables) -> Result<(), Stop>
     }
 }
 
-// The pending revision, or else the active one.
+// Returns the pending revision, or else the active one.
 fn newest(release: &Release) -> Option<&Revision>
     requires { HasNewest release.now }
     ensures value { option_copied result ≡ texts.newest release.now.pending release.now.active }
@@ -108,7 +108,7 @@ fn drafted(alloc: Global, id: u64, actor: &Text, plan: &Plan) -> Result<Release,
     })
 }
 
-// A revision with the latest weather, which nobody has signed yet.
+// Returns the revision with the latest weather and no signatures.
 fn with_weather(
     alloc: Global,
     content: &Content,
@@ -140,7 +140,7 @@ fn releases_full(content: &Content) -> Result<(), Stop>
     )
 }
 
-/// A release is drafted.
+/// Decides a draft: files a release of a plan.
 pub(crate) fn draft(
     alloc: Global,
     content: &Content,
@@ -164,7 +164,7 @@ pub(crate) fn draft(
     ))
 }
 
-/// The pending revision gets the latest weather, and with it a text.
+/// Decides a preparation: attaches the latest weather to the pending revision, which completes its text.
 pub(crate) fn prepare(
     alloc: Global,
     content: &Content,
@@ -188,7 +188,8 @@ pub(crate) fn prepare(
     Ok(Decision::Do(made, Effect::put(release)))
 }
 
-/// A plan is filed as the pending revision, under the number after the newest. The active one stays.
+/// Decides an amendment: files a plan as the pending revision, under the number after the newest. The active revision
+/// stays.
 pub(crate) fn amend(
     alloc: Global,
     content: &Content,
@@ -215,7 +216,7 @@ pub(crate) fn amend(
     Ok(Decision::Do(made, Effect::put(release)))
 }
 
-/// A release is cancelled.
+/// Decides a cancellation.
 pub(crate) fn cancel(
     alloc: Global,
     content: &Content,

@@ -69,7 +69,7 @@ fn push_deferral(
     push_due(alloc, out, tables, kind, deferral)
 }
 
-/// The open deferrals of an aircraft of a type.
+/// Shows open deferrals on an aircraft of this type.
 pub fn deferral_lines(
     alloc: Global,
     tables: &Tables,

@@ -79,7 +79,7 @@ fn new_deferral(
     })
 }
 
-/// An item of an aircraft is deferred.
+/// Decides a deferral of an item on an aircraft.
 pub(crate) fn defer(
     alloc: Global,
     content: &Content,
@@ -101,7 +101,7 @@ pub(crate) fn defer(
     ))
 }
 
-/// A deferred item is repaired.
+/// Decides the clearing of a deferral, whose item is repaired.
 pub(crate) fn clear(content: &Content, deferral: u64) -> Result<Decision, Stop>
     ensures value { Answers (λ d. d) result (spec.decide_clear content.now.state deferral) }
     ensures read { IfOk result DecisionAdmitsRead }
@@ -110,7 +110,7 @@ pub(crate) fn clear(content: &Content, deferral: u64) -> Result<Decision, Stop>
     Ok(Decision::Do(Done::Deferral(deferral), Effect::clear(deferral)))
 }
 
-/// The open deferrals of an aircraft.
+/// Shows the open deferrals on an aircraft.
 pub(crate) fn view_deferred(alloc: Global, content: &Content, tail: &Text) -> Result<Decision, Stop>
     ensures value { Answers (λ d. d) result (spec.decide_deferred content.now.state tail.now) }
     ensures read { IfOk result DecisionAdmitsRead }

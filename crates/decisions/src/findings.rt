@@ -15,7 +15,7 @@ fn push_spaced(alloc: Global, out: &mut Vec<u8>, findings: &[Finding]) -> Result
     Ok(())
 }
 
-/// Findings after a blank each, or the word none.
+/// Writes findings, each after a blank, or " none".
 #[tactic(auto, unfolding(desk_state::specs::Texts::findings_text))]
 pub(crate) fn findings_text(alloc: Global, findings: &[Finding]) -> Result<Vec<u8>, OutOfMemory>
     ensures { IfOk result (λ v. v.items ≡ spec.findings_text findings.now) }
@@ -29,7 +29,7 @@ pub(crate) fn findings_text(alloc: Global, findings: &[Finding]) -> Result<Vec<u
     Ok(out)
 }
 
-/// Whether an alert is acknowledged.
+/// Returns "ack" for an acknowledged alert, and "open" for any other.
 pub(crate) fn mark_text(acknowledged: bool) -> &'static [u8]
     ensures { result.now ≡ spec.mark_text acknowledged }
 {

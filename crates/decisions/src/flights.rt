@@ -30,7 +30,7 @@ fn may_depart(phase: Phase, leg: u32) -> bool
     }
 }
 
-// The captain of the active plan.
+// Returns the captain of the active plan, or the holder if there is none.
 fn active_captain(release: &Release) -> &Text
     ensures { result.now ≡ spec.captain_or release.now.active release.now.holder }
 {
@@ -103,7 +103,7 @@ fn arrival(
     }
 }
 
-/// A leg departs.
+/// Decides a departure. The leg must be the next one, and the active plan must fail no rule.
 pub(crate) fn depart<L: Ledger>(
     alloc: Global,
     content: &Content,
@@ -126,7 +126,7 @@ pub(crate) fn depart<L: Ledger>(
     Ok(Decision::Do(made, Effect::put(departed)))
 }
 
-/// The leg in flight arrives. After the last leg the release is completed.
+/// Decides the arrival of the leg in flight. After the last leg the release is completed.
 pub(crate) fn arrive(
     alloc: Global,
     content: &Content,

@@ -10,7 +10,8 @@ use desk_io::{Copied, OutOfMemory, Text};
 use std::alloc::Global;
 use std::cmp::Ordering;
 
-// The place of the floor of a person, or that at which it would stand, found by halves, and whether it is there.
+// Finds the place of a person's floor by binary search, or the place at which to insert it. The flag is true if it
+// was found.
 fn place_of(floors: &[Floor], actor: &[u8]) -> (usize, bool)
     requires { FloorsRise floors.now }
     ensures within { result.0 + (if result.1 then 1 else 0) ≤ length floors.now }
@@ -27,7 +28,7 @@ fn place_of(floors: &[Floor], actor: &[u8]) -> (usize, bool)
     }
 }
 
-/// Makes the floor of a person at least a number. The floors stay in byte order of the names.
+/// Raises the floor of a person to at least this number. The floors stay in byte order of the names.
 pub(crate) fn raise(
     alloc: Global,
     floors: &mut Vec<Floor>,

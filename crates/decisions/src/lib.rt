@@ -1,4 +1,4 @@
-//! What a call of a person comes to.
+//! The decision on each call of a person: the tests of its ask in order, and the effect or the view that follows.
 #![tactic(auto)]
 
 mod acknowledgement;

@@ -17,7 +17,7 @@ fn is_dispatcher(role: Role) -> bool
     }
 }
 
-/// Whether he may be the pilot in command.
+/// Returns true if a person with this role may be the pilot in command.
 pub(crate) fn is_captain(role: Role) -> bool
     ensures { result ≡ is_captain_role role }
 {
@@ -54,7 +54,7 @@ fn is_records(role: Role) -> bool
     }
 }
 
-// Whether an ask is for a role.
+// Returns true if a role permits an ask.
 fn may_ask(ask: &Ask, role: Role) -> bool
     ensures { result ≡ spec.may_ask ask.now role }
 {
@@ -78,7 +78,7 @@ fn may_ask(ask: &Ask, role: Role) -> bool
     }
 }
 
-/// Why a person of that key may ask nothing: nobody has the name, or he has another key.
+/// Checks a caller's name and key. Returns a refusal if nobody has the name (1) or the key is wrong (2).
 pub fn mistaken(person: Option<&Actor>, key: &[u8]) -> Option<Refusal>
     ensures { result ≡ spec.mistaken (option_copied person.entry) key.now }
 {
@@ -89,7 +89,7 @@ pub fn mistaken(person: Option<&Actor>, key: &[u8]) -> Option<Refusal>
     }
 }
 
-/// Whether the ask is for the person's role.
+/// Refuses (3) unless the person's role permits the ask.
 pub(crate) fn not_his_role(person: Option<&Actor>, ask: &Ask) -> Result<(), Stop>
     ensures { Passes result (spec.not_his_role (option_copied person.entry) ask.now) }
 {

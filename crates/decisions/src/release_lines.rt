@@ -63,7 +63,7 @@ fn push_pending(
     }
 }
 
-// A captain's hours, at the end of a line.
+// Writes a captain's hours, and ends the line.
 fn push_hours(alloc: Global, out: &mut Vec<u8>, hours: Option<u32>) -> Result<(), OutOfMemory>
     ensures { OnOk result (out.new.items ≡ out.old.items ++ concat
         (codes " HOURS " ∷ spec.hours_text hours ∷ codes "\n" ∷ [])) }
@@ -131,9 +131,9 @@ fn push_head(alloc: Global, out: &mut Vec<u8>, release: &Release) -> Result<(), 
     )
 }
 
-/// A release with the texts of its revisions (14 CFR 121.687): its number and its phase; the digest and the text of
-/// its pending revision, once that is prepared; and the digest of its active revision, who signed it and when, its
-/// captain's hours, and its text.
+/// Shows a release with the texts of its revisions (14 CFR 121.687). First come its id and its phase. The pending
+/// revision, if it is prepared, has its digest and its text. The active revision has its digest, who signed it and
+/// when, its captain's hours, and its text.
 #[tactic(auto, unfolding(desk_state::specs::Texts::release_view))]
 pub fn release_view(alloc: Global, release: &Release) -> Result<Text, OutOfMemory>
     requires { ReleaseInBounds release.now }

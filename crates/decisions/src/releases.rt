@@ -22,7 +22,7 @@ fn find(content: &Content, id: u64) -> Option<&Release>
     content.release(id)
 }
 
-/// The release of an id.
+/// Returns the release with this id. Refuses (10) if there is none.
 pub(crate) fn held(content: &Content, id: u64) -> Result<&Release, Stop>
     ensures value { Answers (λ r. r.now) result (spec.held content.now.state id) }
     ensures fits { IfOk result (λ r. Fits content.now.state.counters.events r.now) }
@@ -34,7 +34,7 @@ pub(crate) fn held(content: &Content, id: u64) -> Result<&Release, Stop>
     }
 }
 
-/// The revision that waits for signatures.
+/// Returns the pending revision. Refuses (13, stage 0) if there is none.
 pub(crate) fn pending(release: &Release) -> Result<&Revision, Stop>
     requires { ReleaseInBounds release.now }
     ensures value { Answers (λ v. v.now) result (spec.pending release.now) }
@@ -46,7 +46,7 @@ pub(crate) fn pending(release: &Release) -> Result<&Revision, Stop>
     }
 }
 
-/// Whether it is for another person than the one who asks.
+/// Refuses (11) unless the caller is this person.
 pub(crate) fn not_yours(alloc: Global, person: &Text, actor: &Text) -> Result<(), Stop>
     ensures { Passes result (spec.not_yours person.now actor.now) }
 {
@@ -59,14 +59,14 @@ pub(crate) fn not_yours(alloc: Global, person: &Text, actor: &Text) -> Result<()
     }
 }
 
-/// Whether a phase doesn't allow it.
+/// Refuses (18) unless the phase allows the ask.
 pub(crate) fn out_of_phase(allowed: bool, phase: Phase) -> Result<(), Stop>
     ensures { Passes result (spec.out_of_phase allowed phase) }
 {
     refused_if(!allowed, Refusal::WrongPhase { phase })
 }
 
-/// A release with another pending revision.
+/// Returns the release with another pending revision.
 pub(crate) fn with_pending(
     alloc: Global,
     release: &Release,
@@ -83,7 +83,7 @@ pub(crate) fn with_pending(
     })
 }
 
-/// A release in another phase, without a pending revision.
+/// Returns the release in another phase, without a pending revision.
 pub(crate) fn in_phase(
     alloc: Global,
     release: &Release,

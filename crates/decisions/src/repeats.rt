@@ -5,7 +5,7 @@ use crate::chain::{Stop, refused_if};
 use asks::{KeptReply, Refusal, Reply};
 use desk_state::Decision;
 
-/// The kept reply, where the ask has the same digest. Refuses (4) where it has another one.
+/// Returns the kept reply if the ask has the same digest. Refuses (4) if it has another one.
 pub(crate) fn repeated(reply: &KeptReply, digest: &[u8; 32]) -> Result<Decision, Stop>
     ensures { Answers (λ d. d) result (spec.repeated reply.now digest.now) }
 {
@@ -16,7 +16,7 @@ pub(crate) fn repeated(reply: &KeptReply, digest: &[u8; 32]) -> Result<Decision,
     }
 }
 
-/// Refuses (27) where a number isn't above a floor.
+/// Refuses (27) unless the number is above the person's floor.
 pub(crate) fn above_floor(floor: Option<u64>, number: u64) -> Result<(), Stop>
     ensures { Passes result (spec.up_to_floor floor number) }
 {

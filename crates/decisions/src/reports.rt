@@ -91,7 +91,8 @@ fn admit_received(content: &Content, received: Received) -> Result<Decision, Sto
     }
 }
 
-/// The text of a report is read at the desk's moment. One that is held keeps its number.
+/// Decides the admission of a report. The text is read at the desk's moment. A report that the desk holds already
+/// keeps its id.
 pub(crate) fn admit(alloc: Global, content: &Content, text: &Text) -> Result<Decision, Stop>
     ensures value { Answers (λ d. d) result (spec.decide_admit content.now.state text.now) }
     ensures read { IfOk result DecisionAdmitsRead }
@@ -101,7 +102,7 @@ pub(crate) fn admit(alloc: Global, content: &Content, text: &Text) -> Result<Dec
     admit_received(content, received)
 }
 
-/// The latest weather of an airport.
+/// Shows the latest weather of an airport.
 pub(crate) fn view_weather(
     alloc: Global,
     content: &Content,

@@ -21,7 +21,7 @@ fn ended_at(phase: Phase) -> Option<Minute>
     }
 }
 
-// When it ended. Refuses (18) where it hasn't.
+// Returns the moment at which a release ended. Refuses (18) if it hasn't.
 fn ended(phase: Phase) -> Result<Minute, Stop>
     requires { HasMoment phase }
     ensures value { Answers (λ at. at) result (spec.ended phase) }
@@ -40,14 +40,15 @@ fn kept_until(at: Minute) -> Minute
     1440 * (three_months(at / 1440) + 1)
 }
 
-/// Refuses (22) where that moment hasn't come.
+/// Refuses (22) until this moment has come.
 pub(crate) fn too_young(content: &Content, until: Minute) -> Result<(), Stop>
     ensures { Passes result (spec.too_young content.now.state until) }
 {
     refused_if(content.moment() < until, Refusal::TooYoung { until })
 }
 
-/// A release that ended is removed. Refuses by 10, 18, 22.
+/// Decides the removal of an ended release. Refuses an unknown release (10), one that hasn't ended (18), and one
+/// whose retention time hasn't passed (22).
 pub(crate) fn purge(content: &Content, id: u64) -> Result<Decision, Stop>
     ensures value { Answers (λ d. d) result (spec.decide_purge content.now.state id) }
     ensures read { IfOk result DecisionAdmitsRead }

@@ -23,7 +23,7 @@ fn failing(findings: Findings) -> Result<(), Stop>
     }
 }
 
-/// Whether a plan fails rules in a phase, by what is held.
+/// Judges a plan in a phase by the desk's content. Refuses (17) if it fails a rule.
 pub(crate) fn judged<L: Ledger>(
     alloc: Global,
     content: &Content,

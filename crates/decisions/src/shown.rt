@@ -12,7 +12,7 @@ use asks::{Ask, Reply};
 use desk_state::{Content, Decision};
 use std::alloc::Global;
 
-/// The releases.
+/// Shows the releases.
 pub(crate) fn view_board(alloc: Global, content: &Content) -> Result<Decision, Stop>
     ensures value { Answers (λ d. d) result (spec.decide_ask content.now.state [] Ask.ViewBoard) }
     ensures read { IfOk result DecisionAdmitsRead }
@@ -21,7 +21,7 @@ pub(crate) fn view_board(alloc: Global, content: &Content) -> Result<Decision, S
     Ok(Decision::Show(Reply::Seen(text)))
 }
 
-/// The alerts of all releases.
+/// Shows the alerts of all releases.
 pub(crate) fn view_alerts(alloc: Global, content: &Content) -> Result<Decision, Stop>
     ensures value { Answers (λ d. d) result (spec.decide_ask content.now.state [] Ask.ViewAlerts) }
     ensures read { IfOk result DecisionAdmitsRead }
@@ -30,7 +30,7 @@ pub(crate) fn view_alerts(alloc: Global, content: &Content) -> Result<Decision, 
     Ok(Decision::Show(Reply::Seen(text)))
 }
 
-/// A release and its texts.
+/// Shows a release and the texts of its revisions.
 pub(crate) fn view_release(alloc: Global, content: &Content, id: u64) -> Result<Decision, Stop>
     ensures value { Answers (λ d. d) result (spec.decide_release content.now.state id) }
     ensures read { IfOk result DecisionAdmitsRead }

@@ -171,7 +171,7 @@ fn filed(release: &Release, revision: &Revision) -> Done
     }
 }
 
-// The pending revision has another number, or its text another digest, than those that are to be signed.
+// Refuses unless the pending revision has this number (14) and its text has this digest (15).
 fn misnamed(alloc: Global, revision: &Revision, number: u64, digest: &[u8; 32]) -> Result<(), Stop>
     requires { IsPlan revision.now.plan }
     ensures { Passes result (in_turn (spec.misnumbered revision.now number)
@@ -181,7 +181,8 @@ fn misnamed(alloc: Global, revision: &Revision, number: u64, digest: &[u8; 32]) 
     mistaken_text(alloc, revision, digest)
 }
 
-/// The dispatcher who holds a release signs the text of its pending revision.
+/// Decides the dispatcher's signature: the holder of a release signs the text of its pending revision (14 CFR
+/// 121.663).
 pub(crate) fn sign<L: Ledger>(
     alloc: Global,
     content: &Content,
@@ -209,8 +210,8 @@ pub(crate) fn sign<L: Ledger>(
     Ok(Decision::Do(made, Effect::put(release)))
 }
 
-/// The captain of the pending plan signs its text after the dispatcher, and it becomes the active one, with the hours
-/// that the tables say of him in its type.
+/// Decides the captain's concurrence: the captain of the pending plan signs its text after the dispatcher (14 CFR
+/// 121.663). The revision becomes the active one, with the captain's hours in the type by the tables.
 #[tactic(auto, using(crate::proofs::Turns::both_pass))]
 pub(crate) fn concur<L: Ledger>(
     alloc: Global,

@@ -20,7 +20,7 @@ use facts::Report;
 use plan::{Release, Revision};
 use std::alloc::Global;
 
-// How long reports and replies stay at least: three days.
+// The minimum time for which reports and replies are kept: three days.
 const KEPT_MINUTES: Minute = 4320;
 
 fn push_ids(ids: &mut Vec<u64>, revision: &Option<Revision>) -> Result<(), OutOfMemory>
@@ -45,7 +45,7 @@ fn collected_ids(alloc: Global, releases: &[Release]) -> Result<Vec<u64>, OutOfM
     Ok(ids)
 }
 
-// The reports that are attached to releases, in rising order.
+// Returns the ids of the reports that releases have attached, sorted. An id may repeat.
 fn attached_ids(alloc: Global, releases: &[Release]) -> Result<Vec<u64>, OutOfMemory>
     ensures rising { IfOk result (λ ids. IsNonDecreasing ids.items) }
     ensures among { IfOk result (λ ids. (id : ℕ) → is_among ids.items id ≡ spec.is_attached id releases.now) }
@@ -62,7 +62,7 @@ fn is_found(ids: &[u64], id: u64) -> bool
     ids.binary_search(&id).is_ok()
 }
 
-// The reports that are among some ids, which rise.
+// Returns the ids of the reports whose ids are in a sorted list.
 fn reports_among(
     alloc: Global,
     reports: &[Report],
@@ -80,7 +80,7 @@ fn reports_among(
     Ok(ids)
 }
 
-// The reports that are held and attached to a release.
+// Returns the ids of the stored reports that a release has attached.
 #[tactic(auto, using(crate::proofs::AttachedLaws::reports_among))]
 fn attached_reports(alloc: Global, content: &Content) -> Result<Listed<u64>, OutOfMemory>
     ensures { IfOk result (λ ids. ids ≡ spec.attached_reports content.now.state) }
@@ -95,7 +95,7 @@ fn is_since(before: Minute, reply: &KeptReply) -> bool
     before <= reply.at
 }
 
-// How many replies were accepted before a moment.
+// Counts the replies to requests accepted before a moment.
 fn count_before(before: Minute, kept: &[KeptReply]) -> u64
     ensures { result ≡ length (requests.kept_before before kept.now) }
 {
@@ -108,7 +108,7 @@ fn count_before(before: Minute, kept: &[KeptReply]) -> u64
     count
 }
 
-// The floors once a reply is gone, where it was accepted before a moment.
+// Raises the floor of a reply's person to its number, if the request was accepted before a moment.
 fn raise_by(
     alloc: Global,
     before: Minute,
@@ -126,7 +126,7 @@ fn raise_by(
     }
 }
 
-// The floors once the replies that were accepted before a moment are gone.
+// Returns the floors after a sweep removes the replies to requests accepted before a moment.
 fn raised(alloc: Global, before: Minute, content: &Content) -> Result<Floors, OutOfMemory>
     ensures { IfOk result (λ floors. floors ≡ requests.raised_by
         (requests.kept_before before content.now.state.kept) content.now.state.floors) }
@@ -138,7 +138,7 @@ fn raised(alloc: Global, before: Minute, content: &Content) -> Result<Floors, Ou
     Ok(Listed::from_vec(floors))
 }
 
-/// Reports and replies of earlier moments are swept away. Refuses by 22.
+/// Decides a sweep of earlier reports and kept replies. Refuses (22) a cut-off less than three days ago.
 pub(crate) fn sweep(alloc: Global, content: &Content, before: Minute) -> Result<Decision, Stop>
     requires { IsMoment before }
     ensures value { Answers (λ d. d) result (spec.decide_sweep content.now.state before) }

@@ -5,8 +5,7 @@ use desk_io::{OutOfMemory, Station, Text};
 use facts::{Reports, push_weather_at};
 use std::alloc::Global;
 
-/// The latest weather of a station: the line of its latest METAR or SPECI, and then that of its latest TAF, where
-/// there are any.
+/// Shows the latest weather of a station: the line of its latest METAR or SPECI, then that of its latest TAF, if any.
 pub fn weather_view(alloc: Global, reports: &Reports, station: Station) -> Result<Text, OutOfMemory>
     ensures { IfOk result (λ t. t ≡ weather_at reports.now.reports station) }
 {

@@ -1,8 +1,8 @@
--- The deferrals that are open.
+-- The list of open deferrals.
 use Rattle.std.specs.Prelude.{ℕ, ◌<◌, ◌==◌, Bool, not, List, filter, All, AllPairs}
 use Rattle.deferrals.specs.declared.items.Deferral.{Deferral}
 
--- the open deferrals, and whether there is room for one more without taking memory
+-- the open deferrals, and whether room for one more is reserved
 pub record OpenDeferrals : Type 0 where
   pub list : List Deferral
   pub room : Bool
@@ -18,6 +18,6 @@ IsNewest id list = All (λ held. held.id < id) list
 abbrev pub has_id : ℕ → Deferral → Bool
 has_id id deferral = deferral.id == id
 
--- all deferrals but the one with that id
+-- all deferrals but the one of this id
 abbrev pub without : ℕ → List Deferral → List Deferral
 without id list = filter (λ deferral. not (has_id id deferral)) list

@@ -11,7 +11,7 @@ use crate::items::Deferral;
 use desk_io::{Keys, OutOfMemory};
 use std::alloc::Global;
 
-/// The number of an aircraft, and the id of a deferral.
+/// The number of an aircraft's registration and the id of a deferral.
 pub(crate) type TailKey = (u64, u64);
 
 pub(crate) fn is_of(tail: &[u8], deferral: &Deferral) -> bool
@@ -20,7 +20,7 @@ pub(crate) fn is_of(tail: &[u8], deferral: &Deferral) -> bool
     deferral.tail.bytes() == tail
 }
 
-/// The number that the last eight bytes of a registration make.
+/// Returns the number made of the last eight bytes of a registration.
 #[tactic(auto, unfolding(crate::specs::ByTail::tail_number))]
 pub(crate) fn tail_number(tail: &[u8]) -> u64
     ensures { result ≡ spec.tail_number tail.now }
@@ -48,14 +48,14 @@ fn listed_keys(alloc: Global, held: &[Deferral]) -> Result<Vec<(TailKey, ())>, O
     Ok(keys)
 }
 
-/// The keys of deferrals, which are sorted once.
+/// Returns the keys of the deferrals, sorted once.
 pub(crate) fn all_keys(alloc: Global, held: &[Deferral]) -> Result<Keys<TailKey>, OutOfMemory>
     ensures { IfOk result (λ keys. AreKeysOf held.now keys.keys) }
 {
     Ok(Keys::from_vec(listed_keys(alloc, held)?))
 }
 
-// The place of the first deferral whose id isn't below that one.
+// Returns the index of the first deferral whose id is at least this, by binary search.
 fn place_from(held: &[Deferral], id: u64) -> usize
     requires { AreRising held.now }
     ensures place { spec.place_if id result (slice_get held.now result) ≡ position (has_id id) held.now }
@@ -69,7 +69,7 @@ fn place_from(held: &[Deferral], id: u64) -> usize
     )
 }
 
-/// The place of the deferral of that id, which is found by halves.
+/// Finds the index of a deferral by its id, by binary search.
 pub(crate) fn position_of(held: &[Deferral], id: u64) -> Option<usize>
     requires { AreRising held.now }
     ensures { result ≡ position (has_id id) held.now }
@@ -85,7 +85,7 @@ fn standing_at(held: &[Deferral], place: usize) -> Option<&Deferral>
     held.get(place)
 }
 
-/// The deferral of that id, which is found by halves.
+/// Finds a deferral by its id, by binary search.
 #[tactic(auto, using(crate::proofs::Without::placed_none))]
 pub(crate) fn deferral_of(held: &[Deferral], id: u64) -> Option<&Deferral>
     requires { AreRising held.now }
@@ -95,7 +95,7 @@ pub(crate) fn deferral_of(held: &[Deferral], id: u64) -> Option<&Deferral>
     standing_at(held, place)
 }
 
-// The deferral of that id, where it is one of the aircraft.
+// Returns the deferral of this id if it belongs to the aircraft.
 fn open_as<'a>(held: &'a [Deferral], id: u64, tail: &[u8]) -> Option<&'a Deferral>
     requires { AreRising held.now }
     ensures { option_to_list (option_copied result) ≡ spec.open_as tail.now id held.now }
@@ -126,7 +126,7 @@ fn open_by<'a>(
     Ok(open)
 }
 
-// The id of the last, and 0 where there is none.
+// Returns the last id; 0 if there is no deferral.
 fn last_id(held: &[Deferral]) -> u64
     ensures { result ≡ spec.id_or_none (slice_get held.now (length held.now - 1)) }
 {
@@ -136,7 +136,7 @@ fn last_id(held: &[Deferral]) -> u64
     }
 }
 
-/// The open deferrals of an aircraft, in order of their ids, by their keys.
+/// Returns the open deferrals of an aircraft in the order of their ids, by their keys.
 pub(crate) fn open_among<'a>(
     alloc: Global,
     held: &'a [Deferral],

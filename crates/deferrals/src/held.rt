@@ -10,15 +10,15 @@ use desk_io::{Keys, OutOfMemory};
 use std::alloc::Global;
 use std::marker::Model;
 
-/// How many deferrals may be open.
+/// The largest number of open deferrals.
 pub const DEFERRAL_LIMIT: usize = 50_000;
 
-/// The open deferrals in the order of their ids, which rise. A contract sees them as a list, and
-/// whether there is room for one more without taking memory.
+/// The open deferrals in increasing order of their ids. Contracts model them as a list, and whether room for one more
+/// is reserved.
 #[derive(Drop)]
 pub struct Deferrals {
     held: Vec<Deferral>,
-    // A key for each.
+    // One key for each deferral.
     by_tail: Keys<TailKey>,
     room: bool,
 }
@@ -37,7 +37,7 @@ impl Model for Deferrals {
         × (d.room ≡ true → vec_len d.held < vec_capacity d.held) };
 }
 
-// The place of the one with that id.
+// Returns the index of the deferral of this id.
 fn place_of(held: &[Deferral], id: u64) -> Option<usize>
     requires { AreRising held.now }
     ensures place { result ≡ position (has_id id) held.now }
@@ -49,7 +49,7 @@ fn place_of(held: &[Deferral], id: u64) -> Option<usize>
 }
 
 impl Deferrals {
-    /// None are open, and there is no room. It takes no memory.
+    /// Makes an empty list without reserved room. It allocates nothing.
     pub fn new(alloc: Global) -> Deferrals
         ensures { result ≡ record { list = []; room = false } }
     {
@@ -60,7 +60,7 @@ impl Deferrals {
         }
     }
 
-    /// The deferrals of a vector, in which the ids rise, and no room. The keys of the aircraft are sorted once.
+    /// Takes a vector in which the ids increase, without reserved room. The keys of the aircraft are sorted once.
     pub fn from_vec(alloc: Global, held: Vec<Deferral>) -> Result<Deferrals, OutOfMemory>
         requires rising { AreRising held.items }
         requires few { length held.items ≤ DEFERRAL_LIMIT }
@@ -74,7 +74,7 @@ impl Deferrals {
         })
     }
 
-    /// The open deferrals in order. It takes no memory.
+    /// Returns the open deferrals in the order of their ids. It allocates nothing.
     pub fn as_slice(&self) -> &[Deferral]
         ensures list { result.now ≡ self.now.list }
         ensures count { length self.now.list ≤ DEFERRAL_LIMIT }
@@ -83,7 +83,7 @@ impl Deferrals {
         self.held.as_slice()
     }
 
-    /// The open deferrals of an aircraft, in order of their ids. They are found by halves.
+    /// Returns the open deferrals of an aircraft in the order of their ids. It finds them by binary search.
     pub fn open_on(&self, alloc: Global, tail: &[u8]) -> Result<Vec<&Deferral>, OutOfMemory>
         ensures value { IfOk result (λ v. map (λ d. d.now) v.items ≡ open_on tail.now self.now.list) }
         ensures count { IfOk result (λ v. length v.items ≤ length self.now.list) }
@@ -92,21 +92,21 @@ impl Deferrals {
         open_among(alloc, self.held.as_slice(), &self.by_tail, tail)
     }
 
-    /// The deferral of that id. It is found by halves, and takes no memory.
+    /// Returns the deferral of this id, by binary search. It allocates nothing.
     pub fn get(&self, id: u64) -> Option<&Deferral>
         ensures { option_copied result ≡ find (has_id id) self.now.list }
     {
         deferral_of(self.held.as_slice(), id)
     }
 
-    /// One with that id is open. It is found by halves, and takes no memory.
+    /// Returns true if the deferral of this id is open. It uses binary search and allocates nothing.
     pub fn has(&self, id: u64) -> bool
         ensures { result ≡ list_any (has_id id) self.now.list }
     {
         place_of(self.held.as_slice(), id).is_some()
     }
 
-    /// Makes room for one more. Where memory runs out all stays as it was.
+    /// Reserves room for one more deferral. If memory runs out, nothing changes.
     pub fn reserve(&mut self) -> Result<(), OutOfMemory>
         ensures ok { OnOk result (self.new ≡ record { list = self.old.list; room = true }) }
         ensures err { OnErr result (self.new ≡ self.old) }
@@ -117,7 +117,7 @@ impl Deferrals {
         Ok(())
     }
 
-    /// Adds one at the end, where there is room. There is then no room. It takes no memory.
+    /// Adds a deferral at the end, in the reserved room, which is then used up. It allocates nothing.
     pub fn add(&mut self, deferral: Deferral)
         requires room { self.old.room ≡ true }
         requires count { length self.old.list < DEFERRAL_LIMIT }
@@ -129,8 +129,8 @@ impl Deferrals {
         self.held.push_reserved(deferral);
     }
 
-    /// Takes out the one with that id, and answers whether there was one. The room stays. It takes
-    /// no memory.
+    /// Removes the deferral of this id. Returns false if there is none. The reserved room stays. It allocates
+    /// nothing.
     pub fn clear(&mut self, id: u64) -> bool
         ensures answer { result ≡ list_any (has_id id) self.old.list }
         ensures after { self.new ≡ record { list = without id self.old.list; room = self.old.room } }

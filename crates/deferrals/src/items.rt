@@ -7,16 +7,16 @@ use desk_time::{LAST, Minute, SHOWN_LAST};
 use ops_tables::{Category, MelRow};
 use std::alloc::Global;
 
-/// An inoperative item of an aircraft, found and not yet repaired.
+/// An inoperative item of an aircraft whose repair is deferred (14 CFR 121.628).
 #[derive(Debug, Drop)]
 pub struct Deferral {
-    /// The number under which it is kept.
+    /// The number of the deferral.
     pub id: u64,
     /// The registration of the aircraft.
     pub tail: Text,
-    /// The item of the minimum equipment list.
+    /// The name of the item in the minimum equipment list.
     pub item: Text,
-    /// When it was found.
+    /// When the fault was found.
     pub found: Minute,
 }
 
@@ -31,7 +31,7 @@ impl Copied for Deferral {
     }
 }
 
-// The days that a category leaves for the repair.
+// Returns the number of days that the row's category allows for the repair.
 fn days_allowed(row: &MelRow) -> u64
     ensures value { result ≡ spec.days_allowed row.now.category row.now.days }
     ensures bound { result < 2 ^ 32 }
@@ -44,8 +44,8 @@ fn days_allowed(row: &MelRow) -> u64
     }
 }
 
-/// When a deferred item has to be repaired: the start of the day after the last allowed one, where
-/// the days of its category are counted from the day after it was found. It takes no memory.
+/// Returns the moment by which a deferred item must be repaired: the start of the day after the last allowed day. The
+/// allowed days are counted from the day after the fault was found. It allocates nothing.
 #[tactic(auto, using(crate::proofs::DueLaws::due_ends_repair))]
 pub fn due(row: &MelRow, found: Minute) -> Minute
     requires { found ≤ LAST }

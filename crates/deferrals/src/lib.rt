@@ -1,5 +1,5 @@
-//! Inoperative equipment that is deferred under a minimum equipment list: what is open, when it is
-//! due for repair, and how it limits a flight (14 CFR 121.628).
+//! Inoperative equipment whose repair is deferred under a minimum equipment list: the open items, when they are due,
+//! and what they take from a flight (14 CFR 121.628).
 #![tactic(auto)]
 
 mod by_tail;

@@ -11,16 +11,16 @@ use desk_io::{Listed, OutOfMemory, Text};
 use ops_tables::{Lost, MelRow, Tables, has_name};
 use std::alloc::Global;
 
-/// What the open deferrals of an aircraft mean for its flights.
+/// What the open deferrals of an aircraft cost its flights.
 #[derive(Debug, Drop)]
 pub struct Limits {
-    /// What each leg carries more, in pounds.
+    /// The additional fuel of each leg, in pounds.
     pub extra_fuel: u64,
-    /// The capabilities that are lost, each once, in the order in which they were deferred.
+    /// The lost capabilities without duplicates, in the order of deferral.
     pub lost: Lost,
 }
 
-/// Those deferrals of a list that are of an aircraft, in their order.
+/// Returns the deferrals of the list that belong to the aircraft, in the order of the list.
 pub fn open_on<'a>(
     alloc: Global,
     list: &'a [Deferral],
@@ -38,7 +38,7 @@ pub fn open_on<'a>(
     Ok(open)
 }
 
-// The rows of deferred items, in order of deferral.
+// Returns the rows of the deferred items, in the order of deferral. An item that the type's list lacks is skipped.
 fn rows_of<'a>(
     alloc: Global,
     tables: &'a Tables,
@@ -72,7 +72,7 @@ fn extra_fuel(rows: &[&MelRow]) -> u64
     pounds
 }
 
-// Whether a row takes away a capability that isn't among the lost ones yet.
+// Returns true if the row takes away a capability that isn't in the list of lost ones yet.
 fn loses_more(row: &MelRow, lost: &Lost) -> bool
     ensures { result ≡ spec.loses_more row.now.capability lost.now }
 {
@@ -80,7 +80,7 @@ fn loses_more(row: &MelRow, lost: &Lost) -> bool
     !capability.is_empty() && !has_name(lost, capability)
 }
 
-// The capabilities that rows take away, each once, in order.
+// Returns the capabilities that the rows take away, in order, without duplicates.
 fn lost_by(alloc: Global, rows: &[&MelRow]) -> Result<Lost, OutOfMemory>
     ensures { IfOk result (λ lost. lost ≡ spec.once (spec.capabilities_of (map (λ row. row.now) rows.now))) }
 {
@@ -111,10 +111,9 @@ fn limits_by(
     })
 }
 
-/// What deferred items of one aircraft add and take away, where its type is known: the sum of their extra fuel,
-/// in pounds, and the capabilities that they take away, each once, in the order in which they were deferred (14
-/// CFR 121.628). An item that the list of the type lacks adds and takes away nothing, and one whose capability is
-/// empty takes none away.
+/// Returns what deferred items cost an aircraft of a known type (14 CFR 121.628). It is the sum of their extra fuel
+/// in pounds, and the lost capabilities without duplicates, in the order of deferral. An item that the type's list
+/// lacks costs nothing. An item whose capability is empty takes none away.
 #[tactic(auto, using(crate::proofs::FuelLaws::adds_fuel))]
 pub fn limits_on(
     alloc: Global,
@@ -132,8 +131,8 @@ pub fn limits_on(
     limits_by(alloc, deferred, kind, tables)
 }
 
-/// What the open deferrals of an aircraft add and take away, as `limits_on` says of its type. An aircraft of no
-/// known type has no list.
+/// Returns what the open deferrals cost an aircraft, as `limits_on` does for its type. If the aircraft's type isn't
+/// known, they cost nothing.
 #[tactic(auto, unfolding(crate::specs::Limits::limits))]
 pub fn limits_of(
     alloc: Global,

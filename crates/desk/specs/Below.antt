@@ -1,4 +1,4 @@
--- What of the crates below the clauses above name.
+-- Names from lower crates that this crate's contracts use.
 pub use Rattle.board.specs.Below.{IsFaultOf, Record, RowWhy, RowsFault, reopened}
 unfoldable pub use Rattle.board.specs.Below.{state_in}
 pub use Rattle.board.specs.Prepare.{Shown, shown}

@@ -1,4 +1,4 @@
--- What comes of the items of a lane, where what they change is kept, and a keeper may fail.
+-- The outcomes of a lane's items over a keeper that may fail to store their changes.
 use Rattle.std.specs.Prelude.{◌≡◌, ℕ, ◌<◌, ◌≤◌, nat_lt, Bool, true, false, List, [], ◌∷◌, ◌++◌, length, map, option_to_list, Option, None, Some}
 use Rattle.std.specs.List.{AllByRecursion, concat}
 use Rattle.alerts.specs.declared.notices.Notice.{Notice}
@@ -20,22 +20,23 @@ use Rattle.desk_state.specs.declared.lanes.Outcome.{Outcome}
 use Rattle.desk_state.specs.declared.lanes.Said.TheVariants as said
 use Rattle.asks.specs.declared.bad_call.BadCall.{BadCall}
 
--- ---- a step that may not be kept
+-- ---- a step that the keeper may fail to store
 
--- Where a keeper fails at the steps of an item: its count of faults then. There is none where a step is kept, and none is needed where it changes nothing.
+-- At which steps of an item the keeper fails, each with its count of faults then. None if it stores the step. A step
+-- that changes nothing needs no choice.
 pub record Choice : Type 0 where
   pub tick : Option ℕ
   pub call : Option ℕ
 
--- the keeper doesn't fail
+-- the keeper stores every step
 abbrev pub no_choice : Choice
 no_choice = record { tick = None; call = None }
 
--- a refusal, since what was asked couldn't be kept; nothing changes
+-- a refusal because the keeper failed to store the step; nothing changes
 abbrev pub unkept : ℕ → State → Stepped
 unkept faults s = stay s (Refused (Unkept faults))
 
--- whether a step changes something: then it adds an entry to the history
+-- whether the step adds an entry to the history; exactly such a step changes something
 abbrev pub adds : State → Stepped → Bool
 adds s t = nat_lt (length s.entries) (length t.state.entries)
 
@@ -43,14 +44,14 @@ abbrev pub unkept_if : Bool → ℕ → State → Stepped → Stepped
 unkept_if true faults s t = unkept faults s
 unkept_if false faults s t = t
 
--- A step that isn't kept is refused. One that changes nothing is answered all the same.
+-- A step that can't be stored is refused. A step that changes nothing is answered all the same.
 abbrev pub kept_or : Option ℕ → State → Stepped → Stepped
 kept_or None s t = t
 kept_or (Some faults) s t = unkept_if (adds s t) faults s t
 
 -- ---- the items of a lane
 
--- an outcome, the state after it, and what is told of the alerts: by the tick that comes first, and by the call
+-- the answer to an item: its outcome, the state after it, and the notices of its tick and of its call
 pub record Given : Type 0 where
   pub outcome : Outcome
   pub state : State
@@ -66,7 +67,7 @@ made_with fault lane s call = kept_or fault s (answer_call s lane call)
 abbrev pub ticked_with : Option ℕ → ℕ → State → ℕ → Stepped
 ticked_with fault lane s at = kept_or fault s (tick_to s lane at)
 
--- A call is made once its tick is. Where the tick is refused, the call gets that refusal.
+-- A call is made after its tick. If the tick is refused, the call gets that refusal.
 abbrev pub once_ticked : Option ℕ → ℕ → Option Reply → State → Call → Stepped
 once_ticked fault lane (Some reply) s call = stay s reply
 once_ticked fault lane None s call = made_with fault lane s call
@@ -78,34 +79,34 @@ abbrev pub made_by : Bool → Choice → ℕ → State → ℕ → Call → Give
 made_by true c lane s at call = made_after c.call lane (ticked_with c.tick lane s at) call
 made_by false c lane s at call = given [] s (made_with c.call lane s call)
 
--- a call of a lane at a moment, under a choice: the desk ticks to it first, where it is later
+-- a call of a lane at a moment; if the moment is later than the desk's, the desk ticks to it first
 unfoldable pub answer_with : Choice → ℕ → State → ℕ → Call → Given
 answer_with c lane s at call = made_by (nat_lt s.moment at) c lane s at call
 
--- of a text that is no call its fault is said, and nothing changes
+-- the answer to a malformed line is its fault, and nothing changes
 abbrev pub bad_given : State → BadCall → Given
 bad_given s fault = record { outcome = record { position = length s.entries; said = said.Bad fault }; state = s; ticked = []; called = [] }
 
--- what comes of an item under a choice
+-- the answer to an item under a choice
 abbrev pub item_with : Choice → ℕ → State → Item → Given
 item_with c lane s (item.Bad fault) = bad_given s fault
 item_with c lane s (item.Call at call) = answer_with c lane s at call
 
--- The outcomes of items, each under its choice. Where no choice is left the keeper doesn't fail.
+-- The outcomes of items, each under its choice. The keeper stores every step of the items beyond the last choice.
 abbrev pub outcomes_with : ℕ → State → List Item → List Choice → List Outcome
 outcomes_with lane s [] choices = []
 outcomes_with lane s (i ∷ rest) [] = outcomes lane s (i ∷ rest)
 outcomes_with lane s (i ∷ rest) (c ∷ cs) = (item_with c lane s i).outcome ∷ outcomes_with lane (item_with c lane s i).state rest cs
 
--- the state after them
+-- the state after the items
 abbrev pub after_with : ℕ → State → List Item → List Choice → State
 after_with lane s [] choices = s
 after_with lane s (i ∷ rest) [] = after_items lane s (i ∷ rest)
 after_with lane s (i ∷ rest) (c ∷ cs) = after_with lane (item_with c lane s i).state rest cs
 
--- ---- what a keeper has counted
+-- ---- the keeper's count of faults
 
--- numbers that rise strictly, all above the first number and at most the last
+-- the numbers rise strictly, from above the first number to at most the last
 abbrev pub Rise : ℕ → List ℕ → ℕ → Type 0
 Rise low [] high = low ≤ high
 Rise low (n ∷ ns) high = (low < n) × Rise n ns high
@@ -113,27 +114,27 @@ Rise low (n ∷ ns) high = (low < n) × Rise n ns high
 abbrev pub numbers_of : Choice → List ℕ
 numbers_of c = option_to_list c.tick ++ option_to_list c.call
 
--- The counts at which a keeper fails rise strictly, all above its first count and at most its last.
+-- The counts at which a keeper fails rise strictly, from above its first count to at most its last.
 abbrev pub Counted : ℕ → List Choice → ℕ → Type 0
 Counted before choices after = Rise before (concat (map numbers_of choices)) after
 
--- Of one step: the count at which the keeper fails is the one right after it, and it rose.
+-- If the keeper fails at a step, its count rises, and the step carries the new count.
 abbrev pub CountedOnce : ℕ → Option ℕ → ℕ → Type 0
 CountedOnce before None after = before ≤ after
 CountedOnce before (Some n) after = (before < n) × (n ≡ after)
 
--- Of a call that was just answered: each count at which the keeper failed is the one that it has now.
+-- Each count at which the keeper failed is its count now, right after the call.
 abbrev pub AreNow : ℕ → Choice → Type 0
 AreNow now c = AllByRecursion (λ n. n ≡ now) (numbers_of c)
 
--- ---- what is asked of a keeper
+-- ---- the commits that are requested
 
--- a count of commits after a step that asks for one, or for none
+-- the count of commits after a step that requests one, or none
 abbrev pub asked_if : Bool → ℕ → ℕ
 asked_if true n = after n
 asked_if false n = n
 
--- A call asks for a commit where it adds an entry. Where its tick was refused it asks for none.
+-- A call requests a commit if it adds an entry. If its tick was refused, it requests none.
 abbrev pub asked_once : Option Reply → ℕ → State → Call → ℕ → ℕ
 asked_once (Some reply) lane s call n = n
 asked_once None lane s call n = asked_if (adds s (answer_call s lane call)) n
@@ -145,7 +146,7 @@ abbrev pub asked_by : Bool → Choice → ℕ → State → ℕ → Call → ℕ
 asked_by true c lane s at call n = asked_late c.tick lane s at call n
 asked_by false c lane s at call n = asked_once None lane s call n
 
--- the count of commits after a call at a moment, under a choice: one for the tick and one for the call, each where it adds an entry
+-- The count of commits after a call at a moment. The tick and the call each request one if they add an entry.
 unfoldable pub commits_after : Choice → ℕ → State → ℕ → Call → ℕ → ℕ
 commits_after c lane s at call n = asked_by (nat_lt s.moment at) c lane s at call n
 
@@ -156,25 +157,25 @@ commits_after_item c lane s (item.Call at call) n = commits_after c lane s at ca
 
 -- ---- the rows
 
--- what a keeper tells is kept for a state
+-- the keeper's rows, if they are known, are those of the state
 abbrev pub KeepsState : Option Rows → State → Type 0
 KeepsState None s = Unit {0}
 KeepsState (Some rows) s = AreKept rows s
 
--- the changes were made where there was no fault, and else none
+-- all changes were made if there was no fault, otherwise none
 abbrev pub KeptUnless : Option ℕ → Option Rows → List Change → Option Rows → Type 0
 KeptUnless None before changes after = Leads before changes after
 KeptUnless (Some faults) before changes after = after ≡ before
 
--- what came of a call: its outcome, the state after it, and what is told
+-- the outcome, the state after it and the notices are those of an answer
 pub record IsGiven (given : Given) (state : State) (outcome : Outcome) (ticked called : List Notice) : Type 0 where
   pub its_outcome : outcome ≡ given.outcome
   pub its_state : state ≡ given.state
   pub its_tick : ticked ≡ given.ticked
   pub its_call : called ≡ given.called
 
--- what came of a call, under some choice that the keeper's counts before and after it allow: a refusal tells the new count; and how
--- many commits were asked for
+-- An answer under some choice that the keeper's counts allow. A refusal carries the new count. `commits` states how
+-- many commits were requested.
 pub record GivenBetween (before after : ℕ) (commits : Choice → Type 0) (given : Choice → Given) (state : State) (outcome : Outcome) (ticked called : List Notice) : Type 0 where
   pub choice : Choice
   pub counted : Counted before (choice ∷ []) after
@@ -189,8 +190,8 @@ pub record AreGiven (lane before after : ℕ) (s : State) (items : List Item) (t
   pub outcomes : made ≡ outcomes_with lane s items choices
   pub state : t ≡ after_with lane s items choices
 
--- The same of a front of items, where others are left: whatever items come next, and under whatever choices, what is made and what these
--- make are the whole.
+-- The same for a prefix of items. Whatever items and choices follow, the outcomes so far and the later ones are those
+-- of the whole list.
 pub record AreGivenSoFar (lane before after : ℕ) (s : State) (items : List Item) (t : State) (left : List Item) (made : List Outcome) : Type 0 where
   pub front : List Item
   pub choices : List Choice

@@ -1,4 +1,4 @@
--- A run of calls that are made of a number, each once it is known what came of those before it.
+-- A run of calls made from a seed, each of which may depend on the outcomes before it.
 use Rattle.std.specs.Prelude.{◌≡◌, ℕ, Bool, true, false, List, [], ◌∷◌, ◌++◌, length, map, filter, codes, decimal, Option, None, Some}
 use Rattle.std.specs.List.{concat}
 use Rattle.asks.specs.declared.call.Call.{Call}
@@ -14,9 +14,9 @@ use Rattle.made_items.specs.Calls.{Came, calls, made_at}
 use Rattle.desk.specs.InPart.{AreGivenInPart}
 use Rattle.desk.specs.Keeping.{Choice, Counted, item_with, AreGiven}
 
--- ---- what came of calls
+-- ---- the outcomes of calls
 
--- what a call has done, and nothing where it was refused
+-- what a command did; none for a view, a refusal or a malformed line
 abbrev pub done_of : Said → Option DoneType
 done_of (said.Reply (Done what)) = Some what
 done_of (said.Reply (Seen text)) = None
@@ -31,7 +31,7 @@ came_of outcomes = map (λ o. done_of o.said) outcomes
 abbrev pub made_item : Call → Item
 made_item call = item.Call made_at call
 
--- the items of a number, with so many flights, where this came of them
+-- the items that a seed makes for `count` flights, if the calls had these results
 abbrev pub made_items : ℕ → ℕ → Came → List Item
 made_items number count came = map made_item (calls number count came)
 
@@ -49,7 +49,7 @@ is_refused (said.Reply (Seen text)) = false
 is_refused (said.Reply (Refused why)) = true
 is_refused (said.Bad fault) = false
 
--- how many have done something, and how many were refused
+-- how many calls were done, and how many were refused
 abbrev pub done_in : List Outcome → ℕ
 done_in outcomes = length (filter (λ o. is_done o.said) outcomes)
 
@@ -59,7 +59,7 @@ refused_in outcomes = length (filter (λ o. is_refused o.said) outcomes)
 abbrev pub first_line : ℕ → ℕ → List ℕ
 first_line number count = concat (codes "MAKE " ∷ decimal number ∷ codes " " ∷ decimal count ∷ codes "\n" ∷ [])
 
--- three words, each with its number
+-- three words, each followed by its count
 abbrev pub three_counts : List ℕ → ℕ → List ℕ → ℕ → List ℕ → ℕ → List ℕ
 three_counts one a two b three c = concat (one ∷ decimal a ∷ two ∷ decimal b ∷ []) ++ concat (three ∷ decimal c ∷ codes "\n" ∷ [])
 
@@ -69,27 +69,27 @@ second_line outcomes = three_counts (codes "ITEMS ") (length outcomes) (codes " 
 abbrev pub third_line : State → List ℕ
 third_line t = three_counts (codes "HISTORY ") (length t.entries) (codes " RELEASES ") (length t.releases) (codes " REPORTS ") (length t.reports)
 
--- three lines: what was made, how many items were done and refused, and what is held at the end
+-- three lines: what was made, how many items were done and refused, and what the board holds at the end
 abbrev pub made_text : ℕ → ℕ → List Outcome → State → List ℕ
 made_text number count outcomes t = first_line number count ++ (second_line outcomes ++ third_line t)
 
 -- ---- the run
 
--- What came of a call that was made, under some choice that the keeper's counts allow.
+-- The outcome of a made call, under some choice that the keeper's counts allow.
 pub record IsMadeOf (before after : ℕ) (s : State) (call : Call) (t : State) (o : Outcome) : Type 0 where
   pub choice : Choice
   pub counted : Counted before (choice ∷ []) after
   pub outcome : o ≡ (item_with choice 1 s (made_item call)).outcome
   pub state : t ≡ (item_with choice 1 s (made_item call)).state
 
--- The items of a number were answered in lane 1, under some choices that the keeper's counts allow. They are those that are made of just
--- the outcomes that came, and what is said counts these.
+-- The items of a seed were answered in lane 1, under some choices that the keeper's counts allow. The seed makes
+-- exactly these items from their outcomes, and the text counts them.
 pub record IsMade (before after : ℕ) (s : State) (number count : ℕ) (t : State) (text : List ℕ) : Type 0 where
   pub outcomes : List Outcome
   pub given : AreGiven 1 before after s (made_items number count (came_of outcomes)) t outcomes
   pub says : text ≡ made_text number count outcomes t
 
--- The same up to where memory ran out: a front of the items was answered whole.
+-- The same until memory ran out: a prefix of the items was answered.
 pub record IsMadeInPart (before after : ℕ) (s : State) (number count : ℕ) (t : State) : Type 0 where
   pub came : Came
   pub given : AreGivenInPart 1 before after s (made_items number count came) t

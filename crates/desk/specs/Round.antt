@@ -1,4 +1,4 @@
--- What lies under the lock of lanes that run at once, and what holds of it whenever the lock is free.
+-- The data under the lock of lanes that run at once, and what holds whenever the lock is free.
 use Rattle.std.specs.Prelude.{◌≡◌, ℕ, ◌+◌, MatchBool, Bool, List, [], ◌∷◌, ◌++◌, length, map, set, slice_get, Some, None, false}
 use Rattle.desk_state.specs.State.{State, start}
 use Rattle.desk_state.specs.declared.lanes.Item.{Item}
@@ -12,12 +12,12 @@ use Rattle.desk.specs.Seen.{DeskSeen, DeskGoesOn}
 abbrev pub items_in : LaneShown → List Item
 items_in lane = lane.items
 
--- where lanes began to run: the desk, and their items
+-- the desk and the items with which lanes began to run
 pub record Began : Type 0 where
   pub desk : DeskSeen
   pub items : List (List Item)
 
--- the state of the desk under the lock, the lanes, and whether memory ran out
+-- the desk's state under the lock, the lanes, and whether memory ran out
 pub record RoundShown : Type 0 where
   pub state : State
   pub lanes : List LaneShown
@@ -26,21 +26,21 @@ pub record RoundShown : Type 0 where
 abbrev pub round_of : State → List LaneShown → Bool → RoundShown
 round_of s lanes ended = record { state = s; lanes = lanes; ended = ended }
 
--- what has come of the lanes, unless memory ran out among them
+-- The outcomes so far form one history. If memory ran out, at most one tick was made after them.
 abbrev pub AreTaken : Began → DeskSeen → List LaneShown → Bool → Type 0
 AreTaken began desk lanes ended =
     MatchBool ended (AreMergedInPart began.desk.keeper.health.faults desk.keeper.health.faults began.desk.state lanes desk.state)
     (AreMerged began.desk.keeper.health.faults desk.keeper.health.faults began.desk.state lanes desk.state)
 
--- The desk goes on from the one that began: it was opened in the same state, and what was kept for its state is kept for it. The lanes have
--- their items, and what has come of them so far is merged into the one history that leads from the state that began to the desk's.
+-- The desk goes on from the one that began, and the lanes keep their items. The outcomes so far form the history from
+-- the first state to the present one.
 pub record IsRound (began : Began) (desk : DeskSeen) (lanes : List LaneShown) (ended : Bool) : Type 0 where
   pub on : DeskGoesOn began.desk desk
   pub items : map items_in lanes ≡ began.items
   pub taken : AreTaken began desk lanes ended
 
--- The next item of the lane at a place, from 0, is answered in the state in which the desk is then, under some choice of where the keeper fails:
--- its outcome comes to the lane, the state is the one after it, and the other lanes stay.
+-- The next item of the lane at a place, from 0, is answered in the desk's present state, under some choice. Its
+-- outcome is added to the lane. The other lanes are unchanged.
 pub record IsTaken (place : ℕ) (old new : RoundShown) : Type 0 where
   pub lane : LaneShown
   pub item : Item
@@ -50,7 +50,7 @@ pub record IsTaken (place : ℕ) (old new : RoundShown) : Type 0 where
   pub state_is : new.state ≡ (item_with choice (place + 1) old.state item).state
   pub lanes_are : new.lanes ≡ set old.lanes place (lane_with lane.items (lane.outcomes ++ (item_with choice (place + 1) old.state item).outcome ∷ []))
 
--- no lanes under no tables
+-- tables without rows
 abbrev no_tables : TableRows
 no_tables = record {
   settings = record { hold_minutes = 0; marginal_ceiling = 0; single_ceiling = 0; double_ceiling = 0; marginal_vis16 = 0; single_vis16 = 0; double_vis16 = 0; late_off = 0; late_on = 0 };

@@ -1,4 +1,4 @@
--- The text of a run: a reply for each line, and the closing text.
+-- The text of a run: a line for each item, then the closing text.
 use Rattle.std.specs.Prelude.{◌≡◌, ℕ, List, [], ◌∷◌, ◌++◌, map, codes, Result, Ok, Err}
 use Rattle.desk_io.specs.Runs.{runs_between}
 use Rattle.asks.specs.declared.bad_call.BadCall.{BadCall}
@@ -15,11 +15,11 @@ use Rattle.desk_state.specs.Lanes.{outcomes, after_items}
 use Rattle.desk_state.specs.Texts.{closing}
 use Rattle.desk.specs.Keeping.{Choice, Counted, outcomes_with, after_with}
 
--- the lines that have a byte
+-- the nonempty lines of a script
 abbrev pub lines_of : List ℕ → List (List ℕ)
 lines_of bytes = runs_between (10 ∷ []) bytes
 
--- a call at its moment, or the first fault of a line that has none
+-- a call at its moment, or the first fault of a malformed line
 abbrev pub item_of : Result (ℕ × Call) BadCall → Item
 item_of (Err fault) = item.Bad fault
 item_of (Ok line) = item.Call line.0 line.1
@@ -28,7 +28,7 @@ item_of (Ok line) = item.Call line.0 line.1
 abbrev pub items_of : List (List ℕ) → List Item
 items_of lines = map (λ line. item_of (line_or_fault line)) lines
 
--- what a lane shows: its items, and what has come of them
+-- the model of a lane: its items, and their outcomes so far
 pub record LaneShown : Type 0 where
   pub items : List Item
   pub outcomes : List Outcome
@@ -36,7 +36,7 @@ pub record LaneShown : Type 0 where
 abbrev pub lane_with : List Item → List Outcome → LaneShown
 lane_with items outcomes = record { items = items; outcomes = outcomes }
 
--- the JSON of what is said
+-- the JSON of a reply, or of the fault of a malformed line
 abbrev pub said_text : Said → List ℕ
 said_text (said.Reply reply) = reply_text reply
 said_text (said.Bad fault) = bad_text fault
@@ -49,16 +49,16 @@ abbrev pub texts_of : List Outcome → List ℕ
 texts_of [] = []
 texts_of (o ∷ rest) = outcome_text o ++ texts_of rest
 
--- A run of items in lane 1 from a state to another, under some choices that the keeper's counts before and after it allow: a line for
--- each item, and the closing text.
+-- A run of items in lane 1 from one state to another, under some choices that the keeper's counts allow. The text has
+-- a line for each item, then the closing text.
 pub record IsRunOf (before after : ℕ) (s : State) (items : List Item) (t : State) (text : List ℕ) : Type 0 where
   pub choices : List Choice
   pub counted : Counted before choices after
   pub says : text ≡ texts_of (outcomes_with 1 s items choices) ++ closing t
   pub state : t ≡ after_with 1 s items choices
-  -- where the count stands still, all was kept
+  -- if the keeper's count didn't rise, every step was stored
   pub steady : after ≡ before → text ≡ texts_of (outcomes 1 s items) ++ closing (after_items 1 s items)
 
--- a run of a script, whose items are those of its lines
+-- a run of the items in a script's lines
 abbrev pub IsRun : ℕ → ℕ → State → List ℕ → State → List ℕ → Type 0
 IsRun before after s script t text = IsRunOf before after s (items_of (lines_of script)) t text

@@ -1,4 +1,4 @@
--- What contracts see of a desk, in one record, and what goes on through each call of it.
+-- The model of a desk in contracts, and what its calls preserve.
 use Rattle.std.specs.Prelude.{◌≡◌, ℕ, Bool, IsTrue, List}
 use Rattle.alerts.specs.Ringing.{Hung, AreRung, hung_all}
 use Rattle.alerts.specs.Seen.{BellSeen}
@@ -9,11 +9,11 @@ use Rattle.desk_state.specs.State.{State}
 use Rattle.keeper.specs.Seen.{KeeperSeen, KeeperGoesOn}
 
 pub record DeskSeen : Type 0 where
-  -- the state in which it was opened, and the one that it is in
+  -- the state in which the desk was opened, and its present state
   pub opening : State
   pub state : State
   pub keeper : KeeperSeen
-  -- its bells, those that stay and those that were dropped, each at its place
+  -- the bells in order of their places, including those that were dropped
   pub bells : List Hung
   -- whether the board holds the entries of its history
   pub listed : Bool
@@ -22,23 +22,23 @@ abbrev pub desk_seen : {K B : Type 0} → (K → KeeperSeen) → (B → BellSeen
 desk_seen seen heard desk =
     record { opening = desk.board.opening; state = desk.board.state; keeper = seen desk.keeper; bells = hung_all heard desk.ringer; listed = desk.board.listed }
 
--- what the keeper tells is kept for the state
+-- the keeper's rows, if they are known, are those of the state
 abbrev pub IsKept : DeskSeen → Type 0
 IsKept desk = KeepsState desk.keeper.rows desk.state
 
--- The bells were these when the desk was opened, and have been rung for all that its history tells, in order.
+-- The bells were these when the desk was opened, and have been rung for every notice of the history since, in order.
 abbrev pub AreRungSince : List Hung → DeskSeen → Type 0
 AreRungSince bells desk = AreRung (told_by_all desk.opening desk.state.entries) bells desk.bells
 
--- How the desk was opened stays, what is kept for its state stays so, its keeper goes on, and entries that are held stay
--- held.
+-- The opening state is unchanged. Rows that matched the state match it still. The keeper goes on, and entries that
+-- the board holds stay.
 pub record StepGoesOn (old new : DeskSeen) : Type 0 where
   pub opening : new.opening ≡ old.opening
   pub rows : IsKept old → IsKept new
   pub keeper : KeeperGoesOn old.keeper new.keeper
   pub listed : IsTrue old.listed → IsTrue new.listed
 
--- The same, and its bells are rung for what its history tells.
+-- The same, and the bells are rung for the notices of the history.
 pub record DeskGoesOn (old new : DeskSeen) : Type 0 where
   pub opening : new.opening ≡ old.opening
   pub rows : IsKept old → IsKept new
@@ -46,7 +46,7 @@ pub record DeskGoesOn (old new : DeskSeen) : Type 0 where
   pub listed : IsTrue old.listed → IsTrue new.listed
   pub rung : (bells : List Hung) → AreRungSince bells old → AreRungSince bells new
 
--- of what answers are said: the state, and the count of the keeper's faults
+-- the state and the keeper's count of faults, from which answers follow
 pub record DeskAt : Type 0 where
   pub state : State
   pub faults : ℕ

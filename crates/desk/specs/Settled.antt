@@ -1,4 +1,4 @@
--- What comes of a prepared step.
+-- The result of a prepared step, and what `answer` may return.
 use Rattle.std.specs.Prelude.{◌≡◌, ◌⊎◌, ℕ, ◌<◌}
 use Rattle.asks.specs.declared.call.Call.{Call}
 use Rattle.asks.specs.declared.kept.KeptReply.{KeptReply}
@@ -16,46 +16,47 @@ use Rattle.desk.specs.declared.answering.Answered.{Answered}
 use Rattle.desk.specs.declared.answering.AnsweredWith.{AnsweredWith}
 use Rattle.desk.specs.declared.settling.Settled.{Settled}
 
--- the step that is prepared
+-- a prepared step: its reply, the state once it is installed, and its notices
 abbrev pub stepped_by : State → Prepared → Stepped
 stepped_by s p = record { reply = p.reply; state = installed p s; notices = p.notices }
 
--- its reply, the state after it and what is told of the alerts are those of a step
+-- the reply, the state and the notices are those of the step
 pub record IsSettled (r : Settled) (s : State) (t : Stepped) : Type 0 where
   pub reply : r.reply ≡ t.reply
   pub state : s ≡ t.state
   pub notices : r.notices ≡ t.notices
 
--- the counts of faults of an item
+-- at which steps of the call the keeper failed
 abbrev pub choice_of : AnsweredWith → Choice
 choice_of j = record { tick = j.tick; call = j.call }
 
--- a state where memory ran out: as before, or after the tick that came first
+-- memory ran out: the state is as before, or as after the tick
 abbrev pub MayHaveTicked : ℕ → ℕ → State → State → Type 0
 MayHaveTicked lane at s t = (t ≡ s) ⊎ ((s.moment < at) × (t ≡ (tick_to s lane at).state))
 
--- ---- what is answered
+-- ---- answers
 
--- the answer, and the state after it, are those that are given
+-- the answer and the state after it are those given
 abbrev pub Gives : Given → State → Answered → Type 0
 Gives given t a = IsGiven given t a.outcome a.ticked a.called
 
--- The answer to a call of a lane at a moment, under some choice that the keeper's counts allow, and the commits that were asked for.
+-- The answer to a call of a lane at a moment, under some choice that the keeper's counts allow, with the commits it
+-- requested.
 abbrev pub AnswersCall : ℕ → ℕ → Call → DeskSeen → DeskSeen → Answered → Type 0
 AnswersCall lane at call old new a =
     GivenBetween old.keeper.health.faults new.keeper.health.faults (λ c. new.keeper.commits ≡ commits_after c lane old.state at call old.keeper.commits)
     (λ c. answer_with c lane old.state at call) new.state a.outcome a.ticked a.called
 
--- the same of an item
+-- the same for an item
 abbrev pub AnswersItem : ℕ → Item → DeskSeen → DeskSeen → Answered → Type 0
 AnswersItem lane i old new a =
     GivenBetween old.keeper.health.faults new.keeper.health.faults (λ c. new.keeper.commits ≡ commits_after_item c lane old.state i old.keeper.commits)
     (λ c. item_with c lane old.state i) new.state a.outcome a.ticked a.called
 
--- the outcome, and the state after it, are those of a lane
+-- the outcome and the state after it are those of a lane over a keeper that never fails
 abbrev pub IsSaid : lanes.Answered → State → Answered → Type 0
 IsSaid lane_says t a = (a.outcome ≡ lane_says.outcome) × (t ≡ lane_says.state)
 
--- what a lane says to a command that comes again: what is kept of it
+-- a repeated command gets its original reply, and changes nothing
 abbrev pub done_again : KeptReply → State → lanes.Answered
 done_again k s = lanes.said_at s (said.Reply (Done k.done)) s

@@ -27,17 +27,17 @@ use rules::Steps;
 use std::alloc::Global;
 use std::sync::ledger::Ledger;
 
-/// What a call is answered.
+/// The answer to an item, and the notices about alerts that it caused.
 #[derive(Debug, Drop)]
 pub struct Answered {
     pub outcome: Outcome,
-    /// What is told of the alerts by the tick that came first.
+    /// The notices of the tick that came before the call.
     pub ticked: Notices,
-    /// What is told of them by the call.
+    /// The notices of the call itself.
     pub called: Notices,
 }
 
-/// What a call is answered, and the keeper's counts of faults where its tick or itself wasn't kept.
+/// The answer to a call. If the keeper failed to store the tick or the call, `tick` or `call` is its count of faults.
 #[derive(Drop)]
 pub(crate) struct AnsweredWith {
     pub answered: Answered,
@@ -98,7 +98,7 @@ fn make_tick<K: Keeper, B: Bell, L: Ledger>(
     settle(alloc, desk, prepared)
 }
 
-// A call once its tick was made, or was refused with a reply.
+// Makes a call after its tick. If the tick was refused, the call gets the tick's reply.
 fn once_ticked<K: Keeper, B: Bell, L: Ledger>(
     alloc: Global,
     desk: &mut Desk<K, B>,
@@ -129,7 +129,7 @@ fn once_ticked<K: Keeper, B: Bell, L: Ledger>(
     }
 }
 
-// What is said of a call: its reply.
+// A call always has a reply. Only an allowed tick has none.
 fn said_of(reply: Option<Reply>) -> Said
     requires replied { is_some reply ≡ true }
     requires shown { IfSome reply ReplyHasMoment }
@@ -142,7 +142,7 @@ fn said_of(reply: Option<Reply>) -> Said
     }
 }
 
-// What a call is answered of which the tick and the call itself are settled.
+// The answer to a call, from the results of its tick and of the call itself.
 fn joined(position: u64, ticked: Notices, tick: Option<u64>, settled: Settled) -> AnsweredWith
     requires replied { is_some settled.reply ≡ true }
     requires shown { IfSome settled.reply ReplyHasMoment }
@@ -173,6 +173,7 @@ fn joined(position: u64, ticked: Notices, tick: Option<u64>, settled: Settled) -
     }
 }
 
+// Answers a call whose moment has come. It needs no tick.
 fn answer_now<K: Keeper, B: Bell, L: Ledger>(
     alloc: Global,
     desk: &mut Desk<K, B>,
@@ -201,6 +202,7 @@ fn answer_now<K: Keeper, B: Bell, L: Ledger>(
     Ok(joined(position, Notices::new(alloc), None, settled))
 }
 
+// Answers a call with a later moment: the desk ticks to that moment, then makes the call.
 fn answer_late<K: Keeper, B: Bell, L: Ledger>(
     alloc: Global,
     desk: &mut Desk<K, B>,
@@ -235,8 +237,8 @@ fn answer_late<K: Keeper, B: Bell, L: Ledger>(
     Ok(joined(position, notices, fault, settled))
 }
 
-/// A call of a lane at a moment: the desk ticks to it first, where it is later, and keeps what each of the two changes
-/// before it is made.
+/// Answers a call of a lane at a moment. If the moment is later than the desk's, the desk ticks to it first. The
+/// keeper stores the changes of each step before the step is installed.
 #[tactic(auto, unfolding(crate::specs::Keeping::answer_with, crate::specs::Keeping::commits_after))]
 pub(crate) fn answer_with<K: Keeper, B: Bell, L: Ledger>(
     alloc: Global,
@@ -269,9 +271,11 @@ pub(crate) fn answer_with<K: Keeper, B: Bell, L: Ledger>(
     }
 }
 
-/// A call of a lane at a moment, over a keeper: the desk ticks to it first, where it is later, and keeps what each of
-/// the two changes before it is made. What the keeper fails to keep isn't made, and is refused with its count of
-/// faults (26 `Unkept`). Where memory runs out the step at hand changes nothing, and a tick that came first may stand.
+/// Answers a call of a lane at a moment. If the moment is later than the desk's, the desk ticks to it first. The
+/// keeper stores the changes of each step before the step is installed.
+///
+/// If the keeper fails, the step changes nothing, and the call is refused with the keeper's count of faults (26
+/// `Unkept`). If memory runs out, the call changes nothing, but its tick may have been made.
 pub fn answer<K: Keeper, B: Bell, L: Ledger>(
     alloc: Global,
     desk: &mut Desk<K, B>,
@@ -282,32 +286,33 @@ pub fn answer<K: Keeper, B: Bell, L: Ledger>(
 ) -> Result<Answered, OutOfMemory>
     requires within { moment ≤ LAST }
     requires call { CallHasForms call.now }
-    // Under some choice that the keeper's counts allow: the numbers of refusals rise strictly. A commit is asked for
-    // by the tick and by the call, where each adds an entry, and by nothing else.
+    // The answer follows from where the keeper failed. The counts in refusals (26 `Unkept`) rise strictly. The tick
+    // and the call each request a commit if they add an entry. Nothing else requests one.
     ensures given { IfOk result
         (λ a. AnswersCall lane moment call.now (desk_seen K.seen B.seen desk.old)
         (desk_seen K.seen B.seen desk.new) a) }
-    // Over a sound keeper nothing is refused for its sake.
+    // A sound keeper causes no refusal.
     ensures quiet { IsSound (K.seen desk.old.keeper).health
         → IfOk result (λ a. IsSaid (lanes.answer lane desk.old.board.state moment call.now) desk.new.board.state a) }
-    // A command that comes again is answered with what is kept of it, whatever the keeper does.
+    // A repeated command gets its original reply, whether or not the keeper fails.
     ensures again { (k : AKept) → moment ≤ desk.old.board.state.moment → MayAsk desk.old.board.state call.now
         → IsKeptFor desk.old.board.state call.now k
         → IfOk result (λ a. IsSaid (done_again k desk.old.board.state) desk.new.board.state a) }
-    // So is one that comes with a later moment, once the tick to it is put in place.
+    // A repeated command with a later moment gets its original reply too, if the tick to that moment was installed.
     ensures late { (k : AKept) → desk.old.board.state.moment < moment → desk.new.board.state.moment ≡ moment
         → MayAsk desk.old.board.state call.now → IsKeptFor desk.old.board.state call.now k
         → IfOk result
         (λ a. IsSaid (done_again k (tick_to desk.old.board.state lane moment).state) desk.new.board.state a) }
-    // Of whatever is kept then: the command may be left out of a list of items in which it comes again.
+    // Until a sweep, every command whose reply is stored may come again: the repeat changes no state and no other
+    // outcome.
     ensures kept { IfOk result (λ a. AllMayComeAgain desk.new.board.state) }
     ensures shown { IfOk result (λ a. IsShown a.outcome) }
     ensures err { OnErr result (MayHaveTicked lane moment desk.old.board.state desk.new.board.state) }
     ensures on { DeskGoesOn (desk_seen K.seen B.seen desk.old) (desk_seen K.seen B.seen desk.new) }
-    // What changes nothing isn't kept.
+    // A call that changes nothing, at a moment that has come, leaves the keeper untouched.
     ensures still { moment ≤ desk.old.board.state.moment → adds desk.old.board.state
         (answer_call desk.old.board.state lane call.now) ≡ false → desk.new.keeper ≡ desk.old.keeper }
-    // No more plans are judged than the tick and the call together may judge.
+    // `steps` counts the plans judged: at most as many as the tick and the call may judge together.
     ensures steps { steps.new ≤ steps.old + most_answered lane desk.old.board.state moment call.now.ask }
 {
     let judged = answer_with(alloc, desk, lane, moment, call, steps)?;

@@ -9,29 +9,29 @@ use desk_io::{OutOfMemory, Run};
 use desk_state::Item;
 use std::alloc::Global;
 
-/// Items that come one after another, each when its turn comes.
+/// A sequence of items, each produced when it is needed.
 pub(crate) trait Items {
-    /// Those that are still to come.
+    /// The remaining items.
     ghost left: { Self → List AnItem };
 
-    /// How many these are.
+    /// The number of remaining items.
     fn how_many(&self) -> usize
         ensures { result ≡ length (left self.now) };
 
-    /// The next one, and none after the last.
+    /// Returns the next item, or none after the last.
     fn next(&mut self, alloc: Global) -> Result<Option<Item>, OutOfMemory>
         ensures comes { IfOk result (λ o. Comes o (left self.old) (left self.new)) }
         ensures form { IfOk result (λ o. IfSome o IsAskable) };
 }
 
-/// The lines of a script that are still to come, each of which is read when its turn comes.
+/// The remaining lines of a script. Each is read when it is needed.
 #[derive(Drop)]
 pub(crate) struct Lines<'a> {
     left: &'a [Run<'a>],
 }
 
 impl<'a> Lines<'a> {
-    /// All of them.
+    /// Starts with all lines.
     pub(crate) fn of(lines: &'a [Run<'a>]) -> Lines<'a>
         ensures { result.left.now ≡ lines.now }
     {

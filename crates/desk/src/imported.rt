@@ -34,7 +34,7 @@ fn item_of(line: Line) -> Item
     }
 }
 
-/// The records of an import that are still to come.
+/// The remaining records of an import, in order.
 #[derive(Drop)]
 struct Records {
     left: IntoIter<Line>,
@@ -80,7 +80,8 @@ impl Items for Records {
     }
 }
 
-/// The text of a run of the lines of an import: a reply for each record, and the closing text.
+/// Answers the records of an import one by one. Returns the text: a line for each record, then the closing text with
+/// the board and the weather.
 pub fn text_of_import<K: Keeper, B: Bell, G: Gate, L: Ledger>(
     alloc: Global,
     desk: &mut Desk<K, B>,
@@ -92,7 +93,7 @@ pub fn text_of_import<K: Keeper, B: Bell, G: Gate, L: Ledger>(
     ensures run { IfOk result (λ v. IsRunOf (K.seen desk.old.keeper).health.faults
         (K.seen desk.new.keeper).health.faults desk.old.board.state (items_of_lines lines.items)
         desk.new.board.state v.items) }
-    // Where memory ran out: a front of the records was answered whole, and nothing more was done but at most a tick.
+    // If memory runs out, a prefix of the records was answered. Of the next record at most the tick was made.
     ensures err { OnErr result (AreGivenInPart 1 (K.seen desk.old.keeper).health.faults
         (K.seen desk.new.keeper).health.faults desk.old.board.state (items_of_lines lines.items)
         desk.new.board.state) }

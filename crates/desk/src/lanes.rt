@@ -19,7 +19,7 @@ use keeper::Keeper;
 use std::alloc::Global;
 use std::marker::Model;
 
-/// The items of a script in their order, and what has come of them.
+/// The items of a script in order, and their outcomes so far.
 #[derive(Drop)]
 pub struct Lane {
     items: Vec<Item>,
@@ -39,7 +39,7 @@ impl Model for Lane {
     ghost invariant = { λ l. AllByRecursion IsAskable l.items.items × AllByRecursion IsShown l.outcomes.items };
 }
 
-/// The item of a line.
+/// Reads a line of a script: a call at a moment, or the line's first fault.
 pub(crate) fn read_item(alloc: Global, line: &[u8]) -> Result<Item, OutOfMemory>
     ensures value { IfOk result (λ i. i ≡ spec.item_of (line_or_fault line.now)) }
     ensures form { IfOk result IsAskable }
@@ -66,7 +66,7 @@ fn items_in(alloc: Global, lines: &[Run<'_>]) -> Result<Vec<Item>, OutOfMemory>
 }
 
 impl Lane {
-    /// The items of a script: one for each line that has a byte, and nothing has come of them yet.
+    /// The lane of a script: an item for each nonempty line, and no outcome yet.
     pub fn of(alloc: Global, script: &[u8]) -> Result<Lane, OutOfMemory>
         ensures { IfOk result (λ l. l ≡ lane_with (items_of (lines_of script.now)) []) }
     {
@@ -78,7 +78,7 @@ impl Lane {
         })
     }
 
-    /// What has come of the items so far, in their order.
+    /// The outcomes so far, in the order of the items.
     pub fn outcomes(&self) -> &[Outcome]
         ensures made { result.now ≡ self.now.outcomes }
         ensures shown { AllByRecursion IsShown result.now }
@@ -86,7 +86,6 @@ impl Lane {
         &self.outcomes
     }
 
-    /// The items.
     pub(crate) fn items(&self) -> &[Item]
         ensures items { result.now ≡ self.now.items }
         ensures form { AllByRecursion IsAskable result.now }
@@ -94,7 +93,8 @@ impl Lane {
         &self.items
     }
 
-    /// The lane's next item is answered, if there is one: whether there was. Its outcome has its memory before.
+    /// Answers the lane's next item. Returns whether there was one. Room for the outcome is reserved before the item
+    /// is answered, so that no answer is lost if memory runs out.
     pub(crate) fn take_turn<K: Keeper, B: Bell>(
         &mut self,
         alloc: Global,
@@ -120,7 +120,7 @@ impl Lane {
         }
     }
 
-    /// How many of the items have come to something.
+    /// The number of items that have an outcome.
     pub(crate) fn done(&self) -> usize
         ensures { result ≡ length self.now.outcomes }
     {

@@ -1,4 +1,5 @@
-//! The dispatch release desk: opened over kept rows, it answers calls and lanes.
+//! The dispatch release desk. It opens over stored rows, then answers calls, scripts, imports, and lanes that run at
+//! once.
 #![tactic(auto)]
 
 mod answering;

@@ -54,7 +54,7 @@ fn refused_in(outcomes: &[Outcome]) -> usize
     outcomes.iter().filter(|o| is_refused(&o.said)).count()
 }
 
-// How many items are made with so many flights.
+// The number of items that are made for `count` flights.
 #[tactic(auto, using(crate::proofs::MadeLaws::many_made))]
 fn how_many(count: u32) -> u64
     ensures { (number : ℕ) (came : Came) → result ≡ length (made_items number count came) }
@@ -62,7 +62,7 @@ fn how_many(count: u32) -> u64
     3 + 5 * u64::from(count)
 }
 
-// What comes of a call that is made, the item of that number.
+// Answers a made call. `number` counts the items from 1.
 fn answer_made_call<K: Keeper, B: Bell, G: Gate, L: Ledger>(
     alloc: Global,
     desk: &mut Desk<K, B>,
@@ -85,7 +85,7 @@ fn answer_made_call<K: Keeper, B: Bell, G: Gate, L: Ledger>(
     Ok(outcome_of(answered))
 }
 
-// What comes of the calls that are made of a number.
+// Makes the calls of a seed, and answers them one by one.
 fn outcomes_made<K: Keeper, B: Bell, G: Gate, L: Ledger>(
     alloc: Global,
     desk: &mut Desk<K, B>,
@@ -126,7 +126,7 @@ fn push_first(alloc: Global, out: &mut Vec<u8>, number: u32, count: u32) -> Resu
     )
 }
 
-// Three words, each with its number.
+// Writes a line of three words, each followed by its count.
 fn push_counts(
     alloc: Global,
     out: &mut Vec<u8>,
@@ -180,8 +180,8 @@ fn text_of_made(
     Ok(out)
 }
 
-/// Makes the calls of a number, with so many flights, one by one, each once it is known what came of those before it,
-/// and tells how many were made, done and refused, and what is held at the end.
+/// Makes the calls of a seed for `count` flights, and answers them one by one. A call may depend on the outcomes
+/// before it. Returns three lines: how many calls were made, done and refused, and what the board holds at the end.
 pub fn make_from<K: Keeper, B: Bell, G: Gate, L: Ledger>(
     alloc: Global,
     desk: &mut Desk<K, B>,
@@ -193,7 +193,7 @@ pub fn make_from<K: Keeper, B: Bell, G: Gate, L: Ledger>(
     requires { count ≤ 20_000 }
     ensures made { IfOk result (λ v. IsMade (K.seen desk.old.keeper).health.faults
         (K.seen desk.new.keeper).health.faults desk.old.board.state number count desk.new.board.state v.items) }
-    // Where memory ran out: a front of the items was answered whole, and after it nothing was done but at most a tick.
+    // If memory runs out, a prefix of the items was answered. Of the next item at most the tick was made.
     ensures err { OnErr result (IsMadeInPart (K.seen desk.old.keeper).health.faults
         (K.seen desk.new.keeper).health.faults desk.old.board.state number count desk.new.board.state) }
     ensures on { DeskGoesOn (desk_seen K.seen B.seen desk.old) (desk_seen K.seen B.seen desk.new) }

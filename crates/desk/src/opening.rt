@@ -26,11 +26,11 @@ use std::sync::ledger::Ledger;
 /// Why a desk can't be opened.
 #[derive(Debug, Drop)]
 pub enum OpenWhy {
-    /// The keeper failed, and counted it.
+    /// The keeper failed, and counted the fault.
     KeeperFault,
-    /// A row isn't one of a desk.
+    /// The row isn't one that a desk writes.
     BadRow { row: Row, why: RowWhy },
-    /// Two rows don't fit one another.
+    /// The two rows contradict each other.
     BadPair { one: Row, two: Row },
     OutOfMemory,
 }
@@ -43,7 +43,7 @@ impl From<OutOfMemory> for OpenWhy {
     }
 }
 
-/// Why a desk can't be opened, the keeper of its rows, which are as before, and who would have rung its bells.
+/// Why a desk couldn't be opened. The caller gets back the keeper, whose rows are unchanged, and the ringer.
 #[derive(Drop)]
 pub struct OpenFault<K, B> {
     pub keeper: K,
@@ -93,7 +93,7 @@ fn checked(alloc: Global, rows: &[Row]) -> Result<Checked, OpenWhy>
     }
 }
 
-// The records of the rows that a keeper has.
+// Loads the keeper's rows and checks them.
 fn records_of<K: Keeper>(alloc: Global, keeper: &mut K) -> Result<Checked, OpenWhy>
     ensures loaded { IfOk result (λ found. AreLoaded (K.seen keeper.old).rows found.records.items found.is_old) }
     ensures desk { IfOk result (λ found. AreOfDesk found.records.items) }
@@ -107,7 +107,7 @@ fn records_of<K: Keeper>(alloc: Global, keeper: &mut K) -> Result<Checked, OpenW
     checked(alloc, &rows)
 }
 
-// Keeps what restoring changed of the rows.
+// Stores the changes that restoring the board made to the rows. Requests no commit if there are none.
 #[tactic(auto, using(crate::proofs::Opened::leads_nowhere))]
 fn keep_changes<K: Keeper>(alloc: Global, keeper: &mut K, changes: &[Change]) -> Result<(), OpenWhy>
     ensures ok { OnOk result (Leads (K.seen keeper.old).rows changes.now (K.seen keeper.new).rows) }
@@ -125,13 +125,13 @@ fn keep_changes<K: Keeper>(alloc: Global, keeper: &mut K, changes: &[Change]) ->
     }
 }
 
-// A board over rows that can't be kept.
+// Drops a board whose changes couldn't be stored, in a function of its own, which keeps the caller's proof small.
 fn drop_board(_: Board) {}
 
-/// Lets go of tables under which no desk is opened.
+/// Drops tables for which no desk was opened, in a function of its own, which keeps the caller's proof small.
 pub fn leave(_: Tables) {}
 
-// The board that was restored, once what changed is kept.
+// Stores the changes of restoring the board, then returns the board.
 fn finish<K: Keeper>(alloc: Global, keeper: &mut K, restored: Restored) -> Result<Board, OpenWhy>
     ensures board { IfOk result (λ b. b ≡ restored.board) }
     ensures ok { OnOk result (Leads (K.seen keeper.old).rows restored.changes.items (K.seen keeper.new).rows) }
@@ -150,7 +150,7 @@ fn finish<K: Keeper>(alloc: Global, keeper: &mut K, restored: Restored) -> Resul
     }
 }
 
-// The board of records that were loaded.
+// Restores the board from loaded records, and stores what that changed.
 fn restore<K: Keeper, L: Ledger>(
     alloc: Global,
     tables: Tables,
@@ -213,7 +213,7 @@ fn open_over<K: Keeper, B: Bell, L: Ledger>(
     }
 }
 
-// The same, without what is special of rows that a desk has left.
+// As `open`, without its clause `left`.
 fn open_desk<K: Keeper, B: Bell, L: Ledger>(
     alloc: Global,
     tables: Tables,
@@ -247,12 +247,12 @@ fn open_desk<K: Keeper, B: Bell, L: Ledger>(
     }
 }
 
-/// Opens a desk over the rows of a keeper: these are loaded and checked, and the board that they stand for is restored
-/// under the tables. Rows of the first version are rewritten. What that changed of the rows is kept, in one commit.
-/// After an error they are as before. No bell is rung.
+/// Opens a desk over the keeper's rows: loads and checks the rows, restores the board from them, and judges its
+/// releases by the tables. Rows of the first version are rewritten. All changes to the rows are stored in one commit.
+/// After an error the rows are unchanged. No bell is rung.
 ///
-/// Rows that a desk has left, of either version, are opened under any tables, and stand for the state in which it left
-/// them.
+/// Rows that a desk left, in either version, open under any tables. The board gets the state in which the desk left
+/// them, judged anew.
 pub fn open<K: Keeper, B: Bell, L: Ledger>(
     alloc: Global,
     tables: Tables,
@@ -265,16 +265,16 @@ pub fn open<K: Keeper, B: Bell, L: Ledger>(
     ensures same { IfErr result (λ f. (K.seen f.keeper).rows ≡ (K.seen keeper).rows) }
     ensures why { IfErr result (λ f. IsWhy (K.seen keeper).rows
         (HasFailed (K.seen keeper).health (K.seen f.keeper).health) f.why) }
-    // A commit is asked for exactly where an alert changed, or the rows are of the first version.
+    // A commit is requested exactly if an alert changed or the rows are of the first version.
     ensures asked { IfOk result (λ d. AreAsked (K.seen keeper).rows tables (K.seen keeper).commits
         (K.seen d.keeper).commits) }
-    // Where none is opened, no more was asked for than that.
+    // If no desk is opened, at most that commit was requested.
     ensures failed { IfErr result (λ f. MayHaveAsked (K.seen keeper).rows tables (K.seen keeper).commits
         (K.seen f.keeper).commits) }
     ensures on { MatchResult result (λ d. KeeperGoesOn (K.seen keeper) (K.seen d.keeper))
         (λ f. KeeperGoesOn (K.seen keeper) (K.seen f.keeper)) }
     ensures ringer { MatchResult result (λ d. d.ringer ≡ ringer) (λ f. f.ringer ≡ ringer) }
-    // Over the rows of a desk that was left there is no fault of rows.
+    // Rows that a desk left have no fault: only the keeper or memory can fail.
     ensures left { (s : State) → IsLeft s → TellsRowsOf (K.seen keeper).rows s
         → MatchResult result (λ d. d.board.state ≡ reopened (under tables s))
         (λ f. IsOfKeeper (HasFailed (K.seen keeper).health (K.seen f.keeper).health) f.why) }

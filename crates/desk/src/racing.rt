@@ -15,7 +15,7 @@ use desk_state::{Entry, Outcome, What};
 use desk_time::show;
 use std::alloc::Global;
 
-/// The lanes of scripts, of which nothing has come yet.
+/// A lane for each script, without outcomes yet.
 pub(crate) fn lanes_of(alloc: Global, scripts: &[Text]) -> Result<Vec<Lane>, OutOfMemory>
     ensures { IfOk result (λ v. v.items ≡ lanes_of scripts.now) }
 {
@@ -115,7 +115,7 @@ fn push_lanes(alloc: Global, out: &mut Vec<u8>, lanes: &[Lane]) -> Result<(), Ou
     Ok(())
 }
 
-/// The text of a race: the history, what came of each lane, and the closing text.
+/// The text of a race: the history, the outcomes of each lane, and the closing text.
 #[tactic(auto, unfolding(crate::specs::Race::race_text))]
 pub(crate) fn race_text(alloc: Global, board: &Board, lanes: &[Lane]) -> Result<Text, OutOfMemory>
     requires { IsTrue board.now.listed }

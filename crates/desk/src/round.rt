@@ -12,7 +12,8 @@ use keeper::Keeper;
 use std::alloc::Global;
 use std::marker::{Brand, Model, PhantomData};
 
-/// Where lanes begin to run. Each call picks it.
+/// The desk and the items with which lanes begin to run. It exists only in contracts: each call of `run_lanes` has
+/// its own.
 pub trait Beginning {
     ghost use Rattle.desk.specs.Round.{Began};
 
@@ -25,13 +26,15 @@ impl Beginning for Brand {
     ghost began = { nowhere };
 }
 
-/// What lies under the lock of lanes that run at once: the desk, and the lanes with what has come of them so far.
-/// Whenever the lock is free these are merged into the board's one history, and what is kept is kept for its state.
+/// The data under the lock of lanes that run at once: the desk, and each lane with its outcomes so far.
+///
+/// Whenever the lock is free, the outcomes so far form one history. Stored rows that matched the desk's state at the
+/// start match it still.
 #[derive(Drop)]
 pub struct Round<J: Beginning, K: Keeper, B: Bell> {
     desk: Desk<K, B>,
     lanes: Vec<Lane>,
-    // Memory ran out, and nothing more is done.
+    // Whether memory ran out. No further item is answered then.
     ended: bool,
     of: PhantomData<J>,
 }
@@ -48,7 +51,7 @@ impl<J: Beginning, K: Keeper, B: Bell> Model for Round<J, K, B> {
 }
 
 impl<J: Beginning, K: Keeper, B: Bell> Round<J, K, B> {
-    /// The desk and lanes of which nothing has come yet.
+    /// Starts with lanes that have no outcomes yet.
     pub fn new(desk: Desk<K, B>, lanes: Vec<Lane>) -> Round<J, K, B>
         requires desk { J.began.desk ≡ desk_seen K.seen B.seen desk }
         requires items { J.began.items ≡ map items_in lanes.items }
@@ -62,7 +65,7 @@ impl<J: Beginning, K: Keeper, B: Bell> Round<J, K, B> {
         }
     }
 
-    /// How many items of the lane at a place have come to something, and how many it has.
+    /// Returns how many items of a lane have an outcome, and how many items it has. `place` counts lanes from 0.
     pub fn lines(&self, place: usize) -> (usize, usize) {
         match self.lanes.get(place) {
             Some(lane) => (lane.done(), lane.items().len()),
@@ -70,8 +73,8 @@ impl<J: Beginning, K: Keeper, B: Bell> Round<J, K, B> {
         }
     }
 
-    /// The next item of the lane at a place is answered, if there is one and memory never ran out: whether it was. It
-    /// is answered in the state that the desk has now; where it wasn't, no more has come of the lanes.
+    /// Answers the next item of a lane in the desk's present state. `place` counts lanes from 0. Returns false if no
+    /// item was left, or memory ran out now or before. Then the lanes are unchanged.
     pub fn turn(&mut self, alloc: Global, place: usize) -> bool
         ensures taken { MatchBool result (IsTaken place self.old self.new) (self.new.lanes ≡ self.old.lanes) }
     {
@@ -88,7 +91,7 @@ impl<J: Beginning, K: Keeper, B: Bell> Round<J, K, B> {
         }
     }
 
-    /// Its parts, and whether memory ran out.
+    /// Returns the desk, the lanes, and whether memory ran out.
     pub fn into_parts(self) -> (Desk<K, B>, Vec<Lane>, bool)
         ensures on { DeskGoesOn J.began.desk (desk_seen K.seen B.seen result.0) }
         ensures items { map items_in result.1.items ≡ J.began.items }

@@ -24,7 +24,7 @@ use rules::Steps;
 use std::alloc::Global;
 use std::sync::ledger::Ledger;
 
-// The lane of a script's calls.
+// The lane of a run that has only one.
 pub(crate) const LANE: u32 = 1;
 
 fn bad_line(alloc: Global, board: &Board, fault: &BadCall) -> Result<Answered, OutOfMemory>
@@ -64,7 +64,7 @@ pub(crate) fn answer_item<K: Keeper, B: Bell, L: Ledger>(
     }
 }
 
-/// The item of that number is answered in lane 1, between the calls of the gate.
+/// Answers an item in lane 1, between the two callbacks of the gate. `number` counts the items from 1.
 pub(crate) fn answer_passed<K: Keeper, B: Bell, G: Gate, L: Ledger>(
     alloc: Global,
     desk: &mut Desk<K, B>,
@@ -93,7 +93,7 @@ pub(crate) fn outcome_of(answered: Answered) -> Outcome
     outcome
 }
 
-/// The JSON of what is said, in one line without its end.
+/// The JSON of a reply, or of the fault of a malformed line. It is one line, without the line feed.
 pub fn said_text(alloc: Global, said: &Said) -> Result<Text, OutOfMemory>
     requires { CanBeSaid said.now }
     ensures { IfOk result (λ text. text ≡ spec.said_text said.now) }
@@ -125,7 +125,8 @@ pub(crate) fn push_closing(
     Ok(())
 }
 
-/// The text of a run of items: each is answered when its turn comes, and of what it came to its line is kept alone.
+/// Answers items one by one. Returns the text of the run: a line for each item, then the closing text. Each outcome
+/// is written and dropped before the next item.
 pub(crate) fn text_of_items<K: Keeper, B: Bell, G: Gate, L: Ledger, I: Items>(
     alloc: Global,
     desk: &mut Desk<K, B>,
@@ -151,7 +152,8 @@ pub(crate) fn text_of_items<K: Keeper, B: Bell, G: Gate, L: Ledger, I: Items>(
     Ok(out)
 }
 
-/// The text of a run that goes on from what a desk holds: a reply for each line that has a byte, and the closing text.
+/// Runs a script from the desk's present state. Returns the text: a line for each nonempty line of the script, then
+/// the closing text with the board and the weather.
 pub fn text_from<K: Keeper, B: Bell, G: Gate, L: Ledger>(
     alloc: Global,
     desk: &mut Desk<K, B>,
@@ -161,7 +163,7 @@ pub fn text_from<K: Keeper, B: Bell, G: Gate, L: Ledger>(
 ) -> Result<Vec<u8>, OutOfMemory>
     ensures run { IfOk result (λ v. IsRun (K.seen desk.old.keeper).health.faults
         (K.seen desk.new.keeper).health.faults desk.old.board.state script.now desk.new.board.state v.items) }
-    // Where memory ran out: a front of the lines was answered whole, and after it nothing was done but at most a tick.
+    // If memory runs out, a prefix of the lines was answered. Of the next line at most the tick was made.
     ensures err { OnErr result (IsRunInPart (K.seen desk.old.keeper).health.faults
         (K.seen desk.new.keeper).health.faults desk.old.board.state script.now desk.new.board.state) }
     ensures on { DeskGoesOn (desk_seen K.seen B.seen desk.old) (desk_seen K.seen B.seen desk.new) }

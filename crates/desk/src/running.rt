@@ -21,12 +21,12 @@ use std::sync::{Mutex, Wait};
 use std::thread;
 use std::thread::Threads;
 
-/// What several threads do in turns, lane by lane. Lanes and lines are counted from 0.
+/// Work that threads share, one line at a time. Lanes and lines count from 0.
 trait Turns {
-    /// How many lines of the lane are done, and how many there are.
+    /// Returns how many lines of the lane are done, and how many it has.
     fn lines(&self, place: usize) -> (usize, usize);
 
-    /// Does the next line of the lane, and says whether it did.
+    /// Does the next line of the lane. Returns whether it did.
     fn turn(&mut self, alloc: Global, place: usize) -> bool;
 }
 
@@ -40,12 +40,12 @@ impl<J: Beginning, K: Keeper, B: Bell> Turns for Round<J, K, B> {
     }
 }
 
-// A number from 1 for what is counted from 0.
+// The number from 1 of a place from 0, at most 2^32 - 1.
 fn numbered(place: usize) -> u32 {
     place.min(4_294_967_294) as u32 + 1
 }
 
-// What is left of a lane, line by line, with the lock taken for each.
+// Does the remaining lines of a lane, taking the lock for each.
 fn work<M: Turns, G: Gate, R: Wait>(
     rt: &R,
     alloc: Global,
@@ -64,7 +64,7 @@ fn work<M: Turns, G: Gate, R: Wait>(
     }
 }
 
-// As many threads as there are lanes take turns, and then this one does what they left.
+// Runs each lane in a thread of its own, if the machine provides one. Then this thread does what they left.
 fn in_threads<M: Turns + Send, G: Gate + Sync, R: Threads + Wait + Sync>(
     rt: &R,
     alloc: Global,
@@ -87,16 +87,16 @@ fn in_threads<M: Turns + Send, G: Gate + Sync, R: Threads + Wait + Sync>(
     held.into_inner()
 }
 
-/// What is left of lanes that ran at once.
+/// The desk and the lanes after the lanes ran at once.
 #[derive(Drop)]
 pub struct Finished<K, B> {
     pub desk: Desk<K, B>,
     pub lanes: Vec<Lane>,
-    /// Each item was answered: memory never ran out.
+    /// Whether every item was answered. False if memory ran out.
     pub whole: bool,
 }
 
-// How many items lanes have, as far as 64 bits count.
+// The number of items of all lanes, at most 2^64 - 1.
 fn items_of_all(lanes: &[Lane]) -> u64
     ensures { result ≡ min (sum_by (λ l. length (items_in l)) lanes.now) (2 ^ 64 - 1) }
 {
@@ -152,8 +152,9 @@ fn run_from<
     Finished { desk, lanes, whole }
 }
 
-/// Lanes run on a desk at once, a thread for each where one can be had, and the lock is taken for each item. What has
-/// come of them is merged into the board's one history. Where memory ran out nothing more is done.
+/// Runs lanes at once on one desk, each in a thread of its own if the machine provides one. A thread takes the lock
+/// for each item, so the outcomes of all lanes form the board's one history. If memory runs out, no further item is
+/// answered.
 pub fn run_lanes<K: Keeper + Send, B: Bell + Send, G: Gate + Sync, R: Threads + Wait + Sync>(
     rt: &R,
     alloc: Global,
@@ -162,17 +163,16 @@ pub fn run_lanes<K: Keeper + Send, B: Bell + Send, G: Gate + Sync, R: Threads + 
     gate: &G,
 ) -> Finished<K, B>
     requires fresh { AllByRecursion IsFresh lanes.items }
-    // Each lane has its items.
+    // Each lane keeps its items.
     ensures items { map items_in result.lanes.items ≡ map items_in lanes.items }
-    // Each item has its outcome, in the one history that leads from the state of the desk to the one that it is left
-    // in.
+    // Every item has its outcome, in the one history from the first state of the desk to its last.
     ensures merged { OnTrue result.whole (AreMerged (K.seen desk.keeper).health.faults
         (K.seen result.desk.keeper).health.faults desk.board.state result.lanes.items result.desk.board.state) }
     ensures done { OnTrue result.whole (list_all is_done result.lanes.items ≡ true) }
-    // So what is said of each item follows from where it stands there.
+    // Each outcome follows from its position in the history.
     ensures history { OnTrue result.whole (AreOneHistory (K.seen desk.keeper).health.faults
         (K.seen result.desk.keeper).health.faults desk.board.state result.lanes.items result.desk.board.state) }
-    // What had come of them is merged too where memory ran out, and then nothing was done but at most one tick.
+    // If memory ran out, the outcomes so far form one history. After them at most one tick was made.
     ensures part { AreMergedInPart (K.seen desk.keeper).health.faults (K.seen result.desk.keeper).health.faults
         desk.board.state result.lanes.items result.desk.board.state }
     ensures on { DeskGoesOn (desk_seen K.seen B.seen desk) (desk_seen K.seen B.seen result.desk) }
@@ -182,7 +182,7 @@ pub fn run_lanes<K: Keeper + Send, B: Bell + Send, G: Gate + Sync, R: Threads + 
     run_from::<Brand, K, B, G, R>(rt, alloc, desk, lanes, gate)
 }
 
-/// What is left of a race: the desk, and the text, or want of memory.
+/// The desk after a race, and the text of the race, or out of memory.
 #[derive(Drop)]
 pub struct Raced<K, B> {
     pub desk: Desk<K, B>,
@@ -204,8 +204,8 @@ fn told_of<K: Keeper, B: Bell>(alloc: Global, finished: Finished<K, B>) -> Raced
     Raced { desk, text }
 }
 
-/// Scripts are the lanes of a race on a desk whose board holds the entries of its history: they run at once, and the
-/// text is told once each of their lines has its outcome.
+/// Runs scripts at once, each as a lane. Returns the text of the race if every line has its outcome. The board must
+/// hold the entries of its history.
 pub fn race<K: Keeper + Send, B: Bell + Send, G: Gate + Sync, R: Threads + Wait + Sync>(
     rt: &R,
     alloc: Global,
@@ -216,7 +216,7 @@ pub fn race<K: Keeper + Send, B: Bell + Send, G: Gate + Sync, R: Threads + Wait 
     requires listed { IsTrue desk.board.listed }
     ensures race { IfOk result.text (λ t. IsRace (K.seen desk.keeper).health.faults
         (K.seen result.desk.keeper).health.faults desk.board.state scripts.now result.desk.board.state t) }
-    // Where memory ran out: what had come of the lines was answered whole, and nothing was done but at most one tick.
+    // If memory ran out, some of the lines were answered. After them at most one tick was made.
     ensures part { IsRaceInPart (K.seen desk.keeper).health.faults (K.seen result.desk.keeper).health.faults
         desk.board.state scripts.now result.desk.board.state }
     ensures on { DeskGoesOn (desk_seen K.seen B.seen desk) (desk_seen K.seen B.seen result.desk) }

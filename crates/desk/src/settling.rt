@@ -15,7 +15,7 @@ use desk_io::{Change, OutOfMemory};
 use keeper::{KeepFault, Keeper};
 use std::alloc::Global;
 
-/// A desk: its board, the keeper of its rows, and who rings its bells.
+/// A desk: the board, the keeper that stores its rows, and the ringer of its bells.
 #[derive(Drop)]
 pub struct Desk<K, B> {
     pub board: Board,
@@ -23,7 +23,7 @@ pub struct Desk<K, B> {
     pub ringer: Ringer<B>,
 }
 
-/// What came of a step, and the keeper's count of faults where it wasn't kept.
+/// The result of a step. If the keeper failed to store the step, `fault` is the keeper's count of faults.
 #[derive(Drop)]
 pub(crate) struct Settled {
     pub reply: Option<Reply>,
@@ -31,7 +31,8 @@ pub(crate) struct Settled {
     pub fault: Option<u64>,
 }
 
-// A fault is told by the new count. Where that is the one before, the count is full, and it isn't told.
+// A fault is reported by the keeper's new count. If the count couldn't rise, since it is saturated, the fault is
+// reported as out of memory.
 fn told(before: u64, faults: u64) -> Result<Option<u64>, OutOfMemory>
     requires { before ≤ faults }
     ensures told { IfOk result (λ fault. fault ≡ Some faults) }
@@ -44,7 +45,7 @@ fn told(before: u64, faults: u64) -> Result<Option<u64>, OutOfMemory>
     }
 }
 
-// Keeps changes, or none of them: then it answers the keeper's count of faults.
+// Stores all changes, or none of them. Returns the keeper's count of faults if it failed, otherwise none.
 fn keep<K: Keeper>(
     alloc: Global,
     keeper: &mut K,
@@ -78,7 +79,7 @@ fn unkept(alloc: Global, faults: u64) -> Settled
     }
 }
 
-/// What came of a call whose tick was refused.
+/// The result of a call whose tick was refused: the tick's reply.
 pub(crate) fn stayed(alloc: Global, reply: Reply) -> Settled
     ensures reply { result.reply ≡ Some reply }
     ensures notices { result.notices ≡ [] }
@@ -91,7 +92,7 @@ pub(crate) fn stayed(alloc: Global, reply: Reply) -> Settled
     }
 }
 
-// Puts a step in place, and rings for what it tells.
+// Installs a prepared step, and rings the bells for its notices.
 fn install<B: Bell>(board: &mut Board, ringer: &mut Ringer<B>, prepared: Prepared) -> Settled
     requires { board.old.room ≡ Some prepared }
     ensures settled { IsSettled result board.new.state (stepped_by board.old.state prepared) }
@@ -111,11 +112,11 @@ fn install<B: Bell>(board: &mut Board, ringer: &mut Ringer<B>, prepared: Prepare
     }
 }
 
-// A step that isn't put in place.
+// Drops a step that isn't installed, in a function of its own, which keeps the caller's proof small.
 fn drop_prepared(_: Prepared) {}
 
-/// Keeps what a prepared step changes, puts the step in place, and rings for what it tells. One that changes something
-/// and isn't kept is refused.
+/// Stores the changes of a prepared step, installs the step, and rings the bells for its notices. If the keeper
+/// fails, the step is refused (26 `Unkept`) and changes nothing. A step without changes needs no commit.
 #[tactic(auto, using(crate::proofs::HeardLaws::nothing_rung))]
 pub(crate) fn settle<K: Keeper, B: Bell>(
     alloc: Global,
@@ -138,7 +139,7 @@ pub(crate) fn settle<K: Keeper, B: Bell>(
     ensures told { IfOk result (λ r. IfSome r.fault (λ n. r.reply ≡ Some (Reply.Refused (Refusal.Unkept n)))) }
     ensures asked { (K.seen desk.new.keeper).commits ≡ asked_if (is_some prepared.event)
         (K.seen desk.old.keeper).commits }
-    // What changes nothing isn't kept.
+    // A step without changes leaves the keeper untouched.
     ensures still { is_some prepared.event ≡ false → desk.new.keeper ≡ desk.old.keeper }
 {
     if !prepared.changed() {

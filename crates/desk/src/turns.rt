@@ -38,7 +38,7 @@ fn outcome_with<K: Keeper, B: Bell, L: Ledger>(
     Ok(outcome_of(answered))
 }
 
-/// What comes of an item of a lane. How many plans are judged isn't counted.
+/// Answers an item of a lane, without counting the plans that it judges.
 pub(crate) fn outcome<K: Keeper, B: Bell>(
     alloc: Global,
     desk: &mut Desk<K, B>,

@@ -1,4 +1,4 @@
--- The requests of a stream of bytes, and how a stream that has no further one ends.
+-- The requests in a stream of bytes, and how a stream ends that contains no further one.
 use Rattle.std.specs.Prelude.{◌≡◌, ◌≢◌, ◌≤◌, ◌<◌, ◌⊎◌, ℕ, List, [], ◌++◌, length, take, drop, Option, Some, None, Result, Ok, Err, MatchResult, Bool, true, false}
 use Rattle.httparse.specs.Grammar.{RequestHead, print_request, ReadsRequest, HasNoRequest, NeverHasRequest}
 use Rattle.httparse.specs.Spans.{IsRequestOf}
@@ -10,24 +10,24 @@ use Rattle.desk_http.specs.declared.wire.Wire.{Wire}
 use Rattle.desk_http.specs.declared.wire.WireFault.{WireFault}
 use Rattle.desk_http.specs.declared.wire.WireFault.TheVariants.{End, Cut, BadHead, TooLarge, NoLength, WrongMethod, ReadFault, OutOfMemory}
 
--- Of what was unread these bytes were read, and the others are still unread, where that is told.
+-- The bytes `read` were read from the unread ones, and the others are still unread, if the stream is known.
 abbrev pub Splits : Option (List ℕ) → List ℕ → Option (List ℕ) → Type 0
 Splits None read None = Unit {0}
 Splits (Some before) read (Some now) = before ≡ read ++ now
 Splits None read (Some now) = ⊥
 Splits (Some before) read None = ⊥
 
--- nothing is unread, where that is told
+-- nothing is unread, or the stream is unknown
 abbrev pub AtEnd : Option (List ℕ) → Type 0
 AtEnd None = Unit {0}
 AtEnd (Some unread) = unread ≡ []
 
--- bytes begin with a head within its limit, and then come others
+-- the bytes begin with a head within the limit, and `others` follow
 pub record HasHead (bytes : List ℕ) (head : RequestHead) (others : List ℕ) : Type 0 where
   pub reads : ReadsRequest bytes head others
   pub short : length (print_request head) ≤ head_limit
 
--- a request, from what its head asks for and from its body
+-- the request of a head that was checked and of a body
 abbrev pub wire_of : Asked → List ℕ → Wire
 wire_of asked body = record {
   get = asked.get;
@@ -38,43 +38,43 @@ wire_of asked body = record {
   last = asked.last;
 }
 
--- bytes begin with a head that asks for this, and then come others
+-- the bytes begin with a head that asks for `asked`, and `others` follow
 abbrev pub Begins : List ℕ → Asked → List ℕ → Type 0
 Begins bytes asked others = (head : RequestHead) × HasHead bytes head others × (asks head ≡ Ok asked)
 
--- bytes are a request and then others
+-- the bytes are a request, and then `others`
 pub record BeginsWithRequest (bytes : List ℕ) (wire : Wire) (others : List ℕ) : Type 0 where
   pub asked : Asked
   pub begins : Begins bytes asked (wire.body ++ others)
   pub whole : length wire.body ≡ asked.length
   pub wire_is : wire ≡ wire_of asked wire.body
 
--- bytes begin with a head that is refused
+-- the bytes begin with a head that is refused
 abbrev pub IsRefused : List ℕ → WireFault → Type 0
 IsRefused bytes fault = (head : RequestHead) × (others : List ℕ) × HasHead bytes head others × (asks head ≡ Err fault)
 
--- some bytes, fewer than a head may have, hold no whole head
+-- there are bytes, fewer than the limit of a head, and they contain no whole head
 abbrev pub IsPartOfHead : List ℕ → Type 0
 IsPartOfHead bytes = (bytes ≢ []) × HasNoRequest bytes × (length bytes < head_limit)
 
--- bytes are a head that asks for something, and fewer bytes than its body has
+-- the bytes are a head, and fewer bytes than its body has
 abbrev pub IsPartOfBody : List ℕ → Type 0
 IsPartOfBody bytes = (asked : Asked) × (body : List ℕ) × Begins bytes asked body × (length body < asked.length)
 
--- bytes are part of a request
+-- the bytes end before a whole head or before a whole body
 abbrev pub IsPart : List ℕ → Type 0
 IsPart bytes = IsPartOfHead bytes ⊎ IsPartOfBody bytes
 
--- bytes hold no whole request, and others may make them one
+-- there are no bytes, or they end before a whole head or before a whole body
 abbrev pub IsUnfinished : List ℕ → Type 0
 IsUnfinished bytes = (bytes ≡ []) ⊎ IsPart bytes
 
--- the first bytes, as many as a head may have, hold no whole head
+-- there are at least as many bytes as the limit of a head, and the first ones contain no whole head
 abbrev pub IsTooLong : List ℕ → Type 0
 IsTooLong bytes = (head_limit ≤ length bytes) × HasNoRequest (take head_limit bytes)
 
--- Why bytes give no request, if they are all or those that follow don't matter. A fault of the link and
--- want of memory say nothing of them.
+-- Why the bytes give no request, if no others follow or those don't matter. `ReadFault` and `OutOfMemory` imply
+-- nothing about the bytes.
 abbrev pub GivesNone : List ℕ → WireFault → Type 0
 GivesNone bytes End = bytes ≡ []
 GivesNone bytes Cut = IsPart bytes
@@ -85,53 +85,54 @@ GivesNone bytes WrongMethod = IsRefused bytes WrongMethod
 GivesNone bytes ReadFault = Unit {0}
 GivesNone bytes OutOfMemory = Unit {0}
 
--- Why the bytes that were read give no request. At End and Cut nothing more is unread.
+-- Why the bytes that were read give no request. At `End` and `Cut` nothing more is unread.
 abbrev pub Faults : List ℕ → Option (List ℕ) → WireFault → Type 0
 Faults bytes unread End = GivesNone bytes End × AtEnd unread
 Faults bytes unread Cut = GivesNone bytes Cut × AtEnd unread
 Faults bytes unread fault = GivesNone bytes fault
 
--- The bytes kept grew by bytes that were read.
+-- The kept bytes were extended by bytes that were read.
 abbrev pub HasRead : Option (List ℕ) → Option (List ℕ) → List ℕ → List ℕ → Type 0
 HasRead before now kept grown = (read : List ℕ) × (grown ≡ kept ++ read) × Splits before read now
 
--- no byte was read, and none was let go
+-- no byte was read, and the kept bytes are unchanged
 abbrev pub ReadsNone : Option (List ℕ) → Option (List ℕ) → List ℕ → List ℕ → Type 0
 ReadsNone before now kept left = (now ≡ before) × (left ≡ kept)
 
--- Why no request was read. Where the link failed, the bytes that were read till then are no whole request. Want of memory says nothing of them.
+-- Why no request was read. If the link failed, the bytes read so far are no whole request. `OutOfMemory` implies
+-- nothing about them.
 abbrev pub EndsBy : Option (List ℕ) → Option (List ℕ) → List ℕ → List ℕ → WireFault → Type 0
 EndsBy before now kept left ReadFault = HasRead before now kept left × IsUnfinished left
 EndsBy before now kept left OutOfMemory = Unit {0}
 EndsBy before now kept left fault = HasRead before now kept left × Faults left now fault
 
--- The first request of the bytes kept and of those that were read of the link, and the others are
--- kept; or why there is none.
+-- The first request in the kept bytes and those read from the link, after which the other bytes are kept; or why
+-- there is none.
 abbrev pub NextRequest : Option (List ℕ) → Option (List ℕ) → List ℕ → List ℕ → Result Wire WireFault → Type 0
 NextRequest before now kept left result =
     MatchResult result (λ wire. (bytes : List ℕ) × HasRead before now kept bytes × BeginsWithRequest bytes wire left) (EndsBy before now kept left)
 
--- a fault of the link, or want of memory
+-- a fault of the link, or out of memory
 abbrev pub IsOutside : WireFault → Type 0
 IsOutside ReadFault = Unit {0}
 IsOutside OutOfMemory = Unit {0}
 IsOutside fault = ⊥
 
--- the bytes kept, and then those that are unread, where these are told
+-- the kept bytes, and then the unread ones, if the stream is known
 abbrev pub unused : List ℕ → Option (List ℕ) → Option (List ℕ)
 unused kept None = None
 unused kept (Some unread) = Some (kept ++ unread)
 
--- Bytes are the first request and then others, or there is none.
+-- The bytes are the first request and then `others`, or they give none.
 abbrev pub GivesRequest : List ℕ → List ℕ → Result Wire WireFault → Type 0
 GivesRequest bytes others result = MatchResult result (λ wire. BeginsWithRequest bytes wire others) (GivesNone bytes)
 
--- the answer is this request or a fault of these, unless the link failed or memory ran out
+-- the result is this request or one of these faults, unless the link failed or memory ran out
 abbrev pub IsOneOf : (Wire → Type 0) → (WireFault → Type 0) → Result Wire WireFault → Type 0
 IsOneOf request faults result = MatchResult result request (λ fault. IsOutside fault ⊎ faults fault)
 
--- The answer to bytes, which leaves others. Each kind of bytes has one answer, but that bytes which will
--- never make a head may be refused as soon as this is seen.
+-- The result for the bytes, which leaves `others`. Each kind of bytes has one result, with an exception: bytes that
+-- can't become a head may be refused as soon as this is seen.
 pub record AnswersBytes (bytes others : List ℕ) (result : Result Wire WireFault) : Type 0 where
   pub gives : GivesRequest bytes others result
   pub request : (wire : Wire) (rest : List ℕ) → BeginsWithRequest bytes wire rest → IsOneOf (λ w. (w ≡ wire) × (others ≡ rest)) (λ _. ⊥) result
@@ -141,29 +142,29 @@ pub record AnswersBytes (bytes others : List ℕ) (result : Result Wire WireFaul
   pub in_body : IsPartOfBody bytes → IsOneOf (λ _. ⊥) (λ f. f ≡ Cut) result
   pub too_long : IsTooLong bytes → IsOneOf (λ _. ⊥) (λ f. (f ≡ TooLarge) ⊎ (f ≡ BadHead)) result
 
--- what the unused bytes are answered, and which are left, where the link tells
+-- the result for the unused bytes, and the bytes that it leaves, if the stream is known
 abbrev pub AnswersUnused : Option (List ℕ) → Option (List ℕ) → Result Wire WireFault → Type 0
 AnswersUnused None None result = Unit {0}
 AnswersUnused (Some bytes) (Some others) result = AnswersBytes bytes others result
 AnswersUnused _ _ result = ⊥
 
--- so many bytes are kept, or the end has come
+-- at least `count` bytes are kept, or the input has ended
 abbrev pub IsUpTo : ℕ → List ℕ → Option (List ℕ) → Bool → Type 0
 IsUpTo count grown now true = count ≤ length grown
 IsUpTo count grown now false = (length grown < count) × AtEnd now
 
--- why fewer bytes than so many are kept: the link failed, or memory ran out
+-- why fewer than `count` bytes are kept: the link failed, or memory ran out
 abbrev pub FallsShort : ℕ → Option (List ℕ) → Option (List ℕ) → List ℕ → List ℕ → WireFault → Type 0
 FallsShort count before now kept grown ReadFault = HasRead before now kept grown × (length grown < count)
 FallsShort count before now kept grown OutOfMemory = Unit {0}
 FallsShort count before now kept grown fault = ⊥
 
--- Reading a head: where its parts are, in as many bytes as a head may have; or why there is none.
+-- The places of the parts of a head that was read, within the limit of a head; or why there is none.
 abbrev pub ReadsHead : Option (List ℕ) → Option (List ℕ) → List ℕ → List ℕ → List HeaderSpan → Result RequestSpans WireFault → Type 0
 ReadsHead before now kept grown spans result =
     MatchResult result (λ head. HasRead before now kept grown × IsRequestOf (take head_limit grown) spans head) (EndsBy before now kept grown)
 
--- The bytes kept begin with a head of so many bytes, which asks for something.
+-- The kept bytes begin with a head of `start` bytes, which asks for `asked`.
 pub record IsBegun (before now : Option (List ℕ)) (kept grown : List ℕ) (asked : Asked) (start : ℕ) : Type 0 where
   pub read : HasRead before now kept grown
   pub begins : Begins grown asked (drop start grown)

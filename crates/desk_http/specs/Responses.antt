@@ -12,10 +12,10 @@ phrase_of status = unwrap_or (reason_phrase status) []
 abbrev pub status_line : ℕ → List ℕ
 status_line status = concat (codes "HTTP/1.1 " ∷ decimal status ∷ codes " " ∷ phrase_of status ∷ line_end ∷ [])
 
--- the fields of a body of so many bytes
+-- the header fields for a body of `count` bytes
 abbrev pub field_lines : ℕ → List ℕ
 field_lines count = concat (codes "Content-Type: application/json" ∷ line_end ∷ codes "Content-Length: " ∷ decimal count ∷ line_end ∷ [])
 
--- the bytes that answer a request with a status and a JSON body
+-- the response with a status and a JSON body
 unfoldable pub response : ℕ → List ℕ → List ℕ
 response status body = concat (status_line status ∷ field_lines (length body) ∷ line_end ∷ body ∷ [])

@@ -1,4 +1,4 @@
--- The routes of the desk: what a path and a method ask for.
+-- The desk's routes: what a path and a method ask for.
 use Rattle.std.specs.Prelude.{◌≡◌, ℕ, ◌==◌, Bool, not, ◌&&◌, List, codes, length, take, drop, if◌then◌else◌, Option, Some, None, Result, Ok, Err, MatchResult}
 use Rattle.std.specs.List.{list_any}
 use Rattle.std.specs.Option.{option_map}
@@ -11,11 +11,11 @@ use Rattle.desk_http.specs.declared.routes.Routed.TheVariants.{Post, Board, Aler
 use Rattle.desk_http.specs.declared.routes.RouteFault.{RouteFault}
 use Rattle.desk_http.specs.declared.routes.RouteFault.TheVariants.{NoRoute, WrongMethod, OutOfMemory}
 
--- what stands after a front
+-- the rest of the path after a prefix
 abbrev pub after : List ℕ → List ℕ → Option (List ℕ)
 after front path = if bytes_eq (take (length front) path) front then Some (drop (length front) path) else None
 
--- the route of a path that names nothing further
+-- the route of a path without parameters
 abbrev pub fixed_route : List ℕ → Option Routed
 fixed_route path =
     if bytes_eq path (codes "/call") then Some Post else (
@@ -30,7 +30,7 @@ release_route id = option_map Release (number_of 10 id)
 abbrev pub weather_route : List ℕ → Option Routed
 weather_route name = option_map Weather (station_of name)
 
--- 1 to 8 bytes, none of them a slash
+-- 1 to 8 bytes without a slash
 abbrev pub is_tail : List ℕ → Bool
 is_tail tail = has_length 8 tail && not (list_any (λ b. b == 47) tail)
 
@@ -38,7 +38,7 @@ is_tail tail = has_length 8 tail && not (list_any (λ b. b == 47) tail)
 abbrev pub deferred_route : List ℕ → Option Routed
 deferred_route tail = if is_tail tail then Some (Deferred tail) else None
 
--- what the fixed route and the texts after the three fronts come to
+-- the fixed route, or else the route of the first prefix that the path has
 abbrev pub route_among : Option Routed → Option (List ℕ) → Option (List ℕ) → Option (List ℕ) → Option Routed
 route_among (Some fixed) release weather deferred = Some fixed
 route_among None (Some id) weather deferred = release_route id
@@ -46,7 +46,7 @@ route_among None None (Some name) deferred = weather_route name
 route_among None None None (Some tail) = deferred_route tail
 route_among None None None None = None
 
--- the route of a path that is text
+-- the route of a path that is UTF-8
 abbrev pub route_in : List ℕ → Option Routed
 route_in path = route_among (fixed_route path) (after (codes "/release/") path) (after (codes "/weather/") path) (after (codes "/deferred/") path)
 
@@ -54,7 +54,7 @@ route_in path = route_among (fixed_route path) (after (codes "/release/") path) 
 unfoldable pub route_of : List ℕ → Option Routed
 route_of path = if is_utf8 path then route_in path else None
 
--- Calls are posted, and all else is a view, which is got.
+-- A call takes POST, and every view takes GET.
 abbrev pub takes : Bool → Routed → Bool
 takes get Post = not get
 takes get Board = get
@@ -63,7 +63,7 @@ takes get (Release id) = get
 takes get (Weather station) = get
 takes get (Deferred tail) = get
 
--- the path is tested first, then the method
+-- the path is checked first, then the method
 abbrev pub routed_by : Bool → Option Routed → Result Routed RouteFault
 routed_by get None = Err NoRoute
 routed_by get (Some route) = if takes get route then Ok route else Err WrongMethod
@@ -71,11 +71,12 @@ routed_by get (Some route) = if takes get route then Ok route else Err WrongMeth
 abbrev pub routed : Wire → Result Routed RouteFault
 routed wire = routed_by wire.get (route_of wire.path)
 
+-- the fault is the one wanted, or memory ran out
 abbrev pub Refuses : Result Routed RouteFault → RouteFault → Type 0
 Refuses wanted OutOfMemory = Unit {0}
 Refuses wanted NoRoute = wanted ≡ Err NoRoute
 Refuses wanted WrongMethod = wanted ≡ Err WrongMethod
 
--- the answer is the one that is wanted, or memory ran out
+-- the result is the one wanted, or memory ran out
 abbrev pub Routes : Result Routed RouteFault → Result Routed RouteFault → Type 0
 Routes wanted result = MatchResult result (λ route. wanted ≡ Ok route) (Refuses wanted)

@@ -4,11 +4,11 @@ use httparse::spans::HeaderSpan;
 use std::alloc::Global;
 use std::marker::Model;
 
-/// Bytes that were read and belong to no request yet. A contract sees the list of them.
+/// Bytes that were read and belong to no request yet. Contracts model the list of them.
 #[derive(Debug, Drop)]
 pub struct Buffer {
     pub(crate) bytes: Vec<u8>,
-    // The places of fields: empty until the first request.
+    // Room for the places of a head's fields, empty until the first request.
     pub(crate) spans: Vec<HeaderSpan>,
 }
 
@@ -21,7 +21,7 @@ impl Model for Buffer {
 }
 
 impl Buffer {
-    /// A buffer without bytes. It takes no memory.
+    /// Creates an empty buffer. Allocates nothing.
     pub fn new(alloc: Global) -> Buffer
         ensures { result ≡ [] }
     {

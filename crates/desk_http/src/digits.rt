@@ -4,7 +4,7 @@ ghost use Rattle.desk_http.specs.Digits as spec;
 
 use desk_time::all_digits;
 
-/// Whether a text has one to so many bytes.
+/// Returns true if a text has 1 to `most` bytes.
 pub(crate) fn has_length(most: usize, text: &[u8]) -> bool
     ensures { result ≡ spec.has_length most text.now }
 {
@@ -22,7 +22,7 @@ fn digits_value(digits: &[u8]) -> u64
     number
 }
 
-/// The number of one to so many decimal digits. Zeros in front are allowed.
+/// Reads a number of 1 to `most` decimal digits. Leading zeros are allowed.
 pub(crate) fn number_of(most: usize, text: &[u8]) -> Option<u64>
     requires { most ≤ 10 }
     ensures { result ≡ spec.number_of most text.now }

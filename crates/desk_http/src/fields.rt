@@ -8,7 +8,7 @@ ghost use Rattle.desk_http.specs.Heads.{fields_at};
 use crate::digits::number_of;
 use httparse::spans::{HeaderSpan, Span};
 
-/// The first so many bytes.
+/// The first `count` bytes, or all of them if there are fewer.
 pub(crate) fn front(bytes: &[u8], count: usize) -> &[u8]
     ensures value { result.now ≡ take count bytes.now }
     ensures short { length result.now ≤ count }
@@ -31,7 +31,7 @@ pub(crate) fn part(bytes: &[u8], span: Span) -> &[u8]
     }
 }
 
-/// The first so many spans.
+/// The first `count` spans, or all of them if there are fewer.
 pub(crate) fn first_spans(spans: &[HeaderSpan], count: usize) -> &[HeaderSpan]
     ensures { result.now ≡ take count spans.now }
 {
@@ -42,7 +42,7 @@ pub(crate) fn first_spans(spans: &[HeaderSpan], count: usize) -> &[HeaderSpan]
     }
 }
 
-// Whether two texts are the same but for the case of their letters.
+// Compares two texts, ignoring the case of ASCII letters.
 fn is_same(one: &[u8], two: &[u8]) -> bool
     ensures { result ≡ str_eq_ignore_ascii_case one.now two.now }
 {
@@ -55,7 +55,7 @@ fn is_named(bytes: &[u8], name: &[u8], span: &HeaderSpan) -> bool
     is_same(part(bytes, span.name), name)
 }
 
-/// The fields from the first of a name on.
+/// The fields from the first one with this name on.
 pub(crate) fn from_first<'a>(bytes: &[u8], name: &[u8], spans: &'a [HeaderSpan]) -> &'a [HeaderSpan]
     ensures { fields_at bytes.now result.now ≡ spec.from_first name.now (fields_at bytes.now spans.now) }
 {
@@ -69,7 +69,7 @@ pub(crate) fn from_first<'a>(bytes: &[u8], name: &[u8], spans: &'a [HeaderSpan])
     rest
 }
 
-/// The value of the first field of a name, empty where there is none.
+/// The value of the first field with this name, or nothing.
 pub(crate) fn first_value<'a>(bytes: &'a [u8], name: &[u8], spans: &[HeaderSpan]) -> &'a [u8]
     ensures { result.now ≡ spec.first_value name.now (fields_at bytes.now spans.now) }
 {
@@ -88,7 +88,8 @@ fn has_field(bytes: &[u8], name: &[u8], spans: &[HeaderSpan]) -> bool
     }
 }
 
-// The length that the fields from the first Content-Length on state.
+// The length in the only Content-Length, of 1 to 7 digits. `spans` begins with the first Content-Length. A GET may
+// lack one.
 fn stated_length(bytes: &[u8], get: bool, spans: &[HeaderSpan]) -> Option<u64>
     ensures { result ≡ spec.stated_length get (fields_at bytes.now spans.now) }
 {
@@ -104,7 +105,8 @@ fn stated_length(bytes: &[u8], get: bool, spans: &[HeaderSpan]) -> Option<u64>
     }
 }
 
-/// The length of the body (RFC 9112, section 6). A transfer coding states none.
+/// The length of the body (RFC 9112, section 6). None if it isn't stated as it must be, or if there is a transfer
+/// coding.
 pub(crate) fn body_length(bytes: &[u8], get: bool, spans: &[HeaderSpan]) -> Option<u64>
     ensures { result ≡ spec.body_length get (fields_at bytes.now spans.now) }
 {
@@ -121,7 +123,7 @@ fn is_closing(bytes: &[u8], span: &HeaderSpan) -> bool
     is_named(bytes, b"Connection", span) && is_same(part(bytes, span.value), b"close")
 }
 
-/// Whether some field closes the connection.
+/// Returns true if some Connection field is `close`.
 pub(crate) fn closes(bytes: &[u8], spans: &[HeaderSpan]) -> bool
     ensures { result ≡ list_any spec.is_closing (fields_at bytes.now spans.now) }
 {

@@ -5,13 +5,13 @@ ghost use Rattle.desk_http.specs.Heads.{IsFront, head_limit};
 use httparse::spans::{HeaderSpan, RequestSpans, parse_request};
 use httparse::{Error, Status};
 
-/// The most bytes that a head may have.
+/// The largest head, in bytes: 16 KiB.
 pub const HEAD_LIMIT: usize = 16_384;
 
-/// Room for the fields of any head within the limit: the shortest has three bytes.
+/// Room for the fields of any head within the limit. The shortest field has three bytes.
 pub const FIELD_ROOM: usize = 5462;
 
-/// What the first bytes of a stream are.
+/// What the first bytes of a stream contain.
 #[derive(Clone, Copy, Debug)]
 pub enum Front {
     /// A whole head, with the places of its parts.
@@ -22,8 +22,8 @@ pub enum Front {
     Never,
 }
 
-/// What at most `HEAD_LIMIT` bytes are. The places of a head's fields are written to the front of
-/// `spans`, which has room for `FIELD_ROOM` of them.
+/// Looks for a head in at most `HEAD_LIMIT` bytes. Writes the places of its fields to the front of `spans`, which
+/// must have room for `FIELD_ROOM` of them.
 pub fn front_of(bytes: &[u8], spans: &mut [HeaderSpan]) -> Front
     requires room { FIELD_ROOM ≤ length spans.old }
     requires short { length bytes.now ≤ head_limit }

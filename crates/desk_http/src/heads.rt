@@ -9,7 +9,7 @@ use desk_io::{OutOfMemory, Text};
 use httparse::spans::{HeaderSpan, RequestSpans};
 use std::alloc::Global;
 
-/// The most bytes that a body may have.
+/// The largest body, in bytes: 1 MiB.
 pub const BODY_LIMIT: u64 = 1_048_576;
 
 fn question_mark(target: &[u8]) -> Option<usize>
@@ -91,8 +91,8 @@ fn asked_by(
     Ok(Ok(asked_with(alloc, bytes, get, length, head, spans)?))
 }
 
-/// What a whole head asks for, or why it is refused: `WrongMethod`, then `NoLength`, then `TooLarge`.
-/// `bytes`, `head` and `spans` are those of `front_of`.
+/// Checks a whole head, and returns what it asks for. The faults are checked in the order `WrongMethod`, `NoLength`,
+/// `TooLarge`. `bytes`, `head` and `spans` are those of `front_of`.
 #[tactic(auto, unfolding(crate::specs::Heads::asked))]
 pub fn asked(
     alloc: Global,

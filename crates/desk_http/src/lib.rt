@@ -1,5 +1,4 @@
-//! HTTP for the desk: requests read from a stream of bytes, their routes, and responses
-//! (RFC 9110, RFC 9112).
+//! HTTP for the desk: reads requests from a connection, finds their routes, and makes responses (RFC 9110, RFC 9112).
 #![tactic(auto)]
 
 mod buffer;

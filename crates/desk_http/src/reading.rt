@@ -12,10 +12,10 @@ use desk_io::{Failed, OutOfMemory};
 use desk_net::Link;
 use httparse::spans::{HeaderSpan, RequestSpans};
 
-// How many bytes are asked for at once.
+// The number of bytes requested per read.
 const PIECE: usize = 4096;
 
-// Reads some bytes, and answers how many: 0 exactly at the end.
+// Reads some bytes and returns their number, which is 0 exactly at the end.
 fn read_piece<N: Link>(link: &mut N, into: &mut [u8]) -> Result<usize, Failed>
     requires { 0 < length into.old }
     ensures bound { IfOk result (λ n. n ≤ length into.old) }
@@ -30,7 +30,7 @@ fn read_piece<N: Link>(link: &mut N, into: &mut [u8]) -> Result<usize, Failed>
     link.read(into)
 }
 
-// Room after the bytes that are kept, and how many those are.
+// Adds room after the kept bytes, and returns how many are kept.
 fn add_room(bytes: &mut Vec<u8>) -> Result<usize, OutOfMemory>
     ensures kept { IfOk result (λ kept. kept ≡ length bytes.old.items) }
     ensures front { IfOk result (λ kept. take kept bytes.new.items ≡ bytes.old.items) }
@@ -42,7 +42,7 @@ fn add_room(bytes: &mut Vec<u8>) -> Result<usize, OutOfMemory>
     Ok(kept)
 }
 
-// Reads some bytes over those from a place on, and answers how many: 0 exactly at the end.
+// Reads some bytes over those from index `kept` on. Returns their number, which is 0 exactly at the end.
 fn read_after<N: Link>(link: &mut N, bytes: &mut Vec<u8>, kept: usize) -> Result<usize, Failed>
     requires { kept < length bytes.old.items }
     ensures front { take kept bytes.new.items ≡ take kept bytes.old.items }
@@ -58,7 +58,7 @@ fn read_after<N: Link>(link: &mut N, bytes: &mut Vec<u8>, kept: usize) -> Result
     read_piece(link, &mut bytes[kept..])
 }
 
-/// Reads some bytes to the end of those that are kept, and answers how many: 0 exactly at the end.
+/// Reads some bytes and appends them to those kept. Returns their number, which is 0 exactly at the end.
 pub(crate) fn read_more<N: Link>(link: &mut N, bytes: &mut Vec<u8>) -> Result<usize, WireFault>
     ensures more { IfOk result (λ _. HasRead (unread (N.seen link.old).stream) (unread (N.seen link.new).stream)
         bytes.old.items bytes.new.items) }
@@ -84,7 +84,7 @@ pub(crate) fn read_more<N: Link>(link: &mut N, bytes: &mut Vec<u8>) -> Result<us
     }
 }
 
-/// The bytes in which a head is looked for.
+/// The bytes that may contain a head.
 pub(crate) fn head_bytes(bytes: &[u8]) -> &[u8]
     ensures value { result.now ≡ take head_limit bytes.now }
     ensures short { length result.now ≤ head_limit }
@@ -92,7 +92,7 @@ pub(crate) fn head_bytes(bytes: &[u8]) -> &[u8]
     front(bytes, HEAD_LIMIT)
 }
 
-/// Reads until the bytes kept begin with a whole head, and answers where its parts are.
+/// Reads until the kept bytes begin with a whole head, and returns the places of its parts.
 pub(crate) fn read_head<N: Link>(
     link: &mut N,
     bytes: &mut Vec<u8>,
@@ -124,7 +124,7 @@ pub(crate) fn read_head<N: Link>(
     }
 }
 
-/// Reads until so many bytes are kept, and answers whether they are: false where the end came first.
+/// Reads until at least `count` bytes are kept. Returns false if the input ends before.
 pub(crate) fn read_up_to<N: Link>(
     link: &mut N,
     bytes: &mut Vec<u8>,

@@ -12,7 +12,7 @@ use desk_net::Link;
 use httparse::spans::{EMPTY_HEADER_SPAN, HeaderSpan};
 use std::alloc::Global;
 
-// Room for the fields of a head.
+// Makes room for the fields of a head.
 fn make_room(spans: &mut Vec<HeaderSpan>) -> Result<(), OutOfMemory>
     ensures { OnOk result (FIELD_ROOM ≤ length spans.new.items) }
 {
@@ -22,7 +22,7 @@ fn make_room(spans: &mut Vec<HeaderSpan>) -> Result<(), OutOfMemory>
     Ok(())
 }
 
-// Reads a whole head, and answers what it asks for and where it ends.
+// Reads a whole head, and returns what it asks for and where it ends.
 fn begin<N: Link>(
     alloc: Global,
     link: &mut N,
@@ -43,7 +43,7 @@ fn begin<N: Link>(
     }
 }
 
-// Drops the first so many bytes. It takes no memory.
+// Drops the first `count` bytes. Allocates nothing.
 fn cut(bytes: &mut Vec<u8>, count: usize)
     requires { count ≤ length bytes.old.items }
     ensures { bytes.new.items ≡ drop count bytes.old.items }
@@ -53,7 +53,7 @@ fn cut(bytes: &mut Vec<u8>, count: usize)
     bytes.truncate(left);
 }
 
-// The request whose body stands between two places. It and what stands before are dropped.
+// Returns the request whose body is between two places, and drops all bytes up to the end of the body.
 fn finish(
     alloc: Global,
     bytes: &mut Vec<u8>,
@@ -107,16 +107,19 @@ fn request_in<N: Link>(
     Ok(finish(alloc, bytes, asked, start, end)?)
 }
 
-/// The next request of a connection: the first of its unused bytes, those that the buffer holds and then those
-/// that come in (RFC 9112, sections 2 to 6). What comes after it stays unused. In which pieces the bytes come
-/// plays no part.
+/// Reads the next request of a connection (RFC 9112, sections 2 to 6). It's the first request in the unused bytes:
+/// those in the buffer, and then those still to be read. Bytes after the request stay unused. The sizes of the reads
+/// make no difference.
 ///
-/// `End` comes where there are no unused bytes, and `Cut` where they end within a request. `TooLarge` comes where the
-/// first `HEAD_LIMIT` bytes hold no whole head. `BadHead` comes where they make no head whatever follows, and may come
-/// in place of these two where that holds as well. On a whole head, `WrongMethod`, `NoLength` and then `TooLarge`,
-/// where a body of more than `BODY_LIMIT` bytes is stated, come before anything of the body is read. `ReadFault` comes
-/// only where the link's count of faults rose, while what was read till then is no whole request. Nothing is written.
-/// After a fault the buffer isn't used again.
+/// `End` means that there are no unused bytes, and `Cut` that they end within a request. `TooLarge` means that the
+/// first `HEAD_LIMIT` bytes contain no whole head. `BadHead` means that the bytes can't become a head, whatever
+/// follows. It may replace `Cut` and `TooLarge` when it applies as well.
+///
+/// A whole head is checked before the rest of its body is awaited. The checks are for `WrongMethod`, then for
+/// `NoLength`, and then for `TooLarge`, a body of more than `BODY_LIMIT` bytes.
+///
+/// `ReadFault` means that the link failed and counted a fault, before a whole request was read. Nothing is written.
+/// Don't use the buffer after a fault.
 pub fn next_request<N: Link>(
     alloc: Global,
     link: &mut N,

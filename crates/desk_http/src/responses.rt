@@ -56,9 +56,9 @@ fn field_lines(alloc: Global, count: usize) -> Result<Vec<u8>, OutOfMemory>
     Ok(lines)
 }
 
-/// The bytes that answer a request (RFC 9112, section 4): the status line, Content-Type and Content-Length,
-/// an empty line, and the body, which is JSON. A status has three digits, and its phrase is that of the crate
-/// http, which is older than RFC 9110 for 413 and 422.
+/// Returns the bytes of a response (RFC 9112, section 4): status line, Content-Type, Content-Length, an empty line,
+/// and the JSON body. The status must have three digits. Its reason phrase is that of the crate http, which predates
+/// RFC 9110 for 413 and 422.
 #[tactic(auto, unfolding(crate::specs::Responses::response))]
 pub fn response(alloc: Global, status: u16, body: &[u8]) -> Result<Text, OutOfMemory>
     requires { IsStatusCode status }

@@ -8,7 +8,7 @@ use matchit::{InsertError, Router};
 use std::alloc::Global;
 use std::marker::Model;
 
-/// The routes by their patterns, whatever stands in place of a parameter.
+/// The routes by their path patterns, whatever their parameters.
 #[derive(Clone, Copy)]
 pub(crate) enum Named {
     /// `/call`
@@ -47,7 +47,7 @@ fn found(router: &Router<Named>, path: &str) -> Option<Named>
     }
 }
 
-/// The patterns of all routes. They are made once for many requests.
+/// The path patterns of all routes. Create them once, for many requests.
 #[derive(Drop)]
 pub struct Patterns {
     router: Router<Named>,
@@ -66,7 +66,7 @@ impl Model for Patterns {
 }
 
 impl Patterns {
-    /// The patterns of all routes.
+    /// Creates the patterns of all routes.
     pub fn new(alloc: Global) -> Result<Patterns, OutOfMemory> {
         match router_of_routes(alloc) {
             Ok(router) => Ok(Patterns { router }),
@@ -74,7 +74,7 @@ impl Patterns {
         }
     }
 
-    /// Which route's pattern a path matches.
+    /// Finds the route whose pattern matches a path.
     pub(crate) fn name_of(&self, path: &str) -> Option<Named>
         ensures { result ≡ first patterns path.now }
     {

@@ -17,7 +17,7 @@ use std::str;
 /// What a request asks for.
 #[derive(Debug, Drop)]
 pub enum Routed {
-    /// `POST /call`: a call, whose text is the body.
+    /// `POST /call`: the call in the body.
     Post,
     /// `GET /board`: the board.
     Board,
@@ -34,9 +34,9 @@ pub enum Routed {
 /// Why a request has no route.
 #[derive(Clone, Copy, Debug, PartialEq, Eq)]
 pub enum RouteFault {
-    /// The path names nothing.
+    /// The path has no route.
     NoRoute,
-    /// The path names something, by another method.
+    /// The path has a route, but with the other method.
     WrongMethod,
     /// Memory ran out.
     OutOfMemory,
@@ -50,7 +50,7 @@ impl From<OutOfMemory> for RouteFault {
     }
 }
 
-// What stands after a front of a path.
+// The rest of a path after a prefix.
 fn after<'a>(front: &[u8], path: &'a [u8]) -> Option<&'a [u8]>
     ensures { option_map (λ rest. rest.now) result ≡ spec.after front.now path.now }
 {
@@ -106,7 +106,7 @@ fn deferred_route(alloc: Global, tail: &[u8]) -> Result<Option<Routed>, OutOfMem
     }
 }
 
-// The route of a name, by what follows in the path.
+// The route of this name, with its parameter from the path.
 fn named_route(
     alloc: Global,
     name: Option<Named>,
@@ -156,8 +156,8 @@ fn takes(get: bool, route: &Routed) -> bool
     }
 }
 
-/// What a request asks for. A path that names nothing is `NoRoute` with any method; one that names
-/// something by the other method is `WrongMethod`.
+/// Finds what a request asks for. A path without a route is `NoRoute` with any method. A path whose route has the
+/// other method is `WrongMethod`.
 pub fn route(alloc: Global, patterns: &Patterns, wire: &Wire) -> Result<Routed, RouteFault>
     ensures { Routes (spec.routed wire.now) result }
 {

@@ -4,37 +4,37 @@ ghost use Rattle.desk_http.specs.declared.wire.WireFault.TheVariants.{OutOfMemor
 use desk_io::{Failed, OutOfMemory, Text};
 use std::alloc::AllocError;
 
-/// A request as it was read.
+/// A request that was read.
 #[derive(Debug, Drop)]
 pub struct Wire {
-    /// The method is GET; else it is POST.
+    /// True for GET, false for POST.
     pub get: bool,
-    /// The target up to its question mark.
+    /// The request target before its first question mark.
     pub path: Text,
-    /// The first Desk-Actor, or nothing.
+    /// The value of the first Desk-Actor, or nothing.
     pub actor: Text,
-    /// The first Desk-Key, or nothing.
+    /// The value of the first Desk-Key, or nothing.
     pub key: Text,
     /// The body, of Content-Length bytes.
     pub body: Text,
-    /// The connection ends after this request.
+    /// Whether the connection ends after this request.
     pub last: bool,
 }
 
 /// What a whole head asks for, before its body is read.
 #[derive(Debug, Drop)]
 pub struct Asked {
-    /// The method is GET; else it is POST.
+    /// True for GET, false for POST.
     pub get: bool,
-    /// The target up to its question mark.
+    /// The request target before its first question mark.
     pub path: Text,
-    /// The first Desk-Actor, or nothing.
+    /// The value of the first Desk-Actor, or nothing.
     pub actor: Text,
-    /// The first Desk-Key, or nothing.
+    /// The value of the first Desk-Key, or nothing.
     pub key: Text,
-    /// How many bytes the body has.
+    /// The length of the body in bytes.
     pub length: u64,
-    /// The connection ends after this request.
+    /// Whether the connection ends after this request.
     pub last: bool,
 }
 
@@ -45,15 +45,16 @@ pub enum WireFault {
     End,
     /// The link ended within a request.
     Cut,
-    /// The bytes make no head, whatever follows them.
+    /// The bytes can't become a head, whatever follows them.
     BadHead,
-    /// The first `HEAD_LIMIT` bytes hold no whole head, or a whole head states a body of more than `BODY_LIMIT` bytes.
+    /// The first `HEAD_LIMIT` bytes contain no whole head, or a whole head states a body of more than `BODY_LIMIT`
+    /// bytes.
     TooLarge,
     /// The head doesn't state the length of the body as it must.
     NoLength,
     /// The method is neither GET nor POST.
     WrongMethod,
-    /// The link failed, and counted it.
+    /// The link failed, and counted the fault.
     ReadFault,
     /// Memory ran out.
     OutOfMemory,

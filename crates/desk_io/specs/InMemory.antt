@@ -1,4 +1,4 @@
--- What is seen of the shelf and of the sink in memory.
+-- The models of `MemoryShelf` and `MemorySink` in contracts.
 use Rattle.std.specs.Prelude.{Some}
 use Rattle.desk_io.specs.Planned.{planned_health}
 use Rattle.desk_io.specs.Seen.{ShelfSeen, SinkSeen}

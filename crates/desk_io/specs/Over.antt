@@ -1,4 +1,4 @@
--- What is seen of an object before a call and after it.
+-- A value before a call and after it.
 pub record Over (A : Type 0) : Type 0 where
   pub before : A
   pub after : A

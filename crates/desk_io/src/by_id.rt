@@ -9,17 +9,17 @@ use crate::faults::OutOfMemory;
 use std::alloc::Global;
 use std::marker::Model;
 
-/// What has an id of its own.
+/// A value with a numeric id.
 pub trait HasId: Sized + Drop {
     ghost id_of: { Self → ℕ };
 
-    /// The id.
+    /// Returns the id.
     fn id(&self) -> u64
         ensures { result ≡ id_of self.now };
 }
 
-/// Values that are found by their ids, in a vector in rising order of the ids. Each id is there once. A
-/// contract sees the values in order, and how many more need no memory.
+/// Values looked up by id, stored in a vector in increasing order of the ids. No two values share an id. Contracts
+/// model the values in order and the spare capacity. Only `reserve` allocates memory.
 #[derive(Drop)]
 pub struct ById<T: HasId> {
     held: Vec<T>,
@@ -36,7 +36,7 @@ impl<T: HasId> Model for ById<T> {
 }
 
 impl<T: HasId> ById<T> {
-    /// No values. It takes no memory.
+    /// Creates an empty collection.
     pub fn new(alloc: Global) -> ById<T>
         ensures { result.list ≡ [] }
     {
@@ -45,7 +45,7 @@ impl<T: HasId> ById<T> {
         }
     }
 
-    /// The values of a vector in which the ids rise. It takes no memory.
+    /// Wraps a vector whose ids strictly increase.
     pub fn from_vec(held: Vec<T>) -> ById<T>
         requires { AreRising T.id_of held.items }
         ensures { result.list ≡ held.items }
@@ -53,7 +53,7 @@ impl<T: HasId> ById<T> {
         ById { held }
     }
 
-    /// The values in order. It takes no memory.
+    /// Returns the values in order of their ids.
     pub fn as_slice(&self) -> &[T]
         ensures value { result.now ≡ self.now.list }
         ensures rising { AreRising T.id_of self.now.list }
@@ -61,21 +61,21 @@ impl<T: HasId> ById<T> {
         &self.held
     }
 
-    /// How many there are.
+    /// Returns the number of values.
     pub fn len(&self) -> usize
         ensures { result ≡ length self.now.list }
     {
         self.held.len()
     }
 
-    /// Whether there are none.
+    /// Returns true if there are no values.
     pub fn is_empty(&self) -> bool
         ensures { result ≡ (length self.now.list == 0) }
     {
         self.held.is_empty()
     }
 
-    /// The one of that id. It takes no memory.
+    /// Looks up the value with this id by binary search.
     pub fn get(&self, id: u64) -> Option<&T>
         ensures { option_copied result ≡ find (has_id T.id_of id) self.now.list }
     {
@@ -85,7 +85,7 @@ impl<T: HasId> ById<T> {
         }
     }
 
-    /// The place of the one of that id. It takes no memory.
+    /// Returns the index of the value with this id.
     pub fn position_of(&self, id: u64) -> Option<usize>
         ensures value { result ≡ position (has_id T.id_of id) self.now.list }
         ensures within { IfSome result (λ i. i < length self.now.list) }
@@ -96,14 +96,14 @@ impl<T: HasId> ById<T> {
         }
     }
 
-    /// Whether there is one of that id. It takes no memory.
+    /// Returns true if a value has this id.
     pub fn has(&self, id: u64) -> bool
         ensures { result ≡ list_any (has_id T.id_of id) self.now.list }
     {
         self.get(id).is_some()
     }
 
-    /// Makes room for so many more. Where memory runs out all stays as it was.
+    /// Reserves room for `more` additional values. If memory runs out, nothing changes.
     pub fn reserve(&mut self, more: usize) -> Result<(), OutOfMemory>
         ensures same { self.new.list ≡ self.old.list }
         ensures kept { self.old.room ≤ self.new.room }
@@ -114,7 +114,7 @@ impl<T: HasId> ById<T> {
         Ok(())
     }
 
-    /// Adds one at the end, where all ids are below its own and there is room. It takes no memory.
+    /// Appends a value, using reserved room. Its id must be above all others.
     pub fn push_reserved(&mut self, value: T)
         requires newest { All (λ x. T.id_of x < T.id_of value) self.old.list }
         requires room { 1 ≤ self.old.room }
@@ -124,8 +124,7 @@ impl<T: HasId> ById<T> {
         self.held.push_reserved(value);
     }
 
-    /// Puts one in the place of the one of its id, or else in its place in the order, where there is room.
-    /// It takes no memory.
+    /// Inserts a value, or replaces the value with the same id. Room for one value must be reserved.
     pub fn put_reserved(&mut self, value: T)
         requires room { 1 ≤ self.old.room }
         ensures list { self.new.list ≡ spec.put T.id_of value self.old.list }
@@ -140,7 +139,7 @@ impl<T: HasId> ById<T> {
         }
     }
 
-    /// Puts one in the place of the one of its id, where there is one. It takes no memory.
+    /// Replaces the value with the same id. Without such a value, nothing changes.
     pub fn replace(&mut self, value: T)
         ensures list { self.new.list ≡ spec.replaced T.id_of value self.old.list }
         ensures room { self.new.room ≡ self.old.room }
@@ -150,7 +149,7 @@ impl<T: HasId> ById<T> {
         }
     }
 
-    /// Takes out the one of that id, where there is one. It takes no memory.
+    /// Removes the value with this id and returns it.
     pub fn take(&mut self, id: u64) -> Option<T>
         ensures value { result ≡ find (has_id T.id_of id) self.old.list }
         ensures list { self.new.list ≡ spec.without T.id_of id self.old.list }
@@ -163,7 +162,7 @@ impl<T: HasId> ById<T> {
         }
     }
 
-    /// Takes out those that don't pass the test. It takes no memory.
+    /// Keeps only the values that pass the test.
     pub fn retain<F: FnMut(&T) -> bool>(&mut self, test: F)
         requires { F.IsAlwaysCallable test }
         ensures list { (p : T → Bool) → ComputesKey F.FnMut p test
@@ -173,7 +172,7 @@ impl<T: HasId> ById<T> {
         self.held.retain(test);
     }
 
-    // Where the one of that id is, or where it would go.
+    // `Ok` holds the index of the value with this id, `Err` the index at which to insert it.
     fn place(&self, id: u64) -> Result<usize, usize>
         ensures found { IfOk result (IsFoundAt T.id_of id self.now.list) }
         ensures absent { IfErr result (IsGapAt T.id_of id self.now.list) }

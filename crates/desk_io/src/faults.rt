@@ -6,27 +6,27 @@ ghost use Rattle.desk_io.specs.declared.faults.WholeFault.TheVariants.{OutOfMemo
 use std::alloc::{AllocError, AllocFailed};
 use std::io;
 
-/// Memory ran out. The call that answers it has changed nothing.
+/// Memory ran out. The contract of each call states what it leaves unchanged.
 #[derive(Clone, Copy, Debug, PartialEq, Eq)]
 pub struct OutOfMemory;
 
-/// An object of the outside failed, and counted it.
+/// An external object, such as a shelf, failed and counted the fault.
 #[derive(Clone, Copy, Debug, PartialEq, Eq)]
 pub struct Failed;
 
-/// Why bytes weren't written.
+/// Why a write failed.
 #[derive(Clone, Copy, Debug, PartialEq, Eq)]
 pub enum PutFault {
-    /// The object failed after some front of the bytes, and counted it.
+    /// The external object failed after accepting a prefix of the bytes, and counted the fault.
     Failed,
     /// Memory ran out, and nothing was written.
     OutOfMemory,
 }
 
-/// Why a source wasn't read to its end.
+/// Why a source couldn't be read whole.
 #[derive(Clone, Copy, Debug, PartialEq, Eq)]
 pub enum WholeFault {
-    /// The shelf failed, and counted it.
+    /// The shelf failed, and counted the fault.
     ReadFault,
     /// The source has more bytes than `SOURCE_LIMIT`.
     TooLong,
@@ -78,7 +78,7 @@ impl From<Failed> for WholeFault {
     }
 }
 
-/// An error of the system is a counted fault, and nothing else is.
+/// Counts an I/O error as a fault. The count rises by one, up to its maximum, on an error and never otherwise.
 pub fn counted<T>(answer: io::Result<T>, faults: &mut u64) -> Result<T, Failed>
     ensures fails { is_ok result ≡ is_ok answer }
     ensures value { IfOk result (λ x. answer ≡ Ok x) }

@@ -12,8 +12,8 @@ use crate::vector::Sorted;
 use std::alloc::Global;
 use std::marker::Model;
 
-/// A set of keys, in a vector in rising order. A contract sees the keys in order, and how many more
-/// need no memory.
+/// A set of keys, stored in a vector in increasing order. Contracts model the keys in order and the spare capacity.
+/// Only `reserve` allocates memory.
 #[derive(Drop)]
 pub struct Keys<K: Ord> {
     held: Sorted<K, ()>,
@@ -28,7 +28,7 @@ impl<K: Ord> Model for Keys<K> {
 }
 
 impl<K: Ord + Drop> Keys<K> {
-    /// No keys. It takes no memory.
+    /// Creates an empty set.
     pub fn new(alloc: Global) -> Keys<K>
         ensures { result.keys ≡ [] }
     {
@@ -37,7 +37,7 @@ impl<K: Ord + Drop> Keys<K> {
         }
     }
 
-    /// The keys in order. It takes no memory.
+    /// Returns the keys in order.
     pub fn as_slice(&self) -> &[(K, ())]
         ensures value { keys_of result.now ≡ self.now.keys }
         ensures sorted { IsStrictlySortedBy K.cmp (keys_of result.now) }
@@ -45,14 +45,14 @@ impl<K: Ord + Drop> Keys<K> {
         self.held.as_slice()
     }
 
-    /// That key is there. It takes no memory.
+    /// Returns true if the set contains this key.
     pub fn has(&self, key: &K) -> bool
         ensures { result ≡ is_held K.cmp key.now self.now.keys }
     {
         self.held.get(key).is_some()
     }
 
-    /// The keys that are neither below the one nor above the other, in order. It takes no memory.
+    /// Returns the keys from `low` to `high`, both included, in order.
     pub fn run(&self, low: &K, high: &K) -> &[(K, ())]
         ensures value { keys_of result.now ≡ filter (within K.cmp low.now high.now) self.now.keys }
         ensures sorted { IsStrictlySortedBy K.cmp (keys_of result.now) }
@@ -60,7 +60,7 @@ impl<K: Ord + Drop> Keys<K> {
         self.held.run(low, high)
     }
 
-    /// Makes room for so many more keys. All keys stay, and all room that there was.
+    /// Reserves room for `more` additional keys. Keys and room that were there remain, even if memory runs out.
     pub fn reserve(&mut self, more: usize) -> Result<(), OutOfMemory>
         ensures same { self.new.keys ≡ self.old.keys }
         ensures kept { self.old.room ≤ self.new.room }
@@ -69,7 +69,7 @@ impl<K: Ord + Drop> Keys<K> {
         self.held.reserve(more)
     }
 
-    /// Puts the key in, where there is room for one more. It takes no memory.
+    /// Adds the key. Room for one key must be reserved.
     pub fn put_reserved(&mut self, key: K)
         requires room { 1 ≤ self.old.room }
         ensures each { (q : K) → is_held K.cmp q self.new.keys
@@ -79,7 +79,7 @@ impl<K: Ord + Drop> Keys<K> {
         self.held.put_reserved(key, ());
     }
 
-    /// Takes the key away, and tells whether it was there. It takes no memory.
+    /// Removes the key, and returns whether it was present.
     pub fn take(&mut self, key: &K) -> bool
         ensures value { result ≡ is_held K.cmp key.now self.old.keys }
         ensures each { (q : K) → is_held K.cmp q self.new.keys
@@ -91,7 +91,7 @@ impl<K: Ord + Drop> Keys<K> {
 }
 
 impl<K: Ord + Drop> Keys<K> {
-    /// The keys of a vector, each once. It sorts them, and takes no memory.
+    /// Builds a set from the keys of a vector. Sorts them in place and drops duplicates.
     pub fn from_vec(keys: Vec<(K, ())>) -> Keys<K>
         ensures { (q : K) → is_held K.cmp q result.keys ≡ is_held K.cmp q (keys_of keys.items) }
     {
@@ -103,7 +103,7 @@ impl<K: Ord + Drop> Keys<K> {
         }
     }
 
-    /// The keys that aren't below that one, in order. It takes no memory.
+    /// Returns the keys at or above `low`, in order.
     pub fn from(&self, low: &K) -> &[(K, ())]
         ensures value { keys_of result.now ≡ filter (λ k. is_ge (K.cmp k low.now)) self.now.keys }
         ensures sorted { IsStrictlySortedBy K.cmp (keys_of result.now) }
@@ -111,7 +111,7 @@ impl<K: Ord + Drop> Keys<K> {
         self.held.from(low)
     }
 
-    /// Takes away the keys that don't pass the test. It takes no memory.
+    /// Keeps only the keys that pass the test.
     pub fn retain<F: FnMut(&(K, ())) -> bool>(&mut self, test: F)
         requires { F.IsAlwaysCallable test }
         ensures keys { (p : K → Bool) → ComputesKey F.FnMut (λ e. p e.0) test

@@ -1,4 +1,5 @@
-//! What the desk asks of the outside: sources, a sink, texts, stations, and values that are found by key.
+//! Interfaces to files and standard output, and the small types that all crates share: texts, stations, minima, rows
+//! and sorted containers.
 #![tactic(auto)]
 
 mod by_id;

@@ -4,14 +4,14 @@ use crate::OutOfMemory;
 use std::alloc::Global;
 use std::marker::Model;
 
-/// A value that can be copied where there is memory.
+/// A value that can be copied, unless memory runs out.
 pub trait Copied: Sized + Drop {
-    /// An equal value.
+    /// Returns an equal value.
     fn copy(&self, alloc: Global) -> Result<Self, OutOfMemory>
         ensures { IfOk result (λ copy. copy ≡ self.now) };
 }
 
-/// A list that grows at its end. A contract sees the list of its items.
+/// A list that grows at its end. Contracts model it as the list of its items.
 #[derive(Debug, Drop)]
 pub struct Listed<T> {
     held: Vec<T>,
@@ -26,7 +26,7 @@ impl<T> Model for Listed<T> {
 }
 
 impl<T: Drop> Listed<T> {
-    /// A list without items. It takes no memory.
+    /// Creates an empty list. Allocates nothing.
     pub fn new(alloc: Global) -> Listed<T>
         ensures { result ≡ [] }
     {
@@ -35,14 +35,14 @@ impl<T: Drop> Listed<T> {
         }
     }
 
-    /// A list of the items of a vector. It takes no memory.
+    /// Wraps a vector without copying or allocating.
     pub fn from_vec(held: Vec<T>) -> Listed<T>
         ensures { result ≡ held.items }
     {
         Listed { held }
     }
 
-    /// Adds an item at the end. Where memory runs out the list stays as it was, and the item is dropped.
+    /// Appends an item. If memory runs out, the list is unchanged and the item is dropped.
     pub fn push(&mut self, item: T) -> Result<(), OutOfMemory>
         ensures ok { OnOk result (self.new ≡ self.old ++ item ∷ []) }
         ensures err { OnErr result (self.new ≡ self.old) }
@@ -53,7 +53,7 @@ impl<T: Drop> Listed<T> {
         }
     }
 
-    /// Its items in order. It takes no memory.
+    /// Returns the items in order.
     pub fn as_slice(&self) -> &[T]
         ensures { result.now ≡ self.now }
     {
@@ -61,7 +61,7 @@ impl<T: Drop> Listed<T> {
     }
 }
 
-/// A copy of what an option holds.
+/// Copies the item of an option, if it holds one.
 pub fn copied_option<T: Copied>(held: &Option<T>, alloc: Global) -> Result<Option<T>, OutOfMemory>
     ensures { IfOk result (λ copy. copy ≡ held.now) }
 {
@@ -71,7 +71,7 @@ pub fn copied_option<T: Copied>(held: &Option<T>, alloc: Global) -> Result<Optio
     }
 }
 
-/// Copies of the items of a slice, in order.
+/// Copies the items of a slice, in order.
 pub fn copied_items<T: Copied>(items: &[T], alloc: Global) -> Result<Vec<T>, OutOfMemory>
     ensures { IfOk result (λ copies. copies.items ≡ items.now) }
 {

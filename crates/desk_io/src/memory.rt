@@ -10,8 +10,8 @@ ghost use Rattle.desk_io.specs.declared.faults.PutFault.TheVariants.{Failed as P
 use crate::{Failed, PutFault, Shelf, Sink, Text};
 use std::alloc::Global;
 
-/// Sources in memory. Its calls of `next` are numbered from 0, and those in `fail` fail. With an
-/// empty `fail` it is sound.
+/// Sources in memory. Calls of `next` are numbered from 0, and a call whose number is in `fail` fails. With an empty
+/// `fail` the shelf is sound.
 #[derive(Drop)]
 pub struct MemoryShelf {
     sources: Vec<(Text, Text)>,
@@ -21,7 +21,7 @@ pub struct MemoryShelf {
 }
 
 impl MemoryShelf {
-    /// A shelf of named sources; of two with one name the first counts. It takes no memory.
+    /// Creates a shelf of named sources. If two have the same name, the first one is read. Allocates nothing.
     pub fn new(sources: Vec<(Text, Text)>, fail: Vec<u64>) -> Self
         ensures sources { result.sources.items ≡ sources.items }
         ensures fail { result.fail.items ≡ fail.items }
@@ -37,7 +37,7 @@ impl MemoryShelf {
     }
 }
 
-// The first source of that name.
+// The first source with that name.
 fn source<'a>(sources: &'a [(Text, Text)], name: &[u8]) -> Option<&'a Text>
     ensures { option_copied result ≡ source_named sources.now name.now }
 {
@@ -60,7 +60,7 @@ impl Shelf for MemoryShelf {
         ensures on { ShelfGoesOn (Holds (shelf_seen self.old) name.now) (shelf_seen self.old) (shelf_seen self.new) }
         ensures cause { OnErr result (HasFailedWhere (Holds (shelf_seen self.old) name.now)
             (shelf_seen self.old).health (shelf_seen self.new).health) }
-        // It gives bytes exactly where it holds the name and the call isn't among those that fail.
+        // The call succeeds exactly when the shelf holds the name and `fail` doesn't list the call.
         ensures planned { is_ok result ≡ gives (source_named self.old.sources.items name.now)
             (is_planned self.old.fail.items self.old.calls) }
         ensures sources { self.new.sources.items ≡ self.old.sources.items }
@@ -93,8 +93,8 @@ impl Shelf for MemoryShelf {
     }
 }
 
-/// A sink in memory. Its calls of `write` are numbered from 0, and those in `fail` fail with nothing
-/// appended. With an empty `fail` it is sound.
+/// A sink in memory. Calls of `write` are numbered from 0. A call whose number is in `fail` fails and appends
+/// nothing. With an empty `fail` the sink is sound.
 #[derive(Drop)]
 pub struct MemorySink {
     written: Vec<u8>,
@@ -104,7 +104,7 @@ pub struct MemorySink {
 }
 
 impl MemorySink {
-    /// A sink that holds nothing yet. It takes no memory.
+    /// Creates an empty sink. Allocates nothing.
     pub fn new(alloc: Global, fail: Vec<u64>) -> Self
         ensures empty { result.written.items ≡ [] }
         ensures fail { result.fail.items ≡ fail.items }
@@ -119,7 +119,7 @@ impl MemorySink {
         }
     }
 
-    /// All that was appended.
+    /// Returns everything appended so far.
     pub fn written(&self) -> &[u8]
         ensures { result.now ≡ self.now.written.items }
     {

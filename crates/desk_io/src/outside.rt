@@ -6,14 +6,14 @@ ghost use Rattle.desk_io.specs.declared.faults.PutFault.TheVariants.{Failed as P
 
 use crate::{Failed, PutFault};
 
-/// Named sources of bytes. A sound one fails, and its count rises, only where it is asked for a name that it
-/// doesn't hold.
+/// Named sources of bytes. A sound shelf fails, and counts a fault, only if it doesn't hold the requested name.
 pub trait Shelf {
-    /// Its sources, where the shelf tells them, and how it does. An adapter over real files doesn't tell.
+    /// The sources, if contracts know them, and the shelf's health. The sources of a shelf over real files are
+    /// unknown.
     ghost seen: { Self → ShelfSeen };
 
-    /// Writes the bytes of a source from a place on into the front of `into`, and answers how many
-    /// they are: 0 exactly at the source's end. No such name is a fault.
+    /// Copies bytes of a source, from `place` on, to the front of `into` and returns their number. The number is 0
+    /// exactly at the end of the source. An unknown name is a fault.
     fn next(&mut self, name: &str, place: u64, into: &mut [u8]) -> Result<usize, Failed>
         requires { 0 < length into.old }
         ensures bound { IfOk result (λ n. n ≤ length into.old) }
@@ -23,25 +23,24 @@ pub trait Shelf {
         ensures cause { OnErr result
             (HasFailedWhere (Holds (seen self.old) name.now) (seen self.old).health (seen self.new).health) };
 
-    /// How often it has failed. The count never falls.
+    /// Returns the number of failures so far. It never falls.
     fn faults(&self) -> u64
         ensures { result ≡ (seen self.now).health.faults };
 }
 
-/// Where a text goes.
+/// An output to which bytes are appended.
 pub trait Sink {
-    /// All that was appended, where the sink tells it, and how it does. No call changes whether it tells.
+    /// Everything appended so far, if contracts know it, and the sink's health. No call changes whether they know it.
     ghost seen: { Self → SinkSeen };
 
-    /// Appends all of the bytes. Where it fails it has appended some front of them, and where memory
-    /// runs out nothing.
+    /// Appends all of the bytes. After `Failed` a prefix of them was appended, after `OutOfMemory` nothing.
     fn write(&mut self, bytes: &[u8]) -> Result<(), PutFault>
         ensures appends { Puts (seen self.old).content (seen self.new).content bytes.now result }
         ensures telling { TellsAsBefore (seen self.old).content (seen self.new).content }
         ensures on { GoesOn (seen self.old).health (seen self.new).health }
         ensures cause { HasCause PutFailed (seen self.old).health (seen self.new).health result };
 
-    /// How often it has failed. The count never falls.
+    /// Returns the number of failures so far. It never falls.
     fn faults(&self) -> u64
         ensures { result ≡ (seen self.now).health.faults };
 }

@@ -8,7 +8,7 @@ use std::alloc::Global;
 /// Millimetres in a statute mile.
 pub const MILE: u32 = 1_609_344;
 
-/// Minima: a ceiling in feet and a visibility in millimetres.
+/// Weather minima: a ceiling in feet and a visibility in millimetres (14 CFR 121.613, 121.625).
 #[derive(Clone, Copy, Debug, PartialEq, Eq)]
 pub struct Pair {
     /// The ceiling in feet.
@@ -17,11 +17,11 @@ pub struct Pair {
     pub vis: u32,
 }
 
-/// Minima in order, of which one has to be met.
+/// Alternative minima, in order. The weather must meet at least one of them.
 pub type Pairs = Listed<Pair>;
 
 impl Pair {
-    /// The minima that are higher by these amounts.
+    /// Adds `by.ceiling` feet to the ceiling and `by.vis` millimetres to the visibility.
     pub fn raised(self, by: Pair) -> Pair
         requires ceiling { self.ceiling + by.ceiling < 2 ^ 32 }
         requires vis { self.vis + by.vis < 2 ^ 32 }
@@ -33,7 +33,7 @@ impl Pair {
         }
     }
 
-    /// The higher ceiling and the higher visibility of two minima.
+    /// Combines the higher ceiling with the higher visibility.
     pub fn higher(self, other: Pair) -> Pair
         ensures { result ≡ spec.higher self other }
     {

@@ -4,7 +4,7 @@ ghost use Rattle.desk_io.specs.Grown.{BeginsWith};
 
 use crate::OutOfMemory;
 
-// Adds pieces at the end, one after another. Where memory runs out some of them are added.
+// Appends the pieces in order. If memory runs out, some of the pieces may remain appended.
 #[tactic(auto, using(crate::proofs::Grown::begins_more))]
 fn push_each(out: &mut Vec<u8>, pieces: &[&[u8]]) -> Result<(), OutOfMemory>
     ensures ok { OnOk result (out.new.items ≡ out.old.items ++ concat (map (λ x. x.now) pieces.now)) }
@@ -16,7 +16,7 @@ fn push_each(out: &mut Vec<u8>, pieces: &[&[u8]]) -> Result<(), OutOfMemory>
     Ok(())
 }
 
-/// Adds pieces at the end, one after another. Where memory runs out the text stays as it was.
+/// Appends the pieces in order. If memory runs out, the text is unchanged.
 pub fn push_all(out: &mut Vec<u8>, pieces: &[&[u8]]) -> Result<(), OutOfMemory>
     ensures ok { OnOk result (out.new.items ≡ out.old.items ++ concat (map (λ x. x.now) pieces.now)) }
     ensures err { OnErr result (out.new.items ≡ out.old.items) }
@@ -26,8 +26,8 @@ pub fn push_all(out: &mut Vec<u8>, pieces: &[&[u8]]) -> Result<(), OutOfMemory>
     or_undone(out, before, done)
 }
 
-/// What several steps that add to a text come to: where memory ran out, what they added after its
-/// first `before` bytes is taken back.
+/// Completes several appends to a text, and returns their result `done`. If it is an error, this truncates the text
+/// to its first `before` bytes.
 pub fn or_undone(
     out: &mut Vec<u8>,
     before: usize,

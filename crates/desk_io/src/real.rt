@@ -1,17 +1,19 @@
-ghost use Rattle.std.specs.Prelude.{◌≡◌, ◌≤◌, length, None, IfOk, OnOk};
+ghost use Rattle.std.specs.Prelude.{◌≡◌, ◌≤◌, length, [], None, Some, IfOk, OnOk, OnErr};
 ghost use Rattle.std.specs.Io.KnownBytes.{Appends, ReadConsumes};
 ghost use Rattle.desk_io.specs.Health.{unsound};
+ghost use Rattle.desk_io.specs.Told.{AppendsFront};
 
 use crate::{Failed, PutFault, Shelf, Sink, counted};
+use edge_record::{Event, Record};
 use std::fs::File;
 use std::io;
 use std::io::{Read, Seek, SeekFrom, Write};
 use std::rt::Files;
 
-// The longest name that is kept, in bytes.
+// The longest name that is remembered, in bytes.
 const NAME_LIMIT: usize = 255;
 
-// A name in a fixed place, since a shelf takes no memory.
+// A name in a fixed array, because a shelf allocates nothing.
 #[derive(Clone, Copy)]
 struct Name {
     bytes: [u8; NAME_LIMIT],
@@ -19,7 +21,7 @@ struct Name {
 }
 
 impl Name {
-    // The name that was given, where it isn't too long.
+    // Copies the name, or returns None if it is longer than `NAME_LIMIT`.
     fn of(name: &[u8]) -> Option<Name> {
         let length = name.len();
         if length > NAME_LIMIT {
@@ -35,7 +37,7 @@ impl Name {
     }
 }
 
-// A file that was opened, and read up to a place. A name that is too long isn't known.
+// An open file that has been read up to `place`. The name is None if it is longer than `NAME_LIMIT`.
 #[derive(Drop)]
 struct Reading<F: Drop> {
     file: F,
@@ -70,9 +72,9 @@ fn opened<R: Files>(files: &R, name: &str, place: u64) -> io::Result<Reading<R::
     Ok(Reading { file, name, place })
 }
 
-/// The files of the working folder. It tells no contents, and each error is a counted fault. The file
-/// that was read last stays open up to its end, so that a source with a name of at most 255 bytes is
-/// opened once and read on. It takes no memory.
+/// The files of the working directory. Contracts don't know their contents. Every I/O error is a counted fault. The
+/// file read last stays open until its end, so that reading a source in sequence opens it once. A source with a name
+/// of more than 255 bytes is opened for each read. Allocates nothing.
 #[derive(Drop)]
 pub struct FileShelf<R: Files + Drop> {
     files: R,
@@ -81,7 +83,7 @@ pub struct FileShelf<R: Files + Drop> {
 }
 
 impl<R: Files + Drop> FileShelf<R> {
-    /// A shelf over the folder that the process works in. It opens nothing yet.
+    /// Creates a shelf over the working directory of the process. Opens nothing yet.
     pub fn new(files: R) -> Self
         ensures { result.faults ≡ 0 }
     {
@@ -121,37 +123,69 @@ impl<R: Files + Drop> Shelf for FileShelf<R> {
     }
 }
 
-// Writes all of the bytes, unless it answers an error.
-fn write_out<W: Write>(writer: &mut W, bytes: &[u8]) -> io::Result<()>
-    ensures { OnOk result (Appends (W.contents writer.old) (W.contents writer.new) bytes.now) }
-{
-    writer.write_all(bytes)
+// Bytes that a write accepted.
+#[derive(Drop)]
+struct Taken<'a> {
+    bytes: &'a [u8],
 }
 
-/// Standard output. It tells no content, and each error is a counted fault.
+impl<'a> Event<u8> for Taken<'a> {
+    ghost told = { λ t. t.bytes.now };
+}
+
+// Writes all of the bytes, unless a write fails, and records the bytes that each write accepted.
+#[tactic(auto, using(crate::proofs::Writing::grew_none, crate::proofs::Writing::grew_more, crate::proofs::Writing::grew_front, crate::proofs::Writing::grew_all))]
+fn write_out<W: Write>(writer: &mut W, taken: &mut Record<u8>, bytes: &[u8]) -> Result<(), Failed>
+    ensures ok { OnOk result (Appends (Some taken.old.list) (Some taken.new.list) bytes.now) }
+    ensures err { OnErr result (AppendsFront (Some taken.old.list) (Some taken.new.list) bytes.now) }
+{
+    let mut rest = bytes;
+    while !rest.is_empty() {
+        match writer.write(rest) {
+            Ok(0) => return Err(Failed),
+            Ok(count) => {
+                let (bytes, left) = rest.split_at(count);
+                *taken = taken.with(&Taken { bytes });
+                rest = left;
+            }
+            Err(_) => return Err(Failed),
+        }
+    }
+    Ok(())
+}
+
+/// Standard output. Contracts know exactly the bytes that its writes accepted. Every error is a counted fault.
 #[derive(Drop)]
 pub struct StdoutSink<R: Print + Drop> {
     out: R,
+    taken: Record<u8>,
     faults: u64,
 }
 
 impl<R: Print + Drop> StdoutSink<R> {
-    /// A sink over standard output.
+    /// Creates a sink over standard output.
     pub fn new(out: R) -> Self
-        ensures { result.faults ≡ 0 }
+        ensures faults { result.faults ≡ 0 }
+        ensures taken { result.taken.list ≡ [] }
     {
-        StdoutSink { out, faults: 0 }
+        StdoutSink {
+            out,
+            taken: Record::new(),
+            faults: 0,
+        }
     }
 }
 
 impl<R: Print + Drop> Sink for StdoutSink<R> {
-    ghost seen = { λ s. record { content = None; health = unsound s.faults } };
+    ghost seen = { λ s. record { content = Some s.taken.list; health = unsound s.faults } };
 
     fn write(&mut self, bytes: &[u8]) -> Result<(), PutFault> {
-        let answer = write_out(&mut io::writer(&self.out), bytes);
-        match counted(answer, &mut self.faults) {
+        match write_out(&mut io::writer(&self.out), &mut self.taken, bytes) {
             Ok(()) => Ok(()),
-            Err(Failed) => Err(PutFault::Failed),
+            Err(Failed) => {
+                self.faults = self.faults.saturating_add(1);
+                Err(PutFault::Failed)
+            }
         }
     }
 

@@ -3,23 +3,23 @@ ghost use Rattle.std.specs.Prelude.{◌≡◌};
 use crate::{Copied, OutOfMemory, Text};
 use std::alloc::Global;
 
-/// A row that is kept: a body under a kind and a key.
+/// A stored row: a body under a kind and a key.
 #[derive(Debug, Drop)]
 pub struct Row {
-    /// What the row is of.
+    /// The kind of record that the body encodes.
     pub kind: u8,
-    /// Which of its kind it is.
+    /// The row's key among the rows of its kind.
     pub key: u64,
-    /// What it says.
+    /// The encoded record.
     pub body: Text,
 }
 
-/// What becomes of the row of a kind and a key.
+/// A change to one stored row.
 #[derive(Debug, Drop)]
 pub enum Change {
-    /// The row stands there, in the place of one that stood there before.
+    /// Stores the row, replacing any row with the same kind and key.
     Put(Row),
-    /// No row stands there.
+    /// Removes the row with this kind and key, if there is one.
     Remove { kind: u8, key: u64 },
 }
 

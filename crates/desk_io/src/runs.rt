@@ -6,7 +6,7 @@ use crate::OutOfMemory;
 use std::alloc::Global;
 use std::marker::Model;
 
-/// A part of a text, which lends it. A contract sees its bytes.
+/// A borrowed part of a text. Contracts model it as the list of its bytes.
 #[derive(Debug, Drop)]
 pub struct Run<'a> {
     bytes: &'a [u8],
@@ -21,14 +21,14 @@ impl<'a> Model for Run<'a> {
 }
 
 impl<'a> Run<'a> {
-    /// The part that these bytes are. It takes no memory.
+    /// Wraps these bytes without copying.
     pub fn of(bytes: &'a [u8]) -> Run<'a>
         ensures { result ≡ bytes.now }
     {
         Run { bytes }
     }
 
-    /// Its bytes.
+    /// Returns the bytes.
     pub fn bytes(&self) -> &'a [u8]
         ensures { result.now ≡ self.now }
     {
@@ -36,16 +36,16 @@ impl<'a> Run<'a> {
     }
 }
 
-/// The bytes at which a text is cut.
+/// The bytes at which a text is split.
 pub trait Separators {
     ghost separators: { List ℕ };
 
-    /// Whether a byte is one of them.
+    /// Returns true if a byte is a separator.
     fn is_separator(b: u8) -> bool
         ensures { result ≡ is_among separators b };
 }
 
-/// Space, tab, carriage return and line feed, which stand between the groups of a report.
+/// Space, tab, carriage return and line feed, which separate the groups of a report.
 pub struct Blanks;
 
 /// The line feed, which ends a line.
@@ -67,7 +67,7 @@ impl Separators for LineFeeds {
     }
 }
 
-// How many bytes stand before the first separator.
+// The number of bytes before the first separator.
 fn run_length<S: Separators>(text: &[u8]) -> usize
     ensures value { result ≡ position_or_len (is_among S.separators) text.now }
     ensures within { result ≤ length text.now }
@@ -80,7 +80,7 @@ fn run_length<S: Separators>(text: &[u8]) -> usize
     text.len()
 }
 
-// What stands after the separator at that place.
+// The bytes after the separator at that index.
 fn after(text: &[u8], place: usize) -> &[u8]
     requires { place < length text.now }
     ensures { result.now ≡ drop (place + 1) text.now }
@@ -88,7 +88,7 @@ fn after(text: &[u8], place: usize) -> &[u8]
     &text[place + 1..]
 }
 
-/// Adds a run at the end, unless it is empty. Where memory runs out the list stays as it was.
+/// Appends a run unless it is empty. If memory runs out, the list is unchanged.
 pub fn push_run<'a>(runs: &mut Vec<Run<'a>>, run: &'a [u8]) -> Result<(), OutOfMemory>
     ensures ok { OnOk result (runs.new.items ≡ runs.old.items ++ kept run.now) }
     ensures err { OnErr result (runs.new.items ≡ runs.old.items) }
@@ -99,8 +99,8 @@ pub fn push_run<'a>(runs: &mut Vec<Run<'a>>, run: &'a [u8]) -> Result<(), OutOfM
     Ok(())
 }
 
-/// The maximal runs of bytes that aren't separators, in order: the lines of a script that have a
-/// byte, the groups of a report. They are lent by the text.
+/// Splits a text into its maximal runs of bytes that aren't separators, in order. These are, for example, the
+/// non-empty lines of a script or the groups of a report. The runs borrow from the text.
 #[tactic(auto, using(crate::proofs::RunLaws::last_run))]
 pub fn runs_between<'a, S: Separators>(
     alloc: Global,
@@ -122,5 +122,5 @@ pub fn runs_between<'a, S: Separators>(
     }
 }
 
-// As many groups as most forecasts have.
+// The initial capacity, enough for the groups of most forecasts.
 const FIRST_ROOM: usize = 64;

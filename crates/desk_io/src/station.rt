@@ -3,7 +3,7 @@ ghost use Rattle.desk_io.specs.Station as spec;
 
 use std::marker::Model;
 
-/// An airport, by the four characters of its ICAO location indicator.
+/// An airport, identified by the four characters of its ICAO location indicator.
 #[derive(Clone, Copy, Debug, PartialEq, Eq)]
 pub struct Station {
     characters: [u8; 4],
@@ -35,7 +35,7 @@ fn is_capital_or_digit(b: u8) -> bool
 }
 
 impl Station {
-    /// The station of four bytes: a capital letter, and then capital letters or digits.
+    /// Reads four bytes: a capital letter, then three capital letters or digits. Returns None for anything else.
     pub fn read(bytes: &[u8]) -> Option<Station>
         ensures { result ≡ spec.station_of bytes.now }
     {
@@ -55,7 +55,7 @@ impl Station {
         }
     }
 
-    /// Its four characters.
+    /// Returns the four characters.
     pub fn bytes(self) -> [u8; 4]
         ensures { result ≡ self }
     {

@@ -4,7 +4,7 @@ use crate::{Copied, OutOfMemory};
 use std::alloc::Global;
 use std::marker::Model;
 
-/// Bytes that are kept. A contract sees the list of them.
+/// An owned byte string. Contracts model it as the list of its bytes.
 #[derive(Debug, Drop)]
 pub struct Text {
     bytes: Vec<u8>,
@@ -19,7 +19,7 @@ impl Model for Text {
 }
 
 impl Text {
-    /// A text of these bytes.
+    /// Copies these bytes into a new text.
     pub fn of(alloc: Global, bytes: &[u8]) -> Result<Text, OutOfMemory>
         ensures { IfOk result (λ t. t ≡ bytes.now) }
     {
@@ -27,14 +27,14 @@ impl Text {
         Ok(Text { bytes })
     }
 
-    /// A text of the bytes of a vector. It takes no memory.
+    /// Wraps a vector without copying or allocating.
     pub fn from_vec(bytes: Vec<u8>) -> Text
         ensures { result ≡ bytes.items }
     {
         Text { bytes }
     }
 
-    /// Its bytes.
+    /// Returns the bytes.
     pub fn bytes(&self) -> &[u8]
         ensures { result.now ≡ self.now }
     {

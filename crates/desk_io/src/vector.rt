@@ -12,8 +12,8 @@ use std::alloc::Global;
 use std::cmp::Ordering;
 use std::marker::Model;
 
-/// Values that are found by their keys, in a vector in rising order of the keys. Each key is there
-/// once. A contract sees the entries in order, and how many more keys need no memory.
+/// A sorted map: values looked up by key, stored in a vector in increasing order of the keys. No key occurs twice.
+/// Contracts model the entries in order and the spare capacity. Only `reserve` allocates memory.
 #[derive(Drop)]
 pub struct Sorted<K: Ord, V> {
     held: Vec<(K, V)>,
@@ -31,7 +31,7 @@ impl<K: Ord, V> Model for Sorted<K, V> {
     ghost invariant = { λ s. IsStrictlySortedBy K.cmp (keys_of s.held.items) };
 }
 
-// The entries whose keys aren't below that one.
+// The entries with keys at or above `low`, found by binary search.
 fn not_below<'a, K: Ord, V>(entries: &'a [(K, V)], low: &K) -> &'a [(K, V)]
     requires { IsStrictlySortedBy K.cmp (keys_of entries.now) }
     ensures value { result.now ≡ filter (λ e. is_ge (K.cmp e.0 low.now)) entries.now }
@@ -45,7 +45,7 @@ fn not_below<'a, K: Ord, V>(entries: &'a [(K, V)], low: &K) -> &'a [(K, V)]
     &entries[place..]
 }
 
-// The entries whose keys aren't above that one.
+// The entries with keys at or below `high`, found by binary search.
 fn not_above<'a, K: Ord, V>(entries: &'a [(K, V)], high: &K) -> &'a [(K, V)]
     requires { IsStrictlySortedBy K.cmp (keys_of entries.now) }
     ensures value { result.now ≡ filter (λ e. is_le (K.cmp e.0 high.now)) entries.now }
@@ -60,7 +60,7 @@ fn not_above<'a, K: Ord, V>(entries: &'a [(K, V)], high: &K) -> &'a [(K, V)]
 }
 
 impl<K: Ord + Drop, V: Drop> Sorted<K, V> {
-    /// No entries. It takes no memory.
+    /// Creates an empty map.
     pub fn new(alloc: Global) -> Sorted<K, V>
         ensures { result.entries ≡ [] }
     {
@@ -69,7 +69,7 @@ impl<K: Ord + Drop, V: Drop> Sorted<K, V> {
         }
     }
 
-    /// The entries in order. It takes no memory.
+    /// Returns the entries in order of their keys.
     pub fn as_slice(&self) -> &[(K, V)]
         ensures value { result.now ≡ self.now.entries }
         ensures sorted { IsStrictlySortedBy K.cmp (keys_of result.now) }
@@ -77,7 +77,7 @@ impl<K: Ord + Drop, V: Drop> Sorted<K, V> {
         &self.held
     }
 
-    /// The value at that key. It takes no memory.
+    /// Looks up the value of this key by binary search.
     pub fn get(&self, key: &K) -> Option<&V>
         ensures { option_copied result ≡ lookup (is_at (K.cmp key.now)) self.now.entries }
     {
@@ -87,8 +87,7 @@ impl<K: Ord + Drop, V: Drop> Sorted<K, V> {
         }
     }
 
-    /// The entries whose keys are neither below the one key nor above the other, in order. It takes no
-    /// memory.
+    /// Returns the entries with keys from `low` to `high`, both included, in order.
     pub fn run(&self, low: &K, high: &K) -> &[(K, V)]
         ensures value { result.now ≡ filter (λ e. within K.cmp low.now high.now e.0) self.now.entries }
         ensures sorted { IsStrictlySortedBy K.cmp (keys_of result.now) }
@@ -96,7 +95,7 @@ impl<K: Ord + Drop, V: Drop> Sorted<K, V> {
         not_above(not_below(self.as_slice(), low), high)
     }
 
-    /// Makes room for so many more keys. All entries stay, and all room that there was.
+    /// Reserves room for `more` additional keys. Entries and room that were there remain, even if memory runs out.
     pub fn reserve(&mut self, more: usize) -> Result<(), OutOfMemory>
         ensures same { self.new.entries ≡ self.old.entries }
         ensures kept { self.old.room ≤ self.new.room }
@@ -106,8 +105,8 @@ impl<K: Ord + Drop, V: Drop> Sorted<K, V> {
         Ok(())
     }
 
-    /// Puts the value at that key, in place of the one that was there, where there is room for one more
-    /// key. It takes no memory.
+    /// Inserts the key and its value, or replaces the value of a key that is present. Room for one key must be
+    /// reserved.
     pub fn put_reserved(&mut self, key: K, value: V)
         requires room { 1 ≤ self.old.room }
         ensures entries { self.new.entries ≡ insert_entry K.cmp self.old.entries key value }
@@ -124,7 +123,7 @@ impl<K: Ord + Drop, V: Drop> Sorted<K, V> {
         }
     }
 
-    /// Takes the key and its value away, where it is there. It takes no memory.
+    /// Removes the key and returns its value.
     pub fn remove(&mut self, key: &K) -> Option<V>
         ensures value { result ≡ lookup (is_at (K.cmp key.now)) self.old.entries }
         ensures entries { self.new.entries ≡ remove_entry (is_at (K.cmp key.now)) self.old.entries }
@@ -138,7 +137,7 @@ impl<K: Ord + Drop, V: Drop> Sorted<K, V> {
         }
     }
 
-    /// Puts the value in place of the one at that key, where the key is there. It takes no memory.
+    /// Replaces the value of a key that is present. Otherwise nothing changes.
     pub fn replace(&mut self, key: &K, value: V)
         ensures keys { keys_of self.new.entries ≡ keys_of self.old.entries }
         ensures each { (q : K) → lookup (is_at (K.cmp q)) self.new.entries
@@ -150,7 +149,7 @@ impl<K: Ord + Drop, V: Drop> Sorted<K, V> {
         }
     }
 
-    /// Puts the value in place of every other. It takes no memory.
+    /// Sets the value of every key.
     pub fn set_all(&mut self, value: V)
     where
         V: Copy,
@@ -163,7 +162,7 @@ impl<K: Ord + Drop, V: Drop> Sorted<K, V> {
         }
     }
 
-    // Where the key is, or where it would go.
+    // `Ok` holds the index of the key, `Err` the index at which to insert it.
     fn place(&self, key: &K) -> Result<usize, usize>
         ensures found { IfOk result (IsFoundAt K.cmp key.now self.now.entries) }
         ensures absent { IfErr result (IsGapAt K.cmp key.now self.now.entries) }
@@ -177,7 +176,7 @@ impl<K: Ord + Drop, V: Drop> Sorted<K, V> {
 }
 
 impl<K: Ord + Drop> Sorted<K, usize> {
-    /// Takes away each entry whose value isn't below the limit. It takes no memory.
+    /// Removes each entry whose value is at or above the limit.
     pub fn keep_below(&mut self, limit: usize)
         ensures { (q : K) → lookup (is_at (K.cmp q)) self.new.entries
             ≡ if_below limit (lookup (is_at (K.cmp q)) self.old.entries) }
@@ -194,7 +193,7 @@ impl<K: Ord + Drop> Sorted<K, usize> {
 }
 
 impl<K: Ord + Drop, V: Drop> Sorted<K, V> {
-    /// The entries of a vector in which the keys rise. It takes no memory.
+    /// Wraps a vector whose keys strictly increase.
     pub fn from_vec(held: Vec<(K, V)>) -> Sorted<K, V>
         requires { IsStrictlySortedBy K.cmp (keys_of held.items) }
         ensures { result.entries ≡ held.items }
@@ -202,7 +201,7 @@ impl<K: Ord + Drop, V: Drop> Sorted<K, V> {
         Sorted { held }
     }
 
-    /// The entries whose keys aren't below that one, in order. It takes no memory.
+    /// Returns the entries with keys at or above `low`, in order.
     pub fn from(&self, low: &K) -> &[(K, V)]
         ensures value { result.now ≡ filter (λ e. is_ge (K.cmp e.0 low.now)) self.now.entries }
         ensures sorted { IsStrictlySortedBy K.cmp (keys_of result.now) }
@@ -210,7 +209,7 @@ impl<K: Ord + Drop, V: Drop> Sorted<K, V> {
         not_below(self.as_slice(), low)
     }
 
-    /// Takes out the entries that don't pass the test. It takes no memory.
+    /// Keeps only the entries that pass the test.
     pub fn retain<F: FnMut(&(K, V)) -> bool>(&mut self, test: F)
         requires { F.IsAlwaysCallable test }
         ensures entries { (p : K × V → Bool) → ComputesKey F.FnMut p test

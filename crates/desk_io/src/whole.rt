@@ -6,10 +6,10 @@ ghost use Rattle.desk_io.specs.Whole.{ReadsWhole};
 use crate::{OutOfMemory, Shelf, Text, WholeFault};
 use std::alloc::Global;
 
-/// The most bytes that a source may have: 64 MiB.
+/// The largest source that `read_whole` accepts, in bytes: 64 MiB.
 pub const SOURCE_LIMIT: u64 = 67_108_864;
 
-// How many bytes are asked for at once.
+// The number of bytes requested per read.
 const PIECE: usize = 65_536;
 
 fn room(alloc: Global) -> Result<Vec<u8>, OutOfMemory>
@@ -20,7 +20,7 @@ fn room(alloc: Global) -> Result<Vec<u8>, OutOfMemory>
     Ok(piece)
 }
 
-// Reads the source by pieces, which come to `piece` one after another.
+// Reads the source in pieces, using `piece` as the buffer.
 fn read_by<S: Shelf>(
     alloc: Global,
     shelf: &mut S,
@@ -46,8 +46,8 @@ fn read_by<S: Shelf>(
     }
 }
 
-/// The whole source of that name. `ReadFault` comes only where the shelf's count of faults rose,
-/// `TooLong` exactly where the source has more than `SOURCE_LIMIT` bytes.
+/// Reads the whole source of this name. `ReadFault` means that the shelf failed and counted the fault. `TooLong`
+/// means that the source has more than `SOURCE_LIMIT` bytes.
 pub fn read_whole<S: Shelf>(alloc: Global, shelf: &mut S, name: &str) -> Result<Text, WholeFault>
     ensures whole { ReadsWhole (S.seen shelf.old).sources name.now result }
     ensures on { ShelfGoesOn (Holds (S.seen shelf.old) name.now) (S.seen shelf.old) (S.seen shelf.new) }

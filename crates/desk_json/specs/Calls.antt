@@ -1,4 +1,4 @@
--- Which texts are calls and lines, whatever the order in which faults are looked for.
+-- Which texts are calls and lines, whatever the order in which faults are sought.
 use Rattle.std.specs.Prelude.{◌≡◌, ℕ, Bool, true, is_some, List, Some, codes, option_and_then, Result, Ok, IfOk}
 use Rattle.serde_json.specs.Data.{Data}
 use Rattle.serde_json.specs.Find.{get, as_object}
@@ -11,11 +11,11 @@ use Rattle.desk_json.specs.declared.bad_call.CallFault.{CallFault}
 use Rattle.desk_json.specs.Keys.{is_key, is_call_key, is_line_key}
 use Rattle.desk_json.specs.Faults.{kind_of, ask_of_kind, request_at, Gives}
 
--- an object that has no other key
+-- an object whose keys are all expected
 abbrev pub HasOnly : (List ℕ → Bool) → Data → Type 0
 HasOnly expected d = (is_some (as_object d) ≡ true) × ((k : List ℕ) → is_some (get k d) ≡ true → expected k ≡ true)
 
--- an object of the name of an ask and the fields of such an ask, and of nothing else
+-- an object with the name of an ask and its fields, and nothing else
 pub record HasAsk (d : Data) (ask : Ask) : Type 0 where
   pub kind : AskKind
   pub name : option_and_then kind_of (text_at (codes "do") d) ≡ Some kind
@@ -31,14 +31,14 @@ pub record HasCall (d : Data) (call : Call) : Type 0 where
   pub found : get (codes "ask") d ≡ Some inner
   pub ask : HasAsk inner call.ask
 
--- a text of the fields of a call and of nothing else
+-- a text with the fields of a call and nothing else
 pub record IsCallOf (text : List ℕ) (call : Call) : Type 0 where
   pub value : Data
   pub json : data_of text ≡ Some value
   pub only : HasOnly is_call_key value
   pub fields : HasCall value call
 
--- a text of a moment and the fields of a call, and of nothing else
+-- a text with a moment and the fields of a call, and nothing else
 pub record IsLineOf (text : List ℕ) (line : ℕ × Call) : Type 0 where
   pub value : Data
   pub json : data_of text ≡ Some value
@@ -46,7 +46,7 @@ pub record IsLineOf (text : List ℕ) (line : ℕ × Call) : Type 0 where
   pub moment : moment_at (codes "at") value ≡ Some line.0
   pub fields : HasCall value line.1
 
--- A reader answers what a text is exactly where it is something, and then that, but for want of memory.
+-- The reader returns a value exactly if the text has one, unless memory runs out.
 pub record IsFound {A : Type 0} (Is : A → Type 0) (read : Result A CallFault) : Type 0 where
   pub sound : IfOk read Is
   pub whole : (x : A) → Is x → Gives x read

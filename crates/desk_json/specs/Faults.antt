@@ -1,4 +1,4 @@
--- The calls and the lines that texts are, each to its first fault.
+-- The call or the line that a text represents, or its first fault.
 use Rattle.std.specs.Prelude.{◌≡◌, ◌⊎◌, ℕ, Bool, true, false, if◌then◌else◌, is_some, List, [], Option, None, Some, codes, option_and_then, Result, Ok, Err}
 use Rattle.std.specs.Ordering.{nat_cmp, is_gt}
 use Rattle.std.specs.Cmp.Lexicographic.{slice_cmp}
@@ -23,7 +23,7 @@ use Rattle.desk_json.specs.declared.bad_call.CallFault.{CallFault}
 use Rattle.desk_json.specs.declared.bad_call.CallFault.TheVariants as fault
 use Rattle.desk_json.specs.Keys.{bad, lack, only_keys, and_then, need}
 
--- the kind of ask that has a name
+-- the kind of ask with this name
 abbrev pub kind_of : List ℕ → Option AskKind
 kind_of name =
     if bytes_eq name (codes "admit") then Some kind.Admit
@@ -46,7 +46,7 @@ kind_of name =
     else (if bytes_eq name (codes "release") then Some kind.Release
     else (if bytes_eq name (codes "weather") then Some kind.Weather else None))))))))))))))))))
 
--- ---- asks, each key in its turn
+-- ---- asks, key by key
 
 abbrev pub plan_at : List ℕ → Data → Option Plan
 plan_at key d = option_and_then plan_of (get key d)
@@ -75,7 +75,7 @@ flown_of d = and_then (need amount_at (codes "leg") d) (λ leg. and_then (releas
 abbrev pub acknowledge_of : Data → Result Ask BadCall
 acknowledge_of d = and_then (release_of d) (λ release. and_then (need id_at (codes "version") d) (λ version. Ok (Acknowledge release version)))
 
--- what is read of the keys of an ask of a kind
+-- the ask of a kind, read from its keys
 abbrev pub ask_of_kind : AskKind → Data → Result Ask BadCall
 ask_of_kind kind.Admit d = and_then (need text_at (codes "text") d) (λ text. Ok (Admit text))
 ask_of_kind kind.Defer d = defer_of d
@@ -97,12 +97,12 @@ ask_of_kind kind.Release d = and_then (release_of d) (λ release. Ok (ViewReleas
 ask_of_kind kind.Weather d = and_then (need station_at (codes "station") d) (λ station. Ok (ViewWeather station))
 ask_of_kind kind.Deferred d = and_then (need short_at (codes "tail") d) (λ tail. Ok (ViewDeferred tail))
 
--- an ask of a kind: no key more, and then each key of it
+-- an ask of a kind: first no unexpected key, then each key
 abbrev pub ask_by : Option AskKind → Data → Result Ask BadCall
 ask_by None d = Err (bad UnknownAsk (codes "do"))
 ask_by (Some k) d = and_then (only_keys (object.Asked k) d) (λ only. ask_of_kind k d)
 
--- an ask: its name, whether an ask has that name, and then the ask of that kind
+-- an ask: first its name, then whether there is such an ask, then its keys
 abbrev pub ask_or_fault : Data → Result Ask BadCall
 ask_or_fault d = and_then (need text_at (codes "do") d) (λ name. ask_by (kind_of name) d)
 
@@ -115,27 +115,27 @@ if_object d = if is_some (as_object d) then Some d else None
 abbrev pub object_at : List ℕ → Data → Option Data
 object_at key d = option_and_then if_object (get key d)
 
--- the number of a request, at most 10 ^ 12
+-- the number of a request, at most 10^12
 abbrev pub request_at : List ℕ → Data → Option ℕ
 request_at key d = number_at key 1_000_000_000_000 d
 
 abbrev pub call_with : List ℕ → List ℕ → ℕ → Ask → Call
 call_with actor key number ask = record { actor = actor; key = key; number = number; ask = ask }
 
--- a call whose keys up to `ask` were read: its key and its number, and then its ask
+-- the key, the number and the ask of a call whose other keys are read already
 abbrev pub call_by : List ℕ → Data → Data → Result Call BadCall
 call_by actor ask d =
     and_then (need short_at (codes "key") d) (λ key.
     and_then (need request_at (codes "number") d) (λ number.
     and_then (ask_or_fault ask) (λ asked. Ok (call_with actor key number asked))))
 
--- what is read of the keys of a call, and then of its ask
+-- the keys of a call, and then its ask
 abbrev pub call_fields : Data → Result Call BadCall
 call_fields d =
     and_then (need short_at (codes "actor") d) (λ actor.
     and_then (need object_at (codes "ask") d) (λ ask. call_by actor ask d))
 
--- what is read of the keys of a line, and then of its ask
+-- the keys of a line, and then its ask
 abbrev pub line_fields : Data → Result (ℕ × Call) BadCall
 line_fields d =
     and_then (need short_at (codes "actor") d) (λ actor.
@@ -149,62 +149,62 @@ call_in d = and_then (only_keys object.Call d) (λ only. call_fields d)
 abbrev pub line_in : Data → Result (ℕ × Call) BadCall
 line_in d = and_then (only_keys object.Line d) (λ only. line_fields d)
 
--- what is read of JSON, where a text is JSON
+-- the value read from JSON, if the text is JSON
 abbrev pub read_as : {A : Type 0} → (Data → Result A BadCall) → Option Data → Result A BadCall
 read_as f None = Err (bad NotJson [])
 read_as f (Some d) = f d
 
--- the call that a text is, or its first fault
+-- the call that a text represents, or its first fault
 unfoldable pub call_or_fault : List ℕ → Result Call BadCall
 call_or_fault text = read_as call_in (data_of text)
 
--- the moment and the call that a line is, or its first fault
+-- the moment and the call that a line represents, or its first fault
 unfoldable pub line_or_fault : List ℕ → Result (ℕ × Call) BadCall
 line_or_fault line = read_as line_in (data_of line)
 
--- ---- answers
+-- ---- results of readers
 
--- A reader answers what was read or exactly its first fault, but for want of memory.
+-- The reader returns this value, exactly this fault, or out of memory.
 abbrev pub Answers : {A : Type 0} → Result A BadCall → Result A CallFault → Type 0
 Answers r (Ok x) = r ≡ Ok x
 Answers r (Err (fault.Bad b)) = r ≡ Err b
 Answers r (Err fault.OutOfMemory) = Unit {0}
 
--- A reader answers this, but for want of memory.
+-- The reader returns this value, or out of memory.
 abbrev pub Gives : {A : Type 0} → A → Result A CallFault → Type 0
 Gives x (Ok read) = read ≡ x
 Gives x (Err (fault.Bad b)) = ⊥
 Gives x (Err fault.OutOfMemory) = Unit {0}
 
--- A fault is this one, or memory ran out.
+-- The fault is this one, or out of memory.
 abbrev pub IsFault : BadCall → CallFault → Type 0
 IsFault b (fault.Bad told) = told ≡ b
 IsFault b fault.OutOfMemory = Unit {0}
 
--- What is answered where a key isn't expected: a key more, and it isn't after that key in byte order.
+-- The result for an unexpected key: the fault is Extra, at a key that isn't after this one in byte order.
 abbrev pub IsExtraNamed : {A : Type 0} → List ℕ → Result A CallFault → Type 0
 IsExtraNamed k (Ok x) = ⊥
 IsExtraNamed k (Err (fault.Bad b)) = (b.why ≡ Extra) × (is_gt (slice_cmp nat_cmp b.key k) ≡ false)
 IsExtraNamed k (Err fault.OutOfMemory) = Unit {0}
 
--- Of the keys of an object that aren't expected a reader names the least, but for want of memory.
+-- The reader names the smallest unexpected key of an object, unless memory runs out.
 abbrev pub NamesExtra : {A : Type 0} → (List ℕ → Bool) → List ℕ → Result A CallFault → Type 0
 NamesExtra expected text r = (d : Data) (k : List ℕ) → data_of text ≡ Some d → is_some (get k d) ≡ true → expected k ≡ false → IsExtraNamed k r
 
--- nothing of the right form is read at this key: it is missing, or its value doesn't fit
+-- this key can't be read: it is missing, or its value is malformed or out of range
 abbrev pub IsUnread : {A : Type 0} → (List ℕ → Data → Option A) → List ℕ → Data → List ℕ → Type 0
 IsUnread read key d k = (k ≡ key) × (read key d ≡ None)
 
--- a key of a call
+-- one of the keys of a call
 abbrev pub IsUnreadOfCall : Data → List ℕ → Type 0
 IsUnreadOfCall d k = IsUnread short_at (codes "actor") d k ⊎ (IsUnread short_at (codes "key") d k ⊎ (IsUnread request_at (codes "number") d k ⊎ IsUnread object_at (codes "ask") d k))
 
--- a key of a line
+-- one of the keys of a line
 abbrev pub IsUnreadOfLine : Data → List ℕ → Type 0
 IsUnreadOfLine d k = IsUnread moment_at (codes "at") d k ⊎ IsUnreadOfCall d k
 
--- What is answered where a key is missing or its value doesn't fit: a key of this object that isn't expected, or such a key as this one,
--- for its own reason, that isn't after it in byte order.
+-- The result for a key that can't be read. The fault names an unexpected key of the object. Or it names, with its own
+-- reason, a key that can't be read and isn't after this one in byte order.
 abbrev pub IsUnreadNamed : {A : Type 0} → (List ℕ → Bool) → (Data → List ℕ → Type 0) → Data → List ℕ → Result A CallFault → Type 0
 IsUnreadNamed expected unread d k (Ok x) = ⊥
 IsUnreadNamed expected unread d k (Err (fault.Bad b)) =
@@ -212,7 +212,6 @@ IsUnreadNamed expected unread d k (Err (fault.Bad b)) =
     ⊎ ((b.why ≡ lack (get b.key d)) × unread d b.key × (is_gt (slice_cmp nat_cmp b.key k) ≡ false))
 IsUnreadNamed expected unread d k (Err fault.OutOfMemory) = Unit {0}
 
--- Of the keys of an object that are missing or whose value doesn't fit a reader names the least, unless a key isn't expected, but for
--- want of memory.
+-- The reader names the smallest key that can't be read, unless a key is unexpected or memory runs out.
 abbrev pub NamesUnread : {A : Type 0} → (List ℕ → Bool) → (Data → List ℕ → Type 0) → List ℕ → Result A CallFault → Type 0
 NamesUnread expected unread text r = (d : Data) (k : List ℕ) → data_of text ≡ Some d → is_some (as_object d) ≡ true → unread d k → IsUnreadNamed expected unread d k r

@@ -1,4 +1,4 @@
--- The keys of calls, of lines and of asks, and what is wrong with the keys of an object.
+-- The keys of calls, lines and asks, and the faults of an object's keys.
 use Rattle.std.specs.Prelude.{ℕ, Bool, false, ◌||◌, if◌then◌else◌, List, [], Option, None, Some, codes, Result, Ok, Err}
 use Rattle.std.specs.Str.{bytes_eq}
 use Rattle.serde_json.specs.Data.{Data, Members, no_members, member}
@@ -16,7 +16,7 @@ bad why key = record { why = why; key = key }
 
 -- ---- keys
 
--- the keys of an ask of a kind, beside `do`
+-- the keys of an ask of a kind, besides `do`
 abbrev pub is_asked : AskKind → List ℕ → Bool
 is_asked kind.Admit k = bytes_eq k (codes "text")
 is_asked kind.Defer k = bytes_eq k (codes "found") || bytes_eq k (codes "item") || bytes_eq k (codes "tail")
@@ -52,12 +52,12 @@ is_key object.Call k = is_call_key k
 is_key object.Line k = is_line_key k
 is_key (object.Asked a) k = bytes_eq k (codes "do") || is_asked a k
 
--- The least key that an object doesn't have. Members stand in the byte order of their keys.
+-- The first unexpected key. Members are in byte order of their keys, so it is the smallest.
 abbrev pub first_extra : Object → Members → Option (List ℕ)
 first_extra o no_members = None
 first_extra o (member k d ms) = if is_key o k then first_extra o ms else Some k
 
--- ---- what is wrong with keys
+-- ---- faults of keys
 
 abbrev pub no_extra : Option (List ℕ) → Result (Unit {0}) BadCall
 no_extra None = Ok tt
@@ -67,11 +67,11 @@ abbrev pub only_members : Object → Option Members → Result (Unit {0}) BadCal
 only_members o None = Err (bad NotObject [])
 only_members o (Some ms) = no_extra (first_extra o ms)
 
--- what is no object, or has a key more, has that fault
+-- the fault of a value that isn't an object, or has an unexpected key
 abbrev pub only_keys : Object → Data → Result (Unit {0}) BadCall
 only_keys o d = only_members o (as_object d)
 
--- why nothing is read at a key
+-- why a key can't be read
 abbrev pub lack : Option Data → CallWhy
 lack None = Missing
 lack (Some d) = BadValue
@@ -82,11 +82,11 @@ abbrev pub and_then : {A B : Type 0} → Result A BadCall → (A → Result B Ba
 and_then (Err fault) f = Err fault
 and_then (Ok x) f = f x
 
--- what was read at a key, or why nothing was
+-- the value read at a key, or why there is none
 abbrev pub found : {A : Type 0} → List ℕ → Data → Option A → Result A BadCall
 found key d None = Err (bad (lack (get key d)) key)
 found key d (Some x) = Ok x
 
--- what is read at a key
+-- the value at a key, which must be there
 abbrev pub need : {A : Type 0} → (List ℕ → Data → Option A) → List ℕ → Data → Result A BadCall
 need read key d = found key d (read key d)

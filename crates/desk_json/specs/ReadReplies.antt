@@ -1,4 +1,4 @@
--- The replies that texts are: what is read of JSON, where the reply that is read has that text.
+-- The reply that a text represents, if the text is the canonical one of that reply.
 use Rattle.std.specs.Prelude.{◌≡◌, ℕ, ◌≤◌, ◌==◌, if◌then◌else◌, is_some, List, [], Option, None, Some, codes, option_and_then, Result, Ok, Err, IsUtf8}
 use Rattle.std.specs.List.{AllByRecursion}
 use Rattle.std.specs.Str.{bytes_eq}
@@ -31,15 +31,15 @@ use Rattle.desk_json.specs.Faults.{Answers, Gives}
 
 -- ---- fields
 
--- a whole number of 64 bits
+-- a 64-bit number
 abbrev pub wide_at : List ℕ → Data → Option ℕ
 wide_at key d = number_at key 18_446_744_073_709_551_615 d
 
--- a moment that can be shown
+-- a moment that the desk can print
 abbrev pub shown_at : List ℕ → Data → Option ℕ
 shown_at key d = option_and_then shown_of (text_at key d)
 
--- the reason that has a name
+-- the reason with this name
 abbrev pub why_of : List ℕ → Option Why
 why_of name =
     if bytes_eq name (codes "TooLong") then Some why.TooLong
@@ -51,7 +51,7 @@ why_of name =
     else (if bytes_eq name (codes "BadSky") then Some why.BadSky
     else (if bytes_eq name (codes "BadPeriod") then Some why.BadPeriod else None)))))))
 
--- the test of a plan that has a name
+-- the failed test of a plan with this name
 abbrev pub plan_why_of : List ℕ → Option PlanWhy
 plan_why_of name =
     if bytes_eq name (codes "UnknownTail") then Some plan_why.UnknownTail
@@ -67,7 +67,7 @@ plan_why_of name =
 
 -- ---- refusals
 
--- the refusals that say no more than their number
+-- refusals without fields of their own
 abbrev pub plain_of : ℕ → Option Refusal
 plain_of n =
     if n == 1 then Some UnknownActor
@@ -81,7 +81,7 @@ plain_of n =
     else (if n == 25 then Some NoSuchStation
     else (if n == 28 then Some UnknownItem else None)))))))))
 
--- those that say one number of 64 bits, and else the last
+-- refusals with one 64-bit number as a field; others go to plain_of
 abbrev pub counted_of : ℕ → Data → Option Refusal
 counted_of n d =
     if n == 4 then (wide_at (codes "kept") d >>= λ kept. Some (NumberReused kept))
@@ -108,7 +108,7 @@ history_full_of d =
     wide_at (codes "entries") d >>= λ entries. wide_at (codes "kept") d >>= λ kept. wide_at (codes "events") d >>= λ events.
     Some (HistoryFull entries kept events)
 
--- those that say something else, and else the next
+-- refusals with other fields of fixed size; others go to counted_of
 abbrev pub fixed_of : ℕ → Data → Option Refusal
 fixed_of n d =
     if n == 5 then bad_report_of d
@@ -131,7 +131,7 @@ finding_in d = option_and_then said_finding_of (as_str d)
 abbrev pub rule_fails_of : Data → Option Refusal
 rule_fails_of d = list_at (codes "findings") d >>= λ items. each_read finding_in items >>= λ findings. Some (RuleFails findings)
 
--- the refusal of a number, with its fields
+-- the refusal with this number, and its fields
 abbrev pub refusal_of : ℕ → Data → Option Refusal
 refusal_of n d = if n == 11 then not_yours_of d else (if n == 17 then rule_fails_of d else fixed_of n d)
 
@@ -146,25 +146,25 @@ seen_in d = text_at (codes "seen") d >>= λ text. Some (Seen text)
 abbrev pub refused_in : Data → Option Reply
 refused_in d = wide_at (codes "refused") d >>= λ n. refusal_of n d >>= λ refusal. Some (Refused refusal)
 
--- what is read of JSON, whatever else it says
+-- the reply read from JSON, whatever else that contains
 abbrev pub reply_of : Data → Option Reply
 reply_of d = if is_some (get (codes "done") d) then done_in d else (if is_some (get (codes "seen") d) then seen_in d else refused_in d)
 
 abbrev pub if_text : List ℕ → Reply → Option Reply
 if_text text reply = if bytes_eq (reply_text reply) text then Some reply else None
 
--- the reply that is read of a text and has that text
+-- the reply that a text represents, if it has exactly that text
 unfoldable pub reply_in : List ℕ → Option Reply
 reply_in text = data_of text >>= λ d. reply_of d >>= λ reply. if_text text reply
 
 -- ---- forms
 
--- a number of 64 bits
+-- a 64-bit number
 abbrev pub IsWide : ℕ → Type 0
 IsWide n = n ≤ 18_446_744_073_709_551_615
 
--- A refusal whose fields have their forms: numbers within their types, texts that are UTF-8, phases as they are kept,
--- and moments that can be shown.
+-- A refusal whose fields have their forms. Numbers are within their types, texts are UTF-8, phases are as rows store
+-- them, and moments can be printed.
 abbrev pub RefusalHasForms : Refusal → Type 0
 RefusalHasForms UnknownActor = Unit {0}
 RefusalHasForms WrongKey = Unit {0}
@@ -203,22 +203,22 @@ ReplyHasForms (Done done) = SaidDoneHasForms done
 ReplyHasForms (Seen text) = IsUtf8 text
 ReplyHasForms (Refused refusal) = RefusalHasForms refusal
 
--- ---- answers
+-- ---- results of readers
 
--- the reply, or that the text is no JSON of one
+-- the reply, or the fault that the text isn't one
 abbrev pub or_fault : Option Reply → Result Reply BadCall
 or_fault None = Err (bad NotJson [])
 or_fault (Some reply) = Ok reply
 
--- A reader answers the reply that a text is, or that it is no JSON of one, but for want of memory.
+-- The reader returns the reply that a text represents, the fault that it isn't one, or out of memory.
 abbrev pub AnswersReply : Option Reply → Result Reply CallFault → Type 0
 AnswersReply o r = Answers (or_fault o) r
 
--- a reply of good form, and this is its text
+-- this is the text of the reply, whose fields have their forms
 pub record IsReplyOf (text : List ℕ) (reply : Reply) : Type 0 where
   pub forms : ReplyHasForms reply
   pub same : reply_text reply ≡ text
 
--- Each reply of good form is read of its text.
+-- Each reply whose fields have their forms is read back from its text.
 abbrev pub IsReplyAgain : List ℕ → Result Reply CallFault → Type 0
 IsReplyAgain text read = (reply : Reply) → IsReplyOf text reply → Gives reply read

@@ -1,4 +1,4 @@
--- The texts of replies, and of faults of calls: JSON without blanks, its keys in byte order.
+-- The texts of replies and of faults: JSON without white space, keys in byte order.
 use Rattle.std.specs.Prelude.{ℕ, List, codes}
 use Rattle.serde_json.specs.Data.{Data, object, Members, member, no_members, put, string}
 use Rattle.serde_json.specs.Written.{compact_text}
@@ -18,7 +18,7 @@ use Rattle.asks.specs.Digests.{digest_data}
 use Rattle.asks.specs.Canonical.{count, text_data, moment_data, list_data, done_data}
 use Rattle.release_json.specs.Findings.{finding_data}
 
--- the name of a reason
+-- the name of the reason why a report can't be read
 abbrev pub why_name : Why → List ℕ
 why_name why.TooLong = codes "TooLong"
 why_name why.Missing = codes "Missing"
@@ -29,7 +29,7 @@ why_name why.BadVisibility = codes "BadVisibility"
 why_name why.BadSky = codes "BadSky"
 why_name why.BadPeriod = codes "BadPeriod"
 
--- the name of a test of a plan
+-- the name of the test that a plan fails
 abbrev pub plan_why_name : PlanWhy → List ℕ
 plan_why_name plan_why.UnknownTail = codes "UnknownTail"
 plan_why_name plan_why.UnknownCaptain = codes "UnknownCaptain"
@@ -75,7 +75,7 @@ refusal_number UnknownItem = 28
 refusal_number (BadFound moment) = 29
 refusal_number (DeferralsFull held) = 30
 
--- its name
+-- the name of a refusal
 abbrev pub refusal_name : Refusal → List ℕ
 refusal_name UnknownActor = codes "UnknownActor"
 refusal_name WrongKey = codes "WrongKey"
@@ -108,16 +108,15 @@ refusal_name UnknownItem = codes "UnknownItem"
 refusal_name (BadFound moment) = codes "BadFound"
 refusal_name (DeferralsFull held) = codes "DeferralsFull"
 
--- a place in a text or a plan, and what is wrong there
+-- a place in a report or a plan, and the reason
 abbrev pub with_reason : List ℕ → ℕ → List ℕ → Members → Members
 with_reason key place what ms = put (codes "what") (string what) (put key (count place) ms)
 
--- how many entries the history has, how many replies are kept, and how many events there were
+-- the numbers of entries in the history, of kept replies, and of events
 abbrev pub with_counts : ℕ → ℕ → ℕ → Members → Members
 with_counts entries kept events ms = put (codes "kept") (count kept) (put (codes "events") (count events) (put (codes "entries") (count entries) ms))
 
--- Some members and those of a refusal that say more than its number and its name, each put where its key
--- belongs in byte order.
+-- Members with the fields of a refusal added, besides its number and its name. Each key is put in byte order.
 abbrev pub with_fields : Refusal → Members → Members
 with_fields UnknownActor ms = ms
 with_fields WrongKey ms = ms
@@ -150,7 +149,7 @@ with_fields UnknownItem ms = ms
 with_fields (BadFound moment) ms = put (codes "now") (moment_data moment) ms
 with_fields (DeferralsFull held) ms = put (codes "held") (count held) ms
 
--- the members that every refusal has
+-- the members that every refusal has: its number and its name
 abbrev pub refusal_members : Refusal → Members
 refusal_members r = member (codes "refused") (count (refusal_number r)) (member (codes "why") (string (refusal_name r)) no_members)
 
@@ -166,7 +165,7 @@ reply_data (Refused refusal) = refusal_data refusal
 unfoldable pub reply_text : Reply → List ℕ
 reply_text reply = compact_text (reply_data reply)
 
--- the name of what is wrong with a call
+-- the name of the fault of a call
 abbrev pub call_why_name : CallWhy → List ℕ
 call_why_name call_why.NotJson = codes "NotJson"
 call_why_name call_why.NotObject = codes "NotObject"
@@ -178,6 +177,6 @@ call_why_name call_why.UnknownAsk = codes "UnknownAsk"
 abbrev pub bad_data : BadCall → Data
 bad_data bad = object (member (codes "bad") (string (call_why_name bad.why)) (member (codes "key") (text_data bad.key) no_members))
 
--- the text of a fault of a call
+-- the text of the fault of a call
 unfoldable pub bad_text : BadCall → List ℕ
 bad_text bad = compact_text (bad_data bad)

@@ -114,7 +114,7 @@ fn weather_of(alloc: Global, value: Element<'_>) -> Result<Ask, CallFault>
     Ok(Ask::ViewWeather { station })
 }
 
-// What is read of the keys of an ask of a kind.
+// Reads the fields of an ask of this kind.
 fn ask_of_kind(alloc: Global, kind: AskKind, value: Element<'_>) -> Result<Ask, CallFault>
     ensures { Answers (spec.ask_of_kind kind (data_at value.entry)) result }
 {
@@ -145,7 +145,8 @@ fn ask_of_kind(alloc: Global, kind: AskKind, value: Element<'_>) -> Result<Ask, 
     }
 }
 
-/// The ask that an object is, or its first fault: of its name, of a key more, and then of each key.
+/// Reads an ask from an object, or returns its first fault. Checks the name first, then for unexpected keys, then
+/// each key.
 pub(crate) fn ask_or_fault(alloc: Global, value: Element<'_>) -> Result<Ask, CallFault>
     ensures { Answers (spec.ask_or_fault (data_at value.entry)) result }
 {

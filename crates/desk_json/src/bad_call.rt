@@ -10,7 +10,7 @@ use compact_json::Element;
 use desk_io::{OutOfMemory, Text};
 use std::alloc::Global;
 
-/// Why a text was not read.
+/// Why a text can't be read as a call or a reply.
 #[derive(Debug, Drop)]
 pub enum CallFault {
     /// It has this fault.
@@ -27,7 +27,7 @@ impl From<OutOfMemory> for CallFault {
     }
 }
 
-/// A fault at a key.
+/// Returns a fault at a key.
 pub(crate) fn bad(alloc: Global, why: CallWhy, key: &str) -> CallFault
     ensures { IsFault (spec.bad why key.now) result }
 {
@@ -37,7 +37,7 @@ pub(crate) fn bad(alloc: Global, why: CallWhy, key: &str) -> CallFault
     }
 }
 
-/// The fault of a value in which nothing is read at a key: the key isn't there, or its value hasn't its form.
+/// Returns the fault of a key that can't be read. The key is missing, or its value is malformed or out of range.
 pub(crate) fn lack(alloc: Global, key: &str, value: Element<'_>) -> CallFault
     ensures { IsFault (spec.bad (spec.lack (get key.now (data_at value.entry))) key.now) result }
 {
@@ -47,7 +47,7 @@ pub(crate) fn lack(alloc: Global, key: &str, value: Element<'_>) -> CallFault
     }
 }
 
-/// What was read at a key, or why nothing was.
+/// Returns the value read at a key, or the fault if there is none.
 pub(crate) fn found<T: Drop>(
     alloc: Global,
     key: &str,

@@ -14,7 +14,7 @@ use desk_time::Minute;
 use plan::Plan;
 use std::alloc::Global;
 
-/// The text at a key, or why there is none.
+/// Reads the text at a key.
 pub(crate) fn text_of(alloc: Global, key: &str, value: Element<'_>) -> Result<Text, CallFault>
     ensures { Answers (need fields.text_at key.now (data_at value.entry)) result }
 {
@@ -24,7 +24,7 @@ pub(crate) fn text_of(alloc: Global, key: &str, value: Element<'_>) -> Result<Te
     }
 }
 
-/// The text of at most 64 bytes at a key, or why there is none.
+/// Reads the text at a key, which has at most 64 bytes.
 pub(crate) fn short_of(alloc: Global, key: &str, value: Element<'_>) -> Result<Text, CallFault>
     ensures { Answers (need fields.short_at key.now (data_at value.entry)) result }
 {
@@ -34,21 +34,21 @@ pub(crate) fn short_of(alloc: Global, key: &str, value: Element<'_>) -> Result<T
     }
 }
 
-/// The id at a key, or why there is none.
+/// Reads the id at a key.
 pub(crate) fn id_of(alloc: Global, key: &str, value: Element<'_>) -> Result<u64, CallFault>
     ensures { Answers (need fields.id_at key.now (data_at value.entry)) result }
 {
     found(alloc, key, value, id_at(key, value))
 }
 
-/// The moment at a key, or why there is none.
+/// Reads the moment at a key.
 pub(crate) fn moment_of(alloc: Global, key: &str, value: Element<'_>) -> Result<Minute, CallFault>
     ensures { Answers (need fields.moment_at key.now (data_at value.entry)) result }
 {
     found(alloc, key, value, moment_at(key, value))
 }
 
-/// The plan at a key, or why there is none.
+/// Reads the plan at a key.
 pub(crate) fn plan_of(alloc: Global, key: &str, value: Element<'_>) -> Result<Plan, CallFault>
     ensures { Answers (need spec.plan_at key.now (data_at value.entry)) result }
 {
@@ -58,7 +58,7 @@ pub(crate) fn plan_of(alloc: Global, key: &str, value: Element<'_>) -> Result<Pl
     }
 }
 
-/// The object at a key.
+/// Returns the object at a key.
 pub(crate) fn object_at<'a>(key: &str, value: Element<'a>) -> Option<Element<'a>>
     ensures { option_map data_at result ≡ spec.object_at key.now (data_at value.entry) }
 {

@@ -9,7 +9,7 @@ use asks::CallWhy;
 use compact_json::{Element, Keys};
 use std::alloc::Global;
 
-/// A kind of ask.
+/// The kinds of asks.
 #[derive(Clone, Copy)]
 pub(crate) enum AskKind {
     Admit,
@@ -33,7 +33,7 @@ pub(crate) enum AskKind {
     Deferred,
 }
 
-/// An object of a call or a line, which has keys of its own.
+/// An object with its own set of keys: a call, a line, or an ask.
 #[derive(Clone, Copy)]
 pub(crate) enum Object {
     Call,
@@ -79,7 +79,7 @@ fn is_key(object: Object, key: &str) -> bool
     }
 }
 
-// The least key, in byte order, that an object doesn't have.
+// Returns the smallest unexpected key in byte order.
 fn first_extra<'a>(object: Object, keys: Keys<'a>) -> Option<&'a str>
     ensures { option_map (λ s. s.now) result ≡ spec.first_extra object (keys_left keys.entry) }
 {
@@ -92,7 +92,7 @@ fn first_extra<'a>(object: Object, keys: Keys<'a>) -> Option<&'a str>
     None
 }
 
-/// Finds no fault in an object that has no key more.
+/// Returns a fault if the value isn't an object, or has an unexpected key.
 pub(crate) fn only_keys(alloc: Global, object: Object, value: Element<'_>) -> Result<(), CallFault>
     ensures { Answers (spec.only_keys object (data_at value.entry)) result }
 {
@@ -105,7 +105,7 @@ pub(crate) fn only_keys(alloc: Global, object: Object, value: Element<'_>) -> Re
     }
 }
 
-/// The kind of ask that has a name.
+/// Returns the kind of ask with this name.
 pub(crate) fn kind_of(name: &str) -> Option<AskKind>
     ensures { result ≡ kind_of name.now }
 {

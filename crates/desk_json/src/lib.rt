@@ -1,4 +1,4 @@
-//! Calls and replies as JSON.
+//! Calls, replies and their faults as JSON: read with the first fault named, and written in canonical form.
 #![tactic(auto)]
 
 mod asked;

@@ -19,7 +19,7 @@ use desk_io::Text;
 use desk_time::Minute;
 use std::alloc::Global;
 
-// A call whose keys up to `ask` were read: its key and its number, and then its ask.
+// Reads the key, the number and the ask of a call whose other keys are read already.
 fn call_by(
     alloc: Global,
     actor: Text,
@@ -85,37 +85,38 @@ fn line_in_text(alloc: Global, line: &[u8]) -> Result<(Minute, Call), CallFault>
     }
 }
 
-/// The call of the body of a request: a JSON object of the keys `actor`, `ask`, `key` and `number`, and no
-/// other, each of its form. Else it is exactly the first fault, but for want of memory.
+/// Reads the call in the body of a request. It is a JSON object with exactly the keys `actor`, `ask`, `key` and
+/// `number`, each with a value of its form. Otherwise returns the first fault, unless memory runs out.
 pub fn read_call(alloc: Global, bytes: &[u8]) -> Result<Call, CallFault>
     ensures answer { Answers (call_or_fault bytes.now) result }
-    // Of the keys that aren't expected the least is told. The order of keys comes from how JSON is read.
+    // The fault names the smallest unexpected key, because JSON is read with its keys in byte order.
     ensures extra { NamesExtra is_call_key bytes.now result }
-    // So it is of the keys at the top that are missing or whose value doesn't fit.
+    // Without an unexpected key, it names the smallest top-level key that is missing or has a bad value.
     ensures unread { NamesUnread is_call_key IsUnreadOfCall bytes.now result }
-    // A call is read exactly where the fields of one are there and nothing else.
+    // A call is read exactly if the text has its fields and nothing else.
     ensures found { IsFound (IsCallOf bytes.now) result }
-    // Texts are UTF-8 and numbers within their limits, so that what is written of the ask is read as it.
+    // Texts are UTF-8 and numbers are within their limits, so the ask can be written and read back.
     ensures forms { IfOk result CallHasForms }
-    // The JSON of a call is read as that call.
+    // The JSON of a call is read back as that call.
     ensures again { IsCallAgain bytes.now result }
 {
     call_in_text(alloc, bytes)
 }
 
-/// The moment and the call of a line of a script: as the call of a request, with the key `at` too.
+/// Reads the moment and the call of a line of a script. The line is like the body of a request, with the key `at`
+/// added.
 pub fn read_line(alloc: Global, line: &[u8]) -> Result<(Minute, Call), CallFault>
     ensures answer { Answers (line_or_fault line.now) result }
-    // Of the keys that aren't expected the least is told. `proofs/Least.antt` has it of the keys of an ask, too.
+    // The fault names the smallest unexpected key. `proofs/Least.antt` proves this for the keys of an ask, too.
     ensures extra { NamesExtra is_line_key line.now result }
-    // So it is of the keys at the top that are missing or whose value doesn't fit.
+    // Without an unexpected key, it names the smallest top-level key that is missing or has a bad value.
     ensures unread { NamesUnread is_line_key IsUnreadOfLine line.now result }
-    // A line is read exactly where the fields of one are there and nothing else.
+    // A line is read exactly if the text has its fields and nothing else.
     ensures found { IsFound (IsLineOf line.now) result }
     ensures range { IfOk result (λ p. IsMoment p.0) }
-    // Texts are UTF-8 and numbers within their limits, so that what is written of the ask is read as it.
+    // Texts are UTF-8 and numbers are within their limits, so the ask can be written and read back.
     ensures forms { IfOk result (λ p. CallHasForms p.1) }
-    // The JSON of a moment and a call is read as these.
+    // The JSON of a moment and a call is read back as these.
     ensures again { IsLineAgain line.now result }
 {
     line_in_text(alloc, line)

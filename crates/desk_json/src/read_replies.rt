@@ -86,7 +86,7 @@ fn plan_why_of(name: &str) -> Option<PlanWhy>
     }
 }
 
-// The refusals that say no more than their number.
+// Refusals without fields of their own.
 fn plain_of(number: u64) -> Option<Refusal>
     ensures { result ≡ spec.plain_of number }
 {
@@ -105,7 +105,7 @@ fn plain_of(number: u64) -> Option<Refusal>
     }
 }
 
-// Those that say one number of 64 bits, and else the last.
+// Refusals with one 64-bit number as a field. Others go to `plain_of`.
 fn counted_of(number: u64, value: Element<'_>) -> Option<Refusal>
     ensures { result ≡ spec.counted_of number (data_at value.entry) }
 {
@@ -178,7 +178,7 @@ fn history_full_of(value: Element<'_>) -> Option<Refusal>
     })
 }
 
-// Those that say something else, and else the next.
+// Refusals with other fields of fixed size. Others go to `counted_of`.
 fn fixed_of(number: u64, value: Element<'_>) -> Option<Refusal>
     ensures { result ≡ spec.fixed_of number (data_at value.entry) }
 {
@@ -249,7 +249,7 @@ fn rule_fails_of(alloc: Global, value: Element<'_>) -> Result<Option<Refusal>, O
     }
 }
 
-// The refusal of a number, with its fields.
+// Reads the refusal with this number, and its fields.
 fn refusal_of(
     alloc: Global,
     number: u64,
@@ -291,7 +291,7 @@ fn refused_in(alloc: Global, value: Element<'_>) -> Result<Option<Reply>, OutOfM
     }
 }
 
-// What is read of JSON, whatever else it says.
+// Reads a reply from JSON, whatever else that contains.
 fn reply_of(alloc: Global, value: Element<'_>) -> Result<Option<Reply>, OutOfMemory>
     ensures { IfOk result (λ r. r ≡ spec.reply_of (data_at value.entry)) }
 {
@@ -348,13 +348,13 @@ fn reply_answer(alloc: Global, bytes: &[u8]) -> Result<Reply, CallFault>
     }
 }
 
-/// The reply whose text, as `reply_text` writes it, these bytes are: each field of its form, the moments of a phase
-/// from 2000 to 2099, and other moments as far as they can be shown. Any other text is `NotJson`, at no key.
+/// Reads a reply. The bytes must be exactly the text that `reply_text` writes. A phase has moments from 2000 to 2099;
+/// other moments may be up to the last that the desk prints. Any other text is `NotJson`, with an empty key.
 pub fn read_reply(alloc: Global, bytes: &[u8]) -> Result<Reply, CallFault>
     ensures answer { AnswersReply (reply_in bytes.now) result }
-    // No other text is read.
+    // Only the text of a reply is read.
     ensures exact { IfOk result (IsReplyOf bytes.now) }
-    // A text that a reply of good form has is read as that reply.
+    // The text of any reply within its limits is read back as that reply.
     ensures again { IsReplyAgain bytes.now result }
 {
     reply_answer(alloc, bytes)

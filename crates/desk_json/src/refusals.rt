@@ -18,7 +18,7 @@ use release_json::findings_value;
 use serde_json::{Map, Value};
 use std::alloc::Global;
 
-/// The name of a reason.
+/// Returns the name of the reason why a report can't be read.
 pub fn why_name(why: Why) -> &'static str
     ensures { result.now ≡ spec.why_name why }
 {
@@ -125,7 +125,7 @@ fn refusal_name(refusal: &Refusal) -> &'static str
     }
 }
 
-// A place in a text or a plan, and what is wrong there.
+// Adds a place in a report or a plan, and the reason.
 fn with_reason(
     alloc: Global,
     members: Members,
@@ -161,7 +161,7 @@ fn with_phase(alloc: Global, members: Members, phase: Phase) -> Result<Members, 
     with_text(alloc, members, "phase", text.bytes())
 }
 
-// How many entries the history has, how many replies are kept, and how many events there were.
+// Adds the numbers of entries in the history, of kept replies, and of events.
 fn with_counts(
     alloc: Global,
     members: Members,
@@ -177,7 +177,7 @@ fn with_counts(
     with_count(alloc, members, "kept", kept)
 }
 
-// Some members and those of a refusal that say more than its number and its name.
+// Adds the fields of a refusal, besides its number and its name.
 fn with_fields(alloc: Global, refusal: &Refusal, members: Members) -> Result<Members, OutOfMemory>
     requires { RefusalHasMoment refusal.now }
     ensures { IfOk result (λ all. members_view all.entries
@@ -225,7 +225,7 @@ fn with_fields(alloc: Global, refusal: &Refusal, members: Members) -> Result<Mem
     }
 }
 
-// The members that every refusal has.
+// Returns the members that every refusal has: its number and its name.
 fn refusal_members(alloc: Global, refusal: &Refusal) -> Result<Members, OutOfMemory>
     ensures { IfOk result (λ all. members_view all.entries ≡ spec.refusal_members refusal.now) }
 {
@@ -239,7 +239,7 @@ fn refusal_members(alloc: Global, refusal: &Refusal) -> Result<Members, OutOfMem
     Ok(members)
 }
 
-/// A refusal as a JSON object.
+/// Converts a refusal to a JSON object.
 pub(crate) fn refusal_value(alloc: Global, refusal: &Refusal) -> Result<Value, OutOfMemory>
     requires { RefusalHasMoment refusal.now }
     ensures { IfOk result (λ v. view v ≡ spec.refusal_data refusal.now) }

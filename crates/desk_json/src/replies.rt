@@ -40,7 +40,7 @@ fn reply_value(alloc: Global, reply: &Reply) -> Result<Value, OutOfMemory>
     }
 }
 
-/// The text of a reply: JSON without blanks, its keys in byte order.
+/// Writes a reply as JSON without white space, with its keys in byte order.
 pub fn reply_text(alloc: Global, reply: &Reply) -> Result<Text, OutOfMemory>
     requires { ReplyHasMoment reply.now }
     ensures { IfOk result (λ t. t ≡ reply_text reply.now) }
@@ -70,7 +70,7 @@ fn bad_value(alloc: Global, bad: &BadCall) -> Result<Value, OutOfMemory>
     Ok(Value::Object(members))
 }
 
-/// The text of a fault of a call, which names what is wrong and the key: JSON without blanks, its keys in byte order.
+/// Writes the fault of a call, with its reason and its key, as JSON without white space. The keys are in byte order.
 pub fn bad_text(alloc: Global, bad: &BadCall) -> Result<Text, OutOfMemory>
     ensures { IfOk result (λ t. t ≡ bad_text bad.now) }
 {

@@ -19,7 +19,8 @@ fn call_value(alloc: Global, call: &Call) -> Result<Value, OutOfMemory>
     Ok(Value::Object(members))
 }
 
-/// The text of a call as a history shows it, without the key: JSON without blanks, its keys in byte order.
+/// Writes a call as the history shows it, without the key of its person. It is JSON without white space, with its
+/// keys in byte order.
 pub fn call_text(alloc: Global, call: &Call) -> Result<Text, OutOfMemory>
     requires { IsCall call.now.ask }
     ensures { IfOk result (λ t. t ≡ spec.call_text call.now) }

@@ -1,4 +1,4 @@
--- What is seen of the clock, the links and the door in memory.
+-- The models of `MemoryClock`, `MemoryLink` and `MemoryDoor` in contracts.
 use Rattle.std.specs.Prelude.{Some}
 use Rattle.desk_io.specs.Health.{Health}
 use Rattle.desk_io.specs.Planned.{planned_health}

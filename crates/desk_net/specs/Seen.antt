@@ -1,28 +1,31 @@
--- What contracts see of a clock, a link and a door, each in one record, and what each call leaves of it.
+-- The models of a clock, a link and a door in contracts, and what their calls preserve.
 use Rattle.std.specs.Prelude.{ℕ, Option}
 use Rattle.desk_io.specs.Health.{Health, GoesOn}
 use Rattle.desk_net.specs.Clocks.{Dial, DialGoesOn}
 use Rattle.desk_net.specs.Doors.{Links}
 use Rattle.desk_net.specs.Streams.{Stream}
 
+-- the model of a clock
 pub record ClockSeen : Type 0 where
-  -- the moments that it gives and the place of the next, where the clock tells them
+  -- the moments that it returns and the place of the next one, if they are known
   pub dial : Option Dial
   pub health : Health
 
+-- the model of a link
 pub record LinkSeen : Type 0 where
-  -- the whole input, how much of it was read, and what was appended, where the link tells them
+  -- the whole input, how much of it was read, and what was written, if these are known
   pub stream : Option Stream
   pub health : Health
 
+-- the model of a door
 pub record DoorSeen (L : Type 0) : Type 0 where
-  -- the links to come and those that were given back, where the door tells them
+  -- the links still to come and those given back, if they are known
   pub links : Option (Links L)
-  -- the port at which it was opened last, none before the first
+  -- the port opened last; none before the first
   pub opened_at : Option ℕ
   pub health : Health
 
--- A clock tells the same moments after each call, and never goes back among them.
+-- A clock keeps its moments after each call, and never goes back among them.
 pub record ClockGoesOn (old new : ClockSeen) : Type 0 where
   pub dial : DialGoesOn old.dial new.dial
   pub health : GoesOn old.health new.health

@@ -1,4 +1,5 @@
-//! The outside of the service: a clock, links and the door that they come through, in memory and in reality.
+//! The service's interfaces to the outside: a clock, connections, and the door that accepts them. Each comes in
+//! memory and over the system.
 #![tactic(auto)]
 
 mod memory_clock;

@@ -11,8 +11,8 @@ use crate::planned::Calls;
 use desk_io::Failed;
 use desk_time::Minute;
 
-/// A clock in memory. It gives its moments in order, and then the last one again. Its calls of `now` are
-/// numbered from 0, and those in `fail` fail and use up no moment. With an empty `fail` it is sound.
+/// A clock in memory. It returns its moments in order, and then repeats the last one. Calls of `now` are numbered
+/// from 0. A call whose number is in `fail` fails and uses up no moment. With an empty `fail` the clock is sound.
 #[derive(Drop)]
 pub struct MemoryClock {
     moments: Vec<Minute>,
@@ -23,7 +23,7 @@ pub struct MemoryClock {
 }
 
 impl MemoryClock {
-    /// A clock of at least one moment, each from `FIRST` to `LAST`. It takes no memory.
+    /// Creates a clock of at least one moment, each from `FIRST` to `LAST`. Allocates nothing.
     pub fn new(moments: Vec<Minute>, fail: Vec<u64>) -> Self
         requires some { 0 < length moments.items }
         requires in_range { All IsMoment moments.items }
@@ -52,7 +52,7 @@ impl Clock for MemoryClock {
         ensures on { ClockGoesOn (clock_seen self.old) (clock_seen self.new) }
         ensures cause { OnErr result (HasFailed (clock_seen self.old).health (clock_seen self.new).health) }
         ensures still { OnOk result (IsStill (clock_seen self.old).health (clock_seen self.new).health) }
-        // It gives a moment exactly where the call isn't among those that fail.
+        // The call succeeds exactly when `fail` doesn't list it.
         ensures planned { is_ok result ≡ not (is_planned self.old.calls.fail.items self.old.calls.made) }
         ensures fail { self.new.calls.fail.items ≡ self.old.calls.fail.items }
         ensures calls { self.new.calls.made ≡ after self.old.calls.made }

@@ -9,8 +9,9 @@ use desk_io::{Failed, OutOfMemory};
 use std::alloc::Global;
 use std::collections::VecDeque;
 
-/// A door in memory. It fails when its links are used up. Its calls of `bind` and of `accept` are numbered
-/// together from 0, and those in `fail` fail with no link given. With an empty `fail` it is sound.
+/// A door in memory. It fails once all of its links were accepted. Calls of `bind` and `accept` are numbered together
+/// from 0. A call whose number is in `fail` fails, and opens or accepts nothing. With an empty `fail` the door is
+/// sound.
 #[derive(Drop)]
 pub struct MemoryDoor {
     coming: VecDeque<MemoryLink>,
@@ -20,7 +21,7 @@ pub struct MemoryDoor {
 }
 
 impl MemoryDoor {
-    /// A door to which these links come, in order. It takes no memory.
+    /// Creates a door that accepts these links, in order. Allocates nothing.
     pub fn new(alloc: Global, links: Vec<MemoryLink>, fail: Vec<u64>) -> Self
         ensures coming { result.coming.items ≡ links.items }
         ensures ended { result.ended.items ≡ [] }
@@ -37,14 +38,14 @@ impl MemoryDoor {
         }
     }
 
-    /// The port at which it was opened last.
+    /// Returns the port that was opened last.
     pub fn port(&self) -> Option<u16>
         ensures { result ≡ self.now.port }
     {
         self.port
     }
 
-    /// The links that were given back, in order.
+    /// Returns the links that were given back, in order.
     pub fn ended(&self) -> &[MemoryLink]
         ensures { result.now ≡ self.now.ended.items }
     {
@@ -65,7 +66,7 @@ impl Door for MemoryDoor {
         ensures unopened { OnErr result (self.new.port ≡ self.old.port) }
         ensures on { GoesOn (door_seen self.old).health (door_seen self.new).health }
         ensures cause { OnErr result (HasFailed (door_seen self.old).health (door_seen self.new).health) }
-        // It fails exactly where its number is planned.
+        // The call fails exactly if its number is in `fail`.
         ensures planned { is_ok result ≡ not (is_planned self.old.calls.fail.items self.old.calls.made) }
         ensures fail { self.new.calls.fail.items ≡ self.old.calls.fail.items }
         ensures calls { self.new.calls.made ≡ after self.old.calls.made }
@@ -84,7 +85,7 @@ impl Door for MemoryDoor {
             (door_seen self.old).health (door_seen self.new).health }
         ensures cause { OnErr result (HasFailedWhere (HasNext (door_seen self.old).links)
             (door_seen self.old).health (door_seen self.new).health) }
-        // It gives a link exactly where one is to come and the call isn't among those that fail.
+        // The call succeeds exactly when a link is still to come and `fail` doesn't list the call.
         ensures planned { is_ok result ≡
             accepts self.old.coming.items (is_planned self.old.calls.fail.items self.old.calls.made) }
         ensures fail { self.new.calls.fail.items ≡ self.old.calls.fail.items }
@@ -106,7 +107,7 @@ impl Door for MemoryDoor {
         ensures told { TakesBack (door_seen self.old).links (door_seen self.new).links link result }
         ensures port { self.new.port ≡ self.old.port }
         ensures health { (door_seen self.new).health ≡ (door_seen self.old).health }
-        // It isn't numbered among the door's calls.
+        // This call isn't numbered among the door's calls.
         ensures fail { self.new.calls.fail.items ≡ self.old.calls.fail.items }
         ensures calls { self.new.calls.made ≡ self.old.calls.made }
         ensures count { self.new.calls.faults ≡ self.old.calls.faults }

@@ -10,8 +10,8 @@ use crate::planned::Calls;
 use desk_io::{Failed, PutFault};
 use std::alloc::Global;
 
-/// A link in memory. A read gives at most `cut` bytes. Its calls of `read` and of `write` are numbered
-/// together from 0, and those in `fail` fail with nothing read or appended. With an empty `fail` it is sound.
+/// A connection in memory. A read returns at most `cut` bytes. Calls of `read` and `write` are numbered together from
+/// 0. A call whose number is in `fail` fails, and reads or writes nothing. With an empty `fail` the link is sound.
 #[derive(Drop)]
 pub struct MemoryLink {
     input: Vec<u8>,
@@ -24,8 +24,7 @@ pub struct MemoryLink {
 }
 
 impl MemoryLink {
-    /// A link of that input, of which nothing was read, and nothing was appended. `cut` is at least 1. It
-    /// takes no memory.
+    /// Creates a connection with this input. `cut` must be at least 1. Allocates nothing.
     pub fn new(alloc: Global, input: Vec<u8>, cut: usize, fail: Vec<u64>) -> Self
         requires { 0 < cut }
         ensures input { result.input.items ≡ input.items }
@@ -45,7 +44,7 @@ impl MemoryLink {
         }
     }
 
-    /// All that was appended.
+    /// Returns everything written so far.
     pub fn written(&self) -> &[u8]
         ensures { result.now ≡ self.now.written.items }
     {
@@ -64,7 +63,7 @@ impl Link for MemoryLink {
         ensures told { Reads (link_seen self.old).stream (link_seen self.new).stream into.new result }
         ensures on { LinkGoesOn (link_seen self.old) (link_seen self.new) }
         ensures cause { OnErr result (HasFailed (link_seen self.old).health (link_seen self.new).health) }
-        // It fails exactly where its number is planned, and gives as many bytes as it may.
+        // The call fails exactly if its number is in `fail`. Otherwise it returns as many bytes as it can.
         ensures planned { is_ok result ≡ not (is_planned self.old.calls.fail.items self.old.calls.made) }
         ensures count { IfOk result
             (λ n. n ≡ min (min (length self.old.input.items - self.old.taken) self.old.cut) (length into.old)) }
@@ -86,7 +85,7 @@ impl Link for MemoryLink {
         ensures told { Writes (link_seen self.old).stream (link_seen self.new).stream bytes.now result }
         ensures on { LinkGoesOn (link_seen self.old) (link_seen self.new) }
         ensures cause { HasCause PutFailed (link_seen self.old).health (link_seen self.new).health result }
-        // It fails exactly where its number is planned, with nothing appended.
+        // The call returns `Failed` exactly if its number is in `fail`, and then writes nothing.
         ensures planned { Fails (is_planned self.old.calls.fail.items self.old.calls.made) result }
         ensures err { OnErr result (self.new.written.items ≡ self.old.written.items) }
         ensures cut { self.new.cut ≡ self.old.cut }
@@ -100,7 +99,7 @@ impl Link for MemoryLink {
         Ok(())
     }
 
-    // It does nothing.
+    // A connection in memory needs no ending.
     fn end(&mut self)
         ensures same { link_seen self.new ≡ link_seen self.old }
         ensures cut { self.new.cut ≡ self.old.cut }

@@ -10,35 +10,35 @@ ghost use Rattle.desk_net.specs.Streams.{Reads, Writes};
 use desk_io::{Failed, OutOfMemory, PutFault};
 use desk_time::Minute;
 
-/// Where the moment comes from.
+/// The source of the current moment.
 pub trait Clock {
-    /// Its dial, where the clock tells it: the moments that it gives in order, and the place of the one that comes
-    /// next. And how it does. An adapter over the system's doesn't tell.
+    /// The dial, if contracts know it, and the clock's health. The dial holds the moments that the clock returns, in
+    /// order, and the place of the next one. The dial of a clock over the system is unknown.
     ghost seen: { Self → ClockSeen };
 
-    /// The moment, in minutes since 1970-01-01 00:00 UTC, from `FIRST` to `LAST` of `desk_time`: the one at
-    /// which the dial stands, which then turns. A later call may answer an earlier moment.
+    /// Returns the current moment in minutes since 1970-01-01 00:00 UTC, from `FIRST` to `LAST` of `desk_time`. This
+    /// is the moment at the dial's place, and the dial then advances. A later call may return an earlier moment.
     fn now(&mut self) -> Result<Minute, Failed>
         ensures range { IfOk result IsMoment }
         ensures told { Shows (seen self.old).dial (seen self.new).dial result }
         ensures on { ClockGoesOn (seen self.old) (seen self.new) }
         ensures cause { OnErr result (HasFailed (seen self.old).health (seen self.new).health) }
-        // What it answers is no fault.
+        // A call that returns a moment counts no fault.
         ensures still { OnOk result (IsStill (seen self.old).health (seen self.new).health) };
 
-    /// How often it has failed. The count never falls.
+    /// Returns the number of failures so far. It never falls.
     fn faults(&self) -> u64
         ensures { result ≡ (seen self.now).health.faults };
 }
 
-/// A connection: bytes come by it and bytes go by it.
+/// A connection, from which bytes are read and to which bytes are written.
 pub trait Link {
-    /// Its whole input, how much of it was read, and what was appended, where the link tells them, and how it
-    /// does. No call changes whether it tells, nor its input.
+    /// The whole input, how much of it was read, and what was written, if contracts know them, and the link's health.
+    /// No call changes the input, or whether these are known.
     ghost seen: { Self → LinkSeen };
 
-    /// Writes the next bytes of its input into the front of `into`, and answers how many they are: 0
-    /// exactly at the input's end. Where it fails it has read nothing.
+    /// Copies the next bytes of the input to the front of `into` and returns their number. The number is 0 exactly at
+    /// the end of the input. A read that fails consumes nothing.
     fn read(&mut self, into: &mut [u8]) -> Result<usize, Failed>
         requires { 0 < length into.old }
         ensures bound { IfOk result (λ n. n ≤ length into.old) }
@@ -46,30 +46,29 @@ pub trait Link {
         ensures on { LinkGoesOn (seen self.old) (seen self.new) }
         ensures cause { OnErr result (HasFailed (seen self.old).health (seen self.new).health) };
 
-    /// Appends all of the bytes. Where it fails it has appended some front of them, and where memory runs
-    /// out nothing.
+    /// Writes all of the bytes. After `Failed` a prefix of them was written, after `OutOfMemory` nothing.
     fn write(&mut self, bytes: &[u8]) -> Result<(), PutFault>
         ensures told { Writes (seen self.old).stream (seen self.new).stream bytes.now result }
         ensures on { LinkGoesOn (seen self.old) (seen self.new) }
         ensures cause { HasCause PutFailed (seen self.old).health (seen self.new).health result };
 
-    /// Ends the connection once nothing more is to be written, so that all that was written arrives. It changes nothing
-    /// that is told, and what fails in it is no fault, since no bytes are asked for.
+    /// Ends the connection once nothing more is to be written, so that everything written can arrive. It changes
+    /// nothing that contracts know. An error in it isn't a fault, because no bytes are asked for.
     fn end(&mut self)
         ensures same { seen self.new ≡ seen self.old };
 
-    /// How often it has failed. The count never falls.
+    /// Returns the number of failures so far. It never falls.
     fn faults(&self) -> u64
         ensures { result ≡ (seen self.now).health.faults };
 }
 
-/// Where links come in. A sound door fails, and its count rises, only where an accept has no link to come.
+/// Accepts connections. A sound door fails, and counts a fault, only if no link is left for an accept.
 pub trait Door {
-    /// What comes in.
+    /// The type of its connections.
     type Link: Link + Drop;
 
-    /// The links to come and those that were given back, where the door tells them, the port at which it was
-    /// opened last, and how it does. No call changes whether it tells.
+    /// The links still to come and those given back, if contracts know them, the port opened last, and the door's
+    /// health. No call changes whether the links are known.
     ghost seen: { Self → DoorSeen Self.Link };
 
     /// Opens the door at a port of this machine.
@@ -80,7 +79,7 @@ pub trait Door {
         ensures on { GoesOn (seen self.old).health (seen self.new).health }
         ensures cause { OnErr result (HasFailed (seen self.old).health (seen self.new).health) };
 
-    /// The next link. Where none is to come it fails.
+    /// Accepts the next link. Fails if none is left.
     fn accept(&mut self) -> Result<Self::Link, Failed>
         ensures told { Accepts (seen self.old).links (seen self.new).links result }
         ensures port { (seen self.new).opened_at ≡ (seen self.old).opened_at }
@@ -88,14 +87,14 @@ pub trait Door {
         ensures cause { OnErr result
             (HasFailedWhere (HasNext (seen self.old).links) (seen self.old).health (seen self.new).health) };
 
-    /// Takes back the link of a connection that has ended. Where memory runs out the door is as before, and
-    /// the link is gone.
+    /// Takes back the link of a connection that has ended. If memory runs out, the door is unchanged and the link is
+    /// dropped.
     fn done(&mut self, link: Self::Link) -> Result<(), OutOfMemory>
         ensures told { TakesBack (seen self.old).links (seen self.new).links link result }
         ensures port { (seen self.new).opened_at ≡ (seen self.old).opened_at }
         ensures health { (seen self.new).health ≡ (seen self.old).health };
 
-    /// How often it has failed. The count never falls.
+    /// Returns the number of failures so far. It never falls.
     fn faults(&self) -> u64
         ensures { result ≡ (seen self.now).health.faults };
 }

@@ -2,7 +2,7 @@ ghost use Rattle.std.specs.Prelude.{◌≡◌, ◌≤◌};
 ghost use Rattle.desk_io.specs.Planned.{is_planned, after};
 ghost use Rattle.desk_net.specs.Calls.{faults_after};
 
-/// The calls of an object in memory: the numbers of those that fail, how many were made, and how many failed.
+/// The calls of an object in memory: which of them fail, how many were made, and how many faults were counted.
 #[derive(Drop)]
 pub struct Calls {
     fail: Vec<u64>,
@@ -11,7 +11,7 @@ pub struct Calls {
 }
 
 impl Calls {
-    /// No call was made yet. It takes no memory.
+    /// Starts with no call made. Allocates nothing.
     pub fn new(fail: Vec<u64>) -> Self
         ensures fail { result.fail.items ≡ fail.items }
         ensures made { result.made ≡ 0 }
@@ -24,7 +24,7 @@ impl Calls {
         }
     }
 
-    /// Makes one more call, and answers whether it fails. Then its fault is counted.
+    /// Counts one more call, and returns whether it is planned to fail. If so, it also counts a fault.
     pub fn next_fails(&mut self) -> bool
         ensures planned { result ≡ is_planned self.old.fail.items self.old.made }
         ensures made { self.new.made ≡ after self.old.made }
@@ -51,7 +51,7 @@ impl Calls {
         self.faults = self.faults.saturating_add(1);
     }
 
-    /// How many faults were counted.
+    /// Returns how many faults were counted.
     pub fn faults(&self) -> u64
         ensures { result ≡ self.now.faults }
     {

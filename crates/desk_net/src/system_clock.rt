@@ -13,7 +13,7 @@ use std::snapshot::Snapshot;
 use std::time::{Duration, SystemTime, UNIX_EPOCH};
 use std::{io, time};
 
-// The whole minutes of a time since 1970, where they are a moment of the desk.
+// The whole minutes of a duration since 1970, if they are from `FIRST` to `LAST`.
 fn moment_in(since: Duration) -> Option<Minute>
     ensures value { result ≡ spec.moment_in (as_nanos since) }
     ensures range { IfSome result IsMoment }
@@ -26,7 +26,7 @@ fn moment_in(since: Duration) -> Option<Minute>
     }
 }
 
-// The same of a time of the system.
+// The same for a time of the system.
 fn moment_at(time: SystemTime) -> Option<Minute>
     ensures value { result ≡ spec.moment_in (system_time_nanos time) }
     ensures range { IfSome result IsMoment }
@@ -34,9 +34,9 @@ fn moment_at(time: SystemTime) -> Option<Minute>
     moment_in(time.duration_since(UNIX_EPOCH).ok()?)
 }
 
-/// The system's clock, in whole minutes since 1970-01-01 00:00 UTC as it counts them (leap seconds aren't
-/// counted). It tells no moments. An error of the system is a counted fault, and so is a moment before `FIRST`
-/// or after `LAST`. It takes no memory.
+/// The system's clock, in whole minutes since 1970-01-01 00:00 UTC without leap seconds. Contracts don't know its
+/// moments. Every error of the system is a counted fault, and so is a moment before `FIRST` or after `LAST`.
+/// Allocates nothing.
 #[derive(Drop)]
 pub struct SystemClock<R: time::Clock + Drop> {
     clock: R,
@@ -45,7 +45,7 @@ pub struct SystemClock<R: time::Clock + Drop> {
 }
 
 impl<R: time::Clock + Drop> SystemClock<R> {
-    /// A clock over the system's.
+    /// Creates a clock over the system's clock.
     pub fn new(clock: R) -> Self
         ensures { result.faults ≡ 0 }
     {
@@ -56,7 +56,7 @@ impl<R: time::Clock + Drop> SystemClock<R> {
         }
     }
 
-    // The moment of the time that the system tells, which contracts alone see in `told`.
+    // Reads the system's time, which only contracts see in `told`, and returns its moment.
     fn read(&mut self) -> io::Result<Minute>
         ensures moment { IfOk result (IsMinuteOf (option_map (λ t. t.value) self.new.told)) }
         ensures range { IfOk result IsMoment }
@@ -79,7 +79,7 @@ impl<R: time::Clock + Drop> Clock for SystemClock<R> {
         ensures on { GoesOn (unsound self.old.faults) (unsound self.new.faults) }
         ensures cause { OnErr result (HasFailed (unsound self.old.faults) (unsound self.new.faults)) }
         ensures still { OnOk result (IsStill (unsound self.old.faults) (unsound self.new.faults)) }
-        // It is the whole minute of the time that the system told in this call.
+        // The moment is the whole minute of the time that the system returned in this call.
         ensures moment { IfOk result (IsMinuteOf (option_map (λ t. t.value) self.new.told)) }
     {
         let answer = self.read();

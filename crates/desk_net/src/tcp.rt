@@ -16,32 +16,32 @@ use std::{io, time};
 /// How many seconds a read or a write of a link waits for its peer.
 pub const WAIT_SECONDS: u64 = 30;
 
-/// How many seconds a link that ends goes on reading.
+/// How many seconds an ending link keeps reading.
 pub const END_SECONDS: u64 = 2;
 
-/// How many bytes a link that ends drops before it reads no more.
+/// How many bytes an ending link drops before it stops reading.
 pub const END_BYTES: usize = 4_194_304;
 
-// A read or a write that waits longer is an error of the stream.
+// Sets the timeouts. A read or a write that waits longer is an error of the stream.
 fn limit_waits<S: OpenStream>(stream: &S) -> io::Result<()> {
     let limit = Duration::from_secs(WAIT_SECONDS);
     stream.set_read_timeout(Some(limit))?;
     stream.set_write_timeout(Some(limit))
 }
 
-// How many bytes came in one read, which are dropped; none at the stream's end.
+// Reads some bytes and drops them. Returns how many they were, which is 0 at the end of the stream.
 fn drop_some<S: Read>(stream: &mut S) -> io::Result<usize> {
     let mut into = [0; 4_096];
     stream.read(&mut into)
 }
 
-// Reads on until the peer has ended too, and drops what comes, within both limits.
+// Reads and drops bytes until the peer has ended too, within both limits.
 fn drop_rest<S: Read + OpenStream, C: time::Clock>(stream: &mut S, clock: &C) -> io::Result<()> {
     let start = Instant::now(clock)?;
     let mut room = END_BYTES;
     while room > 0 {
         let rest = Duration::from_secs(END_SECONDS).saturating_sub(start.elapsed(clock)?);
-        // where no time is left this is an error
+        // an error if no time is left
         stream.set_read_timeout(Some(rest))?;
         let count = drop_some(stream)?;
         if count == 0 {
@@ -52,7 +52,7 @@ fn drop_rest<S: Read + OpenStream, C: time::Clock>(stream: &mut S, clock: &C) ->
     Ok(())
 }
 
-// Ends the writing, so that the peer sees the end behind all that was written, and then the reading.
+// Shuts down writing, so that the peer sees the end after everything written, and then reads to the end.
 fn end_stream<S: Read + OpenStream, C: time::Clock>(stream: &mut S, clock: &C) -> io::Result<()> {
     stream.shutdown(Shutdown::Write)?;
     drop_rest(stream, clock)
@@ -65,16 +65,16 @@ fn read_some<S: Read>(stream: &mut S, into: &mut [u8]) -> io::Result<usize>
     stream.read(into)
 }
 
-// Writes all of the bytes, unless it answers an error.
+// Writes all of the bytes, unless there is an error.
 fn write_out<S: Write>(stream: &mut S, bytes: &[u8]) -> io::Result<()>
     ensures { OnOk result (Appends (S.contents stream.old) (S.contents stream.new) bytes.now) }
 {
     stream.write_all(bytes)
 }
 
-/// A connection over TCP (RFC 9293). It tells nothing of its bytes, and each error is a counted fault, as is a read
-/// or a write that waits for the peer for more than `WAIT_SECONDS`. The connection is closed where the link is dropped.
-/// It takes no memory.
+/// A connection over TCP (RFC 9293). Contracts don't know its bytes. Every error is a counted fault, and so is a read
+/// or a write that waits more than `WAIT_SECONDS` for the peer. Dropping the link closes the connection. Allocates
+/// nothing.
 #[derive(Drop)]
 pub struct TcpLink<S: Read + Write + OpenStream + Drop, C: time::Clock + Drop> {
     stream: S,
@@ -84,7 +84,7 @@ pub struct TcpLink<S: Read + Write + OpenStream + Drop, C: time::Clock + Drop> {
 }
 
 impl<S: Read + Write + OpenStream + Drop, C: time::Clock + Drop> TcpLink<S, C> {
-    /// A link over an open stream, whose limits of time it sets. An error says that they can't be set.
+    /// Creates a link over an open stream, and sets its timeouts. The error means that they can't be set.
     pub fn new(stream: S, clock: C) -> io::Result<Self>
         ensures { IfOk result (λ link. (link.faults ≡ 0) × (link.ended ≡ false)) }
     {
@@ -106,7 +106,7 @@ impl<S: Read + Write + OpenStream + Drop, C: time::Clock + Drop> Link for TcpLin
         ensures bound { IfOk result (λ n. n ≤ length into.old) }
         ensures on { GoesOn (unsound self.old.faults) (unsound self.new.faults) }
         ensures cause { OnErr result (HasFailed (unsound self.old.faults) (unsound self.new.faults)) }
-        // It gives what the stream gave.
+        // The call returns what the stream returned.
         ensures bytes { ReadConsumes (S.remaining self.old.stream) (S.remaining self.new.stream) result into.new }
     {
         let answer = read_some(&mut self.stream, into);
@@ -116,7 +116,7 @@ impl<S: Read + Write + OpenStream + Drop, C: time::Clock + Drop> Link for TcpLin
     fn write(&mut self, bytes: &[u8]) -> Result<(), PutFault>
         ensures on { GoesOn (unsound self.old.faults) (unsound self.new.faults) }
         ensures cause { HasCause PutFailed (unsound self.old.faults) (unsound self.new.faults) result }
-        // The stream took all of the bytes.
+        // The stream accepted all of the bytes.
         ensures bytes { OnOk result (Appends (S.contents self.old.stream) (S.contents self.new.stream) bytes.now) }
     {
         let answer = write_out(&mut self.stream, bytes);
@@ -126,9 +126,9 @@ impl<S: Read + Write + OpenStream + Drop, C: time::Clock + Drop> Link for TcpLin
         }
     }
 
-    // It ends its writing, reads on and drops what comes until the peer ends too, for at most `END_SECONDS` and until
-    // `END_BYTES` have come: a connection that is closed while bytes are on their way is reset, and what was written is
-    // lost to a peer that still sends. A second call does nothing, and an error is no fault.
+    // Shuts down writing, then reads and drops bytes until the peer ends too. This stops after `END_SECONDS` or
+    // `END_BYTES`. Closing a connection while bytes are in flight resets it, and a peer that is still sending then
+    // loses what was written. A second call does nothing, and an error isn't a fault.
     fn end(&mut self)
         ensures faults { self.new.faults ≡ self.old.faults }
         ensures ended { self.new.ended ≡ true }
@@ -145,14 +145,14 @@ impl<S: Read + Write + OpenStream + Drop, C: time::Clock + Drop> Link for TcpLin
     }
 }
 
-// The address 127.0.0.1 and that port.
+// The address 127.0.0.1 with this port.
 fn local(port: u16) -> SocketAddr
     ensures { IsLocal port result }
 {
     SocketAddr::V4(SocketAddrV4::new(Ipv4Addr::LOCALHOST, port))
 }
 
-// A socket that listens at that address, as it says itself; one that says another is closed again.
+// Opens a socket that listens at this address. A socket that reports another address is closed again.
 fn listen<R: Net>(net: &R, at: SocketAddr) -> io::Result<(R::Listener, SocketAddr)>
     ensures { IfOk result (λ socket. socket.1 ≡ at) }
 {
@@ -165,9 +165,9 @@ fn listen<R: Net>(net: &R, at: SocketAddr) -> io::Result<(R::Listener, SocketAdd
     }
 }
 
-/// A door at 127.0.0.1, which only this machine reaches (RFC 1122, 3.2.1.3). It tells no links, and each error
-/// is a counted fault, as is an accept at a door that isn't open. An accept may wait for a caller without limit.
-/// It takes no memory.
+/// A door at 127.0.0.1, which only this machine can reach (RFC 1122, 3.2.1.3). Contracts don't know its links. Every
+/// error is a counted fault, and so is an accept at a door that isn't open. An accept may wait for a connection
+/// without limit. Allocates nothing.
 #[derive(Drop)]
 pub struct TcpDoor<R: Net + time::Clock + Copy> {
     net: R,
@@ -177,7 +177,7 @@ pub struct TcpDoor<R: Net + time::Clock + Copy> {
 }
 
 impl<R: Net + time::Clock + Copy> TcpDoor<R> {
-    /// A door that isn't open yet.
+    /// Creates a door that isn't open yet.
     pub fn new(net: R) -> Self
         ensures faults { result.faults ≡ 0 }
         ensures at { result.at ≡ None }
@@ -190,7 +190,7 @@ impl<R: Net + time::Clock + Copy> TcpDoor<R> {
         }
     }
 
-    // Opens the door at that port. A door that was open stays so where this fails.
+    // Opens the door at this port. If this fails, a door that was open stays open.
     fn open(&mut self, port: u16) -> io::Result<()>
         ensures faults { self.new.faults ≡ self.old.faults }
         ensures opened { OnOk result (IsSome self.new.listener × IsSomeAnd self.new.at (IsLocal port)) }
@@ -222,7 +222,7 @@ impl<R: Net + time::Clock + Copy> Door for TcpDoor<R> {
         ensures on { GoesOn (unsound self.old.faults) (unsound self.new.faults) }
         ensures cause { OnErr result (HasFailed (unsound self.old.faults) (unsound self.new.faults)) }
         ensures listens { OnOk result (IsSome self.new.listener) }
-        // The socket says that it listens at 127.0.0.1 and at that port.
+        // The socket reports that it listens at 127.0.0.1 and this port.
         ensures local { OnOk result (IsSomeAnd self.new.at (IsLocal port)) }
         ensures opened { OnOk result (port_at self.new.at ≡ Some port) }
         ensures unopened { OnErr result (self.new.at ≡ self.old.at) }
@@ -242,7 +242,7 @@ impl<R: Net + time::Clock + Copy> Door for TcpDoor<R> {
         counted(answer, &mut self.faults)
     }
 
-    // It ends the link, where that wasn't done, and closes the connection. It takes no memory.
+    // Ends the link unless that was done, and closes the connection. Allocates nothing.
     fn done(&mut self, mut link: TcpLink<R::Stream, R>) -> Result<(), OutOfMemory>
         ensures at { self.new.at ≡ self.old.at }
         ensures health { unsound self.new.faults ≡ unsound self.old.faults }

@@ -1,4 +1,4 @@
--- What an accepted ask may change, beside what its own line says.
+-- What each accepted ask may change and reply, as relations between the states before and after.
 use Rattle.std.specs.Prelude.{◌≡◌, ◌≢◌, ◌⊎◌, ℕ, ◌+◌, ◌<◌, ◌≤◌, ◌==◌, ◌&&◌, Bool, true, false, List, [], ◌∷◌, ◌++◌, length, Option, None, Some, IfSome, Result, Ok, Err}
 use Rattle.std.specs.List.{AllByRecursion, list_any}
 use Rattle.std.specs.Str.{bytes_eq}
@@ -55,13 +55,13 @@ use Rattle.desk_state.specs.declared.effect.OnAlerts.TheVariants as on_alerts
 use Rattle.alerts.specs.Follows.{Follows}
 use Rattle.plan.specs.declared.findings.Finding.{Finding}
 
--- a signature of that person at that moment, on the text of that digest
+-- a signature by this person at this moment, on the text with this digest
 abbrev pub IsSignedBy : List ℕ → ℕ → List ℕ → Option Signature → Type 0
 IsSignedBy actor moment digest None = ⊥
 IsSignedBy actor moment digest (Some signature) = (signature.actor ≡ actor) × (signature.at ≡ moment) × (signature.digest ≡ digest)
 
--- A pending revision that may be signed under a number and a digest: it has that number and is prepared, its text has that
--- digest, the latest weather is attached, and it fails no rule, judged as if both had signed.
+-- A pending revision may be signed under a number and a digest. It is prepared and has that number, and its text has
+-- that digest. The latest weather is attached, and it fails no rule, judged as if both had signed.
 pub record MaySign (s : State) (number : ℕ) (digest : List ℕ) (q : Release) (v : Revision) : Type 0 where
   pub numbered : v.number ≡ number
   pub prepared : v.prepared ≡ true
@@ -69,14 +69,14 @@ pub record MaySign (s : State) (number : ℕ) (digest : List ℕ) (q : Release) 
   pub newest_weather : newer_than s.reports v.plan q.phase v.attached ≡ None
   pub passes : findings_of v.plan (once_signed q.phase) (grounds_of s) ≡ []
 
--- the same number, plan and weather
+-- two revisions have the same number, plan and weather, and are both prepared or not
 pub record IsSameText (v w : Revision) : Type 0 where
   pub number : w.number ≡ v.number
   pub plan : w.plan ≡ v.plan
   pub prepared : w.prepared ≡ v.prepared
   pub attached : w.attached ≡ v.attached
 
--- a revision that gets the dispatcher's signature: no other part changes
+-- a revision gains the dispatcher's signature, and no other part changes
 pub record GainsDispatcher (s : State) (actor : List ℕ) (asked : ℕ) (digest : List ℕ) (q : Release) (v w : Revision) : Type 0 where
   pub may : MaySign s asked digest q v
   pub unsigned : v.dispatcher ≡ None
@@ -85,8 +85,8 @@ pub record GainsDispatcher (s : State) (actor : List ℕ) (asked : ℕ) (digest 
   pub captain : w.captain ≡ v.captain
   pub hours : w.hours ≡ v.hours
 
--- A revision that gets the captain's signature, after the dispatcher's, and the hours that the tables say of him in its
--- type: no other part changes.
+-- A revision gains the captain's signature, after the dispatcher's. It also gains the captain's hours in the type, by
+-- the tables. No other part changes.
 pub record GainsCaptain (s : State) (actor : List ℕ) (asked : ℕ) (digest : List ℕ) (q : Release) (v w : Revision) : Type 0 where
   pub may : MaySign s asked digest q v
   pub signed : v.dispatcher ≢ None
@@ -96,7 +96,7 @@ pub record GainsCaptain (s : State) (actor : List ℕ) (asked : ℕ) (digest : L
   pub captain : IsSignedBy actor s.moment digest w.captain
   pub hours : w.hours ≡ Some (captain_hours s.tables v.plan)
 
--- a revision that gets the latest weather, and loses the signatures on its earlier text
+-- a revision gains the latest weather, and loses the signatures on its earlier text
 pub record GainsWeather (s : State) (q : Release) (v w : Revision) : Type 0 where
   pub number : w.number ≡ v.number
   pub plan : w.plan ≡ v.plan
@@ -111,13 +111,13 @@ BothAre R None w = ⊥
 BothAre R (Some v) None = ⊥
 BothAre R (Some v) (Some w) = R v w
 
--- a release that keeps its id and its holder
+-- a release keeps its id and its holder
 pub record IsSameRelease (q r : Release) : Type 0 where
   pub id : r.id ≡ q.id
   pub holder : r.holder ≡ q.holder
 
--- A release whose pending revision the dispatcher who holds it has prepared: the latest weather is attached, and the
--- signatures on its earlier text are void.
+-- The dispatcher who holds a release prepares its pending revision. The latest weather is attached, and signatures on
+-- the earlier text are void.
 pub record IsPreparing (s : State) (actor : List ℕ) (q r : Release) : Type 0 where
   pub own : q.holder ≡ actor
   pub same : IsSameRelease q r
@@ -125,7 +125,7 @@ pub record IsPreparing (s : State) (actor : List ℕ) (q r : Release) : Type 0 w
   pub active : r.active ≡ q.active
   pub pending : BothAre (GainsWeather s q) q.pending r.pending
 
--- a release of which the dispatcher who holds it signs the pending revision
+-- the dispatcher who holds a release signs its pending revision
 pub record IsSigning (s : State) (actor : List ℕ) (number : ℕ) (digest : List ℕ) (q r : Release) : Type 0 where
   pub own : q.holder ≡ actor
   pub same : IsSameRelease q r
@@ -133,8 +133,8 @@ pub record IsSigning (s : State) (actor : List ℕ) (number : ℕ) (digest : Lis
   pub active : r.active ≡ q.active
   pub pending : BothAre (GainsDispatcher s actor number digest q) q.pending r.pending
 
--- What a captain's signature makes of a phase: a draft becomes ready, and after a stop the flight is released again. In any
--- other phase the release stays.
+-- How a captain's signature changes a phase: a draft becomes ready, and a stopped flight is released again. Any other
+-- phase stays.
 abbrev pub IsReleased : Phase → Phase → Type 0
 IsReleased Drafted phase = phase ≡ Ready
 IsReleased Ready phase = phase ≡ Ready
@@ -143,18 +143,18 @@ IsReleased (Stopped next since again) phase = phase ≡ Stopped next since true
 IsReleased (Completed at) phase = phase ≡ Completed at
 IsReleased (Cancelled at) phase = phase ≡ Cancelled at
 
--- a release whose pending revision becomes the active one by the signature of its captain
+-- a captain's signature makes the pending revision of a release its active one
 pub record IsConcurring (s : State) (actor : List ℕ) (number : ℕ) (digest : List ℕ) (q r : Release) : Type 0 where
   pub same : IsSameRelease q r
   pub phase : IsReleased q.phase r.phase
   pub active : BothAre (GainsCaptain s actor number digest q) q.pending r.active
   pub pending : r.pending ≡ None
 
--- neither completed nor cancelled
+-- a phase that is neither completed nor cancelled
 abbrev pub HasNotEnded : Phase → Type 0
 HasNotEnded phase = (at : ℕ) → (phase ≢ Completed at) × (phase ≢ Cancelled at)
 
--- a release that its holder cancels, which hasn't ended, and its pending revision goes
+-- the holder cancels a release that hasn't ended, and its pending revision is discarded
 pub record IsCancelling (s : State) (actor : List ℕ) (q r : Release) : Type 0 where
   pub own : q.holder ≡ actor
   pub once : HasNotEnded q.phase
@@ -163,12 +163,12 @@ pub record IsCancelling (s : State) (actor : List ℕ) (q r : Release) : Type 0 
   pub active : r.active ≡ q.active
   pub pending : r.pending ≡ None
 
--- a revision of a plan under a number, which has no weather, and which nobody has signed
+-- a revision of a plan under a number, without weather or signatures
 abbrev pub IsFresh : ℕ → Plan → Option Revision → Type 0
 IsFresh number plan None = ⊥
 IsFresh number plan (Some v) = (v.number ≡ number) × (v.plan ≡ plan) × (v.prepared ≡ false) × (v.attached ≡ []) × (v.dispatcher ≡ None) × (v.captain ≡ None) × (v.hours ≡ None)
 
--- a new release of a plan that passes its tests, held by a dispatcher, where fewer than 20,000 are
+-- a new release of a valid plan, held by the dispatcher who drafts it, while fewer than 20,000 are stored
 pub record IsDrafted (s : State) (actor : List ℕ) (plan : Plan) (r : Release) : Type 0 where
   pub passes : plan_fault s.tables plan ≡ None
   pub few : length s.releases < 20_000
@@ -178,22 +178,23 @@ pub record IsDrafted (s : State) (actor : List ℕ) (plan : Plan) (r : Release) 
   pub pending : IsFresh 1 plan r.pending
   pub active : r.active ≡ None
 
--- a plan that passes its tests, and may take the place of a revision's
+-- a plan passes all tests, and may replace the plan of a revision
 pub record MayAmend (s : State) (plan : Plan) (phase : Phase) (v : Revision) : Type 0 where
   pub passes : plan_fault s.tables plan ≡ None
   pub follows : change_fault plan v.plan phase ≡ None
 
--- a plan that is filed in the place of a revision's, in one of the next number
+-- a plan replaces that of a revision, in a new revision with the next number
 abbrev pub IsAmended : State → Plan → Phase → Revision → Option Revision → ℕ → Type 0
 IsAmended s plan phase v pending number = MayAmend s plan phase v × (number ≡ v.number + 1) × IsFresh number plan pending
 
--- It takes the place of the pending revision's, or where none is pending of the active one's.
+-- The plan replaces that of the pending revision, or of the active one if none is pending.
 abbrev pub IsNextRevision : State → Plan → Phase → Option Revision → Option Revision → Option Revision → ℕ → Type 0
 IsNextRevision s plan phase (Some v) active pending number = IsAmended s plan phase v pending number
 IsNextRevision s plan phase None (Some v) pending number = IsAmended s plan phase v pending number
 IsNextRevision s plan phase None None pending number = ⊥
 
--- A release that its holder amends, which hasn't ended. What both have signed stays until a captain concurs again.
+-- The holder amends a release that hasn't ended. The active revision, signed by both, stays until a captain concurs
+-- again.
 pub record IsAmending (s : State) (actor : List ℕ) (plan : Plan) (number : ℕ) (q r : Release) : Type 0 where
   pub own : q.holder ≡ actor
   pub once : HasNotEnded q.phase
@@ -202,7 +203,7 @@ pub record IsAmending (s : State) (actor : List ℕ) (plan : Plan) (number : ℕ
   pub active : r.active ≡ q.active
   pub pending : IsNextRevision s plan q.phase q.pending q.active r.pending number
 
--- The leg departs next: the first one of a release that is ready, or the one before which the flight has stopped.
+-- The leg is the next to depart: leg 1 of a release that is ready, or the leg before which the flight has stopped.
 abbrev pub IsNextLeg : Phase → ℕ → Type 0
 IsNextLeg Drafted leg = ⊥
 IsNextLeg Ready leg = leg ≡ 1
@@ -215,7 +216,8 @@ abbrev pub IsCaptainOf : List ℕ → Option Revision → Type 0
 IsCaptainOf actor None = ⊥
 IsCaptainOf actor (Some v) = v.plan.captain ≡ actor
 
--- a person of a role flies by a release: a captain by the active plan that names him, a dispatcher by the release that he holds
+-- The person may report the legs of a release. A captain may if the active plan names him, and anyone else if he
+-- holds the release.
 abbrev pub FliesAs : Role → List ℕ → Release → Type 0
 FliesAs D actor q = q.holder ≡ actor
 FliesAs C actor q = IsCaptainOf actor q.active
@@ -227,7 +229,7 @@ abbrev pub FliesBy : Option Actor → List ℕ → Release → Type 0
 FliesBy None actor q = q.holder ≡ actor
 FliesBy (Some person) actor q = FliesAs person.role actor q
 
--- A release of which a leg departs, where the active plan fails no rule. What is pending goes.
+-- A leg of a release departs, and the active plan fails no rule. Any pending amendment is discarded.
 pub record IsDeparting (s : State) (actor : List ℕ) (leg : ℕ) (q r : Release) : Type 0 where
   pub own : FliesBy (actor_of s.tables actor) actor q
   pub next : IsNextLeg q.phase leg
@@ -237,7 +239,7 @@ pub record IsDeparting (s : State) (actor : List ℕ) (leg : ℕ) (q r : Release
   pub active : r.active ≡ q.active
   pub pending : r.pending ≡ None
 
--- A release of which the leg in flight arrives. What is pending goes.
+-- The leg in flight arrives. Any pending amendment is discarded.
 pub record IsArriving (s : State) (actor : List ℕ) (leg : ℕ) (q r : Release) : Type 0 where
   pub own : FliesBy (actor_of s.tables actor) actor q
   pub flying : q.phase ≡ Flying leg
@@ -245,56 +247,56 @@ pub record IsArriving (s : State) (actor : List ℕ) (leg : ℕ) (q r : Release)
   pub active : r.active ≡ q.active
   pub pending : r.pending ≡ None
 
--- a leg of the active plan comes after this one
+-- the active plan has a leg after this one
 abbrev pub HasMore : Option Revision → ℕ → Type 0
 HasMore None leg = ⊥
 HasMore (Some v) leg = leg < length v.plan.legs
 
--- no leg of the active plan does
+-- the active plan has no leg after this one
 abbrev pub HasNoMore : Option Revision → ℕ → Type 0
 HasNoMore None leg = Unit {0}
 HasNoMore (Some v) leg = length v.plan.legs ≤ leg
 
--- after the leg another one remains
+-- a leg arrives, and another one remains
 pub record IsStopping (s : State) (actor : List ℕ) (leg : ℕ) (q r : Release) : Type 0 where
   pub arrives : IsArriving s actor leg q r
   pub more : HasMore q.active leg
   pub phase : r.phase ≡ Stopped (leg + 1) s.moment false
 
--- it was the last leg
+-- the last leg arrives
 pub record IsCompleting (s : State) (actor : List ℕ) (leg : ℕ) (q r : Release) : Type 0 where
   pub arrives : IsArriving s actor leg q r
   pub last : HasNoMore q.active leg
   pub phase : r.phase ≡ Completed s.moment
 
--- an alert in that version
+-- there is an alert with this version
 abbrev pub IsInVersion : ℕ → Option Alert → Type 0
 IsInVersion version None = ⊥
 IsInVersion version (Some a) = a.version ≡ version
 
--- a release whose holder has seen its alert in that version
+-- the holder of a release acknowledges its alert in this version
 pub record IsAcknowledging (s : State) (actor : List ℕ) (version : ℕ) (q : Release) : Type 0 where
   pub own : q.holder ≡ actor
   pub seen : IsInVersion version (alert_at q.id s.alerts)
 
--- the moment at which a release ended
+-- a release ended at this moment
 abbrev pub HasEndedAt : Phase → ℕ → Type 0
 HasEndedAt phase at = (phase ≡ Completed at) ⊎ (phase ≡ Cancelled at)
 
--- a release that ended, and needn't be kept any longer
+-- a release has ended, and its retention time has passed
 pub record IsPurging (s : State) (q : Release) : Type 0 where
   pub at : ℕ
   pub ended : HasEndedAt q.phase at
   pub passed : kept_until at ≤ s.moment
 
--- A sweep of what is three days old and older. What stays of the reports because it is attached to a release, and how far the
--- floors of persons rise, follows from what is held.
+-- A sweep whose cut-off is at least three days (4,320 minutes) ago. The state alone determines which reports stay
+-- because a release has them attached. It also determines how far the floors of persons rise.
 pub record IsSweeping (s : State) (before : ℕ) (staying : List ℕ) (raised : List Floor) : Type 0 where
   pub passed : before + 4320 ≤ s.moment
   pub attached : staying ≡ attached_reports s
   pub floors : raised ≡ raised_by (kept_before before s.kept) s.floors
 
--- a new report of an airport, received now: the canonical form of a text, and what is read of the text
+-- a new report of an airport, received now: the canonical form of a text, and the reading of that text
 pub record IsReceived (s : State) (text : List ℕ) (report : Report) : Type 0 where
   pub is_new : report.id ≡ s.counters.next_report
   pub received : report.received ≡ s.moment
@@ -303,12 +305,12 @@ pub record IsReceived (s : State) (text : List ℕ) (report : Report) : Type 0 w
   pub airport : has_airport s.tables (station_of_report report) ≡ true
   pub few : length s.reports < 200_000
 
--- an item of the list of a type
+-- the minimum equipment list of a type has the item
 abbrev pub IsListed : TableRows → Option TypeRow → List ℕ → Type 0
 IsListed tables None item = ⊥
 IsListed tables (Some kind) item = has_item tables kind.kind item ≡ true
 
--- a new open deferral, of an item of the aircraft's type that was found by now
+-- a new deferral of a listed item of the aircraft's type, found no later than now
 pub record IsDeferred (s : State) (tail item : List ℕ) (found : ℕ) (d : Deferral) : Type 0 where
   pub listed : IsListed s.tables (type_of s.tables tail) item
   pub by_now : found ≤ s.moment
@@ -318,14 +320,14 @@ pub record IsDeferred (s : State) (tail item : List ℕ) (found : ℕ) (d : Defe
   pub deferred : d.item ≡ item
   pub since : d.found ≡ found
 
--- of the release that is held
+-- the release is stored, and a relation holds between it and its replacement
 abbrev pub OfHeld : (Release → Release → Type 0) → Option Release → Release → Type 0
 OfHeld R None r = ⊥
 OfHeld R (Some q) r = R q r
 
--- What an ask of a person may change, and nothing else, and what is answered then: no other ask changes anything. No ask
--- changes a holder, and only a concurrence makes an active revision. Only a concurrence, a cancellation and the arrival of
--- the last leg take an alert away: neither an amendment nor that it is acknowledged does.
+-- Everything that an ask of a person may change, with its reply. Asks that aren't listed here change nothing. No ask
+-- changes a holder, and only a concurrence makes a revision active. Only a concurrence, a cancellation and the
+-- arrival of the last leg remove an alert. An amendment doesn't, nor does an acknowledgement.
 pub data IsEffectOf (s : State) (actor : List ℕ) : Ask → Effect → DoneType → Type 0 where
   admits : {text : List ℕ} {report : Report} → IsReceived s text report → IsEffectOf s actor (ask.Admit text) (effect.admit report) (done.Report report.id)
   defers : {tail item : List ℕ} {found : ℕ} {d : Deferral} → IsDeferred s tail item found d → IsEffectOf s actor (ask.Defer tail item found) (effect.defer d) (done.Deferral d.id)
@@ -372,42 +374,42 @@ IsView (ask.ViewRelease release) = Unit {0}
 IsView (ask.ViewWeather station) = Unit {0}
 IsView (ask.ViewDeferred tail) = Unit {0}
 
--- a report of that id and that text
+-- a report with this id and this text
 abbrev pub has_text : ℕ → List ℕ → Report → Bool
 has_text id text r = (r.id == id) && bytes_eq r.text text
 
--- the id of a report that is held, to one who hands in its text again
+-- an admit ask whose text is stored already is answered with the id of that report
 abbrev pub IsHeldReport : State → DoneType → Ask → Type 0
 IsHeldReport s (done.Report id) (ask.Admit text) = list_any (has_text id (canonical (groups_of text))) s.reports ≡ true
 IsHeldReport s _ _ = ⊥
 
--- what an ask may be answered where nothing changes: a refusal, to a view what it shows, or the id of a report that is held
+-- the replies that an ask may get without a change: a refusal, a view, or the id of a stored report
 abbrev pub IsShownTo : State → Ask → Reply → Type 0
 IsShownTo s a (Refused refusal) = Unit {0}
 IsShownTo s a (Seen text) = IsView a
 IsShownTo s a (Done made) = IsHeldReport s made a
 
--- the call comes again: the same was asked by the same person under the same number, and what it has done is kept
+-- a call is a repeat: the same person made the same ask under the same number, and its reply is kept
 pub record IsRepeat (s : State) (call : Call) (made : DoneType) : Type 0 where
   pub reply : KeptReply
   pub kept : kept_at call.actor call.number s.kept ≡ Some reply
   pub same : reply.digest ≡ ask_digest call.ask
   pub done : made ≡ reply.done
 
--- what a call may be answered where nothing changes: to its ask, or what is kept of the same call
+-- the replies that a call may get without a change: those of its ask, or the kept reply to the same call
 abbrev pub IsAnswer : State → Call → Reply → Type 0
 IsAnswer s call (Refused refusal) = Unit {0}
 IsAnswer s call (Seen text) = IsView call.ask
 IsAnswer s call (Done made) = IsHeldReport s made call.ask ⊎ IsRepeat s call made
 
--- the call is of a person of that name and that key, whose role the ask is for
+-- the name and the key of a call are right, and its person's role permits the ask
 pub record IsPermitted (s : State) (call : Call) : Type 0 where
   pub person : Actor
   pub known : actor_of s.tables call.actor ≡ Some person
   pub key : person.key ≡ call.key
   pub role : may_ask call.ask person.role ≡ true
 
--- Anyone may be refused. What was done and what is seen is said only to a person who may ask it.
+-- Anyone may be refused. Other replies go only to persons whom the desk permits the ask.
 abbrev pub IsSaidTo : State → Call → Reply → Type 0
 IsSaidTo s call (Refused refusal) = Unit {0}
 IsSaidTo s call (Seen text) = IsPermitted s call
@@ -417,24 +419,24 @@ abbrev pub Stays : State → Call → Option Reply → Type 0
 Stays s call None = ⊥
 Stays s call (Some reply) = IsAnswer s call reply × IsSaidTo s call reply
 
--- what an ask of a person comes to
+-- the allowed decisions on an ask
 abbrev pub AskedOf : State → List ℕ → Ask → Result Decision Refusal → Type 0
 AskedOf s actor a (Err refusal) = Unit {0}
 AskedOf s actor a (Ok (Show reply)) = IsShownTo s a reply
 AskedOf s actor a (Ok (Do made effect)) = IsEffectOf s actor a effect made
 
--- nothing is kept of the person's request under the number, and the number is above his floor
+-- no reply is kept for the person and the number, and the number is above his floor
 pub record IsUnused (s : State) (call : Call) : Type 0 where
   pub none : kept_at call.actor call.number s.kept ≡ None
   pub above : IfSome (floor_at call.actor s.floors) (λ floor. floor < call.number)
 
--- what a call comes to
+-- the allowed decisions on a call
 abbrev pub DecisionOf : State → Call → Result Decision Refusal → Type 0
 DecisionOf s call (Err refusal) = Unit {0}
 DecisionOf s call (Ok (Show reply)) = IsAnswer s call reply
 DecisionOf s call (Ok (Do made effect)) = IsUnused s call × IsEffectOf s call.actor call.ask effect made
 
--- the same call, but for its key, which isn't kept
+-- the same call without its key, which the history doesn't keep
 pub record IsWithoutKey (call kept : Call) : Type 0 where
   pub actor : kept.actor ≡ call.actor
   pub key : kept.key ≡ []
@@ -445,23 +447,24 @@ abbrev pub IsAsked : Call → Reply → What → Type 0
 IsAsked call told (what.Tick to) = ⊥
 IsAsked call told (what.Asked kept reply) = IsWithoutKey call kept × (reply ≡ told)
 
--- the entry of a call in a lane, and of its reply
+-- an entry of a lane that records a call and its reply
 pub record IsEntryOf (lane : ℕ) (call : Call) (told : Reply) (e : Entry) : Type 0 where
   pub its_lane : e.lane ≡ lane
   pub its_call : IsAsked call told e.what
 
--- the alert of a release, acknowledged
+-- the alert of a release once acknowledged
 abbrev pub IsAcknowledged : Option Alert → Option Alert → Type 0
 IsAcknowledged None left = left ≡ None
 IsAcknowledged (Some a) left = left ≡ Some (record a { acknowledged = true })
 
--- what an event leaves of the alert of a release: it takes it away, it acknowledges it, or it leaves it as it was
+-- the effect of an event on the alert of a release: removed, acknowledged, or left alone
 abbrev pub LeavesAlert : OnAlerts → ℕ → Option Alert → Option Alert → Type 0
 LeavesAlert on_alerts.Nothing id before left = left ≡ before
 LeavesAlert (on_alerts.Take gone) id before left = (id ≡ gone → left ≡ None) × (id ≢ gone → left ≡ before)
 LeavesAlert (on_alerts.Acknowledge seen) id before left = (id ≡ seen → IsAcknowledged before left) × (id ≢ seen → left ≡ before)
 
--- a release that isn't active has no alert; the alert of one that is follows from what its event left, by the rules that fail
+-- an inactive release has no alert; an active one has the alert that follows from the one left and the rules that
+-- fail
 abbrev pub FollowsIf : Option (List Finding) → Option Alert → Release → ℕ → Option Alert → Type 0
 FollowsIf None left r moment after = after ≡ None
 FollowsIf (Some findings) left r moment after = Follows left r.id r.holder findings moment after
@@ -472,7 +475,7 @@ pub record IsAlertAfter (effect : Effect) (s t : State) (r : Release) : Type 0 w
   pub is_left : LeavesAlert effect.on_alerts r.id (alert_at r.id s.alerts) left
   pub follows : FollowsIf (failing_of (grounds_of t) r) left r t.moment (alert_at r.id t.alerts)
 
--- what an event leaves of each part: only that changes which its effect names
+-- the state after an event: only what its effect names has changed, and alerts follow from the judgement
 pub record IsAfter (effect : Effect) (e : Entry) (s t : State) : Type 0 where
   pub judged : t ≡ entered e (effected effect s)
   pub tables : t.tables ≡ s.tables
@@ -485,24 +488,26 @@ pub record IsAfter (effect : Effect) (e : Entry) (s t : State) : Type 0 where
   pub entries : t.entries ≡ s.entries ++ e ∷ []
   pub events : t.counters.events ≡ s.counters.events + 1
 
--- what has been kept of accepted commands stays, but for what a sweep takes away, and that of the call comes after it
+-- kept replies stay, except those that a sweep removes, and the reply to this call is appended
 pub record IsKeptOf (s t : State) (call : Call) (does : Effect) (made : DoneType) : Type 0 where
   pub unused : IsUnused s call
   pub kept : t.kept ≡ kept_after does.sweep s.kept ++ kept_reply (effected does s) call made ∷ []
 
--- Nothing changes, and the reply says that something was done only where it was before, and to a person who may ask; or the call is
--- permitted and new and changes what its ask may change, every active release is then judged, and the call is entered with its reply, which is kept.
+-- What a call may lead to. Either nothing changes, and the call gets a reply that needs no change. Or the call is
+-- permitted and unused, and changes what its ask may change. Then every active release is judged, the entry of the
+-- call is appended, and its reply is kept.
 abbrev pub MayLeadTo : ℕ → Call → State → State → Option Reply → Type 0
 MayLeadTo lane call s t reply =
     ((t ≡ s) × Stays s call reply)
     ⊎ (IsPermitted s call × (does : Effect) × (made : DoneType) × IsEffectOf s call.actor call.ask does made × (reply ≡ Some (Done made))
     × (e : Entry) × IsEntryOf lane call (Done made) e × IsKeptOf s t call does made × IsAfter does e s t)
 
--- no event may come any more: there are 400,000 entries, or there were 999,999,999,999,000 events
+-- no further event may come: there are 400,000 entries, or 999,999,999,999,000 events have happened
 abbrev pub IsFull : State → Type 0
 IsFull s = (400_000 ≤ length s.entries) ⊎ (999_999_999_999_000 ≤ s.counters.events)
 
--- No event may come any more, the tick is refused and nothing changes; or the moment rises, every active release is then judged, and the tick entered.
+-- What a tick may lead to. If no further event may come, the tick is refused and nothing changes. Otherwise the
+-- moment moves forward, every active release is judged, and the entry of the tick is appended.
 abbrev pub MayTickTo : ℕ → ℕ → State → State → Option Reply → Type 0
 MayTickTo lane to s t reply =
     ((t ≡ s) × IsFull s × (reply ≡ Some (full_reply s)))

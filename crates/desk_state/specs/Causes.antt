@@ -1,4 +1,4 @@
--- Why a call is refused: the cause of each refusal, and what the refusal tells of it.
+-- The cause of each refusal of a call, and who may be told of it.
 use Rattle.std.specs.Prelude.{◌≡◌, ◌≢◌, ◌⊎◌, ℕ, ◌+◌, ◌*◌, ◌/◌, ◌<◌, ◌≤◌, false, List, [], length, Option, None, Some, Ok, Err}
 use Rattle.std.specs.List.{list_any}
 use Rattle.desk_time.specs.Calendar.{civil_of, AreThreeMonths}
@@ -41,15 +41,15 @@ use Rattle.desk_state.specs.Texts.{newest}
 use Rattle.desk_state.specs.Decide.{is_view, once_signed}
 use Rattle.desk_state.specs.Allowed.{HasNotEnded, IsNextLeg, IsCaptainOf, FliesBy, HasEndedAt, IsPermitted, IsFull}
 
--- of the person whom a call names
+-- a property of the person whom a call names
 abbrev pub OfPerson : State → Call → (Actor → Type 0) → Type 0
 OfPerson s call P = (person : Actor) × (actor_of s.tables call.actor ≡ Some person) × P person
 
--- The text of a report has no reading at the desk's moment: the group that doesn't read, and the reason.
+-- The desk can't read the text of a report at its moment: the group at fault, and the reason.
 abbrev pub IsUnread : State → Ask → ℕ → Why → Type 0
 IsUnread s a group reason = (text : List ℕ) × (a ≡ ask.Admit text) × (read_of text s.moment ≡ Err (record { group = group; why = reason }))
 
--- the station of a report that is admitted, or whose weather is to be seen
+-- the station of the report to admit, or of the weather to view
 abbrev pub IsOfStation : State → Ask → Station → Type 0
 IsOfStation s (ask.Admit text) station = (read : Read) × (read_of text s.moment ≡ Ok read) × (station_of_read read ≡ station)
 IsOfStation s (ask.ViewWeather named) station = named ≡ station
@@ -73,22 +73,23 @@ release_named (ask.Purge id) = Some id
 release_named (ask.ViewRelease id) = Some id
 release_named _ = None
 
--- of the release that an ask names, which is held
+-- a property of the stored release that an ask names
 abbrev pub OfRelease : State → Ask → (Release → Type 0) → Type 0
 OfRelease s a P = (id : ℕ) × (release_named a ≡ Some id) × (q : Release) × (release_at id s.releases ≡ Some q) × P q
 
--- the revision of that number and with a text of that digest is to be signed, by the dispatcher or by the captain
+-- the ask is a signature by the dispatcher or the captain, under this number and this digest
 abbrev pub Signs : Ask → ℕ → List ℕ → Type 0
 Signs (ask.Sign id asked named) number digest = (number ≡ asked) × (digest ≡ named)
 Signs (ask.Concur id asked named) number digest = (number ≡ asked) × (digest ≡ named)
 Signs _ number digest = ⊥
 
--- of the pending revision of the release, which is to be signed under a number and a digest
+-- a property of the pending revision that an ask signs, with the number and the digest that the ask gives
 abbrev pub OfSigned : State → Ask → (ℕ → List ℕ → Release → Revision → Type 0) → Type 0
 OfSigned s a P = (number : ℕ) × (digest : List ℕ) × Signs a number digest × OfRelease s a (λ q. (v : Revision) × (q.pending ≡ Some v) × P number digest q v)
 
--- For whom an ask of a release is: to concur for the captain of the pending plan, to say that a leg departs or arrives for who
--- flies by the release, else for the dispatcher who holds it.
+-- The person who must make an ask about a release. Only the holder may prepare, sign, amend, cancel and acknowledge.
+-- Only the captain of the pending plan may concur. Only the person who may report legs may report a departure or an
+-- arrival.
 abbrev pub IsFor : State → List ℕ → Ask → Release → List ℕ → Type 0
 IsFor s actor (ask.Prepare id) q person = q.holder ≡ person
 IsFor s actor (ask.Sign id number digest) q person = q.holder ≡ person
@@ -100,7 +101,7 @@ IsFor s actor (ask.Arrive id leg) q person = FliesBy (actor_of s.tables actor) p
 IsFor s actor (ask.Acknowledge id version) q person = q.holder ≡ person
 IsFor s actor _ q person = ⊥
 
--- what is wrong with a plan: it fails a test, or it may not take the place of the newest revision's
+-- the fault of a plan: it fails a test, or it may not replace the plan of the newest revision
 abbrev pub IsPlanFault : State → Ask → BadPlan → Type 0
 IsPlanFault s (ask.Draft plan) bad = plan_fault s.tables plan ≡ Some bad
 IsPlanFault s (ask.Amend id plan) bad =
@@ -108,20 +109,21 @@ IsPlanFault s (ask.Amend id plan) bad =
     ⊎ OfRelease s (ask.Amend id plan) (λ q. (v : Revision) × (newest q.pending q.active ≡ Some v) × (change_fault plan v.plan q.phase ≡ Some bad))
 IsPlanFault s _ bad = ⊥
 
--- How far a pending revision must have come: to be prepared it is there, for the dispatcher's signature it is prepared, and for
--- the captain's the dispatcher has signed it.
+-- The stage that a pending revision must have reached. To prepare it, there must be one; to sign, it must be
+-- prepared; to concur, the dispatcher must have signed.
 abbrev pub stage_needed : Ask → ℕ
 stage_needed (ask.Prepare id) = 1
 stage_needed (ask.Sign id number digest) = 2
 stage_needed (ask.Concur id number digest) = 3
 stage_needed _ = 0
 
--- how far it has come: none is there, it isn't prepared, or the dispatcher hasn't signed it
+-- how far a pending revision has come: 0 if there is none, 1 if it isn't prepared, 2 if the dispatcher hasn't signed
 abbrev pub IsAtStage : ℕ → Option Revision → Type 0
 IsAtStage stage None = stage ≡ 0
 IsAtStage stage (Some v) = ((stage ≡ 1) × (v.prepared ≡ false)) ⊎ ((stage ≡ 2) × (v.dispatcher ≡ None))
 
--- what rules fail: at a signature of the pending revision, as if both had signed, and at a departure of the active one
+-- The rules that fail. A signature is judged on the pending revision, as if both had signed, and a departure on the
+-- active one.
 abbrev pub AreFailing : State → Ask → List Finding → Type 0
 AreFailing s a findings =
     OfSigned s a (λ number digest q v. findings_of v.plan (once_signed q.phase) (grounds_of s) ≡ findings)
@@ -136,19 +138,20 @@ Allows phase (ask.Arrive id leg) = phase ≡ Flying leg
 Allows phase (ask.Purge id) = (at : ℕ) × HasEndedAt phase at
 Allows phase _ = Unit {0}
 
--- A release that ended is kept to the end of the day that lies three months after the one on which it did (14 CFR 121.695).
+-- An ended release is kept until the end of the day three months after the day on which it ended (14 CFR 121.695).
 pub record IsKeptUntil (ended until : ℕ) : Type 0 where
   pub last : ℕ
   pub months : AreThreeMonths (civil_of (ended / 1440)) (civil_of last)
   pub end : until ≡ 1440 * (last + 1)
 
--- the moment from which on something may go: three days after that of a sweep, or once the release needn't be kept
+-- the moment from which the desk allows a removal: three days after a sweep's cut-off, or the end of a release's
+-- retention
 abbrev pub MayGoFrom : State → Ask → ℕ → Type 0
 MayGoFrom s (ask.Sweep before) until = until ≡ before + 4320
 MayGoFrom s (ask.Purge id) until = OfRelease s (ask.Purge id) (λ q. (at : ℕ) × HasEndedAt q.phase at × IsKeptUntil at until)
 MayGoFrom s _ until = ⊥
 
--- The cause of each refusal of a call. None is for want of keeping, which the board doesn't do.
+-- The cause of each refusal of a call. The board doesn't store rows, so it never refuses a call as unkept.
 abbrev pub IsRefusedFor : State → Call → Refusal → Type 0
 IsRefusedFor s call refusal.UnknownActor = actor_of s.tables call.actor ≡ None
 IsRefusedFor s call refusal.WrongKey = OfPerson s call (λ person. person.key ≢ call.key)
@@ -191,10 +194,10 @@ IsRefusedFor s call (refusal.BadFound moment) =
 IsRefusedFor s call (refusal.DeferralsFull held) =
     (tail : List ℕ) × (item : List ℕ) × (found : ℕ) × (call.ask ≡ ask.Defer tail item found) × (held ≡ length s.deferrals) × (50_000 ≤ held)
 
--- Only that nobody has the name, that his key is another, and that the ask isn't for his role is said to one who may not ask.
+-- A person who isn't permitted the ask learns only one of three causes: unknown name, wrong key, or wrong role.
 abbrev pub MayBeTold : State → Call → Refusal → Type 0
 MayBeTold s call why = IsPermitted s call ⊎ (why ≡ refusal.UnknownActor) ⊎ (why ≡ refusal.WrongKey) ⊎ (why ≡ refusal.NotYourRole)
 
--- where a reply to a call refuses, there is the cause of that refusal, and it is said to one who may be told so
+-- if a reply is a refusal, its cause holds, and the caller may be told of it
 unfoldable pub RefusesFor : State → Call → Option Reply → Type 0
 RefusesFor s call reply = (why : Refusal) → reply ≡ Some (Refused why) → IsRefusedFor s call why × MayBeTold s call why

@@ -1,14 +1,14 @@
--- Chains of tests: each gives a value or refuses, and the first refusal counts.
+-- Chains of tests: each test gives a value or a refusal, and the first refusal counts.
 use Rattle.std.specs.Prelude.{Bool, true, false, Option, None, Some, Result, Ok, Err}
 use Rattle.asks.specs.declared.reply.Refusal.{Refusal}
 
 infixl 10 ◌>>-◌
--- a test that gives a value, and what comes of the value
+-- continues with the value of a test, unless it refused
 abbrev pub ◌>>-◌ : {A B : Type 0} → Result A Refusal → (A → Result B Refusal) → Result B Refusal
 (Err refusal) >>- f = Err refusal
 (Ok a) >>- f = f a
 
--- a test that refuses, or else what comes after it
+-- refuses if a test does, and otherwise continues
 abbrev pub unless : {A : Type 0} → Option Refusal → Result A Refusal → Result A Refusal
 unless None rest = rest
 unless (Some refusal) rest = Err refusal

@@ -1,10 +1,10 @@
--- What the parts in code stand for, and what contracts see of them.
+-- The state that the desk's parts in code represent, and their model in contracts.
 use Rattle.std.specs.Prelude.{ℕ, Bool, Option}
 use Rattle.desk_state.specs.State.{State}
 use Rattle.desk_state.specs.declared.effect.Effect.{Effect}
 use Rattle.desk_state.specs.declared.holdings.Holdings.{Holdings}
 
--- the state that the parts are
+-- the state that the parts represent
 abbrev pub state_of : Holdings → State
 state_of p = record {
   tables = p.tables;
@@ -19,13 +19,13 @@ state_of p = record {
   entries = p.history.list;
 }
 
--- an effect, and how many alerts change, for which memory was taken
+-- an effect, and the maximum number of changed alerts, for which memory is reserved
 pub record RoomFor : Type 0 where
   pub effect : Effect
   pub more : ℕ
 
--- what the desk holds, the one event that may be put in place without memory, and whether the entries of the history
--- are held and not only counted
+-- The model of the desk's content. It has the state, the event for which memory is reserved, and whether the
+-- history's entries are stored or only counted.
 pub record Held : Type 0 where
   pub state : State
   pub room : Option RoomFor

@@ -1,4 +1,4 @@
--- How many plans a step judges at most.
+-- How many plans a step of the desk judges at most.
 use Rattle.std.specs.Prelude.{ℕ, Bool, List, length, filter, find, Option, None, Some, Result, Ok, Err}
 use Rattle.asks.specs.declared.call.Ask.{Ask}
 use Rattle.asks.specs.declared.call.Ask.TheVariants as ask
@@ -14,15 +14,15 @@ use Rattle.desk_state.specs.Events.{effected}
 use Rattle.desk_state.specs.State.{State}
 use Rattle.desk_state.specs.Touched.{touched_at, touched_on, touched_by, is_touched}
 
--- how many of some releases pass a test
+-- the number of releases that pass a test
 abbrev pub count : (Release → Bool) → List Release → ℕ
 count test releases = length (filter test releases)
 
--- those that an event touches
+-- the number of releases that an event touches
 abbrev pub count_touched : State → Effect → ℕ
 count_touched s e = count (is_touched s e) (effected e s).releases
 
--- to decide an ask: the plan that is signed, that is concurred in, or that departs
+-- the number of plans judged to decide an ask: one for a signature, a concurrence or a departure
 abbrev pub to_decide : Ask → ℕ
 to_decide (ask.Admit text) = 0
 to_decide (ask.Defer tail item found) = 0
@@ -44,18 +44,19 @@ to_decide (ask.ViewRelease release) = 0
 to_decide (ask.ViewWeather station) = 0
 to_decide (ask.ViewDeferred tail) = 0
 
--- a report touches the active releases whose active plan names its station in a leg that isn't flown
+-- the number of releases that a report touches: the active plan names its station in a leg that isn't flown
 abbrev pub most_by_reading : Result Read BadReport → List Release → ℕ
 most_by_reading (Err bad) releases = 0
 most_by_reading (Ok read) releases = count (touched_at (station_of_read read)) releases
 
--- a deferral that is cleared touches those of its aircraft
+-- the number of active releases that a cleared deferral touches by its aircraft
 abbrev pub most_by_cleared : Option Deferral → List Release → ℕ
 most_by_cleared None releases = 0
 most_by_cleared (Some d) releases = count (touched_on d.tail) releases
 
--- A report makes judge at most as many plans as the active releases that its station touches, a deferral and its clearing as
--- many as those of its aircraft, and every other ask two.
+-- The maximum number of plans that an ask makes the desk judge. For a report, it is the number of active releases
+-- that its station touches. For a deferral and its clearing, it is the number that the aircraft touches. For every
+-- other ask, it is two.
 abbrev pub most_judged : State → Ask → ℕ
 most_judged s (ask.Admit text) = most_by_reading (read_of text s.moment) s.releases
 most_judged s (ask.Defer tail item found) = count (touched_on tail) s.releases
@@ -77,6 +78,6 @@ most_judged s (ask.ViewRelease release) = 2
 most_judged s (ask.ViewWeather station) = 2
 most_judged s (ask.ViewDeferred tail) = 2
 
--- a tick makes judge at most as many as the active releases for which a rule of time begins to fail by then
+-- the maximum for a tick: the number of active releases for which a time rule begins to fail by then
 abbrev pub most_ticked : State → ℕ → ℕ
 most_ticked s to = count (touched_by s.tables.settings s.moment to) s.releases

@@ -1,4 +1,4 @@
--- What a call comes to in a state, ask by ask: a line of tests in their order, and the decision after them.
+-- The decision on a call, ask by ask: the tests in their order, and what follows them.
 use Rattle.std.specs.Prelude.{ℕ, ◌+◌, ◌*◌, ◌/◌, ◌==◌, nat_le, nat_lt, Bool, true, false, not, ◌||◌, if◌then◌else◌, is_none, List, [], ◌∷◌, filter, length, map, Option, None, Some, Result, Ok, Err}
 use Rattle.std.specs.Str.{bytes_eq}
 use Rattle.std.specs.List.{list_any}
@@ -53,9 +53,9 @@ use Rattle.desk_state.specs.People.{not_his_role}
 use Rattle.desk_state.specs.Requests.{kept_at, floor_at, raised_by, kept_before}
 use Rattle.desk_state.specs.Texts.{alerts_view, board_view, deferral_lines, newest, release_view, revision_number}
 
--- The tests.
+-- The tests. A number in parentheses is that of the refusal in the user's guide.
 
--- The number stands for another request (4); or it is the same again, whose reply is kept.
+-- The person used the number before. The same ask gets the kept reply, and another one is refused (4).
 abbrev pub repeated : KeptReply → List ℕ → Result Decision Refusal
 repeated k digest = if bytes_eq k.digest digest then Ok (Show (Done k.done)) else Err (refusal.NumberReused k.id)
 
@@ -63,11 +63,11 @@ abbrev pub up_to_floor : Option ℕ → ℕ → Option Refusal
 up_to_floor None number = None
 up_to_floor (Some floor) number = refused_if (nat_le number floor) (refusal.NumberSwept floor)
 
--- nothing is kept any more of numbers up to that of the request (27)
+-- the number is at or below the person's floor, so that its reply may have been swept (27)
 abbrev pub swept_number : State → List ℕ → ℕ → Option Refusal
 swept_number s actor number = up_to_floor (floor_at actor s.floors) number
 
--- why a text without a reading is refused (5, 6)
+-- the refusal of a report that the desk can't read (5, 6)
 abbrev pub refusal_for : ℕ → Why → Refusal
 refusal_for group why.TooLong = refusal.BadReport group why.TooLong
 refusal_for group why.Missing = refusal.BadReport group why.Missing
@@ -82,27 +82,27 @@ abbrev pub reading_or : Result Read BadReport → Result Read Refusal
 reading_or (Err bad) = Err (refusal_for bad.group bad.why)
 reading_or (Ok read) = Ok read
 
--- 200,000 reports are held (7)
+-- the desk holds 200,000 reports (7)
 abbrev pub reports_full : State → Option Refusal
 reports_full s = refused_if (nat_le 200_000 (length s.reports)) (refusal.ReportsFull (length s.reports))
 
--- the station isn't an airport (25)
+-- the station isn't an airport of the tables (25)
 abbrev pub no_airport : State → Station → Option Refusal
 no_airport s station = refused_if (not (has_airport s.tables station)) refusal.NoSuchStation
 
--- the type of an aircraft; none of that registration is known (8)
+-- the type of an aircraft, or an unknown registration (8)
 abbrev pub aircraft : State → List ℕ → Result TypeRow Refusal
 aircraft s tail = some_or refusal.UnknownTail (type_of s.tables tail)
 
--- no open deferral has the id (9)
+-- no open deferral has this id (9)
 abbrev pub not_open : State → ℕ → Option Refusal
 not_open s id = refused_if (not (list_any (has_id id) s.deferrals)) refusal.NoSuchDeferral
 
--- the list of the type has no such item (28)
+-- the minimum equipment list of the type lacks this item (28)
 abbrev pub unlisted : State → TypeRow → List ℕ → Option Refusal
 unlisted s kind item = refused_if (is_none (item_of s.tables kind.kind item)) refusal.UnknownItem
 
--- it was found later than now (29)
+-- the item was found later than now (29)
 abbrev pub found_later : State → ℕ → Option Refusal
 found_later s found = refused_if (nat_lt s.moment found) (refusal.BadFound s.moment)
 
@@ -110,20 +110,20 @@ found_later s found = refused_if (nat_lt s.moment found) (refusal.BadFound s.mom
 abbrev pub deferrals_full : State → Option Refusal
 deferrals_full s = refused_if (nat_le 50_000 (length s.deferrals)) (refusal.DeferralsFull (length s.deferrals))
 
--- no release has the id (10)
+-- the release with this id, or none has it (10)
 abbrev pub held : State → ℕ → Result Release Refusal
 held s id = some_or refusal.NoSuchRelease (release_at id s.releases)
 
--- it is for another person (11)
+-- the ask must come from another person (11)
 abbrev pub not_yours : List ℕ → List ℕ → Option Refusal
 not_yours person actor = refused_if (not (bytes_eq person actor)) (refusal.NotYours person)
 
--- a test of the plan fails (12)
+-- the plan fails a test (12)
 abbrev pub bad_plan : Option BadPlan → Option Refusal
 bad_plan None = None
 bad_plan (Some bad) = Some (refusal.BadPlan bad.leg bad.why)
 
--- no revision is pending (13, stage 0)
+-- the pending revision, or there is none (13, stage 0)
 abbrev pub pending : Release → Result Revision Refusal
 pending r = some_or (refusal.NotPending 0) r.pending
 
@@ -148,7 +148,7 @@ abbrev pub newer_weather : Option ℕ → Option Refusal
 newer_weather None = None
 newer_weather (Some report) = Some (refusal.WeatherNewer report)
 
--- a report is newer than what is attached to the pending revision (16)
+-- a report is newer than the weather attached to the pending revision (16)
 abbrev pub outdated : State → Release → Revision → Option Refusal
 outdated s r v = newer_weather (newer_than s.reports v.plan r.phase v.attached)
 
@@ -157,8 +157,8 @@ abbrev pub failing : List Finding → Option Refusal
 failing [] = None
 failing (f ∷ fs) = Some (refusal.RuleFails (f ∷ fs))
 
--- What a phase becomes by the captain's signature: a draft is ready, and after a stop the flight is released again. Both
--- signatures are judged as if it were so.
+-- The phase after the captain's signature: a draft becomes ready, and a stopped flight is released again. The desk
+-- judges both signatures in that phase.
 abbrev pub once_signed : Phase → Phase
 once_signed Drafted = Ready
 once_signed Ready = Ready
@@ -174,11 +174,11 @@ abbrev pub failing_any : Option (List Finding) → Option Refusal
 failing_any None = None
 failing_any (Some findings) = failing findings
 
--- the active revision fails rules as it stands
+-- the active revision fails rules now (17)
 abbrev pub fails_now : State → Release → Option Refusal
 fails_now s r = failing_any (failing_of (grounds_of s) r)
 
--- What each phase allows. A release is amended and cancelled until it has ended.
+-- What each phase allows. A release may be amended and cancelled until it ends.
 abbrev pub may_change : Phase → Bool
 may_change Drafted = true
 may_change Ready = true
@@ -187,7 +187,7 @@ may_change (Stopped next since again) = true
 may_change (Completed at) = false
 may_change (Cancelled at) = false
 
--- the first leg departs once both have signed, each other one after the leg before it
+-- leg 1 may depart once both have signed, and each other leg once the one before it has arrived
 abbrev pub may_depart : Phase → ℕ → Bool
 may_depart Drafted leg = false
 may_depart Ready leg = leg == 1
@@ -196,11 +196,11 @@ may_depart (Stopped next since again) leg = leg == next
 may_depart (Completed at) leg = false
 may_depart (Cancelled at) leg = false
 
--- the phase doesn't allow it (18)
+-- the phase doesn't allow the ask (18)
 abbrev pub out_of_phase : Bool → Phase → Option Refusal
 out_of_phase allowed phase = refused_if (not allowed) (refusal.WrongPhase phase)
 
--- when a release ended
+-- the moment at which a release ended
 abbrev pub ended_at : Phase → Option ℕ
 ended_at Drafted = None
 ended_at Ready = None
@@ -209,28 +209,28 @@ ended_at (Stopped next since again) = None
 ended_at (Completed at) = Some at
 ended_at (Cancelled at) = Some at
 
--- it hasn't ended (18)
+-- the moment at which the release ended, or it hasn't (18)
 abbrev pub ended : Phase → Result ℕ Refusal
 ended phase = some_or (refusal.WrongPhase phase) (ended_at phase)
 
--- A release is kept for three months from the day on which it ended (14 CFR 121.695), to the end of the last day.
+-- The end of a release's retention: the end of the day three months after the day on which it ended (14 CFR 121.695).
 abbrev pub kept_until : ℕ → ℕ
 kept_until at = 1440 * (three_months (at / 1440) + 1)
 
--- that moment hasn't come (22)
+-- the moment of removal hasn't come (22)
 abbrev pub too_young : State → ℕ → Option Refusal
 too_young s until = refused_if (nat_lt s.moment until) (refusal.TooYoung until)
 
--- 20,000 releases are held (23)
+-- the desk holds 20,000 releases (23)
 abbrev pub releases_full : State → Option Refusal
 releases_full s = refused_if (nat_le 20_000 (length s.releases)) (refusal.ReleasesFull (length s.releases))
 
--- the dispatcher has signed (19)
+-- the dispatcher has signed already (19)
 abbrev pub signed : Option Signature → Option Refusal
 signed None = None
 signed (Some signature) = Some refusal.AlreadySigned
 
--- the release has no alert (20)
+-- the alert of the release, or there is none (20)
 abbrev pub alert_of : State → ℕ → Result Alert Refusal
 alert_of s id = some_or refusal.NoSuchAlert (alert_at id s.alerts)
 
@@ -238,7 +238,7 @@ alert_of s id = some_or refusal.NoSuchAlert (alert_at id s.alerts)
 abbrev pub moved : Alert → ℕ → Option Refusal
 moved a version = refused_if (not (a.version == version)) (refusal.AlertMoved a.version)
 
--- the plan may not take the place of the newest revision's (12)
+-- the plan may not replace that of the newest revision (12)
 abbrev pub bad_change : Plan → Option Revision → Phase → Option Refusal
 bad_change plan None phase = None
 bad_change plan (Some v) phase = bad_plan (change_fault plan v.plan phase)
@@ -247,21 +247,21 @@ abbrev pub captain_or : Option Revision → List ℕ → List ℕ
 captain_or None holder = holder
 captain_or (Some v) holder = v.plan.captain
 
--- Who flies by a release: the captain of the active plan where a captain asks, else the dispatcher who holds it.
+-- The person who may report legs: for a captain, the one whom the active plan names; for any other role, the holder.
 abbrev pub flies_by : Option Actor → Release → List ℕ
 flies_by None r = r.holder
 flies_by (Some person) r = if is_captain_role person.role then captain_or r.active r.holder else r.holder
 
--- What releases become.
+-- The releases that the asks make.
 
--- a revision of a plan, which isn't prepared yet
+-- a revision of a plan, not yet prepared
 abbrev pub fresh_revision : ℕ → Plan → Revision
 fresh_revision number plan = record { number = number; plan = plan; prepared = false; attached = []; dispatcher = None; captain = None; hours = None }
 
 abbrev pub drafted : ℕ → List ℕ → Plan → Release
 drafted id actor plan = record { id = id; holder = actor; phase = Drafted; pending = Some (fresh_revision 1 plan); active = None }
 
--- a revision with the latest weather, which nobody has signed yet
+-- a revision with the latest weather and no signatures
 abbrev pub with_weather : State → Phase → Revision → Revision
 with_weather s phase v = record v { prepared = true; attached = attached_to s.reports v.plan phase; dispatcher = None; captain = None; hours = None }
 
@@ -274,15 +274,15 @@ signed_by actor moment digest = record { actor = actor; at = moment; digest = di
 abbrev pub with_dispatcher : Release → Revision → Signature → Release
 with_dispatcher r v signature = record r { pending = Some (record v { dispatcher = Some signature }) }
 
--- a revision with its captain's signature, and the hours that he has
+-- a revision with its captain's signature and hours
 abbrev pub with_captain : Revision → Signature → ℕ → Revision
 with_captain v signature hours = record v { captain = Some signature; hours = Some hours }
 
--- the pending revision becomes the active one
+-- the release whose pending revision has become the active one
 abbrev pub made_active : Release → Revision → Signature → ℕ → Release
 made_active r v signature hours = record r { phase = once_signed r.phase; pending = None; active = Some (with_captain v signature hours) }
 
--- a plan is pending, in a revision of the next number
+-- the release with a plan pending, in a revision with the next number
 abbrev pub amended : Release → Plan → Release
 amended r plan = record r { pending = Some (fresh_revision (revision_number (newest r.pending r.active) + 1) plan) }
 
@@ -292,12 +292,12 @@ cancelled r moment = record r { phase = Cancelled moment; pending = None }
 abbrev pub departed : Release → ℕ → Release
 departed r leg = record r { phase = Flying leg; pending = None }
 
--- how many legs are flown by a revision
+-- the number of legs of a revision's plan
 abbrev pub leg_count : Option Revision → ℕ
 leg_count None = 0
 leg_count (Some v) = length v.plan.legs
 
--- after this leg another one remains
+-- the active plan has a leg after this one
 abbrev pub has_more : Release → ℕ → Bool
 has_more r leg = nat_lt leg (leg_count r.active)
 
@@ -309,18 +309,18 @@ completed r moment = record r { phase = Completed moment; pending = None }
 
 -- The asks.
 
--- a reading that isn't held is admitted under the next id
+-- admits a report under the next id
 abbrev pub admit_new : State → List ℕ → Read → Result Decision Refusal
 admit_new s text read =
     unless (reports_full s)
     (Ok (Do (done.Report s.counters.next_report) (effect.admit (record { id = s.counters.next_report; received = s.moment; text = text; read = read }))))
 
--- a report that is held keeps its id
+-- a report that the desk holds already keeps its id
 abbrev pub admit_read : Option ℕ → State → List ℕ → Read → Result Decision Refusal
 admit_read (Some id) s text read = Ok (Show (Done (done.Report id)))
 admit_read None s text read = admit_new s text read
 
--- a text is read at the desk's moment
+-- the text is read at the desk's moment
 abbrev pub decide_admit : State → List ℕ → Result Decision Refusal
 decide_admit s text =
     reading_or (read_of text s.moment) >>- λ read. unless (no_airport s (station_of_read read)) (admit_read (same_id s.reports (canonical (groups_of text)) (minute_of_read read)) s (canonical (groups_of text)) read)
@@ -334,7 +334,7 @@ decide_defer s tail item found =
 abbrev pub decide_clear : State → ℕ → Result Decision Refusal
 decide_clear s id = unless (not_open s id) (Ok (Do (done.Deferral id) (effect.clear id)))
 
--- the open deferrals of an aircraft
+-- shows the open deferrals of an aircraft
 abbrev pub decide_deferred : State → List ℕ → Result Decision Refusal
 decide_deferred s tail = aircraft s tail >>- λ kind. Ok (Show (Seen (deferral_lines s.tables kind.kind (open_on tail s.deferrals))))
 
@@ -378,7 +378,7 @@ decide_depart s actor id leg =
     held s id >>- λ r. unless (out_of_phase (may_depart r.phase leg) r.phase) (unless (not_yours (flies_by (actor_of s.tables actor) r) actor)
     (unless (fails_now s r) (Ok (Do (done.Release r.id) (effect.put (departed r leg))))))
 
--- after the last leg the release is completed and its alert goes
+-- when a leg arrives, the release waits for the next leg; after the last leg it is completed and its alert is removed
 abbrev pub arrival : Bool → Release → ℕ → ℕ → Decision
 arrival true r leg moment = Do (done.Release r.id) (effect.put (stopped r leg moment))
 arrival false r leg moment = Do (done.Release r.id) (effect.put_afresh (completed r moment))
@@ -402,30 +402,30 @@ abbrev pub is_attached_to : ℕ → Option Revision → Bool
 is_attached_to id None = false
 is_attached_to id (Some v) = list_any (λ a. a.report == id) v.attached
 
--- a report of that id is attached to the pending or the active revision of a release
+-- the pending or the active revision of a release has the report with this id attached
 abbrev pub is_attached : ℕ → List Release → Bool
 is_attached id releases = list_any (λ r. is_attached_to id r.pending || is_attached_to id r.active) releases
 
--- the reports that are attached to releases, by their ids
+-- the ids of the stored reports that releases have attached
 abbrev pub attached_reports : State → List ℕ
 attached_reports s = map (λ r. r.id) (filter (λ r. is_attached r.id s.releases) s.reports)
 
--- the reports that a sweep takes away
+-- the reports that a sweep removes
 abbrev pub reports_before : State → ℕ → List Report
 reports_before s before = leaving before (attached_reports s) s.reports
 
--- what is kept of requests stays for three days and longer
+-- a sweep's cut-off must be at least three days (4,320 minutes) ago
 abbrev pub decide_sweep : State → ℕ → Result Decision Refusal
 decide_sweep s before =
     unless (too_young s (before + 4320))
     (Ok (Do (done.Swept (length (reports_before s before)) (length (kept_before before s.kept)))
     (effect.sweep before (attached_reports s) (raised_by (kept_before before s.kept) s.floors))))
 
--- the release and its texts
+-- shows a release and the texts of its revisions
 abbrev pub decide_release : State → ℕ → Result Decision Refusal
 decide_release s id = held s id >>- λ r. Ok (Show (Seen (release_view r)))
 
--- the latest weather of an airport
+-- shows the latest weather of an airport
 abbrev pub decide_weather : State → Station → Result Decision Refusal
 decide_weather s station = unless (no_airport s station) (Ok (Show (Seen (weather_at s.reports station))))
 
@@ -463,11 +463,11 @@ abbrev pub decide_new : Option KeptReply → State → Call → Result Decision 
 decide_new (Some k) s call = repeated k (ask_digest call.ask)
 decide_new None s call = unless (swept_number s call.actor call.number) (decide_ask s call.actor call.ask)
 
--- The number of a command is looked up before the ask's own tests. That of a view plays no part.
+-- The number of a command is looked up before the ask's own tests. The number of a view is ignored.
 abbrev pub decide_numbered : Bool → State → Call → Result Decision Refusal
 decide_numbered true s call = decide_ask s call.actor call.ask
 decide_numbered false s call = decide_new (kept_at call.actor call.number s.kept) s call
 
--- what a call of a person who is known comes to
+-- the decision on a call whose name and key are right
 unfoldable pub decide : State → Call → Result Decision Refusal
 decide s call = unless (not_his_role (actor_of s.tables call.actor) call.ask) (decide_numbered (is_view call.ask) s call)

@@ -1,4 +1,4 @@
--- What the accepted events change, part by part.
+-- The effect of each accepted event.
 use Rattle.std.specs.Prelude.{ℕ, List, None, Some}
 use Rattle.asks.specs.declared.kept.Floor.{Floor}
 use Rattle.deferrals.specs.declared.items.Deferral.{Deferral}
@@ -12,42 +12,42 @@ use Rattle.desk_state.specs.declared.effect.OnAlerts.TheVariants as alerts
 abbrev pub nothing : Effect
 nothing = record { moment = None; report = None; sweep = None; on_deferrals = deferrals.Nothing; on_releases = releases.Nothing; on_alerts = alerts.Nothing }
 
--- the moment rises
+-- moves the desk's moment forward
 abbrev pub tick : ℕ → Effect
 tick to = record nothing { moment = Some to }
 
--- a report is admitted
+-- admits a report
 abbrev pub admit : Report → Effect
 admit report = record nothing { report = Some report }
 
--- an item is deferred
+-- opens a deferral
 abbrev pub defer : Deferral → Effect
 defer d = record nothing { on_deferrals = deferrals.Open d }
 
--- a deferral goes
+-- removes a deferral
 abbrev pub clear : ℕ → Effect
 clear id = record nothing { on_deferrals = deferrals.Clear id }
 
--- a release is filed
+-- adds a release
 abbrev pub file : Release → Effect
 file r = record nothing { on_releases = releases.File r }
 
--- a release takes the place of the one of its id
+-- replaces the release with the same id
 abbrev pub put : Release → Effect
 put r = record nothing { on_releases = releases.Put r }
 
--- the same, and the alert of that one goes
+-- replaces the release with the same id, and removes its alert
 abbrev pub put_afresh : Release → Effect
 put_afresh r = record nothing { on_releases = releases.Put r; on_alerts = alerts.Take r.id }
 
--- the alert of a release is acknowledged
+-- acknowledges the alert of a release
 abbrev pub acknowledge : ℕ → Effect
 acknowledge release = record nothing { on_alerts = alerts.Acknowledge release }
 
--- the release of an id goes
+-- removes the release with this id
 abbrev pub remove : ℕ → Effect
 remove release = record nothing { on_releases = releases.Remove release }
 
--- earlier reports go but for those that stay, and earlier replies, and the floors of persons rise
+-- removes earlier reports, except those that must stay, and earlier kept replies, and raises the floors of persons
 abbrev pub sweep : ℕ → List ℕ → List Floor → Effect
 sweep before attached floors = record nothing { sweep = Some (record { before = before; attached = attached; floors = floors }) }

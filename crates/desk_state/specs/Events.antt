@@ -1,4 +1,4 @@
--- What an event changes.
+-- The state after an event, part by part, and the alerts that the event changes.
 use Rattle.std.specs.Prelude.{ℕ, ◌+◌, ◌==◌, not, nat_lt, Bool, true, false, ◌&&◌, if◌then◌else◌, List, [], ◌∷◌, ◌++◌, map, filter, Option, None, Some}
 use Rattle.std.specs.List.{filter_map, cons_option}
 use Rattle.std.specs.Option.{option_map}
@@ -26,7 +26,7 @@ use Rattle.desk_state.specs.State.{State, alert_at, judged}
 pub use Rattle.kept_replies.specs.Requests.{is_since}
 pub use Rattle.release_index.specs.Changes.{put_release, without_release, releases_after}
 
--- Each part once an effect is there.
+-- Each part after an effect.
 
 abbrev pub moment_after : Option ℕ → ℕ → ℕ
 moment_after None moment = moment
@@ -36,12 +36,12 @@ abbrev pub reports_after : Option Report → List Report → List Report
 reports_after None reports = reports
 reports_after (Some report) reports = reports ++ report ∷ []
 
--- the reports that a sweep leaves
+-- the reports that stay after a sweep
 abbrev pub reports_swept : Option Sweep → List Report → List Report
 reports_swept None reports = reports
 reports_swept (Some w) reports = swept w.before w.attached reports
 
--- what a sweep leaves of the kept replies
+-- the kept replies that stay after a sweep
 abbrev pub kept_after : Option Sweep → List KeptReply → List KeptReply
 kept_after None kept = kept
 kept_after (Some w) kept = filter (is_since w.before) kept
@@ -55,11 +55,11 @@ deferrals_after deferrals.Nothing list = list
 deferrals_after (deferrals.Open d) list = list ++ d ∷ []
 deferrals_after (deferrals.Clear id) list = without id list
 
--- the alerts but for those of a release
+-- the alerts without those of a release
 abbrev pub without_alert : ℕ → List Alert → List Alert
 without_alert id list = filter (λ a. not (a.release == id)) list
 
--- an alert, acknowledged where it is that of a release
+-- an alert, acknowledged if it belongs to this release
 abbrev pub acknowledged_if : ℕ → Alert → Alert
 acknowledged_if id a = if a.release == id then record a { acknowledged = true } else a
 
@@ -68,13 +68,13 @@ alerts_after alerts.Nothing list = list
 alerts_after (alerts.Take id) list = without_alert id list
 alerts_after (alerts.Acknowledge id) list = map (acknowledged_if id) list
 
--- what an effect leaves of the alert of a release
+-- the alert of a release after an effect, before the judgement
 abbrev pub kept_alert : OnAlerts → ℕ → Option Alert → Option Alert
 kept_alert alerts.Nothing id before = before
 kept_alert (alerts.Take gone) id before = if id == gone then None else before
 kept_alert (alerts.Acknowledge seen) id before = option_map (acknowledged_if seen) before
 
--- The ids that come next.
+-- The next ids.
 
 abbrev pub next_report : Option Report → ℕ → ℕ
 next_report None next = next
@@ -98,7 +98,7 @@ counters_after e c = record c {
   next_release = next_release e.on_releases c.next_release;
 }
 
--- the state once an effect is there, before any release is judged
+-- the state after an effect, before any release is judged
 abbrev pub effected : Effect → State → State
 effected e s = record s {
   moment = moment_after e.moment s.moment;
@@ -115,21 +115,21 @@ abbrev pub is_same_mark : Bool → Bool → Bool
 is_same_mark true mark = mark
 is_same_mark false mark = not mark
 
--- the same version, acknowledged or not
+-- two alerts have the same version, and both or neither are acknowledged
 abbrev pub is_same_alert : Alert → Alert → Bool
 is_same_alert a b = (a.version == b.version) && is_same_mark a.acknowledged b.acknowledged
 
 abbrev change : ℕ → Option Alert → Option Alert → AlertChange
 change id before after = record { release = id; before = before; after = after }
 
--- what became of a release's alert: nothing where it has the same version and is acknowledged as before
+-- the change of a release's alert, or none if its version and acknowledgement are the same
 abbrev pub change_between : ℕ → Option Alert → Option Alert → List AlertChange
 change_between id None None = []
 change_between id None (Some b) = change id None (Some b) ∷ []
 change_between id (Some a) None = change id (Some a) None ∷ []
 change_between id (Some a) (Some b) = if is_same_alert a b then [] else change id (Some a) (Some b) ∷ []
 
--- What became of a release's alert, from before an event: first by its effect, then by the judgement.
+-- The changes of a release's alert: first by the effect, then by the judgement.
 abbrev pub changes_from : State → Option Alert → Release → List AlertChange
 changes_from t before r = change_between r.id before (alert_at r.id t.alerts) ++ change_between r.id (alert_at r.id t.alerts) (judged t r)
 
@@ -137,21 +137,21 @@ abbrev pub changes_over : State → List Alert → List Release → List AlertCh
 changes_over t held [] = []
 changes_over t held (r ∷ rs) = changes_from t (alert_at r.id held) r ++ changes_over t held rs
 
--- the changes of the alerts by an effect and the judgement after it, in order of the releases
+-- the changes of all alerts by an effect and the judgement after it, in order of the releases
 abbrev pub alert_changes : Effect → State → List AlertChange
 alert_changes effect s = changes_over (effected effect s) s.alerts (effected effect s).releases
 
--- what is told of changes of alerts
+-- the notices that dispatchers get of the changes of alerts
 abbrev pub notices_of : List AlertChange → List Notice
 notices_of changes = filter_map (λ c. notice_of c.before c.after) changes
 
--- the alerts with that of a release in its place, or without it
+-- the alerts with that of a release inserted, replaced or removed
 abbrev pub put_alert : ℕ → Option Alert → List Alert → List Alert
 put_alert id alert [] = cons_option alert []
 put_alert id alert (a ∷ rest) =
     if a.release == id then cons_option alert rest else (if nat_lt id a.release then cons_option alert (a ∷ rest) else a ∷ put_alert id alert rest)
 
--- the alerts after changes of them
+-- the alerts after changes, applied in order
 abbrev pub put_changes : List AlertChange → List Alert → List Alert
 put_changes [] held = held
 put_changes (c ∷ cs) held = put_changes cs (put_alert c.release c.after held)

@@ -1,4 +1,4 @@
--- The forms that each part of the state has, so that its row is read again.
+-- The forms that each part of the state has, so that its stored row can be read again.
 use Rattle.std.specs.Prelude.{◌≡◌, true, IsUtf8}
 use Rattle.std.specs.List.{AllByRecursion}
 use Rattle.alerts.specs.declared.alert.Alert.{Alert}
@@ -12,7 +12,7 @@ use Rattle.ops_tables.specs.Named.{AreNamed}
 use Rattle.asks.specs.Forms.{DoneHasForms, IsRequest, IsFloor, FloorsRise, IsFinding, IsFormed}
 use Rattle.asks.specs.Digests.{IsDigest}
 
--- a canonical text, and what it says as of its receipt
+-- a canonical text in UTF-8, and its reading as of its receipt
 pub record ReportHasForms (r : Report) : Type 0 where
   pub read : IsRead r
   pub text : IsUtf8 r.text
@@ -21,19 +21,19 @@ pub record DeferralHasForms (d : Deferral) : Type 0 where
   pub tail : is_tail d.tail ≡ true
   pub item : is_item d.item ≡ true
 
--- the legs and places of what fails, and of what ever failed
+-- the failing rules, now and ever, have legs and places within their limits
 pub record AlertHasForms (a : Alert) : Type 0 where
   pub failing : AllByRecursion IsFinding a.failing
   pub ever : AllByRecursion IsFinding a.ever
 
--- what is kept of a person's request
+-- a kept reply
 pub record ReplyHasForms (k : KeptReply) : Type 0 where
   pub actor : is_person k.actor ≡ true
   pub number : IsRequest k.number
   pub digest : IsDigest k.digest
   pub done : DoneHasForms k.done
 
--- Each part of the state has its forms, and floors rise in byte order of the persons.
+-- Each part of the state has its forms, and the floors are in byte order of the persons.
 pub record AreFormed (s : State) : Type 0 where
   pub names : AreNamed s.tables
   pub reports : AllByRecursion ReportHasForms s.reports

@@ -1,8 +1,8 @@
--- What contracts see of a history.
+-- The model of a history in contracts.
 use Rattle.std.specs.Prelude.{Bool, List}
 use Rattle.desk_state.specs.declared.entry.Entry.{Entry}
 
--- its entries, whether there is room for one more without taking memory, and whether code holds them and doesn't count them alone
+-- the entries, whether room for one more is reserved, and whether code stores the entries or only counts them
 pub record Entries : Type 0 where
   pub list : List Entry
   pub room : Bool

@@ -1,10 +1,11 @@
--- What holds of what the desk holds, whether its alerts are judged yet or not.
+-- What always holds of the desk's content, even before its alerts are judged.
 use Rattle.std.specs.List.{AllByRecursion}
 use Rattle.desk_state.specs.Formed.{AreFormed}
 use Rattle.desk_state.specs.Sound.{AreJudgeable, AreSingle, AreUnlike, InBounds, IsToldTo, MayStand}
 use Rattle.desk_state.specs.State.{State, alert_at}
 
--- It is sound, but that its alerts may be of an earlier judgement; it keeps its bounds, and each part has its forms.
+-- The state is sound, except that its alerts may be from an earlier judgement. It is within its bounds, and each part
+-- has its forms.
 pub record Holds (s : State) : Type 0 where
   pub bounds : InBounds s
   pub judgeable : AreJudgeable s

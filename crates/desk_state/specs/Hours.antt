@@ -8,6 +8,7 @@ abbrev pub hours_in : TableRows → List ℕ → Option TypeRow → ℕ
 hours_in tables captain None = 0
 hours_in tables captain (Some aircraft) = hours_of tables captain aircraft.kind
 
--- The hours of a plan's captain in the plan's type, as the tables say; 0 where they have no such aircraft.
+-- The hours of a plan's captain in the type of its aircraft, by the tables. They are 0 if the tables lack the
+-- aircraft.
 unfoldable pub captain_hours : TableRows → Plan → ℕ
 captain_hours tables plan = hours_in tables plan.captain (type_of tables plan.tail)

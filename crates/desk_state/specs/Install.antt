@@ -1,4 +1,4 @@
--- How an event is put in place: what it needs so that it takes no memory, and the state once it is there.
+-- How the desk installs an event: the memory that it needs first, and the state afterwards.
 use Rattle.std.specs.Prelude.{◌≡◌, ℕ, ◌<◌, ◌≤◌, true, IsTrue, All, List, [], ◌∷◌, ◌++◌, length, option_to_list, Option, None, Some, IfSome}
 use Rattle.std.specs.List.{AllByRecursion}
 use Rattle.alerts.specs.declared.alert.Alert.{Alert}
@@ -23,7 +23,7 @@ use Rattle.desk_state.specs.declared.effect.OnDeferrals.TheVariants as on_deferr
 use Rattle.desk_state.specs.declared.event.Event.{Event}
 use Rattle.desk_state.specs.declared.holdings.Holdings.{Holdings}
 
--- ---- the state once it is there
+-- ---- the state after an event
 
 abbrev pub with_event : Event → State → State
 with_event e s = record (effected e.effect s) {
@@ -37,23 +37,23 @@ abbrev pub with_events : Option Event → State → State
 with_events None s = s
 with_events (Some e) s = with_event e s
 
--- the state once its alerts are judged anew, after so many events
+-- the state after its alerts are judged again, with this number of events
 abbrev pub with_judged : List AlertChange → ℕ → State → State
 with_judged changes events s = record s { counters = record s.counters { events = events }; alerts = put_changes changes s.alerts }
 
--- ---- what may be made
+-- ---- which changes are allowed
 
--- a number after which there is another one
+-- a number that can be incremented
 abbrev pub IsSmall : ℕ → Type 0
 IsSmall n = n < 10_000_000_000_000_000
 
--- a report that may be admitted: its id is above all others, it is canonical, and its reading that of its text
+-- a report may be admitted: its id is above all others, its text is canonical, and its reading is that of its text
 pub record MayAdmit (held : List Report) (r : Report) : Type 0 where
   pub above : All (λ other. other.id < r.id) held
   pub read : IsRead r
   pub small : IsSmall r.id
 
--- a deferral that may be added: its id is above all others, and there are fewer than 50,000
+-- a deferral may be added: its id is above all others, and fewer than 50,000 are open
 pub record MayAdd (held : List Deferral) (d : Deferral) : Type 0 where
   pub newest : IsNewest d.id held
   pub few : length held < 50_000
@@ -70,7 +70,7 @@ IsSmallRelease (on_releases.File r) = IsSmall r.id
 IsSmallRelease (on_releases.Put r) = Unit {0}
 IsSmallRelease (on_releases.Remove id) = Unit {0}
 
--- an effect that may be made
+-- an effect is allowed in this state
 pub record MayBeMade (s : State) (e : Effect) : Type 0 where
   pub report : IfSome e.report (MayAdmit s.reports)
   pub deferral : MayDefer s.deferrals e.on_deferrals
@@ -78,23 +78,23 @@ pub record MayBeMade (s : State) (e : Effect) : Type 0 where
   pub release : IsSmallRelease e.on_releases
   pub floors : IfSome e.sweep (λ w. FloorsRise w.floors)
 
--- an alert is that of a release
+-- an alert belongs to this release
 abbrev pub IsOf : ℕ → Alert → Type 0
 IsOf id a = a.release ≡ id
 
--- what stands after a change of the alert of a release is one of it
+-- a changed alert belongs to the release that the change names
 abbrev pub IsOwn : AlertChange → Type 0
 IsOwn c = IfSome c.after (IsOf c.release)
 
--- what is kept has the next id
+-- a reply to keep has the next id
 abbrev pub IsNextReply : State → KeptReply → Type 0
 IsNextReply s k = k.id ≡ s.counters.next_kept
 
--- its id is above those of all that is kept
+-- a reply has a higher id than all kept replies
 abbrev pub IsLatest : KeptReply → List KeptReply → Type 0
 IsLatest k kept = All (λ other. other.id < k.id) kept
 
--- ---- what needs no memory
+-- ---- which memory is reserved
 
 abbrev pub room_of : Effect → ℕ → RoomFor
 room_of e more = record { effect = e; more = more }
@@ -111,7 +111,7 @@ HasOneMore held on_deferrals.Nothing = Unit {0}
 HasOneMore held (on_deferrals.Open d) = held.room ≡ true
 HasOneMore held (on_deferrals.Clear id) = Unit {0}
 
--- there is room for an entry, for a kept reply, for some more alerts, and for what an effect changes
+-- room is reserved for an entry, a kept reply, up to r.more changed alerts, and what an effect changes
 pub record HasRoom (p : Holdings) (r : RoomFor) : Type 0 where
   pub history : IsTrue p.history.room
   pub replies : IsTrue p.replies.room
@@ -121,7 +121,7 @@ pub record HasRoom (p : Holdings) (r : RoomFor) : Type 0 where
   pub release : p.releases.room ≡ Some r.effect.on_releases
   pub may : MayBeMade (state_of p) r.effect
 
--- an event for which there is room, with the alerts of its releases and the next reply
+-- an event may be installed: its room is reserved, and its alerts and reply have the right ids
 pub record MayPut (h : Held) (e : Event) : Type 0 where
   pub room : h.room ≡ Some (room_for_event e)
   pub own : AllByRecursion IsOwn e.changes.items

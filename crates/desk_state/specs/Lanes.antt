@@ -1,4 +1,4 @@
--- What comes of the items of a lane.
+-- The outcomes of the items of a lane.
 use Rattle.std.specs.Prelude.{ℕ, nat_lt, Bool, true, false, List, [], ◌∷◌, length, Option, None, Some}
 use Rattle.asks.specs.declared.call.Call.{Call}
 use Rattle.asks.specs.declared.reply.Reply.{Reply}
@@ -19,7 +19,7 @@ pub record Answered : Type 0 where
 abbrev pub said_at : State → Said → State → Answered
 said_at before what after = record { outcome = record { position = length before.entries; said = what }; state = after }
 
--- What is said of a step: its reply. Only a tick that is allowed has none, so a call always has one.
+-- The answer of a step: its reply. Only an allowed tick has none, so a call always has one.
 abbrev pub said_of : Option Reply → Said
 said_of None = said.Reply (Seen [])
 said_of (Some reply) = said.Reply reply
@@ -27,7 +27,7 @@ said_of (Some reply) = said.Reply reply
 abbrev pub made : ℕ → State → Call → Answered
 made lane s call = said_at s (said_of (answer_call s lane call).reply) (answer_call s lane call).state
 
--- A call is made once its tick is. Where the tick is refused, the call gets that refusal.
+-- A call is made after its tick. If the tick is refused, the call gets that refusal.
 abbrev pub once_ticked : ℕ → Option Reply → State → Call → Answered
 once_ticked lane (Some reply) s call = said_at s (said.Reply reply) s
 once_ticked lane None s call = made lane s call
@@ -39,16 +39,16 @@ abbrev pub made_by : Bool → ℕ → State → ℕ → Call → Answered
 made_by true lane s at call = made_late lane s at call
 made_by false lane s at call = made lane s call
 
--- a call of a lane at a moment: the desk ticks to it first, where it is later
+-- a call of a lane at a moment: if the moment is later than the desk's, the desk ticks to it first
 unfoldable pub answer : ℕ → State → ℕ → Call → Answered
 answer lane s at call = made_by (nat_lt s.moment at) lane s at call
 
--- what comes of an item
+-- the outcome of one item
 abbrev pub answer_item : ℕ → State → Item → Answered
 answer_item lane s (item.Bad fault) = said_at s (said.Bad fault) s
 answer_item lane s (item.Call at call) = answer lane s at call
 
--- the outcomes of items, and the state after them
+-- the outcomes of items in order
 abbrev pub outcomes : ℕ → State → List Item → List Outcome
 outcomes lane s [] = []
 outcomes lane s (i ∷ rest) = (answer_item lane s i).outcome ∷ outcomes lane (answer_item lane s i).state rest

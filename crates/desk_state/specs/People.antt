@@ -1,4 +1,4 @@
--- Who may ask what.
+-- Which roles may make which ask.
 use Rattle.std.specs.Prelude.{ℕ, Bool, true, false, not, ◌||◌, List, Option, None, Some}
 use Rattle.std.specs.Str.{bytes_eq}
 use Rattle.ops_tables.specs.Rows.{Actor}
@@ -39,10 +39,10 @@ is_records F = false
 is_records M = false
 is_records S = true
 
--- Reports come from a feed or a dispatcher, deferrals from maintenance. Dispatchers draft, prepare, sign, amend and cancel
--- releases and acknowledge alerts, captains concur, and either says that a leg has departed or arrived (14 CFR 121.593,
--- 121.595, 121.663). Who keeps the records removes what need not be
--- kept any longer (14 CFR 121.695). Everybody may see what the desk holds.
+-- A feed or a dispatcher admits reports, and maintenance defers and clears items. Dispatchers draft, prepare, sign,
+-- amend and cancel releases, and acknowledge alerts. Captains concur. Dispatchers and captains report departures and
+-- arrivals (14 CFR 121.593, 121.595, 121.663). The records role removes what need no longer be kept (14 CFR 121.695).
+-- Everyone may view.
 abbrev pub may_ask : Ask → Role → Bool
 may_ask (ask.Admit text) role = is_feed role || is_dispatcher role
 may_ask (ask.Defer tail item found) role = is_maintenance role
@@ -64,12 +64,12 @@ may_ask (ask.ViewRelease release) role = true
 may_ask (ask.ViewWeather station) role = true
 may_ask (ask.ViewDeferred tail) role = true
 
--- nobody has the name (1), or he has another key (2)
+-- nobody has this name (1), or the key is wrong (2)
 abbrev pub mistaken : Option Actor → List ℕ → Option Refusal
 mistaken None key = Some UnknownActor
 mistaken (Some person) key = refused_if (not (bytes_eq person.key key)) WrongKey
 
--- the ask isn't for the person's role (3)
+-- the person's role doesn't permit the ask (3)
 abbrev pub not_his_role : Option Actor → Ask → Option Refusal
 not_his_role None a = Some NotYourRole
 not_his_role (Some person) a = refused_if (not (may_ask a person.role)) NotYourRole

@@ -33,31 +33,32 @@ use Rattle.desk_state.specs.Legal.{IsHistory}
 use Rattle.desk_state.specs.Once.{AreOnce}
 use Rattle.desk_state.specs.Requests.{is_request}
 
--- No alert stands where none is asked for or no rule fails; one that stands names exactly the rules that fail.
+-- The alert matches the failing rules. Without an alert, the release is inactive or fails no rule. An alert names
+-- exactly the rules that fail.
 abbrev pub Matches : Option Alert → Option (List Finding) → Type 0
 Matches None None = Unit {0}
 Matches None (Some findings) = findings ≡ []
 Matches (Some a) None = ⊥
 Matches (Some a) (Some findings) = a.failing ≡ findings
 
--- an alert is told to the dispatcher who holds the release
+-- an alert goes to the dispatcher who holds the release
 abbrev pub IsToldTo : List ℕ → Option Alert → Type 0
 IsToldTo holder alert = IfSome alert (λ a. a.desk ≡ holder)
 
--- the alert of a release is as its rules ask, and told to its holder
+-- the alert of a release matches the failing rules, and goes to its holder
 abbrev pub IsAlerted : Grounds → List Alert → Release → Type 0
 IsAlerted g alerts r = Matches (alert_at r.id alerts) (failing_of g r) × IsToldTo r.holder (alert_at r.id alerts)
 
--- ids rise from one number on, all below another
+-- ids strictly increase, from low to below next
 abbrev pub Rise : ℕ → List Release → ℕ → Type 0
 Rise low [] next = low ≤ next
 Rise low (r ∷ rs) next = (low ≤ r.id) × Rise (r.id + 1) rs next
 
--- no revision is numbered above a number
+-- no revision has a number above most
 abbrev pub IsWithin : ℕ → Release → Type 0
 IsWithin most r = IfSome r.pending (λ v. v.number ≤ most) × IfSome r.active (λ v. v.number ≤ most)
 
--- a release that may stand, where no revision has a number above `most`
+-- a release is valid, and no revision has a number above most
 pub record MayStand (most : ℕ) (r : Release) : Type 0 where
   pub valid : IsValid r
   pub within : IsWithin most r
@@ -66,14 +67,15 @@ pub record MayStand (most : ℕ) (r : Release) : Type 0 where
 abbrev pub AreUnlike : List Report → Type 0
 AreUnlike reports = AllPairs (λ earlier later. is_same later.text (minute_of_report later) earlier ≡ false) reports
 
--- no two replies are kept of the same person and number
+-- no two kept replies have the same person and number
 abbrev pub AreSingle : List KeptReply → Type 0
 AreSingle kept = AllPairs (λ earlier later. is_request later.actor later.number earlier ≡ false) kept
 
--- Each active release has no alert and fails no rule, or one alert that names exactly the rules that it
--- fails, and that is told to its holder; there are no other alerts than those of the releases, each once.
--- Each release is valid: in particular each active revision bears both signatures on its very text. No two reports are the same, and
--- no two replies are kept of one request. Ids rise, and ids, revisions and versions are within the counters.
+-- Each active release has no alert and fails no rule, or has one alert that names exactly the rules that it fails. An
+-- inactive release has no alert, and alerts go to the holder. Each alert belongs to a stored release, and no release
+-- has two. Each release is valid; in particular, each active revision has both signatures on its exact text. No two
+-- reports are the same, and no two replies answer the same request. Release ids increase, and ids, revision numbers
+-- and versions are within the counters.
 pub record Sound (s : State) : Type 0 where
   pub alerted : AllByRecursion (IsAlerted (grounds_of s) s.alerts) s.releases
   pub own : s.alerts ≡ filter_map (λ r. alert_at r.id s.alerts) s.releases
@@ -83,33 +85,33 @@ pub record Sound (s : State) : Type 0 where
   pub single : AreSingle s.kept
   pub ids : Rise 0 s.releases s.counters.next_release
 
--- What a judgement of all releases rests on: each alert is the one of a release that is held, in the order of the releases, whose
--- ids rise. It holds before the judgement too, when a desk is opened.
+-- What a judgement of all releases relies on. Each alert belongs to a stored release, in order of the releases, and
+-- ids increase. It holds even before the judgement, when a desk opens.
 pub record AreJudgeable (s : State) : Type 0 where
   pub own : s.alerts ≡ filter_map (λ r. alert_at r.id s.alerts) s.releases
   pub alerts : AllByRecursion (IsAlert s.counters.events) s.alerts
   pub ids : Rise 0 s.releases s.counters.next_release
 
--- a release that may be held
+-- a release may be stored
 pub record Fits (most : ℕ) (r : Release) : Type 0 where
   pub stands : MayStand most r
   pub kept : ReleaseInBounds r
 
--- a report whose id is below a number
+-- a report has an id below next
 abbrev pub IsNumbered : ℕ → Report → Type 0
 IsNumbered next r = r.id < next
 
--- an open deferral whose id is below a number, and whose moment can be shown
+-- an open deferral has an id below next, and its moment is from 2000 to 2099
 abbrev pub IsOpen : ℕ → Deferral → Type 0
 IsOpen next d = (d.id < next) × IsMoment d.found
 
--- Open deferrals: their ids rise, all below the next one, and there are at most 50,000.
+-- The ids of open deferrals increase, all below the next one, and there are at most 50,000.
 pub record AreOpen (next : ℕ) (list : List Deferral) : Type 0 where
   pub each : AllByRecursion (IsOpen next) list
   pub rising : AreRising list
   pub few : length list ≤ 50_000
 
--- a kept reply whose id is below a number, and whose moment can be shown
+-- a kept reply has an id below next, and its moment is from 2000 to 2099
 abbrev pub IsReplied : ℕ → KeptReply → Type 0
 IsReplied next k = (k.id < next) × IsMoment k.at
 
@@ -121,12 +123,12 @@ pub record AreCounters (c : Counters) : Type 0 where
   pub release : c.next_release ≤ c.events + 1
   pub accepted : c.next_kept ≤ c.events + 1
 
--- an entry whose moment can be shown, and whose call and reply have their forms
+-- the moment of a tick is from 2000 to 2099, and a call and its reply have their forms
 abbrev pub IsEntered : What → Type 0
 IsEntered (what.Tick to) = IsMoment to
 IsEntered (what.Asked call reply) = IsCall call.ask × ReplyHasMoment reply
 
--- what else the code rests on
+-- the bounds of the state: counters, ids and the length of each list
 pub record InBounds (s : State) : Type 0 where
   pub moment : IsMoment s.moment
   pub counters : AreCounters s.counters
@@ -142,36 +144,36 @@ pub record InBounds (s : State) : Type 0 where
   pub entries : length s.entries ≤ 400_000
   pub forms : AllByRecursion (λ e. IsEntered e.what) s.entries
 
--- a release that is filed, with that id, where so many are held
+-- a release may be filed: it has the next id, and fewer than 20,000 are stored
 pub record IsNew (most id held : ℕ) (r : Release) : Type 0 where
   pub fits : Fits most r
   pub numbered : r.id ≡ id
   pub few : held < 20_000
 
--- a release with that id is held
+-- a stored release has this id
 abbrev pub IsTaken : ℕ → List Release → Type 0
 IsTaken id releases = list_any (λ q. q.id == id) releases ≡ true
 
--- a release that takes the place of another, which is held, keeps its holder
+-- a release may replace the stored one with its id, whose alert, if any, goes to the new one's holder
 pub record MayReplace (s : State) (r : Release) : Type 0 where
   pub fits : Fits (s.counters.events + 1) r
   pub holder : IsToldTo r.holder (alert_at r.id s.alerts)
   pub taken : IsTaken r.id s.releases
 
--- a new deferral, where fewer than 50,000 are open
+-- a deferral may be opened: it has the next id, and fewer than 50,000 are open
 pub record MayOpen (s : State) (d : Deferral) : Type 0 where
   pub is_new : d.id ≡ s.counters.next_deferral
   pub found : IsMoment d.found
   pub few : length s.deferrals < 50_000
 
--- a new report, which is the same as no other, where fewer than 200,000 are held
+-- a report may be admitted: it has the next id, no stored report is the same, and fewer than 200,000 are stored
 pub record IsNext (s : State) (report : Report) : Type 0 where
   pub is_new : report.id ≡ s.counters.next_report
   pub received : IsMoment report.received
   pub unlike : same_id s.reports report.text (minute_of_report report) ≡ None
   pub few : length s.reports < 200_000
 
--- changes of deferrals and of releases that keep what holds of the desk
+-- changes of deferrals and of releases that keep the desk sound
 
 abbrev pub DeferralsFit : State → OnDeferrals → Type 0
 DeferralsFit s on_deferrals.Nothing = Unit {0}
@@ -184,17 +186,17 @@ ReleasesFit s (on_releases.File r) = IsNew (s.counters.events + 1) s.counters.ne
 ReleasesFit s (on_releases.Put r) = MayReplace s r
 ReleasesFit s (on_releases.Remove id) = alert_at id s.alerts ≡ None
 
--- no report is admitted where others are swept away
+-- an event doesn't both admit a report and sweep
 abbrev pub AreApart : Option Report → Option Sweep → Type 0
 AreApart None sweep = Unit {0}
 AreApart (Some r) None = Unit {0}
 AreApart (Some r) (Some w) = ⊥
 
--- a moment that can be shown, and isn't before another
+-- a moment from 2000 to 2099 that isn't before another
 abbrev pub IsLater : ℕ → ℕ → Type 0
 IsLater moment to = IsMoment to × (moment ≤ to)
 
--- an effect that keeps what holds of the desk
+-- an effect that keeps the desk sound
 pub record EffectFits (s : State) (e : Effect) : Type 0 where
   pub moment : IfSome e.moment (IsLater s.moment)
   pub report : IfSome e.report (IsNext s)
@@ -207,9 +209,9 @@ DecisionFits s (Err refusal) = RefusalHasMoment refusal
 DecisionFits s (Ok (Show reply)) = ReplyHasMoment reply
 DecisionFits s (Ok (Do made effect)) = EffectFits s effect
 
--- What holds of a board at every moment: its state comes from the opening one by a history of legal steps, in which each
--- person's accepted calls stand once; it is sound, keeps its bounds, and each part of it has its forms, so that its rows are
--- read again.
+-- What holds of a board at every moment. A history of legal steps leads to its state from the opening one, and each
+-- person's accepted calls appear in it once. The state is sound and within its bounds. Each part has its forms, so
+-- that its rows can be read again.
 pub record IsBoard (opening s : State) : Type 0 where
   pub tables : s.tables ≡ opening.tables
   pub history : IsHistory opening s

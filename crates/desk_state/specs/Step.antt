@@ -1,4 +1,4 @@
--- One step of the desk: a tick, or a call.
+-- One step of the desk: a tick or a call.
 use Rattle.ops_tables.specs.Tables.{actor_of}
 use Rattle.std.specs.Prelude.{ℕ, ◌+◌, Bool, true, false, not, List, [], ◌∷◌, ◌++◌, length, option_to_list, Option, None, Some, Result, Ok, Err}
 use Rattle.asks.specs.declared.call.Ask.{Ask}
@@ -27,7 +27,7 @@ use Rattle.desk_state.specs.People.{mistaken}
 abbrev pub entry : ℕ → What → Entry
 entry lane what = record { lane = lane; what = what }
 
--- A reply, the state after it, and what is told of the alerts. A tick has no reply where it is allowed.
+-- The result of a step: the reply, the state after it, and the notices about alerts. An allowed tick has no reply.
 pub record Stepped : Type 0 where
   pub reply : Option Reply
   pub state : State
@@ -36,7 +36,7 @@ pub record Stepped : Type 0 where
 abbrev pub stay : State → Reply → Stepped
 stay s reply = record { reply = Some reply; state = s; notices = [] }
 
--- an accepted command takes an id of its own
+-- the next id of a kept reply, which each accepted command uses up
 abbrev pub next_kept : What → ℕ → ℕ
 next_kept (what.Tick to) next = next
 next_kept (what.Asked call reply) next = next + 1
@@ -44,7 +44,7 @@ next_kept (what.Asked call reply) next = next + 1
 abbrev pub counted : What → Counters → Counters
 counted w c = record c { events = c.events + 1; next_kept = next_kept w c.next_kept }
 
--- what is kept of an accepted command
+-- the kept reply of an accepted command
 abbrev pub kept_reply : State → Call → DoneType → KeptReply
 kept_reply t call done =
     record { id = t.counters.next_kept; actor = call.actor; number = call.number; digest = ask_digest call.ask; at = t.moment; done = done }
@@ -54,12 +54,12 @@ kept_of_call t call (Done done) = Some (kept_reply t call done)
 kept_of_call t call (Seen text) = None
 kept_of_call t call (Refused refusal) = None
 
--- what is kept of an event: of a tick nothing
+-- the kept reply of an event, which a tick doesn't have
 abbrev pub kept_of : State → What → Option KeptReply
 kept_of t (what.Tick to) = None
 kept_of t (what.Asked call reply) = kept_of_call t call reply
 
--- the state once every active release is judged and the event is entered
+-- the state after every active release is judged and the event is entered in the history
 abbrev pub entered : Entry → State → State
 entered e t = record t {
   counters = counted e.what t.counters;
@@ -90,11 +90,11 @@ finish s lane call (Err refusal) = stay s (Refused refusal)
 finish s lane call (Ok (Show reply)) = stay s reply
 finish s lane call (Ok (Do made effect)) = enter (is_full_for s call.ask) s lane call made effect
 
--- a call of a person whose name and key are right
+-- a call whose name and key are right
 unfoldable pub do_call : State → ℕ → Call → Stepped
 do_call s lane call = finish s lane call (decide s call)
 
--- whether the call adds an entry
+-- the call adds an entry to the history
 abbrev pub changes_by : State → Ask → Result Decision Refusal → Bool
 changes_by s a (Err refusal) = false
 changes_by s a (Ok (Show reply)) = false
@@ -107,7 +107,7 @@ abbrev pub do_unless : Option Refusal → State → ℕ → Call → Stepped
 do_unless None s lane call = do_call s lane call
 do_unless (Some refusal) s lane call = stay s (Refused refusal)
 
--- a call: the person and his key come first
+-- a call, whose name and key are checked first
 unfoldable pub answer_call : State → ℕ → Call → Stepped
 answer_call s lane call = do_unless (mistaken (actor_of s.tables call.actor) call.key) s lane call
 

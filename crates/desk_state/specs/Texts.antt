@@ -1,4 +1,4 @@
--- The texts that show what the desk holds. Every line ends in a line feed.
+-- The texts in which the desk shows its state, with a line feed after every line.
 use Rattle.ops_tables.specs.declared.rows.MelRow.{MelRow}
 use Rattle.ops_tables.specs.Tables.{TableRows, item_of}
 use Rattle.deferrals.specs.declared.items.Deferral.{Deferral}
@@ -22,7 +22,7 @@ abbrev pub spaced_findings : List Finding → List ℕ
 spaced_findings [] = []
 spaced_findings (f ∷ fs) = (codes " " ++ finding_text f) ++ spaced_findings fs
 
--- findings after a blank each, or the word none
+-- findings, each after a blank, or " none"
 unfoldable pub findings_text : List Finding → List ℕ
 findings_text [] = codes " none"
 findings_text (f ∷ fs) = spaced_findings (f ∷ fs)
@@ -30,15 +30,15 @@ findings_text (f ∷ fs) = spaced_findings (f ∷ fs)
 abbrev pub mark_text : Bool → List ℕ
 mark_text acknowledged = if acknowledged then codes "ack" else codes "open"
 
--- an alert's release, its dispatcher and its version
+-- the release, the dispatcher and the version of an alert
 abbrev pub alert_head : Alert → List ℕ
 alert_head a = concat (decimal a.release ∷ codes " " ∷ a.desk ∷ codes " v" ∷ decimal a.version ∷ [])
 
--- when it was opened, and whether it is acknowledged
+-- the moment at which it opened, and whether it is acknowledged
 abbrev pub opening_text : Alert → List ℕ
 opening_text a = concat (codes " " ∷ shown a.opened ∷ codes " " ∷ mark_text a.acknowledged ∷ [])
 
--- what fails, and what ever failed
+-- the rules that fail, and all that have failed since it opened
 abbrev pub failing_text : Alert → List ℕ
 failing_text a = concat (findings_text a.failing ∷ codes " ever" ∷ findings_text a.ever ∷ codes "\n" ∷ [])
 
@@ -50,28 +50,28 @@ abbrev pub alert_lines : List Alert → List ℕ
 alert_lines [] = []
 alert_lines (a ∷ rest) = alert_line a ++ alert_lines rest
 
--- the alerts that stand
+-- the view of all alerts
 unfoldable pub alerts_view : ℕ → List Alert → List ℕ
 alerts_view moment alerts = concat (codes "ALERTS " ∷ shown moment ∷ codes "\n" ∷ alert_lines alerts ∷ [])
 
--- when a deferred item is due for repair; a dash where the list of the type lacks it
+-- when a deferred item is due for repair, or a dash if the type's list lacks the item
 abbrev pub due_text : Option MelRow → Deferral → List ℕ
 due_text None d = codes "-"
 due_text (Some row) d = shown (due row d.found)
 
--- a deferral's id and its item
+-- the id and the item of a deferral
 abbrev pub deferral_head : Deferral → List ℕ
 deferral_head d = concat (decimal d.id ∷ codes " " ∷ d.item ∷ codes " " ∷ [])
 
--- when it was found, and when it is due by the list of a type
+-- when the item was found, and when it is due by the type's list
 abbrev pub deferral_due : TableRows → List ℕ → Deferral → List ℕ
 deferral_due tables kind d = concat (shown d.found ∷ codes " due " ∷ due_text (item_of tables kind d.item) d ∷ codes "\n" ∷ [])
 
--- the line of a deferral of an aircraft of a type
+-- the line of a deferral on an aircraft of this type
 unfoldable pub deferral_line : TableRows → List ℕ → Deferral → List ℕ
 deferral_line tables kind d = deferral_head d ++ deferral_due tables kind d
 
--- the deferrals of an aircraft of a type
+-- the lines of deferrals on an aircraft of this type
 abbrev pub deferral_lines : TableRows → List ℕ → List Deferral → List ℕ
 deferral_lines tables kind [] = []
 deferral_lines tables kind (d ∷ rest) = deferral_line tables kind d ++ deferral_lines tables kind rest
@@ -94,11 +94,11 @@ abbrev pub alert_text : Option Alert → List ℕ
 alert_text None = codes "-"
 alert_text (Some a) = concat (codes "ALERT v" ∷ decimal a.version ∷ codes " " ∷ mark_text a.acknowledged ∷ findings_text a.failing ∷ [])
 
--- a release's id, flight, aircraft and phase
+-- the id, the flight, the aircraft and the phase of a release
 abbrev pub release_head : Release → List ℕ
 release_head r = concat (decimal r.id ∷ codes " " ∷ flight_text (newest r.pending r.active) ∷ codes " " ∷ phase_text r.phase ∷ [])
 
--- the numbers of its active and of its pending revision
+-- the numbers of its active and its pending revision, 0 if there is none
 abbrev pub numbers_text : Release → List ℕ
 numbers_text r = concat (codes " rev " ∷ decimal (revision_number r.active) ∷ codes " pending " ∷ decimal (revision_number r.pending) ∷ codes " " ∷ [])
 
@@ -117,7 +117,7 @@ release_lines alerts (r ∷ rest) = release_line r (alert_at r.id alerts) ++ rel
 abbrev pub board_head : ℕ → List ℕ
 board_head moment = concat (codes "BOARD " ∷ shown moment ∷ codes "\n" ∷ [])
 
--- the releases
+-- the view of all releases
 unfoldable pub board_view : State → List ℕ
 board_view s = board_head s.moment ++ release_lines s.alerts s.releases
 
@@ -126,7 +126,7 @@ abbrev pub signature_text : Option Signature → List ℕ
 signature_text None = []
 signature_text (Some signature) = concat (codes " " ∷ signature.actor ∷ codes " " ∷ shown signature.at ∷ [])
 
--- the digits of the digest of a revision
+-- the digest of a revision in lower-case hexadecimal
 abbrev pub digest_text : Revision → List ℕ
 digest_text v = encode_lower (revision_digest v)
 
@@ -134,12 +134,12 @@ abbrev pub prepared_text : Bool → Revision → List ℕ
 prepared_text true v = concat (codes "PENDING " ∷ digest_text v ∷ codes "\n" ∷ revision_text v ∷ [])
 prepared_text false v = []
 
--- the digest and the text of a pending revision, once it is prepared
+-- the digest and the text of a pending revision, if it is prepared
 unfoldable pub pending_text : Option Revision → List ℕ
 pending_text None = []
 pending_text (Some v) = prepared_text v.prepared v
 
--- a captain's hours
+-- a captain's hours, or a dash
 abbrev pub hours_text : Option ℕ → List ℕ
 hours_text None = codes "-"
 hours_text (Some hours) = decimal hours
@@ -148,15 +148,15 @@ abbrev pub active_head : Revision → List ℕ
 active_head v =
     concat (codes "ACTIVE " ∷ digest_text v ∷ signature_text v.dispatcher ∷ signature_text v.captain ∷ codes " HOURS " ∷ hours_text v.hours ∷ codes "\n" ∷ [])
 
--- the digest of an active revision, who signed it, its captain's hours, and its text
+-- the digest, the signatures, the captain's hours and the text of an active revision
 unfoldable pub active_text : Option Revision → List ℕ
 active_text None = []
 active_text (Some v) = active_head v ++ revision_text v
 
--- a release with the texts of its revisions
+-- the view of a release: its phase and the texts of its revisions
 unfoldable pub release_view : Release → List ℕ
 release_view r = concat (codes "RELEASE " ∷ decimal r.id ∷ codes " " ∷ phase_text r.phase ∷ codes "\n" ∷ []) ++ pending_text r.pending ++ active_text r.active
 
--- the closing text: the releases, and the weather of all stations that have a report
+-- the text that ends a run: all releases, and the latest weather of all stations that have a report
 unfoldable pub closing : State → List ℕ
 closing s = board_head s.moment ++ release_lines s.alerts s.releases ++ weather s.reports ++ codes "END\n"

@@ -1,6 +1,4 @@
--- Which releases an event touches: those that it changes itself, and the active ones whose findings it may change. A report
--- may change those whose active plan names its station in a leg that isn't flown, a deferral those of its aircraft, and time
--- those for which a rule of time begins to fail.
+-- Which releases an event touches: those that it changes, and active ones whose findings it may change.
 use Rattle.std.specs.Prelude.{ℕ, ◌==◌, Bool, false, ◌||◌, List, find, Option, None, Some}
 use Rattle.ops_tables.specs.declared.rows.Settings.{Settings}
 use Rattle.facts.specs.declared.report.Report.{Report}
@@ -18,7 +16,8 @@ use Rattle.desk_state.specs.declared.effect.OnAlerts.TheVariants as on_alerts
 use Rattle.desk_state.specs.State.{State}
 pub use Rattle.release_index.specs.Touched.{passes_in, is_active_where, touched_at, touched_on, is_due_by, touched_by}
 
--- by the parts of an event
+-- By each part of an event. A report touches the active releases whose plan names its station in a leg that isn't
+-- flown. A deferral touches those of its aircraft, and time those for which a time rule begins to fail.
 
 abbrev pub by_report : Option Report → Release → Bool
 by_report None r = false
@@ -48,7 +47,7 @@ by_alert on_alerts.Nothing id = false
 by_alert (on_alerts.Take gone) id = id == gone
 by_alert (on_alerts.Acknowledge seen) id = id == seen
 
--- what an event touches of the releases that are held once its effect is there
+-- the releases that an event touches, once its effect is applied
 abbrev pub is_touched : State → Effect → Release → Bool
 is_touched s e r =
     by_report e.report r || by_deferral e.on_deferrals s.deferrals r || by_time e.moment s.tables.settings s.moment r || by_release e.on_releases r.id || by_alert e.on_alerts r.id

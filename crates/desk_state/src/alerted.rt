@@ -11,8 +11,8 @@ use desk_io::OutOfMemory;
 use std::alloc::Global;
 use std::marker::Model;
 
-/// What the desk holds, once its alerts are judged: each active release has no alert and fails no rule, or one alert
-/// that names exactly the rules that it fails.
+/// The desk's content with its alerts judged. Each active release either has no alert and fails no rule, or has one
+/// alert that names exactly the rules that it fails.
 #[derive(Drop)]
 pub struct Alerted {
     content: Content,
@@ -30,7 +30,7 @@ impl Model for Alerted {
 }
 
 impl Alerted {
-    /// What is held, whose alerts are judged.
+    /// Wraps content whose alerts are judged.
     pub fn of(content: Content) -> Alerted
         requires { Sound content.state }
         ensures { result ≡ content }
@@ -38,7 +38,7 @@ impl Alerted {
         Alerted { content }
     }
 
-    /// What is held.
+    /// Returns the content.
     pub fn content(&self) -> &Content
         ensures value { result.now ≡ self.now }
         ensures sound { Sound self.now.state }
@@ -46,14 +46,16 @@ impl Alerted {
         &self.content
     }
 
-    /// Holds the entries of the history from now on, where there is none yet.
+    /// If the history is empty, stores its entries from now on. Otherwise the entries stay stored or counted as
+    /// before. Discards reserved room.
     pub fn hold_entries(&mut self, alloc: Global)
         ensures { self.new ≡ held self.old.state None (self.old.listed || (length self.old.state.entries == 0)) }
     {
         self.content.hold_entries(alloc);
     }
 
-    /// Takes all memory that an event needs which changes some alerts. What is held stays as it is.
+    /// Reserves all memory that an event with this effect and up to `more` changed alerts needs. The state doesn't
+    /// change.
     pub fn reserve(
         &mut self,
         alloc: Global,
@@ -68,7 +70,7 @@ impl Alerted {
         self.content.reserve(alloc, effect, more)
     }
 
-    /// Puts an event in place, for which there is room. It takes no memory.
+    /// Installs an event, using reserved room. Allocates no memory.
     pub fn install(&mut self, event: Event)
         requires may { MayPut self.old event }
         requires sound { Sound (with_event event self.old.state) }

@@ -1,12 +1,12 @@
 use alerts::Alert;
 
-/// The alert of a release before and after a change of it.
+/// The alert of a release before and after a change.
 #[derive(Debug, Drop)]
 pub struct AlertChange {
-    /// The release.
+    /// The id of the release.
     pub release: u64,
-    /// The alert before, where there was one.
+    /// The alert before the change, if there was one.
     pub before: Option<Alert>,
-    /// The alert after, where there is one.
+    /// The alert after the change, if there is one.
     pub after: Option<Alert>,
 }

@@ -29,25 +29,25 @@ use std::alloc::Global;
 use std::marker::Model;
 use std::snapshot::Snapshot;
 
-/// The most entries that a history may have.
+/// The maximum number of entries in a history.
 pub const ENTRY_LIMIT: usize = 400_000;
 
-/// How many replies may be kept before no command but a sweep may come.
+/// While the desk keeps this many replies or more, it accepts only sweeps.
 pub const KEPT_LIMIT: usize = 400_000;
 
-/// How many events there may be before no further one may come.
+/// Once this many events have happened, the desk accepts no further tick or command.
 pub const EVENT_LIMIT: u64 = 999_999_999_999_000;
 
-// What memory was taken for.
+// The event for which memory is reserved.
 #[derive(Drop)]
 struct Room {
     effect: Snapshot<Effect>,
-    // How many alerts change.
+    // The maximum number of alerts that it changes.
     more: usize,
 }
 
-/// What the desk holds. Contracts see its state, and the event that may be put in place without memory. What holds of
-/// it holds whenever it is asked: each part keeps its bounds and has its forms, and each alert is that of a release.
+/// Everything that the desk holds. Contracts model the state and the event for which memory is reserved. The
+/// invariant keeps each part within its bounds and forms, and each alert belongs to a stored release.
 #[derive(Drop)]
 pub struct Content {
     holdings: Holdings,
@@ -80,7 +80,8 @@ fn is_sweep(ask: &Ask) -> bool
 }
 
 impl Content {
-    /// Nothing, at the first moment, under some tables. It takes no memory.
+    /// Creates the state of a new desk with these tables, at the first moment (2000-01-01T00:00Z). Allocates no
+    /// memory.
     #[tactic(auto, using(crate::proofs::HoldLaws::start_holds))]
     pub fn new(alloc: Global, tables: Tables) -> Content
         ensures { result ≡ held (start tables) None false }
@@ -92,7 +93,7 @@ impl Content {
         }
     }
 
-    /// Those holdings. It takes no memory.
+    /// Wraps holdings, with no room reserved. Allocates no memory.
     pub fn from_holdings(holdings: Holdings) -> Content
         requires holds { Holds (state_of holdings) }
         requires settings { holdings.releases.settings ≡ holdings.tables.settings }
@@ -104,49 +105,49 @@ impl Content {
         }
     }
 
-    /// What holds of what is held.
+    /// States the invariant of the content for proofs. Does nothing at run time.
     pub fn holds(&self)
         ensures { Holds self.now.state }
     {
         let _ = &self.holdings;
     }
 
-    /// The operations tables of the airline.
+    /// Returns the airline's operations tables.
     pub fn tables(&self) -> &Tables
         ensures { result.now ≡ self.now.state.tables }
     {
         &self.holdings.tables
     }
 
-    /// The greatest moment so far.
+    /// Returns the desk's moment, which is the latest that it has reached.
     pub fn moment(&self) -> Minute
         ensures { result ≡ self.now.state.moment }
     {
         self.holdings.moment
     }
 
-    /// How many events there were, and the ids that come next.
+    /// Returns the number of events and the next ids.
     pub fn counters(&self) -> Counters
         ensures { result ≡ self.now.state.counters }
     {
         self.holdings.counters
     }
 
-    /// The reports in order of admission.
+    /// Returns the reports in order of admission.
     pub fn reports(&self) -> &Reports
         ensures { result.now.reports ≡ self.now.state.reports }
     {
         &self.holdings.reports
     }
 
-    /// The open deferrals in order of their ids.
+    /// Returns the open deferrals in order of their ids.
     pub fn deferrals(&self) -> &Deferrals
         ensures { result.now.list ≡ self.now.state.deferrals }
     {
         &self.holdings.deferrals
     }
 
-    /// The releases in order of their ids.
+    /// Returns the releases in order of their ids.
     pub fn releases(&self) -> &Releases
         ensures list { result.now.list ≡ self.now.state.releases }
         ensures settings { result.now.settings ≡ self.now.state.tables.settings }
@@ -154,14 +155,14 @@ impl Content {
         &self.holdings.releases
     }
 
-    /// The alerts in order of their releases.
+    /// Returns the alerts in order of their releases.
     pub fn alerts(&self) -> &[Alert]
         ensures { result.now ≡ self.now.state.alerts }
     {
         self.holdings.alerts.as_slice()
     }
 
-    /// What accepted commands have done, in their order, and the floors of persons.
+    /// Returns the kept replies of accepted commands, in order, and the floors of persons.
     pub fn replies(&self) -> &Replies
         ensures list { result.now.list ≡ self.now.state.kept }
         ensures floors { result.now.floors ≡ self.now.state.floors }
@@ -169,7 +170,7 @@ impl Content {
         &self.holdings.replies
     }
 
-    /// The history.
+    /// Returns the history.
     pub fn history(&self) -> &History
         ensures list { result.now.list ≡ self.now.state.entries }
         ensures listed { result.now.listed ≡ self.now.listed }
@@ -177,7 +178,8 @@ impl Content {
         &self.holdings.history
     }
 
-    /// Holds the entries of the history from now on, where there is none yet.
+    /// If the history is empty, stores its entries from now on. Otherwise the entries stay stored or counted as
+    /// before. Discards reserved room.
     pub fn hold_entries(&mut self, alloc: Global)
         ensures { self.new ≡ held self.old.state None (self.old.listed || (length self.old.state.entries == 0)) }
     {
@@ -185,35 +187,36 @@ impl Content {
         self.holdings.history.hold_entries(alloc);
     }
 
-    /// Whether no event may come any more.
+    /// Returns true if no further event may come.
     pub fn is_full(&self) -> bool
         ensures { result ≡ is_full self.now.state }
     {
         self.holdings.history.len() >= ENTRY_LIMIT || self.holdings.counters.events >= EVENT_LIMIT
     }
 
-    /// Whether no command of an ask may come any more. Where too many replies are kept only a sweep may.
+    /// Returns true if no command with this ask may come. If too many replies are kept, only a sweep may.
     pub fn is_full_for(&self, ask: &Ask) -> bool
         ensures { result ≡ is_full_for self.now.state ask.now }
     {
         self.is_full() || (self.holdings.replies.len() >= KEPT_LIMIT && !is_sweep(ask))
     }
 
-    /// The release of an id. It is found by halves, and takes no memory.
+    /// Looks up the release with this id by binary search. Allocates no memory.
     pub fn release(&self, id: u64) -> Option<&Release>
         ensures { option_copied result ≡ release_at id self.now.state.releases }
     {
         self.holdings.releases.get(id)
     }
 
-    /// The alert of a release. It is found by halves, and takes no memory.
+    /// Looks up the alert of a release by binary search. Allocates no memory.
     pub fn alert(&self, id: u64) -> Option<&Alert>
         ensures { option_copied result ≡ alert_at id self.now.state.alerts }
     {
         self.holdings.alerts.get(id)
     }
 
-    /// Takes all memory that an event needs which changes some alerts. What is held stays as it is.
+    /// Reserves all memory that an event with this effect and up to `more` changed alerts needs. The state doesn't
+    /// change. If memory runs out, no room is reserved.
     pub fn reserve(
         &mut self,
         alloc: Global,
@@ -234,7 +237,7 @@ impl Content {
         Ok(())
     }
 
-    /// Puts an event in place, for which there is room. It takes no memory.
+    /// Installs an event, using reserved room. Allocates no memory.
     pub fn install(&mut self, event: Event)
         requires may { MayPut self.old event }
         requires holds { Holds (with_event event self.old.state) }
@@ -244,7 +247,7 @@ impl Content {
         install(&mut self.holdings, event);
     }
 
-    /// Puts what a judgement changed of the alerts in place, after so many events.
+    /// Installs the alerts that a judgement changed, and sets the number of events. Used when a desk opens.
     pub fn put_judged(&mut self, changes: Vec<AlertChange>, events: u64) -> Result<(), OutOfMemory>
         requires own { AllByRecursion IsOwn changes.items }
         requires holds { Holds (with_judged changes.items events self.old.state) }

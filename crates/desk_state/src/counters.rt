@@ -1,7 +1,7 @@
-/// How many events there were, and the ids that come next. No id is given twice.
+/// The number of events, and the next ids. No id is given twice.
 #[derive(Clone, Copy, Debug, PartialEq, Eq)]
 pub struct Counters {
-    /// The ticks and the accepted commands.
+    /// The number of ticks and accepted commands. A judgement on opening that changed an alert counts, too.
     pub events: u64,
     /// The id of the next report.
     pub next_report: u64,

@@ -9,46 +9,46 @@ use facts::Report;
 use plan::Release;
 use release_index::OnReleases;
 
-/// What an event changes of the open deferrals.
+/// What an event changes in the open deferrals.
 #[derive(Debug, Drop)]
 pub enum OnDeferrals {
     Nothing,
-    /// An item is deferred.
+    /// Adds a deferral.
     Open(Deferral),
-    /// The deferral of an id goes.
+    /// Removes the deferral with this id.
     Clear { deferral: u64 },
 }
 
-/// What an event changes of the alerts, before every active release is judged.
+/// What an event changes in the alerts, before the desk judges active releases.
 #[derive(Clone, Copy, Debug, PartialEq, Eq)]
 pub enum OnAlerts {
     Nothing,
-    /// The alert of a release goes.
+    /// Removes the alert of a release.
     Take { release: u64 },
-    /// The alert of a release is acknowledged.
+    /// Marks the alert of a release as acknowledged.
     Acknowledge { release: u64 },
 }
 
-/// What a sweep takes away.
+/// What a sweep removes.
 #[derive(Debug, Drop)]
 pub struct Sweep {
-    /// Reports that were observed or issued before that moment go, and what is kept of requests that were
-    /// accepted before it.
+    /// The cut-off. Reports observed or issued before it are removed, except the attached ones and the latest of each
+    /// station and kind. Kept replies to requests accepted before it are removed too.
     pub before: Minute,
-    /// The ids of the reports that stay because they are attached to a release, in order.
+    /// The ids of the reports that stay because a release has them attached, in order.
     pub attached: Listed<u64>,
-    /// The floors of persons after it.
+    /// The floors of persons after the sweep.
     pub floors: Floors,
 }
 
-/// What an event changes, part by part, before every active release is judged.
+/// What an event changes, part by part, before the desk judges active releases.
 #[derive(Debug, Drop)]
 pub struct Effect {
-    /// The moment that comes.
+    /// The new moment of the desk.
     pub moment: Option<Minute>,
-    /// The report that is admitted.
+    /// The report to admit.
     pub report: Option<Report>,
-    /// What is swept away.
+    /// What a sweep removes.
     pub sweep: Option<Sweep>,
     pub on_deferrals: OnDeferrals,
     pub on_releases: OnReleases,
@@ -56,7 +56,7 @@ pub struct Effect {
 }
 
 impl Effect {
-    /// What changes nothing but what a judgement does.
+    /// An effect that changes nothing itself. The judgement after it may still change alerts.
     pub fn nothing() -> Effect
         ensures { result ≡ spec.nothing }
     {
@@ -70,7 +70,7 @@ impl Effect {
         }
     }
 
-    /// The moment rises, and nothing else changes.
+    /// Moves the desk's moment forward.
     pub fn tick(to: Minute) -> Effect
         ensures { result ≡ spec.tick to }
     {
@@ -80,7 +80,7 @@ impl Effect {
         }
     }
 
-    /// A report is admitted.
+    /// Admits a report.
     pub fn admit(report: Report) -> Effect
         ensures { result ≡ spec.admit report }
     {
@@ -90,7 +90,7 @@ impl Effect {
         }
     }
 
-    /// An item is deferred.
+    /// Opens a deferral.
     pub fn defer(deferral: Deferral) -> Effect
         ensures { result ≡ spec.defer deferral }
     {
@@ -100,7 +100,7 @@ impl Effect {
         }
     }
 
-    /// The deferral of an id goes.
+    /// Removes the deferral with this id.
     pub fn clear(deferral: u64) -> Effect
         ensures { result ≡ spec.clear deferral }
     {
@@ -110,7 +110,7 @@ impl Effect {
         }
     }
 
-    /// A release is filed.
+    /// Adds a release.
     pub fn file(release: Release) -> Effect
         ensures { result ≡ spec.file release }
     {
@@ -120,7 +120,7 @@ impl Effect {
         }
     }
 
-    /// A release takes the place of the one of its id.
+    /// Replaces the release with the same id.
     pub fn put(release: Release) -> Effect
         ensures { result ≡ spec.put release }
     {
@@ -130,7 +130,7 @@ impl Effect {
         }
     }
 
-    /// A release takes the place of the one of its id, and that one's alert goes.
+    /// Replaces the release with the same id, and removes its alert.
     pub fn put_afresh(release: Release) -> Effect
         ensures { result ≡ spec.put_afresh release }
     {
@@ -142,7 +142,7 @@ impl Effect {
         }
     }
 
-    /// The alert of a release is acknowledged.
+    /// Marks the alert of a release as acknowledged.
     pub fn acknowledge(release: u64) -> Effect
         ensures { result ≡ spec.acknowledge release }
     {
@@ -152,7 +152,7 @@ impl Effect {
         }
     }
 
-    /// The release of an id goes.
+    /// Removes the release with this id.
     pub fn remove(release: u64) -> Effect
         ensures { result ≡ spec.remove release }
     {
@@ -162,7 +162,7 @@ impl Effect {
         }
     }
 
-    /// Earlier reports go but for those that stay, and earlier replies, and the floors of persons rise.
+    /// Removes earlier reports, except those that must stay, and earlier kept replies. Raises the floors of persons.
     pub fn sweep(before: Minute, attached: Listed<u64>, floors: Floors) -> Effect
         ensures { result ≡ spec.sweep before attached floors }
     {
@@ -177,11 +177,11 @@ impl Effect {
     }
 }
 
-/// What a call that isn't refused comes to.
+/// The decision on a call that isn't refused.
 #[derive(Debug, Drop)]
 pub enum Decision {
-    /// It is answered, and changes nothing.
+    /// Replies, and changes nothing.
     Show(Reply),
-    /// It is accepted: what it has done, which is its reply, and its effect.
+    /// Accepts the call: what it does, which is its reply, and its effect.
     Do(Done, Effect),
 }

@@ -1,19 +1,19 @@
 use asks::{Call, Reply};
 use desk_time::Minute;
 
-/// What an entry of the history records.
+/// The event that an entry of the history records.
 #[derive(Debug, Drop)]
 pub enum What {
-    /// The desk's moment rose.
+    /// The desk's moment moved forward.
     Tick { to: Minute },
-    /// A command was accepted. The key of the call isn't kept.
+    /// The desk accepted a command. The entry omits the key of the call.
     Asked { call: Call, reply: Reply },
 }
 
 /// An entry of the history.
 #[derive(Debug, Drop)]
 pub struct Entry {
-    /// The lane that it came in.
+    /// The number of the lane from which the event came.
     pub lane: u32,
     pub what: What,
 }

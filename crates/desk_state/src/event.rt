@@ -3,15 +3,15 @@ use crate::effect::Effect;
 use crate::entry::Entry;
 use asks::KeptReply;
 
-/// What an event changes, once what it touches is judged.
+/// An event, ready to install: its effect, and the alerts that it changes.
 #[derive(Drop)]
 pub struct Event {
-    /// What it changes before any release is judged.
+    /// What it changes before releases are judged.
     pub effect: Effect,
     /// The alerts that change, in order of the releases.
     pub changes: Vec<AlertChange>,
-    /// The entry of the history.
+    /// Its entry in the history.
     pub entered: Entry,
-    /// What is kept of an accepted command.
+    /// The reply to keep, if the event is an accepted command.
     pub kept: Option<KeptReply>,
 }

@@ -7,7 +7,7 @@ use crate::change::AlertChange;
 use alerts::Alert;
 use desk_io::ById;
 
-// Puts the alert of a release in its place, or takes it out. It takes no memory.
+// Inserts, replaces or removes the alert of a release, using reserved room. Allocates no memory.
 #[tactic(auto, using(crate::proofs::AlertPuts::put_own, crate::proofs::AlertPuts::take_none))]
 fn put_alert(alerts: &mut ById<Alert>, release: u64, alert: Option<Alert>)
     requires room { 1 ≤ alerts.old.room }
@@ -24,7 +24,7 @@ fn put_alert(alerts: &mut ById<Alert>, release: u64, alert: Option<Alert>)
     }
 }
 
-/// Makes changes of the alerts, for which there is room. It takes no memory.
+/// Applies changes of alerts in order, using reserved room. Allocates no memory.
 pub(crate) fn put_changes(alerts: &mut ById<Alert>, changes: Vec<AlertChange>)
     requires room { length changes.items ≤ alerts.old.room }
     requires own { AllByRecursion IsOwn changes.items }

@@ -7,11 +7,11 @@ use desk_io::OutOfMemory;
 use std::alloc::Global;
 use std::marker::Model;
 
-/// The entries of the history in order. Contracts see all of them, whether there is room for one more without taking
-/// memory, and whether code holds them or counts them alone.
+/// The entries of the history, in order. At run time it either stores the entries or only counts them. Contracts
+/// model all entries, whether room for one more is reserved, and whether entries are stored.
 #[derive(Drop)]
 pub struct History {
-    // Where they are held.
+    // The entries, if they are stored.
     held: Option<Vec<Entry>>,
     count: usize,
     past: Past,
@@ -33,7 +33,7 @@ impl Model for History {
 }
 
 impl History {
-    /// No entries. From now on they are counted. It takes no memory.
+    /// Creates an empty history that only counts its entries. Allocates no memory.
     pub fn new() -> History
         ensures { result ≡ entries_with [] false false }
     {
@@ -45,21 +45,21 @@ impl History {
         }
     }
 
-    /// How many entries there are.
+    /// Returns the number of entries.
     pub fn len(&self) -> usize
         ensures { result ≡ length self.now.list }
     {
         self.count
     }
 
-    /// Whether the entries are held.
+    /// Returns true if the entries are stored.
     pub fn is_listed(&self) -> bool
         ensures { result ≡ self.now.listed }
     {
         self.held.is_some()
     }
 
-    /// An entry, counted from 0, where they are held.
+    /// Returns an entry, counted from 0. The entries must be stored.
     pub fn get(&self, i: usize) -> &Entry
         requires bound { i < length self.now.list }
         requires listed { IsTrue self.now.listed }
@@ -71,7 +71,8 @@ impl History {
         }
     }
 
-    /// Holds the entries from now on, where there is none yet. It takes no memory.
+    /// If the history is empty, stores its entries from now on. Otherwise it stores or counts them as before.
+    /// Discards reserved room, and allocates no memory.
     pub fn hold_entries(&mut self, alloc: Global)
         ensures { self.new ≡ entries_with self.old.list false (self.old.listed || (length self.old.list == 0)) }
     {
@@ -81,7 +82,7 @@ impl History {
         }
     }
 
-    /// Makes room for one more entry.
+    /// Reserves room for one more entry.
     pub fn reserve(&mut self) -> Result<(), OutOfMemory>
         ensures same { self.new.list ≡ self.old.list }
         ensures listed { self.new.listed ≡ self.old.listed }
@@ -97,7 +98,7 @@ impl History {
         Ok(())
     }
 
-    /// Adds an entry, where there is room, and leaves no room. It takes no memory.
+    /// Appends an entry, using reserved room. Allocates no memory.
     pub fn push_reserved(&mut self, entered: Entry)
         requires { IsTrue self.old.room }
         ensures { self.new ≡ entries_with (self.old.list ++ entered ∷ []) false self.old.listed }

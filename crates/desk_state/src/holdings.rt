@@ -14,29 +14,29 @@ use ops_tables::Tables;
 use release_index::Releases;
 use std::alloc::Global;
 
-/// The holdings of what the desk holds.
+/// The parts of what the desk holds.
 #[derive(Drop)]
 pub struct Holdings {
     pub tables: Tables,
-    /// The greatest moment so far.
+    /// The desk's moment, which is the latest that it has reached.
     pub moment: Minute,
     pub counters: Counters,
     /// In order of admission.
     pub reports: Reports,
-    /// Those that are open, in order of their ids.
+    /// The open deferrals, in order of their ids.
     pub deferrals: Deferrals,
     /// In order of their ids.
     pub releases: Releases,
     /// In order of their releases.
     pub alerts: ById<Alert>,
-    /// What accepted commands have done, in their order, and the greatest numbers of persons of whose requests nothing
-    /// is kept any more.
+    /// The kept replies of accepted commands, in order, and the floors of persons. A floor is the highest number of a
+    /// person whose reply a sweep has removed.
     pub replies: Replies,
     pub history: History,
 }
 
 impl Holdings {
-    /// Nothing, at the first moment, under some tables. It takes no memory.
+    /// Creates the parts of a new desk with these tables, at the first moment. Allocates no memory.
     pub fn new(alloc: Global, tables: Tables) -> Holdings
         ensures state { state_of result ≡ start tables }
         ensures settings { result.releases.settings ≡ result.tables.settings }

@@ -89,7 +89,7 @@ fn sweep(reports: &mut Reports, replies: &mut Replies, sweep: Option<Sweep>)
     }
 }
 
-// Makes the effect, but leaves the alerts.
+// Applies the effect to every part except the alerts.
 fn change(holdings: &mut Holdings, effect: Effect)
     requires report { HasReportRoom holdings.old.reports effect.report }
     requires deferral { HasOneMore holdings.old.deferrals effect.on_deferrals }
@@ -149,7 +149,7 @@ fn keep(replies: &mut Replies, kept: Option<KeptReply>)
     }
 }
 
-/// Puts an event in place, for which there is room. It takes no memory.
+/// Installs an event, using reserved room. Allocates no memory.
 #[tactic(auto, using(crate::proofs::InstallLaws::small_events, crate::proofs::InstallLaws::small_accepted))]
 pub(crate) fn install(holdings: &mut Holdings, event: Event)
     requires room { HasRoom holdings.old (room_for_event event) }

@@ -1,28 +1,28 @@
 use asks::{BadCall, HeldCall, Reply};
 use desk_time::Minute;
 
-/// What a lane asks next.
+/// The next item of a lane. A lane is one source of calls, such as a script or a connection.
 #[derive(Debug, Drop)]
 pub enum Item {
-    /// A call at a moment.
+    /// A call and the moment at which it is made.
     Call { at: Minute, call: HeldCall },
-    /// A text that is no call, and its first fault.
+    /// A text that isn't a call, with its first fault.
     Bad(BadCall),
 }
 
-/// What is said of an item of a lane.
+/// The desk's answer to an item of a lane.
 #[derive(Debug, Drop)]
 pub enum Said {
     /// The reply to a call.
     Reply(Reply),
-    /// Why a text is no call.
+    /// The first fault of a text that isn't a call.
     Bad(BadCall),
 }
 
-/// What came of an item of a lane.
+/// The outcome of an item of a lane.
 #[derive(Debug, Drop)]
 pub struct Outcome {
-    /// How many entries the history had before the item was judged.
+    /// The number of entries in the history before the desk handled the item.
     pub position: u64,
     pub said: Said,
 }

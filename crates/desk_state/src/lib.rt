@@ -1,4 +1,4 @@
-//! What the desk holds, what a call comes to, and which histories are legal.
+//! The state of the desk: what it holds, how each call is decided, and which histories are legal.
 #![tactic(auto)]
 
 mod alerted;

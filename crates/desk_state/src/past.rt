@@ -5,7 +5,7 @@ ghost use Rattle.desk_state.specs.declared.entry.Entry.{Entry};
 use crate::entry::Entry;
 use std::marker::Model;
 
-/// Entries as clauses see them. They take no bytes, and code can't read them.
+/// Entries that exist only in contracts. They take no bytes, and code can't read them.
 #[derive(Drop)]
 pub struct Past {
     pub ghost list: { List Entry },
@@ -15,7 +15,7 @@ impl Model for Past {
     ghost also_owns = { λ _. ftrue };
 }
 
-// It owns nothing.
+// Safe: a value owns nothing.
 unsafe impl Send for Past {}
 
 impl Past {
@@ -26,7 +26,7 @@ impl Past {
         Past {}
     }
 
-    /// These entries, and one more.
+    /// These entries and one more.
     pub(crate) fn with(_before: &Past, _entered: &Entry) -> Past
         ensures { result.list ≡ _before.now.list ++ _entered.now ∷ [] }
     {

@@ -30,7 +30,8 @@ fn reserve_deferral(deferrals: &mut Deferrals, on: &OnDeferrals) -> Result<(), O
     }
 }
 
-/// Takes all memory that an event needs which changes some alerts. What is held stays as it is.
+/// Reserves all memory that an event with this effect and up to `more` changed alerts needs. The state doesn't
+/// change.
 pub(crate) fn reserve(
     alloc: Global,
     holdings: &mut Holdings,

@@ -5,16 +5,16 @@ use Rattle.std.specs.List.{list_all}
 abbrev pub is_digit : ℕ → Bool
 is_digit b = nat_le 48 b && nat_le b 57
 
--- the number of some digits, after that of the digits before them
+-- the value of the digits, read after digits whose value is `before`
 abbrev pub digits_after : ℕ → List ℕ → ℕ
 digits_after before [] = before
 digits_after before (d ∷ ds) = digits_after (10 * before + (d - 48)) ds
 
--- digits of which the first is no zero, or one zero alone
+-- at least one digit, without leading zeros
 abbrev pub is_decimal : List ℕ → Bool
 is_decimal [] = false
 is_decimal (d ∷ ds) = list_all is_digit (d ∷ ds) && (not (d == 48) || (length ds == 0))
 
--- the number of a text, at most the limit
+-- the number that a text writes in decimal, if it is at most the limit
 abbrev pub number_in : ℕ → List ℕ → Option ℕ
 number_in limit text = if is_decimal text && nat_le (digits_after 0 text) limit then Some (digits_after 0 text) else None

@@ -1,7 +1,7 @@
 ghost use Rattle.std.specs.Prelude.{◌≡◌, ◌≤◌, IfSome};
 ghost use Rattle.desk_time.specs.Digits as spec;
 
-/// The number of a digit's character.
+/// Returns the value of an ASCII digit.
 pub fn digit(a: u8) -> Option<u8>
     ensures value { result ≡ spec.digit a }
     ensures bound { IfSome result (λ d. d ≤ 9) }
@@ -13,7 +13,7 @@ pub fn digit(a: u8) -> Option<u8>
     }
 }
 
-/// The number of two digits.
+/// Returns the value of a tens digit and a ones digit.
 pub fn pair(a: u8, b: u8) -> Option<u8>
     ensures value { result ≡ spec.pair a b }
     ensures bound { IfSome result (λ n. n ≤ 99) }

@@ -1,4 +1,4 @@
-//! Moments, in minutes since 1970-01-01 00:00 UTC, and the days of the calendar.
+//! Moments in minutes since 1970-01-01 00:00 UTC, calendar days, and numbers in decimal.
 #![tactic(auto)]
 
 mod calendar;

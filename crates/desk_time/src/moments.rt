@@ -9,13 +9,13 @@ use crate::digits::pair;
 /// Minutes since 1970-01-01 00:00 UTC.
 pub type Minute = u64;
 
-/// The first moment that is read: 2000-01-01 00:00.
+/// The first moment that can be read: 2000-01-01 00:00.
 pub const FIRST: u64 = 15_778_080;
 
-/// The last moment that is read: 2099-12-31 23:59.
+/// The last moment that can be read: 2099-12-31 23:59.
 pub const LAST: u64 = 68_374_079;
 
-/// The last moment that is shown: some way past `LAST`, since a due time may lie there.
+/// The last moment that can be printed. It is later than `LAST`, because a due time may lie past `LAST`.
 pub const SHOWN_LAST: u64 = 69_000_000;
 
 /// The first moment at which a leg may be planned: a day after `FIRST`.
@@ -24,12 +24,12 @@ pub const PLAN_FIRST: u64 = 15_779_520;
 /// The last moment at which a leg may be planned: a day before `LAST`.
 pub const PLAN_LAST: u64 = 68_372_639;
 
-/// Why a day and a time name no moment.
+/// Why a day of the month and a time don't name a moment.
 #[derive(Clone, Copy, Debug, PartialEq, Eq)]
 pub enum BadDay {
-    /// The day isn't 1 to 31, or the time isn't 00:00 to 24:00.
+    /// The day isn't from 1 to 31, or the time isn't from 00:00 to 24:00.
     BadTime,
-    /// None of the five days is that day of the month, or the moment isn't from `FIRST` to `LAST`.
+    /// None of the five days has that day of the month, or the moment isn't from `FIRST` to `LAST`.
     OutOfReach,
 }
 
@@ -47,15 +47,15 @@ fn moment_of(first_day: u64, day: u8, hour: u8, minute: u8) -> Result<Minute, Ba
     }
 }
 
-/// The moment at that time of the only day with that day of the month among the five days from
-/// `first_day`, which counts from 1970-01-01. Hour 24 is the start of the next day. `BadTime` is
-/// tested first.
+/// Finds the moment of a day of the month and a time, as reports give them. The day is searched for among the five
+/// days from `first_day`, which counts from 1970-01-01. Hour 24 is the start of the next day. `BadTime` has
+/// precedence over `OutOfReach`.
 pub fn resolve(first_day: u64, day: u8, hour: u8, minute: u8) -> Result<Minute, BadDay>
     requires low { 10_000 ≤ first_day }
     requires high { first_day ≤ 48_000 }
     ensures value { result ≡ resolved first_day day hour minute }
     ensures range { IfOk result (λ m. (FIRST ≤ m) × (m ≤ LAST)) }
-    // No two of the five days share a day of the month.
+    // No two of the five days have the same day of the month.
     ensures exact { Resolves first_day day hour minute result }
 {
     moment_of(first_day, day, hour, minute)
@@ -78,7 +78,7 @@ fn in_reach(at: u64) -> Result<Minute, BadDay>
     }
 }
 
-// The first of five days with that day of the month.
+// The first of the five days that has that day of the month.
 fn day_named(first_day: u64, day: u8) -> Option<u64>
     requires { first_day ≤ 48_000 }
     ensures named { result ≡ spec.day_named 5 first_day day }
@@ -92,7 +92,7 @@ fn day_named(first_day: u64, day: u8) -> Option<u64>
     None
 }
 
-/// The text of a moment, as `2025-03-12T17:00Z` (ISO 8601).
+/// Prints a moment in ISO 8601, such as `2025-03-12T17:00Z`.
 pub fn show(at: Minute) -> [u8; 17]
     requires low { FIRST ≤ at }
     requires high { at ≤ SHOWN_LAST }
@@ -209,8 +209,8 @@ fn shown_in(text: &[u8]) -> Option<Minute>
     up_to(SHOWN_LAST, written(text)?)
 }
 
-/// The moment of a text such as `2025-03-12T17:00Z`: a real date from 2000 to 2099, and a time from
-/// 00:00 to 23:59. It reads what `show` prints of a moment from `FIRST` to `LAST`, and nothing else.
+/// Reads a moment such as `2025-03-12T17:00Z`: a valid date from 2000 to 2099 and a time from 00:00 to 23:59. Accepts
+/// exactly the texts that `show` prints for moments from `FIRST` to `LAST`.
 pub fn read_minute(text: &[u8]) -> Option<Minute>
     ensures value { result ≡ minute_of text.now }
     ensures range { IfSome result (λ m. (FIRST ≤ m) × (m ≤ LAST)) }
@@ -219,7 +219,7 @@ pub fn read_minute(text: &[u8]) -> Option<Minute>
     minute_in(text)
 }
 
-/// The moment that `show` prints as that text, from `FIRST` to `SHOWN_LAST`; no other text has one.
+/// Reads a moment as `read_minute` does, but up to `SHOWN_LAST`. Accepts exactly the texts that `show` prints.
 pub fn read_shown(text: &[u8]) -> Option<Minute>
     ensures value { result ≡ shown_of text.now }
     ensures range { IfSome result (λ m. (FIRST ≤ m) × (m ≤ SHOWN_LAST)) }

@@ -2,14 +2,14 @@ ghost use Rattle.std.specs.Prelude.{◌≡◌, ◌↔◌, ℕ, decimal, ◌≤�
 ghost use Rattle.std.specs.List.{list_all};
 ghost use Rattle.desk_time.specs.Numbers as spec;
 
-/// Whether it is the character of a digit.
+/// Returns true if the byte is an ASCII digit.
 pub fn is_digit(b: u8) -> bool
     ensures { result ≡ spec.is_digit b }
 {
     b'0' <= b && b <= b'9'
 }
 
-/// Whether there are digits alone.
+/// Returns true if every byte is an ASCII digit. This holds for an empty text.
 pub fn all_digits(text: &[u8]) -> bool
     ensures { result ≡ list_all spec.is_digit text.now }
 {
@@ -25,7 +25,7 @@ fn is_decimal(text: &[u8]) -> bool
     }
 }
 
-// The number of some digits, where it isn't above the limit.
+// The value of these digits, if it is at most `limit`.
 fn number_up_to(limit: u64, digits: &[u8]) -> Option<u64>
     ensures { result ≡ if nat_le (spec.digits_after 0 digits.now) limit then Some
         (spec.digits_after 0 digits.now) else None }
@@ -51,7 +51,7 @@ fn number_in(limit: u64, text: &[u8]) -> Option<u64>
     }
 }
 
-/// The number that this text writes in decimal, at most the limit.
+/// Reads a number of at most `limit` in decimal: at least one digit, and no leading zeros.
 pub fn read_number(limit: u64, text: &[u8]) -> Option<u64>
     ensures value { result ≡ spec.number_in limit text.now }
     ensures bound { IfSome result (λ n. n ≤ limit) }

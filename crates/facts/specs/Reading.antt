@@ -1,4 +1,4 @@
--- What a report says, of either kind (FMH-1; WMO FM 15 and FM 51).
+-- Reading a report of either kind (FMH-1; WMO FM 15 and FM 51).
 use Rattle.std.specs.Prelude.{◌≡◌, ℕ, nat_lt, Bool, true, false, if◌then◌else◌, List, length, All, Result, Ok, Err, codes}
 use Rattle.std.specs.Str.{bytes_eq}
 use Rattle.codes.specs.Groups.{groups_of, first_of, canonical}
@@ -23,7 +23,7 @@ abbrev pub forecasts : Result Taf BadReport → Result Read BadReport
 forecasts (Ok taf) = Ok (read.Taf taf)
 forecasts (Err bad) = Err bad
 
--- A report whose first group is TAF forecasts, and every other observes.
+-- A report is a TAF if its first group is TAF, and otherwise an observation.
 abbrev pub is_forecast : List (List ℕ) → Bool
 is_forecast gs = bytes_eq (first_of gs) (codes "TAF")
 
@@ -31,15 +31,15 @@ abbrev pub read_as : Bool → List (List ℕ) → ℕ → Result Read BadReport
 read_as true gs receipt = forecasts (forecast.reading gs receipt)
 read_as false gs receipt = observes (observation.reading gs receipt)
 
--- what the groups of a report say that was received at that moment, or the first that doesn't read
+-- the reading of the groups of a report received at `receipt`, or the first fault
 unfoldable pub reading : List (List ℕ) → ℕ → Result Read BadReport
 reading gs receipt = read_as (is_forecast gs) gs receipt
 
--- what a text says that was received at that moment, or why it says nothing
+-- the reading of a text received at `receipt`, or its fault
 unfoldable pub read_of : List ℕ → ℕ → Result Read BadReport
 read_of text receipt = if nat_lt 2048 (length text) then Err too_long else reading (groups_of text) receipt
 
--- each moment of a forecast is one that is read
+-- every moment of the forecast can be read
 pub record TafHasMoments (taf : Taf) : Type 0 where
   pub issued : IsMoment taf.issued
   pub from : IsMoment taf.from
@@ -50,22 +50,22 @@ abbrev pub ReadHasMoments : Read → Type 0
 ReadHasMoments (read.Metar metar) = IsMoment metar.observed
 ReadHasMoments (read.Taf taf) = TafHasMoments taf
 
--- each moment of a report is one that is read
+-- every moment of the report can be read
 pub record HasMoments (r : Report) : Type 0 where
   pub received : IsMoment r.received
   pub read : ReadHasMoments r.read
 
--- The text is canonical: it is that of its own groups. The reading is that of the text at its receipt.
+-- The text is canonical: it is the canonical text of its own groups. The reading is that of the text at its receipt.
 pub record IsRead (r : Report) : Type 0 where
   pub canonical : canonical (groups_of r.text) ≡ r.text
   pub reading : read_of r.text r.received ≡ Ok r.read
   pub moments : HasMoments r
 
--- what was read of a text, where it was
+-- the reading in a received report
 abbrev pub read_in : {E : Type 0} → Result Received E → Result Read E
 read_in (Ok r) = Ok r.read
 read_in (Err e) = Err e
 
--- the report that it is under a number
+-- the received report with its number
 abbrev pub report_of : ℕ → ℕ → Received → Report
 report_of id receipt r = record { id = id; received = receipt; text = r.text; read = r.read }

@@ -1,4 +1,4 @@
--- The station and the moment of a report, and which report is the same as another.
+-- The station and moment of a report, and the first report with a given text and moment.
 use Rattle.std.specs.Prelude.{ℕ, Bool, ◌&&◌, ◌==◌, List, Option, None, Some}
 use Rattle.std.specs.Str.{bytes_eq}
 use Rattle.std.specs.List.{find}
@@ -10,7 +10,7 @@ use Rattle.facts.specs.declared.report.Read.{Read}
 use Rattle.facts.specs.declared.report.Read.TheVariants as read
 use Rattle.facts.specs.declared.report.Report.{Report}
 
--- when it was observed or issued
+-- the moment of observation or issue
 abbrev pub minute_of_read : Read → ℕ
 minute_of_read (read.Metar metar) = metar.observed
 minute_of_read (read.Taf taf) = taf.issued
@@ -33,7 +33,7 @@ abbrev pub taf_of_read : Read → Option Taf
 taf_of_read (read.Metar metar) = None
 taf_of_read (read.Taf taf) = Some taf
 
--- a report of that canonical text and of that moment
+-- the report has that canonical text and that moment
 abbrev pub is_same : List ℕ → ℕ → Report → Bool
 is_same text minute r = bytes_eq r.text text && (minute_of_report r == minute)
 

@@ -7,7 +7,7 @@ use crate::latest::Kind;
 use crate::report::{Read, Report};
 use desk_io::Sorted;
 
-/// Where the latest reports of a station stand among all reports.
+/// Where a station's latest reports are in the list of all reports.
 #[derive(Clone, Copy, Debug, Drop)]
 pub(crate) struct Places {
     /// The latest METAR or SPECI.
@@ -38,7 +38,7 @@ fn later_place(reports: &[Report], held: Option<usize>, report: &Report, place: 
     }
 }
 
-/// Of the two places that of the kind.
+/// The place of the latest report of that kind.
 pub(crate) fn place_of(kind: Kind, places: Places) -> Option<usize>
     ensures { result ≡ spec.place_of kind places }
 {
@@ -48,7 +48,7 @@ pub(crate) fn place_of(kind: Kind, places: Places) -> Option<usize>
     }
 }
 
-/// Those places, once that report stands at its place.
+/// The places after `report` is added at `place`.
 pub(crate) fn places_with(
     reports: &[Report],
     places: Places,
@@ -69,7 +69,7 @@ pub(crate) fn places_with(
     }
 }
 
-/// The places of the latest reports of the station with those characters.
+/// The places of a station's latest reports, without any if it has no report.
 pub(crate) fn places_at(stations: &Sorted<[u8; 4], Places>, station: [u8; 4]) -> Places
     ensures { result ≡ spec.places_or (spec.of_station stations.now.entries station) }
 {
@@ -82,14 +82,14 @@ pub(crate) fn places_at(stations: &Sorted<[u8; 4], Places>, station: [u8; 4]) ->
     }
 }
 
-/// The report at a place, where there is one.
+/// The report at a place, if there is one.
 pub(crate) fn at_place(reports: &[Report], place: Option<usize>) -> Option<&Report>
     ensures { option_copied result ≡ option_and_then (slice_get reports.now) place }
 {
     reports.get(place?)
 }
 
-/// A number of a text that texts seldom share.
+/// Returns a 64-bit hash of a text. Different texts rarely share it.
 #[tactic(auto, unfolding(crate::specs::Index::fingerprint))]
 pub fn fingerprint(text: &[u8]) -> u64
     ensures { result ≡ spec.fingerprint text.now }

@@ -31,7 +31,7 @@ fn listed_keys(alloc: Global, held: &[Report]) -> Result<Vec<((Minute, u64, u64)
     Ok(keys)
 }
 
-// Entries of those keys, all with one value.
+// Entries of these keys, all with the same value.
 fn valued<K: Ord + Copy + Drop, V: Copy + Drop>(
     alloc: Global,
     keys: &[(K, ())],
@@ -47,7 +47,7 @@ fn valued<K: Ord + Copy + Drop, V: Copy + Drop>(
     Ok(Sorted::from_vec(held))
 }
 
-/// Where the latest of each station stand among these reports. The stations are sorted once.
+/// Builds the index of the latest reports by station. Sorts the stations once.
 pub(crate) fn latest_index(
     alloc: Global,
     held: &[Report],
@@ -64,7 +64,7 @@ pub(crate) fn latest_index(
     Ok(stations)
 }
 
-/// The keys of these reports, which are sorted once.
+/// Builds the keys of these reports. Sorts them once.
 pub(crate) fn keys_of_reports(
     alloc: Global,
     held: &[Report],

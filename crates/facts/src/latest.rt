@@ -1,4 +1,4 @@
-/// Whether a report observes or forecasts.
+/// The kind of a report.
 #[derive(Clone, Copy, Debug, PartialEq, Eq)]
 pub enum Kind {
     /// A METAR or SPECI.

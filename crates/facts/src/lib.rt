@@ -1,4 +1,4 @@
-//! The reports that the desk admitted, the latest of each station, and the lines that show them.
+//! The admitted weather reports, the latest report of each station, and the lines that print them.
 #![tactic(auto)]
 
 mod index;

@@ -161,10 +161,10 @@ fn push_parts_of_line(out: &mut Vec<u8>, report: &Report) -> Result<(), OutOfMem
     push_all(out, &[b"\n"])
 }
 
-/// Writes the line of a report at the end: its station, kind, number and moment. An observation then
-/// shows its ceiling in feet, its visibility in millimetres and how many groups weren't read, and a
-/// forecast the validity and how many parts it has. A line feed ends the line. Where memory runs out
-/// the text stays as it was.
+/// Appends the line of a report: station, kind, number and moment. An observation adds ceiling in feet, visibility in
+/// millimetres and the number of groups of class `Unread`, or else `NIL`. A forecast adds its validity, and then the
+/// number of its parts, `NIL` or `CNL`. An unknown value is `-`. A line feed ends the line. If memory runs out, the
+/// text is unchanged.
 pub fn push_line(out: &mut Vec<u8>, report: &Report) -> Result<(), OutOfMemory>
     requires { HasMoments report.now }
     ensures ok { OnOk result (out.new.items ≡ out.old.items ++ line_of report.now) }
@@ -210,8 +210,8 @@ fn push_station(out: &mut Vec<u8>, reports: &Reports, station: [u8; 4]) -> Resul
     or_undone(out, before, done)
 }
 
-/// Writes the lines of a station at the end: that of its latest METAR or SPECI, and then that of its
-/// latest TAF, where there are any. Where memory runs out the text stays as it was.
+/// Appends the lines of a station: its latest METAR or SPECI, and then its latest TAF, if there are any. If memory
+/// runs out, the text is unchanged.
 pub fn push_weather_at(
     out: &mut Vec<u8>,
     reports: &Reports,
@@ -239,8 +239,7 @@ fn push_lines(
     Ok(())
 }
 
-/// Writes the lines of all stations with a report at the end, in byte order. Where memory runs out the
-/// text stays as it was.
+/// Appends the lines of all stations that have a report, in byte order. If memory runs out, the text is unchanged.
 #[tactic(auto, unfolding(crate::specs::Lines::weather), using(crate::proofs::StationLaws::are_stations))]
 pub fn push_weather(out: &mut Vec<u8>, reports: &Reports) -> Result<(), OutOfMemory>
     ensures ok { OnOk result (out.new.items ≡ out.old.items ++ weather reports.now.reports) }

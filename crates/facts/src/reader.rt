@@ -24,9 +24,8 @@ fn is_forecast(groups: &[Group<'_>]) -> bool
     first_of(groups) == b"TAF".as_slice()
 }
 
-/// What the groups of a report say that was received at that moment: a TAF where the first is `TAF`,
-/// and else a METAR or SPECI. `Bad` comes exactly where there is no reading, with the first group from
-/// the left that doesn't read.
+/// Reads the groups of a report received at `receipt`: a TAF if the first group is `TAF`, otherwise a METAR or SPECI.
+/// `Bad` names the first group that can't be read.
 #[tactic(auto, unfolding(crate::specs::Reading::reading))]
 pub fn read_groups(
     alloc: Global,
@@ -46,9 +45,8 @@ pub fn read_groups(
     }
 }
 
-/// What the text of a report says that was received at that moment. `Bad` comes exactly where there is
-/// no reading, with the first group from the left that doesn't read; a text of more than 2,048 bytes is
-/// `TooLong` at group 0.
+/// Reads the text of a report received at `receipt`, as `read_groups` reads its groups. `Bad` names the first group
+/// that can't be read. A text of more than 2,048 bytes is `TooLong` at group 0.
 #[tactic(auto, unfolding(crate::specs::Reading::read_of))]
 pub fn read_report(alloc: Global, text: &[u8], receipt: Minute) -> Result<Read, ReportFault>
     requires low { FIRST ≤ receipt }
@@ -63,8 +61,8 @@ pub fn read_report(alloc: Global, text: &[u8], receipt: Minute) -> Result<Read, 
     read_groups(alloc, groups.as_slice(), receipt)
 }
 
-/// The canonical text of a report that was received at that moment, and what it says. `Bad` comes as
-/// in [`read_report`]. The canonical text says the same.
+/// Reads the text of a report received at `receipt`, and returns its canonical text and its reading. The canonical
+/// text has the same reading. `Bad` is as in [`read_report`].
 #[tactic(auto, unfolding(crate::specs::Reading::read_of))]
 pub fn receive(alloc: Global, text: &[u8], receipt: Minute) -> Result<Received, ReportFault>
     requires low { FIRST ≤ receipt }

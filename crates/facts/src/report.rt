@@ -7,43 +7,42 @@ use desk_time::Minute;
 use std::alloc::Global;
 use weather_reports::{Metar, Taf};
 
-/// The most reports that may be held.
+/// The greatest number of reports that may be held.
 pub const HELD_LIMIT: usize = 200_000;
 
-/// What a report says.
+/// The reading of a report.
 #[derive(Debug, Drop)]
 pub enum Read {
-    /// It observes the weather.
+    /// A METAR or SPECI.
     Metar(Metar),
-    /// It forecasts the weather.
+    /// A TAF.
     Taf(Taf),
 }
 
-/// A report that was received, before it has a number: its canonical text, and what it says by its
-/// moment of receipt.
+/// A received report that has no number yet: its canonical text, and its reading at its moment of receipt.
 #[derive(Debug, Drop)]
 pub struct Received {
-    /// Its groups, joined by one blank, with `=` behind them where the last ends in `=`.
+    /// The canonical text: the groups, joined by single spaces. If the last group ends in `=`, another `=` follows.
     pub text: Text,
-    /// What it says.
+    /// The reading of the text.
     pub read: Read,
 }
 
-/// A report that was received.
+/// A received report with its number.
 #[derive(Debug, Drop)]
 pub struct Report {
-    /// Its number.
+    /// The report's number.
     pub id: u64,
-    /// When it was received.
+    /// The moment of receipt.
     pub received: Minute,
-    /// Its canonical text: its groups, joined by one blank.
+    /// The canonical text, as in `Received`.
     pub text: Text,
-    /// What it says.
+    /// The reading of the text.
     pub read: Read,
 }
 
 impl Read {
-    /// The moment at which it was observed or issued.
+    /// Returns the moment of observation or issue.
     pub fn minute(&self) -> Minute
         ensures { result ≡ spec.minute_of_read self.now }
     {
@@ -53,7 +52,7 @@ impl Read {
         }
     }
 
-    /// The airport that it is of.
+    /// Returns the airport of the report.
     pub fn station(&self) -> Station
         ensures { result ≡ spec.station_of_read self.now }
     {
@@ -63,7 +62,7 @@ impl Read {
         }
     }
 
-    /// What it says where it observes.
+    /// Returns the METAR or SPECI, if the report is one.
     pub fn metar(&self) -> Option<&Metar>
         ensures { option_copied result ≡ spec.metar_of_read self.now }
     {
@@ -73,7 +72,7 @@ impl Read {
         }
     }
 
-    /// What it says where it forecasts.
+    /// Returns the TAF, if the report is one.
     pub fn taf(&self) -> Option<&Taf>
         ensures { option_copied result ≡ spec.taf_of_read self.now }
     {
@@ -85,14 +84,14 @@ impl Read {
 }
 
 impl Report {
-    /// The moment at which it was observed or issued.
+    /// Returns the moment of observation or issue.
     pub fn minute(&self) -> Minute
         ensures { result ≡ spec.minute_of_report self.now }
     {
         self.read.minute()
     }
 
-    /// The airport that it is of.
+    /// Returns the airport of the report.
     pub fn station(&self) -> Station
         ensures { result ≡ spec.station_of_report self.now }
     {

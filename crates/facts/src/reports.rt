@@ -31,15 +31,15 @@ use std::marker::Model;
 use std::snapshot::Snapshot;
 use weather_reports::{Metar, Taf};
 
-/// The reports that were admitted, in order of admission. A contract sees the list of them, and the
-/// station, the text and the moment of the one report whose admission needs no memory. Their numbers
-/// rise, each text is canonical, and each reading is that of its text at its receipt.
+/// The admitted reports, in order of admission. Their numbers rise, each text is canonical, and each reading is that
+/// of its text at its receipt. Contracts model the list of reports, and the station, text and moment of the one
+/// report for which room is reserved.
 #[derive(Drop)]
 pub struct Reports {
     held: Vec<Report>,
-    // The places of the latest, by station.
+    // The places of the latest reports, by station.
     stations: Sorted<[u8; 4], Places>,
-    // A key for each report.
+    // A key for each report, by which `same` finds reports.
     keys: Keys<(Minute, u64, u64)>,
     room: Option<Snapshot<Report>>,
 }
@@ -75,7 +75,7 @@ fn latest<'a>(
 }
 
 impl Reports {
-    /// No reports, and room for none. It takes no memory.
+    /// Creates an empty list without reserved room. Allocates nothing.
     pub fn new(alloc: Global) -> Reports
         ensures { result ≡ no_reports }
     {
@@ -87,7 +87,8 @@ impl Reports {
         }
     }
 
-    /// The reports of a vector, in the order of their numbers, and room for none. Each index is sorted once.
+    /// Builds the list from the reports of a vector, whose numbers must rise. Sorts each index once, and reserves no
+    /// room.
     pub fn from_vec(alloc: Global, held: Vec<Report>) -> Result<Reports, OutOfMemory>
         requires { AreHeld held.items }
         ensures { IfOk result (λ reports. reports ≡ admissions_of held.items) }
@@ -102,7 +103,7 @@ impl Reports {
         })
     }
 
-    /// The reports in order of admission. It takes no memory.
+    /// Returns the reports in order of admission. Allocates nothing.
     pub fn as_slice(&self) -> &[Report]
         ensures value { result.now ≡ self.now.reports }
         ensures held { AreHeld result.now }
@@ -110,21 +111,21 @@ impl Reports {
         &self.held
     }
 
-    /// How many there are.
+    /// Returns the number of reports.
     pub fn len(&self) -> usize
         ensures { result ≡ length self.now.reports }
     {
         self.held.len()
     }
 
-    /// Whether there is none.
+    /// Returns true if there are no reports.
     pub fn is_empty(&self) -> bool
         ensures { result ≡ (length self.now.reports == 0) }
     {
         self.held.is_empty()
     }
 
-    /// Makes room for that report. The list stays as it was.
+    /// Reserves room for this report. If memory runs out, nothing changes.
     pub fn reserve(&mut self, report: &Report) -> Result<(), OutOfMemory>
         ensures ok { OnOk result (self.new ≡ reserved self.old report.now) }
         ensures err { OnErr result (self.new ≡ self.old) }
@@ -136,7 +137,8 @@ impl Reports {
         Ok(())
     }
 
-    /// Admits that report, for which there is room, and leaves no room. It takes no memory.
+    /// Admits the report for which room is reserved, and uses up that room. Its number must be above all others.
+    /// Allocates nothing.
     pub fn admit(&mut self, report: Report)
         requires room { self.old.room ≡ Some (room_for report) }
         requires above { All (λ held. held.id < report.id) self.old.reports }
@@ -153,7 +155,7 @@ impl Reports {
         self.room = None;
     }
 
-    /// The numbers of the reports that a sweep takes away, in their order.
+    /// Returns the numbers of the reports that `sweep` would remove, in order.
     pub fn leaving(
         &self,
         alloc: Global,
@@ -165,10 +167,10 @@ impl Reports {
         leaving_ids(alloc, &self.held, &self.stations, before, keep)
     }
 
-    /// Takes away the reports that were observed or issued before that moment, but for the latest of
-    /// each kind and station and those with a number among `keep`. It answers how many went, leaves no
-    /// room, and takes no memory. A number is found by halves where `keep` is sorted, and is looked for
-    /// from its front where it isn't.
+    /// Removes the reports that were observed or issued before `before`. The latest report of each kind and station
+    /// stays, and so does a report whose number is in `keep`. Returns how many reports were removed. Gives up
+    /// reserved room, and allocates nothing. Searches `keep` by binary search if it is sorted, and from its front
+    /// otherwise.
     pub fn sweep(&mut self, before: Minute, keep: &[u64]) -> u64
         ensures reports { self.new ≡ with_swept before keep.now self.old }
         ensures count { result + length self.new.reports ≡ length self.old.reports }
@@ -183,7 +185,7 @@ impl Reports {
         (count - self.held.len()) as u64
     }
 
-    /// The latest METAR or SPECI of the station with those characters.
+    /// The latest METAR or SPECI of the station with these characters.
     #[tactic(auto, using(crate::proofs::LatestLaws::latest_is, crate::proofs::LatestLaws::latest_moments))]
     pub(crate) fn observation(&self, station: [u8; 4]) -> Option<&Report>
         ensures value { option_copied result ≡ latest_metar self.now.reports station }
@@ -193,7 +195,7 @@ impl Reports {
         latest(&self.held, &self.stations, Kind::Observation, station)
     }
 
-    /// The latest TAF of the station with those characters.
+    /// The latest TAF of the station with these characters.
     #[tactic(auto, using(crate::proofs::LatestLaws::latest_is, crate::proofs::LatestLaws::latest_moments))]
     pub(crate) fn forecast(&self, station: [u8; 4]) -> Option<&Report>
         ensures value { option_copied result ≡ latest_taf self.now.reports station }
@@ -203,15 +205,15 @@ impl Reports {
         latest(&self.held, &self.stations, Kind::Forecast, station)
     }
 
-    /// The stations that have a report, in byte order. It takes no memory.
+    /// The stations that have a report, in byte order. Allocates nothing.
     pub(crate) fn stations(&self) -> &[([u8; 4], Places)]
         ensures { keys_of result.now ≡ stations_of self.now.reports }
     {
         self.stations.as_slice()
     }
 
-    /// The latest METAR or SPECI of that station: the one of the greatest moment of observation, and of
-    /// equal moments the last admitted. It takes no memory.
+    /// Returns the latest METAR or SPECI of a station: the one with the latest moment of observation. If several have
+    /// that moment, it is the one admitted last. Allocates nothing.
     pub fn latest_metar(&self, station: Station) -> Option<&Report>
         ensures value { option_copied result ≡ latest_metar self.now.reports station }
         ensures latest { IsLatestMetar station self.now.reports (option_copied result) }
@@ -220,8 +222,8 @@ impl Reports {
         self.observation(station.bytes())
     }
 
-    /// The latest TAF of that station: the one of the greatest moment of issue, and of equal moments the
-    /// last admitted. It takes no memory.
+    /// Returns the latest TAF of a station: the one with the latest moment of issue. If several have that moment, it
+    /// is the one admitted last. Allocates nothing.
     pub fn latest_taf(&self, station: Station) -> Option<&Report>
         ensures value { option_copied result ≡ latest_taf self.now.reports station }
         ensures latest { IsLatestTaf station self.now.reports (option_copied result) }
@@ -230,7 +232,7 @@ impl Reports {
         self.forecast(station.bytes())
     }
 
-    /// What the latest METAR or SPECI of that station says.
+    /// Returns the reading of the station's latest METAR or SPECI.
     pub fn metar_latest(&self, station: Station) -> Option<&Metar>
         ensures value { option_copied result ≡ metar_latest self.now.reports station }
         ensures moments { IfSome (option_copied result) (λ metar. IsMoment metar.observed) }
@@ -238,7 +240,7 @@ impl Reports {
         self.latest_metar(station)?.read.metar()
     }
 
-    /// What the latest TAF of that station says.
+    /// Returns the reading of the station's latest TAF.
     pub fn taf_latest(&self, station: Station) -> Option<&Taf>
         ensures value { option_copied result ≡ taf_latest self.now.reports station }
         ensures moments { IfSome (option_copied result) TafHasMoments }
@@ -246,8 +248,8 @@ impl Reports {
         self.latest_taf(station)?.read.taf()
     }
 
-    /// The number of the first report of that canonical text that was observed or issued at that moment.
-    /// It is found by halves, and takes no memory.
+    /// Returns the number of the first report with this canonical text that was observed or issued at that moment.
+    /// Uses binary search, and allocates nothing.
     pub fn same(&self, text: &[u8], minute: Minute) -> Option<u64>
         ensures { result ≡ same_id self.now.reports text.now minute }
     {

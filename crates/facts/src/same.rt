@@ -12,7 +12,7 @@ use crate::report::Report;
 use desk_io::Keys;
 use desk_time::Minute;
 
-/// The moment of a report, the fingerprint of its text, and its number.
+/// The key of a report: its moment, the fingerprint of its text, and its number.
 pub(crate) fn key_of(report: &Report) -> (Minute, u64, u64)
     ensures { result ≡ spec.key_of report.now }
 {
@@ -31,7 +31,7 @@ fn is_under(minute: Minute, mark: u64, key: &(Minute, u64, u64)) -> bool
     key.0 == minute && key.1 == mark
 }
 
-// The place of the report of that number, found by halves where the numbers rise.
+// Finds the place of the report with this number by binary search, if the numbers rise.
 fn place_of_id(reports: &[Report], id: u64) -> Option<usize>
     ensures { AreRising id_of reports.now
         → option_and_then (slice_get reports.now) result ≡ find (has_number id) reports.now }
@@ -69,8 +69,8 @@ fn id_if(report: Option<&Report>, text: &[u8], minute: Minute) -> Option<u64>
     }
 }
 
-// Of the reports that the keys lead to the number of the first of that text and moment, as long as the keys are those
-// of that moment and fingerprint.
+// The number of the first report with this text and moment, of those that the keys lead to. The search ends at the
+// first key with another moment or fingerprint.
 fn first_same(
     reports: &[Report],
     keys: &[((Minute, u64, u64), ())],
@@ -94,8 +94,8 @@ fn first_same(
     None
 }
 
-/// The number of the first report of that text and moment. It is looked for among the reports of the moment whose
-/// texts have its fingerprint, and in no others.
+/// Finds the number of the first report with this text and moment. Examines only reports of that moment whose texts
+/// have the same fingerprint.
 pub(crate) fn same_in(
     reports: &[Report],
     keys: &Keys<(Minute, u64, u64)>,
@@ -111,7 +111,7 @@ pub(crate) fn same_in(
     first_same(reports, run, text, minute, mark)
 }
 
-/// Takes away the keys that lead to no report. It takes no memory.
+/// Removes the keys that lead to no report. Allocates nothing.
 pub(crate) fn keep_leading(keys: &mut Keys<(Minute, u64, u64)>, reports: &[Report])
     requires { AreRising id_of reports.now }
     ensures { keys.new.keys ≡ filter (leads_to reports.now) keys.old.keys }

@@ -79,7 +79,7 @@ fn stays_at(
         || is_kept(keep, sorted, report.id)
 }
 
-/// Takes away the reports that don't stay, where the index is that of the reports.
+/// Removes the reports that don't stay. `stations` must be the index of these reports.
 #[tactic(auto, unfolding(crate::specs::Swept::swept))]
 pub(crate) fn sweep_held(
     held: &mut Vec<Report>,
@@ -111,7 +111,7 @@ fn push_unless(ids: &mut Listed<u64>, stays: bool, id: u64) -> Result<(), OutOfM
     ids.push(id)
 }
 
-/// The ids of the reports that don't stay, in their order, where the index is that of the reports.
+/// The ids of the reports that don't stay, in order. `stations` must be the index of these reports.
 #[tactic(auto, unfolding(crate::specs::Swept::leaving))]
 pub(crate) fn leaving_ids(
     alloc: Global,
@@ -133,8 +133,7 @@ pub(crate) fn leaving_ids(
     Ok(ids)
 }
 
-/// Makes the places those of the latest of these reports, which are of the same stations. It takes no
-/// memory.
+/// Updates the index to the latest of these reports. Its stations must be those of the reports. Allocates nothing.
 pub(crate) fn index_latest(stations: &mut Sorted<[u8; 4], Places>, held: &[Report])
     requires { keys_of stations.old.entries ≡ stations_of held.now }
     ensures { IsLatestIndex stations.new.entries held.now }

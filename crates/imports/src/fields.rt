@@ -4,7 +4,7 @@ ghost use Rattle.imports.specs.Records as spec;
 
 use std::str;
 
-/// Whether a field is a text.
+/// Returns true if the field is UTF-8.
 pub(crate) fn is_text(field: &[u8]) -> bool
     ensures value { result ≡ spec.is_text field.now }
     ensures form { IsTrue result → IsUtf8 field.now }
@@ -15,7 +15,7 @@ pub(crate) fn is_text(field: &[u8]) -> bool
     }
 }
 
-/// Whether a field is a text of at most 64 bytes.
+/// Returns true if the field is UTF-8 and has at most 64 bytes.
 pub(crate) fn is_short(field: &[u8]) -> bool
     ensures value { result ≡ spec.is_short field.now }
     ensures form { IsTrue result → IsShort field.now }

@@ -1,4 +1,4 @@
-//! Reports that are imported: a text of comma-separated values of which each record is a call at a moment.
+//! Reads CSV files of weather reports, of which each record is a call that admits a report.
 #![tactic(auto)]
 
 mod fields;

@@ -11,10 +11,10 @@ use csv_text::Records;
 use desk_io::{OutOfMemory, Text};
 use std::alloc::Global;
 
-// How many fields of a record are asked for: one more than a line has.
+// The number of fields to read of a record: one more than a record may have, which shows that it is too long.
 const MOST_FIELDS: usize = 6;
 
-// Whether the fields are the names of the columns.
+// Returns true if the fields are the column names.
 fn is_header(fields: &[Text]) -> bool
     ensures { result ≡ spec.is_header fields.now }
 {
@@ -30,7 +30,7 @@ fn is_header(fields: &[Text]) -> bool
     }
 }
 
-// Reads the first record, and answers whether it is the header.
+// Reads the first record. Returns true if it is the header.
 fn has_header(alloc: Global, reader: &mut Records<'_>) -> Result<bool, OutOfMemory>
     ensures { IfOk result (λ good. (text : List ℕ) → HasGiven text [] reader.old → Begins text good reader.new) }
 {
@@ -40,14 +40,14 @@ fn has_header(alloc: Global, reader: &mut Records<'_>) -> Result<bool, OutOfMemo
     }
 }
 
-// The lines of the records that are left.
+// Reads the records that are left.
 fn lines_left(alloc: Global, reader: &mut Records<'_>) -> Result<Vec<Line>, OutOfMemory>
     ensures left { IfOk result (λ lines. (text : List ℕ) → (earlier : List (List (List ℕ)))
         → HasGiven text earlier reader.old → AreLeft text earlier lines.items) }
     ensures forms { IfOk result (λ lines. AllByRecursion HasForms lines.items) }
 {
     let mut lines = Vec::new(alloc);
-    // A text has fewer records.
+    // A text has fewer records than this, so the loop ends inside.
     for _ in 0..u64::MAX {
         let Some(fields) = reader.next(alloc, MOST_FIELDS)? else {
             return Ok(lines);
@@ -57,11 +57,11 @@ fn lines_left(alloc: Global, reader: &mut Records<'_>) -> Result<Vec<Line>, OutO
     Err(OutOfMemory)
 }
 
-/// The lines of an import: what each record asks and when, or its first fault, in the order of the records under the
-/// header `actor,key,number,at,text`. There are none exactly where the first record is another one, or isn't there.
+/// Reads an import: for each record below the header `actor,key,number,at,text` its moment and call, or its first
+/// fault. Returns None exactly if the first record isn't this header or is missing.
 pub fn read_import(alloc: Global, file: &[u8]) -> Result<Option<Vec<Line>>, OutOfMemory>
     ensures lines { IfOk result (λ lines. IsImport file.now (option_map (λ v. v.items) lines)) }
-    // The moments and the fields of calls have their forms, so that each may be asked.
+    // Each moment and call is well-formed, so the call can be performed.
     ensures forms { IfOk result (λ lines. IfSome lines (λ v. AllByRecursion HasForms v.items)) }
 {
     let mut reader = Records::of(file);

@@ -9,7 +9,7 @@ use desk_io::{OutOfMemory, Text};
 use desk_time::{Minute, read_minute, read_number};
 use std::alloc::Global;
 
-/// What a record asks and when, or its first fault.
+/// The moment and the call of a record, or its first fault.
 pub type Line = Result<(Minute, HeldCall), BadCall>;
 
 fn bad(alloc: Global, why: CallWhy, key: &str) -> Result<Line, OutOfMemory>
@@ -27,7 +27,7 @@ fn bad_value(alloc: Global, key: &str) -> Result<Line, OutOfMemory>
     bad(alloc, CallWhy::BadValue, key)
 }
 
-// The call of a person that admits a report.
+// Returns a person's call that admits a report.
 fn admit_of(
     alloc: Global,
     actor: &[u8],
@@ -47,7 +47,7 @@ fn admit_of(
     })
 }
 
-// The line of five fields.
+// Reads a line of five fields.
 fn line_of(
     alloc: Global,
     actor: &[u8],
@@ -95,11 +95,11 @@ fn record_or_fault(alloc: Global, fields: &[Text]) -> Result<Line, OutOfMemory>
     }
 }
 
-/// The call of a record and its moment: the fields are those of `actor,key,number,at,text`, and the call admits the
-/// text. Else it is the first fault: there are not five fields, or the first of them that hasn't its form.
+/// Reads the moment and the call of a record with the fields `actor,key,number,at,text`. The call admits the text.
+/// The fault is that there aren't five fields, or the first malformed field.
 pub fn read_record(alloc: Global, fields: &[Text]) -> Result<Line, OutOfMemory>
     ensures value { IfOk result (λ line. line ≡ spec.record_or_fault fields.now) }
-    // A record is read as a call exactly where it is what is written of that call.
+    // A record is read as a call exactly if it is the record that is written for that call.
     ensures exact { IfOk result (λ line. (at : ℕ) → (call : ACall)
         → (line ≡ Ok (at, call)) ↔ IsRecordOf at call fields.now) }
     ensures forms { IfOk result HasForms }

@@ -1,4 +1,4 @@
--- What is seen of the keeper in memory.
+-- The model of `MemoryKeeper` in contracts.
 use Rattle.std.specs.Prelude.{Some}
 use Rattle.desk_io.specs.Planned.{planned_health}
 use Rattle.desk_io.specs.Rows.{rows_of}

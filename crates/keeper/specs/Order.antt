@@ -1,4 +1,4 @@
--- Rows in order of kind and then of key, and changes of a list of rows in that order.
+-- Lists of rows in order of kind, then key, and changes of such lists.
 use Rattle.std.specs.Prelude.{◌≡◌, ℕ, zero, suc, ◌==◌, nat_lt, ◌&&◌, ◌||◌, Bool, true, false, if◌then◌else◌, List, [], ◌∷◌, Option, None, Some}
 use Rattle.std.specs.List.{cons_option, AllPairs}
 use Rattle.desk_io.specs.declared.rows.Row.{Row}
@@ -6,11 +6,11 @@ use Rattle.desk_io.specs.declared.rows.Change.{Change}
 use Rattle.desk_io.specs.declared.rows.Change.TheVariants.{Put, Remove}
 use Rattle.desk_io.specs.Rows.{is_row}
 
--- the first kind and key come before the second
+-- the first kind and key precede the second
 abbrev pub comes_before : ℕ → ℕ → ℕ → ℕ → Bool
 comes_before k q kind key = nat_lt k kind || ((k == kind) && nat_lt q key)
 
--- the row comes before that kind and key
+-- the row precedes that kind and key
 abbrev pub is_below : ℕ → ℕ → Row → Bool
 is_below kind key row = comes_before row.kind row.key kind key
 
@@ -18,18 +18,18 @@ is_below kind key row = comes_before row.kind row.key kind key
 abbrev pub AreApart : List Row → Type 0
 AreApart rows = AllPairs (λ a b. is_row a.kind a.key b ≡ false) rows
 
--- the row at that place is of that kind and key
+-- the row at that place has that kind and key
 abbrev pub stands_at : ℕ → ℕ → ℕ → List Row → Bool
 stands_at place kind key [] = false
 stands_at zero kind key (row ∷ rows) = is_row kind key row
 stands_at (suc place) kind key (row ∷ rows) = stands_at place kind key rows
 
--- the first row comes before the next, and each before the one after it
+-- each row precedes the one after it
 abbrev pub rises_from : Row → List Row → Bool
 rises_from row [] = true
 rises_from row (next ∷ rows) = is_below next.kind next.key row && rises_from next rows
 
--- Each row comes before the next. So there is one row of a kind and a key at most.
+-- Each row precedes the next, so that no two rows have the same kind and key.
 abbrev pub rising : List Row → Bool
 rising [] = true
 rising (row ∷ rows) = rises_from row rows
@@ -38,7 +38,7 @@ abbrev pub put_here : Bool → Option Row → Row → List Row → List Row
 put_here true put row rows = cons_option put rows
 put_here false put row rows = cons_option put (row ∷ rows)
 
--- In rows in order, what stands under a kind and a key: that row, or none. A row that stood there goes.
+-- Sorted rows in which `put` replaces the row under a kind and key. Either of the two may be missing.
 abbrev pub put_at : ℕ → ℕ → Option Row → List Row → List Row
 put_at kind key put [] = cons_option put []
 put_at kind key put (row ∷ rows) =
@@ -49,7 +49,7 @@ abbrev pub list_changed : Change → List Row → List Row
 list_changed (Put row) rows = put_at row.kind row.key (Some row) rows
 list_changed (Remove kind key) rows = put_at kind key None rows
 
--- the list of rows after changes, each in its turn
+-- the list of rows after the changes, applied in order
 abbrev pub list_changed_by : List Change → List Row → List Row
 list_changed_by [] rows = rows
 list_changed_by (change ∷ changes) rows = list_changed_by changes (list_changed change rows)

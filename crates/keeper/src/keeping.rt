@@ -9,12 +9,12 @@ ghost use Rattle.keeper.specs.declared.keeping.KeepFault.TheVariants.{Failed as 
 use desk_io::{Change, OutOfMemory, Row};
 use std::alloc::{AllocError, AllocFailed, Global};
 
-/// Why rows weren't loaded or kept.
+/// Why rows weren't loaded or committed.
 #[derive(Clone, Copy, Debug, PartialEq, Eq)]
 pub enum KeepFault {
-    /// The keeper failed, and counted it.
+    /// The keeper failed, and counted the fault.
     Failed,
-    /// Memory ran out, and nothing was changed.
+    /// Memory ran out. No row was changed.
     OutOfMemory,
 }
 
@@ -42,13 +42,13 @@ impl<T: Drop> From<AllocFailed<T>> for KeepFault {
     }
 }
 
-/// Where rows are kept, under a kind and a key each. It may have to be loaded before it takes a commit.
+/// Stores rows, each under a kind and a key. A keeper may need a load before it accepts a commit.
 pub trait Keeper {
-    /// Its rows, where the keeper tells them, how often a commit was asked of it, and how it does. One over a
-    /// real file doesn't tell.
+    /// The rows, if contracts know them, the number of commits that were requested, and the keeper's health. The rows
+    /// of a keeper over a real file are unknown.
     ghost seen: { Self → KeeperSeen };
 
-    /// All rows, in order of kind and then of key, each kind and key once.
+    /// Returns all rows in order of kind, then key. No two have the same kind and key.
     fn load(&mut self, alloc: Global) -> Result<Vec<Row>, KeepFault>
         ensures rising { IfOk result (λ rows. IsTrue (rising rows.items)) }
         ensures rows { IfOk result (λ rows. Lists (seen self.old).rows rows.items) }
@@ -57,7 +57,7 @@ pub trait Keeper {
         ensures on { KeeperGoesOn (seen self.old) (seen self.new) }
         ensures cause { HasCause KeepFailed (seen self.old).health (seen self.new).health result };
 
-    /// Makes all changes, each in its turn, or none of them.
+    /// Applies all changes in order, or none of them.
     fn commit(&mut self, alloc: Global, changes: &[Change]) -> Result<(), KeepFault>
         ensures ok { OnOk result (Leads (seen self.old).rows changes.now (seen self.new).rows) }
         ensures err { OnErr result ((seen self.new).rows ≡ (seen self.old).rows) }
@@ -65,7 +65,7 @@ pub trait Keeper {
         ensures on { KeeperGoesOn (seen self.old) (seen self.new) }
         ensures cause { HasCause KeepFailed (seen self.old).health (seen self.new).health result };
 
-    /// How often it has failed. The count never falls.
+    /// Returns the number of failures so far. It never falls.
     fn faults(&self) -> u64
         ensures { result ≡ (seen self.now).health.faults };
 }

@@ -1,4 +1,4 @@
-//! Where the desk's rows are kept: what a keeper promises, and one in memory.
+//! Stores the desk's rows: the interface `Keeper`, and an implementation in memory.
 #![tactic(auto)]
 
 mod keeping;

@@ -12,8 +12,8 @@ use crate::{KeepFault, Keeper};
 use desk_io::{Change, Row, copied_items};
 use std::alloc::Global;
 
-/// Rows in memory. Its commits are numbered from 0, and those in `fail` fail with nothing changed. With
-/// an empty `fail` it is sound. It may be loaded at any time, and again.
+/// Rows in memory. Commits are numbered from 0, and a commit whose number is in `fail` fails and changes nothing.
+/// With an empty `fail` the keeper is sound. It needs no load, and may be loaded again at any time.
 #[derive(Drop)]
 pub struct MemoryKeeper {
     rows: Vec<Row>,
@@ -24,12 +24,13 @@ pub struct MemoryKeeper {
 }
 
 impl MemoryKeeper {
-    /// A keeper of rows of which no two have the same kind and key. It puts them in order and takes no memory.
+    /// Creates a keeper of these rows, of which no two may have the same kind and key. Sorts them in place and
+    /// allocates nothing.
     pub fn new(mut rows: Vec<Row>, fail: Vec<u64>) -> Self
         requires { AreApart rows.items }
         ensures same { AreSame (rows_of result.rows.items) (rows_of rows.items) }
         ensures rising { IsTrue (rising result.rows.items) }
-        // Rows that stand in order stay as they are.
+        // Rows that are in order already stay as they are.
         ensures already { IsTrue (rising rows.items) → result.rows.items ≡ rows.items }
         ensures fail { result.fail.items ≡ fail.items }
         ensures calls { result.calls ≡ 0 }
@@ -44,7 +45,7 @@ impl MemoryKeeper {
         }
     }
 
-    /// The rows, in order of kind and then of key.
+    /// Returns the rows in order of kind, then key.
     pub fn rows(&self) -> &[Row]
         ensures rows { result.now ≡ self.now.rows.items }
         ensures rising { IsTrue (rising result.now) }
@@ -65,7 +66,7 @@ impl Keeper for MemoryKeeper {
         ensures none { self.new.calls ≡ self.old.calls }
         ensures on { KeeperGoesOn (keeper_seen self.old) (keeper_seen self.new) }
         ensures cause { HasCause KeepFailed (keeper_seen self.old).health (keeper_seen self.new).health result }
-        // Only memory can fail it, and nothing changes.
+        // A load fails only if memory runs out. It changes nothing.
         ensures value { IfOk result (λ rows. rows.items ≡ self.old.rows.items) }
         ensures never { IsErrOf result KeepFailed → ⊥ }
         ensures unchanged { self.new ≡ self.old }
@@ -79,7 +80,7 @@ impl Keeper for MemoryKeeper {
         ensures one { self.new.calls ≡ after self.old.calls }
         ensures on { KeeperGoesOn (keeper_seen self.old) (keeper_seen self.new) }
         ensures cause { HasCause KeepFailed (keeper_seen self.old).health (keeper_seen self.new).health result }
-        // It fails exactly where its number is planned.
+        // The commit returns `Failed` exactly if its number is in `fail`.
         ensures planned { Fails (is_planned self.old.fail.items self.old.calls) result }
         ensures kept { OnErr result (self.new.rows.items ≡ self.old.rows.items) }
         ensures fail { self.new.fail.items ≡ self.old.fail.items }

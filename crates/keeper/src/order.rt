@@ -10,7 +10,7 @@ ghost use Rattle.keeper.specs.Kept.{AreSame};
 use desk_io::{Change, Copied, OutOfMemory, Row};
 use std::alloc::Global;
 
-// The row comes before that kind and key.
+// The row precedes that kind and key.
 fn is_below(row: &Row, kind: u8, key: u64) -> bool
     ensures { result ≡ spec.is_below kind key row.now }
 {
@@ -39,8 +39,7 @@ fn rises(rows: &[Row]) -> bool
     }
 }
 
-/// Each row comes before the next, in order of kind and then of key. So no two have the same kind and
-/// key.
+/// Returns true if the rows strictly increase by kind, then key. No two then have the same kind and key.
 pub fn is_rising(rows: &[Row]) -> bool
     ensures value { result ≡ spec.rising rows.now }
     ensures apart { IsTrue result → spec.AreApart rows.now }
@@ -55,7 +54,7 @@ fn sort(rows: &mut Vec<Row>)
     rows.sort_unstable_by_key(|row| (row.kind, row.key));
 }
 
-/// Puts rows in order of kind and then of key. It takes no memory.
+/// Sorts rows by kind, then key. Allocates nothing.
 pub fn put_in_order(rows: &mut Vec<Row>)
     requires { spec.AreApart rows.old.items }
     ensures same { AreSame (rows_of rows.new.items) (rows_of rows.old.items) }
@@ -65,7 +64,7 @@ pub fn put_in_order(rows: &mut Vec<Row>)
     sort(rows);
 }
 
-// How many rows come before a kind and a key, and whether the one after them is of that kind and key.
+// How many rows precede a kind and key, and whether the next row has them.
 fn place_of(rows: &[Row], kind: u8, key: u64) -> (usize, bool)
     requires { IsTrue (spec.rising rows.now) }
     ensures within { result.0 + (if result.1 then 1 else 0) ≤ length rows.now }
@@ -99,7 +98,7 @@ fn is_of(row: &Row, kind: u8, key: u64) -> bool
     row.kind == kind && row.key == key
 }
 
-// The row at that place is of that kind and key.
+// The row at that place has that kind and key.
 fn stands_at(rows: &[Row], place: usize, kind: u8, key: u64) -> bool
     ensures { result ≡ spec.stands_at place kind key rows.now }
 {
@@ -109,7 +108,8 @@ fn stands_at(rows: &[Row], place: usize, kind: u8, key: u64) -> bool
     }
 }
 
-// Puts the row under a kind and a key, or takes it out, where there is room for one more.
+// Stores the row `put` under a kind and key, or removes the row there if `put` is None. Room for one more row must be
+// reserved.
 #[tactic(auto, using(crate::proofs::Places::replaced))]
 fn put_at(rows: &mut Vec<Row>, kind: u8, key: u64, put: Option<Row>)
     requires rising { IsTrue (spec.rising rows.old.items) }
@@ -154,8 +154,7 @@ fn make_each(rows: &mut Vec<Row>, changes: Vec<Change>)
     }
 }
 
-/// Makes changes of rows in order, each in its turn, where there is room for as many more rows. It takes
-/// no memory.
+/// Applies changes in order to sorted rows. Room for one more row per change must be reserved. Allocates nothing.
 #[tactic(auto, using(crate::proofs::OrderLaws::same_changed))]
 pub fn make_all(rows: &mut Vec<Row>, changes: Vec<Change>)
     requires rising { IsTrue (spec.rising rows.old.items) }
@@ -178,7 +177,7 @@ fn copied(change: &Change, alloc: Global) -> Result<Change, OutOfMemory>
     }
 }
 
-/// Copies of changes, in order.
+/// Copies changes, in order.
 pub fn copied_changes(changes: &[Change], alloc: Global) -> Result<Vec<Change>, OutOfMemory>
     ensures { IfOk result (λ copies. copies.items ≡ changes.now) }
 {

@@ -1,4 +1,4 @@
--- Keys of replies in a set for each fingerprint of a name.
+-- The index of kept replies: their keys, in one set for each fingerprint of a name.
 use Rattle.std.specs.Prelude.{◌≡◌, ℕ, zero, suc, ◌<◌, ◌≤◌, ◌||◌, Bool, IsTrue, List, [], ◌∷◌, length, filter, Option, None, Some, IfSome, IsSome}
 use Rattle.std.specs.List.{AllByRecursion}
 use Rattle.std.specs.Ordering.{nat_cmp}
@@ -8,13 +8,13 @@ use Rattle.desk_io.specs.Keys.{KeySet, is_held}
 use Rattle.kept_replies.specs.Index.{Key, key_cmp}
 
 pub record PersonKeys : Type 0 where
-  -- where the sets of fingerprints stand
+  -- the index of the set of each fingerprint
   pub places : List (ℕ × ℕ)
   pub sets : List (KeySet Key)
-  -- one more key needs no memory
+  -- whether room for one more key is reserved
   pub room : Bool
 
--- the keys of the set at a place
+-- the keys of the set at index i
 abbrev pub at_place : List (KeySet Key) → ℕ → List Key
 at_place [] i = []
 at_place (s ∷ ss) zero = s.keys
@@ -24,7 +24,7 @@ abbrev pub in_set : List (KeySet Key) → Option ℕ → List Key
 in_set sets None = []
 in_set sets (Some i) = at_place sets i
 
--- where the set of a fingerprint stands
+-- the index of the set of a fingerprint
 abbrev pub place_of : List (ℕ × ℕ) → ℕ → Option ℕ
 place_of places mark = lookup (is_at (nat_cmp mark)) places
 
@@ -37,65 +37,66 @@ keys_under r mark = under r.places r.sets mark
 
 -- ---- room
 
--- a set has room for one more key
+-- the set has room for one more key
 abbrev pub HasOne : KeySet Key → Type 0
 HasOne s = 1 ≤ s.room
 
--- all sets have room but for the one at a place
+-- all sets have room, except possibly the one at index i
 abbrev pub HaveOneBut : ℕ → List (KeySet Key) → Type 0
 HaveOneBut i [] = Unit {0}
 HaveOneBut zero (s ∷ ss) = AllByRecursion HasOne ss
 HaveOneBut (suc i) (s ∷ ss) = HasOne s × HaveOneBut i ss
 
--- all sets have room, but for one if there is such a one
+-- all sets have room, except possibly the one at this index, if any
 abbrev pub HaveOne : Option ℕ → List (KeySet Key) → Type 0
 HaveOne None sets = AllByRecursion HasOne sets
 HaveOne (Some i) sets = HaveOneBut i sets
 
--- a set without keys that has room
+-- a set with room and without keys
 pub record IsSpare (s : KeySet Key) : Type 0 where
   pub empty : s.keys ≡ []
   pub room : HasOne s
 
--- ---- how sets change
+-- ---- changes of sets
 
--- the set at a place has changed, and the others are as they were
+-- the set at index i changed by R, and the others are unchanged
 abbrev pub IsChangedAt : (KeySet Key → KeySet Key → Type 0) → ℕ → List (KeySet Key) → List (KeySet Key) → Type 0
 IsChangedAt R i [] new = ⊥
 IsChangedAt R i (s ∷ ss) [] = ⊥
 IsChangedAt R zero (s ∷ ss) (t ∷ ts) = R s t × (ss ≡ ts)
 IsChangedAt R (suc i) (s ∷ ss) (t ∷ ts) = (s ≡ t) × IsChangedAt R i ss ts
 
--- a set with one more key
+-- the set has one more key
 pub record IsPut (key : Key) (s t : KeySet Key) : Type 0 where
   pub each : (q : Key) → is_held key_cmp q t.keys ≡ (is_at (key_cmp q) key || is_held key_cmp q s.keys)
 
--- a set with the same keys
+-- the set has the same keys
 abbrev pub HasSameKeys : KeySet Key → KeySet Key → Type 0
 HasSameKeys s t = t.keys ≡ s.keys
 
--- a set of the keys that pass a test, with no less room
+-- the set has only the keys that pass the test, and no less room
 pub record IsKept (p : Key → Bool) (s t : KeySet Key) : Type 0 where
   pub keys : t.keys ≡ filter p s.keys
   pub room : s.room ≤ t.room
 
--- each set has the keys that pass a test, and no less room
+-- each set has only its keys that pass the test, and no less room
 abbrev pub AreKept : (Key → Bool) → List (KeySet Key) → List (KeySet Key) → Type 0
 AreKept p [] [] = Unit {0}
 AreKept p [] (t ∷ ts) = ⊥
 AreKept p (s ∷ ss) [] = ⊥
 AreKept p (s ∷ ss) (t ∷ ts) = IsKept p s t × AreKept p ss ts
 
--- ---- what holds
+-- ---- the invariant
 
--- there is room for a key under whichever fingerprint
+-- there is room for a key under any fingerprint
 pub record IsReady (places_room : ℕ) (count capacity : ℕ) (spare : Option (KeySet Key)) (last : Option ℕ) : Type 0 where
   pub has_place : 1 ≤ places_room
   pub has_end : count < capacity
   pub has_spare : IsSome spare
   pub none_full : last ≡ None
 
--- Places are those of sets, all sets have room but for the last that got a key, and where there is room, all is ready.
+-- The invariant. Every index is that of a set. All sets have room except the one that got the last key. If `room` is
+-- true, there is room for any key.
 pub record AreByPerson
     (places : List (ℕ × ℕ))
     (places_room : ℕ)

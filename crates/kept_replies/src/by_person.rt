@@ -16,16 +16,16 @@ use desk_io::{ById, Keys, OutOfMemory, Sorted};
 use std::alloc::Global;
 use std::marker::Model;
 
-/// Keys of replies, in a set for each fingerprint of a name: when a key comes, those of other persons stay where they
-/// are. A contract sees the keys under each fingerprint, and whether one more key needs no memory.
+/// Keys of replies, in one set for each fingerprint of a name. Adding a key moves only keys of the same set.
+/// Contracts model the keys under each fingerprint, and whether room for one more key is reserved.
 #[derive(Drop)]
 pub(crate) struct ByPerson {
-    // Where the set of a fingerprint stands.
+    // The index of the set of a fingerprint.
     places: Sorted<u64, usize>,
     sets: Vec<Keys<(u64, u64, u64)>>,
-    // A set for the next fingerprint.
+    // A set for the next new fingerprint.
     spare: Option<Keys<(u64, u64, u64)>>,
-    // The set to which the last key came. It may have no room.
+    // The set that got the last key. It may have no room.
     last: Option<usize>,
     room: bool,
 }
@@ -49,7 +49,7 @@ fn place_of(places: &Sorted<u64, usize>, mark: u64) -> Option<usize>
     places.get(&mark).copied()
 }
 
-// The keys of the set at a place that aren't below that one.
+// Returns the keys of the set at this index that are at or above `low`.
 fn from_at<'a>(
     sets: &'a [Keys<(u64, u64, u64)>],
     place: usize,
@@ -62,7 +62,7 @@ fn from_at<'a>(
     sets[place].from(low)
 }
 
-// Puts the key into the set at a place.
+// Adds the key to the set at this index.
 fn put_at(sets: &mut Vec<Keys<(u64, u64, u64)>>, place: usize, key: (u64, u64, u64))
     requires within { place < length sets.old.items }
     requires room { AllByRecursion HasOne sets.old.items }
@@ -72,7 +72,7 @@ fn put_at(sets: &mut Vec<Keys<(u64, u64, u64)>>, place: usize, key: (u64, u64, u
     set.put_reserved(key);
 }
 
-// Makes room for one more key in the set at a place.
+// Reserves room for one more key in the set at this index.
 fn reserve_at(sets: &mut Vec<Keys<(u64, u64, u64)>>, place: usize) -> Result<(), OutOfMemory>
     requires within { place < length sets.old.items }
     requires have { HaveOne (Some place) sets.old.items }
@@ -83,7 +83,7 @@ fn reserve_at(sets: &mut Vec<Keys<(u64, u64, u64)>>, place: usize) -> Result<(),
     set.reserve(1)
 }
 
-// Takes away the keys of the set at a place that lead to no reply.
+// Removes the keys of the set at this index whose reply is gone.
 fn keep_at(sets: &mut Vec<Keys<(u64, u64, u64)>>, place: usize, kept: &ById<KeptReply>)
     requires { place < length sets.old.items }
     ensures kept { IsChangedAt (IsKept (leads_to kept.now.list)) place sets.old.items sets.new.items }
@@ -104,7 +104,7 @@ fn keep_all(sets: &mut Vec<Keys<(u64, u64, u64)>>, kept: &ById<KeptReply>)
     }
 }
 
-// Makes room for one more key in the set that may have none.
+// Reserves room for one more key in the set that may have none.
 fn widen(sets: &mut Vec<Keys<(u64, u64, u64)>>, last: Option<usize>) -> Result<(), OutOfMemory>
     requires within { IfSome last (λ i. i < length sets.old.items) }
     requires have { HaveOne last sets.old.items }
@@ -138,7 +138,7 @@ fn provide(alloc: Global, spare: &mut Option<Keys<(u64, u64, u64)>>) -> Result<(
     Ok(())
 }
 
-// Adds the spare set at the end, and says where it stands.
+// Adds the spare set at the end and returns its index.
 fn add(sets: &mut Vec<Keys<(u64, u64, u64)>>, spare: &mut Option<Keys<(u64, u64, u64)>>) -> usize
     requires room { vec_len sets.old < vec_capacity sets.old }
     requires have { AllByRecursion HasOne sets.old.items }
@@ -159,7 +159,7 @@ fn add(sets: &mut Vec<Keys<(u64, u64, u64)>>, spare: &mut Option<Keys<(u64, u64,
     place
 }
 
-// Where the set of a fingerprint stands. One that has none gets the spare one.
+// Returns the index of the set of a fingerprint. A fingerprint without a set gets the spare set.
 fn place_for(
     places: &mut Sorted<u64, usize>,
     sets: &mut Vec<Keys<(u64, u64, u64)>>,
@@ -188,7 +188,7 @@ fn place_for(
 }
 
 impl ByPerson {
-    /// No keys, and no room. It takes no memory.
+    /// Makes an index without keys and without reserved room. It allocates nothing.
     pub(crate) fn new(alloc: Global) -> ByPerson
         ensures { (m : ℕ) → keys_under result m ≡ [] }
     {
@@ -201,7 +201,7 @@ impl ByPerson {
         }
     }
 
-    /// The keys under the fingerprint of that one which aren't below it, in order. They are found by halves.
+    /// Returns the keys under the fingerprint of `low` that are at or above it, in order. It uses binary search.
     pub(crate) fn from(&self, low: &(u64, u64, u64)) -> &[((u64, u64, u64), ())]
         ensures value { keys_of result.now ≡ filter (λ k. is_ge (key_cmp k low.now)) (keys_under self.now low.now.0) }
         ensures sorted { IsStrictlySortedBy key_cmp (keys_of result.now) }
@@ -212,7 +212,7 @@ impl ByPerson {
         }
     }
 
-    /// Makes room for one more key.
+    /// Reserves room for one more key.
     pub(crate) fn reserve(&mut self, alloc: Global) -> Result<(), OutOfMemory>
         ensures same { (m : ℕ) → keys_under self.new m ≡ keys_under self.old m }
         ensures kept { IsTrue self.old.room → IsTrue self.new.room }
@@ -230,7 +230,7 @@ impl ByPerson {
         Ok(())
     }
 
-    /// Puts the key in, where there is room, and leaves no room. It takes no memory.
+    /// Adds the key in the reserved room, which is then used up. It allocates nothing.
     pub(crate) fn put_reserved(&mut self, key: (u64, u64, u64))
         requires { IsTrue self.old.room }
         ensures { (q : Key) → is_held key_cmp q (keys_under self.new q.0)
@@ -242,7 +242,7 @@ impl ByPerson {
         self.room = false;
     }
 
-    /// Takes away the keys that lead to no reply. It takes no memory.
+    /// Removes the keys whose reply is gone. It allocates nothing.
     pub(crate) fn keep_leading(&mut self, kept: &ById<KeptReply>)
         ensures under { (m : ℕ) → keys_under self.new m ≡ filter (leads_to kept.now.list) (keys_under self.old m) }
         ensures room { self.new.room ≡ self.old.room }
@@ -250,7 +250,7 @@ impl ByPerson {
         keep_all(&mut self.sets, kept);
     }
 
-    /// Those keys.
+    /// Makes an index of these keys.
     pub(crate) fn from_keys(
         alloc: Global,
         keys: &[((u64, u64, u64), ())],

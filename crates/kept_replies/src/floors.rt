@@ -23,14 +23,14 @@ fn place_of_actor(floors: &[Floor], actor: &[u8]) -> Option<usize>
         .ok()
 }
 
-// The floor at a place.
+// Returns the floor at this index.
 fn at_place(floors: &[Floor], place: Option<usize>) -> Option<&Floor>
     ensures { option_copied result ≡ option_and_then (slice_get floors.now) place }
 {
     floors.get(place?)
 }
 
-/// The floor of a person, found by halves.
+/// Returns the floor of a person, by binary search.
 pub(crate) fn floor_at(floors: &[Floor], actor: &[u8]) -> Option<u64>
     requires { FloorsRise floors.now }
     ensures { result ≡ spec.floor_at actor.now floors.now }

@@ -1,4 +1,4 @@
-//! The replies that are kept, found by the person and the number of a request, and the floors of persons.
+//! The kept replies, looked up by the person and the number of a request, and each person's floor of swept numbers.
 #![tactic(auto)]
 
 mod by_person;

@@ -15,13 +15,13 @@ use desk_time::Minute;
 use std::alloc::Global;
 use std::marker::Model;
 
-/// The replies that are kept, in rising order of their ids, and the floors of persons, in byte order of the names. A
-/// reply is found by the person and the number of its request. A contract sees the list of replies, the floors, and
-/// whether one more reply needs no memory.
+/// The kept replies in increasing order of their ids, and the floors of persons in byte order of their names. A reply
+/// is looked up by the person and the number of its request. Contracts model the replies, the floors, and whether
+/// room for one more reply is reserved.
 #[derive(Drop)]
 pub struct Replies {
     held: ById<KeptReply>,
-    // A key for each reply.
+    // One key for each reply.
     requests: ByPerson,
     floors: Floors,
     room: bool,
@@ -38,7 +38,7 @@ impl Model for Replies {
 }
 
 impl Replies {
-    /// No replies, no floors, and no room. It takes no memory.
+    /// Makes an empty list without floors and without reserved room. It allocates nothing.
     pub fn new(alloc: Global) -> Replies
         ensures { result ≡ spec.replies_of [] [] }
     {
@@ -50,7 +50,7 @@ impl Replies {
         }
     }
 
-    /// Those replies and floors, and no room.
+    /// Takes these replies and floors, without reserved room.
     pub fn from_parts(
         alloc: Global,
         kept: Vec<KeptReply>,
@@ -69,7 +69,7 @@ impl Replies {
         })
     }
 
-    /// The replies in order. It takes no memory.
+    /// Returns the replies in the order of their ids. It allocates nothing.
     pub fn as_slice(&self) -> &[KeptReply]
         ensures value { result.now ≡ self.now.list }
         ensures rising { AreRising id_of result.now }
@@ -77,21 +77,21 @@ impl Replies {
         self.held.as_slice()
     }
 
-    /// How many replies there are.
+    /// Returns the number of replies.
     pub fn len(&self) -> usize
         ensures { result ≡ length self.now.list }
     {
         self.held.len()
     }
 
-    /// Whether there is no reply.
+    /// Returns true if there is no reply.
     pub fn is_empty(&self) -> bool
         ensures { result ≡ (length self.now.list == 0) }
     {
         self.held.is_empty()
     }
 
-    /// The floors in order. It takes no memory.
+    /// Returns the floors in byte order of the names. It allocates nothing.
     pub fn floors(&self) -> &[Floor]
         ensures value { result.now ≡ self.now.floors }
         ensures rising { FloorsRise result.now }
@@ -99,7 +99,7 @@ impl Replies {
         self.floors.as_slice()
     }
 
-    /// The floors as they are held. It takes no memory.
+    /// Returns the floors as the list that holds them. It allocates nothing.
     pub fn listed_floors(&self) -> &Floors
         ensures value { result.now ≡ self.now.floors }
         ensures rising { FloorsRise result.now }
@@ -107,7 +107,7 @@ impl Replies {
         &self.floors
     }
 
-    /// What is kept of the request of a person under a number. It is found by halves, and takes no memory.
+    /// Returns the kept reply to the request of this person and number, by binary search. It allocates nothing.
     pub fn kept_at(&self, actor: &[u8], number: u64) -> Option<&KeptReply>
         ensures value { option_copied result ≡ asked.kept_at actor.now number self.now.list }
         ensures found { IsFoundFor actor.now number self.now.list (option_copied result) }
@@ -115,7 +115,7 @@ impl Replies {
         kept_at(&self.held, &self.requests, actor, number)
     }
 
-    /// The floor of a person. It is found by halves, and takes no memory.
+    /// Returns the floor of a person, by binary search. It allocates nothing.
     pub fn floor_at(&self, actor: &[u8]) -> Option<u64>
         ensures value { result ≡ asked.floor_at actor.now self.now.floors }
         ensures told { IsToldOf actor.now self.now.floors result }
@@ -123,7 +123,7 @@ impl Replies {
         floor_at(self.floors.as_slice(), actor)
     }
 
-    /// Makes room for one more reply.
+    /// Reserves room for one more reply.
     pub fn reserve(&mut self, alloc: Global) -> Result<(), OutOfMemory>
         ensures ok { OnOk result (self.new ≡ spec.with_room self.old) }
         ensures err { OnErr result (self.new ≡ self.old) }
@@ -134,7 +134,7 @@ impl Replies {
         Ok(())
     }
 
-    /// Adds a reply whose id is above all, where there is room, and leaves no room. It takes no memory.
+    /// Adds a reply whose id is above all others, in the reserved room, which is then used up. It allocates nothing.
     pub fn push_reserved(&mut self, reply: KeptReply)
         requires newest { All (λ k. k.id < reply.id) self.old.list }
         requires room { IsTrue self.old.room }
@@ -145,8 +145,8 @@ impl Replies {
         self.room = false;
     }
 
-    /// Takes away the replies that were accepted before a moment, and puts other floors in place of those that there
-    /// are. It takes no memory.
+    /// Removes the replies to requests that were accepted before a moment, and replaces the floors. It allocates
+    /// nothing.
     pub fn sweep(&mut self, before: Minute, floors: Floors)
         requires { FloorsRise floors }
         ensures { self.new ≡ spec.with_swept before floors self.old }

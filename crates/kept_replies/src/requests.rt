@@ -15,7 +15,7 @@ use desk_time::Minute;
 use facts::fingerprint;
 use std::alloc::Global;
 
-/// The fingerprint of the person's name, the number and the id of a reply.
+/// Returns the key of a reply: the fingerprint of the person's name, the number and the id.
 pub(crate) fn key_of(reply: &KeptReply) -> (u64, u64, u64)
     ensures { result ≡ spec.key_of reply.now }
 {
@@ -28,7 +28,7 @@ fn is_under(mark: u64, number: u64, key: &(u64, u64, u64)) -> bool
     key.0 == mark && key.1 == number
 }
 
-// The reply of that id, where it is one to that person.
+// Returns the reply of this id if it is to this person.
 fn named<'a>(kept: &'a ById<KeptReply>, id: u64, actor: &[u8]) -> Option<&'a KeptReply>
     ensures { option_copied result ≡ spec.named actor.now (find (has_id id) kept.now.list) }
 {
@@ -40,8 +40,8 @@ fn named<'a>(kept: &'a ById<KeptReply>, id: u64, actor: &[u8]) -> Option<&'a Kep
     }
 }
 
-// Of the replies that the keys lead to the first to that person, as long as the keys are those of that fingerprint and
-// number.
+// Returns the first reply to this person among those of the keys. It stops at the first key with another fingerprint
+// or number.
 fn first_to<'a>(
     kept: &'a ById<KeptReply>,
     keys: &[((u64, u64, u64), ())],
@@ -63,7 +63,7 @@ fn first_to<'a>(
     None
 }
 
-/// What is kept of the request of a person under a number, found by halves.
+/// Returns the kept reply to the request of this person and number, by binary search.
 pub(crate) fn kept_at<'a>(
     kept: &'a ById<KeptReply>,
     requests: &ByPerson,
@@ -79,7 +79,7 @@ pub(crate) fn kept_at<'a>(
     first_to(kept, keys, actor, mark, number)
 }
 
-/// Takes away the replies that were accepted before a moment.
+/// Removes the replies to requests that were accepted before a moment.
 pub(crate) fn keep_since(kept: &mut ById<KeptReply>, before: Minute)
     ensures list { kept.new.list ≡ filter (is_since before) kept.old.list }
     ensures room { kept.old.room ≤ kept.new.room }
@@ -91,7 +91,7 @@ pub(crate) fn keep_since(kept: &mut ById<KeptReply>, before: Minute)
     );
 }
 
-/// Takes away the keys that lead to no reply.
+/// Removes the keys whose reply is gone.
 pub(crate) fn keep_leading(set: &mut Keys<(u64, u64, u64)>, kept: &ById<KeptReply>)
     ensures keys { set.new.keys ≡ filter (leads_to kept.now.list) set.old.keys }
     ensures room { set.old.room ≤ set.new.room }
@@ -116,7 +116,7 @@ fn listed_keys(alloc: Global, kept: &[KeptReply]) -> Result<Vec<((u64, u64, u64)
     Ok(keys)
 }
 
-// The keys of replies, each once.
+// Returns the keys of replies, without duplicates.
 fn all_keys(alloc: Global, kept: &[KeptReply]) -> Result<Keys<(u64, u64, u64)>, OutOfMemory>
     ensures { IfOk result (λ requests. AreKeysOf kept.now requests.keys) }
 {
@@ -124,7 +124,7 @@ fn all_keys(alloc: Global, kept: &[KeptReply]) -> Result<Keys<(u64, u64, u64)>, 
     Ok(Keys::from_vec(keys))
 }
 
-/// The keys of replies by person. They are sorted once, so that each comes at the end of its set.
+/// Returns the keys of replies by person. They are sorted once, so each is added at the end of its set.
 pub(crate) fn keys_by_person(alloc: Global, kept: &[KeptReply]) -> Result<ByPerson, OutOfMemory>
     ensures { IfOk result (λ requests. AreKeysUnder kept.now (keys_under requests)) }
 {

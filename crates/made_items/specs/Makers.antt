@@ -1,4 +1,4 @@
--- How far the making of calls has come, and which calls are left.
+-- The state of the generator, and the calls that are left.
 use Rattle.std.specs.Prelude.{◌≡◌, ℕ, ◌+◌, ◌-◌, ◌*◌, ◌==◌, if◌then◌else◌, List, [], ◌∷◌, ◌++◌, drop, Option, None, Some}
 use Rattle.asks.specs.declared.call.Call.{Call}
 use Rattle.asks.specs.declared.reply.Done.{Done}
@@ -7,22 +7,22 @@ use Rattle.made_items.specs.Numbers.{next_number, minimum_of}
 use Rattle.made_items.specs.declared.maker.Turn.{Turn}
 use Rattle.made_items.specs.declared.maker.Turn.TheVariants as turn
 
--- whose turn it is, and of which flight: so many are earlier, and so many are left after it
+-- the next call, the number of flights before the current one, and the number of flights after it
 pub record Making : Type 0 where
   pub turn : Turn
   pub earlier : ℕ
   pub left : ℕ
-  -- the number of which the next flight is made, or the one at hand was
+  -- the random number of the current flight, or the one before that of the next flight
   pub x : ℕ
-  -- the release of the flight at hand, and the digest of its text
+  -- the release of the current flight, and the digest of its text
   pub release : ℕ
   pub digest : List ℕ
 
--- nothing is made yet
+-- the state before the first call
 abbrev pub begun : ℕ → ℕ → Making
 begun number count = record { turn = turn.First; earlier = 0; left = count; x = number; release = 0; digest = no_digest }
 
--- ---- the call of a turn
+-- ---- the next call
 
 abbrev pub call_at : Turn → Making → Option Call
 call_at turn.First m = Some first
@@ -35,20 +35,20 @@ call_at turn.Concur m = Some (concur m.earlier m.release m.digest)
 call_at turn.Cancel m = Some (cancel m.earlier m.release)
 call_at turn.End m = None
 
--- the call that is made next, if one is left
+-- the next call, if one is left
 unfoldable pub next_call : Making → Option Call
 next_call m = call_at m.turn m
 
--- ---- after what came of it
+-- ---- after its result
 
 abbrev pub ended : Making → Making
 ended m = record m { turn = turn.End }
 
--- the first flight, if there is one
+-- moves to the first flight, if there is one
 abbrev pub to_first : Making → Making
 to_first m = if m.left == 0 then ended m else (record m { turn = turn.Draft; left = m.left - 1 })
 
--- the next flight, if one is left
+-- moves to the next flight, if one is left
 abbrev pub to_next : Making → Making
 to_next m = if m.left == 0 then ended m else (record m { turn = turn.Draft; left = m.left - 1; earlier = m.earlier + 1 })
 
@@ -63,13 +63,13 @@ noted_at turn.Concur m came = record m { turn = turn.Cancel }
 noted_at turn.Cancel m came = to_next m
 noted_at turn.End m came = m
 
--- the next turn, once it is known what came of this one
+-- the state after the result of the next call
 unfoldable pub noted : Making → Option Done → Making
 noted m what = noted_at m.turn m what
 
 -- ---- the calls that are left
 
--- those of the flights after the one at hand
+-- the calls of the flights after the current one
 abbrev pub later_flights : Making → Came → List Call
 later_flights m came = flights m.left m.x (m.earlier + 1) came
 
@@ -85,11 +85,11 @@ left_at turn.Concur m came = concur m.earlier m.release m.digest ∷ cancel m.ea
 left_at turn.Cancel m came = cancel m.earlier m.release ∷ later_flights m (drop 1 came)
 left_at turn.End m came = []
 
--- the calls that are left, with what comes of each of them
+-- the calls that are left, given the results of each
 unfoldable pub calls_left : Making → Came → List Call
 calls_left m came = left_at m.turn m came
 
--- how many they are
+-- the number of calls that are left
 abbrev pub many_at : Turn → ℕ → ℕ
 many_at turn.First left = 3 + 5 * left
 many_at turn.Second left = 2 + 5 * left
@@ -104,7 +104,7 @@ many_at turn.End left = 0
 unfoldable pub how_many : Making → ℕ
 how_many m = many_at m.turn m.left
 
--- What came of the call that was next leads to the calls that are left: it is the first of them, and it is one less.
+-- The result of the next call leaves the calls after it. It was the first of those left, and one fewer is left.
 pub record GoesOn (old : Making) (what : Option Done) (new : Making) : Type 0 where
   pub calls : (call : Call) → next_call old ≡ Some call → (came : Came) → calls_left old (what ∷ came) ≡ call ∷ calls_left new came
   pub fewer : (call : Call) → next_call old ≡ Some call → how_many old ≡ how_many new + 1

@@ -1,4 +1,4 @@
--- The plans of flights that are made: from Boston to New York, with Philadelphia as alternate.
+-- The plans of generated flights: from Boston to New York, with Philadelphia as alternate.
 use Rattle.std.specs.Prelude.{ℕ, ◌++◌, [], ◌∷◌, List, None, codes, decimal}
 use Rattle.plan.specs.declared.flights.Alternate.{Alternate}
 use Rattle.plan.specs.declared.flights.Kind.TheVariants.{Domestic}
@@ -35,6 +35,6 @@ leg minimum = record {
 abbrev pub flight : ℕ → List ℕ
 flight number = codes "DK" ++ decimal number
 
--- the plan of the flight of a number, with a minimum fuel
+-- the plan of flight `number` with this minimum fuel
 abbrev pub plan_of : ℕ → ℕ → Plan
 plan_of number minimum = record { flight = flight number; tail = codes "N801DK"; kind = Domestic; captain = codes "C7"; legs = leg minimum ∷ [] }

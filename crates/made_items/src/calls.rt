@@ -45,7 +45,7 @@ fn asked_by(alloc: Global, person: Person, number: u64, ask: Ask) -> Result<Call
     })
 }
 
-/// A report is admitted under a number.
+/// Admits a report, as the feed's request of this number.
 pub(crate) fn admit(alloc: Global, number: u64, text: &[u8]) -> Result<Call, OutOfMemory>
     ensures { IfOk result (λ call. call ≡ spec.admit number text.now) }
 {
@@ -53,7 +53,7 @@ pub(crate) fn admit(alloc: Global, number: u64, text: &[u8]) -> Result<Call, Out
     asked_by(alloc, Person::Feed, number, Ask::Admit { text })
 }
 
-/// The flight after some is drafted.
+/// Drafts the flight after `earlier` ones.
 pub(crate) fn draft(alloc: Global, earlier: u32, minimum: u32) -> Result<Call, OutOfMemory>
     ensures { IfOk result (λ call. call ≡ spec.draft earlier minimum) }
 {
@@ -67,7 +67,7 @@ pub(crate) fn draft(alloc: Global, earlier: u32, minimum: u32) -> Result<Call, O
     )
 }
 
-/// Its release is prepared.
+/// Prepares the flight's release.
 pub(crate) fn prepare(alloc: Global, earlier: u32, release: u64) -> Result<Call, OutOfMemory>
     ensures { IfOk result (λ call. call ≡ spec.prepare earlier release) }
 {
@@ -75,7 +75,7 @@ pub(crate) fn prepare(alloc: Global, earlier: u32, release: u64) -> Result<Call,
     asked_by(alloc, Person::Dispatcher, number, Ask::Prepare { release })
 }
 
-/// The dispatcher signs its first revision.
+/// Signs its first revision, as the dispatcher.
 pub(crate) fn sign(
     alloc: Global,
     earlier: u32,
@@ -92,7 +92,7 @@ pub(crate) fn sign(
     asked_by(alloc, Person::Dispatcher, 4 * u64::from(earlier) + 3, ask)
 }
 
-/// The captain concurs with it.
+/// Concurs with its first revision, as the captain.
 pub(crate) fn concur(
     alloc: Global,
     earlier: u32,
@@ -109,7 +109,7 @@ pub(crate) fn concur(
     asked_by(alloc, Person::Captain, u64::from(earlier) + 1, ask)
 }
 
-/// The release is cancelled.
+/// Cancels the release.
 pub(crate) fn cancel(alloc: Global, earlier: u32, release: u64) -> Result<Call, OutOfMemory>
     ensures { IfOk result (λ call. call ≡ spec.cancel earlier release) }
 {

@@ -1,4 +1,4 @@
-//! A large valid input that is made of a number: calls of four persons of a small airline, one after another.
+//! Generates a large valid input from a seed: the calls of three people of a small airline.
 #![tactic(auto)]
 
 mod calls;

@@ -17,30 +17,30 @@ use std::marker::Model;
 /// The moment of all calls, 2025-03-12T17:25Z.
 pub const MADE_AT: Minute = 29_030_005;
 
-/// Which call comes next.
+/// The call that comes next.
 #[derive(Clone, Copy, Debug, PartialEq, Eq)]
 pub enum Turn {
-    /// A report of the weather at Boston is admitted.
+    /// Admit a forecast for Boston.
     First,
-    /// One of New York.
+    /// Admit a forecast for New York.
     Second,
-    /// One of Philadelphia.
+    /// Admit a forecast for Philadelphia.
     Third,
-    /// A flight is drafted.
+    /// Draft a flight.
     Draft,
-    /// Its release is prepared.
+    /// Prepare the flight's release.
     Prepare,
-    /// The dispatcher signs it.
+    /// Sign it as the dispatcher.
     Sign,
-    /// The captain concurs.
+    /// Concur as the captain.
     Concur,
-    /// It is cancelled.
+    /// Cancel it.
     Cancel,
-    /// None: all are made.
+    /// No call is left.
     End,
 }
 
-/// Makes the calls of a number one by one, each with what came of those before it.
+/// Generates the calls of a seed one by one, each with the results of those before it.
 #[derive(Debug, Drop)]
 pub struct Maker {
     turn: Turn,
@@ -95,7 +95,7 @@ fn no_digest() -> [u8; 32]
     [0; 32]
 }
 
-// 32 bytes are a digest.
+// Proves that 32 bytes are a digest, and returns them.
 fn whole(digest: [u8; 32]) -> [u8; 32]
     ensures value { result ≡ digest }
     ensures form { IsDigest result }
@@ -114,7 +114,7 @@ fn digest_of(done: Option<Done>) -> [u8; 32]
 }
 
 impl Maker {
-    /// Makes the calls of a number, with so many flights.
+    /// Starts with this seed, for `count` flights.
     #[tactic(auto, unfolding(crate::specs::Calls::calls, crate::specs::Makers::calls_left, crate::specs::Makers::how_many))]
     pub fn of(number: u32, count: u32) -> Maker
         requires { count ≤ 20_000 }
@@ -153,11 +153,11 @@ impl Maker {
         Ok(Some(call))
     }
 
-    /// The call that comes next, and none after the last one.
+    /// Returns the next call, or None after the last one.
     pub fn next(&self, alloc: Global) -> Result<Option<Call>, OutOfMemory>
         ensures next { IfOk result (λ call. call ≡ next_call self.now) }
         ensures forms { IfOk result (λ call. IfSome call CallHasForms) }
-        // There is none exactly where none is left.
+        // It is None exactly if no call is left.
         ensures last { IfOk result (λ call. (call ≡ None) ↔ ((came : Came) → calls_left self.now came ≡ [])) }
     {
         self.call(alloc)
@@ -210,7 +210,7 @@ impl Maker {
         }
     }
 
-    /// Notes what came of the call that was next: what it has done, and nothing where it was refused.
+    /// Takes the result of the next call, or None if it was refused, and moves on to the call after it.
     #[tactic(auto, using(crate::proofs::MakerLaws::goes_on))]
     pub fn note(&mut self, done: Option<Done>)
         ensures noted { self.new ≡ noted self.old done }

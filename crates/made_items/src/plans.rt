@@ -69,7 +69,7 @@ fn flight(alloc: Global, number: u64) -> Result<Text, OutOfMemory>
     Ok(Text::from_vec(flight))
 }
 
-/// The plan of the flight of a number, with a minimum fuel.
+/// Returns the plan of flight `number` with this minimum fuel, in pounds.
 pub(crate) fn plan_of(alloc: Global, number: u64, minimum: u32) -> Result<Plan, OutOfMemory>
     ensures { IfOk result (λ plan. plan ≡ spec.plan_of number minimum) }
 {

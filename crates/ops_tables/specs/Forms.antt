@@ -1,4 +1,4 @@
--- The forms of names: so many characters of a class.
+-- The forms of names in the tables: the characters and the number of them.
 use Rattle.std.specs.Prelude.{ℕ, ◌==◌, nat_le, nat_lt, Bool, ◌&&◌, ◌||◌, not, List, length}
 use Rattle.std.specs.List.{list_all}
 use Rattle.std.specs.Str.{bytes_eq}
@@ -24,14 +24,14 @@ in_mark b = in_name b || (b == 45)
 abbrev pub in_person : ℕ → Bool
 in_person b = in_name b || is_small b
 
--- a printable character that isn't the blank
+-- a printable ASCII character other than the space
 abbrev pub in_key : ℕ → Bool
 in_key b = nat_lt 32 b && nat_lt b 127
 
 abbrev pub has_length : ℕ → List ℕ → Bool
 has_length most field = nat_le 1 (length field) && nat_le (length field) most
 
--- one to so many characters of a kind
+-- one to `most` allowed characters
 abbrev pub is_word : (ℕ → Bool) → ℕ → List ℕ → Bool
 is_word allowed most field = has_length most field && list_all allowed field
 
@@ -39,11 +39,11 @@ is_word allowed most field = has_length most field && list_all allowed field
 unfoldable pub is_name : List ℕ → Bool
 is_name field = is_word in_name 8 field
 
--- a registration
+-- the registration of an aircraft
 unfoldable pub is_tail : List ℕ → Bool
 is_tail field = is_word in_mark 8 field
 
--- an item of a minimum equipment list
+-- the name of an item of a minimum equipment list
 unfoldable pub is_item : List ℕ → Bool
 is_item field = is_word in_mark 16 field
 
@@ -55,18 +55,18 @@ is_person field = is_word in_person 16 field
 unfoldable pub is_key : List ℕ → Bool
 is_key field = is_word in_key 64 field
 
--- a capability, or the empty field for none
+-- the name of a capability, or the empty field for none
 abbrev pub is_name_or_none : List ℕ → Bool
 is_name_or_none field = (length field == 0) || is_name field
 
--- an approach's name, its runway and the capability that it needs
+-- the names of an approach, its runway and the capability that it needs
 unfoldable pub are_names : List ℕ → List ℕ → List ℕ → Bool
 are_names a b c = is_name a && is_name b && is_name c
 
--- an item's type, its name, and the capability that is lost while it is deferred
+-- an item's type, its name, and the capability that is lost while it is deferred or the empty field
 unfoldable pub are_item_names : List ℕ → List ℕ → List ℕ → Bool
 are_item_names kind item capability = is_name kind && is_item item && is_name_or_none capability
 
--- a type and two of its items, which differ
+-- a type and two different items
 unfoldable pub are_two_items : List ℕ → List ℕ → List ℕ → Bool
 are_two_items kind item other = is_name kind && is_item item && is_item other && not (bytes_eq item other)

@@ -1,4 +1,4 @@
--- The key of each table, and rows of which no two have the same one.
+-- The key of each table, and rows of which no two have the same key.
 use Rattle.std.specs.Prelude.{◌≡◌, ℕ, ◌==◌, ◌≤◌, Bool, false, ◌&&◌, List, [], ◌∷◌, ◌++◌, length, All}
 use Rattle.std.specs.List.{list_any}
 use Rattle.std.specs.Str.{bytes_eq}
@@ -50,12 +50,12 @@ is_same_actor a b = bytes_eq b.name a.name
 abbrev pub is_same_hours : CaptainHours → CaptainHours → Bool
 is_same_hours a b = bytes_eq b.captain a.captain && bytes_eq b.kind a.kind
 
--- no row after some earlier ones has the key of one before it
+-- each of these rows has a key that none of the `earlier` rows and no row before it has
 abbrev pub AreNew : {R : Type 0} → (R → R → Bool) → List R → List R → Type 0
 AreNew is_same_key earlier [] = Unit {0}
 AreNew is_same_key earlier (row ∷ rows) = (list_any (is_same_key row) earlier ≡ false) × AreNew is_same_key (earlier ++ row ∷ []) rows
 
--- rows that a table may have: each of its form, no two of the same key, and no more than the limit
+-- rows that a table may have: every column fits, all keys are distinct, and there are at most `limit` rows
 pub record AreRows {R : Type 0} (is_same_key : R → R → Bool) (Fits : R → Type 0) (limit : ℕ) (rows : List R) : Type 0 where
   pub fits : All Fits rows
   pub distinct : AreNew is_same_key [] rows

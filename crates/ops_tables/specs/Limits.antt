@@ -1,5 +1,4 @@
--- The form and the range of each column of the tables. Heights and ceilings are feet, visibilities
--- sixteenths of a statute mile, fuel pounds, distances nautical miles.
+-- The form and range of each column: feet, sixteenths of a statute mile, minutes, pounds, knots and nautical miles.
 use Rattle.std.specs.Prelude.{◌≤◌, ◌&&◌, IsTrue}
 use Rattle.std.specs.List.{list_all}
 use Rattle.ops_tables.specs.Forms.{is_name, is_tail, is_person, is_key, are_names, are_item_names, are_two_items}

@@ -1,4 +1,4 @@
--- Tables whose rows name what stands in the tables.
+-- Tables in which each airport, type, item and captain that a row names is in its own table.
 use Rattle.std.specs.Prelude.{IsTrue, ◌&&◌, All}
 use Rattle.ops_tables.specs.Limits.{FitsSettings}
 use Rattle.ops_tables.specs.Tables.{TableRows, has_airport, has_type, has_item, has_captain}

@@ -1,4 +1,4 @@
--- Places of rows, and the order of the names of their groups.
+-- Indices of rows, sorted by the names of the rows' groups.
 use Rattle.std.specs.Prelude.{◌≡◌, ℕ, suc, ◌<◌, Bool, true, false, List, [], ◌∷◌, ◌++◌, length, Option, None, Some, All, filter, replicate, slice_get, take}
 use Rattle.std.specs.List.{filter_map, list_any}
 use Rattle.std.specs.List.Sorted.{IsSortedBy}
@@ -7,11 +7,11 @@ use Rattle.std.specs.Cmp.Lexicographic.{slice_cmp}
 use Rattle.std.specs.Str.{bytes_eq}
 use Rattle.ops_tables.specs.Keys.{AreNew}
 
--- the rows at some places
+-- the rows at these indices
 abbrev pub picked : {R : Type 0} → List R → List ℕ → List R
 picked rows places = filter_map (λ place. slice_get rows place) places
 
--- the places of rows, the first of which has that number
+-- the indices of the rows, counted from `start`
 abbrev pub places_from : {R : Type 0} → ℕ → List R → List ℕ
 places_from start [] = []
 places_from start (row ∷ rows) = start ∷ places_from (suc start) rows
@@ -20,15 +20,15 @@ abbrev pub name_or : {R : Type 0} → ℕ → (R → List ℕ) → Option R → 
 name_or size name None = replicate size 0
 name_or size name (Some row) = name row
 
--- the name of the group of the row at a place; zeros where there is none
+-- the group name of the row at this index; zeros if there is none
 abbrev pub name_at : {R : Type 0} → ℕ → (R → List ℕ) → List R → ℕ → List ℕ
 name_at size name rows place = name_or size name (slice_get rows place)
 
--- the places at which a row's group has that name
+-- those of the indices whose row is in the group named s
 abbrev pub places_at : {R : Type 0} → ℕ → (R → List ℕ) → List R → List ℕ → List ℕ → List ℕ
 places_at size name rows s places = filter (λ place. bytes_eq (name_at size name rows place) s) places
 
--- the places of rows, in the order of the names of their groups, and those of one group in their own order
+-- the indices of all rows, sorted by the names of their groups; rows of one group keep their order
 pub record IsOrder {R : Type 0} (size : ℕ) (name : R → List ℕ) (rows : List R) (order : List ℕ) : Type 0 where
   pub sorted : IsSortedBy (λ a b. is_lt (slice_cmp nat_cmp (name_at size name rows a) (name_at size name rows b))) order
   pub groups : (s : List ℕ) → places_at size name rows s order ≡ places_at size name rows s (places_from 0 rows)
@@ -38,16 +38,16 @@ abbrev pub is_same_as : {R : Type 0} → (R → R → Bool) → R → Option R �
 is_same_as is_same_key row None = false
 is_same_as is_same_key row (Some other) = is_same_key row other
 
--- whether an earlier row has the key of that one
+-- an earlier row has the key of this row
 abbrev pub is_doubled_by : {R : Type 0} → (R → R → Bool) → List R → Option R → Bool
 is_doubled_by is_same_key earlier None = false
 is_doubled_by is_same_key earlier (Some row) = list_any (is_same_key row) earlier
 
--- whether an earlier row has the key of the one at a place
+-- an earlier row has the key of the row at this index
 abbrev pub is_doubled : {R : Type 0} → (R → R → Bool) → List R → ℕ → Bool
 is_doubled is_same_key rows place = is_doubled_by is_same_key (take place rows) (slice_get rows place)
 
--- the row at that place is the first whose key an earlier one has
+-- the row at this index is the first whose key an earlier row has
 pub record IsFirstDoubled {R : Type 0} (is_same_key : R → R → Bool) (rows : List R) (place : ℕ) : Type 0 where
   pub before : List R
   pub row : R

@@ -1,13 +1,13 @@
--- Texts that stand one behind the other in some bytes, and bytes that are written over others.
+-- Three texts stored one after another in a byte string, and writing over a byte string.
 use Rattle.std.specs.Prelude.{ℕ, ◌+◌, List, ◌++◌, take, drop, length}
 
--- three texts of a row; the third is empty where a row has two
+-- three texts of a row; the third is empty if the row has two
 pub record Parts : Type 0 where
   pub first : List ℕ
   pub second : List ℕ
   pub third : List ℕ
 
--- the texts of these lengths
+-- the three texts of these lengths, one after another
 abbrev pub parts_in : List ℕ → ℕ → ℕ → ℕ → Parts
 parts_in bytes first second third = record {
   first = take first bytes;
@@ -15,6 +15,6 @@ parts_in bytes first second third = record {
   third = take third (drop (first + second) bytes);
 }
 
--- bytes that are written over others from a place on
+-- the bytes after `part` is written over them from index `place` on
 abbrev pub written : List ℕ → ℕ → List ℕ → List ℕ
 written over place part = take place over ++ part ++ drop (place + length part) over

@@ -1,4 +1,4 @@
--- The columns of rows that are kept in few bytes.
+-- The columns of the rows that are stored in a compact form.
 use Rattle.std.specs.Prelude.{ℕ, List}
 use Rattle.ops_tables.specs.declared.rows.Role.{Role}
 
@@ -8,7 +8,7 @@ pub record ItemPair : Type 0 where
   pub item : List ℕ
   pub other : List ℕ
 
--- a person, and the key that is asked for with the name
+-- a person, and the key that a request gives with the name
 pub record Actor : Type 0 where
   pub name : List ℕ
   pub key : List ℕ

@@ -1,4 +1,4 @@
--- Rows of the same key stand in one group.
+-- Proofs that rows with the same key are in the same group.
 use Rattle.std.proofs.Common.{◌≡◌, ◌∙◌, ap, refl, arith, ℕ, List, [], ◌∷◌, length, Bool, true, ◌&&◌, bytes_eq}
 use Rattle.std.specs.Prelude.{◌==◌}
 use Rattle.ops_tables.specs.Grouped.{group_name}
@@ -6,7 +6,7 @@ use Rattle.std.proofs.lemmas.Bool.{and_parts}
 use Rattle.std.proofs.lemmas.Bool.Decides.{nat_tests}
 use Rattle.desk_io.proofs.Bytes.{same_bytes, equal_bytes}
 
--- keys that are the same name the same group
+-- equal keys of one part have the same group name
 pub one_part : (a b : List ℕ) → bytes_eq a b ≡ true → bytes_eq (group_name a [] []) (group_name b [] []) ≡ true
 one_part a b h = ap (λ x. bytes_eq (group_name x [] []) (group_name b [] [])) (same_bytes a b h) ∙ equal_bytes (group_name b [] [])
 
@@ -38,7 +38,7 @@ none_there : (b : List ℕ) → (length b == 0) ≡ true → b ≡ []
 none_there [] h = refl
 none_there (x ∷ xs) h = absurd (omega (arith, zero_if (length (x ∷ xs)) h))
 
--- a row of one part stands in the group of the key that it has, of which the other parts are empty
+-- a row whose key has one part is in the group of that key
 pub by_one : (a b c k : List ℕ) → ((length b == 0) && (length c == 0) && bytes_eq k a) ≡ true → bytes_eq (group_name k [] []) (group_name a b c) ≡ true
 by_one a b c k h =
     let each = and_parts ((length b == 0) && (length c == 0)) (bytes_eq k a) h in

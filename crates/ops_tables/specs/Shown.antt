@@ -1,4 +1,4 @@
--- The rows of the tables that are loaded.
+-- The rows of tables that are being loaded.
 use Rattle.ops_tables.specs.Tables.{TableRows}
 use Rattle.ops_tables.specs.declared.loading.Loading.{Loading}
 

@@ -1,4 +1,4 @@
--- The tables as lists of rows, and what is looked up in them.
+-- The tables as lists of rows, and the lookups in them.
 use Rattle.std.specs.Prelude.{ℕ, Bool, true, false, ◌&&◌, ◌||◌, List, Option, None, Some, find, filter, is_some}
 use Rattle.std.specs.List.{list_any}
 use Rattle.std.specs.Option.{option_map}
@@ -41,7 +41,7 @@ is_station a b = bytes_eq a b
 abbrev pub airport_of : TableRows → Station → Option Airport
 airport_of t s = find (λ a. is_station a.station s) t.airports
 
--- the type of that name
+-- the type of this name
 abbrev pub type_named : TableRows → List ℕ → Option TypeRow
 type_named t kind = find (λ r. bytes_eq r.kind kind) t.types
 
@@ -49,7 +49,7 @@ abbrev pub type_of_tail : TableRows → Option Tail → Option TypeRow
 type_of_tail t None = None
 type_of_tail t (Some tail) = type_named t tail.kind
 
--- the aircraft of that name
+-- the aircraft of this registration
 abbrev pub tail_named : TableRows → List ℕ → Option Tail
 tail_named t tail = find (λ r. bytes_eq r.tail tail) t.tails
 
@@ -57,15 +57,15 @@ tail_named t tail = find (λ r. bytes_eq r.tail tail) t.tails
 abbrev pub type_of : TableRows → List ℕ → Option TypeRow
 type_of t tail = type_of_tail t (tail_named t tail)
 
--- whether a type may use an airport
+-- the type may use the airport
 abbrev pub may_use : TableRows → List ℕ → Station → Bool
 may_use t kind s = list_any (λ u. bytes_eq u.kind kind && is_station u.station s) t.uses
 
--- the miles from one airport to another
+-- the distance from one airport to another, in nautical miles
 abbrev pub miles_of : TableRows → Station → Station → Option ℕ
 miles_of t from to = option_map (λ d. d.miles) (find (λ d. is_station d.from from && is_station d.to to) t.distances)
 
--- whether a flag flight on the route may do without an alternate
+-- a flag flight on this route may go without an alternate
 abbrev pub route_free : TableRows → Station → Station → Bool
 route_free t from to = list_any (λ r. is_station r.from from && is_station r.to to) t.routes
 
@@ -76,15 +76,15 @@ item_of t kind item = find (λ r. bytes_eq r.kind kind && bytes_eq r.item item) 
 abbrev pub is_pair : ItemPair → List ℕ → List ℕ → List ℕ → Bool
 is_pair p kind one two = bytes_eq p.kind kind && bytes_eq p.item one && bytes_eq p.other two
 
--- whether the table has that pair
+-- the table has this pair in this order
 abbrev pub has_pair : TableRows → List ℕ → List ℕ → List ℕ → Bool
 has_pair t kind item other = list_any (λ p. is_pair p kind item other) t.pairs
 
--- whether two items of a type may not be deferred together, which holds both ways
+-- the two items may not be deferred together, in either order
 abbrev pub are_paired : TableRows → List ℕ → List ℕ → List ℕ → Bool
 are_paired t kind one two = has_pair t kind one two || has_pair t kind two one
 
--- the person of that name
+-- the person of this name
 abbrev pub actor_of : TableRows → List ℕ → Option Actor
 actor_of t name = find (λ a. bytes_eq a.name name) t.actors
 
@@ -92,7 +92,7 @@ abbrev pub hours_by : Option CaptainHours → ℕ
 hours_by None = 0
 hours_by (Some row) = row.hours
 
--- the hours of a captain as pilot in command in a type; 0 where there is no row
+-- the hours of a captain as pilot in command in a type; 0 if there is no row
 abbrev pub hours_of : TableRows → List ℕ → List ℕ → ℕ
 hours_of t captain kind = hours_by (find (λ h. bytes_eq h.captain captain && bytes_eq h.kind kind) t.hours)
 
@@ -100,11 +100,11 @@ hours_of t captain kind = hours_by (find (λ h. bytes_eq h.captain captain && by
 abbrev pub approaches_of : TableRows → Station → List Approach
 approaches_of t s = filter (λ a. is_station a.station s) t.approaches
 
--- the alternate minima of a station, in the order of the file
+-- the alternate minima of a station that has its own, in the order of the file
 abbrev pub alternates_of : TableRows → Station → List AlternateRow
 alternates_of t s = filter (λ a. is_station a.station s) t.alternates
 
--- what stands in the tables
+-- the airport is in the tables; the definitions below say the same of a type, an item and a captain
 abbrev pub has_airport : TableRows → Station → Bool
 has_airport t station = is_some (airport_of t station)
 

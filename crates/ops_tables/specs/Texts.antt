@@ -1,4 +1,4 @@
--- The texts of a row, wherever they stand, and what else it says.
+-- The texts of a row, stored inline or in a box, and its other column.
 use Rattle.std.specs.Prelude.{ℕ}
 use Rattle.ops_tables.specs.Parts.{Parts}
 use Rattle.ops_tables.specs.declared.row_texts.Place.{Place}

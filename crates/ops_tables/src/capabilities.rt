@@ -6,8 +6,8 @@ ghost use Rattle.ops_tables.specs.Names as spec;
 use desk_io::Text;
 use std::marker::Model;
 
-/// The capabilities of a type, as its row has them: names with one blank between any two. A contract sees
-/// the list of the names.
+/// The capabilities of a type: the text of its row, in which a space separates names. Contracts model it as the list
+/// of the names.
 #[derive(Debug, Drop)]
 pub struct Capabilities {
     text: Text,
@@ -22,7 +22,7 @@ impl Model for Capabilities {
     ghost view = { λ c. names_of c.text };
 }
 
-// Whether a part of the text between single blanks is that name.
+// Returns true if one of the parts between single spaces is this name.
 fn has_part(text: &[u8], name: &[u8]) -> bool
     ensures { result ≡ list_any (λ n. bytes_eq n name.now) (slice_split spec.is_blank text.now) }
 {
@@ -36,14 +36,14 @@ fn has_name_in(text: &[u8], name: &[u8]) -> bool
 }
 
 impl Capabilities {
-    /// The names of a text.
+    /// Takes the text of a row, in which a space separates names.
     pub fn of(text: Text) -> Capabilities
         ensures { result ≡ spec.names_of text }
     {
         Capabilities { text }
     }
 
-    /// Whether a name is one of them. It takes no memory.
+    /// Returns true if the name is one of the capabilities. It allocates nothing.
     pub fn has(&self, name: &[u8]) -> bool
         ensures { result ≡ spec.has_name self.now name.now }
     {

@@ -3,7 +3,7 @@ ghost use Rattle.ops_tables.specs.Order.{picked};
 
 use std::marker::Model;
 
-/// The rows of a table that stand in one group, in the order of the file. A contract sees the list of them.
+/// The rows of one group of a table, in the order of the file. Contracts model it as the list of these rows.
 #[derive(Drop)]
 pub struct Group<'a, R> {
     rows: &'a [R],
@@ -31,7 +31,7 @@ fn row_at<'a, R>(rows: &'a [R], places: &[u32], place: usize) -> &'a R
 }
 
 impl<'a, R> Group<'a, R> {
-    /// The rows at these places.
+    /// Borrows the rows at these indices.
     pub(crate) fn of(rows: &'a [R], places: &'a [u32]) -> Group<'a, R>
         requires { All (λ place. place < length rows.now) places.now }
         ensures { result ≡ picked rows.now places.now }
@@ -39,21 +39,21 @@ impl<'a, R> Group<'a, R> {
         Group { rows, places }
     }
 
-    /// How many there are.
+    /// Returns the number of rows.
     pub fn len(&self) -> usize
         ensures { result ≡ length self.now }
     {
         self.places.len()
     }
 
-    /// Whether there are none.
+    /// Returns true if there are no rows.
     pub fn is_empty(&self) -> bool
         ensures { result ≡ (length self.now == 0) }
     {
         self.len() == 0
     }
 
-    /// The row at a place of the group.
+    /// Returns the row at this index of the group.
     pub fn row(&self, place: usize) -> &'a R
         requires { place < length self.now }
         ensures { drop place self.now ≡ result.now ∷ drop (place + 1) self.now }

@@ -14,7 +14,7 @@ use desk_io::OutOfMemory;
 use std::alloc::Global;
 use std::marker::Model;
 
-/// The name of a group: the first sixteen bytes of each part of a key.
+/// A group name: the first sixteen bytes of each of the three parts of a key.
 pub(crate) type GroupName = [u8; 48];
 
 fn front(part: &[u8]) -> &[u8]
@@ -24,7 +24,7 @@ fn front(part: &[u8]) -> &[u8]
     if part.len() > 16 { &part[..16] } else { part }
 }
 
-/// The name of the group of a key. A part that a key doesn't have is empty.
+/// Returns the group name of a key. A part that a key doesn't have is empty.
 #[tactic(auto, unfolding(crate::specs::Grouped::group_name))]
 pub(crate) fn group_name(first: &[u8], second: &[u8], third: &[u8]) -> GroupName
     ensures { result ≡ spec.group_name first.now second.now third.now }
@@ -37,23 +37,23 @@ pub(crate) fn group_name(first: &[u8], second: &[u8], third: &[u8]) -> GroupName
     name
 }
 
-/// A row of a table. Its group has a name of so many bytes, and rows of the same key stand in one group.
+/// A row of a table. Its group has a name of N bytes. Rows with the same key are in the same group.
 pub trait Row<const N: usize>: Sized + Drop {
     ghost name: { Self → List ℕ };
 
     ghost is_same_key: { Self → Self → Bool };
 
-    /// The form and the range of each column.
+    /// The form and range of each column.
     ghost Fits: { Self → Type 0 };
 
-    /// How many rows the table may have.
+    /// The largest number of rows of the table.
     ghost limit: { ℕ };
 
-    /// The name of its group.
+    /// Returns the name of the row's group.
     fn group_name(&self) -> [u8; N]
         ensures { result ≡ name self.now };
 
-    /// Whether another row has its key.
+    /// Returns true if `other` has the same key.
     fn has_key_of(&self, other: &Self) -> bool
         ensures { result ≡ is_same_key self.now other.now };
 
@@ -64,11 +64,11 @@ pub trait Row<const N: usize>: Sized + Drop {
     ghost short: { nat_le N 48 ≡ true };
 }
 
-/// A row that is found by the parts of its key; those that its key doesn't have are empty.
+/// A row that is looked up by the parts of its key. Parts that its key doesn't have are empty.
 pub(crate) trait Keyed: Row<48> {
     ghost is_of: { List ℕ → List ℕ → List ℕ → Self → Bool };
 
-    /// Whether these are the parts of its key.
+    /// Returns true if these are the parts of the row's key.
     fn is_of(&self, first: &[u8], second: &[u8], third: &[u8]) -> bool
         ensures { result ≡ is_of first.now second.now third.now self.now };
 
@@ -76,8 +76,8 @@ pub(crate) trait Keyed: Row<48> {
         → bytes_eq (Self.Row.name r) (group_name a b c) ≡ true };
 }
 
-/// The rows of a table, which are found by their keys. No two have the same one. A contract sees them
-/// in the order in which they came.
+/// A table whose rows are looked up by their keys. No two rows have the same key. Contracts model it as the list of
+/// the rows, in the order of the file.
 #[derive(Drop)]
 pub struct Grouped<R: Row<N>, const N: usize> {
     rows: Vec<R>,
@@ -95,7 +95,7 @@ impl<R: Row<N>, const N: usize> Model for Grouped<R, N> {
     ghost invariant = { λ g. IsTable N R.name R.is_same_key R.Fits R.limit g.rows.items g.order.items };
 }
 
-// The rows of the group of that name.
+// Returns the rows of the group with this name.
 fn group_in<'a, R: Row<N>, const N: usize>(
     rows: &'a [R],
     order: &'a [u32],
@@ -109,7 +109,7 @@ fn group_in<'a, R: Row<N>, const N: usize>(
 }
 
 impl<R: Row<N>, const N: usize> Grouped<R, N> {
-    /// No rows.
+    /// Makes a table without rows.
     pub fn new(alloc: Global) -> Grouped<R, N>
         ensures { result ≡ [] }
     {
@@ -119,7 +119,14 @@ impl<R: Row<N>, const N: usize> Grouped<R, N> {
         }
     }
 
-    /// The rows as a table, or the place of the first whose key an earlier one has.
+    /// Returns all rows, in the order of the file.
+    pub fn rows(&self) -> &[R]
+        ensures { result.now ≡ self.now }
+    {
+        self.rows.as_slice()
+    }
+
+    /// Makes a table of these rows. The inner error is the index of the first row whose key an earlier row has.
     pub fn of(alloc: Global, rows: Vec<R>) -> Result<Result<Grouped<R, N>, usize>, OutOfMemory>
         requires fits { All R.Fits rows.items }
         requires within { length rows.items ≤ R.limit }
@@ -133,14 +140,14 @@ impl<R: Row<N>, const N: usize> Grouped<R, N> {
         }
     }
 
-    /// No two have the same key: a law, which does nothing.
+    /// Proves that no two rows have the same key. It does nothing at run time.
     pub fn are_distinct(&self)
         ensures { AreNew R.is_same_key [] self.now }
     {
         let _ = &self.rows;
     }
 
-    /// The rows of the group of that name, in their order.
+    /// Returns the rows of the group with this name, in the order of the file.
     pub(crate) fn at(&self, name: &[u8; N]) -> Group<'_, R>
         ensures value { result ≡ rows_at R.name name.now self.now }
         ensures fits { All R.Fits result }
@@ -149,7 +156,7 @@ impl<R: Row<N>, const N: usize> Grouped<R, N> {
     }
 }
 
-// The first row of a group of which these are the parts of the key.
+// Returns the first row of the group that has this key.
 fn found_in<'a, R: Keyed>(
     group: &Group<'a, R>,
     first: &[u8],
@@ -167,7 +174,7 @@ fn found_in<'a, R: Keyed>(
     None
 }
 
-/// The row of which these are the parts of the key.
+/// Returns the row that has this key.
 pub(crate) fn found<'a, R: Keyed>(
     rows: &'a Grouped<R, 48>,
     first: &[u8],
@@ -185,7 +192,7 @@ pub(crate) fn found<'a, R: Keyed>(
     )
 }
 
-/// Whether there is a row of which these are the parts of the key.
+/// Returns true if a row has this key.
 pub(crate) fn has<R: Keyed>(
     rows: &Grouped<R, 48>,
     first: &[u8],

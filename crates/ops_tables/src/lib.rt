@@ -1,4 +1,4 @@
-//! The operations tables of an airline, and what is looked up in them.
+//! The thirteen operations tables of an airline and the lookups in them.
 #![tactic(auto)]
 
 mod capabilities;

@@ -10,7 +10,7 @@ use crate::{
 };
 use desk_io::Station;
 
-/// The tables while they are loaded, each put in as a whole.
+/// The thirteen tables while they are loaded. Each is filled as a whole.
 #[derive(Drop)]
 pub struct Loading {
     pub settings: Settings,
@@ -29,28 +29,28 @@ pub struct Loading {
 }
 
 impl Loading {
-    /// Whether the station is an airport.
+    /// Returns true if `airports.csv` has this station.
     pub fn has_airport(&self, s: Station) -> bool
         ensures { result ≡ has_airport (shown self.now) s }
     {
         airport_in(&self.airports, s).is_some()
     }
 
-    /// Whether there is a type of that name.
+    /// Returns true if `types.csv` has a type of this name.
     pub fn has_type(&self, kind: &[u8]) -> bool
         ensures { result ≡ has_type (shown self.now) kind.now }
     {
         type_in(&self.types, kind).is_some()
     }
 
-    /// Whether the type has that item.
+    /// Returns true if `mel.csv` has this item for the type.
     pub fn has_item(&self, kind: &[u8], item: &[u8]) -> bool
         ensures { result ≡ has_item (shown self.now) kind.now item.now }
     {
         item_in(&self.mel, kind, item).is_some()
     }
 
-    /// Whether there is a person of that name who may be the pilot in command.
+    /// Returns true if `actors.csv` has a person of this name with role C, so that he may be the pilot in command.
     pub fn has_captain(&self, name: &[u8]) -> bool
         ensures { result ≡ has_captain (shown self.now) name.now }
     {

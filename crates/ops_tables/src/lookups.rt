@@ -11,7 +11,7 @@ use crate::{
 };
 use desk_io::Station;
 
-/// The airport of a station.
+/// Returns the airport of this station.
 pub(crate) fn airport_in(rows: &Grouped<Airport, 48>, s: Station) -> Option<&Airport>
     ensures value { option_copied result ≡ find (λ a. is_station a.station s) rows.now }
     ensures within { IfSome result (λ a. FitsAirport a.now) }
@@ -19,7 +19,7 @@ pub(crate) fn airport_in(rows: &Grouped<Airport, 48>, s: Station) -> Option<&Air
     found(rows, &s.bytes(), b"", b"")
 }
 
-/// The type of that name.
+/// Returns the type of this name.
 pub(crate) fn type_in<'a>(rows: &'a Grouped<TypeRow, 48>, kind: &[u8]) -> Option<&'a TypeRow>
     ensures value { option_copied result ≡ find (λ r. bytes_eq r.kind kind.now) rows.now }
     ensures within { IfSome result (λ r. FitsType r.now) }
@@ -27,21 +27,21 @@ pub(crate) fn type_in<'a>(rows: &'a Grouped<TypeRow, 48>, kind: &[u8]) -> Option
     found(rows, kind, b"", b"")
 }
 
-/// The aircraft of that registration.
+/// Returns the aircraft of this registration.
 pub(crate) fn tail_in<'a>(rows: &'a Grouped<Tail, 48>, tail: &[u8]) -> Option<&'a Tail>
     ensures { option_copied result ≡ find (λ r. bytes_eq r.tail tail.now) rows.now }
 {
     found(rows, tail, b"", b"")
 }
 
-/// Whether the type may use the airport.
+/// Returns true if the type may use the airport.
 pub(crate) fn is_used_in(rows: &Grouped<Use, 48>, kind: &[u8], s: Station) -> bool
     ensures { result ≡ list_any (λ u. bytes_eq u.kind kind.now && is_station u.station s) rows.now }
 {
     has(rows, kind, &s.bytes(), b"")
 }
 
-/// The miles from one airport to another.
+/// Returns the distance from one airport to another, in nautical miles.
 pub(crate) fn miles_in(rows: &Grouped<Distance, 48>, from: Station, to: Station) -> Option<u32>
     ensures value { result ≡ option_map (λ d. d.miles) (find (λ d. is_station d.from from && is_station d.to to)
         rows.now) }
@@ -51,14 +51,14 @@ pub(crate) fn miles_in(rows: &Grouped<Distance, 48>, from: Station, to: Station)
     Some(row.miles)
 }
 
-/// Whether the route is there.
+/// Returns true if the table has this route.
 pub(crate) fn is_route_in(rows: &Grouped<Route, 48>, from: Station, to: Station) -> bool
     ensures { result ≡ list_any (λ r. is_station r.from from && is_station r.to to) rows.now }
 {
     has(rows, &from.bytes(), &to.bytes(), b"")
 }
 
-/// The item of that name and type.
+/// Returns an item of a type's minimum equipment list.
 pub(crate) fn item_in<'a>(
     rows: &'a Grouped<MelRow, 48>,
     kind: &[u8],
@@ -70,7 +70,7 @@ pub(crate) fn item_in<'a>(
     found(rows, kind, item, b"")
 }
 
-/// Whether the pair is there.
+/// Returns true if the table has this pair in this order.
 pub(crate) fn is_paired_in(
     rows: &Grouped<ItemPair, 48>,
     kind: &[u8],
@@ -82,7 +82,7 @@ pub(crate) fn is_paired_in(
     has(rows, kind, item, other)
 }
 
-/// The person of that name.
+/// Returns the person of this name.
 pub(crate) fn actor_in<'a>(rows: &'a Grouped<Actor, 48>, name: &[u8]) -> Option<&'a Actor>
     ensures value { option_copied result ≡ find (λ a. bytes_eq a.name name.now) rows.now }
     ensures within { IfSome result (λ a. FitsActor a.now) }
@@ -90,7 +90,7 @@ pub(crate) fn actor_in<'a>(rows: &'a Grouped<Actor, 48>, name: &[u8]) -> Option<
     found(rows, name, b"", b"")
 }
 
-/// Whether the person of that name may be the pilot in command.
+/// Returns true if this person has role C, so that he may be the pilot in command.
 pub(crate) fn captain_in(rows: &Grouped<Actor, 48>, name: &[u8]) -> bool
     ensures { result ≡ is_captain (find (λ a. bytes_eq a.name name.now) rows.now) }
 {
@@ -115,7 +115,7 @@ fn hours_row_in<'a>(
     found(rows, captain, kind, b"")
 }
 
-/// The hours of a captain in a type; 0 where there is no row.
+/// Returns the hours of a captain in a type; 0 if there is no row.
 pub(crate) fn hours_in(rows: &Grouped<CaptainHours, 48>, captain: &[u8], kind: &[u8]) -> u32
     ensures value { result
         ≡ hours_by (find (λ h. bytes_eq h.captain captain.now && bytes_eq h.kind kind.now) rows.now) }

@@ -3,7 +3,7 @@ ghost use Rattle.ops_tables.specs.Names as spec;
 
 use crate::Lost;
 
-/// Whether a name is among some names.
+/// Returns true if the list contains this name.
 pub fn has_name(names: &Lost, name: &[u8]) -> bool
     ensures { result ≡ spec.has_name names.now name.now }
 {

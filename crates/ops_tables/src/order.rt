@@ -11,7 +11,7 @@ use crate::grouped::Row;
 use desk_io::OutOfMemory;
 use std::alloc::Global;
 
-// The name of the group of the row at a place; zeros where there is none.
+// Returns the group name of the row at this index, or zeros if there is no such row.
 fn name_at<R: Row<N>, const N: usize>(rows: &[R], place: u32) -> [u8; N]
     ensures { result ≡ spec.name_at N R.name rows.now place }
 {
@@ -44,7 +44,7 @@ fn places<R: Row<N>, const N: usize>(alloc: Global, rows: &[R]) -> Result<Vec<u3
     Ok(places)
 }
 
-/// The places of rows, in the order of the names of their groups.
+/// Returns the indices of the rows, sorted by group name. Rows of one group keep their order.
 pub(crate) fn order_of<R: Row<N>, const N: usize>(
     alloc: Global,
     rows: &[R],
@@ -69,7 +69,7 @@ fn after(places: &[u32], start: usize) -> &[u32]
     &places[start..]
 }
 
-/// The places of the rows in the group of that name.
+/// Finds the indices of the rows of one group by binary search.
 pub(crate) fn places_at<'a, R: Row<N>, const N: usize>(
     rows: &[R],
     order: &'a [u32],
@@ -103,7 +103,7 @@ fn is_same_at<R: Row<N>, const N: usize>(rows: &[R], row: &R, place: u32) -> boo
     }
 }
 
-// Whether a row at one of the places, which stands before that place, has the key of that row.
+// Returns true if a row at one of these indices, below `place`, has the same key as `row`.
 fn has_earlier<R: Row<N>, const N: usize>(rows: &[R], places: &[u32], row: &R, place: usize) -> bool
     ensures { result ≡ list_any (λ other. nat_lt other place
         && spec.is_same_as R.is_same_key row.now (slice_get rows.now other)) places.now }
@@ -116,7 +116,7 @@ fn has_earlier<R: Row<N>, const N: usize>(rows: &[R], places: &[u32], row: &R, p
     false
 }
 
-// Whether an earlier row has the key of the one at that place.
+// Returns true if an earlier row has the key of the row at this index.
 fn is_doubled<R: Row<N>, const N: usize>(rows: &[R], order: &[u32], place: usize) -> bool
     requires size { N ≤ 48 }
     requires order { IsOrder N R.name rows.now order.now }
@@ -127,7 +127,7 @@ fn is_doubled<R: Row<N>, const N: usize>(rows: &[R], order: &[u32], place: usize
     has_earlier(rows, places_at(rows, order, &row.group_name()), row, place)
 }
 
-/// The place of the first row whose key an earlier one has.
+/// Returns the index of the first row whose key an earlier row has.
 pub(crate) fn first_doubled<R: Row<N>, const N: usize>(rows: &[R], order: &[u32]) -> Option<usize>
     requires size { N ≤ 48 }
     requires order { IsOrder N R.name rows.now order.now }

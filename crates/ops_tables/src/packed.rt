@@ -3,7 +3,7 @@ ghost use Rattle.ops_tables.specs.Parts as spec;
 
 use std::marker::Model;
 
-/// Writes bytes over others, from a place on.
+/// Overwrites the bytes from index `place` on.
 pub(crate) fn write(over: &mut [u8], place: usize, part: &[u8])
     requires { place + length part.now ≤ length over.old }
     ensures { over.new ≡ spec.written over.old place part.now }
@@ -11,7 +11,7 @@ pub(crate) fn write(over: &mut [u8], place: usize, part: &[u8])
     over[place..place + part.len()].copy_from_slice(part);
 }
 
-// Bytes that begin with three texts.
+// Returns N bytes that begin with these three texts.
 fn joined<const N: usize>(first: &[u8], second: &[u8], third: &[u8]) -> [u8; N]
     requires { length first.now + length second.now + length third.now ≤ N }
     ensures first { take (length first.now) result ≡ first.now }
@@ -26,7 +26,7 @@ fn joined<const N: usize>(first: &[u8], second: &[u8], third: &[u8]) -> [u8; N]
     bytes
 }
 
-/// Three texts in a place for so many bytes.
+/// Three texts, stored inline in N bytes.
 #[derive(Drop)]
 pub(crate) struct Packed<const N: usize> {
     bytes: [u8; N],
@@ -47,7 +47,7 @@ impl<const N: usize> Model for Packed<N> {
 }
 
 impl<const N: usize> Packed<N> {
-    /// These texts, which have at most so many bytes together; a length is kept in a byte.
+    /// Packs three texts of at most N bytes in all. Each length is stored in one byte, so N is at most 255.
     pub(crate) fn of(first: &[u8], second: &[u8], third: &[u8]) -> Packed<N>
         requires size { N ≤ 255 }
         requires room { length first.now + length second.now + length third.now ≤ N }

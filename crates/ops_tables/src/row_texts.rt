@@ -5,16 +5,16 @@ use desk_io::OutOfMemory;
 use std::alloc::Global;
 use std::marker::Model;
 
-// Where the texts of a row stand: in a place for N bytes where they have no more, and else by themselves, in one
-// for M. What else the row says stands in each: behind both it would begin at a multiple of eight bytes.
+// Where the texts of a row are stored: inline if they fit in N bytes, otherwise in a box of M bytes. Each variant
+// holds the row's other column too. Stored after the enum, that column would begin at a multiple of eight bytes.
 #[derive(Drop)]
 enum Place<T: Copy + Drop, const N: usize, const M: usize> {
     Here(Packed<N>, T),
     Away(Box<Packed<M>>, T),
 }
 
-/// Three texts of a row and what else it says. Short ones stand in the row, so it takes few bytes where most are
-/// short, and long ones by themselves.
+/// Up to three texts of a row, and the row's other column. Short texts are stored inline, so that a row is small if
+/// most texts are short. Long texts are stored in a box.
 #[derive(Drop)]
 pub(crate) struct RowTexts<T: Copy + Drop, const N: usize, const M: usize> {
     place: Place<T, N, M>,
@@ -28,12 +28,12 @@ impl<T: Copy + Drop, const N: usize, const M: usize> Model for RowTexts<T, N, M>
 
     ghost view = { λ t. texts_at t.place };
 
-    // so that what stands by itself has a size that can be read
+    // bounds the size of the box, so that the texts in it can be read
     ghost invariant = { λ t. M ≤ 80 };
 }
 
 impl<T: Copy + Drop, const N: usize, const M: usize> RowTexts<T, N, M> {
-    /// These texts. Short ones take no memory.
+    /// Stores these texts and the other column. It allocates nothing if the texts fit in N bytes.
     pub(crate) fn of(
         alloc: Global,
         first: &[u8],

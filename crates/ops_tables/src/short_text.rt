@@ -2,8 +2,7 @@ ghost use Rattle.std.specs.Prelude.{◌≡◌, ◌≤◌, length};
 
 use std::marker::Model;
 
-/// A text of at most so many bytes, which stands in its row and takes no memory of its own. A contract
-/// sees the list of its bytes.
+/// A text of at most N bytes, stored inline. Contracts model it as the list of its bytes.
 #[derive(Debug, Drop)]
 pub struct ShortText<const N: usize> {
     bytes: [u8; N],
@@ -21,7 +20,7 @@ impl<const N: usize> Model for ShortText<N> {
 }
 
 impl<const N: usize> ShortText<N> {
-    /// The text of these bytes.
+    /// Copies these bytes.
     pub fn of(text: &[u8]) -> ShortText<N>
         requires size { N ≤ 64 }
         requires room { length text.now ≤ N }
@@ -35,7 +34,7 @@ impl<const N: usize> ShortText<N> {
         }
     }
 
-    /// Its bytes.
+    /// Returns the bytes.
     pub fn bytes(&self) -> &[u8]
         ensures { result.now ≡ self.now }
     {

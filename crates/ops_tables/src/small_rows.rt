@@ -9,7 +9,7 @@ use std::marker::Model;
 /// Two items of a type that may not be deferred together.
 #[derive(Drop)]
 pub struct ItemPair {
-    // 8, 16 and 16 bytes of text at most; with 20 in place the row has 24
+    // at most 8, 16 and 16 bytes of text; with 20 bytes inline a row takes 24
     row: RowTexts<(), 20, 40>,
 }
 
@@ -22,7 +22,7 @@ impl Model for ItemPair {
 }
 
 impl ItemPair {
-    /// Two items of a type. It takes no memory where their names and that of the type have at most 20 bytes together.
+    /// Makes a pair. It allocates nothing if the three names have at most 20 bytes in all.
     pub fn of(
         alloc: Global,
         kind: &[u8],
@@ -40,21 +40,21 @@ impl ItemPair {
         })
     }
 
-    /// The type.
+    /// Returns the name of the type.
     pub fn kind(&self) -> &[u8]
         ensures { result.now ≡ self.now.kind }
     {
         self.row.first()
     }
 
-    /// The one item.
+    /// Returns the first item.
     pub fn item(&self) -> &[u8]
         ensures { result.now ≡ self.now.item }
     {
         self.row.second()
     }
 
-    /// The other item.
+    /// Returns the second item.
     pub fn other(&self) -> &[u8]
         ensures { result.now ≡ self.now.other }
     {
@@ -62,10 +62,10 @@ impl ItemPair {
     }
 }
 
-/// A person: a name, the key that is asked for with it, and a role.
+/// A person: name, key and role. A request gives the name and the key.
 #[derive(Drop)]
 pub struct Actor {
-    // 16 and 64 bytes of text at most; with 19 in place the row has 24
+    // at most 16 and 64 bytes of text; with 19 bytes inline a row takes 24
     row: RowTexts<Role, 19, 80>,
 }
 
@@ -78,7 +78,7 @@ impl Model for Actor {
 }
 
 impl Actor {
-    /// A person. It takes no memory where name and key have at most 19 bytes together.
+    /// Makes a person. It allocates nothing if the name and the key have at most 19 bytes in all.
     pub fn of(alloc: Global, name: &[u8], key: &[u8], role: Role) -> Result<Actor, OutOfMemory>
         requires name { length name.now ≤ 16 }
         requires key { length key.now ≤ 64 }
@@ -90,21 +90,21 @@ impl Actor {
         })
     }
 
-    /// His name.
+    /// Returns the name.
     pub fn name(&self) -> &[u8]
         ensures { result.now ≡ self.now.name }
     {
         self.row.first()
     }
 
-    /// His key.
+    /// Returns the key.
     pub fn key(&self) -> &[u8]
         ensures { result.now ≡ self.now.key }
     {
         self.row.second()
     }
 
-    /// What he does.
+    /// Returns the role.
     pub fn role(&self) -> Role
         ensures { result ≡ self.now.role }
     {
@@ -112,10 +112,10 @@ impl Actor {
     }
 }
 
-/// The hours of a captain as pilot in command in a type of aircraft.
+/// The hours of a captain as pilot in command in a type of aircraft (14 CFR 121.652).
 #[derive(Drop)]
 pub struct CaptainHours {
-    // 16 and 8 bytes of text at most; with 13 in place, and the hours at a multiple of four, the row has 24
+    // at most 16 and 8 bytes of text; with 13 bytes inline, and the hours at a multiple of four, a row takes 24
     row: RowTexts<u32, 13, 24>,
 }
 
@@ -128,7 +128,7 @@ impl Model for CaptainHours {
 }
 
 impl CaptainHours {
-    /// The hours of a captain in a type. It takes no memory where the two names have at most 13 bytes together.
+    /// Makes a row. It allocates nothing if the two names have at most 13 bytes in all.
     pub fn of(
         alloc: Global,
         captain: &[u8],
@@ -145,21 +145,21 @@ impl CaptainHours {
         })
     }
 
-    /// The captain's name.
+    /// Returns the captain's name.
     pub fn captain(&self) -> &[u8]
         ensures { result.now ≡ self.now.captain }
     {
         self.row.first()
     }
 
-    /// The type.
+    /// Returns the name of the type.
     pub fn kind(&self) -> &[u8]
         ensures { result.now ≡ self.now.kind }
     {
         self.row.second()
     }
 
-    /// His hours.
+    /// Returns the hours.
     pub fn hours(&self) -> u32
         ensures { result ≡ self.now.hours }
     {

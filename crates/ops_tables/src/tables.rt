@@ -17,9 +17,9 @@ use crate::{Actor, Airport, AlternateRow, Approach, MelRow, Settings, TypeRow};
 use desk_io::Station;
 use std::marker::Model;
 
-/// The operations tables. Each row has the forms and ranges of its columns, no two rows of a table have
-/// the same key, and what a row names stands in its table. A contract sees the rows of each in the order
-/// of its file.
+/// The operations tables. Each column has its form and range. No two rows of a table have the same key. Each airport,
+/// type, item and captain that a row names is in its own table. Contracts model each table as its rows in the order
+/// of the file.
 #[derive(Drop)]
 pub struct Tables {
     loaded: Loading,
@@ -39,7 +39,7 @@ impl Model for Tables {
 }
 
 impl Tables {
-    /// The tables that were loaded.
+    /// Takes the tables that were loaded.
     pub fn of(loaded: Loading) -> Tables
         requires linked { AreLinked (shown loaded) }
         requires named { AreNamed (shown loaded) }
@@ -48,15 +48,15 @@ impl Tables {
         Tables { loaded }
     }
 
-    /// The names of its aircraft, items and persons have their forms, and its hours of captains are within their
-    /// limit: a law, which does nothing.
+    /// Proves that the names of aircraft, items and people have their forms, and that captains' hours are in range.
+    /// It does nothing at run time.
     pub fn are_named(&self)
         ensures { AreNamed self.now }
     {
         let _ = &self.loaded;
     }
 
-    /// The settings of the airline.
+    /// Returns the settings of the airline.
     pub fn settings(&self) -> Settings
         ensures value { result ≡ self.now.settings }
         ensures within { FitsSettings result }
@@ -64,7 +64,7 @@ impl Tables {
         self.loaded.settings
     }
 
-    /// The airport of a station.
+    /// Returns the airport of this station.
     pub fn airport(&self, s: Station) -> Option<Airport>
         ensures value { result ≡ airport_of self.now s }
         ensures within { IfSome result FitsAirport }
@@ -72,14 +72,14 @@ impl Tables {
         airport_in(&self.loaded.airports, s).copied()
     }
 
-    /// Whether there is an aircraft of that registration.
+    /// Returns true if `tails.csv` has an aircraft of this registration.
     pub fn has_tail(&self, tail: &[u8]) -> bool
         ensures { result ≡ is_some (tail_named self.now tail.now) }
     {
         tail_in(&self.loaded.tails, tail).is_some()
     }
 
-    /// The type of an aircraft.
+    /// Returns the type of an aircraft.
     pub fn type_of(&self, tail: &[u8]) -> Option<&TypeRow>
         ensures value { option_copied result ≡ type_of self.now tail.now }
         ensures within { IfSome result (λ r. FitsType r.now) }
@@ -91,14 +91,15 @@ impl Tables {
         }
     }
 
-    /// Whether a type may use an airport.
+    /// Returns true if the type may use the airport.
     pub fn may_use(&self, kind: &[u8], s: Station) -> bool
         ensures { result ≡ may_use self.now kind.now s }
     {
         is_used_in(&self.loaded.uses, kind, s)
     }
 
-    /// How far it is from one airport to another, in nautical miles. The way back counts by itself.
+    /// Returns the distance from one airport to another, in nautical miles. The opposite direction needs a row of its
+    /// own.
     pub fn miles(&self, from: Station, to: Station) -> Option<u32>
         ensures value { result ≡ miles_of self.now from to }
         ensures within { IfSome result (λ miles. miles ≤ 20000) }
@@ -106,15 +107,15 @@ impl Tables {
         miles_in(&self.loaded.distances, from, to)
     }
 
-    /// Whether a flag flight on the route may do without an alternate (14 CFR 121.621(a)(2)). The
-    /// way back counts by itself.
+    /// Returns true if a flag flight on this route may go without an alternate (14 CFR 121.621(a)(2)). The opposite
+    /// direction needs a row of its own.
     pub fn route_free(&self, from: Station, to: Station) -> bool
         ensures { result ≡ route_free self.now from to }
     {
         is_route_in(&self.loaded.routes, from, to)
     }
 
-    /// An item of a type's minimum equipment list.
+    /// Returns an item of a type's minimum equipment list.
     pub fn item(&self, kind: &[u8], item: &[u8]) -> Option<&MelRow>
         ensures value { option_copied result ≡ item_of self.now kind.now item.now }
         ensures within { IfSome result (λ r. FitsItem r.now) }
@@ -122,7 +123,7 @@ impl Tables {
         item_in(&self.loaded.mel, kind, item)
     }
 
-    /// Whether two items of a type may not be deferred together. It holds both ways.
+    /// Returns true if two items of a type may not be deferred together. Their order doesn't matter.
     pub fn paired(&self, kind: &[u8], one: &[u8], two: &[u8]) -> bool
         ensures { result ≡ are_paired self.now kind.now one.now two.now }
     {
@@ -130,7 +131,14 @@ impl Tables {
             || is_paired_in(&self.loaded.pairs, kind, two, one)
     }
 
-    /// The person of that name.
+    /// Returns all people in the order of `actors.csv`. It allocates nothing.
+    pub fn actors(&self) -> &[Actor]
+        ensures { result.now ≡ self.now.actors }
+    {
+        self.loaded.actors.rows()
+    }
+
+    /// Returns the person of this name.
     pub fn actor(&self, name: &[u8]) -> Option<&Actor>
         ensures value { option_copied result ≡ actor_of self.now name.now }
         ensures within { IfSome result (λ a. FitsActor a.now) }
@@ -138,15 +146,15 @@ impl Tables {
         actor_in(&self.loaded.actors, name)
     }
 
-    /// Whether there is a person of that name who may be the pilot in command.
+    /// Returns true if `actors.csv` has a person of this name with role C, so that he may be the pilot in command.
     pub fn has_captain(&self, name: &[u8]) -> bool
         ensures { result ≡ has_captain self.now name.now }
     {
         captain_in(&self.loaded.actors, name)
     }
 
-    /// The hours of a captain as pilot in command in a type, 0 where there is no row (14 CFR 121.652). It
-    /// takes no memory.
+    /// Returns the hours of a captain as pilot in command in a type (14 CFR 121.652); 0 if there is no row. It
+    /// allocates nothing.
     pub fn hours(&self, captain: &[u8], kind: &[u8]) -> u32
         ensures value { result ≡ hours_of self.now captain.now kind.now }
         ensures within { result ≤ 100_000 }
@@ -154,7 +162,7 @@ impl Tables {
         hours_in(&self.loaded.hours, captain, kind)
     }
 
-    /// The approaches of a station in the order of the file, none where there are none.
+    /// Returns the approaches of a station in the order of the file. The group may be empty.
     pub fn approaches(&self, s: Station) -> Group<'_, Approach>
         ensures value { result ≡ approaches_of self.now s }
         ensures within { All FitsApproach result }
@@ -162,8 +170,7 @@ impl Tables {
         self.loaded.approaches.at(&s.bytes())
     }
 
-    /// The alternate minima of a station that has its own, in the order of the file, none where
-    /// there are none.
+    /// Returns the alternate minima of a station that has its own, in the order of the file. The group may be empty.
     pub fn alternates(&self, s: Station) -> Group<'_, AlternateRow>
         ensures value { result ≡ alternates_of self.now s }
         ensures within { All FitsAlternate result }

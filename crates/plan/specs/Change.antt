@@ -1,4 +1,4 @@
--- What of a plan may change while its release is worked: what is flown has been flown as it stands.
+-- What an amendment may change of a plan, by the phase of its release.
 use Rattle.std.specs.Prelude.{◌≡◌, ℕ, ◌+◌, ◌<◌, ◌==◌, Bool, true, false, not, ◌&&◌, ◌||◌, if◌then◌else◌, List, [], ◌∷◌, length, take, Option, None, Some, is_some, IfSome}
 use Rattle.std.specs.List.{slice_get}
 use Rattle.std.specs.Option.{option_map}
@@ -44,32 +44,32 @@ has_same_fuel a b = (a.burn == b.burn) && (a.extra == b.extra) && (a.minimum == 
 abbrev pub has_same_alternates : Leg → Leg → Bool
 has_same_alternates a b = is_same_takeoff a.takeoff_alternate b.takeoff_alternate && are_same_alternates a.alternates b.alternates
 
--- legs that are the same in all
+-- the legs agree in everything
 abbrev pub is_same_leg : Leg → Leg → Bool
 is_same_leg a b = has_same_ends a b && has_same_times a b && has_same_fuel a b && has_same_alternates a b
 
--- two legs depart alike: from the same airport, at the same moment, with the same takeoff alternate
+-- the legs have the same departure, ETD and takeoff alternate
 abbrev pub departs_alike : Leg → Leg → Bool
 departs_alike a b = is_at a.from b.from && (a.etd == b.etd) && is_same_takeoff a.takeoff_alternate b.takeoff_alternate
 
--- The number of the first of some legs that isn't the same in a plan, or isn't there, where the first has that number.
+-- the number of the first flown leg that the plan changes or omits, if the first leg has number n
 abbrev pub first_changed : ℕ → List Leg → List Leg → Option ℕ
 first_changed n [] legs = None
 first_changed n (o ∷ os) [] = Some n
 first_changed n (o ∷ os) (l ∷ ls) = if is_same_leg o l then first_changed (n + 1) os ls else Some n
 
--- the leg in flight, which has that number, departs otherwise
+-- the leg in flight, number n, has another departure, ETD or takeoff alternate
 abbrev pub departed_otherwise : Option ℕ → ℕ → Option Leg → Leg → Option ℕ
 departed_otherwise None n old leg = None
 departed_otherwise (Some f) n None leg = Some n
 departed_otherwise (Some f) n (Some o) leg = if departs_alike o leg then None else Some n
 
--- no leg of that number remains to be flown, or it is in flight and departs otherwise
+-- the plan has no leg n, or leg n is in flight and departs otherwise
 abbrev pub next_fault : Option ℕ → ℕ → Option Leg → Option Leg → Option ℕ
 next_fault in_flight n old None = Some n
 next_fault in_flight n old (Some leg) = departed_otherwise in_flight n old leg
 
--- The first leg that may not be as it is: one of the flown ones that changed, or the one after them.
+-- The first leg that may not be as it is: a flown leg that changed, or the one after the flown legs.
 abbrev pub flown_fault : Phase → List Leg → List Leg → Option ℕ
 flown_fault phase old legs =
     or_else (first_changed 1 (take (flown phase old) old) legs) (next_fault (in_flight phase) (flown phase old + 1) (slice_get old (flown phase old)) (slice_get legs (flown phase old)))
@@ -80,7 +80,7 @@ is_same_kind Domestic Flag = false
 is_same_kind Flag Domestic = false
 is_same_kind Flag Flag = true
 
--- the flight or its rules are others, or another aircraft is in flight
+-- the flight number or the kind changed, or the aircraft changed in flight
 abbrev pub is_changed : Phase → Plan → Plan → Bool
 is_changed phase plan old =
     not (bytes_eq plan.flight old.flight) || not (is_same_kind plan.kind old.kind) || (is_some (in_flight phase) && not (bytes_eq plan.tail old.tail))
@@ -88,7 +88,7 @@ is_changed phase plan old =
 abbrev pub flown_at : ℕ → BadPlan
 flown_at n = record { leg = n; why = why.Flown }
 
--- The first test that a plan fails which is to take the place of another while the release is in a phase.
+-- The first test that an amendment of the plan `old` fails in this phase.
 unfoldable pub change_fault : Plan → Plan → Phase → Option BadPlan
 change_fault plan old phase =
     if is_changed phase plan old then Some (record { leg = 0; why = why.Changed }) else option_map flown_at (flown_fault phase old.legs plan.legs)
@@ -104,8 +104,8 @@ BothDepartAlike None leg = ⊥
 BothDepartAlike (Some old) None = ⊥
 BothDepartAlike (Some old) (Some leg) = DepartsAlike old leg
 
--- A plan that may take the place of another: the flight, its rules and in flight its aircraft stay, the legs that are
--- flown stay as they are, and one remains; the leg in flight has departed as it did.
+-- A plan that may amend another. The flight number, the kind and, in flight, the aircraft stay. Flown legs stay, and
+-- another leg remains. The leg in flight keeps its departure.
 pub record MayFollow (plan old : Plan) (phase : Phase) : Type 0 where
   pub flight : plan.flight ≡ old.flight
   pub kind : plan.kind ≡ old.kind

@@ -1,4 +1,4 @@
--- The findings of a judgement, and their order.
+-- The rules, their codes, and findings in order.
 use Rattle.std.specs.Prelude.{◌≡◌, ℕ, Bool, true, ◌&&◌, ◌||◌, ◌==◌, nat_lt, List, [], ◌∷◌, ◌++◌, find, Option, codes}
 use Rattle.std.specs.List.{AllByRecursion, list_any}
 use Rattle.plan.specs.declared.findings.Rule.{Rule}
@@ -26,19 +26,19 @@ number_of No17 = 17
 number_of No18 = 18
 number_of No19 = 19
 
--- the rules of legs, in their order
+-- the rules that are judged leg by leg
 abbrev pub rules_of_legs : List Rule
 rules_of_legs = No1 ∷ No2 ∷ No3 ∷ No4 ∷ No5 ∷ No6 ∷ No7 ∷ No8 ∷ No9 ∷ No10 ∷ No11 ∷ No12 ∷ No13 ∷ No14 ∷ No15 ∷ No16 ∷ No17 ∷ No18 ∷ []
 
--- every rule: those of legs, and that of the tables
+-- every rule: those of the legs, and that of the tables
 abbrev pub every_rule : List Rule
 every_rule = rules_of_legs ++ No19 ∷ []
 
--- the rule of a number
+-- the rule of this number
 abbrev pub rule_of : ℕ → Option Rule
 rule_of number = find (λ r. number_of r == number) every_rule
 
--- the section of 14 CFR that a rule stands in, or a name of the desk's own
+-- the rule's section of 14 CFR, or the desk's own name
 abbrev pub code_of : Rule → List ℕ
 code_of No1 = codes "121.593"
 code_of No2 = codes "121.595"
@@ -63,13 +63,13 @@ code_of No19 = codes "DESK-TABLES"
 abbrev pub is_same : Finding → Finding → Bool
 is_same a b = (number_of a.rule == number_of b.rule) && (a.leg == b.leg) && (a.place == b.place)
 
--- by rule, then by leg, then by place
+-- `a` comes before `b` in the order of rule, leg and place
 abbrev pub is_before : Finding → Finding → Bool
 is_before a b =
     nat_lt (number_of a.rule) (number_of b.rule)
     || ((number_of a.rule == number_of b.rule) && (nat_lt a.leg b.leg || ((a.leg == b.leg) && nat_lt a.place b.place)))
 
--- Findings in order: each is before all later ones, so none stands twice.
+-- Findings in order. Each comes before all later ones, so there are no duplicates.
 abbrev pub AreInOrder : List Finding → Type 0
 AreInOrder [] = Unit {0}
 AreInOrder (f ∷ fs) = AllByRecursion (λ g. is_before f g ≡ true) fs × AreInOrder fs
@@ -77,6 +77,6 @@ AreInOrder (f ∷ fs) = AllByRecursion (λ g. is_before f g ≡ true) fs × AreI
 abbrev pub is_among : List Finding → Finding → Bool
 is_among findings f = list_any (λ g. is_same f g) findings
 
--- each of some findings is among others
+-- each of the findings is among the others
 abbrev pub AreAmong : List Finding → List Finding → Type 0
 AreAmong others findings = AllByRecursion (λ f. is_among others f ≡ true) findings

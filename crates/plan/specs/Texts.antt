@@ -1,4 +1,4 @@
--- How findings and phases are written.
+-- The texts of findings and phases.
 use Rattle.std.specs.Prelude.{ℕ, Bool, true, false, List, [], ◌∷◌, ◌++◌, codes, decimal}
 use Rattle.std.specs.List.{concat}
 use Rattle.desk_time.specs.Limits.{IsMoment}
@@ -8,7 +8,7 @@ use Rattle.plan.specs.declared.findings.Finding.{Finding}
 use Rattle.plan.specs.declared.release.Phase.{Phase}
 use Rattle.plan.specs.declared.release.Phase.TheVariants.{Drafted, Ready, Flying, Stopped, Completed, Cancelled}
 
--- the code of the rule, the leg and the place
+-- the rule's code, the leg and the place
 unfoldable pub finding_text : Finding → List ℕ
 finding_text f = concat (code_of f.rule ∷ codes "/" ∷ decimal f.leg ∷ codes "/" ∷ decimal f.place ∷ [])
 

@@ -7,19 +7,19 @@ use crate::flights::{Kind, Leg};
 use codes::{Cond, meets};
 use desk_io::{MILE, Pair};
 
-/// The weather with which a domestic flight needs no alternate: 2,000 feet and 3 statute miles
-/// (14 CFR 121.619(a)).
+/// The least weather in which a domestic flight needs no alternate: 2,000 feet and 3 statute miles (14 CFR
+/// 121.619(a)).
 const DOMESTIC_FLOOR: Pair = Pair {
     ceiling: 2_000,
     vis: 3 * MILE,
 };
 
-/// The longest scheduled flight, in minutes, that may do without an alternate for its weather (14
-/// CFR 121.621(a)(1)).
+/// The longest scheduled time, in minutes, for which a flag flight may go without an alternate (14 CFR
+/// 121.621(a)(1)).
 const LONGEST_WITHOUT: u64 = 360;
 
-/// Whether a takeoff alternate is needed: the weather at the airport of departure is below all its
-/// landing minima (14 CFR 121.617(a)). It takes no memory.
+/// Returns true if a takeoff alternate is needed: the weather at the airport of departure meets none of its landing
+/// minima (14 CFR 121.617(a)). It allocates nothing.
 #[tactic(auto, unfolding(crate::specs::AlternateNeeds::needs_takeoff))]
 pub fn needs_takeoff(cond: Cond, landing: &[Pair]) -> bool
     ensures { result ≡ spec.needs_takeoff cond landing.now }
@@ -34,10 +34,9 @@ fn range(engines: u8, knots: u32) -> u32
     if engines >= 3 { 2 * knots } else { knots }
 }
 
-/// Whether a takeoff alternate is near enough: at most one hour away for an aircraft with two
-/// engines, and two hours for one with three or more, at its speed with one engine inoperative (14
-/// CFR 121.617(a)). The miles are nautical, and a distance that isn't known isn't in range. It takes
-/// no memory.
+/// Returns true if a takeoff alternate is near enough at the speed with one engine inoperative (14 CFR 121.617(a)).
+/// It may be one hour away for an aircraft with two engines, and two hours for one with three or more. `knots` is
+/// that speed. `miles` is the distance in nautical miles; an unknown distance is too far. It allocates nothing.
 #[tactic(auto, unfolding(crate::specs::AlternateNeeds::in_range))]
 pub fn in_range(engines: u8, knots: u32, miles: Option<u32>) -> bool
     requires { knots ≤ 1_000 }
@@ -58,11 +57,10 @@ fn misses(window: Cond, floor: Option<Pair>) -> bool
     }
 }
 
-/// Whether an alternate of the destination is needed, where `window` is the worst weather there
-/// from one hour before to one hour after the estimated time of arrival. A domestic flight needs one
-/// where that is below 2,000 feet or 3 statute miles (14 CFR 121.619(a)). A flag flight needs one
-/// where it is scheduled for more than six hours, or there is no floor or the weather is below it (14
-/// CFR 121.621(a)(1)). It takes no memory.
+/// Returns true if the destination needs an alternate. `window` is the worst weather there from one hour before to
+/// one hour after the ETA. A domestic flight needs an alternate if that is below 2,000 feet or 3 statute miles (14
+/// CFR 121.619(a)). A flag flight needs one if it is scheduled for more than six hours, or the weather is below
+/// `floor` or there is none (14 CFR 121.621(a)(1)). An unknown element counts as 0. It allocates nothing.
 #[tactic(auto, unfolding(crate::specs::AlternateNeeds::needs_destination))]
 pub fn needs_destination(leg: &Leg, kind: Kind, window: Cond, floor: Option<Pair>) -> bool
     ensures { result ≡ spec.needs_destination leg.now kind window floor }
@@ -73,7 +71,8 @@ pub fn needs_destination(leg: &Leg, kind: Kind, window: Cond, floor: Option<Pair
     }
 }
 
-// Whether an element of the weather is at or above its minimum raised by a margin.
+// Returns true if an element of the weather is at or above its minimum plus the margin. An unknown element meets only
+// 0.
 fn reaches_raised(value: Option<u32>, least: u32, margin: u32) -> bool
     ensures { result ≡ reaches value (least + margin) }
 {
@@ -97,8 +96,8 @@ fn meets_raised(cond: Cond, pairs: &[Pair], margin: Pair) -> bool
     pairs.iter().any(|pair| is_met_raised(cond, margin, *pair))
 }
 
-/// Whether the weather is marginal: it is below all these minima raised by the margin (14 CFR
-/// 121.619(a)). It takes no memory.
+/// Returns true if the weather is marginal: it meets none of these minima raised by the margin (14 CFR 121.619(a)).
+/// It allocates nothing.
 #[tactic(auto, unfolding(crate::specs::AlternateNeeds::is_marginal))]
 pub fn is_marginal(cond: Cond, pairs: &[Pair], margin: Pair) -> bool
     ensures { result ≡ spec.is_marginal cond pairs.now margin }

@@ -84,7 +84,7 @@ fn departs_alike(a: &Leg, b: &Leg) -> bool
         && is_same_takeoff(a.takeoff_alternate, b.takeoff_alternate)
 }
 
-// The number of the first of some legs that isn't the same in a plan, or isn't there.
+// Returns the number of the first of the flown legs that the plan changes or omits. Legs are counted from 1.
 fn first_changed(flown: &[Leg], legs: &[Leg]) -> Option<u32>
     requires { length flown.now ≤ 1000 }
     ensures { result ≡ spec.first_changed 1 flown.now legs.now }
@@ -136,7 +136,7 @@ fn next_fault(in_flight: Option<u32>, n: u32, old: Option<&Leg>, leg: Option<&Le
     }
 }
 
-// How many of the legs are flown.
+// Returns the number of flown legs: all of them once the release has ended.
 fn flown(phase: Phase, legs: &[Leg]) -> usize
     requires { PhaseFits phase legs.now }
     ensures value { result ≡ phases.flown phase legs.now }
@@ -205,10 +205,10 @@ fn fault_of_change(plan: &Plan, old: &Plan, phase: Phase) -> Option<BadPlan>
     }
 }
 
-/// The tests of a plan that is to take the place of another, whose release is in a phase. That the flight, the rules
-/// under which it is flown and, in flight, the aircraft stay is a test of leg 0. Then come the legs: those that are
-/// flown stay as they are, at least one remains, and the one in flight has departed as it did. The first that fails is
-/// the error. It takes no memory.
+/// Tests a plan that amends `old` while the release is in this phase. The first failed test is the error. The flight
+/// number and the kind must stay the same, and in flight the aircraft too; this is tested first, as leg 0. Flown legs
+/// must stay as they are, and at least one other leg must remain. The leg in flight must keep its departure, ETD and
+/// takeoff alternate. It allocates nothing.
 pub fn check_change(plan: &Plan, old: &Plan, phase: Phase) -> Result<(), BadPlan>
     requires few { IsPlan old.now }
     requires fits { PhaseFits phase old.now.legs }

@@ -10,37 +10,39 @@ use desk_io::Station;
 use desk_time::{Minute, PLAN_FIRST, PLAN_LAST};
 use ops_tables::Tables;
 
-/// Why a plan can't be flown.
+/// Why a plan is refused.
 #[derive(Clone, Copy, Debug, PartialEq, Eq)]
 pub enum PlanWhy {
-    /// The tables have no such aircraft.
+    /// `tails.csv` has no such aircraft.
     UnknownTail,
-    /// The tables have no such captain.
+    /// `actors.csv` has no captain of this name.
     UnknownCaptain,
-    /// There isn't one leg to eight, or a leg has more than three alternates.
+    /// The plan has no legs or more than eight, or a leg has more than three alternates.
     Count,
-    /// An airport of the leg isn't in the tables.
+    /// An airport of the leg isn't in `airports.csv`.
     NoAirport,
-    /// An airport stands twice where it may stand once.
+    /// The leg ends where it begins, its takeoff alternate is the departure, or an alternate is the destination or is
+    /// listed twice.
     Repeated,
     /// The leg doesn't begin where the leg before it ends.
     Unjoined,
-    /// A moment, or how long something takes, is out of its bounds.
+    /// A time, the order of two times, or a number of minutes is outside its limits.
     Times,
     /// An amount of fuel is above 1,000,000 pounds.
     Amount,
-    /// The flight, the rules under which it is flown, or the aircraft in flight is another.
+    /// An amendment changes the flight number, the kind or, in flight, the aircraft.
     Changed,
-    /// A leg that is flown is another, none remains to be flown, or the leg in flight has departed otherwise.
+    /// An amendment changes or omits a flown leg, or leaves no leg to fly. Or it changes the departure, ETD or
+    /// takeoff alternate of the leg in flight.
     Flown,
 }
 
 /// The first test that a plan fails.
 #[derive(Clone, Copy, Debug, PartialEq, Eq)]
 pub struct BadPlan {
-    /// The leg that fails it, from 1; 0 for a test of the whole plan.
+    /// The leg that fails, from 1; 0 for a test of the whole plan.
     pub leg: u32,
-    /// The test.
+    /// The test that fails.
     pub why: PlanWhy,
 }
 
@@ -284,11 +286,10 @@ fn fault_of(plan: &Plan, tables: &Tables) -> Option<BadPlan>
     }
 }
 
-/// The tests of a plan of at most 1,000 legs under the tables. Those of the whole plan are of leg 0: that
-/// its aircraft and its captain are known, and that it has one leg to eight. Then come those of each leg, all of
-/// one leg before the next: that its airports are known, that it has at most three alternates, that no airport
-/// stands twice where it may stand once, that it begins where the leg before it ends, that its times are in
-/// order and in bounds, and that its amounts of fuel are. The first that fails is the error. It takes no memory.
+/// Tests a plan under the tables. The first failed test is the error. The tests of the whole plan come first, as leg
+/// 0: the aircraft, the captain, and one to eight legs. Then each leg is tested in turn. Its airports are in the
+/// tables. It has at most three alternates. No airport is repeated. It begins where the leg before it ends. Times,
+/// minutes and fuel are within their limits. It allocates nothing.
 pub fn check_plan(plan: &Plan, tables: &Tables) -> Result<(), BadPlan>
     requires { IsPlan plan.now }
     ensures { MatchResult result (λ _. plan_fault tables.now plan.now ≡ None)

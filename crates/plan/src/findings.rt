@@ -4,63 +4,60 @@ ghost use Rattle.plan.specs.Findings as spec;
 use desk_io::{Copied, Listed, OutOfMemory};
 use std::alloc::Global;
 
-/// The rules that a release is judged by.
+/// The nineteen rules by which a release is judged.
 #[derive(Clone, Copy, Debug, PartialEq, Eq)]
 pub enum Rule {
-    /// 14 CFR 121.593: a domestic flight that stops for more than an hour is released again.
+    /// 14 CFR 121.593: a domestic flight that has stopped for more than an hour needs another release.
     No1,
-    /// 14 CFR 121.595: a flag flight that stops for more than six hours is released again.
+    /// 14 CFR 121.595: a flag flight that has stopped for more than six hours needs another release.
     No2,
-    /// 14 CFR 121.613: the weather at the destination at the ETA is at or above landing minima.
+    /// 14 CFR 121.613, 121.652: the destination is at or above landing minima at the ETA.
     No3,
-    /// 14 CFR 121.617: where the weather at the airport of departure is below landing minima, a takeoff
-    /// alternate is listed.
+    /// 14 CFR 121.617(a): if the departure is below landing minima at the ETD, a takeoff alternate is listed.
     No4,
-    /// 14 CFR 121.617(a): it is within the distance that the aircraft flies with one engine out.
+    /// 14 CFR 121.617(a): the takeoff alternate is within one or two hours with one engine inoperative.
     No5,
-    /// 14 CFR 121.617(b): the weather at it is at or above its minima as an alternate.
+    /// 14 CFR 121.617(b): the takeoff alternate is at or above its alternate minima.
     No6,
-    /// 14 CFR 121.619(a): a domestic flight that needs an alternate has one.
+    /// 14 CFR 121.619(a): a domestic leg that needs an alternate lists one.
     No7,
-    /// 14 CFR 121.619(a): it has a second one where the weather at the destination and at the first is
-    /// marginal.
+    /// 14 CFR 121.619(a): a domestic leg lists a second alternate if the destination and the first one are marginal.
     No8,
-    /// 14 CFR 121.621(a): a flag flight that needs an alternate has one, but on a route that may do
-    /// without.
+    /// 14 CFR 121.621(a): a flag leg that needs an alternate lists one, unless its route is free of them.
     No9,
-    /// 14 CFR 121.625: the weather at each listed alternate is at or above its minima as an alternate.
+    /// 14 CFR 121.625: each listed alternate is at or above its alternate minima.
     No10,
-    /// 14 CFR 121.628: no deferred item forbids the flight.
+    /// 14 CFR 121.628: no open deferral forbids the leg.
     No11,
-    /// 14 CFR 121.628: no deferred item is due for repair at the ETA.
+    /// 14 CFR 121.628: no open deferral is due for repair by the ETA.
     No12,
-    /// 14 CFR 121.631: the type may use each airport of the flight.
+    /// 14 CFR 121.631(a): the type may use the destination, the alternates and the takeoff alternate.
     No13,
-    /// 14 CFR 121.639: the minimum fuel of a domestic flight is what is required.
+    /// 14 CFR 121.639: the minimum fuel of a domestic leg is at least what is required.
     No14,
-    /// 14 CFR 121.645: the minimum fuel of a flag flight is what is required.
+    /// 14 CFR 121.645: the minimum fuel of a flag leg is at least what is required.
     No15,
-    /// The desk's own: the fuel aboard is at or above the minimum fuel.
+    /// The desk's own: the fuel on board is at least the minimum fuel.
     No16,
-    /// The desk's own: no leg departs much later than at its ETD.
+    /// The desk's own: the next leg departs at most `late_off` minutes after its ETD.
     No17,
-    /// The desk's own: no leg arrives much later than at its ETA.
+    /// The desk's own: the leg in flight arrives at most `late_on` minutes after its ETA.
     No18,
     /// The desk's own: the plan passes its tests under the tables.
     No19,
 }
 
-/// A rule that fails.
+/// A rule that a release fails, with the leg and the place.
 #[derive(Clone, Copy, Debug, PartialEq, Eq)]
 pub struct Finding {
     pub rule: Rule,
-    /// The leg for which it fails, from 1; 0 for the tests of the whole plan.
+    /// The leg that fails, from 1; 0 if the plan as a whole fails.
     pub leg: u32,
-    /// What it fails for, where the rule speaks of several things; else 0.
+    /// Which of several things on the leg fails, such as an alternate or a deferral; otherwise 0.
     pub place: u64,
 }
 
-/// Findings in order of rule, leg and place, each once.
+/// Findings sorted by rule, leg and place, without duplicates.
 pub type Findings = Listed<Finding>;
 
 impl Copied for Finding {
@@ -69,7 +66,7 @@ impl Copied for Finding {
     }
 }
 
-/// Every rule, in their order.
+/// All rules in their order.
 pub const EVERY_RULE: [Rule; 19] = [
     Rule::No1,
     Rule::No2,
@@ -92,7 +89,7 @@ pub const EVERY_RULE: [Rule; 19] = [
     Rule::No19,
 ];
 
-/// The rules of legs: every one but the last, which speaks of the tables.
+/// Returns the rules that are judged leg by leg: all but the last, which tests the plan under the tables.
 pub fn rules_of_legs() -> &'static [Rule]
     ensures { result.now ≡ spec.rules_of_legs }
 {
@@ -100,7 +97,7 @@ pub fn rules_of_legs() -> &'static [Rule]
 }
 
 impl Rule {
-    /// Its number.
+    /// Returns the rule's number, from 1.
     pub fn number(self) -> u8
         ensures value { result ≡ spec.number_of self }
         ensures own { spec.rule_of result ≡ Some self }
@@ -128,7 +125,7 @@ impl Rule {
         }
     }
 
-    /// The section that it stands in, as findings are written.
+    /// Returns the rule's code in findings: its section of 14 CFR or the desk's own name.
     pub fn code(self) -> &'static str
         ensures { result.now ≡ spec.code_of self }
     {
@@ -156,14 +153,14 @@ impl Rule {
     }
 }
 
-/// Whether two findings are the same.
+/// Returns true if the findings are equal.
 pub fn is_same(a: &Finding, b: &Finding) -> bool
     ensures { result ≡ spec.is_same a.now b.now }
 {
     a.rule.number() == b.rule.number() && a.leg == b.leg && a.place == b.place
 }
 
-/// Whether a finding stands before another: by rule, then by leg, then by place.
+/// Returns true if `a` comes before `b` in the order of rule, leg and place.
 pub fn is_before(a: &Finding, b: &Finding) -> bool
     ensures { result ≡ spec.is_before a.now b.now }
 {

@@ -2,13 +2,13 @@ use desk_io::{Copied, Listed, OutOfMemory, Station, Text, copied_option};
 use desk_time::Minute;
 use std::alloc::Global;
 
-/// The legs of a plan, in the order in which they are flown.
+/// The legs of a plan in the order of flight.
 pub type Legs = Listed<Leg>;
 
-/// The alternates of a leg, in the order in which they are listed.
+/// The alternates of a leg in the order of the plan.
 pub type Alternates = Listed<Alternate>;
 
-/// Whether the rules for domestic or for flag operations apply (14 CFR 110.2).
+/// The kind of operation, whose rules apply to the plan (14 CFR 110.2).
 #[derive(Clone, Copy, Debug, PartialEq, Eq)]
 pub enum Kind {
     Domestic,
@@ -18,15 +18,15 @@ pub enum Kind {
 /// A flight of one or more legs, as a dispatcher plans it.
 #[derive(Debug, Drop)]
 pub struct Plan {
-    /// The number of the flight.
+    /// The flight number.
     pub flight: Text,
     /// The registration of the aircraft.
     pub tail: Text,
-    /// The rules under which it is flown.
+    /// The rules by which the plan is judged.
     pub kind: Kind,
     /// The name of the pilot in command.
     pub captain: Text,
-    /// The legs, from the first departure on.
+    /// The legs in the order of flight.
     pub legs: Legs,
 }
 
@@ -41,37 +41,37 @@ pub struct Leg {
     pub etd: Minute,
     /// The estimated time of arrival.
     pub eta: Minute,
-    /// How long it is in the air, in minutes.
+    /// The planned time in the air, in minutes.
     pub minutes: u32,
     /// The fuel to fly to the destination and land there, in pounds.
     pub burn: u32,
-    /// The fuel for the factors of 14 CFR 121.647, as the dispatcher states it, in pounds.
+    /// The fuel that the dispatcher adds for the factors of 14 CFR 121.647, in pounds.
     pub extra: u32,
-    /// The minimum fuel with which it may be released, in pounds.
+    /// The least fuel that the release states for the leg, in pounds.
     pub minimum: u32,
-    /// The fuel aboard at departure, in pounds.
+    /// The fuel on board at departure, in pounds.
     pub onboard: u32,
-    /// The alternate of the airport of departure, where one is listed (14 CFR 121.617).
+    /// The takeoff alternate, if one is listed (14 CFR 121.617).
     pub takeoff_alternate: Option<TakeoffAlternate>,
     /// The alternates of the destination (14 CFR 121.619, 121.621).
     pub alternates: Alternates,
 }
 
-/// An airport to go to where the aircraft can't return to the airport of departure.
+/// An airport for the aircraft to go to if it can't return to the airport of departure.
 #[derive(Clone, Copy, Debug, PartialEq, Eq)]
 pub struct TakeoffAlternate {
     /// The airport.
     pub station: Station,
-    /// How long it takes to fly there after departure, in minutes.
+    /// The flight time from the departure, in minutes.
     pub minutes: u32,
 }
 
-/// An airport to go to where the aircraft can't land at the destination.
+/// An airport for the aircraft to go to if it can't land at the destination.
 #[derive(Clone, Copy, Debug, PartialEq, Eq)]
 pub struct Alternate {
     /// The airport.
     pub station: Station,
-    /// How long it takes to fly there from the destination, in minutes.
+    /// The flight time from the destination, in minutes.
     pub minutes: u32,
     /// The fuel to fly there from the destination, in pounds.
     pub fuel: u32,

@@ -4,20 +4,20 @@ ghost use Rattle.plan.specs.Distant.{IsToMostDistant};
 
 use crate::flights::{Alternate, Leg};
 
-/// Which rule the fuel of a leg is counted by.
+/// The rule by which the fuel of a leg is counted.
 #[derive(Clone, Copy, Debug, PartialEq, Eq)]
 pub enum Basis {
-    /// To the airport, then to the most distant alternate, then 45 minutes at cruise (14 CFR
-    /// 121.639, and 121.645(a) between two airports of the 48 states).
+    /// To the destination, then to the most distant alternate, then 45 minutes at the cruise rate (14 CFR 121.639;
+    /// 121.645(a) between two airports of the 48 contiguous states).
     Domestic,
-    /// To the airport, then ten percent of the time, then to the most distant alternate, then 30
-    /// minutes of holding (14 CFR 121.645(b)).
+    /// To the destination, then ten percent of the time in the air, then to the most distant alternate, then 30
+    /// minutes holding (14 CFR 121.645(b)).
     Flag,
-    /// To an airport without an alternate, then two hours at cruise (14 CFR 121.645(c)).
+    /// To a destination without an alternate, then two hours at the cruise rate (14 CFR 121.645(c)).
     NoAlternate,
 }
 
-// The greatest fuel to one of the alternates; 0 where there are none.
+// Returns the greatest fuel to an alternate; 0 if there is none.
 fn most_fuel(alternates: &[Alternate]) -> u32
     ensures { result ≡ spec.most_fuel alternates.now }
 {
@@ -38,24 +38,23 @@ fn alternate_fuel(leg: &Leg, counted: bool) -> u32
     }
 }
 
-// The fuel of some minutes at a rate for each hour, rounded up.
+// Returns the fuel for a number of minutes at an hourly rate, rounded up.
 fn fuel_for(pph: u32, minutes: u32) -> u64
     ensures { result ≡ spec.fuel_for pph minutes }
 {
     (u64::from(pph) * u64::from(minutes)).div_ceil(60)
 }
 
-// The fuel of ten percent of some minutes at a rate for each hour, rounded up.
+// Returns the fuel for a tenth of a number of minutes at an hourly rate, rounded up.
 fn tenth_for(pph: u32, minutes: u32) -> u64
     ensures { result ≡ spec.tenth_for pph minutes }
 {
     (u64::from(pph) * u64::from(minutes)).div_ceil(600)
 }
 
-/// The fuel that a leg requires, in pounds. `counted` says whether the flight to the most distant
-/// alternate, the one with the greatest fuel, is counted. `cruise_pph` and `hold_pph` are pounds per
-/// hour. `extra_fuel` is what deferred equipment adds, in pounds. Each division is rounded up. It
-/// takes no memory.
+/// Returns the fuel that a leg requires, in pounds. `counted` tells whether to count the fuel to the most distant
+/// alternate, the one that takes the most fuel. `cruise_pph` and `hold_pph` are rates in pounds per hour.
+/// `extra_fuel` is what open deferrals add, in pounds. Each division is rounded up. It allocates nothing.
 #[tactic(auto, unfolding(crate::specs::Fuel::required), using(crate::proofs::Distances::most_is_to_most_distant))]
 pub fn required(
     leg: &Leg,

@@ -1,4 +1,4 @@
-//! The plans of flights, their releases, the rules that these fail, and the fuel and the alternates that they need.
+//! Plans of flights and their releases, the tests of a plan, the fuel and alternates that it needs, and findings.
 #![tactic(auto)]
 
 mod alternate_needs;

@@ -6,46 +6,46 @@ use desk_io::{Copied, HasId, Listed, OutOfMemory, Text, copied_option};
 use desk_time::Minute;
 use std::alloc::Global;
 
-/// Where a release stands.
+/// The phase of a release.
 #[derive(Clone, Copy, Debug, PartialEq, Eq)]
 pub enum Phase {
     /// No captain has concurred yet.
     Drafted,
-    /// Both have signed, and no leg has departed.
+    /// Dispatcher and captain have signed, and no leg has departed.
     Ready,
-    /// That leg has departed, and hasn't arrived.
+    /// Leg `leg`, counted from 1, has departed and hasn't arrived.
     Flying {
         leg: u32,
     },
-    /// The legs before `next` have arrived, the last of them at `since`. `again` tells whether a captain has
-    /// concurred since then.
+    /// The legs before `next` have arrived, the last of them at `since`. `again` is true if a captain has concurred
+    /// since then.
     Stopped {
         next: u32,
         since: Minute,
         again: bool,
     },
-    /// Its last leg arrived at that moment.
+    /// The last leg arrived at this moment.
     Completed {
         at: Minute,
     },
-    /// It was cancelled at that moment.
+    /// The release was cancelled at this moment.
     Cancelled {
         at: Minute,
     },
 }
 
-/// Where a leg of a release stands.
+/// The state of one leg of a release.
 #[derive(Clone, Copy, Debug, PartialEq, Eq)]
 pub enum Standing {
-    /// It hasn't departed.
+    /// The leg hasn't departed.
     Ahead,
-    /// It has departed, and hasn't arrived.
+    /// The leg has departed and hasn't arrived.
     InFlight,
-    /// It is flown, or will never be.
+    /// The leg has arrived, or the release has ended.
     Flown,
 }
 
-// Where a leg stands while one is in flight.
+// Returns the state of a leg while leg `in_flight` is in flight.
 fn beside(in_flight: u32, leg: u32) -> Standing
     ensures { result ≡ spec.beside in_flight leg }
 {
@@ -58,7 +58,7 @@ fn beside(in_flight: u32, leg: u32) -> Standing
     }
 }
 
-// Where a leg stands while the aircraft is on the ground.
+// Returns the state of a leg while the aircraft is on the ground and leg `next` departs next.
 fn before(next: u32, leg: u32) -> Standing
     ensures { result ≡ spec.before next leg }
 {
@@ -69,7 +69,7 @@ fn before(next: u32, leg: u32) -> Standing
     }
 }
 
-/// Where a leg of a release in a phase stands, counted from 1.
+/// Returns the state of a leg, counted from 1, in this phase.
 pub fn standing_of(phase: Phase, leg: u32) -> Standing
     ensures { result ≡ spec.standing phase leg }
 {
@@ -81,7 +81,7 @@ pub fn standing_of(phase: Phase, leg: u32) -> Standing
     }
 }
 
-/// Whether a release in a phase may be flown by, and is judged.
+/// Returns true if the release is in force in this phase: its active revision may be flown, and it is judged.
 pub fn is_active(phase: Phase) -> bool
     ensures { result ≡ spec.is_active phase }
 {
@@ -91,7 +91,7 @@ pub fn is_active(phase: Phase) -> bool
     }
 }
 
-/// Whether the leg of a number, counted from 1, is in flight.
+/// Returns true if this leg, counted from 1, is in flight.
 pub fn is_flying(phase: Phase, number: u32) -> bool
     ensures { result ≡ spec.is_flying phase number }
 {
@@ -105,12 +105,12 @@ pub fn is_flying(phase: Phase, number: u32) -> bool
     }
 }
 
-/// The signature of a person on the text of a release (14 CFR 121.663).
+/// A person's signature on the text of a release (14 CFR 121.663).
 #[derive(Debug, Drop)]
 pub struct Signature {
-    /// Who signed.
+    /// The name of the person.
     pub actor: Text,
-    /// When.
+    /// When he signed.
     pub at: Minute,
     /// The SHA-256 of the text that was signed.
     pub digest: [u8; 32],
@@ -119,43 +119,43 @@ pub struct Signature {
 /// A weather report that is attached to a release (14 CFR 121.687(b)).
 #[derive(Debug, Drop)]
 pub struct Attached {
-    /// Its number.
+    /// The number of the report.
     pub report: u64,
-    /// Its canonical text.
+    /// The canonical text of the report.
     pub text: Text,
 }
 
-/// The reports that are attached to a release, in the order in which its text has them.
+/// The reports that are attached to a revision, in the order of its text.
 pub type AttachedList = Listed<Attached>;
 
-/// A plan as it stands in a release, and who has signed it.
+/// A plan that was filed for a release, its attached weather, and the signatures.
 #[derive(Debug, Drop)]
 pub struct Revision {
-    /// Its number, from 1.
+    /// The number of the revision, from 1.
     pub number: u64,
     pub plan: Plan,
-    /// Whether its weather is attached, so that it has a text that may be signed.
+    /// Whether the weather is attached, so that the revision has a text to sign.
     pub prepared: bool,
-    /// The weather that is attached: none before it is prepared.
+    /// The attached weather; empty until the revision is prepared.
     pub attached: AttachedList,
     pub dispatcher: Option<Signature>,
     pub captain: Option<Signature>,
-    /// The hours that its captain had flown in its type when he concurred, as the tables then said: none before, and
-    /// none where he concurred before hours were kept.
+    /// The captain's hours in the type when he concurred, by `hours.csv`. It is None until then, and in a record that
+    /// has no hours.
     pub hours: Option<u32>,
 }
 
 /// A dispatch release (14 CFR 121.593, 121.595).
 #[derive(Debug, Drop)]
 pub struct Release {
-    /// Its number, from 1.
+    /// The number of the release, from 1.
     pub id: u64,
-    /// The dispatcher who drafted it.
+    /// The dispatcher who drafted the release.
     pub holder: Text,
     pub phase: Phase,
-    /// The revision that waits for signatures.
+    /// The revision that waits for signatures, if any.
     pub pending: Option<Revision>,
-    /// The revision that both have signed.
+    /// The revision that both have signed, if any.
     pub active: Option<Revision>,
 }
 

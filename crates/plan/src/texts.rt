@@ -10,7 +10,7 @@ use desk_io::{OutOfMemory, Text, push_all};
 use desk_time::{Minute, show};
 use std::alloc::Global;
 
-/// A finding as it is written: the section of its rule, its leg and its place.
+/// Writes a finding as `CODE/LEG/PLACE`, for example `121.625/1/1`.
 #[tactic(auto, unfolding(crate::specs::Texts::finding_text))]
 pub fn finding_text(alloc: Global, finding: &Finding) -> Result<Text, OutOfMemory>
     ensures { IfOk result (λ t. t ≡ spec.finding_text finding.now) }
@@ -62,7 +62,7 @@ fn stopped_text(
     Ok(out)
 }
 
-// A word and a moment.
+// Writes a word and a moment.
 fn ended_text(alloc: Global, word: &[u8], at: Minute) -> Result<Vec<u8>, OutOfMemory>
     requires { IsMoment at }
     ensures { IfOk result (λ v. v.items ≡ word.now ++ shown at) }
@@ -81,7 +81,7 @@ fn flying_text(alloc: Global, leg: u32) -> Result<Vec<u8>, OutOfMemory>
     Ok(out)
 }
 
-/// A phase as it is written.
+/// Writes a phase, for example `FLYING 1`.
 #[tactic(auto, unfolding(crate::specs::Texts::phase_text))]
 pub fn phase_text(alloc: Global, phase: Phase) -> Result<Text, OutOfMemory>
     requires { spec.HasMoment phase }

@@ -1,4 +1,4 @@
--- Records as rows. A body is canonical JSON: no blank, each key in its place in byte order.
+-- Records as rows, whose bodies are canonical JSON: no white space, and keys in byte order.
 use Rattle.std.specs.Prelude.{List, [], ◌∷◌, codes}
 use Rattle.std.specs.Str.Lossy.{utf8_lossy}
 use Rattle.serde_json.specs.Data.{Data, boolean, object, Members, member, no_members, put}
@@ -22,12 +22,12 @@ use Rattle.records.specs.declared.record.Meta.{Meta as MetaOf}
 use Rattle.records.specs.declared.record.Record.{Record}
 use Rattle.records.specs.declared.record.Record.TheVariants.{Meta, Report, Deferral, Release, Kept, Alert}
 
--- Some members, and the number of each person under his name, where it belongs in byte order.
+-- Members with the floor of each person added under his name, in byte order.
 abbrev pub with_floors : Members → List Floor → Members
 with_floors ms [] = ms
 with_floors ms (f ∷ fs) = with_floors (put (utf8_lossy f.actor) (count f.number) ms) fs
 
--- an object from persons to numbers
+-- floors as an object from names to numbers
 unfoldable pub floors_data : List Floor → Data
 floors_data floors = object (with_floors no_members floors)
 
@@ -49,7 +49,7 @@ abbrev pub deferral_members : DeferralOf → Members
 deferral_members d =
     member (codes "found") (moment_data d.found) (member (codes "item") (text_data d.item) (member (codes "tail") (text_data d.tail) no_members))
 
--- what was done, as a reply
+-- the reply that an accepted request got
 abbrev pub reply_members : KeptReply → Members
 reply_members k = member (codes "done") (done_data k.done) no_members
 
@@ -69,7 +69,7 @@ alert_members a =
     (member (codes "opened") (moment_data a.opened)
     (member (codes "version") (count a.version) no_members))))
 
--- the JSON of a record's row, in rows of a version
+-- the JSON of a record's row, in this version of rows
 unfoldable pub body_data : Version → Record → Data
 body_data version (Meta m) = object (meta_members version m)
 body_data version (Report r) = object (report_members r)
@@ -78,15 +78,15 @@ body_data version (Release r) = release_data version r
 body_data version (Kept k) = object (kept_members k)
 body_data version (Alert a) = object (alert_members a)
 
--- the row of a record, in rows of a version
+-- the row of a record, in this version of rows
 unfoldable pub row_in : Version → Record → Row
 row_in version r = record { kind = kind_of r; key = key_of r; body = compact_text (body_data version r) }
 
--- the row of a record as it is written: in rows of the second version
+-- the row of a record as the desk writes it, in the second version
 abbrev pub row_of : Record → Row
 row_of r = row_in Second r
 
--- a record whose moments can be shown
+-- a record whose moments are from 2000 to 2099
 abbrev pub HasMoments : Record → Type 0
 HasMoments (Meta m) = IsMoment m.moment
 HasMoments (Report r) = IsMoment r.received

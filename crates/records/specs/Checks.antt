@@ -1,4 +1,4 @@
--- Which rows are the rows of a desk, and what is the first fault of others.
+-- Which rows are the rows of a desk, and the first fault of any others.
 use Rattle.std.specs.Prelude.{◌≡◌, ◌↔◌, ℕ, true, All, Any, List, ◌∷◌, ◌++◌, length, map, Option, Some, Result, Ok, Err, IfErr}
 use Rattle.std.specs.List.{slice_get}
 use Rattle.std.specs.Option.{option_map}
@@ -18,17 +18,17 @@ use Rattle.records.specs.declared.faults.RowsFault.{RowsFault}
 use Rattle.records.specs.declared.faults.RowsFault.TheVariants.{BadRow, BadPair, OutOfMemory}
 use Rattle.records.specs.declared.record.Record.{Record}
 
--- the rows of valid records in a version, in their order
+-- the rows are those of these valid records in this version, in order
 pub record AreRowsOf (version : Version) (rows : List Row) (records : List Record) : Type 0 where
   pub valid : All IsRecord records
   pub said : All (SaysRecord version) records
   pub made : map (row_in version) records ≡ rows
 
--- no valid record has the row in a version
+-- the row isn't that of any valid record in this version
 abbrev pub HasNoRecord : Version → Row → Type 0
 HasNoRecord version row = (r : Record) → IsRecord r → SaysRecord version r → row_in version r ≡ row → ⊥
 
--- the first row that no valid record has in the version of the rows
+-- the first row that isn't that of any valid record in the version of the rows
 pub record IsFirstBad (rows : List Row) (row : Row) : Type 0 where
   pub before : List Row
   pub after : List Row
@@ -37,19 +37,19 @@ pub record IsFirstBad (rows : List Row) (row : Row) : Type 0 where
   pub good : AreRowsOf (version_of rows) before records
   pub bad : HasNoRecord (version_of rows) row
 
--- the rows of valid records in the version of the rows, of which that is the first test that fails
+-- the rows are those of valid records in their version, and this is the first test that fails
 pub record Misfit (rows : List Row) (fault : Fault) : Type 0 where
   pub records : List Record
   pub are : AreRowsOf (version_of rows) rows records
   pub fails : fit records ≡ Err fault
 
--- the row that fails the first test that fails
+-- the row that fails the first failing test
 pub record IsMisfit (rows : List Row) (row : Row) (why : RowWhy) : Type 0 where
   pub place : ℕ
   pub there : slice_get rows place ≡ Some row
   pub misfit : Misfit rows (Bad place why)
 
--- the rows that don't fit one another, where that is the first test that fails
+-- the two rows that conflict, by the first failing test
 pub record IsBadPair (rows : List Row) (one two : Row) : Type 0 where
   pub first : ℕ
   pub second : ℕ
@@ -63,26 +63,27 @@ IsBadRow rows row NoMeta = IsMisfit rows row NoMeta
 IsBadRow rows row Orphan = IsMisfit rows row Orphan
 IsBadRow rows row OverLimit = IsMisfit rows row OverLimit
 
--- the first fault of some rows; want of memory is free
+-- The first fault of rows. Out of memory may come at any time.
 abbrev pub IsFaultOf : List Row → RowsFault → Type 0
 IsFaultOf rows (BadRow row why) = IsBadRow rows row why
 IsFaultOf rows (BadPair one two) = IsBadPair rows one two
 IsFaultOf rows OutOfMemory = Unit {0}
 
--- the valid records of rows by their version, where these fit together
+-- the valid records of rows in their version, which fit together
 pub record IsDesk (rows : List Row) (records : List Record) : Type 0 where
   pub are : AreRowsOf (version_of rows) rows records
   pub fit : fit records ≡ Ok tt
 
--- These, and whether the rows are of the first version: exactly where one of them is the row of the counters in it.
+-- The same, with the version. The rows are of the first version exactly if one of them is the meta row of that
+-- version.
 pub record IsChecked (rows : List Row) (checked : Checked) : Type 0 where
   pub desk : IsDesk rows checked.records.items
   pub old : checked.is_old ≡ are_old rows
   pub exactly : (checked.is_old ≡ true) ↔ Any IsOldMeta rows
 
--- ---- what the parts of the code answer
+-- ---- results of parts of the code
 
--- that fault, or want of memory
+-- the fault is this one, or out of memory
 abbrev pub OrMemory : RowsFault → RowsFault → Type 0
 OrMemory wanted (BadRow row why) = BadRow row why ≡ wanted
 OrMemory wanted (BadPair one two) = BadPair one two ≡ wanted
@@ -98,13 +99,13 @@ pub record Names (rows : List Row) (fault : Fault) (answer : RowsFault) : Type 0
   pub named : named rows fault ≡ Some wanted
   pub answered : OrMemory wanted answer
 
--- that very row, which no valid record has
+-- the fault names this row, which isn't that of any valid record
 pub record HasNone (version : Version) (row bad : Row) (why : RowWhy) : Type 0 where
   pub same : bad ≡ row
   pub reason : why ≡ NotCanonical
   pub none : HasNoRecord version row
 
--- that no valid record has a row, or want of memory
+-- the row isn't that of any valid record, or memory ran out
 abbrev pub IsUnread : Version → Row → RowsFault → Type 0
 IsUnread version row (BadRow bad why) = HasNone version row bad why
 IsUnread version row (BadPair one two) = ⊥
@@ -115,7 +116,7 @@ pub record IsReadOf (version : Version) (row : Row) (r : Record) : Type 0 where
   pub said : SaysRecord version r
   pub has : row_in version r ≡ row
 
--- what the tests of some records come to, and that a fault is at places that there are
+-- the result of the tests of records; a fault names places within the list
 pub record IsFitting (records : List Record) (answer : Result (Unit {0}) Fault) : Type 0 where
   pub value : answer ≡ fit records
   pub within : IfErr answer (IsWithin (length records))

@@ -1,4 +1,4 @@
--- Whether rows fit together. A fault names rows by their places, counted from 0 in the order in which they are given.
+-- Whether rows fit together; a fault names rows by their places, counted from 0.
 use Rattle.std.specs.Prelude.{ℕ, ◌+◌, ◌<◌, ◌==◌, nat_le, nat_lt, Bool, false, not, ◌&&◌, ◌||◌, if◌then◌else◌, List, [], ◌∷◌, ◌++◌, length, Option, None, Some, Result, Ok, Err}
 use Rattle.std.specs.List.{list_any, count_by, position_from}
 use Rattle.std.specs.Str.{bytes_eq}
@@ -25,11 +25,11 @@ use Rattle.records.specs.declared.record.Record.TheVariants.{Meta, Report, Defer
 
 -- ---- places in a list
 
--- the place of the first that meets a test
+-- the place of the first record that meets a test
 abbrev pub place_of : (Record → Bool) → List Record → Option ℕ
 place_of test rs = position_from test 0 rs
 
--- the place of the first that meets a test of those before it and of itself, where some stand before these
+-- the place of the first record that meets a test of the records before it and itself; earlier ones precede the list
 abbrev pub first_after : (List Record → Record → Bool) → List Record → List Record → Option ℕ
 first_after test earlier [] = None
 first_after test earlier (r ∷ rs) = if test earlier r then Some (length earlier) else first_after test (earlier ++ r ∷ []) rs
@@ -38,7 +38,8 @@ abbrev pub pair_or : Option ℕ → ℕ → Option (ℕ × ℕ) → Option (ℕ 
 pair_or None one later = later
 pair_or (Some two) one later = Some (one, two)
 
--- The places of the first that is at odds with one before it, and of the first such one, where some stand before these.
+-- The places of the first record that conflicts with one before it, and of the earliest such one. Earlier ones
+-- precede the list.
 abbrev pub pair_after : (Record → Record → Bool) → List Record → List Record → Option (ℕ × ℕ)
 pair_after at_odds earlier [] = None
 pair_after at_odds earlier (r ∷ rs) = pair_or (place_of (at_odds r) earlier) (length earlier) (pair_after at_odds (earlier ++ r ∷ []) rs)
@@ -48,9 +49,9 @@ pair_after at_odds earlier (r ∷ rs) = pair_or (place_of (at_odds r) earlier) (
 abbrev pub lacks_meta : List Record → Option ℕ
 lacks_meta rs = if (length rs == 0) || list_any (is_kind 0) rs then None else Some 0
 
--- ---- the second test: there are not too many rows of a kind
+-- ---- the second test: no kind has too many rows
 
--- how many there are of each kind
+-- the number of records of each kind that has a limit
 abbrev pub counts_of : List Record → Counts
 counts_of rs = record {
   reports = count_by (is_kind 1) rs;
@@ -59,7 +60,7 @@ counts_of rs = record {
   kept = count_by (is_kind 4) rs;
 }
 
--- one more is too many after so many, or it counts too many events
+-- a record after these is one too many of its kind, or counts too many events
 abbrev pub is_past : Counts → Record → Bool
 is_past before (Meta m) = nat_le 999_999_999_999_999 m.counters.events
 is_past before (Report r) = nat_le 200_000 before.reports
@@ -84,13 +85,13 @@ is_orphan rs (Release r) = false
 is_orphan rs (Kept k) = false
 is_orphan rs (Alert a) = not (list_any (is_release_of a.release) rs)
 
--- ---- the fourth test: no two rows make a bad pair
+-- ---- the fourth test: no two rows conflict
 
 abbrev pub minute_in : Result Read BadReport → ℕ
 minute_in (Ok read) = minute_of_read read
 minute_in (Err bad) = 0
 
--- the minute at which a report was observed or issued, as its text says
+-- the minute at which a report was observed or issued, by its text
 unfoldable pub minute_of : KeptReport → ℕ
 minute_of r = minute_in (read_of r.text r.received)
 
@@ -114,17 +115,17 @@ are_at_odds (Release r) (Alert a) = is_idle r a
 are_at_odds (Alert a) (Release r) = is_idle r a
 are_at_odds _ _ = false
 
--- the same row twice, the same report or the same request twice, or an alert and its release that isn't active
+-- two rows conflict: the same kind and key, the same report or request, or an alert of an inactive release
 abbrev pub is_bad_pair : Record → Record → Bool
 is_bad_pair a b = is_same_row a b || are_at_odds a b
 
--- ---- the fifth test: each row fits the counters of the meta row
+-- ---- the fifth test: no row is ahead of the counters of the meta row
 
 abbrev pub is_late : ℕ → Option Revision → Bool
 is_late events None = false
 is_late events (Some v) = nat_lt events v.number
 
--- a next number that more events would have needed
+-- some next id is more than one above the number of events
 abbrev pub outruns : Counters → Bool
 outruns c =
     nat_lt (c.events + 1) c.next_report || nat_lt (c.events + 1) c.next_deferral || nat_lt (c.events + 1) c.next_release
@@ -156,7 +157,7 @@ abbrev pub ahead_of : List Record → Option (ℕ × MetaOf) → Option (ℕ × 
 ahead_of rs None = None
 ahead_of rs (Some m) = beside (place_of (is_ahead m.1.counters) rs) m.0
 
--- ---- all of them, in their order
+-- ---- all tests, in order
 
 abbrev pub bad : RowWhy → Option ℕ → Result (Unit {0}) Fault
 bad why None = Ok tt
@@ -167,7 +168,7 @@ pair None = Ok tt
 pair (Some places) = Err (Pair places.0 places.1)
 
 infixl 10 ◌>>◌
--- one test, and another where it is passed
+-- runs a second test if the first one passes
 abbrev pub ◌>>◌ : Result (Unit {0}) Fault → Result (Unit {0}) Fault → Result (Unit {0}) Fault
 (Ok done) >> later = later
 (Err fault) >> later = Err fault
@@ -187,11 +188,11 @@ agree rs = pair (pair_after is_bad_pair [] rs)
 abbrev pub are_counted : List Record → Result (Unit {0}) Fault
 are_counted rs = pair (ahead_of rs (meta_from 0 rs))
 
--- the first test that some records fail
+-- the first test that fails
 unfoldable pub fit : List Record → Result (Unit {0}) Fault
 fit rs = has_meta rs >> (within_limits rs >> (have_releases rs >> (agree rs >> are_counted rs)))
 
--- the places that a fault names are among so many
+-- the places that a fault names are within a list of this length
 abbrev pub IsWithin : ℕ → Fault → Type 0
 IsWithin count (Bad place why) = place < count
 IsWithin count (Pair one two) = (one < count) × (two < count)

@@ -1,4 +1,4 @@
--- The kinds of rows, and the keys under which they stand.
+-- The kinds of rows, and their keys.
 use Rattle.std.specs.Prelude.{ℕ, ◌==◌, Bool}
 use Rattle.records.specs.declared.record.Record.{Record}
 use Rattle.records.specs.declared.record.Record.TheVariants.{Meta, Report, Deferral, Release, Kept, Alert}
@@ -11,7 +11,7 @@ kind_of (Release r) = 3
 kind_of (Kept k) = 4
 kind_of (Alert a) = 5
 
--- its number; that of an alert is its release's, and the meta row has 0
+-- the id of the record; an alert has the id of its release, and the meta row has 0
 abbrev pub key_of : Record → ℕ
 key_of (Meta m) = 0
 key_of (Report r) = r.id

@@ -1,4 +1,4 @@
--- Records that are lent.
+-- Borrowed records, and the records that they represent.
 use Rattle.records.specs.declared.lent.AlertRef.{AlertRef}
 use Rattle.records.specs.declared.lent.MetaRef.{MetaRef}
 use Rattle.records.specs.declared.lent.RecordRef.{RecordRef}
@@ -20,7 +20,7 @@ abbrev pub alert_lent : AlertRef → KeptAlert
 alert_lent a =
     record { release = a.release; version = a.version; opened = a.opened; failing = a.failing.now; ever = a.ever.now; acknowledged = a.acknowledged }
 
--- the record
+-- the record that a borrowed one represents
 abbrev pub lent : RecordRef → Record
 lent (one.Meta m) = Meta (meta_lent m)
 lent (one.Report r) = Report (report_lent r)

@@ -1,4 +1,4 @@
--- Marks of records: two that make a bad pair share one. An index says where each mark stands first.
+-- Marks of records: any two conflicting records share one, and an index has the first place of each.
 use Rattle.std.specs.Prelude.{◌≡◌, ℕ, Bool, ◌||◌, if◌then◌else◌, List, Option}
 use Rattle.std.specs.declared.cmp.Ordering.{Ordering}
 use Rattle.std.specs.Ordering.{nat_cmp, ordering_then}
@@ -16,15 +16,15 @@ use Rattle.records.specs.declared.record.Record.TheVariants.{Meta, Report, Defer
 abbrev pub Mark : Type 0
 Mark = ℕ × ℕ
 
--- the mark of its own row
+-- the kind and the key of its row
 abbrev pub own_mark : Record → Mark
 own_mark r = (kind_of r, key_of r)
 
--- the mark of a release that isn't active, which its alert has too
+-- an inactive release has the same mark as its alert
 abbrev pub release_mark : Bool → ℕ → Mark
 release_mark active id = if active then (3, id) else (6, id)
 
--- the mark of what it says, where two may not say the same
+-- the mark of its content, which two conflicting records of different rows share
 abbrev pub other_mark : Record → Mark
 other_mark (Meta m) = (0, 0)
 other_mark (Report r) = (minute_of r, fingerprint r.text)
@@ -39,13 +39,13 @@ marks_of r = record { own = own_mark r; other = other_mark r }
 abbrev pub mark_cmp : Mark → Mark → Ordering
 mark_cmp x y = ordering_then (nat_cmp x.0 y.0) (nat_cmp x.1 y.1)
 
--- a mark is one of these
+-- a mark is one of the two
 abbrev pub is_marked : Mark → Marks → Bool
 is_marked mark m = is_at (mark_cmp m.own) mark || is_at (mark_cmp m.other) mark
 
 abbrev pub place_at : List (Mark × ℕ) → Mark → Option ℕ
 place_at entries mark = lookup (is_at (mark_cmp mark)) entries
 
--- the first place of each mark
+-- an index with the first place of each mark
 abbrev pub IsIndex : List (Mark × ℕ) → List Marks → Type 0
 IsIndex entries ms = (mark : ℕ × ℕ) → place_at entries mark ≡ position_from (is_marked mark) 0 ms

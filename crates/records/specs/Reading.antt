@@ -1,4 +1,4 @@
--- The record of a row. A body has the keys that are named here, and no other.
+-- The record that a row represents; the keys of its body are exactly those named here.
 use Rattle.std.specs.Prelude.{◌≡◌, ℕ, ◌==◌, nat_le, ◌&&◌, Bool, false, if◌then◌else◌, List, [], ◌∷◌, Option, None, Some, Result, Ok, Err, codes, option_and_then, is_some}
 use Rattle.std.specs.List.{list_any}
 use Rattle.std.specs.Option.{option_map}
@@ -40,7 +40,7 @@ use Rattle.desk_time.specs.Moments.{up_to}
 abbrev pub request_in : Data → Option ℕ
 request_in d = option_and_then (up_to 1_000_000_000_000) (option_and_then as_u64 (as_number d))
 
--- the number of a person under his name
+-- the floor of a person, under his name
 abbrev pub floor_of : List ℕ → Data → Option Floor
 floor_of key d = person key >>= λ actor. request_in d >>= λ number. Some (record { actor = actor; number = number })
 
@@ -70,7 +70,7 @@ abbrev pub is_number : ℕ → Option ℕ → Bool
 is_number wanted None = false
 is_number wanted (Some n) = n == wanted
 
--- eight members, one of them the number of the version
+-- eight members, one of which is the number of the version
 abbrev pub is_meta : Version → Data → Bool
 is_meta version d = has_members 8 d && is_number (number_of version) (id_at (codes "version") d)
 
@@ -118,7 +118,7 @@ reply_of d = option_and_then done_of (get (codes "done") d) >>= λ done. if has_
 abbrev pub done_at : Data → Option Done
 done_at d = option_and_then reply_of (get (codes "reply") d)
 
--- all but who asked
+-- a kept reply without its id and its person
 unfoldable pub stamp_of : Data → Option Stamp
 stamp_of d =
     moment_at (codes "at") d >>= λ at. digest_at (codes "digest") d >>= λ digest. number_at (codes "number") 1_000_000_000_000 d >>= λ number. done_at d >>= λ done.
@@ -135,7 +135,7 @@ kept_of id d = stamp_of d >>= λ s. person_at (codes "actor") d >>= λ actor. So
 abbrev pub from_one : ℕ → Option ℕ
 from_one version = if nat_le 1 version then Some version else None
 
--- all but the findings
+-- an alert without its release and its findings
 unfoldable pub opening_of : Data → Option Opening
 opening_of d =
     bool_at (codes "acknowledged") d >>= λ acknowledged. moment_at (codes "opened") d >>= λ opened. option_and_then from_one (id_at (codes "version") d) >>= λ version.
@@ -155,7 +155,7 @@ alert_of release d =
 
 -- ---- records
 
--- the record of a kind, a number and a body, in rows of a version
+-- the record of a kind, an id and a body, in this version of rows
 abbrev pub record_in : Version → ℕ → ℕ → Data → Option Record
 record_in version kind id d =
     if kind == 0 then option_map Meta (meta_in version id d)
@@ -165,11 +165,11 @@ record_in version kind id d =
     else (if kind == 4 then option_map Kept (kept_of id d)
     else (if kind == 5 then option_map Alert (alert_of id d) else None)))))
 
--- the record of a kind, a key and a body, where there is a valid one
+-- the record of a kind, a key of at most 10^15 and a body
 unfoldable pub record_of : Version → ℕ → ℕ → Data → Option Record
 record_of version kind key d = up_to 1_000_000_000_000_000 key >>= λ id. record_in version kind id d
 
--- the record that a row says, whatever its blanks and the order of its keys
+-- the record that a row represents, with any white space and any order of its keys
 unfoldable pub found_in : Version → Row → Option Record
 found_in version row = data_of row.body >>= record_of version row.kind row.key
 
@@ -179,17 +179,17 @@ is_same_row one two = (one.kind == two.kind) && (one.key == two.key) && bytes_eq
 abbrev pub if_has : Version → Row → Record → Option Record
 if_has version row r = if is_same_row (row_in version r) row then Some r else None
 
--- the record that is found in a row, where the row is that record's
+-- the record that a row represents, if the row is the one that the desk writes
 unfoldable pub record_with : Version → Row → Option Record
 record_with version row = found_in version row >>= if_has version row
 
--- What is read of a row in a version: the valid record that has it, or that no valid record has it, or want of memory.
+-- The result of reading a row: the valid record with that row, or none has it. Out of memory may come at any time.
 abbrev pub ReadsRow : Version → Row → Result Record RowFault → Type 0
 ReadsRow version row (Ok r) = IsRecord r × SaysRecord version r × (row_in version r ≡ row)
 ReadsRow version row (Err NotCanonical) = (r : Record) → IsRecord r → SaysRecord version r → row_in version r ≡ row → ⊥
 ReadsRow version row (Err OutOfMemory) = Unit {0}
 
--- a valid record's row is read as that record, or memory runs out
+-- the row of a valid record is read back as that record, or memory runs out
 abbrev pub IsAgain : Record → Result Record RowFault → Type 0
 IsAgain r (Ok x) = x ≡ r
 IsAgain r (Err NotCanonical) = ⊥
@@ -197,7 +197,7 @@ IsAgain r (Err OutOfMemory) = Unit {0}
 
 -- ---- the version of rows
 
--- the row of the counters, in the first version
+-- the meta row of the first version
 abbrev pub IsOldMeta : Row → Type 0
 IsOldMeta row = (m : MetaOf) × IsMeta m × (row_in First (Meta m) ≡ row)
 
@@ -205,7 +205,7 @@ IsOldMeta row = (m : MetaOf) × IsMeta m × (row_in First (Meta m) ≡ row)
 unfoldable pub is_old_meta : Row → Bool
 is_old_meta row = (row.kind == 0) && is_some (record_with First row)
 
--- Rows are of the first version exactly where one of them is the row of the counters in that version.
+-- Rows are of the first version exactly if one of them is the meta row of that version.
 abbrev pub are_old : List Row → Bool
 are_old rows = list_any is_old_meta rows
 

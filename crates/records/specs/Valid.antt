@@ -26,7 +26,7 @@ use Rattle.records.specs.declared.record.Meta.{Meta as MetaOf}
 use Rattle.records.specs.declared.record.Record.{Record}
 use Rattle.records.specs.declared.record.Record.TheVariants.{Meta, Report, Deferral, Release, Kept, Alert}
 
--- numbers of at most 10^15
+-- each counter is at most 10^15
 pub record AreIds (c : Counters) : Type 0 where
   pub events : IsId c.events
   pub next_report : IsId c.next_report
@@ -34,14 +34,14 @@ pub record AreIds (c : Counters) : Type 0 where
   pub next_release : IsId c.next_release
   pub next_kept : IsId c.next_kept
 
--- counters, and floors of persons
+-- a moment from 2000 to 2099, counters, and floors in byte order of the names
 pub record IsMeta (m : MetaOf) : Type 0 where
   pub moment : IsMoment m.moment
   pub counters : AreIds m.counters
   pub floors : AllByRecursion IsFloor m.floors
   pub rising : FloorsRise m.floors
 
--- a report whose text is canonical, and is read as one that was received then
+-- a report whose text is canonical, and can be read as of its receipt
 pub record IsReport (r : KeptReport) : Type 0 where
   pub id : IsId r.id
   pub received : IsMoment r.received
@@ -63,12 +63,12 @@ pub record IsKeptReply (k : KeptReply) : Type 0 where
   pub at : IsMoment k.at
   pub done : DoneHasForms k.done
 
--- findings in order, each once, with their numbers in their forms
+-- findings within their limits, in order without duplicates
 pub record AreFindings (findings : List Finding) : Type 0 where
   pub forms : AllByRecursion IsFinding findings
   pub order : AreInOrder findings
 
--- an alert that names what fails among what has failed
+-- an alert whose failing rules are among those that have failed
 pub record IsKeptAlert (a : KeptAlert) : Type 0 where
   pub release : IsId a.release
   pub version : IsId a.version
@@ -87,7 +87,7 @@ IsRecord (Release r) = IsId r.id × IsKept r
 IsRecord (Kept k) = IsKeptReply k
 IsRecord (Alert a) = IsKeptAlert a
 
--- A record that rows of a version say whole: in those of the first no release has a captain's hours.
+-- Rows of this version represent the record in full. In the first version no release has a captain's hours.
 abbrev pub SaysRecord : Version → Record → Type 0
 SaysRecord First (Meta m) = Unit {0}
 SaysRecord First (Report r) = Unit {0}
@@ -99,7 +99,7 @@ SaysRecord Second r = Unit {0}
 
 -- ---- the same as tests
 
--- a name that comes before the next one
+-- a name is before the next one
 abbrev pub comes_before : List ℕ → List Floor → Bool
 comes_before name [] = true
 comes_before name (f ∷ fs) = is_lt (slice_cmp nat_cmp name f.actor)
@@ -108,7 +108,7 @@ abbrev pub are_rising : List Floor → Bool
 are_rising [] = true
 are_rising (f ∷ fs) = comes_before f.actor fs && are_rising fs
 
--- a text that is canonical and is read
+-- a report's text is canonical and can be read
 unfoldable pub is_report : KeptReport → Bool
 is_report r = bytes_eq (canonical (groups_of r.text)) r.text && is_ok (read_of r.text r.received)
 

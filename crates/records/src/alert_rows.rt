@@ -15,7 +15,7 @@ use release_json::read_findings;
 use serde_json::Value;
 use std::alloc::Global;
 
-// All of an alert but its findings.
+// An alert without its release and its findings.
 #[derive(Clone, Copy)]
 struct Opening {
     acknowledged: bool,
@@ -103,7 +103,7 @@ fn alert_with(release: u64, opening: Opening, failing: Findings, ever: Findings)
     }
 }
 
-/// The alert that the JSON of its row says.
+/// Reads an alert from the JSON of its row.
 pub(crate) fn alert_of(
     alloc: Global,
     release: u64,

@@ -22,7 +22,7 @@ fn has_meta(records: &[Record]) -> bool
     records.iter().any(|record| is_meta_record(record))
 }
 
-/// The place of the first record, where there are some and none is of the meta row.
+/// If there are records but no meta row, returns 0, the place of the first.
 pub(crate) fn lacks_meta(records: &[Record]) -> Option<usize>
     ensures value { result ≡ spec.lacks_meta records.now }
     ensures bound { IfSome result (λ place. place < length records.now) }
@@ -43,7 +43,8 @@ fn is_release_of(held: &Record, id: u64) -> bool
     }
 }
 
-// Whether there is a release of that id. An index says before which place there is none.
+// Returns true if a release with this id is among the records. The search starts at the first place of the release's
+// mark.
 fn has_release(records: &[Record], firsts: &Firsts, id: u64) -> bool
     requires { IsIndex firsts.now.entries (map marks_of records.now) }
     ensures { result ≡ list_any (spec.is_release_of id) records.now }
@@ -67,7 +68,7 @@ fn is_orphan(records: &[Record], firsts: &Firsts, held: &Record) -> bool
     }
 }
 
-/// The place of the first alert without a release.
+/// Returns the place of the first alert without a release.
 pub(crate) fn first_orphan(records: &[Record], firsts: &Firsts) -> Option<usize>
     requires { IsIndex firsts.now.entries (map marks_of records.now) }
     ensures value { result ≡ spec.place_of (spec.is_orphan records.now) records.now }

@@ -18,7 +18,7 @@ use release_json::{Version, findings_value, release_value};
 use serde_json::{Map, Value};
 use std::alloc::Global;
 
-// Some members with the number of a person more.
+// Adds the floor of a person to the members.
 fn with_floor(alloc: Global, members: Members, floor: &Floor) -> Result<Members, OutOfMemory>
     ensures { IfOk result (λ all. members_view all.entries ≡ spec.with_floors (members_view members.entries)
         (floor.now ∷ [])) }
@@ -133,7 +133,7 @@ fn body_text(alloc: Global, version: Version, held: &RecordRef<'_>) -> Result<Te
     Ok(Text::from_vec(value.to_vec(alloc)?))
 }
 
-/// The row of a record, in rows of a version.
+/// Converts a record to its row, in this version of rows.
 #[tactic(auto, unfolding(crate::specs::Bodies::row_in))]
 pub(crate) fn row_in(
     alloc: Global,
@@ -150,7 +150,7 @@ pub(crate) fn row_in(
     })
 }
 
-/// The row of a record as it is written: in rows of the second version.
+/// Converts a record to its row in the second version, which is the one that the desk writes.
 pub fn row_of(alloc: Global, held: &RecordRef<'_>) -> Result<Row, OutOfMemory>
     requires { spec.HasMoments (lent held.now) }
     ensures { IfOk result (λ row. row ≡ spec.row_of (lent held.now)) }

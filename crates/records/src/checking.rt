@@ -41,7 +41,7 @@ fn pair_fault(alloc: Global, one: &Row, two: &Row) -> RowsFault
     }
 }
 
-// The fault, with the rows at its places.
+// Returns the fault, with copies of the rows at its places. If memory runs out, it returns that instead.
 fn fault_at(alloc: Global, rows: &[Row], fault: Fault) -> RowsFault
     requires { IsWithin (length rows.now) fault }
     ensures { spec.Names rows.now fault result }
@@ -69,7 +69,7 @@ fn push(records: &mut Vec<Record>, found: Record) -> Result<(), OutOfMemory>
     Ok(())
 }
 
-// Whether a row is that of the counters in the first version.
+// Returns true if a row is the meta row of the first version.
 #[tactic(auto, unfolding(crate::specs::Reading::is_old_meta))]
 fn is_old_meta(alloc: Global, row: &Row) -> Result<bool, OutOfMemory>
     ensures { IfOk result (λ b. b ≡ reading.is_old_meta row.now) }
@@ -83,7 +83,7 @@ fn is_old_meta(alloc: Global, row: &Row) -> Result<bool, OutOfMemory>
     }
 }
 
-// Whether rows are of the first version.
+// Returns true if rows are of the first version.
 fn are_old(alloc: Global, rows: &[Row]) -> Result<bool, OutOfMemory>
     ensures { IfOk result (λ b. b ≡ reading.are_old rows.now) }
 {
@@ -105,7 +105,7 @@ fn version_if(is_old: bool) -> Version
     }
 }
 
-// The records of rows in their version, in their order, or the first row that no valid record has.
+// Reads the rows in order, in their version. Stops at the first row that isn't the row of a valid record.
 fn read_rows(alloc: Global, version: Version, rows: &[Row]) -> Result<Vec<Record>, RowsFault>
     requires { version ≡ reading.version_of rows.now }
     ensures { MatchResult result (λ records. spec.AreRowsOf version rows.now records.items) (spec.IsFaultOf rows.now) }
@@ -129,7 +129,7 @@ fn all_marks(alloc: Global, records: &[Record]) -> Result<Vec<Marks>, OutOfMemor
     Ok(marks)
 }
 
-// Whether the records of rows fit together.
+// Tests whether records fit together.
 fn check(alloc: Global, records: &[Record]) -> Result<Result<(), Fault>, OutOfMemory>
     requires { All IsRecord records.now }
     ensures { IfOk result (λ answer. spec.IsFitting records.now answer) }
@@ -149,7 +149,7 @@ fn fitted(alloc: Global, rows: &[Row], records: Vec<Record>) -> Result<Vec<Recor
     }
 }
 
-// The records of rows that are of the first version, or aren't.
+// Reads and tests rows whose version is known.
 fn fitted_in(alloc: Global, is_old: bool, rows: &[Row]) -> Result<Vec<Record>, RowsFault>
     requires { is_old ≡ reading.are_old rows.now }
     ensures { MatchResult result (λ fitting. spec.IsDesk rows.now fitting.items) (spec.IsFaultOf rows.now) }
@@ -158,22 +158,25 @@ fn fitted_in(alloc: Global, is_old: bool, rows: &[Row]) -> Result<Vec<Record>, R
     fitted(alloc, rows, records)
 }
 
-/// The records of rows that were checked.
+/// The records of rows that passed all tests.
 #[derive(Drop)]
 pub struct Checked {
-    /// Those of the rows, in their order.
+    /// One record for each row, in order.
     pub records: Vec<Record>,
-    /// Whether the rows are of the first version.
+    /// True if the rows are of the first version.
     pub is_old: bool,
 }
 
-/// The records of rows, where each row is that of a valid record and all fit together; no rows have none. Rows are of
-/// the first version exactly where one of them is the row of the counters in that version, and all are read by their
-/// one version. Otherwise the first of these: `NotCanonical`, the first row that no valid record has in the version;
-/// `NoMeta`, the first row, where none is the meta row; `OverLimit`, the first row that is one too many of its kind, or
-/// counts too many events; `Orphan`, the first alert without a release; `BadPair`, the first row that doesn't go with
-/// one before it, and the first such one; `BadPair`, the first row that is ahead of the counters of the meta row, and
-/// that row.
+/// Reads rows, and tests that each is the row of a valid record and that all fit together. Without rows, there are no
+/// records. The rows are of the first version if one of them is the meta row of that version, and otherwise of the
+/// second. Returns the first of these faults:
+///
+/// - `NotCanonical`: the first row that isn't the row of any valid record in that version.
+/// - `NoMeta`: the first row, if no row is the meta row.
+/// - `OverLimit`: the first row that is one too many of its kind, or that counts too many events.
+/// - `Orphan`: the first alert without a release.
+/// - `BadPair`: the first row that conflicts with an earlier one, and the earliest such one.
+/// - `BadPair`: the first row that is ahead of the counters of the meta row, and the meta row.
 pub fn check_rows(alloc: Global, rows: &[Row]) -> Result<Checked, RowsFault>
     ensures { MatchResult result (spec.IsChecked rows.now) (spec.IsFaultOf rows.now) }
 {

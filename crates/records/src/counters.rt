@@ -66,7 +66,7 @@ fn first_meta(records: &[Record]) -> Option<(usize, &Meta)>
     None
 }
 
-/// The place of the first record that is ahead of the counters, and that of the meta row.
+/// Returns the places of the first record that is ahead of the counters, and of the meta row.
 pub(crate) fn ahead_of(records: &[Record]) -> Option<(usize, usize)>
     ensures value { result ≡ spec.ahead_of records.now (spec.meta_from 0 records.now) }
     ensures bound { IfSome result (λ places. (places.0 < length records.now) × (places.1 < length records.now)) }

@@ -6,22 +6,22 @@ use desk_io::{OutOfMemory, Row};
 /// Why a row is bad.
 #[derive(Clone, Copy, Debug, PartialEq, Eq)]
 pub enum RowWhy {
-    /// No valid record has it.
+    /// It isn't the row of any valid record.
     NotCanonical,
-    /// There are rows, and none of them is the meta row.
+    /// There are rows, but no meta row.
     NoMeta,
     /// It is an alert without a release.
     Orphan,
-    /// There are too many of its kind before it, or it counts too many events.
+    /// It is one too many of its kind, or it counts too many events.
     OverLimit,
 }
 
-/// Why rows don't fit together.
+/// Why rows can't be loaded.
 #[derive(Debug, Drop)]
 pub enum RowsFault {
     /// The first row that fails a test.
     BadRow { row: Row, why: RowWhy },
-    /// The first row that doesn't fit another one, and that one.
+    /// The first row that conflicts with another one, and that one.
     BadPair { one: Row, two: Row },
     /// Memory ran out.
     OutOfMemory,
@@ -37,14 +37,14 @@ impl From<OutOfMemory> for RowsFault {
     }
 }
 
-/// Which rows fail a test, by their places.
+/// The rows that fail a test, by their places.
 #[derive(Clone, Copy, Debug, PartialEq, Eq)]
 pub(crate) enum Fault {
     Bad { place: usize, why: RowWhy },
     Pair { one: usize, two: usize },
 }
 
-/// A row that fails a test, where there is one.
+/// Returns a fault if a row fails a test.
 pub(crate) fn bad(why: RowWhy, place: Option<usize>) -> Result<(), Fault>
     ensures { result ≡ spec.bad why place }
 {
@@ -54,7 +54,7 @@ pub(crate) fn bad(why: RowWhy, place: Option<usize>) -> Result<(), Fault>
     }
 }
 
-/// Two rows that don't fit, where there are such.
+/// Returns a fault if two rows conflict.
 pub(crate) fn pair(places: Option<(usize, usize)>) -> Result<(), Fault>
     ensures { result ≡ spec.pair places }
 {

@@ -10,7 +10,7 @@ use crate::marks::{Firsts, Marks};
 use crate::pairs::bad_pair;
 use crate::record::Record;
 
-/// Whether records fit together, or else which of them fail the first test that fails.
+/// Tests whether records fit together. Otherwise returns the first test that fails, and where.
 #[tactic(auto, unfolding(crate::specs::Faults::fit))]
 pub(crate) fn fit(records: &[Record], marks: &[Marks], firsts: &Firsts) -> Result<(), Fault>
     requires same { marks.now ≡ map marks_of records.now }

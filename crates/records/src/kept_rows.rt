@@ -20,7 +20,7 @@ use facts::receive;
 use serde_json::Value;
 use std::alloc::Global;
 
-// All of a kept reply but who asked.
+// A kept reply without its id and its person.
 #[derive(Clone, Copy)]
 struct Stamp {
     at: Minute,
@@ -29,7 +29,7 @@ struct Stamp {
     done: Done,
 }
 
-// Whether the text of a report is canonical, and is read as one that was received then.
+// Returns true if the text of a report is canonical and can be read as of its receipt.
 #[tactic(auto, unfolding(crate::specs::Valid::is_report))]
 fn is_report(alloc: Global, report: &KeptReport) -> Result<bool, OutOfMemory>
     requires { IsMoment report.now.received }
@@ -53,7 +53,7 @@ fn if_report(alloc: Global, report: KeptReport) -> Result<Option<KeptReport>, Ou
     }
 }
 
-// Every `str` is UTF-8, so this is the report where the text is canonical and read.
+// Returns the report, if its text is canonical and can be read. The text is UTF-8, as every `str` is.
 fn utf8_report(
     alloc: Global,
     id: u64,
@@ -67,7 +67,7 @@ fn utf8_report(
     if_report(alloc, KeptReport { id, received, text })
 }
 
-/// The report that the JSON of its row says.
+/// Reads a report from the JSON of its row.
 pub(crate) fn report_of(
     alloc: Global,
     id: u64,
@@ -102,7 +102,7 @@ fn tail_at(value: &Value) -> Option<&str>
     }
 }
 
-/// The deferral that the JSON of its row says.
+/// Reads a deferral from the JSON of its row.
 pub(crate) fn deferral_of(
     alloc: Global,
     id: u64,
@@ -204,7 +204,7 @@ fn kept_with(id: u64, actor: Text, stamp: Stamp) -> KeptReply
     }
 }
 
-/// The kept reply that the JSON of its row says.
+/// Reads a kept reply from the JSON of its row.
 pub(crate) fn kept_of(
     alloc: Global,
     id: u64,

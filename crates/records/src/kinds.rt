@@ -4,7 +4,7 @@ ghost use Rattle.records.specs.Lent.{lent};
 
 use crate::lent::RecordRef;
 
-/// The kind of a record's row.
+/// Returns the kind of a record's row, from 0 to 5.
 pub(crate) fn kind_of(held: &RecordRef<'_>) -> u8
     ensures value { result ≡ spec.kind_of (lent held.now) }
     ensures bound { result ≤ 5 }
@@ -19,7 +19,8 @@ pub(crate) fn kind_of(held: &RecordRef<'_>) -> u8
     }
 }
 
-/// The key of a record's row.
+/// Returns the key of a record's row. It is the record's id; an alert has the id of its release, and the meta row has
+/// 0.
 pub(crate) fn key_of(held: &RecordRef<'_>) -> u64
     ensures { result ≡ spec.key_of (lent held.now) }
 {

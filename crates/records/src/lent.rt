@@ -9,7 +9,7 @@ use desk_state::Counters;
 use desk_time::Minute;
 use plan::{Findings, Release};
 
-/// A record that is lent, so that its row is written without a copy of it.
+/// A borrowed record, which can be written as a row without a copy.
 #[derive(Clone, Copy)]
 pub enum RecordRef<'a> {
     Meta(MetaRef<'a>),
@@ -20,7 +20,7 @@ pub enum RecordRef<'a> {
     Alert(AlertRef<'a>),
 }
 
-/// The moment, the counters and the floors of the desk.
+/// The desk's moment, counters and floors.
 #[derive(Clone, Copy)]
 pub struct MetaRef<'a> {
     pub moment: Minute,
@@ -28,7 +28,7 @@ pub struct MetaRef<'a> {
     pub floors: &'a Floors,
 }
 
-/// A report that is held.
+/// A stored report.
 #[derive(Clone, Copy)]
 pub struct ReportRef<'a> {
     pub id: u64,
@@ -36,7 +36,7 @@ pub struct ReportRef<'a> {
     pub text: &'a Text,
 }
 
-/// An alert that is open.
+/// An open alert.
 #[derive(Clone, Copy)]
 pub struct AlertRef<'a> {
     pub release: u64,
@@ -48,7 +48,7 @@ pub struct AlertRef<'a> {
 }
 
 impl Record {
-    /// The record, lent.
+    /// Borrows the record.
     pub fn lent(&self) -> RecordRef<'_>
         ensures { spec.lent result ≡ self.now }
     {

@@ -1,4 +1,4 @@
-//! What is kept, as rows, both ways, and whether rows fit together.
+//! The stored rows of the desk: records to rows and back, and the tests that rows fit together.
 #![tactic(auto)]
 
 mod alert_rows;

@@ -4,7 +4,7 @@ ghost use Rattle.records.specs.declared.record.Record.{Record as Held};
 
 use crate::record::Record;
 
-/// How many records there are of each kind that has a limit.
+/// The number of records of each kind that has a limit.
 #[derive(Clone, Copy)]
 pub(crate) struct Counts {
     reports: u64,
@@ -13,7 +13,7 @@ pub(crate) struct Counts {
     kept: u64,
 }
 
-// Whether one more is too many after so many, or counts too many events.
+// Returns true if a record after these is one too many of its kind, or counts too many events.
 fn is_past(before: Counts, held: &Record) -> bool
     ensures { result ≡ spec.is_past before held.now }
 {
@@ -43,7 +43,7 @@ fn with_one(before: Counts, held: &Record) -> Counts
     counts
 }
 
-/// The place of the first record that is past its limit.
+/// Returns the place of the first record past its limit.
 pub(crate) fn over_limit(records: &[Record]) -> Option<usize>
     ensures value { result ≡ spec.first_after spec.is_over [] records.now }
     ensures bound { IfSome result (λ place. place < length records.now) }

@@ -15,18 +15,18 @@ use plan::is_active;
 use std::alloc::Global;
 use std::collections::BTreeMap;
 
-/// What two records share that make a bad pair.
+/// A value that any two conflicting records share. Each record has two marks.
 pub(crate) type Mark = (u64, u64);
 
-/// Where each mark stands first.
+/// The first place of each mark.
 pub(crate) type Firsts = BTreeMap<Mark, usize>;
 
 /// The marks of a record.
 #[derive(Clone, Copy)]
 pub(crate) struct Marks {
-    /// That of its row.
+    /// The kind and the key of its row.
     pub(crate) own: Mark,
-    /// That of what it says.
+    /// A mark of its content, by which conflicts with other rows are found.
     pub(crate) other: Mark,
 }
 
@@ -37,7 +37,7 @@ fn own_mark(held: &Record) -> Mark
     (u64::from(kind_of(&held)), key_of(&held))
 }
 
-// When a report was observed or issued.
+// Returns the minute at which a report was observed or issued.
 #[tactic(auto, unfolding(crate::specs::Faults::minute_of))]
 fn minute_of(alloc: Global, report: &KeptReport) -> Result<Minute, OutOfMemory>
     requires { IsMoment report.now.received }
@@ -71,7 +71,7 @@ fn other_mark(alloc: Global, held: &Record) -> Result<Mark, OutOfMemory>
     }
 }
 
-/// The marks of a record.
+/// Computes the marks of a record.
 pub(crate) fn marks_of(alloc: Global, held: &Record) -> Result<Marks, OutOfMemory>
     requires { IsRecord held.now }
     ensures { IfOk result (λ marks. marks ≡ spec.marks_of held.now) }
@@ -82,14 +82,14 @@ pub(crate) fn marks_of(alloc: Global, held: &Record) -> Result<Marks, OutOfMemor
     })
 }
 
-/// The place where a mark stands first.
+/// Returns the first place of a mark.
 pub(crate) fn place_at(firsts: &Firsts, mark: Mark) -> Option<usize>
     ensures { result ≡ spec.place_at firsts.now.entries mark }
 {
     firsts.get(&mark).copied()
 }
 
-// A mark stands at that place, and maybe at one before it.
+// Notes a mark at a place, unless it has an earlier one.
 fn note(firsts: &mut Firsts, mark: Mark, place: usize) -> Result<(), OutOfMemory>
     ensures { OnOk result ((q : ℕ × ℕ) → spec.place_at firsts.new.entries q
         ≡ (if is_at (spec.mark_cmp mark) q then Some (unwrap_or (spec.place_at firsts.old.entries q) place) else
@@ -110,7 +110,7 @@ fn note_both(firsts: &mut Firsts, marks: Marks, place: usize) -> Result<(), OutO
     note(firsts, marks.other, place)
 }
 
-/// Where each mark of some records stands first.
+/// Returns the first place of each mark of the records.
 pub(crate) fn index_of(alloc: Global, marks: &[Marks]) -> Result<Firsts, OutOfMemory>
     ensures { IfOk result (λ firsts. spec.IsIndex firsts.entries marks.now) }
 {

@@ -121,7 +121,8 @@ fn is_meta(version: Version, value: &Value) -> bool
     }
 }
 
-/// The moment, the counters and the floors that the JSON of a meta row of a version under that key says.
+/// Reads the moment, the counters and the floors from the JSON of the meta row, in this version of rows. The key must
+/// be 0.
 pub(crate) fn meta_in(
     alloc: Global,
     version: Version,

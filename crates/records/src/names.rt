@@ -32,7 +32,7 @@ fn all_in_person(text: &[u8]) -> bool
     text.iter().all(|b| in_person(*b))
 }
 
-/// Whether a text is a registration: 1 to 8 capital letters, digits and hyphens.
+/// Returns true if a text is a registration: 1 to 8 capital letters, digits and hyphens.
 #[tactic(auto, unfolding(ops_tables::specs::Forms::is_tail))]
 pub(crate) fn is_tail(text: &[u8]) -> bool
     ensures { result ≡ form.is_tail text.now }
@@ -40,7 +40,7 @@ pub(crate) fn is_tail(text: &[u8]) -> bool
     1 <= text.len() && text.len() <= 8 && all_in_mark(text)
 }
 
-/// Whether a text is an item of a minimum equipment list: 1 to 16 capital letters, digits and hyphens.
+/// Returns true if a text is an item of a minimum equipment list: 1 to 16 capital letters, digits and hyphens.
 #[tactic(auto, unfolding(ops_tables::specs::Forms::is_item))]
 pub(crate) fn is_item(text: &[u8]) -> bool
     ensures { result ≡ form.is_item text.now }
@@ -48,7 +48,7 @@ pub(crate) fn is_item(text: &[u8]) -> bool
     1 <= text.len() && text.len() <= 16 && all_in_mark(text)
 }
 
-/// Whether a text is the name of a person: 1 to 16 letters and digits.
+/// Returns true if a text is the name of a person: 1 to 16 letters and digits.
 #[tactic(auto, unfolding(ops_tables::specs::Forms::is_person))]
 pub(crate) fn is_person(text: &[u8]) -> bool
     ensures { result ≡ form.is_person text.now }

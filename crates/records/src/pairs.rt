@@ -18,7 +18,7 @@ fn are_of_one_row(one: &Record, two: &Record) -> bool
     kind_of(&one) == kind_of(&two) && key_of(&one) == key_of(&two)
 }
 
-// Whether two reports, which were observed or issued at these minutes, have the same text and minute.
+// Returns true if two reports have the same text and were observed or issued at the same minute.
 fn is_same_report(
     one: &KeptReport,
     two: &KeptReport,
@@ -68,7 +68,7 @@ fn is_bad_pair(one: &Record, two: &Record, marks_of_one: Marks, marks_of_two: Ma
     are_of_one_row(one, two) || are_at_odds(one, two, marks_of_one, marks_of_two)
 }
 
-// The marks of the record at a place.
+// Returns the marks of the record at a place.
 fn marks_at(marks: &[Marks], place: usize, records: &[Record]) -> Marks
     requires same { marks.now ≡ map marks_of records.now }
     requires within { place < length records.now }
@@ -77,7 +77,7 @@ fn marks_at(marks: &[Marks], place: usize, records: &[Record]) -> Marks
     marks[place]
 }
 
-// A place before which no record makes a bad pair with one that has these marks.
+// Returns a place before which no record conflicts with one that has these marks.
 fn start_for(records: &[Record], firsts: &Firsts, marks: Marks, place: usize) -> usize
     requires { IsIndex firsts.now.entries (map marks_of records.now) }
     ensures bound { result ≤ place }
@@ -88,7 +88,7 @@ fn start_for(records: &[Record], firsts: &Firsts, marks: Marks, place: usize) ->
     own.min(other).min(place)
 }
 
-// The place of the first of some records that makes a bad pair with another one, where none does before a start.
+// Returns the place of the first record before `end` that conflicts with another one. No record before `start` does.
 fn first_against(
     records: &[Record],
     marks: &[Marks],
@@ -114,7 +114,7 @@ fn first_against(
     None
 }
 
-/// The places of the first record that makes a bad pair with an earlier one, and of the first such one.
+/// Returns the places of the first record that conflicts with an earlier one, and of the earliest such one.
 pub(crate) fn bad_pair(
     records: &[Record],
     marks: &[Marks],

@@ -19,10 +19,10 @@ use release_json::{Version, read_release};
 use serde_json::Value;
 use std::alloc::Global;
 
-/// Why no record was read of a row.
+/// Why a row can't be read.
 #[derive(Clone, Copy, Debug, PartialEq, Eq)]
 pub enum RowFault {
-    /// No valid record has the row.
+    /// It isn't the row of any valid record.
     NotCanonical,
     /// Memory ran out.
     OutOfMemory,
@@ -122,7 +122,7 @@ fn record_in(
     }
 }
 
-// The record of a kind, a key and a body, where there is a valid one.
+// Reads a record by its kind, its key, which is at most 10^15, and its body.
 #[tactic(auto, unfolding(crate::specs::Reading::record_of))]
 fn record_of(
     alloc: Global,
@@ -140,7 +140,7 @@ fn record_of(
     }
 }
 
-// The record that a row says, whatever its blanks and the order of its keys.
+// Reads the record of a row, with any white space and any order of the keys in its JSON.
 #[tactic(auto, unfolding(crate::specs::Reading::found_in))]
 fn found_in(alloc: Global, version: Version, row: &Row) -> Result<Option<Record>, OutOfMemory>
     ensures { IfOk result (λ r. r ≡ spec.found_in version row.now) }
@@ -181,7 +181,7 @@ fn if_has(
     }
 }
 
-/// The record that a row says in a version, where the row is that record's.
+/// Reads the record of a row. The row must be byte for byte the one that the desk writes in this version.
 #[tactic(auto, unfolding(crate::specs::Reading::record_with))]
 pub(crate) fn record_with(
     alloc: Global,
@@ -196,7 +196,7 @@ pub(crate) fn record_with(
     }
 }
 
-/// The record of a row in a version.
+/// Reads the record of a row in this version.
 pub(crate) fn read_in(alloc: Global, version: Version, row: &Row) -> Result<Record, RowFault>
     ensures reads { ReadsRow version row.now result }
     ensures again { (r : Held) → IsRecord r → SaysRecord version r → spec_row_in version r ≡ row.now
@@ -208,8 +208,8 @@ pub(crate) fn read_in(alloc: Global, version: Version, row: &Row) -> Result<Reco
     }
 }
 
-/// The record of a row of the second version: the only valid one that has it. `NotCanonical` comes exactly where there
-/// is none.
+/// Reads a row of the second version, and returns the only valid record with that row. Returns `NotCanonical` exactly
+/// if there is no such record.
 pub fn read_row(alloc: Global, row: &Row) -> Result<Record, RowFault>
     ensures reads { ReadsRow Version.Second row.now result }
     ensures again { (r : Held) → IsRecord r → spec_row_of r ≡ row.now → IsAgain r result }
@@ -217,8 +217,8 @@ pub fn read_row(alloc: Global, row: &Row) -> Result<Record, RowFault>
     read_in(alloc, Version::Second, row)
 }
 
-/// The record of a row of the first version: the only valid one without a captain's hours that has it.
-/// `NotCanonical` comes exactly where there is none.
+/// Reads a row of the first version, and returns the only valid record with that row. A release has no captain's
+/// hours. Returns `NotCanonical` exactly if there is no such record.
 pub fn read_old_row(alloc: Global, row: &Row) -> Result<Record, RowFault>
     ensures reads { ReadsRow Version.First row.now result }
     ensures again { (r : Held) → IsRecord r → SaysRecord Version.First r → spec_row_in Version.First r ≡ row.now

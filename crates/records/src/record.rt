@@ -5,57 +5,57 @@ use desk_state::Counters;
 use desk_time::Minute;
 use plan::{Findings, Release};
 
-/// What a row that is kept says.
+/// The content of a stored row.
 #[derive(Debug, Drop)]
 pub enum Record {
-    /// The counters of the desk.
+    /// The desk's moment, counters and floors.
     Meta(Meta),
-    /// A report that is held.
+    /// A stored report.
     Report(KeptReport),
-    /// A deferral that is open.
+    /// An open deferral.
     Deferral(Deferral),
     /// A release.
     Release(Release),
-    /// What an accepted request has done.
+    /// The kept reply to an accepted request.
     Kept(KeptReply),
-    /// An alert that is open.
+    /// An open alert.
     Alert(KeptAlert),
 }
 
-/// The moment, the counters and the floors of the desk.
+/// The desk's moment, counters and floors.
 #[derive(Debug, Drop)]
 pub struct Meta {
-    /// The moment of the last event.
+    /// The desk's moment at its last event.
     pub moment: Minute,
     pub counters: Counters,
-    /// The persons some of whose replies are kept no more, in byte order.
+    /// For each person whose replies a sweep removed, the highest number of those. In byte order of the names.
     pub floors: Floors,
 }
 
-/// A report that is held. What it says is read again from its text.
+/// A stored report. Its content is read again from its text when the desk opens.
 #[derive(Debug, Drop)]
 pub struct KeptReport {
-    /// Its number.
+    /// Its id.
     pub id: u64,
-    /// When it was received.
+    /// The moment of its receipt.
     pub received: Minute,
     /// Its canonical text.
     pub text: Text,
 }
 
-/// An alert that is open. The dispatcher whose release it is stands in the release.
+/// An open alert. The dispatcher isn't stored here, because the release has its holder.
 #[derive(Debug, Drop)]
 pub struct KeptAlert {
-    /// The release.
+    /// The id of the release.
     pub release: u64,
-    /// From 1, one more with each change of what fails.
+    /// The version. It starts at 1, and increases by one whenever the failing rules change.
     pub version: u64,
-    /// When it was opened.
+    /// The moment at which it opened.
     pub opened: Minute,
-    /// The rules that fail, as judged last.
+    /// The rules that fail, by the last judgement.
     pub failing: Findings,
-    /// The rules that have failed since it was opened.
+    /// The rules that have failed since it opened.
     pub ever: Findings,
-    /// Whether the dispatcher has acknowledged this version.
+    /// True if the dispatcher has acknowledged this version.
     pub acknowledged: bool,
 }

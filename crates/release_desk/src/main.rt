@@ -15,7 +15,7 @@ use std::env;
 use std::io::{ErrorKind, IsTerminal};
 use std::process::ExitCode;
 
-// The words after the program's name. Words that aren't text form no command, as no words do.
+// The arguments after the program's name. If one of them isn't text, the result is empty, and forms no command.
 fn words_of(rt: &HostRuntime) -> Result<Vec<String>, AllocError> {
     let mut words = Vec::new(rt.alloc());
     match env::args(rt) {
@@ -30,13 +30,13 @@ fn words_of(rt: &HostRuntime) -> Result<Vec<String>, AllocError> {
     }
 }
 
-// The desk's rows are kept in this file of the working folder.
+// The keeper of the desk's rows, which are stored in `desk.db` in the working directory.
 fn keeper_of(rt: HostRuntime) -> Result<SqliteKeeper, AllocError> {
     let path = String::from_str(rt.alloc(), "desk.db")?;
     Ok(SqliteKeeper::new(rt, path))
 }
 
-// The one bell, which people hear on standard error.
+// The only bell, which prints the notices for all dispatchers to standard error.
 fn bells_of(rt: HostRuntime) -> Result<Vec<StderrBell<HostRuntime, HostRuntime>>, OutOfMemory> {
     let all = Text::of(rt.alloc(), b"*".as_slice())?;
     let mut bells = Vec::new(rt.alloc());
@@ -66,7 +66,7 @@ fn main(rt: HostRuntime) -> ExitCode {
         &gate,
         bells,
     );
-    // Where it fails, the log beside the file has what the file lacks.
+    // If this fails, the write-ahead log still holds what isn't in the file.
     let _ = keeper.leave();
     ExitCode::from(status)
 }

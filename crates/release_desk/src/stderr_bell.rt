@@ -8,9 +8,9 @@ use desk_time::show;
 use std::io::Eprint;
 use std::{io, str, time};
 
-/// Standard error, where people see a line for each notice of all dispatchers: when it came, the dispatcher, the
-/// release, the version of its alert, and what has become of it. It tells nothing of what it heard. A line that isn't
-/// written is a counted fault.
+/// Prints a line to standard error for each notice, whoever its dispatcher is. The line has the current moment, the
+/// dispatcher, the release, and the change and the version of its alert. Contracts don't know what was printed. A
+/// line that can't be printed is a counted fault.
 #[derive(Drop)]
 pub struct StderrBell<E: Eprint + Drop, T: time::Clock + Drop> {
     all: Text,
@@ -27,7 +27,7 @@ fn word_of(kind: NoticeKind) -> &'static str {
     }
 }
 
-// A text as it is printed.
+// The text for printing, or `?` if it isn't UTF-8.
 fn printed(text: &[u8]) -> &str {
     match str::from_utf8(text) {
         Ok(text) => text,
@@ -44,7 +44,7 @@ fn tell<E: Eprint>(out: &E, at: &[u8], notice: &Notice) -> io::Result<()> {
 }
 
 impl<E: Eprint + Drop, T: time::Clock + Drop> StderrBell<E, T> {
-    /// A bell over standard error. `all` is `*`.
+    /// Creates a bell over standard error. `all` must be `*`.
     pub fn new(all: Text, out: E, clock: T) -> Self
         ensures { result.faults ≡ 0 }
     {

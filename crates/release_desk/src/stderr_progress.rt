@@ -4,13 +4,13 @@ use std::io::Eprint;
 use std::sync::atomic::{AtomicU64, Ordering};
 use std::time::{Clock, Instant};
 
-// No line is shown in the first milliseconds of a command.
+// How many milliseconds a command runs before its first line is shown.
 const QUIET: u64 = 2_000;
 
-// A line stands for at least this many milliseconds before the next one.
+// How many milliseconds a line is shown before the next one, except before the last.
 const STANDS: u64 = 500;
 
-// The milliseconds between two moments, plus one, since 0 stands for "not yet".
+// The milliseconds between two moments, plus one, because a mark of 0 means "not yet".
 fn mark_of(start: Instant, now: Instant) -> u64 {
     let millis = now.duration_since(start).as_millis();
     if millis < 1 << 62 {
@@ -20,14 +20,14 @@ fn mark_of(start: Instant, now: Instant) -> u64 {
     }
 }
 
-// Whether a line is due at a mark: the quiet time is over, and the line before it has stood long enough.
+// Whether a line is due: the quiet time is over, and the previous line was shown long enough or the item is the last.
 fn is_due(began: u64, shown: u64, now: u64, is_last: bool) -> bool {
     began != 0
         && now.saturating_sub(began) >= QUIET
         && (is_last || shown == 0 || now.saturating_sub(shown) >= STANDS)
 }
 
-// The line, over which the next one is written, until the last.
+// Prints the line, over which the next one is printed. The last line ends with a line feed.
 fn tell<E: Eprint>(out: &E, done: u64, all: u64, is_last: bool) -> io::Result<()> {
     eprint!(out;
         "\r{done} of {all} items{}",
@@ -35,10 +35,10 @@ fn tell<E: Eprint>(out: &E, done: u64, all: u64, is_last: bool) -> io::Result<()
     )
 }
 
-/// Shows the progress of a command on standard error if that is a terminal: after two seconds a line with how many items
-/// are done of how many, at most twice a second, each over the one before it. A line that can't be written is lost.
+/// Shows the progress of a command on standard error if that is a terminal. After two seconds it prints a line with
+/// how many items are done, at most twice a second, each over the previous one. A line that can't be printed is lost.
 ///
-/// Threads share it without a lock, so no call of it waits.
+/// Threads share it without a lock, so none of its calls waits.
 #[derive(Drop)]
 pub struct StderrProgress<R: Eprint + Clock + Drop> {
     is_seen: bool,
@@ -46,13 +46,13 @@ pub struct StderrProgress<R: Eprint + Clock + Drop> {
     start: Option<Instant>,
     done: AtomicU64,
     all: AtomicU64,
-    // Marks of the moments when items began to come and when a line was last shown; 0 before that.
+    // The marks of the moment when items were announced and of the last line, 0 before that.
     began: AtomicU64,
     shown: AtomicU64,
 }
 
 impl<R: Eprint + Clock + Drop> StderrProgress<R> {
-    /// Expects no items yet. `is_seen` says whether standard error is a terminal.
+    /// Starts without items. `is_seen` tells whether standard error is a terminal.
     pub fn new(is_seen: bool, rt: R) -> Self {
         let start = Instant::now(&rt).ok();
         StderrProgress {
@@ -74,7 +74,8 @@ impl<R: Eprint + Clock + Drop> StderrProgress<R> {
         }
     }
 
-    // Shows a line if one is due. Of several threads at once only one shows it, but the last item always does.
+    // Shows a line if one is due. If several threads show one at the same time, only one succeeds. The last item
+    // always does.
     fn show(&self, done: u64) {
         let now = self.mark();
         let all = self.all.load(Ordering::SeqCst);

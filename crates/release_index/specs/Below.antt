@@ -1,4 +1,4 @@
--- What of the crates below the clauses above name.
+-- The definitions of lower crates that the contracts of this crate cite.
 pub use Rattle.rules.specs.Circumstances.{Case, case_of}
 pub use Rattle.rules.specs.DestinationAlternates.{place_if, places_from}
 pub use Rattle.rules.specs.Due.{IsBeforeDue, at_moment}

@@ -1,4 +1,4 @@
--- By which keys a release is found, in the words of what touches it.
+-- Which keys find a release, in terms of what touches it.
 use Rattle.std.specs.Prelude.{◌≡◌, ◌↔◌, ℕ, true, List, Some, Any}
 use Rattle.facts.specs.Index.{fingerprint, key_cmp}
 use Rattle.ops_tables.specs.declared.rows.Settings.{Settings}
@@ -14,20 +14,20 @@ use Rattle.desk_io.specs.Station.{Station}
 use Rattle.release_index.specs.declared.moves.By.{By}
 use Rattle.release_index.specs.declared.moves.By.TheVariants as by
 
--- The plan has a station of that fingerprint in a leg that isn't flown.
+-- The plan names a station with this fingerprint in a leg that isn't flown.
 pub record NamesOne (number : ℕ) (plan : Plan) (phase : Phase) : Type 0 where
   pub station : Station
   pub mark : fingerprint station ≡ number
   pub named : Names plan phase station
 
--- A number is that of such a station, or of the registration of the plan's aircraft, or a minute at which a rule of time
--- begins to fail.
+-- A key's number touches the plan: it is the fingerprint of a station that the plan names, or of its aircraft's
+-- registration. Or it is a minute at which a time rule begins to fail.
 abbrev pub Touches : By → Settings → ℕ → Plan → Phase → Type 0
 Touches by.Station settings number plan phase = NamesOne number plan phase
 Touches by.Tail settings number plan phase = fingerprint plan.tail ≡ number
 Touches by.Due settings number plan phase = Begins plan phase settings number
 
--- A release is found by a key: it has the key's id and is active, and the key's number touches its active plan.
+-- A key finds a release: the release has the key's id and is active, and the key's number touches its active plan.
 pub record IsFoundBy (kind : By) (settings : Settings) (key : ℕ × ℕ) (r : Release) : Type 0 where
   pub id : key.1 ≡ r.id
   pub revision : Revision
@@ -35,6 +35,6 @@ pub record IsFoundBy (kind : By) (settings : Settings) (key : ℕ × ℕ) (r : R
   pub active : is_active r.phase ≡ true
   pub touches : Touches kind settings key.0 revision.plan r.phase
 
--- A key is held exactly where one of the releases is found by it.
+-- The index contains a key exactly if the key finds one of the releases.
 abbrev pub FindsBy : By → Settings → List (ℕ × ℕ) → List Release → Type 0
 FindsBy kind settings keys list = (key : ℕ × ℕ) → (is_held key_cmp key keys ≡ true) ↔ Any (IsFoundBy kind settings key) list

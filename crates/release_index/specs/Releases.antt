@@ -1,4 +1,4 @@
--- The releases that are held, as contracts see them, and what holds of them.
+-- The stored releases as contracts see them, and what always holds of them.
 use Rattle.std.specs.Prelude.{ℕ, ◌≤◌, List, length, Option, None, Some}
 use Rattle.std.specs.List.{AllByRecursion}
 use Rattle.ops_tables.specs.declared.rows.Settings.{Settings}
@@ -11,25 +11,26 @@ use Rattle.release_index.specs.Changes.{releases_after, MayChange}
 use Rattle.release_index.specs.Index.{onto_by, IsIndexOf, IsMove}
 
 pub record HeldReleases : Type 0 where
-  -- in rising order of their ids
+  -- in increasing order of their ids
   pub list : List Release
-  -- the settings of the airline
+  -- the airline's settings
   pub settings : Settings
-  -- the one change that needs no memory
+  -- the change for which room is reserved
   pub room : Option OnReleases
 
 abbrev pub held_of : Settings → List Release → HeldReleases
 held_of settings list = record { list = list; settings = settings; room = None }
 
--- room for a change
+-- the releases, with room reserved for a change
 abbrev pub reserved : HeldReleases → OnReleases → HeldReleases
 reserved held on = record { list = held.list; settings = held.settings; room = Some on }
 
--- the releases after a change, with no room
+-- the releases after a change, with no room reserved
 abbrev pub changed : OnReleases → HeldReleases → HeldReleases
 changed on held = held_of held.settings (releases_after on held.list)
 
--- what a change comes to was worked out, and it needs no memory where there is room for so many more
+-- A change is ready to apply: its keys are computed, and the given spare capacities suffice. The capacity free is in
+-- releases; stations, tails and dues are in keys of each index.
 pub record IsReady (settings : Settings) (list : List Release) (free stations tails dues : ℕ) (ready : Ready) : Type 0 where
   pub may : MayChange ready.on.value list
   pub room : 1 ≤ free

@@ -1,6 +1,4 @@
--- Which releases an event touches: of those that are active, a report may change the findings of those whose active plan names
--- its station in a leg that isn't flown, a deferral those of its aircraft, and time those for which a rule of time begins to
--- fail.
+-- Which active releases an event touches: a report by its station, a deferral by its aircraft, time by its rules.
 use Rattle.std.specs.Prelude.{ℕ, ◌==◌, nat_le, Bool, false, ◌&&◌, List, Option, None, Some}
 use Rattle.std.specs.List.{list_any}
 use Rattle.desk_io.specs.Station.{Station}
@@ -26,7 +24,7 @@ is_active_where test r = passes_in test r.active r.phase
 abbrev pub touched_at : Station → Release → Bool
 touched_at station r = is_active_where (λ plan phase. names_station plan phase station) r
 
--- an aircraft touches the active releases that are flown by it
+-- an aircraft touches the active releases whose active plan uses it
 abbrev pub touched_on : List ℕ → Release → Bool
 touched_on tail r = is_active_where (λ plan phase. is_of_tail plan tail) r
 
@@ -34,14 +32,15 @@ abbrev pub is_due_by : ℕ → Option ℕ → Bool
 is_due_by minute None = false
 is_due_by minute (Some due) = nat_le due minute
 
--- a minute touches the active releases for which a rule of time begins to fail after the moment so far and not later than then
+-- a minute touches the active releases for which a time rule begins to fail after the moment and at or before that
+-- minute
 abbrev pub touched_by : Settings → ℕ → ℕ → Release → Bool
 touched_by settings moment minute r = is_active_where (λ plan phase. is_due_by minute (next_due plan phase settings moment)) r
 
--- a release of an id is held, and passes a test
+-- the list has a release with this id that passes the test
 abbrev pub held_where : (Release → Bool) → ℕ → List Release → Bool
 held_where test id list = list_any (λ r. (r.id == id) && test r) list
 
--- an id is one of some
+-- an id is in the list
 abbrev pub is_among : List ℕ → ℕ → Bool
 is_among ids id = list_any (λ other. other == id) ids

@@ -1,13 +1,13 @@
 use plan::Release;
 
-/// What an event changes of the releases.
+/// What an event changes in the stored releases.
 #[derive(Debug, Drop)]
 pub enum OnReleases {
     Nothing,
-    /// A release is filed.
+    /// Adds a release, which the desk files under a new id.
     File(Release),
-    /// A release takes the place of the one of its id.
+    /// Replaces the release with the same id.
     Put(Release),
-    /// The release of an id goes.
+    /// Removes the release with this id.
     Remove { release: u64 },
 }

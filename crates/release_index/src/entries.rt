@@ -78,7 +78,8 @@ fn push_legs(keys: &mut Vec<Key>, id: u64, phase: Phase, legs: &[Leg]) -> Result
     Ok(())
 }
 
-/// Adds the keys of the stations that a release names.
+/// Appends the keys of the stations that the release's active plan names in legs not yet flown. A release that isn't
+/// active has no keys.
 pub(crate) fn push_stations(keys: &mut Vec<Key>, release: &Release) -> Result<(), OutOfMemory>
     requires { ReleaseInBounds release.now }
     ensures { OnOk result (keys.new.items ≡ spec.stations_onto keys.old.items release.now) }
@@ -104,7 +105,7 @@ fn push_minutes(keys: &mut Vec<Key>, id: u64, minutes: &[Minute]) -> Result<(), 
     Ok(())
 }
 
-// Those of the minutes at which a rule of time begins to fail for a plan.
+// Appends the keys of the minutes at which a time rule begins to fail for a plan.
 fn push_plan(
     alloc: Global,
     settings: Settings,
@@ -122,7 +123,8 @@ fn push_plan(
     push_minutes(keys, id, minutes.as_slice())
 }
 
-/// Adds the keys of the minutes at which a rule of time begins to fail for it.
+/// Appends the keys of the minutes at which a time rule begins to fail for the release's active plan. A release that
+/// isn't active has no keys.
 pub(crate) fn push_dues(
     alloc: Global,
     settings: Settings,
@@ -151,7 +153,7 @@ pub(crate) fn push_dues(
     }
 }
 
-/// Adds the key of its aircraft.
+/// Appends the key of the aircraft of the release's active plan. A release that isn't active has no key.
 pub(crate) fn push_tail(keys: &mut Vec<Key>, release: &Release) -> Result<(), OutOfMemory>
     ensures { OnOk result (keys.new.items ≡ spec.tail_onto keys.old.items release.now) }
 {

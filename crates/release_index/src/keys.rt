@@ -6,10 +6,11 @@ ghost use Rattle.desk_io.specs.Keys.{is_held};
 use desk_io::{Keys, OutOfMemory};
 use std::alloc::Global;
 
-/// A number of what touches a release, and the release's id.
+/// An index key: what touches a release, and the release's id. The first number is the fingerprint of a station or of
+/// a registration, or a minute.
 pub(crate) type Key = (u64, u64);
 
-/// Puts keys into a set that has room for them. It takes no memory.
+/// Adds the keys to a set, using reserved room. Allocates no memory.
 pub(crate) fn enter(held: &mut Keys<Key>, coming: &[Key])
     requires room { length coming.now ≤ held.old.room }
     ensures { (q : ℕ × ℕ) → is_held key_cmp q held.new.keys
@@ -20,7 +21,7 @@ pub(crate) fn enter(held: &mut Keys<Key>, coming: &[Key])
     }
 }
 
-// The keys as entries without values.
+// Turns keys into the entries that a set is built from.
 fn entries_of(alloc: Global, keys: &[Key]) -> Result<Vec<(Key, ())>, OutOfMemory>
     ensures { IfOk result (λ entries. keys_of entries.items ≡ keys.now) }
 {
@@ -31,7 +32,7 @@ fn entries_of(alloc: Global, keys: &[Key]) -> Result<Vec<(Key, ())>, OutOfMemory
     Ok(entries)
 }
 
-/// The set of some keys, which are sorted once.
+/// Builds a set from keys, sorting them once.
 pub(crate) fn set_of(alloc: Global, keys: &[Key]) -> Result<Keys<Key>, OutOfMemory>
     ensures { IfOk result (λ set. (q : ℕ × ℕ) → is_held key_cmp q set.keys ≡ is_held key_cmp q keys.now) }
 {

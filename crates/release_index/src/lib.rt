@@ -1,4 +1,5 @@
-//! The releases that are held, found by their ids, and by the stations, the aircraft and the minutes that touch them.
+//! The releases that the desk holds, looked up by id, or by the stations, the aircraft and the minutes that touch
+//! them.
 #![tactic(auto)]
 
 mod change;

@@ -18,23 +18,23 @@ use ops_tables::Settings;
 use plan::Release;
 use std::alloc::Global;
 
-/// By what an index finds releases.
+/// The property by which an index looks up releases.
 #[derive(Clone, Copy)]
 pub(crate) enum By {
-    /// The stations that they name.
+    /// The stations that their plans name.
     Station,
-    /// Their aircraft.
+    /// The registration of their aircraft.
     Tail,
-    /// The minutes at which a rule of time begins to fail for them.
+    /// The minutes at which a time rule begins to fail for them.
     Due,
 }
 
-/// What a change does to an index.
+/// The keys that a change removes from an index and adds to it.
 #[derive(Drop)]
 pub(crate) struct Move {
-    /// The keys that it takes out.
+    /// The keys to remove, unless they are also to be added.
     pub(crate) leaving: Vec<Key>,
-    /// The keys that it puts in.
+    /// The keys to add.
     pub(crate) coming: Vec<Key>,
 }
 
@@ -55,7 +55,7 @@ fn push_keys(
     }
 }
 
-/// The keys of a release, if there is one.
+/// Returns the keys of a release in one index. Without a release, there are none.
 pub(crate) fn keys_of(
     alloc: Global,
     by: By,
@@ -89,7 +89,7 @@ fn all_keys(
     Ok(keys)
 }
 
-/// The index of releases. Their keys are sorted once.
+/// Builds an index of releases, sorting the keys once.
 pub(crate) fn index_of(
     alloc: Global,
     by: By,
@@ -103,7 +103,7 @@ pub(crate) fn index_of(
     set_of(alloc, keys.as_slice())
 }
 
-// The release that a change takes away, or puts another in the place of.
+// Returns the release that a change removes or replaces.
 fn old_of<'a>(held: &'a ById<Release>, on: &OnReleases) -> Option<&'a Release>
     ensures { option_copied result ≡ changes.old_of on.now held.now.list }
 {
@@ -114,7 +114,7 @@ fn old_of<'a>(held: &'a ById<Release>, on: &OnReleases) -> Option<&'a Release>
     }
 }
 
-// The release that a change brings.
+// Returns the release that a change adds or puts in place of another.
 fn fresh_of(on: &OnReleases) -> Option<&Release>
     ensures { option_copied result ≡ changes.fresh_of on.now }
 {
@@ -124,7 +124,7 @@ fn fresh_of(on: &OnReleases) -> Option<&Release>
     }
 }
 
-/// What a change does to an index.
+/// Computes the keys that a change removes from an index and adds to it.
 pub(crate) fn move_of(
     alloc: Global,
     by: By,
@@ -141,7 +141,7 @@ pub(crate) fn move_of(
     Ok(Move { leaving, coming })
 }
 
-// Takes a key out of an index, but where it comes. It takes no memory.
+// Removes the key from the index, unless it is also to be added. Allocates no memory.
 fn leave_unless(index: &mut Keys<Key>, key: &Key, coming: &[Key])
     ensures each { (q : ℕ × ℕ) → is_held key_cmp q index.new.keys
         ≡ ((not (is_at (key_cmp q) key.now) || is_held key_cmp q coming.now) && is_held key_cmp q index.old.keys) }
@@ -152,7 +152,7 @@ fn leave_unless(index: &mut Keys<Key>, key: &Key, coming: &[Key])
     }
 }
 
-// Takes keys out of an index, but for those that come. It takes no memory.
+// Removes keys from the index, except those that are also to be added. Allocates no memory.
 fn leave_others(index: &mut Keys<Key>, leaving: &[Key], coming: &[Key])
     ensures each { (q : ℕ × ℕ) → is_held key_cmp q index.new.keys
         ≡ ((not (is_held key_cmp q leaving.now) || is_held key_cmp q coming.now) && is_held key_cmp q index.old.keys) }
@@ -163,8 +163,8 @@ fn leave_others(index: &mut Keys<Key>, leaving: &[Key], coming: &[Key])
     }
 }
 
-/// Takes the keys that leave out of an index that has room for those that come, and puts these in. Keys that leave and
-/// come stay where they are. It takes no memory.
+/// Applies a move to an index that has room for the keys to add. A key that is both removed and added stays in place.
+/// Allocates no memory.
 pub(crate) fn turn(index: &mut Keys<Key>, by: &Move)
     requires { length by.now.coming.items ≤ index.old.room }
     ensures { (q : ℕ × ℕ) → is_held key_cmp q index.new.keys ≡ (is_held key_cmp q by.now.coming.items

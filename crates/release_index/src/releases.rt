@@ -23,10 +23,10 @@ use std::alloc::Global;
 use std::marker::Model;
 use std::snapshot::Snapshot;
 
-/// How many releases may be held.
+/// The maximum number of releases that the desk holds.
 pub const RELEASE_LIMIT: usize = 20_000;
 
-/// A change for which there is room, and what it does to the indexes.
+/// A change for which room is reserved, with the keys that it moves in each index.
 #[derive(Drop)]
 pub(crate) struct Ready {
     on: Snapshot<OnReleases>,
@@ -35,17 +35,17 @@ pub(crate) struct Ready {
     dues: Move,
 }
 
-/// The releases that are held, in rising order of their ids, found by their ids and by what touches them. They are at
-/// most 20,000, and in bounds. A contract sees the list of them, the settings by which rules of time begin to fail for
-/// them, and the one change that needs no memory.
+/// The releases that the desk holds, looked up by id or by what touches them. The list holds at most 20,000 releases,
+/// in increasing order of their ids. Contracts model the list, the airline's settings and the change for which room
+/// is reserved. The settings decide at which minutes time rules begin to fail.
 #[derive(Drop)]
 pub struct Releases {
     held: ById<Release>,
-    // The keys of the stations that each names.
+    // The index by the stations that active plans name.
     stations: Keys<Key>,
-    // The key of the aircraft of each.
+    // The index by the registration of the aircraft.
     tails: Keys<Key>,
-    // The keys of the minutes at which a rule of time begins to fail for each.
+    // The index by the minutes at which a time rule begins to fail.
     dues: Keys<Key>,
     settings: Settings,
     ready: Option<Ready>,
@@ -69,7 +69,8 @@ impl Model for Releases {
         r.dues.room) };
 }
 
-// Makes room for one more release and for the keys that come. All stays, and all room that there was.
+// Reserves room for one more release and for the keys to add. Releases, keys and room that were there remain, even if
+// memory runs out.
 fn take_room(
     held: &mut ById<Release>,
     stations: &mut Keys<Key>,
@@ -110,7 +111,7 @@ fn change_list(held: &mut ById<Release>, on: OnReleases)
     }
 }
 
-// Makes the change that is ready.
+// Applies the change for which room is reserved.
 fn install(
     held: &mut ById<Release>,
     stations: &mut Keys<Key>,
@@ -135,7 +136,7 @@ fn install(
 }
 
 impl Releases {
-    // The index by one thing or another.
+    // Returns the index by stations, aircraft or minutes.
     fn keys(&self, by: By) -> &Keys<Key>
         ensures { IsIndexOf (onto_by by self.now.settings) result.now.keys self.now.list }
     {
@@ -146,8 +147,9 @@ impl Releases {
         }
     }
 
-    // That index: a key is in it exactly where one of the releases is found by it, as it is active, has the key's id
-    // and names the station or has the aircraft of that number, or a rule of time begins to fail for it at that minute.
+    // Returns the same index, with its meaning for a reader. It contains a key exactly if that key finds a release.
+    // The release has the key's id and is active. It names the station or has the aircraft of the key's number, or a
+    // time rule begins to fail for it at that minute.
     fn index(&self, by: By) -> &Keys<Key>
         ensures keys { IsIndexOf (onto_by by self.now.settings) result.now.keys self.now.list }
         ensures found { FindsBy by self.now.settings result.now.keys self.now.list }
@@ -155,7 +157,7 @@ impl Releases {
         self.keys(by)
     }
 
-    /// No releases, and no room. It takes no memory.
+    /// Creates an empty collection, with no room reserved. Allocates no memory.
     pub fn new(alloc: Global, settings: Settings) -> Releases
         ensures { result ≡ spec.held_of settings [] }
     {
@@ -169,7 +171,7 @@ impl Releases {
         }
     }
 
-    /// The releases of a vector, in which the ids rise.
+    /// Builds the collection and its indexes from a vector whose ids strictly increase.
     pub fn from_vec(
         alloc: Global,
         settings: Settings,
@@ -193,7 +195,7 @@ impl Releases {
         })
     }
 
-    /// The releases in order of their ids. It takes no memory.
+    /// Returns the releases in increasing order of their ids. Allocates no memory.
     pub fn as_slice(&self) -> &[Release]
         ensures value { result.now ≡ self.now.list }
         ensures rising { AreRising (λ r. r.id) result.now }
@@ -203,28 +205,28 @@ impl Releases {
         self.held.as_slice()
     }
 
-    /// How many there are.
+    /// Returns the number of releases.
     pub fn len(&self) -> usize
         ensures { result ≡ length self.now.list }
     {
         self.held.as_slice().len()
     }
 
-    /// Whether there is none.
+    /// Returns true if there are no releases.
     pub fn is_empty(&self) -> bool
         ensures { result ≡ (length self.now.list == 0) }
     {
         self.held.as_slice().is_empty()
     }
 
-    /// The release of an id. It takes no memory.
+    /// Looks up the release with this id. Allocates no memory.
     pub fn get(&self, id: u64) -> Option<&Release>
         ensures { option_copied result ≡ release_at id self.now.list }
     {
         self.held.get(id)
     }
 
-    /// Makes room for a change. The releases stay as they were.
+    /// Reserves room for a change, and leaves the releases as they are. If memory runs out, nothing changes.
     pub fn reserve(&mut self, alloc: Global, on: &OnReleases) -> Result<(), OutOfMemory>
         requires { MayChange on.now self.old.list }
         ensures ok { OnOk result (self.new ≡ spec.reserved self.old on.now) }
@@ -251,7 +253,7 @@ impl Releases {
         Ok(())
     }
 
-    /// Makes that change, for which there is room, and leaves no room. It takes no memory.
+    /// Applies the change for which room is reserved, and leaves no room. Allocates no memory.
     pub fn change(&mut self, on: OnReleases)
         requires { self.old.room ≡ Some on }
         ensures { self.new ≡ spec.changed on self.old }
@@ -270,8 +272,8 @@ impl Releases {
         }
     }
 
-    /// Adds the ids of the releases that a station touches, each once: those that are active, and whose active plan
-    /// has it in a leg that isn't flown. They are found by halves.
+    /// Appends the ids of the releases that a report of this station touches, each once. These are the active
+    /// releases whose active plan names the station in a leg not yet flown. Looks them up by binary search.
     #[tactic(auto, using(crate::proofs::TellLaws::tells_at))]
     pub fn push_touched_at(&self, ids: &mut Vec<u64>, station: Station) -> Result<(), OutOfMemory>
         ensures touched { OnOk result ((id : ℕ) → is_among ids.new.items id
@@ -283,8 +285,8 @@ impl Releases {
         find_at(ids, &self.held, self.index(By::Station), station)
     }
 
-    /// Adds the ids of the releases that an aircraft touches, each once: those that are active, and whose active plan
-    /// is flown by it. They are found by halves.
+    /// Appends the ids of the releases that a deferral on this aircraft touches, each once. These are the active
+    /// releases whose active plan uses the aircraft. Looks them up by binary search.
     #[tactic(auto, using(crate::proofs::TellLaws::tells_on))]
     pub fn push_touched_on(&self, ids: &mut Vec<u64>, tail: &[u8]) -> Result<(), OutOfMemory>
         ensures touched { OnOk result ((id : ℕ) → is_among ids.new.items id
@@ -296,8 +298,8 @@ impl Releases {
         find_on(ids, &self.held, self.index(By::Tail), tail)
     }
 
-    /// Adds the ids of the active releases for which a rule of time begins to fail after a moment and not later than a
-    /// minute, each once. They are found by halves.
+    /// Appends the ids of the active releases for which a time rule begins to fail after `moment` and at or before
+    /// `minute`, each once. Looks them up by binary search.
     #[tactic(auto, using(crate::proofs::TellLaws::tells_by))]
     pub fn push_touched_by(
         &self,

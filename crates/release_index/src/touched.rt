@@ -90,7 +90,8 @@ fn leads_by(held: &ById<Release>, settings: Settings, moment: Minute, key: Key) 
     }
 }
 
-// Adds the ids of the keys at whose minute a rule of time begins to fail next for their releases.
+// Appends the id of each key whose minute is the next at which a time rule begins to fail for its release. So a
+// release with several due minutes is appended once.
 fn push_by(
     ids: &mut Vec<u64>,
     held: &ById<Release>,
@@ -111,7 +112,7 @@ fn push_by(
     Ok(())
 }
 
-// Adds the ids of the keys that lead to releases that a station touches.
+// Appends the id of each key whose release the station touches. Tests the release, because fingerprints may collide.
 fn push_at(
     ids: &mut Vec<u64>,
     held: &ById<Release>,
@@ -131,7 +132,7 @@ fn push_at(
     Ok(())
 }
 
-// Adds the ids of the keys that lead to releases that an aircraft touches.
+// Appends the id of each key whose release the aircraft touches. Tests the release, because fingerprints may collide.
 fn push_on(
     ids: &mut Vec<u64>,
     held: &ById<Release>,
@@ -150,7 +151,7 @@ fn push_on(
     Ok(())
 }
 
-// The id of the last release, and 0 where there is none.
+// Returns the id of the last release, or 0 if there is none.
 fn last_id(held: &[Release]) -> u64
     ensures { result ≡ spec.id_or_none (slice_get held.now (length held.now - 1)) }
 {
@@ -160,7 +161,7 @@ fn last_id(held: &[Release]) -> u64
     }
 }
 
-/// Adds the ids of the releases that a station touches, which are found in their index.
+/// Appends the ids of the releases that a station touches, found through the index by stations.
 pub(crate) fn find_at(
     ids: &mut Vec<u64>,
     held: &ById<Release>,
@@ -180,7 +181,7 @@ pub(crate) fn find_at(
     push_at(ids, held, index.run(&(number, 0), &(number, last)), station)
 }
 
-/// Adds the ids of the releases that an aircraft touches, which are found in their index.
+/// Appends the ids of the releases that an aircraft touches, found through the index by aircraft.
 pub(crate) fn find_on(
     ids: &mut Vec<u64>,
     held: &ById<Release>,
@@ -199,8 +200,8 @@ pub(crate) fn find_on(
     push_on(ids, held, index.run(&(number, 0), &(number, last)), tail)
 }
 
-/// Adds the ids of the releases for which a rule of time begins to fail after a moment and not later than a minute.
-/// They are found in their index, in the run of its keys that begins with the next minute.
+/// Appends the ids of the releases for which a time rule begins to fail after `moment` and at or before `minute`.
+/// Reads only the keys of those minutes in the index.
 pub(crate) fn find_by(
     ids: &mut Vec<u64>,
     held: &ById<Release>,

@@ -1,4 +1,4 @@
--- The findings that texts say, and lists of them in order, each once.
+-- The finding that a text represents, and lists of findings in order without duplicates.
 use Rattle.std.specs.Prelude.{ℕ, Bool, true, ◌&&◌, if◌then◌else◌, List, [], ◌∷◌, find, Option, None, Some, option_and_then}
 use Rattle.std.specs.Str.{bytes_eq}
 use Rattle.serde_json.specs.Data.{Data, Items}
@@ -16,11 +16,11 @@ use Rattle.release_json.specs.Cuts.{leg_of, cut}
 abbrev pub rule_among : List Rule → List ℕ → Option Rule
 rule_among rules code = find (λ r. bytes_eq (code_of r) code) rules
 
--- the rule of a code
+-- the rule with this code
 abbrev pub rule_of : List ℕ → Option Rule
 rule_of code = rule_among every_rule code
 
--- the finding of a rule, a leg and a place, of which the place has a limit
+-- the finding of a rule, a leg and a place, which is at most places
 abbrev pub finding_at : ℕ → Rule → List ℕ × List ℕ → Option Finding
 finding_at places rule halves =
     leg_of halves.0 >>= λ leg. number_in places halves.1 >>= λ place. Some (record { rule = rule; leg = leg; place = place })
@@ -28,15 +28,15 @@ finding_at places rule halves =
 abbrev pub finding_with : ℕ → List ℕ × List ℕ → Option Finding
 finding_with places halves = rule_of halves.0 >>= λ rule. cut 47 halves.1 >>= λ both. finding_at places rule both
 
--- the finding of a text
+-- the finding that a text represents
 unfoldable pub finding_within : ℕ → List ℕ → Option Finding
 finding_within places text = cut 47 text >>= λ halves. finding_with places halves
 
--- as it is kept
+-- as a row stores it, with a place of at most 10^15
 abbrev pub finding_of : List ℕ → Option Finding
 finding_of text = finding_within 1_000_000_000_000_000 text
 
--- as a reply may say it: a place as its type has it
+-- as a reply may contain it, with any 64-bit place
 abbrev pub said_finding_of : List ℕ → Option Finding
 said_finding_of text = finding_within 18_446_744_073_709_551_615 text
 
@@ -51,7 +51,7 @@ abbrev pub comes_before : Finding → List Finding → Bool
 comes_before f [] = true
 comes_before f (g ∷ gs) = is_before f g
 
--- each is before the next
+-- each finding is before the next one, so no two are the same
 abbrev pub are_in_order : List Finding → Bool
 are_in_order [] = true
 are_in_order (f ∷ fs) = comes_before f fs && are_in_order fs
@@ -62,6 +62,6 @@ finding_in d = option_and_then finding_of (as_str d)
 abbrev pub in_order : List Finding → Option (List Finding)
 in_order fs = if are_in_order fs then Some fs else None
 
--- the findings of a list, which stand in order, each once
+-- the findings of a list, if they are in order without duplicates
 unfoldable pub findings_of : Items → Option (List Finding)
 findings_of ds = each_read finding_in ds >>= λ fs. in_order fs

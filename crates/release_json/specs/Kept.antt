@@ -1,4 +1,4 @@
--- Which releases are valid, and so may be kept.
+-- Which releases may be stored: those whose fields have their forms and that are valid.
 use Rattle.std.specs.Prelude.{ℕ, nat_lt, nat_le, Bool, true, false, not, ◌&&◌, List, length, Option, None, Some, is_some}
 use Rattle.std.specs.Str.{bytes_eq}
 use Rattle.plan.specs.declared.release.Phase.{Phase}
@@ -10,14 +10,14 @@ use Rattle.asks.specs.Forms.{IsFormed}
 use Rattle.release_text.specs.Revisions.{revision_digest}
 use Rattle.release_text.specs.Valid.{IsValid}
 
--- a release that may be kept
+-- a release may be stored
 pub record IsKept (r : Release) : Type 0 where
   pub formed : IsFormed r
   pub valid : IsValid r
 
--- ---- the same as a test
+-- ---- the validity of a release, as a test
 
--- which revisions a phase asks for, by whether there is a pending and an active one
+-- a phase goes with the presence of a pending and of an active revision
 abbrev pub is_phased : Phase → Bool → Bool → Bool
 is_phased Drafted pending active = pending && not active
 is_phased Ready pending active = active
@@ -26,7 +26,7 @@ is_phased (Stopped next since again) pending active = active
 is_phased (Completed at) pending active = not pending
 is_phased (Cancelled at) pending active = not pending
 
--- the leg that a phase names is one of so many
+-- the leg that a phase names is between 1 and legs
 abbrev pub phase_fits : Phase → ℕ → Bool
 phase_fits Drafted legs = true
 phase_fits Ready legs = true
@@ -44,7 +44,7 @@ are_numbered None active = true
 are_numbered (Some v) None = true
 are_numbered (Some v) (Some w) = nat_lt w.number v.number
 
--- what needs no digest
+-- the part of validity that needs no digest
 abbrev pub is_shaped : Release → Bool
 is_shaped r =
     is_phased r.phase (is_some r.pending) (is_some r.active) && are_numbered r.pending r.active && has_legs r.phase r.pending && has_legs r.phase r.active
@@ -65,6 +65,6 @@ abbrev pub waits : Option Revision → Bool
 waits None = true
 waits (Some v) = not (is_some v.captain) && not (is_some v.hours) && may_be_signed v v.dispatcher
 
--- whether phase, revisions and signatures agree
+-- the phase, the revisions and the signatures agree
 unfoldable pub is_valid : Release → Bool
 is_valid r = is_shaped r && bears_both r.active && waits r.pending

@@ -1,4 +1,4 @@
--- The phase that a text says.
+-- The phase that a text represents.
 use Rattle.std.specs.Prelude.{ℕ, Bool, true, false, nat_le, if◌then◌else◌, List, [], length, take, drop, Option, None, Some, codes}
 use Rattle.std.specs.Str.{bytes_eq}
 use Rattle.desk_time.specs.Digits.{◌>>=◌}
@@ -15,14 +15,14 @@ ready_of rest = if bytes_eq rest (codes "1") then Some Ready else None
 abbrev pub flying_of : List ℕ → Option Phase
 flying_of rest = leg_of rest >>= λ leg. Some (Flying leg)
 
--- whether a captain has concurred again, by what stands after the moment
+-- the text after the moment: whether a captain has concurred again after a stop
 abbrev pub again_of : List ℕ → Option Bool
 again_of rest = if bytes_eq rest [] then Some false else (if bytes_eq rest (codes " AGAIN") then Some true else None)
 
 abbrev pub stopped_since : ℕ → List ℕ → List ℕ → Option Phase
 stopped_since next moment rest = minute_of moment >>= λ since. again_of rest >>= λ again. Some (Stopped next since again)
 
--- a moment is written in 17 characters
+-- a moment has 17 characters
 abbrev pub stopped_before : ℕ → List ℕ → Option Phase
 stopped_before next rest = if nat_le 17 (length rest) then stopped_since next (take 17 rest) (drop 17 rest) else None
 
@@ -38,7 +38,7 @@ completed_of rest = minute_of rest >>= λ at. Some (Completed at)
 abbrev pub cancelled_of : List ℕ → Option Phase
 cancelled_of rest = minute_of rest >>= λ at. Some (Cancelled at)
 
--- the phase of a word and what stands after it
+-- the phase of a word and the text after it
 abbrev pub phase_with : List ℕ × List ℕ → Option Phase
 phase_with halves =
     if bytes_eq halves.0 (codes "READY") then ready_of halves.1
@@ -51,11 +51,11 @@ abbrev pub phase_in : List ℕ → Option (List ℕ × List ℕ) → Option Phas
 phase_in text None = if bytes_eq text (codes "DRAFTED") then Some Drafted else None
 phase_in text (Some halves) = phase_with halves
 
--- the phase of a text
+-- the phase that a text represents
 unfoldable pub phase_of : List ℕ → Option Phase
 phase_of text = phase_in text (cut 32 text)
 
--- a phase whose fields have their forms
+-- a phase whose leg and moment are within their limits
 abbrev pub IsPhase : Phase → Type 0
 IsPhase Drafted = Unit {0}
 IsPhase Ready = Unit {0}

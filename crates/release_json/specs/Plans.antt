@@ -1,4 +1,4 @@
--- Releases of which each plan is one whose text can be made.
+-- Releases whose plans are in bounds, so that the text of each revision can be computed.
 use Rattle.std.specs.Prelude.{Option, IfSome}
 use Rattle.plan.specs.Check.{IsPlan}
 use Rattle.plan.specs.declared.release.Release.{Release}

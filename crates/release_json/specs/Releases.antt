@@ -1,4 +1,4 @@
--- The release of a JSON object. It has the keys that are named here, and no other.
+-- The release that a JSON object represents, with exactly the keys named here.
 use Rattle.std.specs.Prelude.{◌≡◌, ℕ, Bool, if◌then◌else◌, List, Option, None, Some, codes, option_and_then, is_some}
 use Rattle.std.specs.Str.{is_utf8}
 use Rattle.serde_json.specs.Data.{Data}
@@ -35,7 +35,7 @@ person t = if is_person t then Some t else None
 abbrev pub person_at : List ℕ → Data → Option (List ℕ)
 person_at key d = option_and_then person (text_at key d)
 
--- an attached report, whose text is UTF-8
+-- an attached report, whose text must be UTF-8
 abbrev pub attached_with : ℕ → List ℕ → Option Attached
 attached_with report text = if is_utf8 text then Some (record { report = report; text = text }) else None
 
@@ -52,7 +52,7 @@ signature_of d =
     person_at (codes "actor") d >>= λ actor. moment_at (codes "at") d >>= λ at. digest_at (codes "digest") d >>= λ digest.
     if has_members 3 d then Some (record { actor = actor; at = at; digest = digest }) else None
 
--- null, or a signature
+-- a signature, or null
 unfoldable pub signature_in : Data → Option (Option Signature)
 signature_in d = if is_some (as_null d) then Some None else (signature_of d >>= λ s. Some (Some s))
 
@@ -64,15 +64,15 @@ signatures_of d =
     signature_at (codes "dispatcher") d >>= λ dispatcher. signature_at (codes "captain") d >>= λ captain.
     Some (record { dispatcher = dispatcher; captain = captain })
 
--- a number of hours, to 100,000
+-- a number of hours, at most 100,000
 abbrev pub hours_of : Data → Option ℕ
 hours_of d = option_and_then (up_to 100_000) (option_and_then as_u64 (as_number d))
 
--- null, or a number of hours
+-- a number of hours, or null
 unfoldable pub hours_in : Data → Option (Option ℕ)
 hours_in d = if is_some (as_null d) then Some None else (hours_of d >>= λ hours. Some (Some hours))
 
--- a captain's hours: rows of the first version say none
+-- a captain's hours, which rows of the first version lack
 abbrev pub hours_at : Version → Data → Option (Option ℕ)
 hours_at First d = Some None
 hours_at Second d = option_and_then hours_in (get (codes "hours") d)
@@ -102,7 +102,7 @@ abbrev pub revision_of : Version → Data → Option Revision
 revision_of version d =
     head_of version d >>= λ h. plan_at d >>= λ plan. signatures_of d >>= λ s. attached_at d >>= λ attached. Some (revision_with h plan s attached)
 
--- null, or a revision
+-- a revision, or null
 unfoldable pub revision_in : Version → Data → Option (Option Revision)
 revision_in version d = if is_some (as_null d) then Some None else (revision_of version d >>= λ v. Some (Some v))
 
@@ -120,7 +120,7 @@ phase_at d = option_and_then phase_of (text_at (codes "phase") d)
 abbrev pub release_with : ℕ → List ℕ → Phase → Revisions → Release
 release_with id holder phase v = record { id = id; holder = holder; phase = phase; pending = v.pending; active = v.active }
 
--- the release that an object says in rows of a version, valid or not
+-- the release that an object represents in this version of rows, valid or not
 unfoldable pub release_in : Version → ℕ → Data → Option Release
 release_in version id d =
     person_at (codes "holder") d >>= λ holder. phase_at d >>= λ phase. revisions_of version d >>= λ v.
@@ -129,12 +129,12 @@ release_in version id d =
 abbrev pub if_valid : Release → Option Release
 if_valid r = if is_valid r then Some r else None
 
--- the release of that id, where an object says one that is valid
+-- the release with this id, if an object represents a valid one
 unfoldable pub release_of : Version → ℕ → Data → Option Release
 release_of version id d = release_in version id d >>= λ r. if_valid r
 
--- What is read of some JSON. Where it is that of a valid release with that id, which rows of the version say whole, it
--- is this release.
+-- What was written is read back. From the JSON of a release that may be stored, and that rows of the version
+-- represent in full, the reader returns that release.
 abbrev pub IsReleaseAgain : Version → ℕ → Data → Option Release → Type 0
 IsReleaseAgain version id d read =
     (r : Release) → IsKept r → SaysRelease version r → r.id ≡ id → d ≡ release_data version r → read ≡ Some r

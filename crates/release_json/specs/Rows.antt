@@ -1,4 +1,4 @@
--- A release as JSON, each key in its place in byte order. Its id is the key of its row, and no part of this.
+-- A release as JSON, with its keys in byte order and without its id, the key of its row.
 use Rattle.std.specs.Prelude.{ℕ, Option, None, Some, IfSome, codes}
 use Rattle.serde_json.specs.Data.{Data, null, boolean, object, Members, member, no_members}
 use Rattle.plan.specs.Check.{IsPlan}
@@ -16,7 +16,7 @@ use Rattle.release_json.specs.declared.version.Version.TheVariants.{First, Secon
 abbrev pub signature_members : Signature → Members
 signature_members s = member (codes "actor") (text_data s.actor) (member (codes "at") (moment_data s.at) (member (codes "digest") (digest_data s.digest) no_members))
 
--- null, or who signed, when, and which digest
+-- a signature, or null: who signed, when, and the digest of the text
 unfoldable pub signature_data : Option Signature → Data
 signature_data None = null
 signature_data (Some s) = object (signature_members s)
@@ -28,12 +28,12 @@ attached_members a = member (codes "report") (count a.report) (member (codes "te
 abbrev pub attached_data : Attached → Data
 attached_data a = object (attached_members a)
 
--- null, or the hours of a captain
+-- a captain's hours, or null
 unfoldable pub hours_data : Option ℕ → Data
 hours_data None = null
 hours_data (Some hours) = count hours
 
--- the hours before the members that come after them, where rows of the version say hours
+-- adds the hours before the later members, unless rows of the version lack them
 abbrev pub with_hours : Version → Option ℕ → Members → Members
 with_hours First hours later = later
 with_hours Second hours later = member (codes "hours") (hours_data hours) later
@@ -48,7 +48,7 @@ revision_members version v =
     (member (codes "plan") (plan_data v.plan)
     (member (codes "prepared") (boolean v.prepared) no_members))))))
 
--- null, or a revision
+-- a revision, or null
 unfoldable pub revision_data : Version → Option Revision → Data
 revision_data version None = null
 revision_data version (Some v) = object (revision_members version v)
@@ -60,20 +60,20 @@ release_members version r =
     (member (codes "pending") (revision_data version r.pending)
     (member (codes "phase") (text_data (phase_text r.phase)) no_members)))
 
--- the JSON of a release, in rows of a version
+-- the JSON of a release in this version of rows
 unfoldable pub release_data : Version → Release → Data
 release_data version r = object (release_members version r)
 
 abbrev pub SignedAtMoment : Option Signature → Type 0
 SignedAtMoment signature = IfSome signature (λ s. IsMoment s.at)
 
--- a revision whose moments can be shown
+-- a revision whose plan is in bounds, and whose signatures have moments from 2000 to 2099
 pub record RevisionHasMoments (v : Revision) : Type 0 where
   pub is_plan : IsPlan v.plan
   pub dispatcher : SignedAtMoment v.dispatcher
   pub captain : SignedAtMoment v.captain
 
--- a release whose moments can be shown
+-- a release whose phase, if it has a moment, and whose revisions have moments from 2000 to 2099
 pub record ReleaseHasMoments (r : Release) : Type 0 where
   pub moment : HasMoment r.phase
   pub pending : IfSome r.pending RevisionHasMoments

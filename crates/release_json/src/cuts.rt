@@ -5,7 +5,7 @@ ghost use Rattle.release_json.specs.Cuts as spec;
 
 use desk_time::read_number;
 
-/// The number of a leg.
+/// Reads the number of a leg, which is at most 4,294,967,295.
 pub(crate) fn leg_of(text: &[u8]) -> Option<u32>
     ensures { result ≡ spec.leg_of text.now }
 {
@@ -19,7 +19,7 @@ fn place_of(sign: u8, text: &[u8]) -> Option<usize>
     text.iter().position(|b| *b == sign)
 }
 
-// What stands in a text from a place on.
+// Returns the text from a place on.
 fn rest_from(text: &[u8], place: usize) -> &[u8]
     requires { place ≤ length text.now }
     ensures { result.now ≡ drop place text.now }
@@ -27,7 +27,7 @@ fn rest_from(text: &[u8], place: usize) -> &[u8]
     &text[place..]
 }
 
-/// What stands before the first sign of a text, and what stands after it.
+/// Splits a text at the first byte equal to `sign`. Returns the text before it and the text after it.
 pub(crate) fn cut(sign: u8, text: &[u8]) -> Option<(&[u8], &[u8])>
     ensures { option_map (λ halves. (halves.0.now, halves.1.now)) result ≡ spec.cut sign text.now }
 {

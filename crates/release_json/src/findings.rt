@@ -55,7 +55,8 @@ fn finding_within(places: u64, text: &[u8]) -> Option<Finding>
     finding_with(places, code, rest)
 }
 
-/// The finding whose text this is, as it is kept: a leg is at most 4,294,967,295, a place at most 10^15.
+/// Reads a stored finding, such as `121.625/1/1`: the rule's code, the leg and the place. The leg is at most
+/// 4,294,967,295, and the place at most 10^15.
 pub fn read_finding(text: &[u8]) -> Option<Finding>
     ensures value { result ≡ spec.finding_of text.now }
     ensures exact { (f : Finding) → (result ≡ Some f) ↔ (IsFinding f × (text.now ≡ finding_text f)) }
@@ -63,7 +64,7 @@ pub fn read_finding(text: &[u8]) -> Option<Finding>
     finding_within(1_000_000_000_000_000, text)
 }
 
-/// The finding whose text this is, as a reply says it: a place is a number of 64 bits.
+/// Reads a finding of a reply, whose place is any 64-bit number.
 pub fn read_said_finding(text: &[u8]) -> Option<Finding>
     ensures value { result ≡ spec.said_finding_of text.now }
     ensures exact { (f : Finding) → (result ≡ Some f) ↔ (IsSaidFinding f × (text.now ≡ finding_text f)) }
@@ -115,7 +116,7 @@ fn findings_of(alloc: Global, items: &[Value]) -> Result<Option<Findings>, OutOf
     }
 }
 
-/// The findings of a list, where each item is the text of one, and they stand in order, each once.
+/// Reads a list of stored findings. They must be in order, and no two may be the same.
 pub fn read_findings(alloc: Global, items: &[Value]) -> Result<Option<Findings>, OutOfMemory>
     ensures value { IfOk result (λ findings. findings ≡ spec.findings_of (items_view items.now)) }
     ensures order { IfOk result (λ findings. IfSome findings AreInOrder) }
@@ -134,7 +135,7 @@ fn finding_values(alloc: Global, findings: &[Finding]) -> Result<Vec<Value>, Out
     Ok(values)
 }
 
-/// Findings as a JSON list of their texts.
+/// Converts findings to a JSON list of their texts.
 pub fn findings_value(alloc: Global, findings: &[Finding]) -> Result<Value, OutOfMemory>
     ensures { IfOk result (λ v. view v ≡ spec.findings_data findings.now) }
 {

@@ -8,7 +8,7 @@ use plan::{Phase, Release, Revision, Signature};
 use release_text::written_text;
 use std::alloc::Global;
 
-// Which revisions a phase asks for.
+// Returns true if the phase goes with the presence of a pending and of an active revision.
 fn is_phased(phase: Phase, pending: bool, active: bool) -> bool
     ensures { result ≡ spec.is_phased phase pending active }
 {
@@ -19,7 +19,7 @@ fn is_phased(phase: Phase, pending: bool, active: bool) -> bool
     }
 }
 
-// Whether the leg that a phase names is one of so many.
+// Returns true if the leg that a phase names is between 1 and `legs`.
 fn phase_fits(phase: Phase, legs: usize) -> bool
     ensures { result ≡ spec.phase_fits phase legs }
 {
@@ -72,7 +72,7 @@ fn has_digest(digest: &[u8; 32], signature: &Option<Signature>) -> bool
     }
 }
 
-// Whether an active revision is prepared and bears both signatures on its text.
+// Returns true if an active revision is prepared and has both signatures on its text.
 fn bears_both(alloc: Global, revision: &Option<Revision>) -> Result<bool, OutOfMemory>
     requires { MayHavePlan revision.now }
     ensures { IfOk result (λ b. b ≡ spec.bears_both revision.now) }
@@ -108,7 +108,8 @@ fn may_be_signed(
     }
 }
 
-// Whether a pending revision has no captain's signature, no hours of his, and a dispatcher's only on its text.
+// Returns true if a pending revision may still be signed. It has no captain's signature and no captain's hours. A
+// dispatcher's signature is on its text.
 fn waits(alloc: Global, revision: &Option<Revision>) -> Result<bool, OutOfMemory>
     requires { MayHavePlan revision.now }
     ensures { IfOk result (λ b. b ≡ spec.waits revision.now) }
@@ -120,8 +121,8 @@ fn waits(alloc: Global, revision: &Option<Revision>) -> Result<bool, OutOfMemory
     }
 }
 
-/// Whether the phase, the revisions and the signatures of a release agree. The text of each revision is made and
-/// digested at most once.
+/// Returns true if the phase, the revisions and the signatures of a release agree. Computes the text and the digest
+/// of each revision at most once.
 #[tactic(auto, unfolding(crate::specs::Kept::is_valid))]
 pub(crate) fn is_valid(alloc: Global, release: &Release) -> Result<bool, OutOfMemory>
     requires { HasPlans release.now }

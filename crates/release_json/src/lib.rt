@@ -1,4 +1,4 @@
-//! Releases and findings as they are kept: JSON, both ways, and which are valid.
+//! Stored releases and findings as JSON, written and read back. A release is read only if it is valid.
 #![tactic(auto)]
 
 mod cuts;

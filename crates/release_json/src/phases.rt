@@ -102,7 +102,7 @@ fn phase_of(text: &[u8]) -> Option<Phase>
     }
 }
 
-/// The phase whose text this is: a leg is at most 4,294,967,295, a moment from 2000 to 2099.
+/// Reads a phase, such as `FLYING 1`. A leg is at most 4,294,967,295, and a moment is from 2000 to 2099.
 pub fn read_phase(text: &[u8]) -> Option<Phase>
     ensures value { result ≡ spec.phase_of text.now }
     ensures exact { (p : Phase) → (result ≡ Some p) ↔ (spec.IsPhase p × (text.now ≡ phase_text p)) }

@@ -82,7 +82,7 @@ fn release_in(
     }
 }
 
-// The same, with what the test of validity rests on.
+// Calls `release_in`, and adds the bounds of its plans, which the test of validity requires.
 fn release_found(
     alloc: Global,
     version: Version,
@@ -116,8 +116,9 @@ fn valid_release(
     }
 }
 
-/// The release of that id whose JSON this is in rows of a version, where it is valid: an object of exactly its keys,
-/// each field in its form, whose phase, revisions and signatures agree. In the first version no revision has hours.
+/// Reads a release from the JSON of its row, in this version of rows. The object must have exactly the keys of a
+/// release, each with a value of its form. The release must be valid: its phase, revisions and signatures agree. In
+/// the first version no revision has a captain's hours.
 pub fn read_release(
     alloc: Global,
     version: Version,

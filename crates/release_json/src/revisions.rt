@@ -21,7 +21,7 @@ struct Head {
     hours: Option<u32>,
 }
 
-// Who has signed a revision.
+// The signatures of a revision.
 #[derive(Drop)]
 struct Signatures {
     dispatcher: Option<Signature>,
@@ -47,7 +47,7 @@ fn is_person(text: &[u8]) -> bool
     1 <= text.len() && text.len() <= 16 && all_in_person(text)
 }
 
-/// The name of a person at a key.
+/// Reads the name of a person at a key: 1 to 16 letters and digits.
 pub(crate) fn person_at<'a>(key: &str, value: &'a Value) -> Option<&'a str>
     ensures { option_map (λ t. t.now) result ≡ spec.person_at key.now (view value.now) }
 {
@@ -66,7 +66,7 @@ fn bool_at(key: &str, value: &Value) -> Option<bool>
     }
 }
 
-// Every `str` is UTF-8, so this is a report that may be attached.
+// Returns an attached report. Its text is UTF-8, as every `str` is.
 fn attached_with(alloc: Global, report: u64, text: &str) -> Result<Attached, OutOfMemory>
     ensures { IfOk result (λ a. Some a ≡ spec.attached_with report text.now) }
 {
@@ -170,7 +170,7 @@ fn signatures_of(alloc: Global, value: &Value) -> Result<Option<Signatures>, Out
     }
 }
 
-// A number of hours.
+// Reads a number of hours, at most 100,000.
 fn hours_of(value: &Value) -> Option<u32>
     ensures { result ≡ spec.hours_of (view value.now) }
 {
@@ -190,7 +190,7 @@ fn hours_in(value: &Value) -> Option<Option<u32>>
     Some(Some(hours_of(value)?))
 }
 
-// A captain's hours, where rows of the version say them.
+// Reads a captain's hours. Rows of the first version have none.
 fn hours_at(version: Version, value: &Value) -> Option<Option<u32>>
     ensures { result ≡ spec.hours_at version (view value.now) }
 {
@@ -286,7 +286,7 @@ fn revision_in(
     }
 }
 
-/// Null or the revision at a key.
+/// Reads the revision, or null, at a key.
 pub(crate) fn revision_at(
     alloc: Global,
     version: Version,

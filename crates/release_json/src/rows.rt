@@ -55,7 +55,7 @@ fn attached_values(alloc: Global, attached: &[Attached]) -> Result<Vec<Value>, O
     Ok(values)
 }
 
-// Some members with what is attached more.
+// Adds the attached reports to the members.
 fn with_attached(
     alloc: Global,
     members: Members,
@@ -68,7 +68,7 @@ fn with_attached(
     with_value(alloc, members, "attached", Value::Array(values))
 }
 
-// Some members with a signature, or null, more.
+// Adds a signature, or null, to the members.
 fn with_signature(
     alloc: Global,
     members: Members,
@@ -93,7 +93,7 @@ fn hours_value(hours: Option<u32>) -> Value
     }
 }
 
-// All members but the captain's hours.
+// Returns all members except the captain's hours.
 fn plain_members(alloc: Global, revision: &Revision) -> Result<Members, OutOfMemory>
     requires { spec.RevisionHasMoments revision.now }
     ensures { IfOk result (λ all. members_view all.entries ≡ spec.revision_members Version.First revision.now) }
@@ -138,7 +138,7 @@ fn revision_value(
     }
 }
 
-// Some members with a revision, or null, more.
+// Adds a revision, or null, to the members.
 fn with_revision(
     alloc: Global,
     members: Members,
@@ -154,7 +154,7 @@ fn with_revision(
     with_value(alloc, members, key, value)
 }
 
-// Some members with a phase more.
+// Adds a phase to the members.
 fn with_phase(alloc: Global, members: Members, phase: Phase) -> Result<Members, OutOfMemory>
     requires { HasMoment phase }
     ensures { IfOk result (λ all. members_view all.entries ≡ put (codes "phase") (text_data (phase_text phase))
@@ -179,7 +179,8 @@ fn release_members(
     with_phase(alloc, members, release.phase)
 }
 
-/// A release as JSON, in rows of a version. Its id isn't in it.
+/// Converts a release to the JSON of its row, in this version of rows. The id is the key of the row, and not part of
+/// the JSON.
 #[tactic(auto, unfolding(crate::specs::Rows::release_data))]
 pub fn release_value(
     alloc: Global,

@@ -1,17 +1,17 @@
 ghost use Rattle.std.specs.Prelude.{◌≡◌};
 ghost use Rattle.release_json.specs.Versions as spec;
 
-/// The versions of rows that are read. Those of the second are written.
+/// The versions of rows that the desk can read. It writes the second.
 #[derive(Clone, Copy, Debug, PartialEq, Eq)]
 pub enum Version {
-    /// A revision says no captain's hours.
+    /// A revision has no captain's hours.
     First,
-    /// A revision says its captain's hours, or that it has none.
+    /// A revision has its captain's hours, or null.
     Second,
 }
 
 impl Version {
-    /// Its number, as the row of the counters says it.
+    /// Returns the number of the version, as it appears in the row of the counters.
     pub fn number(self) -> u64
         ensures { result ≡ spec.number_of self }
     {
@@ -22,7 +22,7 @@ impl Version {
     }
 }
 
-/// How many members a revision has.
+/// Returns the number of members in the JSON of a revision.
 pub(crate) fn members_of(version: Version) -> usize
     ensures { result ≡ spec.members_of version }
 {

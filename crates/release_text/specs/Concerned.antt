@@ -1,4 +1,4 @@
--- The airports that a release concerns: those of its legs that aren't flown (14 CFR 121.687).
+-- The stations that a release concerns: the airports of its legs that aren't flown (14 CFR 121.687).
 use Rattle.std.specs.Prelude.{◌≡◌, ℕ, ◌+◌, Bool, false, IsTrue, if◌then◌else◌, List, [], ◌∷◌, ◌++◌, map, Option, None, Some}
 use Rattle.std.specs.List.{AllByRecursion, list_any}
 use Rattle.std.specs.Str.{bytes_eq}
@@ -16,24 +16,24 @@ abbrev pub takeoff_station : Option TakeoffAlternate → List Station
 takeoff_station None = []
 takeoff_station (Some alternate) = alternate.station ∷ []
 
--- the airport of departure, and its alternate where one is listed
+-- the departure, and the takeoff alternate if one is listed
 abbrev pub departure_stations : Leg → List Station
 departure_stations leg = leg.from ∷ takeoff_station leg.takeoff_alternate
 
 abbrev pub alternate_stations : List Alternate → List Station
 alternate_stations alternates = map (λ a. a.station) alternates
 
--- the destination, and then its alternates
+-- the destination and then the alternates
 abbrev pub arrival_stations : Leg → List Station
 arrival_stations leg = leg.to ∷ alternate_stations leg.alternates
 
--- The airports that matter to a leg: where it hasn't departed all of them, in flight those where it may end.
+-- The stations that a leg concerns: all of them if it hasn't departed, in flight those at which it may end.
 abbrev pub leg_stations : Standing → Leg → List Station
 leg_stations Ahead leg = departure_stations leg ++ arrival_stations leg
 leg_stations InFlight leg = arrival_stations leg
 leg_stations Flown leg = []
 
--- the airports that matter to each leg, where the first of them has that number
+-- the stations that each leg concerns, if the first leg has number n
 abbrev pub stations_from : Phase → ℕ → List Leg → List Station
 stations_from phase n [] = []
 stations_from phase n (leg ∷ legs) = leg_stations (standing phase n) leg ++ stations_from phase (n + 1) legs
@@ -41,29 +41,29 @@ stations_from phase n (leg ∷ legs) = leg_stations (standing phase n) leg ++ st
 abbrev pub is_among : List Station → Station → Bool
 is_among stations station = list_any (λ other. bytes_eq other station) stations
 
--- those stations, and one more at their end unless it is among them
+-- the stations, with one more at the end unless it is already there
 abbrev pub with_station : List Station → Station → List Station
 with_station found station = if is_among found station then found else found ++ station ∷ []
 
--- those stations, and each of some others that isn't among them, at its first place
+-- the stations, with each of the others that isn't there yet, at its first place
 abbrev pub with_stations : List Station → List Station → List Station
 with_stations found [] = found
 with_stations found (station ∷ stations) = with_stations (with_station found station) stations
 
--- the stations that a release concerns, each once, at its first place
+-- the stations that a release concerns, without duplicates, in the order of their first place
 unfoldable pub concerned : Plan → Phase → List Station
 concerned plan phase = with_stations [] (stations_from phase 1 plan.legs)
 
--- no station stands twice
+-- no station occurs twice
 abbrev pub AreDistinct : List Station → Type 0
 AreDistinct [] = Unit {0}
 AreDistinct (station ∷ stations) = AllByRecursion (λ other. bytes_eq station other ≡ false) stations × AreDistinct stations
 
--- each of some stations is among others
+-- each of the stations is among the others
 abbrev pub AreAmong : List Station → List Station → Type 0
 AreAmong others stations = AllByRecursion (λ station. IsTrue (is_among others station)) stations
 
--- These are exactly those that stand in a list, each once.
+-- The stations are exactly those of the list `every`, without duplicates.
 pub record AreOnceEach (every stations : List Station) : Type 0 where
   pub distinct : AreDistinct stations
   pub all : AreAmong stations every

@@ -1,4 +1,4 @@
--- The text of a revision, which is what the dispatcher and the captain sign (14 CFR 121.663, 121.687).
+-- The text and digest of a revision, which the dispatcher and the captain sign (14 CFR 121.663, 121.687).
 use Rattle.std.specs.Prelude.{◌≡◌, ℕ, List}
 use Rattle.sha2.specs.Sha256.{sha256}
 use Rattle.plan.specs.declared.flights.Plan.{Plan}
@@ -14,11 +14,11 @@ text_digest plan revision attached = sha256 (release_text plan revision attached
 abbrev pub revision_text : Revision → List ℕ
 revision_text v = release_text v.plan v.number v.attached
 
--- Who signed a revision is no part of its text, so its digest stays the same.
+-- The digest of a revision's text. Signatures aren't part of the text, so the digest stays the same.
 abbrev pub revision_digest : Revision → List ℕ
 revision_digest v = text_digest v.plan v.number v.attached
 
--- the text of a revision and its digest
+-- the text of the revision and its digest
 pub record IsWritten (v : Revision) (w : Written) : Type 0 where
   pub text : w.text ≡ revision_text v
   pub digest : w.digest ≡ revision_digest v

@@ -15,7 +15,7 @@ fn is_among(stations: &[Station], station: Station) -> bool
         .any(|other| other.bytes() == station.bytes())
 }
 
-// Adds a station at the end, unless it is among them.
+// Adds a station at the end, unless it is already in the list.
 fn add(found: &mut Vec<Station>, station: Station) -> Result<(), OutOfMemory>
     ensures { OnOk result (found.new.items ≡ spec.with_station found.old.items station) }
 {
@@ -95,9 +95,9 @@ fn concerned_in_turn(alloc: Global, plan: &Plan, phase: Phase) -> Result<Vec<Sta
     Ok(found)
 }
 
-/// The stations that a release concerns: of each leg that isn't flown the airport of departure and its
-/// alternate, unless the leg has departed, then the destination and its alternates; each once, at its first
-/// place.
+/// Returns the stations that a release concerns, without duplicates, in the order of their first place. A leg that
+/// hasn't departed concerns its departure and takeoff alternate, then its destination and alternates. The leg in
+/// flight concerns its destination and alternates. A flown leg concerns none.
 pub fn concerned(alloc: Global, plan: &Plan, phase: Phase) -> Result<Vec<Station>, OutOfMemory>
     requires { IsPlan plan.now }
     ensures value { IfOk result (λ stations. stations.items ≡ spec.concerned plan.now phase) }

@@ -72,10 +72,11 @@ fn attached_to(
     latest_of(alloc, reports, &stations)
 }
 
-/// The weather that goes with a release (14 CFR 121.687(b)): for each station that it concerns, in order, its
-/// latest METAR or SPECI and then its latest TAF, where there is one. It concerns, of each leg that isn't flown,
-/// the airport of departure and its alternate, unless the leg has departed, then the destination and its
-/// alternates; each station once, at its first place. Right after it none is newer.
+/// Returns the weather reports to attach to a release (14 CFR 121.687(b)). For each station that the release concerns
+/// these are its latest METAR or SPECI and then its latest TAF, if there are any. A leg that hasn't departed concerns
+/// its departure and takeoff alternate, then its destination and alternates. The leg in flight concerns its
+/// destination and alternates. Each station counts once, at its first place. Until another report is admitted,
+/// `newer` finds none that is newer.
 pub fn attach(
     alloc: Global,
     reports: &Reports,

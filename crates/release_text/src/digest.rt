@@ -4,7 +4,7 @@ ghost use Rattle.sha2.specs.Sha256.{sha256};
 
 use sha2::{Digest, Sha256};
 
-/// The digest of a text by SHA-256 (FIPS 180-4).
+/// Returns the SHA-256 of a text (FIPS 180-4).
 pub fn digest_of(text: &[u8]) -> [u8; 32]
     ensures { result ≡ sha256 text.now }
 {
@@ -13,7 +13,7 @@ pub fn digest_of(text: &[u8]) -> [u8; 32]
     hasher.finalize()
 }
 
-/// The 64 hexadecimal digits of a digest, with small letters. It takes no memory.
+/// Returns the 64 lower-case hexadecimal digits of a digest. It allocates nothing.
 pub fn digits_of(digest: &[u8; 32]) -> [u8; 64]
     ensures { result ≡ encode_lower digest.now }
 {

@@ -1,4 +1,4 @@
-//! The text of a release, the weather reports that are attached to it, and its digest (14 CFR 121.687).
+//! The text of a release, the weather reports attached to it, and its digest (14 CFR 121.687).
 #![tactic(auto)]
 
 mod airports;

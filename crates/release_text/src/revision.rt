@@ -8,16 +8,16 @@ use desk_io::{OutOfMemory, Text};
 use plan::Revision;
 use std::alloc::Global;
 
-/// The text of a revision, and its digest.
+/// The text of a revision and its digest.
 #[derive(Debug, Drop)]
 pub struct Written {
-    /// The text.
+    /// The text that dispatcher and captain sign.
     pub text: Text,
-    /// Its SHA-256.
+    /// The SHA-256 of the text.
     pub digest: [u8; 32],
 }
 
-/// The text of a revision and its digest (14 CFR 121.687), each made once. Both signatures are on them (14 CFR
+/// Writes the text of a revision and computes its digest (14 CFR 121.687). Both signatures name this digest (14 CFR
 /// 121.663).
 #[tactic(auto, unfolding(crate::specs::Revisions::text_digest))]
 pub fn written_text(alloc: Global, revision: &Revision) -> Result<Written, OutOfMemory>
@@ -29,7 +29,7 @@ pub fn written_text(alloc: Global, revision: &Revision) -> Result<Written, OutOf
     Ok(Written { text, digest })
 }
 
-/// The SHA-256 of the text of a revision.
+/// Returns the SHA-256 of a revision's text.
 pub fn revision_digest(alloc: Global, revision: &Revision) -> Result<[u8; 32], OutOfMemory>
     requires { IsPlan revision.now.plan }
     ensures { IfOk result (λ d. d ≡ revision_digest revision.now) }

@@ -147,9 +147,9 @@ fn newer_than(reports: &Reports, attached: &[Attached], plan: &Plan, phase: Phas
     newer_on_legs(reports, attached, phase, plan.legs.as_slice())
 }
 
-/// Of the latest reports of the stations that a release concerns, the least number of those that aren't attached
-/// to it. There is none exactly where all of them are attached, and the release then has the latest weather (14
-/// CFR 121.687(b)). It takes no memory.
+/// Returns the least number of a latest report that isn't attached, among the stations that the release concerns. It
+/// is None exactly if all of these reports are attached, so that the release has the latest weather (14 CFR
+/// 121.687(b)). It allocates nothing.
 pub fn newer(reports: &Reports, plan: &Plan, phase: Phase, attached: &AttachedList) -> Option<u64>
     requires { IsPlan plan.now }
     ensures value { result ≡ spec.newer_than reports.now.reports plan.now phase attached.now }

@@ -306,9 +306,10 @@ fn text_in_turn(
     Ok(Text::from_vec(out))
 }
 
-/// The text of a release in a revision (14 CFR 121.687): the flight and the rules under which it is flown, the
-/// aircraft and its pilot in command; for each leg its airports, its moments, its alternates and its fuel, in
-/// pounds; and the reports that are attached. Every line ends in a line feed. No other release has this text.
+/// Writes the text of a release in one revision (14 CFR 121.687). It contains the flight number, the kind, the
+/// aircraft and the pilot in command. For each leg it contains airports, times, alternates and fuel in pounds. The
+/// attached reports follow. Every line ends in a line feed. If no name contains a space or a line feed, the text
+/// determines the plan and the revision number. It determines the reports too if each is one line.
 pub fn text_of(
     alloc: Global,
     plan: &Plan,

@@ -1,4 +1,4 @@
--- The state that records stand for.
+-- The state that records represent.
 use Rattle.std.specs.Prelude.{◌≡◌, ℕ, ◌==◌, nat_lt, Bool, true, ◌&&◌, ◌||◌, All, if◌then◌else◌, List, [], ◌∷◌, Option, None, Some, Result, Ok, Err}
 use Rattle.std.specs.List.{filter_map}
 use Rattle.std.specs.Option.{option_map}
@@ -21,7 +21,7 @@ use Rattle.records.specs.declared.record.Meta.{Meta as MetaOf}
 use Rattle.records.specs.declared.record.Record.{Record}
 use Rattle.records.specs.declared.record.Record.TheVariants.{Meta, Report, Deferral, Release, Kept, Alert}
 
--- ---- which records these are
+-- ---- the records of a desk
 
 -- by kind, and then by key
 abbrev pub comes_before : Record → Record → Bool
@@ -31,7 +31,7 @@ abbrev pub rises_from : Record → List Record → Bool
 rises_from r [] = true
 rises_from r (next ∷ rs) = comes_before r next && rises_from next rs
 
--- each record comes before the next
+-- each record is before the next
 abbrev pub rising : List Record → Bool
 rising [] = true
 rising (r ∷ rs) = rises_from r rs
@@ -42,7 +42,7 @@ pub record AreOfDesk (records : List Record) : Type 0 where
   pub fit : fit records ≡ Ok tt
   pub order : rising records ≡ true
 
--- ---- their kinds
+-- ---- records by kind
 
 abbrev pub report_in : Record → Option KeptReport
 report_in (Meta m) = None
@@ -88,7 +88,7 @@ alert_in (Alert a) = Some a
 abbrev pub meta_in : List Record → Option MetaOf
 meta_in records = option_map (λ found. found.1) (meta_from 0 records)
 
--- ---- what they stand for
+-- ---- the state
 
 abbrev pub report_with : KeptReport → Read → ReportOf
 report_with r read = record { id = r.id; received = r.received; text = r.text; read = read }
@@ -97,24 +97,24 @@ abbrev pub report_if : KeptReport → Result Read BadReport → Option ReportOf
 report_if r (Ok read) = Some (report_with r read)
 report_if r (Err bad) = None
 
--- a report, read again as it was received
+-- a report, read again as of its receipt
 unfoldable pub report_of : KeptReport → Option ReportOf
 report_of r = report_if r (read_of r.text r.received)
 
--- the release that is there, where it has that id
+-- a release, if it has this id
 abbrev pub if_of : ℕ → Option ReleaseOf → Option ReleaseOf
 if_of id None = None
 if_of id (Some r) = if r.id == id then Some r else None
 
--- an alert, told to a dispatcher
+-- an alert, with the dispatcher to whom it goes
 abbrev pub alert_with : KeptAlert → List ℕ → AlertOf
 alert_with a desk = record { release = a.release; desk = desk; version = a.version; opened = a.opened; failing = a.failing; ever = a.ever; acknowledged = a.acknowledged }
 
--- an alert, told to the holder of its release; there is none where there is no such release
+-- an alert for the holder of its release, or none if there is no such release
 abbrev pub alert_of : List ReleaseOf → KeptAlert → Option AlertOf
 alert_of releases a = option_map (λ r. alert_with a r.holder) (release_at a.release releases)
 
--- the reports, deferrals, releases, replies and alerts of records, with what a meta record counts; no history
+-- the state with the contents of the records and with no history
 abbrev pub state_with : TableRows → MetaOf → List Record → State
 state_with tables m records = record {
   tables = tables;
@@ -133,6 +133,6 @@ abbrev pub state_by : TableRows → Option MetaOf → List Record → State
 state_by tables None records = start tables
 state_by tables (Some m) records = state_with tables m records
 
--- The state that records stand for under some tables: the beginning, where none is the meta record.
+-- The state that records represent, with these tables. Without a meta record, it is that of a new desk.
 unfoldable pub state_in : TableRows → List Record → State
 state_in tables records = state_by tables (meta_in records) records

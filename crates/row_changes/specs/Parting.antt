@@ -1,4 +1,4 @@
--- Records by their kinds.
+-- Records, separated by kind.
 use Rattle.std.specs.Prelude.{List, [], ◌∷◌, ◌++◌, Option, None, Some}
 use Rattle.plan.specs.declared.release.Release.{Release as ReleaseOf}
 use Rattle.asks.specs.declared.kept.KeptReply.{KeptReply}
@@ -10,7 +10,7 @@ use Rattle.records.specs.declared.record.Record.{Record}
 use Rattle.records.specs.declared.record.Record.TheVariants.{Meta, Report, Deferral, Release, Kept, Alert}
 use Rattle.row_changes.specs.declared.parting.Parts.{Parts}
 
--- the first meta record, and the others of each kind in their order
+-- the first meta record, and the other records of each kind in order
 pub record Kinds : Type 0 where
   pub meta : Option MetaOf
   pub reports : List KeptReport
@@ -19,7 +19,7 @@ pub record Kinds : Type 0 where
   pub replies : List KeptReply
   pub alerts : List KeptAlert
 
--- what the vectors hold
+-- the contents of the vectors
 abbrev pub kinds_of : Parts → Kinds
 kinds_of p = record {
   meta = p.meta;
@@ -38,7 +38,7 @@ abbrev pub first_of : Option MetaOf → MetaOf → Option MetaOf
 first_of None m = Some m
 first_of (Some first) m = Some first
 
--- with one record more
+-- one more record
 abbrev pub with_record : Record → Kinds → Kinds
 with_record (Meta m) k = record k { meta = first_of k.meta m }
 with_record (Report r) k = record k { reports = k.reports ++ r ∷ [] }
@@ -47,7 +47,7 @@ with_record (Release r) k = record k { releases = k.releases ++ r ∷ [] }
 with_record (Kept r) k = record k { replies = k.replies ++ r ∷ [] }
 with_record (Alert a) k = record k { alerts = k.alerts ++ a ∷ [] }
 
--- with more records, in their order
+-- more records, in order
 abbrev pub with_records : List Record → Kinds → Kinds
 with_records [] k = k
 with_records (r ∷ rs) k = with_records rs (with_record r k)

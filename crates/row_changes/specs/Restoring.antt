@@ -1,4 +1,4 @@
--- What records say, once it is made to be held.
+-- The contents of records in the collections in which the desk holds them.
 use Rattle.std.specs.Prelude.{◌≡◌, ◌<◌, ◌≤◌, [], length, Option, None, Some}
 use Rattle.std.specs.List.{AllByRecursion, AllPairs, filter_map}
 use Rattle.facts.specs.Reports.{AreHeld}
@@ -13,7 +13,7 @@ use Rattle.row_changes.specs.Held.{alert_of, report_of}
 use Rattle.row_changes.specs.Parting.{Kinds}
 use Rattle.row_changes.specs.declared.restoring.Held.{Held}
 
--- records that can be held: reports that read, releases in bounds, and ids that rise
+-- records that the collections can hold: reports that can be read, releases in bounds, and ids that increase
 pub record MayHold (k : Kinds) : Type 0 where
   pub valid : AllByRecursion IsReport k.reports
   pub read : AreHeld (filter_map report_of k.reports)
@@ -24,7 +24,7 @@ pub record MayHold (k : Kinds) : Type 0 where
   pub held : length k.releases ≤ 20_000
   pub told : AllPairs (λ a b. a.release < b.release) (filter_map (alert_of k.releases) k.alerts)
 
--- what was made of records, with the settings of the airline
+-- the collections made from records, with the airline's settings
 pub record AreMade (settings : Settings) (k : Kinds) (h : Held) : Type 0 where
   pub meta : h.meta ≡ k.meta
   pub reports : h.reports.reports ≡ filter_map report_of k.reports
@@ -48,6 +48,6 @@ state_by_held tables (Some m) h = record {
   entries = [];
 }
 
--- the state of what was made
+-- the state that the collections represent
 abbrev pub state_held : TableRows → Held → State
 state_held tables h = state_by_held tables h.meta h

@@ -1,4 +1,4 @@
--- The rows of a state: one for the counters, and one for each report, deferral, release, kept reply and alert.
+-- The rows of a state: the meta row, and one for each report, deferral, release, kept reply and alert.
 use Rattle.std.specs.Prelude.{◌≡◌, ◌⊎◌, List, ◌∷◌, ◌++◌, map}
 use Rattle.std.specs.List.{AllByRecursion}
 use Rattle.desk_io.specs.declared.rows.Row.{Row}
@@ -20,15 +20,15 @@ use Rattle.records.specs.declared.record.Record.TheVariants.{Meta, Report, Defer
 abbrev pub meta_of : State → MetaOf
 meta_of s = record { moment = s.moment; counters = s.counters; floors = s.floors }
 
--- what is kept of a report: its reading isn't, since it is read again from its text
+-- what is stored of a report; its reading isn't, because the desk reads the text again
 abbrev pub report_kept : ReportOf → KeptReport
 report_kept r = record { id = r.id; received = r.received; text = r.text }
 
--- what is kept of an alert: the dispatcher whose alert it is stands in the release
+-- what is stored of an alert; its dispatcher isn't, because the release has its holder
 abbrev pub alert_kept : AlertOf → KeptAlert
 alert_kept a = record { release = a.release; version = a.version; opened = a.opened; failing = a.failing; ever = a.ever; acknowledged = a.acknowledged }
 
--- the records of a state, in order of their kinds and their keys
+-- the records of a state, by kind and then by key
 unfoldable pub records_of : State → List Record
 records_of s =
     Meta (meta_of s) ∷ map (λ r. Report (report_kept r)) s.reports ++ map Deferral s.deferrals ++ map Release s.releases ++ map Kept s.kept
@@ -38,11 +38,11 @@ records_of s =
 unfoldable pub state_rows : State → List Row
 state_rows s = map row_of (records_of s)
 
--- These rows are kept for a state: its own, or none where it is as at the beginning.
+-- The stored rows are those of the state. A new desk may also have no rows.
 abbrev pub AreKept : Rows → State → Type 0
 AreKept rows s = AreSame rows (rows_of (state_rows s)) ⊎ (AreSame rows no_rows × (s ≡ start s.tables))
 
--- These rows are those of a state in the first version: its own, where no release of it has a captain's hours.
+-- The stored rows are those of the state in the first version, and no release has a captain's hours.
 pub record AreOldRows (rows : Rows) (s : State) : Type 0 where
   pub lacks : AllByRecursion HasNoHours s.releases
   pub same : AreSame rows (rows_of (map (row_in First) (records_of s)))

@@ -1,4 +1,4 @@
--- Events whose changes can be put into rows: their moments can be shown, and their numbers are small.
+-- Events whose changes can be written as rows: moments from 2000 to 2099, and ids that can be incremented.
 use Rattle.std.specs.Prelude.{List, Option, IfSome, All}
 use Rattle.alerts.specs.declared.alert.Alert.{Alert}
 use Rattle.asks.specs.declared.kept.KeptReply.{KeptReply}
@@ -45,7 +45,7 @@ WasAccepted kept = IfSome kept (λ k. IsMoment k.at)
 abbrev pub WasOpened : Option Alert → Type 0
 WasOpened alert = IfSome alert (λ a. IsMoment a.opened)
 
--- numbers after which there are others
+-- counters and ids that can be incremented
 pub record AreSmall (c : Counters) (effect : Effect) : Type 0 where
   pub events : IsSmall c.events
   pub accepted : IsSmall c.next_kept
@@ -53,7 +53,7 @@ pub record AreSmall (c : Counters) (effect : Effect) : Type 0 where
   pub deferral : IsSmallDeferral effect.on_deferrals
   pub release : IsSmallRelease effect.on_releases
 
--- what an event changes can be put into rows
+-- the changes of an event can be written as rows
 pub record AreShown (s : State) (effect : Effect) (kept : Option KeptReply) (alerts : List AlertChange) : Type 0 where
   pub moment : IsMoment (moment_after effect.moment s.moment)
   pub small : AreSmall s.counters effect

@@ -9,7 +9,7 @@ use facts::{Report, read_report};
 use records::KeptReport;
 use std::alloc::Global;
 
-// The report, read again as it was received.
+// Reads a stored report again, as of its receipt.
 #[tactic(auto, unfolding(crate::specs::Held::report_of))]
 fn read_again(alloc: Global, kept: KeptReport) -> Result<Report, OutOfMemory>
     requires { IsReport kept }
@@ -27,7 +27,7 @@ fn read_again(alloc: Global, kept: KeptReport) -> Result<Report, OutOfMemory>
     }
 }
 
-/// The reports that were kept, each read again as it was received.
+/// Reads stored reports again, each as of its receipt.
 pub(crate) fn reports_again(
     alloc: Global,
     kept: Vec<KeptReport>,

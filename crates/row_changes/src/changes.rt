@@ -26,7 +26,7 @@ use records::{Record, RecordRef};
 use release_index::OnReleases;
 use std::alloc::Global;
 
-// The kinds of rows that may go.
+// The kinds of rows that may be removed.
 const REPORT: u8 = 1;
 
 const DEFERRAL: u8 = 2;
@@ -226,7 +226,7 @@ fn alert_change(alloc: Global, release: u64, alert: &Option<Alert>) -> Result<Ch
     }
 }
 
-/// What becomes of the rows of alerts that change.
+/// Appends the changes to the rows of alerts that change.
 pub(crate) fn push_alerts(
     alloc: Global,
     changes: &mut Vec<Change>,
@@ -294,8 +294,8 @@ fn shown_changes(
     Ok(changes)
 }
 
-/// What an event changes of the rows, before it is put in place: what is kept of it, and the alerts that it changes,
-/// are given.
+/// Returns the changes that an event makes to the rows, before the desk installs it. The caller gives the reply to
+/// keep and the alerts that change.
 #[tactic(auto, unfolding(crate::specs::Changes::event_changes))]
 pub fn event_changes(
     alloc: Global,

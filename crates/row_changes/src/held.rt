@@ -10,7 +10,7 @@ use facts::Report;
 use records::{AlertRef, Record, RecordRef, ReportRef, row_of};
 use std::alloc::Global;
 
-/// What is kept of a report.
+/// Borrows what is stored of a report.
 pub(crate) fn report_lent(report: &Report) -> RecordRef<'_>
     ensures { lent result ≡ Record.Report (spec.report_kept report.now) }
 {
@@ -21,7 +21,7 @@ pub(crate) fn report_lent(report: &Report) -> RecordRef<'_>
     })
 }
 
-/// What is kept of an alert.
+/// Borrows what is stored of an alert.
 pub(crate) fn alert_lent(alert: &Alert) -> RecordRef<'_>
     ensures { lent result ≡ Record.Alert (spec.alert_kept alert.now) }
 {
@@ -35,7 +35,7 @@ pub(crate) fn alert_lent(alert: &Alert) -> RecordRef<'_>
     })
 }
 
-/// The row of a record stands there.
+/// Returns the change that puts the row of a record.
 pub(crate) fn put_row(alloc: Global, held: &RecordRef<'_>) -> Result<Change, OutOfMemory>
     requires { HasMoments (lent held.now) }
     ensures { IfOk result (λ c. c ≡ changes.put_row (lent held.now)) }

@@ -24,8 +24,8 @@ fn meta_after_event(content: &Content) -> RecordRef<'_>
     })
 }
 
-/// What a judgement alone changes of the rows: the alerts, and the counters, since it is then an event. Nothing, where
-/// it changes no alert.
+/// Returns the changes that a judgement alone makes to the rows: those of alerts, and the meta row, because the
+/// judgement counts as an event. If no alert changes, there are none.
 #[tactic(auto, unfolding(crate::specs::Judged::judged_changes))]
 pub(crate) fn judged_changes(
     alloc: Global,

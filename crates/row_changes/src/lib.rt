@@ -1,5 +1,5 @@
-//! What is kept of the desk's state: the rows of a state, what an event changes of them, and the state that rows stand
-//! for.
+//! The rows of the desk's state: which rows a state has, which changes an event makes to them, and the state that
+//! loaded rows represent.
 #![tactic(auto)]
 
 mod again;

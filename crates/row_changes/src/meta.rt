@@ -83,7 +83,7 @@ fn counters_after(counters: Counters, effect: &Effect, entered: &Entry) -> Count
     }
 }
 
-/// The moment, the counters and the floors after an event.
+/// Returns the moment, the counters and the floors after an event.
 pub(crate) fn meta_after<'a>(
     content: &'a Content,
     effect: &'a Effect,

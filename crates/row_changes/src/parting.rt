@@ -8,7 +8,7 @@ use plan::Release;
 use records::{KeptAlert, KeptReport, Meta, Record};
 use std::alloc::Global;
 
-/// Records by their kinds, each in their order.
+/// Records by kind, each kind in order.
 #[derive(Drop)]
 pub(crate) struct Parts {
     /// The first meta record.
@@ -55,7 +55,7 @@ fn add_record(parts: &mut Parts, found: Record) -> Result<(), OutOfMemory>
     Ok(())
 }
 
-/// Records by their kinds.
+/// Separates records by kind.
 pub(crate) fn parts_of(alloc: Global, records: Vec<Record>) -> Result<Parts, OutOfMemory>
     ensures { IfOk result (λ parts. spec.kinds_of parts ≡ spec.with_records records.items spec.no_kinds) }
 {

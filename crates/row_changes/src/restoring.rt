@@ -19,7 +19,7 @@ use records::{Meta, Record};
 use release_index::Releases;
 use std::alloc::Global;
 
-/// What records say, made to be held.
+/// The contents of records, in the collections in which the desk holds them.
 #[derive(Drop)]
 pub(crate) struct Held {
     pub meta: Option<Meta>,
@@ -96,7 +96,7 @@ fn content_with(alloc: Global, tables: Tables, held: Held) -> Result<Content, Ou
     }
 }
 
-/// The state that records stand for under some tables. Its history is counted.
+/// Restores the state that records represent, with these tables. Its history is empty, and will only count entries.
 pub fn content_of(
     alloc: Global,
     tables: Tables,

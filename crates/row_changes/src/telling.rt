@@ -32,7 +32,7 @@ fn told(alloc: Global, releases: &Releases, kept: KeptAlert) -> Result<Option<Al
     }
 }
 
-/// The alerts that were kept, each told to the holder of its release.
+/// Restores stored alerts, each for the holder of its release.
 pub(crate) fn alerts_told(
     alloc: Global,
     releases: &Releases,

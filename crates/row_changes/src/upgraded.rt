@@ -24,7 +24,7 @@ fn meta_now(content: &Content) -> RecordRef<'_>
     })
 }
 
-// The rows of releases, as they are written now.
+// Appends the rows of releases, as the desk writes them now.
 fn push_releases(
     alloc: Global,
     changes: &mut Vec<Change>,
@@ -40,7 +40,7 @@ fn push_releases(
     Ok(())
 }
 
-// The rows in which both versions differ, as they are written now.
+// Returns the rows that differ between the versions, as the desk writes them now.
 #[tactic(auto, unfolding(crate::specs::Upgraded::upgraded_changes), using(crate::proofs::UpgradedLaws::each_shown))]
 fn upgraded_changes(alloc: Global, content: &Content) -> Result<Vec<Change>, OutOfMemory>
     ensures { IfOk result (λ changes. changes.items ≡ spec.upgraded_changes content.now.state) }
@@ -62,7 +62,7 @@ fn if_old(alloc: Global, is_old: bool, content: &Content) -> Result<Vec<Change>,
     }
 }
 
-// Some changes, and then others.
+// Appends later changes to the first ones.
 fn joined(first: Vec<Change>, later: Vec<Change>) -> Result<Vec<Change>, OutOfMemory>
     ensures { IfOk result (λ all. all.items ≡ first.items ++ later.items) }
 {
@@ -73,9 +73,9 @@ fn joined(first: Vec<Change>, later: Vec<Change>) -> Result<Vec<Change>, OutOfMe
     Ok(all)
 }
 
-/// What is changed of the rows by opening. Where they are of the first version, as `is_old` says, they are rewritten.
-/// Then come the alerts that a judgement changes, and the counters, since it is then an event. Nothing, where they
-/// aren't and it changes no alert.
+/// Returns the changes that opening a desk makes to the rows. If `is_old` is true, the rows are of the first version
+/// and are rewritten. Then come the alerts that a judgement changes, and the meta row, because the judgement counts
+/// as an event. If the rows are of the second version and no alert changes, there are no changes.
 #[tactic(auto, unfolding(crate::specs::Upgraded::opened_changes))]
 pub fn opened_changes(
     alloc: Global,

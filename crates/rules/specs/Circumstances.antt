@@ -1,4 +1,4 @@
--- The circumstances in which a plan is judged: its aircraft, its captain, the weather, and the minima that hold for them.
+-- The case in which a plan is judged: its aircraft, captain and deferrals, and the weather and minima for them.
 use Rattle.std.specs.Prelude.{ℕ, nat_lt, Bool, not, if◌then◌else◌, List}
 use Rattle.desk_io.specs.Station.{Station}
 use Rattle.codes.specs.declared.cond.Cond.{Cond}
@@ -19,18 +19,18 @@ use Rattle.rules.specs.Grounds.{Grounds}
 
 pub record Case : Type 0 where
   pub grounds : Grounds
-  -- domestic or flag
+  -- domestic or flag operation
   pub flight : Kind
   -- the type of the aircraft
   pub aircraft : TypeRow
-  -- the hours of the captain as pilot in command in that type
+  -- the captain's hours as pilot in command in the type
   pub hours : ℕ
-  -- the open deferrals of the aircraft in order of their ids
+  -- the open deferrals of the aircraft in the order of their ids
   pub deferred : List Deferral
-  -- what these add and take away
+  -- what these deferrals cost in fuel and capabilities
   pub limits : Limits
 
--- a plan whose aircraft is of a type
+-- the case of a plan whose aircraft has this type
 abbrev pub case_of : Grounds → Plan → TypeRow → Case
 case_of g plan aircraft = record {
   grounds = g;
@@ -41,11 +41,11 @@ case_of g plan aircraft = record {
   limits = limits_by (rows_of g.tables aircraft.kind (open_on plan.tail g.deferrals));
 }
 
--- the weather that controls at a station, by its latest forecast and its latest observation
+-- the controlling weather at a station, by its latest TAF and its latest METAR or SPECI
 abbrev pub weather_at : Grounds → Station → ℕ → Cond
 weather_at g station moment = cond_at (taf_latest g.reports station) (metar_latest g.reports station) g.tables.settings.hold_minutes moment
 
--- the worst of it from one minute to another
+-- the worst weather at a station from one minute to another
 abbrev pub worst_weather : Grounds → Station → ℕ → ℕ → Cond
 worst_weather g station from to = worst_cond (taf_latest g.reports station) (metar_latest g.reports station) g.tables.settings.hold_minutes from to
 
@@ -53,11 +53,11 @@ worst_weather g station from to = worst_cond (taf_latest g.reports station) (met
 abbrev pub landing_at : Case → Station → List Pair
 landing_at c station = landing c.grounds.tables c.aircraft station c.limits.lost
 
--- the minima of a station as an alternate for the aircraft
+-- the alternate minima of a station for the aircraft
 abbrev pub alternate_at : Case → Station → List Pair
 alternate_at c station = alternate_pairs c.grounds.tables c.aircraft station c.limits.lost
 
--- the weather at a station is below its minima as an alternate
+-- the weather at a station is below its alternate minima
 abbrev pub is_below_alternate : Case → Station → ℕ → Bool
 is_below_alternate c station moment = not (meets (weather_at c.grounds station moment) (alternate_at c station))
 
@@ -65,6 +65,6 @@ is_below_alternate c station moment = not (meets (weather_at c.grounds station m
 abbrev pub has_few_hours : Case → Bool
 has_few_hours c = nat_lt c.hours 100
 
--- the minima that hold for a landing at the destination, by the captain's hours (14 CFR 121.613, 121.652)
+-- the landing minima at the destination that hold for the captain, by his hours (14 CFR 121.613, 121.652)
 abbrev pub arrival_minima : Case → Station → List Pair
 arrival_minima c station = if has_few_hours c then raised (landing_at c station) (alternate_at c station) else landing_at c station

@@ -1,4 +1,4 @@
--- The reports that are held, and one that comes after them.
+-- The latest reports of a station once a report is added to those that the desk holds.
 use Rattle.std.specs.Prelude.{Bool, true, false, ◌&&◌, if◌then◌else◌, Option, None, Some}
 use Rattle.std.specs.Str.{bytes_eq}
 use Rattle.desk_io.specs.Station.{Station}
@@ -16,7 +16,7 @@ abbrev pub is_taf : Read → Bool
 is_taf (read.Metar metar) = false
 is_taf (read.Taf taf) = true
 
--- the latest once a report comes after those that are held
+-- the latest report of the station once r is added, if r is of the same kind
 abbrev pub with_report : Bool → Option Report → Station → Report → Option Report
 with_report alike held station r = if alike && bytes_eq (station_of_report r) station then later held (Some r) else held
 

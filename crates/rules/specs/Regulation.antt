@@ -1,5 +1,4 @@
--- What the sections of 14 CFR 121 ask of a leg, in their own words, and that a rule names no leg that does as its section
--- asks, and each other one.
+-- What each section of 14 CFR 121 requires of a leg, and that the findings follow it exactly.
 use Rattle.std.specs.Prelude.{◌≡◌, ◌↔◌, ◌⊎◌, ℕ, ◌+◌, ◌*◌, ◌/◌, ◌<◌, ◌≤◌, Bool, true, false, List, [], ◌∷◌, length, None, Some, Any, Contains}
 use Rattle.std.specs.List.{All}
 use Rattle.desk_io.specs.Station.{Station}
@@ -34,44 +33,43 @@ use Rattle.rules.specs.Circumstances.{Case, case_of, landing_at, alternate_at}
 use Rattle.rules.specs.Fuel.{is_within_states}
 use Rattle.rules.specs.Judgement.{finding, leg_numbered}
 
--- Something is known where anything is asked for, and nothing that is named is less.
+-- No named value is below the least. If the least isn't 0, a value is known.
 pub record IsAtLeast (named : List ℕ) (least : ℕ) : Type 0 where
   pub known : 0 < least → 0 < length named
   pub none_is_less : All (λ value. least ≤ value) named
 
--- what the latest forecast and the latest observation of a station name at a minute
+-- the values of an element that the latest TAF and METAR of a station give for a minute
 abbrev pub named_at : Element → Grounds → Station → ℕ → List ℕ
 named_at of g station minute = values_at of (taf_latest g.reports station) (metar_latest g.reports station) g.tables.settings.hold_minutes minute
 
--- at a minute the ceiling and the visibility of a station are at or above minima
+-- the ceiling and the visibility of a station are at or above these minima at the minute
 pub record IsAtOrAbove (g : Grounds) (station : Station) (minute : ℕ) (minima : Pair) : Type 0 where
   pub feet : IsAtLeast (named_at element.ceiling g station minute) minima.ceiling
   pub millimetres : IsAtLeast (named_at element.visibility g station minute) minima.vis
 
--- they are at or above some of the minima for landing
+-- the weather is at or above one of the landing minima
 abbrev pub AllowsLanding : Case → Station → ℕ → Type 0
 AllowsLanding c station minute = Any (IsAtOrAbove c.grounds station minute) (landing_at c station)
 
--- they are at or above some of the minima for landing as 14 CFR 121.652 raises them
+-- the weather is at or above one of the landing minima as 14 CFR 121.652 raises them
 abbrev pub AllowsRaisedLanding : Case → Station → ℕ → Type 0
 AllowsRaisedLanding c station minute = Any (IsAtOrAbove c.grounds station minute) (raised (landing_at c station) (alternate_at c station))
 
--- They allow a landing at the destination: of a captain with 100 hours in the type by the minima for landing (14 CFR
--- 121.613), and of one with fewer by these raised (14 CFR 121.652).
+-- The weather allows a landing at the destination. For a captain with 100 hours in the type the landing minima hold
+-- (14 CFR 121.613). For one with fewer the raised minima hold (14 CFR 121.652).
 pub record AllowsArrival (c : Case) (station : Station) (minute : ℕ) : Type 0 where
   pub by_minima : 100 ≤ c.hours → AllowsLanding c station minute
   pub by_raised : c.hours < 100 → AllowsRaisedLanding c station minute
 
--- they are at or above some of the minima for an alternate
+-- the weather is at or above one of the alternate minima
 abbrev pub AllowsAlternate : Case → Station → ℕ → Type 0
 AllowsAlternate c station minute = Any (IsAtOrAbove c.grounds station minute) (alternate_at c station)
 
--- they are so for each minute from an hour before the ETA to an hour after it
+-- the destination is at or above the minima at each minute from an hour before the ETA to an hour after it
 abbrev pub StaysAtOrAbove : Grounds → Leg → Pair → Type 0
 StaysAtOrAbove g leg minima = (minute : ℕ) → leg.eta ≤ minute + 60 → minute ≤ leg.eta + 60 → IsAtOrAbove g leg.to minute minima
 
--- A stop before the leg of a number, after which the flight hasn't been released again, has lasted for some minutes at
--- most (14 CFR 121.593, 121.595).
+-- A stop before the leg, without another release, has lasted at most this many minutes (14 CFR 121.593, 121.595).
 abbrev pub StopsAtMost : ℕ → Phase → ℕ → ℕ → Type 0
 StopsAtMost minutes phase number moment = (since : ℕ) → phase ≡ Stopped number since false → moment ≤ since + minutes
 
@@ -79,15 +77,15 @@ StopsAtMost minutes phase number moment = (since : ℕ) → phase ≡ Stopped nu
 abbrev pub fair : Pair
 fair = record { ceiling = 2_000; vis = 3 * 1_609_344 }
 
--- A flag flight goes without an alternate where it is scheduled for not more than six hours, and the weather at the
--- destination stays at or above the floor of the airport (14 CFR 121.621(a)(1)).
+-- A flag flight may go without an alternate. It is scheduled for at most six hours, and the destination stays at or
+-- above the airport's floor (14 CFR 121.621(a)(1)).
 pub record IsShortAndFair (c : Case) (leg : Leg) : Type 0 where
   pub six_hours : leg.eta ≤ leg.etd + 6 * 60
   pub floor : Pair
   pub is_floor : flag_floor c.grounds.tables c.aircraft leg.to c.limits.lost ≡ Some floor
   pub stays : StaysAtOrAbove c.grounds leg floor
 
--- the weather at the destination asks for no alternate (14 CFR 121.619(a), 121.621(a)(1))
+-- the weather at the destination requires no alternate (14 CFR 121.619(a), 121.621(a)(1))
 abbrev pub IsFair : Kind → Case → Leg → Type 0
 IsFair Domestic c leg = StaysAtOrAbove c.grounds leg fair
 IsFair Flag c leg = IsShortAndFair c leg
@@ -95,8 +93,8 @@ IsFair Flag c leg = IsShortAndFair c leg
 abbrev pub NeedsAlternate : Case → Leg → Type 0
 NeedsAlternate c leg = IsFair c.flight c leg → ⊥
 
--- An airport at not more than an hour from the airport of takeoff with one of two engines inoperative, or two hours
--- where there are three or more (14 CFR 121.617(a)).
+-- An airport within an hour of the departure with one engine inoperative, or within two hours with three engines or
+-- more (14 CFR 121.617(a)).
 pub record IsNear (c : Case) (leg : Leg) (station : Station) : Type 0 where
   pub miles : ℕ
   pub are_known : miles_of c.grounds.tables leg.from station ≡ Some miles
@@ -106,21 +104,21 @@ pub record IsNear (c : Case) (leg : Leg) (station : Station) : Type 0 where
 abbrev pub NeedsTakeoffAlternate : Case → Leg → Type 0
 NeedsTakeoffAlternate c leg = AllowsLanding c leg.from leg.etd → ⊥
 
--- minima that are higher by what is marginal
+-- minima raised by the margin of marginal weather
 abbrev pub with_margin : Settings → Pair → Pair
 with_margin settings minima = record { ceiling = minima.ceiling + settings.marginal_ceiling; vis = minima.vis + settings.marginal_vis16 * 100_584 }
 
--- the weather isn't marginal: it is that much above some of these minima
+-- the weather isn't marginal: it is above one of the minima by the margin
 abbrev pub IsBeyondMargin : Case → Station → ℕ → List Pair → Type 0
 IsBeyondMargin c station minute minima = Any (λ pair. IsAtOrAbove c.grounds station minute (with_margin c.grounds.tables.settings pair)) minima
 
--- at the destination at the ETA, or at the alternate once the aircraft comes from there (14 CFR 121.619(a))
+-- the destination at the ETA, or the alternate when the aircraft arrives there, isn't marginal (14 CFR 121.619(a))
 abbrev pub IsBeyondMarginAtOne : Case → Leg → Alternate → Type 0
 IsBeyondMarginAtOne c leg it =
     IsBeyondMargin c leg.to leg.eta (landing_at c leg.to) ⊎ IsBeyondMargin c it.station (leg.eta + it.minutes) (alternate_at c it.station)
 
--- An item that is deferred is in the list of the type, allows flag flights to one and legs of that length, and isn't
--- paired with one that was deferred before it (14 CFR 121.628).
+-- A deferred item doesn't forbid the leg (14 CFR 121.628). The type's list has it. It allows flag operation, if the
+-- flight is flag, and a leg this long. No item deferred earlier excludes it.
 pub record IsAllowed (c : Case) (leg : Leg) (d : Deferral) : Type 0 where
   pub row : MelRow
   pub is_listed : item_of c.grounds.tables c.aircraft.kind d.item ≡ Some row
@@ -128,30 +126,31 @@ pub record IsAllowed (c : Case) (leg : Leg) (d : Deferral) : Type 0 where
   pub length : 0 < row.max_minutes → leg.minutes ≤ row.max_minutes
   pub alone : All (λ e. e.id < d.id → are_paired c.grounds.tables c.aircraft.kind e.item d.item ≡ false) c.deferred
 
--- The day of the ETA is not later than so many days after the day on which the item was found (14 CFR 121.628).
+-- The ETA is on one of the days that are allowed for the repair of the item, or earlier (14 CFR 121.628).
 abbrev pub ArrivesBeforeRepair : Case → Leg → Deferral → Type 0
 ArrivesBeforeRepair c leg d = (row : MelRow) → item_of c.grounds.tables c.aircraft.kind d.item ≡ Some row
     → (days : ℕ) → LeavesDays row.category row.days days → leg.eta / 1440 ≤ d.found / 1440 + days
 
--- the type may use the destination, the alternates, and before takeoff the takeoff alternate (14 CFR 121.631)
+-- the type may use the destination, the alternates and, before departure, the takeoff alternate (14 CFR 121.631)
 pub record MayUseAirports (c : Case) (ahead : Type 0) (leg : Leg) : Type 0 where
   pub destination : may_use c.grounds.tables c.aircraft.kind leg.to ≡ true
   pub alternates : All (λ it. may_use c.grounds.tables c.aircraft.kind it.station ≡ true) leg.alternates
   pub takeoff : ahead → (it : TakeoffAlternate) → leg.takeoff_alternate ≡ Some it → may_use c.grounds.tables c.aircraft.kind it.station ≡ true
 
--- The fuel to fly to the destination and, where an alternate is needed, then to the most distant one, with what is
--- foreseen besides (14 CFR 121.647) and some reserve, is within the minimum fuel.
+-- The minimum fuel covers the flight to the destination, the factors of 14 CFR 121.647, the reserve and open
+-- deferrals. If an alternate is needed, it also covers the flight to the most distant one.
 pub record IsWithinMinimum (c : Case) (leg : Leg) (reserve : ℕ) : Type 0 where
   pub to_destination : leg.burn + leg.extra + reserve + c.limits.extra_fuel ≤ leg.minimum
   pub to_each_alternate : NeedsAlternate c leg → All (λ it. leg.burn + leg.extra + it.fuel + reserve + c.limits.extra_fuel ≤ leg.minimum) leg.alternates
 
--- and then to fly for 45 minutes at normal cruising fuel consumption (14 CFR 121.639(c))
+-- the minimum fuel is enough with a reserve of 45 minutes at normal cruising fuel consumption (14 CFR 121.639(c))
 pub record HasCruiseReserve (c : Case) (leg : Leg) : Type 0 where
   pub pounds : ℕ
   pub last : c.aircraft.cruise_pph * 45 ≤ pounds * 60
   pub within : IsWithinMinimum c leg pounds
 
--- and then for 10 percent of the time to the destination, and for 30 minutes of holding (14 CFR 121.645(b))
+-- the minimum fuel is enough with a reserve of 10 percent of the time to the destination and 30 minutes of holding
+-- (14 CFR 121.645(b))
 pub record HasHoldingReserve (c : Case) (leg : Leg) : Type 0 where
   pub tenth : ℕ
   pub lasts_tenth : c.aircraft.cruise_pph * leg.minutes ≤ tenth * 600
@@ -159,20 +158,20 @@ pub record HasHoldingReserve (c : Case) (leg : Leg) : Type 0 where
   pub lasts_holding : c.aircraft.hold_pph * 30 ≤ holding * 60
   pub within : IsWithinMinimum c leg (tenth + holding)
 
--- an alternate is needed, and none is listed, since the route is one without any (14 CFR 121.621(a)(2))
+-- an alternate is needed and none is listed, as the route allows (14 CFR 121.621(a)(2))
 pub record GoesWithout (c : Case) (leg : Leg) : Type 0 where
   pub needs : NeedsAlternate c leg
   pub lists_none : leg.alternates ≡ []
   pub is_free : route_free c.grounds.tables leg.from leg.to ≡ true
 
--- The fuel of a flag flight: on a route without any alternate it has that of two hours at normal cruising consumption
--- beyond the destination (14 CFR 121.645(c)), within the 48 states that of a domestic one (14 CFR 121.645(a)).
+-- The fuel of a flag flight. On a route without an alternate it lasts two hours beyond the destination at normal
+-- cruising consumption (14 CFR 121.645(c)). Within the 48 states it is that of a domestic flight (14 CFR 121.645(a)).
 pub record HasFlagFuel (c : Case) (leg : Leg) : Type 0 where
   pub without_alternate : GoesWithout c leg → leg.burn + leg.extra + 2 * c.aircraft.cruise_pph + c.limits.extra_fuel ≤ leg.minimum
   pub within_states : (GoesWithout c leg → ⊥) → is_within_states c.grounds.tables leg ≡ true → HasCruiseReserve c leg
   pub beyond_states : (GoesWithout c leg → ⊥) → is_within_states c.grounds.tables leg ≡ false → HasHoldingReserve c leg
 
--- no finding names a rule for the leg of a number
+-- no finding names the rule for this leg
 abbrev pub IsSilent : List Finding → Rule → ℕ → Type 0
 IsSilent fs rule number = (place : ℕ) → Contains fs (finding rule number place) → ⊥
 
@@ -182,14 +181,14 @@ pub data DepartsNext : Phase → ℕ → Type 0 where
   first : DepartsNext Ready 1
   after_stop : {next since : ℕ} {again : Bool} → DepartsNext (Stopped next since again) next
 
--- what the rules of time say of the leg of a number in a phase
+-- each rule of time is silent on the leg exactly if the leg satisfies it
 pub record FollowsTime (plan : Plan) (phase : Phase) (g : Grounds) (fs : List Finding) (number : ℕ) (leg : Leg) : Type 0 where
   pub domestic_stop : IsSilent fs No1 number ↔ (plan.kind ≡ Domestic → StopsAtMost 60 phase number g.moment)
   pub flag_stop : IsSilent fs No2 number ↔ (plan.kind ≡ Flag → StopsAtMost (6 * 60) phase number g.moment)
   pub departure : IsSilent fs No17 number ↔ (DepartsNext phase number → g.moment ≤ leg.etd + g.tables.settings.late_off)
   pub arrival : IsSilent fs No18 number ↔ (phase ≡ Flying number → g.moment ≤ leg.eta + g.tables.settings.late_on)
 
--- what the other rules say of a leg that isn't flown
+-- each other rule is silent on a leg that isn't flown exactly if the leg satisfies its section
 pub record FollowsSections (c : Case) (fs : List Finding) (number : ℕ) (leg : Leg) (ahead : Type 0) : Type 0 where
   pub landing : IsSilent fs No3 number ↔ AllowsArrival c leg.to leg.eta
   pub domestic_alternate : IsSilent fs No7 number ↔ (c.flight ≡ Domestic → NeedsAlternate c leg → 0 < length leg.alternates)
@@ -201,7 +200,7 @@ pub record FollowsSections (c : Case) (fs : List Finding) (number : ℕ) (leg : 
   pub flag_fuel : IsSilent fs No15 number ↔ (c.flight ≡ Flag → HasFlagFuel c leg)
   pub aboard : IsSilent fs No16 number ↔ (leg.minimum ≤ leg.onboard)
 
--- what those say that speak only of a leg that hasn't departed
+-- the same for the rules that judge only legs that haven't departed
 pub record FollowsDeparture (c : Case) (fs : List Finding) (number : ℕ) (leg : Leg) : Type 0 where
   pub takeoff_alternate : IsSilent fs No4 number ↔ (NeedsTakeoffAlternate c leg → leg.takeoff_alternate ≡ None → ⊥)
   pub takeoff_range : IsSilent fs No5 number ↔ (NeedsTakeoffAlternate c leg → (it : TakeoffAlternate) → leg.takeoff_alternate ≡ Some it → IsNear c leg it.station)
@@ -209,13 +208,13 @@ pub record FollowsDeparture (c : Case) (fs : List Finding) (number : ℕ) (leg :
   pub deferred : IsSilent fs No11 number ↔ All (IsAllowed c leg) c.deferred
   pub repair : IsSilent fs No12 number ↔ All (ArrivesBeforeRepair c leg) c.deferred
 
--- A leg of a plan, of a plan that passes its tests and whose aircraft has a type.
+-- A leg of a plan that passes its tests and whose aircraft has a type.
 pub record IsJudged (plan : Plan) (g : Grounds) (number : ℕ) (leg : Leg) (aircraft : TypeRow) : Type 0 where
   pub stands : leg_numbered number 1 plan.legs ≡ Some leg
   pub passes : plan_fault g.tables plan ≡ None
   pub has_type : type_of g.tables plan.tail ≡ Some aircraft
 
--- The findings of a plan in a phase are silent of a rule and a leg exactly where the leg does as the section asks.
+-- The findings on a plan are silent on a rule and a leg exactly if the leg does what the section requires.
 pub record FollowRegulation (plan : Plan) (phase : Phase) (g : Grounds) (fs : List Finding) : Type 0 where
   pub time : (number : ℕ) (leg : Leg) → leg_numbered number 1 plan.legs ≡ Some leg → FollowsTime plan phase g fs number leg
   pub not_flown : (number : ℕ) (leg : Leg) (aircraft : TypeRow) → IsJudged plan g number leg aircraft → (standing phase number ≡ Flown → ⊥)

@@ -1,4 +1,4 @@
--- What each rule says of a leg, where all that the rules need of a station is looked up once.
+-- What all rules find on a leg, in one record, and the findings from it.
 use Rattle.std.specs.Prelude.{◌≡◌, ℕ, ◌+◌, ◌≤◌, Bool, true, false, ◌&&◌, if◌then◌else◌, List, [], ◌∷◌, ◌++◌, map, Option, None, Some, is_none}
 use Rattle.std.specs.List.{list_all}
 use Rattle.std.specs.Option.{option_copied}
@@ -44,27 +44,27 @@ use Rattle.rules.specs.declared.time.Late.{Late}
 use Rattle.rules.specs.declared.sights.Seen.{Seen}
 use Rattle.rules.specs.declared.sights.Sight.{Sight}
 
--- the case that circumstances are
+-- the case of these circumstances
 abbrev pub case_by : Circumstances → Case
 case_by c = record { grounds = grounds_of c.evidence; flight = c.flight; aircraft = c.aircraft.now; hours = c.hours; deferred = map (λ d. d.now) c.deferred.items; limits = c.limits }
 
--- the bounds of what the tables and the deferrals say
+-- the aircraft and the deferrals are within their bounds
 pub record IsWithin (c : Circumstances) : Type 0 where
   pub knots : c.aircraft.now.oei_knots ≤ 1000
   pub extra_fuel : c.limits.extra_fuel ≤ 5_000_000_000
 
--- the latest reports of a station
+-- `reported` are the latest reports of the station
 pub record IsReported (g : Grounds) (station : Station) (reported : Reported) : Type 0 where
   pub taf : option_copied reported.taf ≡ taf_latest g.reports station
   pub metar : option_copied reported.metar ≡ metar_latest g.reports station
   pub hold : reported.hold ≡ g.tables.settings.hold_minutes
   pub within : reported.hold ≤ 1440
 
--- the rules on takeoff alternates, where it is known whether one is needed and which is listed
+-- the rules on takeoff alternates, given whether one is needed and which is listed
 abbrev pub takeoff_by : Bool → Case → Leg → Option TakeoffAlternate → Takeoff
 takeoff_by needed c leg listed = record { lacks = needed && is_none listed; is_far = needed && is_far c leg listed; is_low = needed && is_below_there c leg listed }
 
--- of a leg
+-- the same for the takeoff alternate that the leg lists
 abbrev pub takeoff_where : Bool → Case → Leg → Takeoff
 takeoff_where needed c leg = takeoff_by needed c leg leg.takeoff_alternate
 
@@ -96,7 +96,7 @@ of_deferral c leg d = record { is_limiting = is_limiting c leg d; is_overdue = i
 abbrev pub limits_of_leg : Case → Leg → Deferred
 limits_of_leg c leg = record { limiting = limiting c leg; overdue = overdue c leg }
 
--- no rule on deferred equipment speaks of a leg that has departed
+-- the rules on deferred equipment don't judge a leg that has departed
 abbrev pub where_ahead : Bool → List ℕ → List ℕ
 where_ahead ahead places = if ahead then places else []
 
@@ -109,7 +109,7 @@ fuel_of c leg = record { is_short_domestic = is_short_domestic c leg; is_short_f
 abbrev pub no_takeoff : Takeoff
 no_takeoff = record { lacks = false; is_far = false; is_low = false }
 
--- a leg that isn't flown
+-- what the rules find on a leg that isn't flown
 abbrev pub seen_of : Case → Bool → Leg → Seen
 seen_of c ahead leg =
     record { takeoff = if ahead then takeoff_of c leg else no_takeoff; arrival = arrival_of c leg; equipment = equipment_of c ahead leg; fuel = fuel_of c leg }
@@ -117,7 +117,7 @@ seen_of c ahead leg =
 abbrev pub no_need : Need
 no_need = record { is_needed = false; lacks_domestic = false; lacks_flag = false; does_without = false }
 
--- no rule speaks of a leg that is flown, or of one in a plan that fails its tests
+-- nothing is found on a flown leg, or in a plan that fails its tests
 abbrev pub clear : Seen
 clear = record {
   takeoff = no_takeoff;
@@ -131,16 +131,16 @@ seen_at c Ahead leg = seen_of c true leg
 seen_at c InFlight leg = seen_of c false leg
 seen_at c Flown leg = clear
 
--- by the case, where there is one
+-- the same in the case, if there is one
 abbrev pub seen_in : Option Case → Standing → Leg → Seen
 seen_in None standing leg = clear
 seen_in (Some c) standing leg = seen_at c standing leg
 
--- the last minute that a limit allows
+-- the last minute that the limit allows
 abbrev pub last_of : Limit → ℕ
 last_of limit = limit.since + limit.minutes
 
--- which rules of time the leg of a number fails at a moment
+-- the rules of time that leg n fails
 abbrev pub late_of : Times → ℕ → Leg → Late
 late_of times n leg = record {
   domestic_stop = is_late No1 times.settings times.flight times.phase n leg times.moment;
@@ -152,34 +152,34 @@ late_of times n leg = record {
 abbrev pub times_of : Plan → Phase → Grounds → Times
 times_of plan phase g = record { settings = g.tables.settings; flight = plan.kind; phase = phase; moment = g.moment }
 
--- the first minute after the moment at which the leg of a number begins to fail a rule of time
+-- the first minute after the moment at which leg n begins to fail a rule of time
 abbrev pub due_by : Rule → Times → ℕ → Leg → Option ℕ
 due_by rule times n leg = due_after times.moment (limit_of rule times.settings times.flight times.phase n leg)
 
 abbrev pub due_of : Times → ℕ → Leg → Option ℕ
 due_of times n leg = lesser (due_by No1 times n leg) (lesser (due_by No2 times n leg) (lesser (due_by No17 times n leg) (due_by No18 times n leg)))
 
--- the first of some legs, where the first of them has that number
+-- the first such minute of these legs, if the first leg has number n
 abbrev pub first_due : Times → ℕ → List Leg → Option ℕ
 first_due times n [] = None
 first_due times n (leg ∷ legs) = lesser (due_of times n leg) (first_due times (n + 1) legs)
 
--- the first minute past each limit of a leg, after some
+-- the minutes, and then the first minute past each limit of leg n
 abbrev pub dues_of : Times → ℕ → List ℕ → Leg → List ℕ
 dues_of times n minutes leg =
     let limit : Rule → Option ℕ = λ rule. limit_of rule times.settings times.flight times.phase n leg in
     with_past (with_past (with_past (with_past minutes (limit No1)) (limit No2)) (limit No17)) (limit No18)
 
--- those of some legs, where the first of them has that number
+-- the same for all these legs, if the first has number n
 abbrev pub all_dues : Times → ℕ → List ℕ → List Leg → List ℕ
 all_dues times n minutes [] = minutes
 all_dues times n minutes (leg ∷ legs) = all_dues times (n + 1) (dues_of times n minutes leg) legs
 
--- what each rule says of the leg of a number
+-- what all rules find on leg n
 abbrev pub sight_of : Times → Option Case → ℕ → Leg → Sight
 sight_of times c n leg = record { late = late_of times n leg; seen = seen_in c (standing times.phase n) leg }
 
--- what each rule says of each leg, where the first of them has that number
+-- what all rules find on each leg, if the first leg has number n
 abbrev pub sights_from : Times → Option Case → ℕ → List Leg → List Sight
 sights_from times c n [] = []
 sights_from times c n (leg ∷ legs) = sight_of times c n leg ∷ sights_from times c (n + 1) legs
@@ -187,7 +187,7 @@ sights_from times c n (leg ∷ legs) = sight_of times c n leg ∷ sights_from ti
 abbrev pub whole_if : Bool → List ℕ
 whole_if fails = place_if fails 0
 
--- the places at which a leg fails a rule
+-- the places at which the leg fails the rule
 abbrev pub places_in : Rule → Sight → List ℕ
 places_in No1 s = whole_if s.late.domestic_stop
 places_in No2 s = whole_if s.late.flag_stop
@@ -209,12 +209,12 @@ places_in No17 s = whole_if s.late.departure
 places_in No18 s = whole_if s.late.arrival
 places_in No19 s = []
 
--- the findings of a rule, leg by leg, where the first of them has that number
+-- the findings of a rule, leg by leg, if the first leg has number n
 abbrev pub findings_in : Rule → ℕ → List Sight → List Finding
 findings_in rule n [] = []
 findings_in rule n (sight ∷ sights) = map (finding rule n) (places_in rule sight) ++ findings_in rule (n + 1) sights
 
--- the findings of rules, rule by rule
+-- the findings, rule by rule
 abbrev pub findings_in_all : List Rule → List Sight → List Finding
 findings_in_all [] sights = []
 findings_in_all (rule ∷ rules) sights = findings_in rule 1 sights ++ findings_in_all rules sights

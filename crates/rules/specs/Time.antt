@@ -1,5 +1,4 @@
--- Rules of time: how long a flight may stop before it is released again (14 CFR 121.593, 121.595), and how late a leg
--- may depart and arrive (the desk's own).
+-- Limits of the rules of time: stops (14 CFR 121.593, 121.595), and late departures and arrivals (the desk's own).
 use Rattle.std.specs.Prelude.{ℕ, ◌+◌, ◌==◌, nat_lt, Bool, true, false, List, Option, None, Some}
 use Rattle.ops_tables.specs.declared.rows.Settings.{Settings}
 use Rattle.plan.specs.declared.flights.Kind.{Kind}
@@ -19,7 +18,7 @@ abbrev pub unless_again : Bool → ℕ → Option ℕ
 unless_again true limit = None
 unless_again false limit = Some limit
 
--- until when the flight may stop before the leg of a number for some minutes, where it hasn't been released again
+-- the limit of a stop of this many minutes before the leg, unless the flight was released again
 abbrev pub stop_limit : ℕ → Phase → ℕ → Option ℕ
 stop_limit minutes Drafted leg = None
 stop_limit minutes Ready leg = None
@@ -28,7 +27,7 @@ stop_limit minutes (Stopped next since again) leg = only_if (leg == next) (unles
 stop_limit minutes (Completed at) leg = None
 stop_limit minutes (Cancelled at) leg = None
 
--- the leg of a number departs next
+-- the leg departs next
 abbrev pub departs_next : Phase → ℕ → Bool
 departs_next Drafted leg = leg == 1
 departs_next Ready leg = leg == 1
@@ -37,8 +36,8 @@ departs_next (Stopped next since again) leg = leg == next
 departs_next (Completed at) leg = false
 departs_next (Cancelled at) leg = false
 
--- The last minute at which the leg of a number doesn't fail a rule of time: none where the rule doesn't speak of the leg.
--- A domestic flight may stop for an hour, a flag flight for six.
+-- The last minute at which leg n doesn't fail a rule of time. There is none if the rule doesn't judge the leg. A
+-- domestic flight may stop for an hour, a flag flight for six.
 abbrev pub limit_of : Rule → Settings → Kind → Phase → ℕ → Leg → Option ℕ
 limit_of No1 settings flight phase n leg = only_if (is_domestic flight) (stop_limit 60 phase n)
 limit_of No2 settings flight phase n leg = only_if (is_flag flight) (stop_limit 360 phase n)
@@ -46,12 +45,12 @@ limit_of No17 settings flight phase n leg = only_if (departs_next phase n) (Some
 limit_of No18 settings flight phase n leg = only_if (is_flying phase n) (Some (leg.eta + settings.late_on))
 limit_of _ settings flight phase n leg = None
 
--- a limit lies before a moment
+-- the moment is after the limit
 abbrev pub is_past : Option ℕ → ℕ → Bool
 is_past None moment = false
 is_past (Some limit) moment = nat_lt limit moment
 
--- the leg of a number fails a rule of time at a moment
+-- leg n fails the rule of time at the moment
 abbrev pub is_late : Rule → Settings → Kind → Phase → ℕ → Leg → ℕ → Bool
 is_late rule settings flight phase n leg moment = is_past (limit_of rule settings flight phase n leg) moment
 

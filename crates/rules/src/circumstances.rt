@@ -11,25 +11,25 @@ use ops_tables::TypeRow;
 use plan::{Kind, Plan};
 use std::alloc::Global;
 
-/// The circumstances in which the legs of a plan are judged, found once for all of them.
+/// The circumstances in which the legs of a plan are judged, looked up once for all legs.
 #[derive(Drop)]
 pub(crate) struct Circumstances<'a> {
-    /// What the plan is judged by.
+    /// The evidence by which the plan is judged.
     pub evidence: Evidence<'a>,
-    /// The rules under which it is flown.
+    /// The kind of operation.
     pub flight: Kind,
     /// The type of the aircraft.
     pub aircraft: &'a TypeRow,
-    /// The hours of the captain as pilot in command in that type.
+    /// The captain's hours as pilot in command in the type.
     pub hours: u32,
-    /// The open deferrals of the aircraft, in order of their ids.
+    /// The open deferrals of the aircraft in the order of their ids.
     pub deferred: Vec<&'a Deferral>,
-    /// What these add and take away.
+    /// What these deferrals cost in fuel and capabilities.
     pub limits: Limits,
 }
 
 impl<'a> Circumstances<'a> {
-    /// The circumstances of a plan whose aircraft is of that type.
+    /// Looks up the circumstances of a plan whose aircraft has this type.
     #[tactic(auto, using(crate::proofs::OpenLaws::opened_count))]
     pub(crate) fn of(
         alloc: Global,

@@ -15,21 +15,21 @@ use ops_tables::Settings;
 use plan::{Alternate, Kind, Leg, is_marginal, needs_destination};
 use std::alloc::Global;
 
-/// Whether a leg needs an alternate of its destination, and what follows (14 CFR 121.619, 121.621).
+/// Whether a leg needs an alternate for its destination, and what follows from that (14 CFR 121.619, 121.621).
 #[derive(Clone, Copy)]
 pub(crate) struct Need {
-    /// It needs one.
+    /// The leg needs an alternate.
     pub is_needed: bool,
-    /// It is domestic, needs one, and lists none.
+    /// The leg is domestic, needs an alternate and lists none.
     pub lacks_domestic: bool,
-    /// It is a flag flight, needs one, lists none, and its route isn't one that may do without.
+    /// The leg is flag, needs an alternate and lists none, and its route isn't free of them.
     pub lacks_flag: bool,
-    /// It is a flag flight, needs one, lists none, and its route is one that may do without.
+    /// The leg is flag, needs an alternate and lists none, and its route is free of them.
     pub does_without: bool,
 }
 
 impl Need {
-    /// None is needed.
+    /// The leg needs no alternate.
     pub const NONE: Need = Need {
         is_needed: false,
         lacks_domestic: false,
@@ -38,33 +38,33 @@ impl Need {
     };
 }
 
-/// What the rules on minima say of an alternate.
+/// The weather at one alternate, compared with its minima.
 #[derive(Clone, Copy)]
 struct There {
-    /// The weather is below its minima.
+    /// The weather is below the alternate minima.
     is_low: bool,
     /// The weather is marginal.
     is_marginal: bool,
 }
 
-/// What the rules on minima say of the alternates of a leg.
+/// The weather at all alternates of a leg, compared with their minima.
 #[derive(Drop)]
 struct AllThere {
-    /// The numbers, from 1, of those at which the weather is below their minima.
+    /// The numbers, from 1, of the alternates that are below their minima.
     low: Listed<u64>,
-    /// The weather is marginal at each.
+    /// The weather is marginal at every alternate.
     are_marginal: bool,
 }
 
-/// What the rules on the destination and its alternates say of a leg.
+/// What the rules on the destination and its alternates find on a leg.
 #[derive(Drop)]
 pub(crate) struct Arrival {
-    /// The weather at the destination is below landing minima, as they hold for the captain.
+    /// The destination is below the landing minima that hold for the captain.
     pub is_below_landing: bool,
     pub need: Need,
-    /// It is domestic, needs an alternate and lists one, and the weather is marginal at both.
+    /// The leg is domestic, needs an alternate and lists one, and the weather is marginal at both.
     pub lacks_second: bool,
-    /// The numbers, from 1, of the alternates at which the weather is below their minima.
+    /// The numbers, from 1, of the alternates that are below their minima.
     pub low: Listed<u64>,
 }
 
@@ -95,7 +95,7 @@ fn lists_one(alternates: &[Alternate]) -> bool
     }
 }
 
-// By how much weather must be above minima not to be marginal.
+// Returns the margin: weather that isn't this much above minima is marginal.
 fn margin(settings: Settings) -> Pair
     requires { FitsSettings settings }
     ensures { result ≡ spec.margin settings }
@@ -107,7 +107,7 @@ fn margin(settings: Settings) -> Pair
 }
 
 impl<'a> Circumstances<'a> {
-    // Weather at some minima is marginal.
+    // Returns true if the weather is marginal for these minima.
     fn is_marginal(&self, weather: Cond, pairs: &[Pair]) -> bool
         ensures { result ≡ needs.is_marginal weather pairs.now (spec.margin self.now.evidence.tables.now.settings) }
     {
@@ -177,7 +177,7 @@ impl<'a> Circumstances<'a> {
         Ok(AllThere { low, are_marginal })
     }
 
-    // The weather is marginal at the destination and at the one alternate.
+    // Returns true if one alternate is listed, and the weather is marginal both at it and at the destination.
     #[tactic(auto, using(crate::proofs::Needs::marginal_at_one))]
     fn are_marginal(&self, leg: &Leg, at_destination: bool, at_alternates: bool) -> bool
         requires destination { at_destination ≡ spec.is_marginal_landing (case_by self.now) leg.now }
@@ -188,7 +188,7 @@ impl<'a> Circumstances<'a> {
         lists_one(leg.alternates.as_slice()) && at_destination && at_alternates
     }
 
-    /// What the rules on the destination and its alternates say of a leg.
+    /// Judges a leg by the rules on the destination and its alternates.
     pub(crate) fn arrival(&self, alloc: Global, leg: &Leg) -> Result<Arrival, OutOfMemory>
         requires { HasMoments leg.now }
         ensures { IfOk result (λ a. a ≡ arrival_of (case_by self.now) leg.now) }

@@ -17,7 +17,7 @@ use ops_tables::{Settings, Tables};
 use plan::{Leg, Phase, Plan};
 use std::alloc::Global;
 
-// The first minute past a limit, where it lies after a moment.
+// Returns the first minute past the limit, if it is after the moment.
 fn due_after(moment: Minute, limit: Option<Limit>) -> Option<Minute>
     requires { IfSome limit (λ l. IsMoment l.since) }
     ensures { result ≡ spec.due_after moment (option_map last_of limit) }
@@ -59,7 +59,7 @@ fn first_due(times: &Times, legs: &[Leg]) -> Option<Minute>
     least
 }
 
-// The least minute after a moment at which a rule of time begins to fail. It takes no memory.
+// Returns the first minute after the moment at which a rule of time begins to fail. It allocates nothing.
 #[tactic(auto, using(crate::proofs::NextDue::first_is_next))]
 fn due_in(plan: &Plan, phase: Phase, settings: Settings, moment: Minute) -> Option<Minute>
     requires plan { IsPlan plan.now }
@@ -75,11 +75,11 @@ fn due_in(plan: &Plan, phase: Phase, settings: Settings, moment: Minute) -> Opti
     first_due(&times, plan.legs.as_slice())
 }
 
-/// The least minute after a moment at which a rule of time begins to fail for a plan in a phase: a domestic flight
-/// has then stopped for more than an hour (14 CFR 121.593) or a flag flight for more than six (14 CFR 121.595), and
-/// hasn't been released again, or the next leg departs or the leg in flight arrives later than the settings allow.
-/// There is none where none will begin to fail. Until then a judgement by the same reports and deferrals finds the
-/// same, and the same minute is next. It takes no memory.
+/// Returns the first minute after the moment at which a rule of time begins to fail for the plan in this phase. It is
+/// None if none will. A domestic flight has then stopped for more than an hour (14 CFR 121.593), or a flag flight for
+/// more than six (14 CFR 121.595), without another release. Or the next leg departs, or the leg in flight arrives,
+/// later than the settings allow. Until then the same reports and deferrals give the same findings, and this minute
+/// stays the next. It allocates nothing.
 pub fn next_due_by(plan: &Plan, phase: Phase, settings: Settings, moment: Minute) -> Option<Minute>
     requires plan { IsPlan plan.now }
     requires phase { HasMoment phase }
@@ -91,7 +91,7 @@ pub fn next_due_by(plan: &Plan, phase: Phase, settings: Settings, moment: Minute
     due_in(plan, phase, settings, moment)
 }
 
-/// `next_due_by` the settings of the tables.
+/// Calls `next_due_by` with the settings of the tables.
 pub fn next_due(plan: &Plan, phase: Phase, tables: &Tables, moment: Minute) -> Option<Minute>
     requires plan { IsPlan plan.now }
     requires phase { HasMoment phase }
@@ -162,8 +162,8 @@ fn minutes_in(
     Ok(minutes)
 }
 
-/// The minutes at which a rule of time begins to fail for a plan in a phase, whatever the moment is. What is next due
-/// after a moment is the first of them that comes after it.
+/// Returns all minutes at which a rule of time begins to fail for the plan in this phase. The first of them after a
+/// moment is the one that `next_due_by` returns for that moment.
 pub fn due_minutes(
     alloc: Global,
     plan: &Plan,

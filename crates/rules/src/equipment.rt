@@ -13,44 +13,44 @@ use ops_tables::MelRow;
 use plan::{Alternate, Leg, TakeoffAlternate};
 use std::alloc::Global;
 
-/// What the rules on deferred equipment say of a leg and a deferral (14 CFR 121.628).
+/// What the rules on deferred equipment find on a leg for one deferral (14 CFR 121.628).
 #[derive(Clone, Copy)]
 struct OfDeferral {
-    /// The item forbids the flight.
+    /// The item forbids the leg.
     is_limiting: bool,
-    /// The item is due for repair.
+    /// The item is due for repair by the ETA.
     is_overdue: bool,
 }
 
-/// What they say of a leg.
+/// What the rules on deferred equipment find on a leg.
 #[derive(Drop)]
 struct Deferred {
-    /// The ids of the deferrals whose item forbids it.
+    /// The ids of the deferrals whose item forbids the leg.
     limiting: Listed<u64>,
-    /// The ids of those whose item is due for repair.
+    /// The ids of the deferrals that are due for repair by the ETA.
     overdue: Listed<u64>,
 }
 
-/// What the rules on equipment and airports say of a leg (14 CFR 121.628, 121.631).
+/// What the rules on equipment and airports find on a leg (14 CFR 121.628, 121.631).
 #[derive(Drop)]
 pub(crate) struct Equipment {
-    /// The ids of the deferrals whose item forbids it.
+    /// The ids of the deferrals whose item forbids the leg.
     pub limiting: Listed<u64>,
-    /// The ids of those whose item is due for repair.
+    /// The ids of the deferrals that are due for repair by the ETA.
     pub overdue: Listed<u64>,
-    /// The airports that the type may not use: 0 for the destination, 1 to 3 for its alternates, 9 for the
-    /// takeoff alternate.
+    /// The airports that the type may not use: 0 is the destination, 1 to 3 are the alternates, and 9 is the takeoff
+    /// alternate.
     pub barred: Listed<u64>,
 }
 
-// The leg is longer than the item allows.
+// Returns true if the leg is longer than the item allows.
 fn is_too_long(row: &MelRow, leg: &Leg) -> bool
     ensures { result ≡ spec.is_too_long row.now leg.now }
 {
     0 < row.max_minutes && row.max_minutes < leg.minutes
 }
 
-// The item is due for repair at the ETA or before. One that was found at the ETA or later isn't.
+// Returns true if the item is due for repair at or before the ETA. An item found at or after the ETA isn't.
 #[tactic(auto, using(crate::proofs::DueLaws::due_after))]
 fn is_due_by(leg: &Leg, deferral: &Deferral, row: Option<&MelRow>) -> bool
     requires { HasMoments leg.now }
@@ -63,7 +63,7 @@ fn is_due_by(leg: &Leg, deferral: &Deferral, row: Option<&MelRow>) -> bool
 }
 
 impl<'a> Circumstances<'a> {
-    // Whether its item and that of an earlier one may not be deferred together.
+    // Returns true if the item may not be deferred together with that of an earlier deferral.
     fn is_paired_with(&self, deferral: &Deferral, earlier: &Deferral) -> bool
         ensures { result ≡ spec.is_paired_with (case_by self.now) deferral.now earlier.now }
     {
@@ -99,7 +99,7 @@ impl<'a> Circumstances<'a> {
         }
     }
 
-    // What the rules say of a deferral, by one look at the list of the type.
+    // Judges one deferral, with one lookup in the type's list.
     fn of_deferral(&self, leg: &Leg, deferral: &Deferral) -> OfDeferral
         requires { HasMoments leg.now }
         ensures { result ≡ of_deferral (case_by self.now) leg.now deferral.now }
@@ -179,7 +179,7 @@ impl<'a> Circumstances<'a> {
         Ok(places)
     }
 
-    /// What the rules on equipment and airports say of a leg, those on deferred equipment where it hasn't
+    /// Judges a leg by the rules on equipment and airports. Those on deferred equipment apply only if it hasn't
     /// departed.
     pub(crate) fn equipment(
         &self,

@@ -15,18 +15,18 @@ use ops_tables::Tables;
 use std::alloc::Global;
 use weather_reports::{Metar, Taf};
 
-/// What a plan is judged by: what is held, and what is about to change of it.
+/// The evidence by which a plan is judged: what the desk holds, and the change that is about to be made to it.
 #[derive(Clone, Copy)]
 pub struct Evidence<'a> {
-    /// The reports that are held.
+    /// The reports that the desk holds.
     pub held: &'a Reports,
-    /// The report that comes after them.
+    /// The report that is about to be admitted.
     pub fresh: Option<&'a Report>,
     /// The deferrals that are open.
     pub deferrals: &'a Deferrals,
-    /// The deferral that comes after them.
+    /// The deferral that is about to be added.
     pub deferred: Option<&'a Deferral>,
-    /// The id of the deferral that is about to go.
+    /// The id of the deferral that is about to be cleared.
     pub cleared: Option<u64>,
     /// The operations tables of the airline.
     pub tables: &'a Tables,
@@ -34,7 +34,7 @@ pub struct Evidence<'a> {
     pub moment: Minute,
 }
 
-// Of two reports the one of the later moment, and of equal moments the second.
+// Returns the later report. If both have the same moment, it is the second.
 fn later<'a>(earlier: Option<&'a Report>, report: &'a Report) -> Option<&'a Report>
     ensures { option_copied result ≡ latest.later (option_copied earlier.entry) (Some report.now) }
 {
@@ -103,7 +103,7 @@ fn with_taf<'a>(
     }
 }
 
-// The latest METAR or SPECI of a station, of the reports that are held and one that comes after them.
+// Returns the latest METAR or SPECI of a station, among the held reports and the one about to be admitted.
 #[tactic(auto, using(crate::proofs::FreshLaws::metar_with))]
 fn latest_metar<'a>(
     held: &'a Reports,
@@ -116,7 +116,7 @@ fn latest_metar<'a>(
     with_metar(held.latest_metar(station), station, fresh)
 }
 
-// The latest TAF of a station, of the reports that are held and one that comes after them.
+// Returns the latest TAF of a station, among the held reports and the one about to be admitted.
 #[tactic(auto, using(crate::proofs::FreshLaws::taf_with))]
 fn latest_taf<'a>(
     held: &'a Reports,
@@ -135,7 +135,7 @@ fn is_of(tail: &[u8], deferral: &Deferral) -> bool
     deferral.tail.bytes() == tail
 }
 
-// Deferrals but for the one with that id.
+// Returns the deferrals except that of this id.
 fn but_for<'a>(
     alloc: Global,
     list: &[&'a Deferral],
@@ -152,7 +152,7 @@ fn but_for<'a>(
     Ok(others)
 }
 
-// The open deferrals of an aircraft, but for the one that is cleared. They are found by halves.
+// Returns the open deferrals of an aircraft except the one that is cleared. It finds them by binary search.
 #[tactic(auto, using(crate::proofs::OpenLaws::opened_without))]
 fn open_once_cleared<'a>(
     alloc: Global,
@@ -169,7 +169,7 @@ fn open_once_cleared<'a>(
     }
 }
 
-// Adds a deferral where it is one of the aircraft.
+// Adds the deferral if it belongs to the aircraft.
 fn push_deferred<'a>(
     list: &mut Vec<&'a Deferral>,
     deferred: Option<&'a Deferral>,
@@ -187,21 +187,21 @@ fn push_deferred<'a>(
 }
 
 impl<'a> Evidence<'a> {
-    /// What the latest METAR or SPECI of a station says.
+    /// Returns the reading of the latest METAR or SPECI of a station.
     pub(crate) fn metar_of(&self, station: Station) -> Option<&'a Metar>
         ensures { option_copied result ≡ metar_latest (reports_of self.now) station }
     {
         latest_metar(self.held, self.fresh, station)?.read.metar()
     }
 
-    /// What the latest TAF of a station says.
+    /// Returns the reading of the latest TAF of a station.
     pub(crate) fn taf_of(&self, station: Station) -> Option<&'a Taf>
         ensures { option_copied result ≡ taf_latest (reports_of self.now) station }
     {
         latest_taf(self.held, self.fresh, station)?.read.taf()
     }
 
-    /// The deferrals of an aircraft as they will stand, in order of their ids.
+    /// Returns the deferrals of an aircraft that will be open after the change, in the order of their ids.
     #[tactic(auto, using(crate::proofs::OpenLaws::opened_append))]
     pub(crate) fn deferrals_on(
         &self,

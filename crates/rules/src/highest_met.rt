@@ -5,10 +5,11 @@ use airport_minima::Bounds;
 use codes::Cond;
 use desk_io::Pair;
 
-/// Nothing is added to minima.
+/// A margin of nothing.
 pub(crate) const NO_MARGIN: Pair = Pair { ceiling: 0, vis: 0 };
 
-// The highest minimum that an element of the weather reaches once a margin is added to it.
+// Returns the highest minimum that an element of the weather reaches with the margin added. An unknown element counts
+// as 0.
 fn highest(known: Option<u32>, margin: u32) -> Option<u32>
     ensures { result ≡ spec.highest known margin }
 {
@@ -20,7 +21,7 @@ fn highest(known: Option<u32>, margin: u32) -> Option<u32>
     }
 }
 
-/// The highest minima that weather meets once a margin is added to them, where it meets any.
+/// Returns the highest minima that the weather meets with the margin added, or None if it meets none.
 pub(crate) fn highest_met(weather: Cond, margin: Pair) -> Option<Bounds>
     ensures { result ≡ spec.highest_met weather margin }
 {

@@ -27,7 +27,7 @@ use std::alloc::Global;
 use std::sync::ledger::Ledger;
 use weather_window::Steps;
 
-// Adds a finding of a rule and a leg for each place.
+// Adds one finding for each place.
 fn push_places(
     findings: &mut Findings,
     rule: Rule,
@@ -46,7 +46,7 @@ fn push_places(
     Ok(())
 }
 
-// Adds the findings of a rule, leg by leg.
+// Adds the findings of one rule, leg by leg.
 fn push_rule(findings: &mut Findings, rule: Rule, sights: &[Sight]) -> Result<(), OutOfMemory>
     requires { length sights.now ≤ 1000 }
     ensures { OnOk result (findings.new ≡ findings.old ++ seen.findings_in rule 1 sights.now) }
@@ -57,7 +57,7 @@ fn push_rule(findings: &mut Findings, rule: Rule, sights: &[Sight]) -> Result<()
     Ok(())
 }
 
-// The findings of rules, rule by rule.
+// Returns the findings, rule by rule.
 fn findings_in(alloc: Global, rules: &[Rule], sights: &[Sight]) -> Result<Findings, OutOfMemory>
     requires { length sights.now ≤ 1000 }
     ensures { IfOk result (λ f. f ≡ seen.findings_in_all rules.now sights.now) }
@@ -69,7 +69,7 @@ fn findings_in(alloc: Global, rules: &[Rule], sights: &[Sight]) -> Result<Findin
     Ok(findings)
 }
 
-// The findings of the legs of a plan, in the circumstances where there are some.
+// Returns the findings on the legs of a plan. Without circumstances only the rules of time are judged.
 fn findings_of_legs(
     alloc: Global,
     times: &Times,
@@ -85,7 +85,7 @@ fn findings_of_legs(
     findings_in(alloc, rules_of_legs(), &sights)
 }
 
-// The findings of a plan that passes its tests, whose aircraft is of that type.
+// Returns the findings on a plan that passes its tests and whose aircraft has this type.
 fn findings_in_case<'a>(
     alloc: Global,
     times: &Times,
@@ -104,7 +104,7 @@ fn findings_in_case<'a>(
     findings_of_legs(alloc, times, Some(&circumstances), plan)
 }
 
-// The findings of a plan that fails its tests, for a leg, or for the whole plan.
+// Returns the findings on a plan that fails its tests at this leg, or at leg 0 for the whole plan.
 fn findings_with_tables(
     alloc: Global,
     times: &Times,
@@ -124,7 +124,7 @@ fn findings_with_tables(
     Ok(findings)
 }
 
-// The findings of a plan, by what is seen of its legs.
+// Returns the findings on a plan.
 fn findings_seen(
     alloc: Global,
     times: &Times,
@@ -158,7 +158,7 @@ fn times_of(plan: &Plan, phase: Phase, evidence: &Evidence<'_>) -> Times
     }
 }
 
-// The rules that a plan fails in a phase.
+// Returns the rules that the plan fails in this phase.
 
 fn findings(
     alloc: Global,
@@ -174,8 +174,8 @@ fn findings(
     findings_seen(alloc, &times, plan, evidence)
 }
 
-/// The rules that a plan fails in a phase, by what is held and what is about to change of it, as `judge` finds
-/// them. It counts one step.
+/// Returns the rules that a plan fails in a phase, as `judge` does, but with the change in the evidence already made.
+/// It counts one step.
 #[tactic(auto, using(crate::proofs::Laws::findings_in_order, crate::proofs::Laws::findings_are_true, crate::proofs::RegulationLaws::findings_follow_regulation))]
 pub fn judge_by<L: Ledger>(
     alloc: Global,
@@ -198,11 +198,11 @@ pub fn judge_by<L: Ledger>(
     findings(alloc, plan, phase, evidence)
 }
 
-/// The rules that a plan fails in a phase, in order of rule, leg and place, each once. Each rule of time fails for the
-/// leg that departs next or is in flight, where the moment is past its limit (14 CFR 121.593, 121.595). Each rule of
-/// weather, alternates, equipment and fuel fails for the legs that aren't flown, or that haven't departed, at which
-/// its predicate holds (14 CFR 121.613 to 121.652); but of a plan that fails its tests under the tables only that is
-/// said beside the rules of time. It counts one step.
+/// Returns the rules that a plan fails in a phase, sorted by rule, leg and place, without duplicates. A rule of time
+/// fails for the next leg or the leg in flight if the moment is past its limit (14 CFR 121.593, 121.595). The other
+/// rules judge the legs that aren't flown (14 CFR 121.613 to 121.652). Some of these judge only legs that haven't
+/// departed. A plan that fails its tests under the tables has one finding for that, besides those of the rules of
+/// time. It counts one step.
 #[tactic(auto, using(crate::proofs::OpenLaws::and_none))]
 pub fn judge<'a, L: Ledger>(
     alloc: Global,
@@ -226,7 +226,7 @@ pub fn judge<'a, L: Ledger>(
         deferrals.now.list moment)) }
     ensures steps { steps.new ≡ steps.old + 1 }
 {
-    // The list says of itself that its ids rise, and that it is within its limit.
+    // This call proves that the ids increase and that the list is within its limit.
     let _ = deferrals.as_slice();
     let evidence = Evidence {
         held: facts,

@@ -1,4 +1,4 @@
-//! The rules that a release is judged by.
+//! Judges a plan by the nineteen rules, and finds the next moment at which a rule of time begins to fail.
 #![tactic(auto)]
 
 mod circumstances;

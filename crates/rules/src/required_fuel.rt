@@ -9,19 +9,19 @@ use desk_io::Station;
 use ops_tables::Tables;
 use plan::{Basis, Leg, required};
 
-/// What the rules on fuel say of a leg (14 CFR 121.639, 121.645).
+/// What the rules on fuel find on a leg (14 CFR 121.639, 121.645).
 #[derive(Clone, Copy)]
 pub(crate) struct Fuel {
-    /// It is domestic, and its minimum fuel is less than what is required.
+    /// The leg is domestic, and its minimum fuel is less than required.
     pub is_short_domestic: bool,
-    /// It is a flag flight, and its minimum fuel is less than what is required.
+    /// The leg is flag, and its minimum fuel is less than required.
     pub is_short_flag: bool,
-    /// The fuel aboard is less than the minimum fuel.
+    /// The fuel on board is less than the minimum fuel.
     pub is_underfilled: bool,
 }
 
 impl Fuel {
-    /// No rule fails.
+    /// No rule on fuel fails.
     pub const CLEAR: Fuel = Fuel {
         is_short_domestic: false,
         is_short_flag: false,
@@ -73,7 +73,7 @@ impl<'a> Circumstances<'a> {
         )
     }
 
-    /// What the rules on fuel say of a leg.
+    /// Judges a leg by the rules on fuel.
     pub(crate) fn fuel(&self, leg: &Leg, need: Need) -> Fuel
         requires within { IsWithin self.now }
         requires need { need ≡ need_of (case_by self.now) leg.now }

@@ -15,7 +15,7 @@ use desk_io::{Listed, OutOfMemory};
 use plan::{Leg, Rule, Standing, standing_of};
 use std::alloc::Global;
 
-/// What the rules of weather, alternates, equipment and fuel say of a leg.
+/// What the rules on weather, alternates, equipment and fuel find on a leg.
 #[derive(Drop)]
 pub(crate) struct Seen {
     pub takeoff: Takeoff,
@@ -24,7 +24,7 @@ pub(crate) struct Seen {
     pub fuel: Fuel,
 }
 
-/// What each rule says of a leg.
+/// What all rules find on a leg.
 #[derive(Drop)]
 pub(crate) struct Sight {
     pub late: Late,
@@ -38,7 +38,7 @@ fn place_if(fails: bool) -> &'static [u64]
 }
 
 impl Seen {
-    // No rule speaks of a leg that is flown, or of one in a plan that fails its tests.
+    // Finds nothing, for a flown leg or a plan that fails its tests.
     fn clear(alloc: Global) -> Seen
         ensures { result ≡ spec.clear }
     {
@@ -61,7 +61,7 @@ impl Seen {
 }
 
 impl Sight {
-    /// The places at which the leg fails a rule, in their order.
+    /// Returns the places at which the leg fails a rule, in order.
     pub(crate) fn places(&self, rule: Rule) -> &[u64]
         ensures { result.now ≡ spec.places_in rule self.now }
     {
@@ -90,7 +90,7 @@ impl Sight {
 }
 
 impl<'a> Circumstances<'a> {
-    // A leg that isn't flown.
+    // Judges a leg that isn't flown.
     fn seen_of(&self, alloc: Global, ahead: bool, leg: &Leg) -> Result<Seen, OutOfMemory>
         requires within { IsWithin self.now }
         requires moments { HasMoments leg.now }
@@ -125,7 +125,7 @@ impl<'a> Circumstances<'a> {
     }
 }
 
-// What the rules say of a leg in the circumstances, where the plan passes its tests and has some.
+// Judges a leg. Without circumstances, because the plan fails its tests, nothing is found.
 fn seen_in(
     alloc: Global,
     circumstances: Option<&Circumstances<'_>>,
@@ -162,8 +162,7 @@ fn sight_of(
     })
 }
 
-/// What each rule says of each leg, in their order: the rules of time by themselves, and the others in the
-/// circumstances.
+/// Judges each leg in order: by the rules of time, and in the circumstances by the other rules.
 pub(crate) fn sights_of_legs(
     alloc: Global,
     times: &Times,

@@ -10,19 +10,19 @@ use desk_time::Minute;
 use plan::{Leg, TakeoffAlternate, in_range, needs_takeoff};
 use std::alloc::Global;
 
-/// What the rules on takeoff alternates say of a leg (14 CFR 121.617).
+/// What the rules on takeoff alternates find on a leg (14 CFR 121.617).
 #[derive(Clone, Copy)]
 pub(crate) struct Takeoff {
-    /// One is needed, and none is listed.
+    /// A takeoff alternate is needed and none is listed.
     pub lacks: bool,
-    /// One is needed, and the one that is listed is too far.
+    /// A takeoff alternate is needed and the listed one is too far away.
     pub is_far: bool,
-    /// One is needed, and the weather at the one that is listed is below its minima.
+    /// A takeoff alternate is needed and the listed one is below its alternate minima.
     pub is_low: bool,
 }
 
 impl Takeoff {
-    /// No rule fails.
+    /// No rule on takeoff alternates fails.
     pub const CLEAR: Takeoff = Takeoff {
         lacks: false,
         is_far: false,
@@ -39,7 +39,8 @@ impl<'a> Circumstances<'a> {
         !in_range(self.aircraft.engines, self.aircraft.oei_knots, miles)
     }
 
-    // The weather there, once the aircraft comes from the airport of departure, is below its minima.
+    // Returns true if the takeoff alternate is below its alternate minima when the aircraft arrives there from the
+    // departure.
     fn is_low(&self, leg: &Leg, it: &TakeoffAlternate) -> bool
         requires { HasMoments leg.now }
         ensures { result ≡ departure.is_below_there (case_by self.now) leg.now (Some it.now) }
@@ -48,7 +49,7 @@ impl<'a> Circumstances<'a> {
         self.is_below_alternate(it.station, self.weather_at(it.station, arrival))
     }
 
-    // What the rules say of the one that is listed.
+    // Judges the listed takeoff alternate, which is needed.
     fn takeoff_listed(&self, leg: &Leg, it: &TakeoffAlternate) -> Takeoff
         requires within { IsWithin self.now }
         requires moments { HasMoments leg.now }
@@ -61,7 +62,7 @@ impl<'a> Circumstances<'a> {
         }
     }
 
-    // What the rules say where a takeoff alternate is needed.
+    // Judges a leg that needs a takeoff alternate.
     fn takeoff_needed(&self, leg: &Leg) -> Takeoff
         requires within { IsWithin self.now }
         requires moments { HasMoments leg.now }
@@ -77,7 +78,7 @@ impl<'a> Circumstances<'a> {
         }
     }
 
-    /// What the rules on takeoff alternates say of a leg that hasn't departed.
+    /// Judges a leg that hasn't departed by the rules on takeoff alternates.
     pub(crate) fn takeoff(&self, alloc: Global, leg: &Leg) -> Result<Takeoff, OutOfMemory>
         requires within { IsWithin self.now }
         requires moments { HasMoments leg.now }

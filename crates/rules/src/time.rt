@@ -13,44 +13,44 @@ use desk_time::Minute;
 use ops_tables::Settings;
 use plan::{Kind, Leg, Phase, is_flying};
 
-/// For how many minutes a domestic flight may stop before it is released again (14 CFR 121.593).
+/// How many minutes a domestic flight may stop without another release (14 CFR 121.593).
 const DOMESTIC_STOP: u32 = 60;
 
-/// For how many minutes a flag flight may (14 CFR 121.595).
+/// How many minutes a flag flight may stop without another release (14 CFR 121.595).
 const FLAG_STOP: u32 = 360;
 
-/// Until when a leg doesn't fail a rule of time: some minutes after a moment.
+/// The limit of a rule of time. The rule fails after `since` plus `minutes`.
 #[derive(Clone, Copy)]
 pub(crate) struct Limit {
     pub since: Minute,
     pub minutes: u32,
 }
 
-/// What the rules of time go by.
+/// What the rules of time depend on.
 #[derive(Clone, Copy)]
 pub(crate) struct Times {
     pub settings: Settings,
-    /// The rules under which the plan is flown.
+    /// The kind of operation.
     pub flight: Kind,
     pub phase: Phase,
     pub moment: Minute,
 }
 
-/// What the rules of time say of a leg.
+/// What the rules of time find on a leg.
 #[derive(Clone, Copy)]
 pub(crate) struct Late {
-    /// The flight is domestic and has stopped too long before it (14 CFR 121.593).
+    /// The flight is domestic and has stopped too long before this leg (14 CFR 121.593).
     pub domestic_stop: bool,
-    /// It is a flag flight and has (14 CFR 121.595).
+    /// The flight is flag and has stopped too long before this leg (14 CFR 121.595).
     pub flag_stop: bool,
-    /// It departs next, and too late.
+    /// The leg departs next and is late.
     pub departure: bool,
-    /// It is in flight, and late.
+    /// The leg is in flight and is late.
     pub arrival: bool,
 }
 
 impl Limit {
-    // It lies before a moment.
+    // Returns true if the moment is after the limit.
     fn is_past(self, moment: Minute) -> bool
         ensures { result ≡ spec.is_past (Some (last_of self)) moment }
     {
@@ -68,7 +68,7 @@ fn is_past(limit: Option<Limit>, moment: Minute) -> bool
 }
 
 impl Times {
-    // The flight may stop for so many minutes before a leg, where it hasn't been released again.
+    // Returns the limit of a stop of this many minutes before a leg, unless the flight was released again.
     fn stop(&self, minutes: u32, number: u32) -> Option<Limit>
         ensures value { option_map last_of result ≡ spec.stop_limit minutes self.now.phase number }
         ensures within { HasMoment self.now.phase → IfSome result (λ l. IsMoment l.since) }
@@ -91,7 +91,7 @@ impl Times {
         }
     }
 
-    /// Until when a domestic flight may stop before a leg.
+    /// Returns the limit of a domestic flight's stop before a leg.
     pub(crate) fn domestic_stop(&self, number: u32) -> Option<Limit>
         ensures value { option_map last_of result ≡ spec.only_if (destination.is_domestic self.now.flight)
             (spec.stop_limit 60 self.now.phase number) }
@@ -104,7 +104,7 @@ impl Times {
         }
     }
 
-    /// Until when a flag flight may stop before a leg.
+    /// Returns the limit of a flag flight's stop before a leg.
     pub(crate) fn flag_stop(&self, number: u32) -> Option<Limit>
         ensures value { option_map last_of result ≡ spec.only_if (destination.is_flag self.now.flight)
             (spec.stop_limit 360 self.now.phase number) }
@@ -117,7 +117,7 @@ impl Times {
         }
     }
 
-    /// Until when a leg may depart.
+    /// Returns the limit for a leg's departure, if it departs next.
     pub(crate) fn departure(&self, number: u32, leg: &Leg) -> Option<Limit>
         ensures value { option_map last_of result ≡ spec.limit_of No17 self.now.settings self.now.flight
             self.now.phase number leg.now }
@@ -133,7 +133,7 @@ impl Times {
         }
     }
 
-    /// Until when a leg in flight may arrive.
+    /// Returns the limit for a leg's arrival, if it is in flight.
     pub(crate) fn arrival(&self, number: u32, leg: &Leg) -> Option<Limit>
         ensures value { option_map last_of result ≡ spec.limit_of No18 self.now.settings self.now.flight
             self.now.phase number leg.now }
@@ -149,7 +149,7 @@ impl Times {
         }
     }
 
-    /// What the rules of time say of a leg.
+    /// Judges a leg by the rules of time.
     pub(crate) fn late(&self, number: u32, leg: &Leg) -> Late
         ensures { result ≡ late_of self.now number leg.now }
     {

@@ -75,9 +75,9 @@ fn is_named(plan: &Plan, phase: Phase, station: Station) -> bool
     legs_name(phase, station, plan.legs.as_slice())
 }
 
-/// Whether a plan names a station in a leg that isn't flown: as its departure, its destination, its takeoff alternate
-/// or one of its alternates. By the latest reports of the stations that it names a judgement finds the same, and so it
-/// does whatever is reported of another one. It takes no memory.
+/// Returns true if a leg that isn't flown names the station: as departure, destination, takeoff alternate or
+/// alternate. The findings on the plan depend only on the latest reports of the stations that it names. Reports of
+/// other stations don't change them. It allocates nothing.
 pub fn names_station(plan: &Plan, phase: Phase, station: Station) -> bool
     requires { IsPlan plan.now }
     ensures value { result ≡ spec.names_station plan.now phase station }
@@ -95,8 +95,8 @@ fn has_tail(plan: &Plan, tail: &[u8]) -> bool
     plan.tail.bytes() == tail
 }
 
-/// Whether the aircraft of a plan has that tail. By the deferrals that are open on it a judgement finds the same,
-/// and so it does whatever is deferred or cleared on another one. It takes no memory.
+/// Returns true if the plan's aircraft has this registration. The findings on the plan depend only on the open
+/// deferrals of its aircraft. Deferring and clearing on other aircraft don't change them. It allocates nothing.
 pub fn is_of_tail(plan: &Plan, tail: &[u8]) -> bool
     ensures value { result ≡ spec.is_of_tail plan.now tail.now }
     ensures same { (result ≡ true) ↔ (plan.now.tail ≡ tail.now) }

@@ -28,12 +28,12 @@ pub(crate) struct Reported<'a> {
     pub taf: Option<&'a Taf>,
     /// The latest METAR or SPECI.
     pub metar: Option<&'a Metar>,
-    /// For how many minutes it holds.
+    /// How many minutes a METAR counts after its observation.
     pub hold: u32,
 }
 
 impl<'a> Reported<'a> {
-    /// The reports of a station.
+    /// Looks up the latest reports of a station.
     pub(crate) fn of(evidence: &Evidence<'a>, station: Station) -> Reported<'a>
         ensures { IsReported (grounds_of evidence.now) station result }
     {
@@ -44,14 +44,14 @@ impl<'a> Reported<'a> {
         }
     }
 
-    /// The weather that controls at a minute.
+    /// Returns the controlling weather at a minute.
     pub(crate) fn at(&self, minute: Minute) -> Cond
         ensures { result ≡ cond_at (option_copied self.now.taf) (option_copied self.now.metar) self.now.hold minute }
     {
         at(self.taf, self.metar, self.hold, minute)
     }
 
-    /// The worst from an hour before a minute to an hour after it.
+    /// Returns the worst weather from an hour before a minute to an hour after it.
     pub(crate) fn around(&self, minute: Minute) -> Cond
         requires hold { self.now.hold ≤ 1440 }
         requires minute { IsMoment minute }
@@ -63,14 +63,14 @@ impl<'a> Reported<'a> {
 }
 
 impl<'a> Circumstances<'a> {
-    /// The weather that controls at a station.
+    /// Returns the controlling weather at a station.
     pub(crate) fn weather_at(&self, station: Station, minute: Minute) -> Cond
         ensures { result ≡ spec.weather_at (case_by self.now).grounds station minute }
     {
         Reported::of(&self.evidence, station).at(minute)
     }
 
-    /// The landing minima of a station for the aircraft.
+    /// Returns the landing minima of a station for the aircraft.
     pub(crate) fn landing_at(&self, alloc: Global, station: Station) -> Result<Pairs, OutOfMemory>
         ensures { IfOk result (λ pairs. pairs ≡ spec.landing_at (case_by self.now) station) }
     {
@@ -83,7 +83,7 @@ impl<'a> Circumstances<'a> {
         )
     }
 
-    /// Weather is below the landing minima of a station for the aircraft, as they hold for its captain.
+    /// Returns true if the weather is below the landing minima of a station, as they hold for the captain.
     pub(crate) fn is_below_landing(&self, station: Station, weather: Cond, landing: &Pairs) -> bool
         requires { landing.now ≡ spec.landing_at (case_by self.now) station }
         ensures { result ≡ not (meets weather (spec.arrival_minima (case_by self.now) station)) }
@@ -95,7 +95,7 @@ impl<'a> Circumstances<'a> {
         }
     }
 
-    // Weather meets some of these landing minima as they are raised for a captain with few hours in the type.
+    // Returns true if the weather meets one of the landing minima as raised for a captain with few hours in the type.
     #[tactic(auto, using(crate::proofs::HighestMet::met_unraised))]
     fn meets_raised_landing(&self, station: Station, weather: Cond, landing: &Pairs) -> bool
         ensures { result ≡ meets weather (raised landing.now (spec.alternate_at (case_by self.now) station)) }
@@ -103,7 +103,7 @@ impl<'a> Circumstances<'a> {
         self.has_raised_met(station, landing, highest_met(weather, NO_MARGIN))
     }
 
-    // Some of these landing minima, as they are raised, are within the highest that weather meets.
+    // Returns true if one of the landing minima, as raised, is within the highest minima that the weather meets.
     fn has_raised_met(&self, station: Station, landing: &Pairs, highest: Option<Bounds>) -> bool
         ensures { result ≡ met_within highest (raised landing.now (spec.alternate_at (case_by self.now) station)) }
     {
@@ -120,7 +120,7 @@ impl<'a> Circumstances<'a> {
         }
     }
 
-    /// Weather is below the minima of a station as an alternate for the aircraft.
+    /// Returns true if the weather is below the alternate minima of a station for the aircraft.
     #[tactic(auto, using(crate::proofs::HighestMet::met_unraised))]
     pub(crate) fn is_below_alternate(&self, station: Station, weather: Cond) -> bool
         ensures { result ≡ not (meets weather (spec.alternate_at (case_by self.now) station)) }
@@ -128,7 +128,7 @@ impl<'a> Circumstances<'a> {
         !self.has_alternate_met(station, highest_met(weather, NO_MARGIN))
     }
 
-    /// Weather is marginal at the minima of a station as an alternate for the aircraft.
+    /// Returns true if the weather is marginal for the alternate minima of a station for the aircraft.
     #[tactic(auto, using(crate::proofs::HighestMet::met_raised))]
     pub(crate) fn is_marginal_alternate(
         &self,
@@ -141,7 +141,7 @@ impl<'a> Circumstances<'a> {
         !self.has_alternate_met(station, highest_met(weather, margin))
     }
 
-    // Some minima of a station as an alternate are within the highest that weather meets.
+    // Returns true if one of the station's alternate minima is within the highest minima that the weather meets.
     fn has_alternate_met(&self, station: Station, highest: Option<Bounds>) -> bool
         ensures { result ≡ met_within highest (spec.alternate_at (case_by self.now) station) }
     {

@@ -14,7 +14,7 @@ use serde_json::Value;
 use std::sync::Wait;
 use std::thread::Threads;
 
-// What may stand in a case, in each of its steps, and in what the cases of a file have in common.
+// The keys that are allowed in a case, in each of its steps, and in `common`.
 const PARTS: [&str; 18] = [
     "tables",
     "sources",
@@ -59,7 +59,7 @@ fn outside_of<'a, F: Shelf>(
     })
 }
 
-// Plays a case or a step over rows, and answers those that it leaves.
+// Plays a case or a step over rows, and returns the rows that are left.
 fn play_over<'a, R: Threads + Wait + Sync, F: Shelf>(
     rt: &R,
     place: &Play<'a>,
@@ -174,7 +174,7 @@ fn play_all<'a, R: Threads + Wait + Sync, F: Shelf>(
     }
 }
 
-/// Plays a case, and answers whether nothing differs.
+/// Plays a case. Returns whether nothing differs.
 pub fn passes<R: Threads + Wait + Sync, F: Shelf>(
     rt: &R,
     place: &Play<'_>,

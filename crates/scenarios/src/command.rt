@@ -24,7 +24,7 @@ fn listed_words(alloc: Global, listed: &[Value]) -> Result<Vec<String>, CaseFaul
     Ok(words)
 }
 
-/// The words of a command.
+/// The arguments of the command.
 pub fn words_of<'a>(play: &Play<'a>) -> Result<Vec<String>, CaseFault<'a>> {
     match play.part("words") {
         Some(Value::String(text)) => {

@@ -12,7 +12,7 @@ use desk_net::MemoryLink;
 use serde_json::Value;
 use std::alloc::Global;
 
-// Which lines are counted: those that are a text, that begin with it, or that have it in them.
+// Which lines are counted: those that equal a text, begin with it, or contain it.
 #[derive(Clone, Copy)]
 enum Counted {
     Lines,
@@ -42,7 +42,7 @@ fn count(counted: Counted, came: &[u8], text: &[u8]) -> usize {
         .count()
 }
 
-// How many bytes of what came are shown.
+// How many bytes of a text are shown.
 const SHOWN: usize = 1_000;
 
 fn front(came: &[u8], most: usize) -> &[u8] {
@@ -53,14 +53,14 @@ fn front(came: &[u8], most: usize) -> &[u8] {
     }
 }
 
-// What came, or its front.
+// A text for a message, cut after `SHOWN` bytes.
 fn shown_front(alloc: Global, came: &[u8]) -> Result<String, OutOfMemory> {
     let text = String::from_utf8_lossy(alloc, front(came, SHOWN))?;
     let end = if came.len() <= SHOWN { "" } else { ".." };
     Ok(format!(in alloc; "{text:?}{end}")?)
 }
 
-// A line as it is shown; none where a text has ended.
+// A line for a message, or `nothing` if the text has ended before it.
 fn shown(alloc: Global, line: Option<&[u8]>) -> Result<String, OutOfMemory> {
     match line {
         None => Ok(String::from_str(alloc, "nothing")?),
@@ -71,7 +71,7 @@ fn shown(alloc: Global, line: Option<&[u8]>) -> Result<String, OutOfMemory> {
     }
 }
 
-// How many lines two texts begin with that are the same.
+// How many lines at the start of two texts are equal.
 fn same_lines(one: &[u8], other: &[u8]) -> usize {
     one.split(is_line_feed)
         .zip(other.split(is_line_feed))
@@ -83,7 +83,7 @@ fn line_at(text: &[u8], place: usize) -> Option<&[u8]> {
     text.split(is_line_feed).nth(place)
 }
 
-// Compares a whole text, and says the first line that differs.
+// Compares a whole text, and reports the first line that differs.
 fn compare_text(
     play: &Play<'_>,
     what: &str,
@@ -114,7 +114,7 @@ fn compare_first(
     compare_text(play, what, &wanted, came, report)
 }
 
-// A line and a count.
+// An expected line, and how many of it.
 fn pair_of<'a>(play: &Play<'_>, pair: &'a Value) -> Option<(&'a Value, u64)> {
     match pair.as_array()?.as_slice() {
         [line, count] => Some((line, play.number(count)?)),
@@ -207,7 +207,7 @@ fn compare_checks<'a>(
     compare_counted(play, what, checks, Counted::Part, came, report)
 }
 
-// Compares what came with a text, or with what is said of its lines.
+// Compares a text with the expected one, or with checks of its lines.
 fn compare_with<'a, F: Shelf>(
     play: &Play<'a>,
     files: &mut F,
@@ -223,7 +223,7 @@ fn compare_with<'a, F: Shelf>(
     Ok(compare_text(play, what, &wanted, came, report)?)
 }
 
-// Compares a text where the play says what it must be.
+// Compares a text, if the play expects one at this key.
 fn compare_at<'a, F: Shelf>(
     play: &Play<'a>,
     files: &mut F,
@@ -237,7 +237,7 @@ fn compare_at<'a, F: Shelf>(
     }
 }
 
-// Compares a value that is shown as JSON.
+// Compares a value, given as JSON.
 fn compare_value<'a>(
     play: &Play<'a>,
     key: &str,
@@ -361,7 +361,7 @@ fn compare_bell<'a, F: Shelf>(
     compare_with(play, files, what.as_str(), wanted, &heard, report)
 }
 
-// Compares what each bell heard, where the play says what it must have.
+// Compares the notices that each bell heard, if the play expects some.
 fn compare_heard<'a, F: Shelf>(
     play: &Play<'a>,
     files: &mut F,
@@ -388,7 +388,7 @@ fn compare_dropped(
     compare_value(play, "dropped", text.as_str(), report)
 }
 
-// Compares what the gate heard.
+// Compares what the gate counted.
 fn compare_gate(
     play: &Play<'_>,
     played: &Played,
@@ -402,7 +402,7 @@ fn are_same(wanted: &Value) -> bool {
     wanted.get("same").and_then(Value::as_bool) == Some(true)
 }
 
-// Compares the rows that are left, where the play says which must be.
+// Compares the rows that are left, if the play expects some.
 fn compare_left<'a, F: Shelf>(
     play: &Play<'a>,
     files: &mut F,
@@ -418,7 +418,7 @@ fn compare_left<'a, F: Shelf>(
     }
 }
 
-// What a play may say must come.
+// The keys of expected results.
 const WANTED: [&str; 10] = [
     "status",
     "written",
@@ -436,7 +436,7 @@ fn compares(play: &Play<'_>) -> bool {
     WANTED.iter().any(|key| play.part(key).is_some())
 }
 
-/// Compares what the program came to, over the rows of lines before it, with what a play says must come.
+/// Compares the results of a play with those that it expects. `before` are the rows from before the play, as lines.
 pub fn compare<'a, F: Shelf>(
     play: &Play<'a>,
     files: &mut F,

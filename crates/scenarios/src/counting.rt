@@ -3,8 +3,8 @@ use desk_io::OutOfMemory;
 use std::alloc::Global;
 use std::sync::atomic::{AtomicBool, AtomicU64, Ordering};
 
-/// A gate that counts what it hears: how many items are to come, how many have passed, and whether each item of lane 1
-/// came once and in order, and none before it was said how many are to come, where that is said.
+/// A gate that counts its calls: how many items were announced, how many have passed, and whether they came in order.
+/// They did if each item of lane 1 came once and in order, and any announcement came once and before all items.
 #[derive(Drop)]
 pub struct GateThatCounts {
     is_told: AtomicBool,
@@ -17,7 +17,7 @@ pub struct GateThatCounts {
 }
 
 impl GateThatCounts {
-    /// It has heard nothing.
+    /// Starts with no call made.
     pub fn new() -> Self {
         GateThatCounts {
             is_told: AtomicBool::new(false),
@@ -33,7 +33,7 @@ impl GateThatCounts {
         self.strayed.store(true, Ordering::SeqCst);
     }
 
-    // The call of that number comes for lane 1, from 1.
+    // Counts a call for an item. For lane 1, `number` counts these calls from 1.
     fn comes(&self, lane: u32, number: u64) {
         self.has_begun.store(true, Ordering::SeqCst);
         if lane == 1 && self.calls.swap(number, Ordering::SeqCst).saturating_add(1) != number {
@@ -41,8 +41,8 @@ impl GateThatCounts {
         }
     }
 
-    /// What it heard, as JSON: `[ITEMS, PASSED, ORDER]`, with null for the first where that wasn't said; or null where
-    /// it heard nothing.
+    /// The counts as JSON, `[ITEMS, PASSED, ORDER]`. ITEMS is null if no items were announced. The result is null if
+    /// there was no call.
     pub fn text(&self, alloc: Global) -> Result<String, OutOfMemory> {
         let is_told = self.is_told.load(Ordering::SeqCst);
         let all = self.all.load(Ordering::SeqCst);

@@ -12,7 +12,7 @@ use serde_json::Value;
 
 const OBJECTS: [&str; 7] = ["shelf", "sink", "keeper", "clock", "door", "links", "bells"];
 
-// The calls that must fail, and those that would fail but mustn't be made.
+// The keys of the calls that must fail, and of those that would fail but must not be made.
 const FAIL: &str = "fail";
 
 const UNMADE: &str = "unmade";
@@ -21,7 +21,7 @@ fn is_load(value: &Value) -> bool {
     value.as_str() == Some("load")
 }
 
-// What is listed of an object at one of these keys.
+// The list of an object at one of these keys.
 fn listed<'a>(
     play: &Play<'a>,
     key: &'static str,
@@ -37,7 +37,7 @@ fn listed<'a>(
     }
 }
 
-// The same of the one at a place, of links or bells.
+// The list of one link or bell at one of these keys.
 fn listed_of<'a>(
     play: &Play<'a>,
     key: &'static str,
@@ -50,7 +50,7 @@ fn listed_of<'a>(
     }
 }
 
-// Adds the numbers of a list, in which `load` may stand beside them.
+// Adds the numbers of a list, in which `load` is allowed if `with_load` is true.
 fn push_numbers(
     play: &Play<'_>,
     listed: &[Value],
@@ -67,7 +67,7 @@ fn push_numbers(
     Ok(())
 }
 
-/// The numbers of the calls of an object that fail.
+/// The numbers of an object's calls that fail.
 pub fn failing<'a>(play: &Play<'a>, object: &str) -> Result<Vec<u64>, CaseFault<'a>> {
     let with_load = object == "keeper";
     let mut numbers = Vec::new(play.alloc);
@@ -76,7 +76,7 @@ pub fn failing<'a>(play: &Play<'a>, object: &str) -> Result<Vec<u64>, CaseFault<
     Ok(numbers)
 }
 
-/// The numbers of the calls that fail of the one at a place, of links or bells.
+/// The numbers of the calls of one link or bell that fail.
 pub fn failing_of<'a>(
     play: &Play<'a>,
     objects: &str,
@@ -137,7 +137,7 @@ fn compare_faults<'a>(
     Ok(compare_fails(play, object, wanted, faults, report)?)
 }
 
-// The same of those that have other faults, too: a source isn't there, or no link is to come.
+// As `compare_faults`, for objects that have other faults too: a source is missing, or no link is left.
 fn compare_calls<'a>(
     play: &Play<'a>,
     object: &str,
@@ -200,7 +200,7 @@ fn compare_bells<'a>(
     Ok(())
 }
 
-/// Says where a call that must fail wasn't made, and where one was that mustn't be.
+/// Reports each call that must fail and wasn't made, and each that must not be made and was.
 pub fn compare_made<'a>(
     play: &Play<'a>,
     played: &Played,

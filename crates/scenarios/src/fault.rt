@@ -4,18 +4,18 @@ use std::alloc::{AllocError, AllocFailed, Global};
 /// Why a case can't be played.
 #[derive(Clone, Copy)]
 pub enum CaseFault<'a> {
-    /// What stands at that key is missing or isn't of the form, or a key of that name has no meaning there.
+    /// The value at this key is missing or malformed, or the key isn't allowed there.
     Unread(&'a str),
-    /// The file has no text of that name.
+    /// The file has no text of this name.
     NoText(&'a str),
-    /// No file can be read at that path.
+    /// No file can be read at this path.
     NoFile(&'a str),
     /// Memory ran out.
     OutOfMemory,
 }
 
 impl<'a> CaseFault<'a> {
-    /// What a file at a path can't be read for.
+    /// Why the file at a path can't be read.
     pub fn of_file(fault: WholeFault, path: &'a str) -> Self {
         match fault {
             WholeFault::OutOfMemory => CaseFault::OutOfMemory,
@@ -23,7 +23,7 @@ impl<'a> CaseFault<'a> {
         }
     }
 
-    /// The fault in words.
+    /// The fault as a message.
     pub fn shown(self, alloc: Global) -> Result<String, OutOfMemory> {
         match self {
             CaseFault::Unread(key) => Ok(format!(in alloc; "{key:?} can't be read")?),

@@ -39,8 +39,7 @@ fn push_notice(alloc: Global, text: &mut Vec<u8>, notice: &Notice) -> Result<(),
     push_all(text, &[b" ", word_of(notice.kind).as_bytes(), b"\n"])
 }
 
-/// A line for each notice that a bell heard: its dispatcher, the release, the version, and what has become of the
-/// alert.
+/// A line for each notice that a bell heard: the dispatcher, the release, the version, and the change of the alert.
 pub fn heard_text(alloc: Global, bell: &MemoryBell) -> Result<Vec<u8>, OutOfMemory> {
     let mut text = Vec::new(alloc);
     for notice in bell.heard() {
@@ -62,7 +61,7 @@ fn push_pair(
     )
 }
 
-/// The bells that were dropped, as JSON: the place of each, and how many notices it heard.
+/// The dropped bells as JSON: the place of each, and how many notices it heard.
 pub fn dropped_text(
     alloc: Global,
     dropped: &[Dropped<MemoryBell>],

@@ -1,46 +1,64 @@
-//! Plays cases through the program's call over objects in memory, and compares what comes with what the cases say must
-//! come. The words name files of cases. A line is printed for each difference, and a last one with the counts of cases;
-//! the status is 0 where nothing differs. A case or a step differs, too, where it compares
-//! nothing, or where a call that must fail isn't made; and so do a file of which no case can be played, and words that
-//! name no file.
+//! Plays test cases: calls the program over objects in memory, and compares the results with those that the cases
+//! expect.
 //!
-//! A file is one JSON object of `cases` and, where it has them, of `texts` by their names and of `common`: what a case
-//! lacks it takes from there. A case has
+//! The arguments name files of cases. The program prints a line for each difference, and then a line with the counts
+//! of passed and failed cases. The exit status is 0 if nothing differs, 8 if memory ran out, and otherwise 1.
+//!
+//! A case or a step that compares nothing counts as a difference too. So does a call that must fail and wasn't made,
+//! a file whose cases can't be played, and a run without arguments.
+//!
+//! A file is a JSON object with `cases`, and optionally `texts`, by their names, and `common`. A key that a case
+//! lacks is taken from `common`. A case has these keys:
 //!
 //! - `name`: what must hold, as a sentence.
 //! - `tables`: a folder with the thirteen tables, or an object of texts by the names of their files.
-//! - `sources`: an object of further texts by their names. One with the name of a table counts before that table.
-//! - `words`: the command, cut at blanks, or a list of words.
-//! - `rows`: the rows that the keeper holds at first, lines `KIND KEY BODY` in order.
-//! - `clock`: a list of the moments that the clock gives, the last one again and again. Without it that is
+//! - `sources`: an object of further texts by their names. A source with the name of a table replaces that table.
+//! - `words`: the command line, split at blanks, or a list of arguments.
+//! - `rows`: the rows that the keeper holds at first, as lines `KIND KEY BODY` in order.
+//! - `clock`: a list of the moments that the clock returns. The last one is repeated. The default is
 //!   2000-01-01T00:00Z.
-//! - `links`: a list of `{"input": TEXT, "cut": N, "after": M}`: what comes to the door, at most N bytes at once, or
-//!   4,096 where that isn't said, and nothing before the link of the number M (from 1) has ended, or the one before it
-//!   where that isn't said; 0 stands for none. Where none is left to come the door fails.
-//! - `bells`: a list of the dispatchers whose notices are rung for, one bell for each; `*` stands for all.
-//! - `fail`: which calls fail, lists of numbers from 0, of `shelf`, `sink`, `keeper` (its commits, and with `"load"`
-//!   its rows can't be loaded), `clock` and `door` (its opening, and each link that it is asked for), and such a list
-//!   for each link (its reads and writes together) in the list `links`, and for each bell in the list `bells`. A step
-//!   counts from 0 again.
-//! - `unmade`: calls that would fail, of the same form, but mustn't be made.
-//! - what must come; what is missing isn't compared: `status`; `board`, whether one is left; `port`, where the door was
-//!   opened, or null; `asked`, how many moments the clock gave; `written`, a text; `left`, the rows that the
-//!   keeper holds at last; `links_written`, a list of texts, of the links that were given back; `heard`, a list of
-//!   texts, of the bells, with a line `DESK RELEASE vVERSION WORD` for each notice, where WORD is opened, changed or
-//!   closed; `dropped`, a list of `[PLACE, COUNT]` of the bells that failed, their places from 0 and how many notices
-//!   they heard; and `gate`, `[ITEMS, PASSED, ORDER]`: how many items the gate was told of before the first, or null
-//!   where it wasn't told, around how many it was called, and whether it was called for those of lane 1 in order; or
-//!   null, where it was neither told nor called.
-//! - `steps`: a list of objects of these keys but `rows`, played one after another over the rows that the one before
-//!   left. What a step lacks it takes from its case.
-//! - `each`: `{"from": A, "to": B}`: the case is played for each number from A to B, and `"each"` stands for the number
-//!   wherever one is read.
+//! - `links`: the links that come to the door, a list of `{"input": TEXT, "cut": N, "after": M}`. A read returns at
+//!   most N bytes, by default 4,096. Nothing is read before the link of number M (from 1) has ended. The default is
+//!   the link before, and 0 means none. Once no link is left the door fails.
+//! - `bells`: a list of dispatchers. There is a bell for each, which is rung for his notices; `*` means all
+//!   dispatchers.
+//! - `fail`: the calls that fail, as lists of numbers from 0, of `shelf`, `sink`, `keeper`, `clock` and `door`. The
+//!   keeper's calls are its commits, and `"load"` in its list makes loading fail. The door's calls are its opening
+//!   and each accept. `links` and `bells` are lists of such lists, one for each link or bell. A link's calls are its
+//!   reads and writes together. Each step counts from 0 again.
+//! - `unmade`: calls that would fail but must not be made, in the same form.
 //!
-//! A text is a string; or a list of lines, each a string, or an object that stands for its compact form; or, also in
-//! such a list, `{"text": NAME}`, `{"times": N, "text": NAME}`, `{"hex": DIGITS}`, `{"file": PATH}` or `{"join": [TEXT,
-//! ..]}`. For a text that must come there may stand an object of `first`, its first line, and of `lines`, `prefix` and
-//! `part`, lists of `[LINE, COUNT]`: so many lines are this one, begin with it, or have it in them; a line is a string,
-//! or JSON that stands for its compact form. `left` may be `{"same": true}`: the rows as they were before.
+//! The expected results have the keys below. A result whose key is missing isn't compared.
+//!
+//! - `status`: the exit status.
+//! - `board`: whether a board is left.
+//! - `port`: the port at which the door was last opened, or null.
+//! - `asked`: how many moments the clock returned.
+//! - `written`: the text written to the sink.
+//! - `left`: the rows that the keeper holds at the end.
+//! - `links_written`: a list of the texts written to the links that were given back.
+//! - `heard`: a list of texts, one for each bell, with a line `DESK RELEASE vVERSION WORD` for each notice. WORD is
+//!   opened, changed or closed.
+//! - `dropped`: a list of `[PLACE, COUNT]`, one for each bell that failed: its place, from 0, and how many notices it
+//!   heard.
+//! - `gate`: `[ITEMS, PASSED, ORDER]`. ITEMS is how many items were announced before the first, or null if none were.
+//!   PASSED is the number of items around which the gate was called. ORDER tells whether the items of lane 1 came in
+//!   order. Instead of the list there is null if the gate wasn't used.
+//!
+//! A case may also have:
+//!
+//! - `steps`: a list of objects with the keys above except `rows`. They are played one after another, each over the
+//!   rows that the step before left. A key that a step lacks is taken from its case.
+//! - `each`: `{"from": A, "to": B}`. The case is played for each number from A to B. `"each"` stands for that number
+//!   wherever a number is read.
+//!
+//! A text is a string, a list of lines, or a reference. A line in a list is a string, a reference, or any other
+//! object, which stands for its compact JSON. A reference is `{"text": NAME}`, `{"times": N, "text": NAME}`, `{"hex":
+//! DIGITS}`, `{"file": PATH}` or `{"join": [TEXT, ..]}`.
+//!
+//! An expected text may instead be an object of checks. `first` is the first line. `lines`, `prefix` and `part` are
+//! lists of `[LINE, COUNT]`: COUNT lines must equal LINE, begin with it, or contain it. LINE is a string, or JSON
+//! that stands for its compact form. `left` may be `{"same": true}`, if the rows must be unchanged.
 #![tactic(auto)]
 
 mod cases;
@@ -71,14 +89,14 @@ use std::process::ExitCode;
 use std::sync::Wait;
 use std::thread::Threads;
 
-// How many cases passed, and how many didn't.
+// How many cases passed, and how many failed.
 #[derive(Clone, Copy)]
 struct Counts {
     passed: u64,
     failed: u64,
 }
 
-// The words after the program's name.
+// The arguments after the program's name.
 fn words_of(rt: &HostRuntime) -> Result<Vec<String>, OutOfMemory> {
     let mut words = Vec::new(rt.alloc());
     let Ok(arguments) = env::args(rt) else {
@@ -90,7 +108,7 @@ fn words_of(rt: &HostRuntime) -> Result<Vec<String>, OutOfMemory> {
     Ok(words)
 }
 
-// Says why no case of a file can be played, and counts it as one that failed.
+// Reports why no case of a file can be played, and counts one failed case.
 fn refuse(
     alloc: Global,
     why: &str,
@@ -140,7 +158,7 @@ fn play_data<R: Threads + Wait + Sync, F: Shelf>(
     }
 }
 
-// Plays the cases of the file of a name.
+// Reads the file of this name, and plays its cases.
 fn play_file<R: Threads + Wait + Sync, F: Shelf>(
     rt: &R,
     alloc: Global,
@@ -166,7 +184,7 @@ fn play_file<R: Threads + Wait + Sync, F: Shelf>(
     }
 }
 
-// Plays the cases of the file of a name, and writes what differs.
+// Plays the cases of the file of this name, and writes the differences.
 fn play_named<R: Threads + Wait + Sync, F: Shelf, O: Sink>(
     rt: &R,
     alloc: Global,

@@ -4,7 +4,7 @@ use serde_json::{Error, Map, Value};
 use std::alloc::Global;
 use std::str;
 
-/// The data of a text, where it is UTF-8 and JSON.
+/// The data of a text, if it is JSON in UTF-8.
 pub fn data_of(alloc: Global, text: &[u8]) -> Result<Option<Value>, OutOfMemory> {
     let Ok(text) = str::from_utf8(text) else {
         return Ok(None);
@@ -41,7 +41,7 @@ fn first_unknown<'a>(
     None
 }
 
-/// That a value is an object whose keys are all in one of two lists. `named` says which value it is.
+/// Checks that a value is an object whose keys are all in the two lists. A fault calls the value `named`.
 pub fn check_keys<'a>(
     value: &'a Value,
     known: &[&str],
@@ -57,7 +57,7 @@ pub fn check_keys<'a>(
     }
 }
 
-/// The items of a list. `named` says which value it is.
+/// The items of a list. A fault calls the value `named`.
 pub fn items_of<'a>(
     value: &'a Value,
     named: &'static str,

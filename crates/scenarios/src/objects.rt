@@ -18,7 +18,7 @@ use std::alloc::Global;
 use std::sync::Arc;
 use std::sync::atomic::AtomicBool;
 
-// How many bytes a link gives at once, where a case doesn't say it.
+// How many bytes a link returns at once, unless the case states it.
 const CUT: u64 = 4_096;
 
 /// The sink of a play.
@@ -117,8 +117,7 @@ fn links_in<'a, F: Shelf>(
     Ok(links)
 }
 
-// The place of the link that must have ended before anything comes of the one at a place: the one before it, where a
-// case doesn't say which.
+// The place of the link that must end before anything is read from this one. By default it is the link before.
 fn after_of<'a>(
     play: &Play<'a>,
     link: &'a Value,
@@ -141,7 +140,7 @@ fn order_of<'a>(play: &Play<'a>, listed: &'a [Value]) -> Result<Vec<Option<usize
     Ok(order)
 }
 
-// None of so many links has ended.
+// Flags for `count` links, none of which has ended.
 fn unended(alloc: Global, count: usize) -> Result<Arc<Vec<AtomicBool>, Global>, OutOfMemory> {
     let mut ended = Vec::new(alloc);
     for _ in 0..count {

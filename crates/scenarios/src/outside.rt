@@ -20,12 +20,12 @@ pub struct CaseShelf {
 }
 
 impl CaseShelf {
-    /// The shelf, of which nothing was asked yet.
+    /// Starts with no call made.
     pub fn new(shelf: MemoryShelf) -> Self {
         CaseShelf { shelf, calls: 0 }
     }
 
-    /// How many pieces were asked for.
+    /// The number of calls made.
     pub fn calls(&self) -> u64 {
         self.calls
     }
@@ -44,7 +44,7 @@ impl Shelf for CaseShelf {
     }
 }
 
-/// A clock in memory that counts the moments that it gives.
+/// A clock in memory that counts the moments that it returns.
 #[derive(Drop)]
 pub struct CaseClock {
     clock: MemoryClock,
@@ -53,7 +53,7 @@ pub struct CaseClock {
 }
 
 impl CaseClock {
-    /// The clock, which has given no moment yet.
+    /// Starts with no moment returned.
     pub fn new(clock: MemoryClock) -> Self {
         CaseClock {
             clock,
@@ -62,7 +62,7 @@ impl CaseClock {
         }
     }
 
-    /// How many moments it gave.
+    /// The number of moments returned.
     pub fn given(&self) -> u64 {
         self.given
     }
@@ -89,10 +89,10 @@ impl Clock for CaseClock {
     }
 }
 
-// How often a link looks whether another one has ended before it fails.
+// How often a link checks whether another one has ended, before its read fails.
 const MOST_TURNS: u32 = 20_000_000;
 
-/// A link in memory of which nothing comes before another one of its door has ended.
+/// A link in memory whose reads wait until another link of its door has ended.
 #[derive(Drop)]
 pub struct CaseLink {
     link: MemoryLink,
@@ -103,7 +103,7 @@ pub struct CaseLink {
 }
 
 impl CaseLink {
-    // Waits for the link that must have ended, and answers whether it has.
+    // Waits for the other link to end. Returns whether it did.
     fn may_come(&self) -> bool {
         let Some(place) = self.after else {
             return true;
@@ -165,8 +165,8 @@ pub struct CaseDoor {
 }
 
 impl CaseDoor {
-    /// The door, of which nothing was asked yet; for each of its links the place of the one that must have ended before
-    /// anything comes of it, and which have ended.
+    /// Starts with no call made. For each link, `after` has the place of the link that must end first, and `ended`
+    /// has whether it has ended.
     pub fn new(
         door: MemoryDoor,
         after: Vec<Option<usize>>,
@@ -182,12 +182,12 @@ impl CaseDoor {
         }
     }
 
-    /// How often it was opened or asked for a link.
+    /// The number of calls that opened the door or accepted a link.
     pub fn calls(&self) -> u64 {
         self.calls
     }
 
-    /// The port at which it was opened last.
+    /// The port at which the door was last opened.
     pub fn port(&self) -> Option<u16> {
         self.door.port()
     }
@@ -239,7 +239,7 @@ impl Door for CaseDoor {
     }
 }
 
-/// A keeper in memory whose rows may be such that they can't be loaded.
+/// A keeper in memory, which may be unable to load its rows.
 #[derive(Drop)]
 pub struct CaseKeeper {
     keeper: MemoryKeeper,
@@ -249,7 +249,7 @@ pub struct CaseKeeper {
 }
 
 impl CaseKeeper {
-    /// The keeper, and whether its rows can be loaded.
+    /// Starts with no commit requested. `loads` tells whether the rows can be loaded.
     pub fn new(keeper: MemoryKeeper, loads: bool) -> Self {
         CaseKeeper {
             keeper,

@@ -2,25 +2,25 @@ use crate::fault::CaseFault;
 use serde_json::Value;
 use std::alloc::Global;
 
-/// One play of a case, or of one of its steps: where it stands, and for which number it is played.
+/// One play of a case or of one of its steps: its place in the file, and the number of `each`.
 #[derive(Clone, Copy)]
 pub struct Play<'a> {
     pub alloc: Global,
     /// The named texts of the file.
     pub texts: Option<&'a Value>,
-    /// What the cases of the file have in common.
+    /// The keys and values that the cases of the file share.
     pub common: Option<&'a Value>,
     pub case: &'a Value,
-    /// The step that is played, or the case where it has none.
+    /// The step that is played, or the case if it has no steps.
     pub step: &'a Value,
     /// The number of the step, from 1.
     pub place: Option<usize>,
-    /// The number that stands for `each`.
+    /// The number for which `each` stands.
     pub each: Option<u64>,
 }
 
 impl<'a> Play<'a> {
-    /// A case that is played whole and once.
+    /// A case that is played once, without steps.
     pub fn of(alloc: Global, file: &'a Value, case: &'a Value) -> Self {
         Play {
             alloc,
@@ -33,7 +33,7 @@ impl<'a> Play<'a> {
         }
     }
 
-    /// The step at a place, from 0.
+    /// This play for a step. `place` counts the steps from 0.
     pub fn at_step(&self, step: &'a Value, place: usize) -> Self {
         Play {
             alloc: self.alloc,
@@ -46,7 +46,7 @@ impl<'a> Play<'a> {
         }
     }
 
-    /// The same for a number.
+    /// This play for a number of `each`.
     pub fn for_each(&self, number: u64) -> Self {
         Play {
             alloc: self.alloc,
@@ -59,7 +59,7 @@ impl<'a> Play<'a> {
         }
     }
 
-    /// The name of the case, where it has one.
+    /// The name of the case, or a placeholder if it has none.
     pub fn name(&self) -> &'a str {
         match self.case.get("name") {
             Some(name) => name.as_str().unwrap_or("a case with no name"),
@@ -67,7 +67,7 @@ impl<'a> Play<'a> {
         }
     }
 
-    /// What stands at a key of the case, or else of what the cases have in common.
+    /// The value at a key of the case, or of `common` if the case lacks the key.
     pub fn of_case(&self, key: &str) -> Option<&'a Value> {
         match self.case.get(key) {
             Some(found) => Some(found),
@@ -75,7 +75,7 @@ impl<'a> Play<'a> {
         }
     }
 
-    /// What stands at a key of the step, or else of the case.
+    /// The value at a key of the step, or of the case or `common` if the step lacks the key.
     pub fn part(&self, key: &str) -> Option<&'a Value> {
         match self.step.get(key) {
             Some(found) => Some(found),
@@ -83,7 +83,7 @@ impl<'a> Play<'a> {
         }
     }
 
-    /// The named text of the file.
+    /// The text of this name in the file.
     pub fn named(&self, name: &'a str) -> Result<&'a Value, CaseFault<'a>> {
         match self.texts {
             Some(texts) => texts.get(name).ok_or(CaseFault::NoText(name)),
@@ -91,7 +91,7 @@ impl<'a> Play<'a> {
         }
     }
 
-    /// The number that a value stands for, where it is one.
+    /// The number in a value. The string `each` stands for the number of this play.
     pub fn number(&self, value: &Value) -> Option<u64> {
         match value.as_str() {
             Some("each") => self.each,

@@ -9,7 +9,7 @@ use std::alloc::Global;
 use std::sync::Wait;
 use std::thread::Threads;
 
-/// What the program is called with.
+/// The arguments and the objects with which the program is called.
 #[derive(Drop)]
 pub struct Outside {
     pub words: Vec<String>,
@@ -21,7 +21,7 @@ pub struct Outside {
     pub bells: Vec<MemoryBell>,
 }
 
-/// What the program came to: its status, whether a board is left, and what is left of the outside.
+/// The exit status of the program, whether a board is left, and the objects after the call.
 #[derive(Drop)]
 pub struct Played {
     pub status: u8,
@@ -36,8 +36,7 @@ pub struct Played {
     pub gate: GateThatCounts,
 }
 
-// What a command came to: its status, whether a board is left, and the keeper, the clock, the door and the bells that
-// were given back.
+// The exit status of a command, whether a board is left, and the objects that were returned.
 #[derive(Drop)]
 struct Came<K, C, D, B> {
     status: u8,
@@ -49,8 +48,8 @@ struct Came<K, C, D, B> {
     dropped: Vec<Dropped<B>>,
 }
 
-// What words come to. The promises of the program's call end here, over type parameters, so that they are paid for
-// once.
+// Calls the program. Drops the contract of `desk_main` here, over type parameters, so that only this proof pays for
+// it.
 fn came_of<
     R: Threads + Wait + Sync,
     S: Shelf,
@@ -97,7 +96,7 @@ where
     }
 }
 
-/// Calls the program.
+/// Calls the program over objects in memory.
 #[tactic(auto, using(alerts::proofs::Crossing::MemoryBell_send))]
 pub fn play<R: Threads + Wait + Sync>(rt: &R, alloc: Global, outside: Outside) -> Played {
     let Outside {

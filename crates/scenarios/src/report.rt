@@ -3,7 +3,7 @@ use crate::play::Play;
 use desk_io::OutOfMemory;
 use std::alloc::Global;
 
-/// What differs in the cases of a file, a line each, and how many there are.
+/// The differences in the cases of a file, a line each, and their number.
 #[derive(Drop)]
 pub struct Report<'a> {
     file: &'a str,
@@ -11,7 +11,7 @@ pub struct Report<'a> {
     count: u64,
 }
 
-// Where a play stands: its file, its case, its number and its step.
+// The place of a play: its file, its case, its number of `each`, and its step.
 fn place_of(file: &str, play: &Play<'_>) -> Result<String, OutOfMemory> {
     let name = play.name();
     let mut place = format!(in play.alloc; "{file}: {name}")?;
@@ -25,7 +25,7 @@ fn place_of(file: &str, play: &Play<'_>) -> Result<String, OutOfMemory> {
 }
 
 impl<'a> Report<'a> {
-    /// Nothing differs yet.
+    /// Starts without differences.
     pub fn new(alloc: Global, file: &'a str) -> Self {
         Report {
             file,
@@ -39,7 +39,7 @@ impl<'a> Report<'a> {
         self.lines.as_str()
     }
 
-    /// How many differences there are.
+    /// The number of differences.
     pub fn count(&self) -> u64 {
         self.count
     }
@@ -51,18 +51,18 @@ impl<'a> Report<'a> {
         Ok(())
     }
 
-    /// Says something of the whole file.
+    /// Reports a fault of the whole file.
     pub fn of_file(&mut self, alloc: Global, what: &str) -> Result<(), OutOfMemory> {
         self.push(alloc, self.file, what)
     }
 
-    /// Says something of a play.
+    /// Reports a difference in a play.
     pub fn says(&mut self, play: &Play<'_>, what: &str) -> Result<(), OutOfMemory> {
         let place = place_of(self.file, play)?;
         self.push(play.alloc, place.as_str(), what)
     }
 
-    /// Says that what was wanted isn't what came.
+    /// Reports a result that isn't the expected one.
     pub fn differs(
         &mut self,
         play: &Play<'_>,
@@ -74,7 +74,7 @@ impl<'a> Report<'a> {
         self.says(play, line.as_str())
     }
 
-    /// Says why a play can't be made.
+    /// Reports why a play can't be made.
     pub fn unplayed(&mut self, play: &Play<'_>, fault: CaseFault<'_>) -> Result<(), OutOfMemory> {
         let why = fault.shown(play.alloc)?;
         self.says(play, why.as_str())

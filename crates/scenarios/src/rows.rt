@@ -7,7 +7,7 @@ use keeper::is_rising;
 use std::alloc::Global;
 use std::str;
 
-// The kind and the key at the head of a line, and the body behind them.
+// The kind and the key at the start of a line, and the body after them.
 fn parts_of(line: &str) -> Option<(u8, u64, &str)> {
     let (kind, rest) = line.split_once(" ")?;
     let (key, body) = rest.split_once(" ")?;
@@ -35,7 +35,7 @@ fn rows_in(alloc: Global, lines: &str) -> Result<Vec<Row>, CaseFault<'static>> {
     Ok(rows)
 }
 
-/// The rows of lines `KIND KEY BODY`, which stand in order.
+/// The rows of lines `KIND KEY BODY`, in the order of the lines.
 pub fn rows_of(alloc: Global, lines: &[u8]) -> Result<Vec<Row>, CaseFault<'static>> {
     match str::from_utf8(lines) {
         Ok(lines) => rows_in(alloc, lines),
@@ -52,7 +52,7 @@ fn push_row(alloc: Global, lines: &mut Vec<u8>, row: &Row) -> Result<(), OutOfMe
     Ok(())
 }
 
-/// A line for each row.
+/// A line `KIND KEY BODY` for each row.
 pub fn lines_of(alloc: Global, rows: &[Row]) -> Result<Vec<u8>, OutOfMemory> {
     let mut lines = Vec::new(alloc);
     for row in rows {

@@ -94,7 +94,7 @@ fn push_all_of<'a, F: Shelf>(
     }
 }
 
-/// The shelf of a play. Of two sources with one name the first counts.
+/// The shelf of a play. If two sources have the same name, the first counts.
 pub fn shelf_of<'a, F: Shelf>(play: &Play<'a>, files: &mut F) -> Result<CaseShelf, CaseFault<'a>> {
     let mut sources = Vec::new(play.alloc);
     push_all_of(play, files, &mut sources, "sources")?;

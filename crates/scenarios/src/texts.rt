@@ -5,10 +5,10 @@ use hex::FromHexError;
 use serde_json::Value;
 use std::alloc::Global;
 
-// How many pieces a text may have. Texts that name one another in a circle have more.
+// How many pieces a text may have. Texts that refer to each other in a circle exceed it.
 const PIECES: u32 = 10_000_000;
 
-// A piece of a text that is still to be put, so many times over: whole, or as a line of a list.
+// A piece of a text that is still to be written, `times` times: as a whole text, or as a line of a list.
 #[derive(Clone, Copy)]
 struct Piece<'a> {
     value: &'a Value,
@@ -16,7 +16,7 @@ struct Piece<'a> {
     times: u64,
 }
 
-// What an object stands for in place of a text.
+// An object that stands for a text.
 #[derive(Clone, Copy)]
 enum Reference<'a> {
     Named(&'a str, u64),
@@ -30,7 +30,7 @@ fn joined_of(value: &Value) -> Option<Reference<'_>> {
     Some(Reference::Joined(pieces.as_slice()))
 }
 
-// What an object of one member stands for.
+// The reference in an object of one member.
 fn single_of(value: &Value) -> Option<Reference<'_>> {
     if let Some(name) = value.get("text") {
         return Some(Reference::Named(name.as_str()?, 1));
@@ -57,7 +57,7 @@ fn reference_of<'a>(play: &Play<'_>, value: &'a Value) -> Option<Reference<'a>> 
     }
 }
 
-// The pieces come off the end, so the last is pushed first.
+// Pieces are taken from the end of the list, so the last one is pushed first.
 fn push_pieces<'a>(
     left: &mut Vec<Piece<'a>>,
     values: &'a [Value],
@@ -160,7 +160,7 @@ fn put_in_list<'a, F: Shelf>(
     }
 }
 
-// Puts a piece once, where it stands so many times still.
+// Writes a piece once, and puts it back if it is to be written again.
 fn put<'a, F: Shelf>(
     play: &Play<'a>,
     files: &mut F,
@@ -183,7 +183,7 @@ fn put<'a, F: Shelf>(
     }
 }
 
-/// The text that a value of a case stands for.
+/// The text of a value in a case.
 pub fn text_of<'a, F: Shelf>(
     play: &Play<'a>,
     files: &mut F,
@@ -206,7 +206,7 @@ pub fn text_of<'a, F: Shelf>(
     Err(CaseFault::Unread("text"))
 }
 
-/// The line that a value of a case stands for: a string, or JSON in its compact form.
+/// The line of a value in a case: a string itself, or other JSON in its compact form.
 pub fn line_of(alloc: Global, value: &Value) -> Result<Vec<u8>, OutOfMemory> {
     match value {
         Value::String(line) => Ok(Vec::from_slice(alloc, line.as_bytes())?),

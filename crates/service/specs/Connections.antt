@@ -1,4 +1,4 @@
--- The requests of a connection, and what each of them is answered.
+-- The requests of a connection to the desk, and the response to each.
 use Rattle.std.specs.Prelude.{◌≡◌, ◌⊎◌, ℕ, Bool, true, false, List, [], ◌∷◌, codes, Result, Ok, Err}
 use Rattle.connections.specs.Connections.{Answered, ClockFailed, Kind, Last, RanOut}
 use Rattle.connections.specs.declared.answers.Unanswered.{Unanswered}
@@ -16,14 +16,14 @@ use Rattle.service.specs.declared.requested.Requested.TheVariants as requested
 use Rattle.service.specs.declared.responses.Response.{Response}
 use Rattle.service.specs.Turns.{Turn}
 
--- A request that was answered: its turn, and the state in which that began. Of a request that is no call both say nothing, and of a desk that
--- is lent the turn's place says nothing.
+-- An answered request: its turn, and the state in which the turn began. Both have a meaning only if the request is a
+-- call. Over a desk that isn't shared, the turn's place has none.
 pub record Exchange : Type 0 where
   pub wire : Wire
   pub turn : Turn
   pub from : State
 
--- what came of it
+-- its response, and the state after it
 abbrev pub exchange : ℕ → Exchange → Exchanged
 exchange lane x = exchanged x.turn.choice lane x.from x.turn.at (requested_by x.wire)
 
@@ -33,24 +33,24 @@ makes_call (requested.Bad fault) = false
 makes_call requested.NoRoute = false
 makes_call requested.WrongMethod = false
 
--- who answers the requests of a lane
+-- the kind of the requests of a lane
 abbrev pub in_lane : ℕ → Kind Exchange
 in_lane lane = record { wire = λ x. x.wire; text = λ x. bytes_of (exchange lane x).response; calls = λ wire. makes_call (requested_by wire) }
 
--- ---- what a request is answered
+-- ---- the response to a request
 
--- the response to what is said
+-- the response with a reply or a fault
 abbrev pub said_response : Said → Response
 said_response says = record { status = status_of says; body = said_text says }
 
--- the response to what is no call
+-- the response to a request that makes no call
 abbrev pub uncalled_response : Requested → Response
 uncalled_response (requested.Call call) = failing 500 []
 uncalled_response (requested.Bad fault) = record { status = 400; body = bad_text fault }
 uncalled_response requested.NoRoute = failing 404 (codes "NoRoute")
 uncalled_response requested.WrongMethod = failing 405 (codes "WrongMethod")
 
--- of a request: it was answered, the clock failed, or memory ran out
+-- the request was answered, the clock failed, or memory ran out
 abbrev pub Responds : ℕ → (List Exchange → Last → Type 0) → Wire → Result Response Unanswered → Type 0
 Responds lane goes wire (Ok r) = (x : Exchange) × (x.wire ≡ wire) × (r ≡ (exchange lane x).response) × goes (x ∷ []) Answered
 Responds lane goes wire (Err ClockFault) = (makes_call (requested_by wire) ≡ true) × goes [] ClockFailed

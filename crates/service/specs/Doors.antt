@@ -1,4 +1,4 @@
--- Connections of a door, each answered in turns of its own lane, over one desk and its clock.
+-- Connections of a door, each answered in turns of its own lane, over one shared desk.
 use Rattle.std.specs.Prelude.{◌≡◌, ◌≢◌, ℕ, true, List, [], length}
 use Rattle.std.specs.List.{AllByRecursion}
 use Rattle.connections.specs.Connections.{IsConnection}
@@ -24,19 +24,20 @@ use Rattle.service.specs.declared.misses.Event.{Event}
 use Rattle.service.specs.declared.misses.Miss.{Miss}
 use Rattle.service.specs.declared.misses.MissOf.TheVariants as of
 
--- What a link gained is what its connection is answered in turns of a lane, whose pass had seen one list before and has seen another since.
+-- The link gained the responses of its connection, which was answered in turns of a lane. `before` and `seen` are the
+-- lists that its pass saw before and at the end.
 pub record IsServedInTurns {L : Type 0} (link : L → LinkSeen) (opening : State) (clock : ClockSeen) (lane : ℕ) (before seen : List Event) (came went : L) (how : Served) : Type 0 where
   pub answered :
       Wrote (link came).stream (link went).stream
       (IsConnection (in_lane lane) (GoesInTurns opening clock.dial lane before seen) (HasFailed (link came).health (link went).health) (unread (link came).stream) (unread (link went).stream) how)
   pub goes_on : LinkGoesOn (link came) (link went)
-  -- a clock that was sound as the desk was opened ends none
+  -- a clock that was sound at the opening ends no connection
   pub steady : IsSound clock.health → how ≢ served.ClockFault
 
--- Connections of a door at a port were served, so many at most, over a desk that was just opened, and so it ended. There is one list, of the
--- desk's history and of the misses: each connection had its turns in it, and it has nothing else. The history leads from the state at the
--- opening to the state at the end, with no tick but to the clock's moments, and the counts at the misses rise with those of the keeper and of
--- the clock, whose count is that of its last miss.
+-- At most `most` connections at a port were served, over a desk that was just opened. One list of the history and the
+-- misses contains the turns of every connection, and nothing else. The history leads from the state at the opening to
+-- the state at the end, and every tick is to a moment of the clock. The counts at the misses rise with those of the
+-- keeper and of the clock. The clock's count is that of its last miss.
 pub record IsServing {L : Type 0} (link : L → LinkSeen) (door : Over (DoorSeen L)) (clock : Over ClockSeen) (desk : Over DeskAt) (port most : ℕ) (end : ServeEnd) : Type 0 where
   pub misses : List Miss
   pub served : HasServed lane_of (IsServedInTurns link desk.before.state clock.before) door (merged 0 desk.after.state.entries misses) port most end
@@ -46,6 +47,7 @@ pub record IsServing {L : Type 0} (link : L → LinkSeen) (door : Over (DoorSeen
   pub timely : Rise clock.before.health.faults (faults_of of.Clock misses) clock.after.health.faults
   pub counted : clock.after.health.faults ≡ last_or clock.before.health.faults (faults_of of.Clock misses)
   pub timed : AllByRecursion (λ e. IsTimed clock.before.dial e.what) desk.after.state.entries
-  -- where all was served well the clock missed nothing, and a fault of it is told only where it has failed and missed something
+  -- If the serving ended with `Done`, the clock missed nothing. `ClockFault` is reported only if the clock failed and
+  -- missed something.
   pub well : end ≡ ends.Done → faults_of of.Clock misses ≡ []
   pub by_clock : end ≡ ends.ClockFault → HasFailed clock.before.health clock.after.health × (faults_of of.Clock misses ≢ [])

@@ -1,4 +1,4 @@
--- What is answered to a request.
+-- The response to a request, and the state after it.
 use Rattle.std.specs.Prelude.{ℕ, List, ◌++◌, codes}
 use Rattle.desk.specs.Keeping.{Choice, Given, answer_with}
 use Rattle.desk.specs.Run.{said_text}
@@ -14,7 +14,7 @@ use Rattle.service.specs.declared.responses.Response.{Response}
 abbrev pub bytes_of : Response → List ℕ
 bytes_of r = response r.status r.body
 
--- a fault that has a name
+-- an error response with the name of the fault
 abbrev pub failing : ℕ → List ℕ → Response
 failing status name = record { status = status; body = codes "{\"error\":\"" ++ name ++ codes "\"}" }
 
@@ -26,11 +26,11 @@ pub record Exchanged : Type 0 where
 abbrev pub staying : State → Response → Exchanged
 staying s r = record { response = r; state = s }
 
--- the reply to a call
+-- the response to a call
 abbrev pub replying : Given → Exchanged
 replying g = record { response = record { status = status_of g.outcome.said; body = said_text g.outcome.said }; state = g.state }
 
--- What comes of a request at a moment, under a choice. Only a call changes something, and only it needs the moment.
+-- The response to a request at a moment, under a choice. Only a call changes the state or needs the moment.
 abbrev pub exchanged : Choice → ℕ → State → ℕ → Requested → Exchanged
 exchanged c lane s at (requested.Call call) = replying (answer_with c lane s at call)
 exchanged c lane s at (requested.Bad fault) = staying s (record { status = 400; body = bad_text fault })

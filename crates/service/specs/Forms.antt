@@ -1,4 +1,4 @@
--- The forms of what is asked.
+-- Which requests and routes are well formed.
 use Rattle.std.specs.Prelude.{◌≡◌, true}
 use Rattle.desk_io.specs.Station.{is_station}
 use Rattle.desk_http.specs.declared.routes.Routed.{Routed}
@@ -7,14 +7,14 @@ use Rattle.asks.specs.Forms.{CallHasForms, IsId, IsShort}
 use Rattle.service.specs.declared.requested.Requested.{Requested}
 use Rattle.service.specs.declared.requested.Requested.TheVariants as requested
 
--- a call each of whose fields has its form
+-- if the request is a call, each of its fields has its form
 abbrev pub RequestedHasForms : Requested → Type 0
 RequestedHasForms (requested.Call call) = CallHasForms call
 RequestedHasForms (requested.Bad fault) = Unit {0}
 RequestedHasForms requested.NoRoute = Unit {0}
 RequestedHasForms requested.WrongMethod = Unit {0}
 
--- a route whose number, station or tail has its form
+-- the number, station or tail of the route has its form
 abbrev pub RouteHasForms : Routed → Type 0
 RouteHasForms Post = Unit {0}
 RouteHasForms Board = Unit {0}

@@ -1,4 +1,4 @@
--- A desk and a clock of which nothing is known.
+-- A desk and a clock about which nothing is known.
 use Rattle.std.specs.Prelude.{[], None, false}
 use Rattle.desk_io.specs.Health.{unsound}
 use Rattle.desk.specs.Seen.{DeskSeen}

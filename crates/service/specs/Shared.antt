@@ -1,4 +1,4 @@
--- What is seen of a shared desk, and what holds of it at every turn.
+-- The model of a shared desk in contracts, and what holds of it at every turn.
 use Rattle.std.specs.Prelude.{◌≡◌, ℕ, ◌+◌, ◌^◌, ◌<◌, true, List, length, Option, None, Some}
 use Rattle.std.specs.List.{AllByRecursion}
 use Rattle.alerts.specs.Seen.{BellSeen}
@@ -30,29 +30,29 @@ pub record SharedSeen : Type 0 where
 abbrev pub seen_by : {K B C : Type 0} → (K → KeeperSeen) → (B → BellSeen) → (C → ClockSeen) → SharedDesk K B C → SharedSeen
 seen_by keeper bell clock s = record { desk = desk_seen keeper bell s.desk; clock = clock s.clock; misses = s.misses }
 
--- the same of its parts
+-- the same from its parts
 abbrev pub parts_seen : {K B C : Type 0} → (K → KeeperSeen) → (B → BellSeen) → (C → ClockSeen) → Desk K B → C → List Miss → SharedSeen
 parts_seen keeper bell clock desk c misses = record { desk = desk_seen keeper bell desk; clock = clock c; misses = misses }
 
--- its one list
+-- its one list, of the history and the misses
 abbrev pub events_of : {K B C : Type 0} → SharedDesk K B C → List Event
 events_of s = merged 0 s.desk.board.state.entries s.misses
 
 abbrev pub events_in : SharedSeen → List Event
 events_in s = merged 0 s.desk.state.entries s.misses
 
--- one of the moments that a clock tells
+-- one of the clock's moments, if they are known
 abbrev pub IsTold : Option Dial → ℕ → Type 0
 IsTold None at = Unit {0}
 IsTold (Some d) at = (place : ℕ) × StandsAt (Some (dial d.moments place)) at
 
--- a tick is to a moment that the clock tells
+-- a tick is to one of the clock's moments
 abbrev pub IsTimed : Option Dial → What → Type 0
 IsTimed clock (what.Tick to) = IsTold clock to
 IsTimed clock (what.Asked call reply) = Unit {0}
 
--- A desk that goes on from how it was opened. The numbers of the misses of each object rise, from its count at the opening to its count now,
--- the clock's count now is that of its last miss, and every tick is to one of the clock's moments.
+-- The shared desk goes on from its opening. The counts at the misses of each object rise, from its count at the
+-- opening to its count now. The clock's count is that of its last miss. Every tick is to one of the clock's moments.
 pub record IsSharedSince (desk : DeskSeen) (clock : ClockSeen) (s : SharedSeen) : Type 0 where
   pub desk_on : DeskGoesOn desk s.desk
   pub clock_on : ClockGoesOn clock s.clock
@@ -64,7 +64,8 @@ pub record IsSharedSince (desk : DeskSeen) (clock : ClockSeen) (s : SharedSeen) 
   pub timed : AllByRecursion (λ e. IsTimed clock.dial e.what) s.desk.state.entries
   pub small : length s.desk.state.entries + length s.misses < 2 ^ 63
 
--- A list is that of such a shared desk: its entries are a legal history from the opening, and the numbers of its misses rise from the counts then.
+-- The list is that of such a shared desk: a legal history from the opening, and misses whose counts rise from those
+-- at the opening.
 pub record IsSharedList (desk : DeskSeen) (clock : ClockSeen) (list : List Event) : Type 0 where
   pub shared : SharedSeen
   pub since : IsSharedSince desk clock shared

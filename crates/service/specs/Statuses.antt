@@ -1,4 +1,4 @@
--- Which status goes with what is said (RFC 9110, section 15).
+-- Which HTTP status goes with a reply or with a fault (RFC 9110, section 15).
 use Rattle.std.specs.Prelude.{ℕ}
 use Rattle.asks.specs.declared.reply.Refusal.{Refusal}
 use Rattle.asks.specs.declared.reply.Refusal.TheVariants.{UnknownActor, WrongKey, NotYourRole, NumberReused, BadReport, DayOutOfReach, ReportsFull, UnknownTail, NoSuchDeferral, NoSuchRelease, NotYours, BadPlan, NotPending, WrongRevision, WrongText, WeatherNewer, RuleFails, WrongPhase, AlreadySigned, NoSuchAlert, AlertMoved, TooYoung, ReleasesFull, HistoryFull, NoSuchStation, Unkept, NumberSwept, UnknownItem, BadFound, DeferralsFull}
@@ -7,8 +7,8 @@ use Rattle.asks.specs.declared.reply.Reply.TheVariants.{Done, Seen, Refused}
 use Rattle.desk_state.specs.declared.lanes.Said.{Said}
 use Rattle.desk_state.specs.declared.lanes.Said.TheVariants as said
 
--- who asks isn't known (401) or may not (403); what is asked for isn't there (404), is at odds with what is held (409),
--- or can't be read as what it should be (422); it couldn't be kept (503), or there is no room (507)
+-- The caller is unknown (401) or not allowed (403). The object doesn't exist (404), conflicts with the desk's state
+-- (409), or is invalid (422). The keeper failed (503), or there is no room (507).
 abbrev pub status_of_refusal : Refusal → ℕ
 status_of_refusal UnknownActor = 401
 status_of_refusal WrongKey = 401

@@ -1,4 +1,4 @@
--- A connection whose calls are answered in turns.
+-- A connection whose calls are answered in turns at a shared desk.
 use Rattle.std.specs.Prelude.{◌≡◌, ℕ, List, [], ◌∷◌, ◌++◌, Option}
 use Rattle.std.specs.List.{AllByRecursion}
 use Rattle.connections.specs.Connections.{Last}
@@ -13,7 +13,7 @@ use Rattle.service.specs.Events.{state_at}
 use Rattle.service.specs.Runs.{IsRun, Reply}
 use Rattle.service.specs.declared.misses.Event.{Event}
 
--- the reply to a call, in its turn
+-- the reply to the call of a request, with its turn; none if the request is no call
 abbrev pub replies_for : ℕ → Exchange → Requested → List Reply
 replies_for lane x (requested.Call call) = record { call = call; says = (answer_with x.turn.choice lane x.from x.turn.at call).outcome.said; turn = x.turn } ∷ []
 replies_for lane x (requested.Bad fault) = []
@@ -24,14 +24,15 @@ abbrev pub replies_of : ℕ → List Exchange → List Reply
 replies_of lane [] = []
 replies_of lane (x ∷ xs) = replies_for lane x (requested_by x.wire) ++ replies_of lane xs
 
--- of a call: it began in the state at its place
+-- a call's turn began in the state at its place
 abbrev pub IsFrom : State → List Event → Exchange → Requested → Type 0
 IsFrom opening list x (requested.Call call) = x.from ≡ state_at opening list x.turn.place
 IsFrom opening list x (requested.Bad fault) = Unit {0}
 IsFrom opening list x requested.NoRoute = Unit {0}
 IsFrom opening list x requested.WrongMethod = Unit {0}
 
--- The requests were answered in turns of a lane, from what its pass had seen before to what it has seen.
+-- The requests were answered in turns of a lane, between the list that its pass had seen before and the list at the
+-- end.
 pub record GoesInTurns (opening : State) (dial : Option Dial) (lane : ℕ) (before list : List Event) (xs : List Exchange) (last : Last) : Type 0 where
   pub turns : IsRun opening dial lane before list (replies_of lane xs) last
   pub from : AllByRecursion (λ x. IsFrom opening list x (requested_by x.wire)) xs

@@ -1,4 +1,4 @@
--- What a call comes to in one turn.
+-- The result of a call in one turn at a shared desk.
 use Rattle.std.specs.Prelude.{◌≡◌, ◌⊎◌, ℕ, ◌<◌, ◌≤◌, ◌+◌, List, [], ◌∷◌, ◌++◌, length, take, drop, Option, None, Some, Result, MatchResult}
 use Rattle.std.specs.List.{AllByRecursion}
 use Rattle.asks.specs.declared.call.Call.{Call}
@@ -28,9 +28,9 @@ use Rattle.service.specs.declared.misses.Event.{Event}
 use Rattle.service.specs.declared.misses.Miss.{Miss}
 use Rattle.service.specs.declared.misses.MissOf.TheVariants as of
 
--- ---- what is added
+-- ---- the events that a call adds
 
--- the entries that one state has beyond another
+-- the entries that the second state has beyond the first
 abbrev pub entries_since : State → State → List Entry
 entries_since s t = drop (length s.entries) t.entries
 
@@ -43,7 +43,7 @@ number_in_reply (Done made) = None
 number_in_reply (Seen text) = None
 number_in_reply (Refused why) = number_in_refusal why
 
--- the count of the keeper's faults that is told, where something couldn't be kept
+-- the keeper's count of faults in a refusal `Unkept`
 abbrev pub unkept_in : Said → Option ℕ
 unkept_in (said.Reply reply) = number_in_reply reply
 unkept_in (said.Bad fault) = None
@@ -52,18 +52,18 @@ abbrev pub missed_with : ℕ → ℕ → Option ℕ → List Miss
 missed_with lane position None = []
 missed_with lane position (Some faults) = miss lane position of.Keeper faults ∷ []
 
--- the miss of what is said
+-- the miss that goes with a refusal `Unkept`
 abbrev pub missed_by : ℕ → ℕ → Said → List Miss
 missed_by lane position says = missed_with lane position (unkept_in says)
 
--- what a call adds to the list from a state: the entries of its tick and of itself, and its miss
+-- the events that a call adds in a state: the entries of its tick and of itself, and its miss
 abbrev pub added_by : ℕ → State → Given → List Event
 added_by lane s g = entered (entries_since s g.state) ++ missed (missed_by lane (length g.state.entries) g.outcome.said)
 
 -- ---- one turn
 
--- A call was answered at the moment that the clock gave, under a choice that the keeper's counts allow. The list went on with the entries of
--- its tick and of itself, and, where it couldn't be kept, with its miss.
+-- A call was answered at the clock's moment, under a choice that the keeper's counts allow. The list grew by the
+-- entries of its tick and of itself, and by its miss if the keeper failed.
 pub record AnswersInTurn (lane : ℕ) (call : Call) (old new : SharedSeen) (says : Said) : Type 0 where
   pub at : ℕ
   pub choice : Choice
@@ -75,7 +75,7 @@ pub record AnswersInTurn (lane : ℕ) (call : Call) (old new : SharedSeen) (says
   pub its_state : new.desk.state ≡ (answer_with choice lane old.desk.state at call).state
   pub its_misses : new.misses ≡ old.misses ++ missed_by lane (length new.desk.state.entries) says
 
--- the clock failed: nothing was asked of the desk, and the miss of the clock has its new count
+-- the clock failed: the desk is unchanged, and the clock's miss has its new count
 pub record MissesClock (lane : ℕ) (old new : SharedSeen) : Type 0 where
   pub failed : HasFailed old.clock.health new.clock.health
   pub stands : new.clock.dial ≡ old.clock.dial
@@ -83,7 +83,7 @@ pub record MissesClock (lane : ℕ) (old new : SharedSeen) : Type 0 where
   pub rose : old.clock.health.faults < new.clock.health.faults
   pub its_misses : new.misses ≡ old.misses ++ miss lane (length old.desk.state.entries) of.Clock new.clock.health.faults ∷ []
 
--- memory ran out: before the clock was asked, or after it, and then the tick to its moment may stand
+-- Memory ran out, before the clock was asked or after. In the second case the tick to its moment may have been made.
 pub record FindsNoMemory (lane : ℕ) (old new : SharedSeen) : Type 0 where
   pub its_misses : new.misses ≡ old.misses
   pub either : ((new.clock.dial ≡ old.clock.dial) × (new.desk.state ≡ old.desk.state))
@@ -93,31 +93,31 @@ abbrev pub GoesWithout : ℕ → SharedSeen → SharedSeen → Unanswered → Ty
 GoesWithout lane old new ClockFault = MissesClock lane old new
 GoesWithout lane old new OutOfMemory = FindsNoMemory lane old new
 
--- what is said by an answer
+-- the reply or the fault in an answer
 abbrev pub said_in : Answered → Said
 said_in a = a.outcome.said
 
--- what a call comes to
+-- the result of a call in a turn
 abbrev pub GoesInTurn : ℕ → Call → SharedSeen → SharedSeen → Result Answered Unanswered → Type 0
 GoesInTurn lane call old new result = MatchResult result (λ a. AnswersInTurn lane call old new (said_in a)) (GoesWithout lane old new)
 
 -- ---- in the one list
 
--- The turn of a call: the place of the list at which it began, the moment of the clock, and where the keeper failed.
+-- The turn of a call: its place in the list, the clock's moment, and at which steps the keeper failed.
 pub record Turn : Type 0 where
   pub place : ℕ
   pub at : ℕ
   pub choice : Choice
 
--- what the call is answered from the state at its place, and what it adds to the list
+-- the answer to the call in the state at its turn's place, and the events that it adds
 abbrev pub given_at : State → ℕ → List Event → Call → Turn → Given
 given_at opening lane list call t = answer_with t.choice lane (state_at opening list t.place) t.at call
 
 abbrev pub added_at : State → ℕ → List Event → Call → Turn → List Event
 added_at opening lane list call t = added_by lane (state_at opening list t.place) (given_at opening lane list call t)
 
--- A call's turn lies between two places of the list: the reply is the answer there, at a moment that the clock tells, and what it adds stands
--- there.
+-- A call's turn lies between two places of the list. The reply is the answer in the state at its place, at a moment
+-- of the clock. The events that it adds follow there.
 pub record IsTurn (opening : State) (dial : Option Dial) (lane : ℕ) (list : List Event) (floor top : ℕ) (call : Call) (says : Said) (t : Turn) : Type 0 where
   pub from : floor ≤ t.place
   pub moment : IsMoment t.at
@@ -126,24 +126,24 @@ pub record IsTurn (opening : State) (dial : Option Dial) (lane : ℕ) (list : Li
   pub stands : take (length (added_at opening lane list call t)) (drop t.place list) ≡ added_at opening lane list call t
   pub ends : t.place + length (added_at opening lane list call t) ≤ top
 
--- In one turn: its place lies after all that was seen before, and the lane added nothing else.
+-- The call was answered in one turn, whose place is after everything seen before. The lane added nothing else.
 abbrev pub AnsweredOnce : State → Option Dial → ℕ → List Event → List Event → Call → Said → Type 0
 AnsweredOnce opening dial lane before list call says =
     (t : Turn) × IsTurn opening dial lane list (length before) (length list) call says t
     × (elements_of lane_of lane list ≡ elements_of lane_of lane before ++ added_at opening lane list call t)
 
--- a fault of the clock: its miss is the last that the list has, and the lane added nothing else
+-- The clock failed. Its miss is the last event of the list, and the lane added nothing else.
 abbrev pub MissedOnce : ℕ → List Event → List Event → Type 0
 MissedOnce lane before list =
     (front : List Event) × (position : ℕ) × (faults : ℕ) × IsPrefix before front × (list ≡ front ++ missed (miss lane position of.Clock faults ∷ []))
     × (elements_of lane_of lane list ≡ elements_of lane_of lane before ++ missed (miss lane position of.Clock faults ∷ []))
 
--- an entry is a tick to a moment that the clock tells
+-- the entry is a tick to a moment of the clock
 abbrev pub IsTickTold : Option Dial → What → Type 0
 IsTickTold dial (what.Tick to) = IsTold dial to
 IsTickTold dial (what.Asked call reply) = ⊥
 
--- memory ran out: at most the tick to such a moment is the last that the list has, and the lane added nothing else
+-- Memory ran out. At most a tick to a moment of the clock was added, as the last event. The lane added nothing else.
 abbrev pub TickedOnce : Option Dial → ℕ → List Event → List Event → Type 0
 TickedOnce dial lane before list =
     (front : List Event) × (ticks : List Entry) × (length ticks ≤ 1) × AllByRecursion (λ e. IsTickTold dial e.what) ticks × IsPrefix before front × (list ≡ front ++ entered ticks)
@@ -153,7 +153,7 @@ abbrev pub UnansweredOnce : Option Dial → ℕ → List Event → List Event �
 UnansweredOnce dial lane before list ClockFault = MissedOnce lane before list
 UnansweredOnce dial lane before list OutOfMemory = TickedOnce dial lane before list
 
--- what a call comes to for who takes a turn
+-- the result of a call that takes a turn, as events of the list
 abbrev pub ComesOnce : State → Option Dial → ℕ → List Event → List Event → Call → Result Answered Unanswered → Type 0
 ComesOnce opening dial lane before list call result =
     MatchResult result (λ a. AnsweredOnce opening dial lane before list call (said_in a)) (UnansweredOnce dial lane before list)

@@ -26,7 +26,7 @@ use rules::Steps;
 use std::alloc::Global;
 use std::sync::ledger::Ledger;
 
-// The miss of what is said: where something couldn't be kept.
+// The miss that goes with a refusal `Unkept`. Other answers have none.
 fn missed_by_said(lane: u32, position: u64, said: &Said) -> Option<Miss>
     ensures { option_to_list result ≡ missed_by lane position said.now }
 {
@@ -41,7 +41,7 @@ fn missed_by_said(lane: u32, position: u64, said: &Said) -> Option<Miss>
     }
 }
 
-// The miss of a clock that has failed.
+// The miss of a clock that failed.
 fn missed_by_clock(lane: u32, position: u64, faults: u64) -> Miss
     ensures { result ≡ miss lane position of.Clock faults }
 {
@@ -53,8 +53,9 @@ fn missed_by_clock(lane: u32, position: u64, faults: u64) -> Miss
     }
 }
 
-// The moment of the clock. Where the clock fails, its miss is added, in room that was taken before. A clock whose count
-// is full isn't asked, since a miss would have no count of its own: that is told as want of memory.
+// Asks the clock for the moment. If the clock fails, its miss is added, in room that was reserved before. If the
+// clock's count is saturated, a miss would have no count of its own, so the clock isn't asked. Then the result is out
+// of memory.
 fn moment_of<K: Keeper, B: Bell, C: Clock>(
     desk: &Desk<K, B>,
     clock: &mut C,
@@ -82,7 +83,7 @@ fn moment_of<K: Keeper, B: Bell, C: Clock>(
     Err(Unanswered::ClockFault)
 }
 
-/// A call of a lane at the clock's moment, over the parts of a shared desk.
+/// Answers a call of a lane at the clock's moment, over the parts of a shared desk.
 pub(crate) fn answer_over<K: Keeper, B: Bell, C: Clock, L: Ledger>(
     alloc: Global,
     desk: &mut Desk<K, B>,

@@ -20,7 +20,7 @@ use std::marker::Brand;
 use std::sync::Wait;
 use std::thread::Threads;
 
-/// What is left once connections were served: the desk, its clock, the door, and how it ended.
+/// The desk, its clock and the door after connections were served, and how the serving ended.
 #[derive(Drop)]
 pub struct Left<K, B, C, D> {
     pub desk: Desk<K, B>,
@@ -29,7 +29,7 @@ pub struct Left<K, B, C, D> {
     pub end: ServeEnd,
 }
 
-// The desk and the clock are as they are named.
+// As `serve_door`, where `A` names the desk and the clock at the opening.
 fn serve_from<
     R: Threads + Wait + Sync,
     K: Keeper + Send,
@@ -74,14 +74,13 @@ where
     }
 }
 
-/// Serves so many connections at a port, in rounds of at most 16 at once, on a desk that was just opened. Each is
-/// served from its acceptance, while the next is waited for, in a thread of its own where one can be had. Its lane is
-/// its number from 1, each of its calls takes a turn of its own, and the gate is called around it. Each link is given
-/// back, in the order of acceptance. A link's own fault ends its connection alone; a fault of the door ends the
-/// serving.
+/// Serves connections at a port over a desk that was just opened, in rounds of at most 16 at once. A connection is
+/// served from its acceptance, in a thread of its own if the machine provides one. Its lane is its number, from 1.
+/// Each of its calls takes a turn of its own. The gate is called around the connection. The links are given back in
+/// the order of acceptance. A fault of a link ends that connection only. A fault of the door ends the serving.
 ///
-/// What all of them did stands in one list, that of the desk's history and of what was missed, which has nothing that
-/// no connection asked for.
+/// Everything that the connections did is in one list, of the desk's history and of the misses. The list contains
+/// nothing that no connection asked for.
 pub fn serve_door<
     R: Threads + Wait + Sync,
     K: Keeper + Send,
@@ -107,10 +106,10 @@ where
         (over (desk_at K.seen) desk result.desk) port connections result.end }
     ensures desk { DeskGoesOn (desk_seen K.seen B.seen desk) (desk_seen K.seen B.seen result.desk) }
     ensures clock { ClockGoesOn (C.seen clock) (C.seen result.clock) }
-    // A fault of the clock isn't passed over: where all was served well, the count stands still.
+    // A fault of the clock is always reported: if the serving ends with `Done`, the clock's count is unchanged.
     ensures still { result.end ≡ ends.Done → IsStill (C.seen clock).health (C.seen result.clock).health }
     ensures door { (D.seen door).health.faults ≤ (D.seen result.door).health.faults }
-    // Neither ends the serving where it is sound, and the door has a link to come for each connection.
+    // A sound clock doesn't end the serving. Neither does a sound door with a link for each connection.
     ensures steady_clock { IsSound (C.seen clock).health → result.end ≢ ends.ClockFault }
     ensures steady_door { IsSound (D.seen door).health → HasLinks (D.seen door).links connections
         → result.end ≢ ends.DoorFault }

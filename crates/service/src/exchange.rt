@@ -27,7 +27,7 @@ use rules::Steps;
 use std::alloc::Global;
 use std::sync::ledger::Ledger;
 
-// A call is made at the clock's moment.
+// Makes a call at the clock's moment.
 fn respond_to_call<K: Keeper, B: Bell, C: Clock, L: Ledger>(
     alloc: Global,
     desk: &mut Desk<K, B>,
@@ -56,7 +56,7 @@ fn respond_to_call<K: Keeper, B: Bell, C: Clock, L: Ledger>(
     }
 }
 
-// What is answered to what a request asks.
+// The response to a request that was read.
 fn respond<K: Keeper, B: Bell, C: Clock, L: Ledger>(
     alloc: Global,
     desk: &mut Desk<K, B>,
@@ -85,7 +85,7 @@ fn respond<K: Keeper, B: Bell, C: Clock, L: Ledger>(
     }
 }
 
-/// The bytes that answer a request.
+/// Answers a request over a desk that isn't shared. Returns the bytes of the response.
 pub fn exchange<K: Keeper, B: Bell, C: Clock, L: Ledger>(
     alloc: Global,
     desk: &mut Desk<K, B>,
@@ -100,7 +100,7 @@ pub fn exchange<K: Keeper, B: Bell, C: Clock, L: Ledger>(
     ensures desk { DeskGoesOn (desk_seen K.seen B.seen desk.old) (desk_seen K.seen B.seen desk.new) }
     ensures clock { ClockGoesOn (C.seen clock.old) (C.seen clock.new) }
     ensures still { result ≢ Err ByClock → IsStill (C.seen clock.old).health (C.seen clock.new).health }
-    // Over a sound clock only want of memory leaves a request without a response.
+    // Over a sound clock, only out of memory leaves a request without a response.
     ensures steady { IsSound (C.seen clock.old).health → result ≢ Err ByClock }
 {
     match requested_by(alloc, patterns, wire) {

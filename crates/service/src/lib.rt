@@ -1,4 +1,4 @@
-//! The desk over HTTP: what each request of a connection is answered, and how connections end.
+//! The desk over HTTP: the response to each request, over one connection or over many that share the desk.
 #![tactic(auto)]
 
 mod answering;

@@ -1,26 +1,26 @@
 use desk_state::Entry;
 
-/// Which object of the outside failed.
+/// Which external object failed.
 #[derive(Clone, Copy, Debug, PartialEq, Eq)]
 pub enum MissOf {
-    /// The keeper: what a call or its tick would have changed isn't done.
+    /// The keeper: it failed to store the changes of a call or of its tick, which weren't made.
     Keeper,
     /// The clock: no call was made.
     Clock,
 }
 
-/// Something that was asked in a lane and not done, since an object of the outside failed.
+/// A request of a lane that wasn't carried out because an external object failed.
 #[derive(Clone, Copy, Debug, PartialEq, Eq)]
 pub struct Miss {
     pub lane: u32,
-    /// How many entries the history had then.
+    /// The number of entries that the history had then.
     pub position: u64,
     pub source: MissOf,
     /// The object's count of faults then.
     pub faults: u64,
 }
 
-/// What a lane leaves behind. No value of it is made.
+/// An event in the list of a shared desk: an entry of its history, or a miss. No value of it exists.
 pub enum Event {
     Entered(Entry),
     Missed(Miss),

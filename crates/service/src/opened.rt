@@ -3,8 +3,8 @@ ghost use Rattle.desk_net.specs.Seen.{ClockSeen};
 
 use std::marker::Brand;
 
-/// How a desk that is shared was opened, and its clock then, which all turns agree about. It has no calls, and no value
-/// of it is made.
+/// The desk and the clock at the opening of a shared desk, to which the contracts of all turns refer. No value of it
+/// exists.
 pub trait Opened {
     ghost desk: { DeskSeen };
 

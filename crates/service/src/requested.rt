@@ -16,11 +16,11 @@ use std::str;
 pub enum Requested {
     /// A call.
     Call(Call),
-    /// A text that is no call, and its first fault.
+    /// A body that is no call, with its first fault.
     Bad(BadCall),
     /// A path that names nothing.
     NoRoute,
-    /// A path that names something by the other method.
+    /// A path that takes the other method.
     WrongMethod,
 }
 
@@ -33,7 +33,7 @@ fn is_short(text: &[u8]) -> bool
     }
 }
 
-// A name or a key of a view. What is no text of at most 64 bytes is taken as empty.
+// The actor or the key of a view. A text that isn't UTF-8 or has more than 64 bytes counts as empty.
 #[tactic(auto, using(crate::proofs::RouteForms::short_short))]
 fn short_or_empty(alloc: Global, text: &[u8]) -> Result<Text, OutOfMemory>
     ensures exact { IfOk result (λ t. t ≡ spec.short_or_empty text.now) }
@@ -46,7 +46,7 @@ fn short_or_empty(alloc: Global, text: &[u8]) -> Result<Text, OutOfMemory>
     }
 }
 
-// A view that is asked for by the name and the key of a request's head.
+// A view, with the actor and the key from the request's head.
 fn view_by(alloc: Global, wire: &Wire, ask: Ask) -> Result<Requested, OutOfMemory>
     requires { AskHasForms ask }
     ensures asked { IfOk result (λ r. r ≡ spec.viewed wire.now ask) }
@@ -62,7 +62,7 @@ fn view_by(alloc: Global, wire: &Wire, ask: Ask) -> Result<Requested, OutOfMemor
     }))
 }
 
-// The call that a body is, or its first fault.
+// The call in a body, or the body's first fault.
 fn of_text(alloc: Global, body: &[u8]) -> Result<Requested, OutOfMemory>
     ensures asked { IfOk result (λ r. r ≡ spec.of_text (call_or_fault body.now)) }
     ensures forms { IfOk result RequestedHasForms }
@@ -89,8 +89,8 @@ fn asked_by(alloc: Global, wire: &Wire, routed: Routed) -> Result<Requested, Out
     }
 }
 
-/// What a request asks of the desk. The path comes first, then the method. A view is asked for by the name and the key
-/// of the request's head, under the number 0.
+/// What a request asks of the desk. The path is checked before the method. A view has the actor and the key from the
+/// request's head, and the number 0.
 #[tactic(auto, unfolding(crate::specs::Requested::requested_by))]
 pub fn requested_by(
     alloc: Global,

@@ -11,7 +11,7 @@ use desk_io::{OutOfMemory, Text};
 use desk_state::Said;
 use std::alloc::Global;
 
-/// The response to what is said.
+/// The response with the reply to a call, or with the fault of a text that is no call.
 pub fn response_to(alloc: Global, said: &Said) -> Result<Response, Unanswered>
     requires { CanBeSaid said.now }
     ensures ok { IfOk result (λ r. r ≡ said_response said.now) }
@@ -24,7 +24,7 @@ pub fn response_to(alloc: Global, said: &Said) -> Result<Response, Unanswered>
     }
 }
 
-/// The response to what is no call.
+/// The response to a request that makes no call.
 pub fn response_without(alloc: Global, requested: &Requested) -> Result<Response, OutOfMemory>
     requires { makes_call requested.now ≡ false }
     ensures ok { IfOk result (λ r. r ≡ uncalled_response requested.now) }
@@ -38,7 +38,7 @@ pub fn response_without(alloc: Global, requested: &Requested) -> Result<Response
     }
 }
 
-/// The bytes of a response, where there is one.
+/// The bytes of a response, if there is one.
 pub fn text_of(alloc: Global, responded: Result<Response, Unanswered>) -> Result<Text, Unanswered>
     requires { IfOk responded (λ r. IsStatusCode r.status) }
     ensures { IsTextOf responded result }

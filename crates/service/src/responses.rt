@@ -15,7 +15,7 @@ use desk_json::bad_text;
 use desk_state::Said;
 use std::alloc::Global;
 
-/// What is answered to a request: a status of three digits, and a JSON body.
+/// The response to a request: a status of three digits, and a JSON body.
 #[derive(Drop)]
 pub struct Response {
     pub status: u16,
@@ -31,7 +31,7 @@ impl Response {
         response(alloc, self.status, self.body.bytes())
     }
 
-    /// What is said of a call.
+    /// The response with the reply to a call, or with the fault of a text that is no call.
     pub fn of_said(alloc: Global, said: &Said) -> Result<Response, OutOfMemory>
         requires { CanBeSaid said.now }
         ensures status { IfOk result (λ r. r.status ≡ statuses.status_of said.now) }
@@ -45,7 +45,7 @@ impl Response {
         })
     }
 
-    /// The first fault of a text that is no call.
+    /// The response to a body that is no call: status 400, with the first fault.
     pub fn of_bad(alloc: Global, fault: &BadCall) -> Result<Response, OutOfMemory>
         ensures status { IfOk result (λ r. r.status ≡ 400) }
         ensures body { IfOk result (λ r. r.body ≡ text_of_bad fault.now) }
@@ -54,7 +54,7 @@ impl Response {
         Ok(Response { status: 400, body })
     }
 
-    /// A path that names nothing.
+    /// The response to a path that names nothing: status 404.
     pub fn no_route(alloc: Global) -> Result<Response, OutOfMemory>
         ensures { IfOk result (λ r. r ≡ spec.failing 404 (codes "NoRoute")) }
     {
@@ -62,7 +62,7 @@ impl Response {
         Ok(Response { status: 404, body })
     }
 
-    /// A path that names something by the other method.
+    /// The response to a path that takes the other method: status 405.
     pub fn wrong_method(alloc: Global) -> Result<Response, OutOfMemory>
         ensures { IfOk result (λ r. r ≡ spec.failing 405 (codes "WrongMethod")) }
     {

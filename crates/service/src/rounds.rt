@@ -44,7 +44,7 @@ fn serve_counted<R: Wait, K: Keeper, B: Bell, N: Link, C: Clock, A: Opened, L: L
     (Visited { link, served }, pass)
 }
 
-// Serves a connection by turns, and ends its link. How many plans are judged isn't counted.
+// Serves a connection in turns, and ends its link. Doesn't count the plans that it judges.
 fn serve_own<R: Wait, K: Keeper, B: Bell, N: Link, C: Clock, A: Opened>(
     rt: &R,
     alloc: Global,
@@ -63,7 +63,7 @@ fn serve_own<R: Wait, K: Keeper, B: Bell, N: Link, C: Clock, A: Opened>(
     serve_counted::<R, K, B, N, C, A, Brand>(rt, alloc, lock, pass, lane, link, Blank::new(1))
 }
 
-/// The way in which a connection is served over a desk that is shared. The gate is called around it.
+/// Serves connections over a shared desk. The gate is called around each.
 #[derive(Drop)]
 pub(crate) struct OnDesk<'a, G> {
     pub gate: &'a G,

@@ -18,7 +18,7 @@ use std::alloc::Global;
 use std::sync::Wait;
 use std::sync::ledger::Ledger;
 
-// The next request, or the end.
+// Serves the next request, or ends the connection.
 fn serve_next<K: Keeper, B: Bell, N: Link, C: Clock, L: Ledger>(
     alloc: Global,
     desk: &mut Desk<K, B>,
@@ -46,14 +46,12 @@ fn serve_next<K: Keeper, B: Bell, N: Link, C: Clock, L: Ledger>(
     }
 }
 
-/// Serves a connection: its requests are answered in their turn, each call at the moment that the clock gives for it,
-/// until it ends.
+/// Serves a connection over a desk that isn't shared: answers its requests in order until the connection ends. Each
+/// call is made at the moment that the clock returns for it. Between two requests the wait may be unlimited.
 ///
-/// What was written is the responses to the requests of the link's bytes, each with the status and the body of what it
-/// was answered, and, where a request can't be read, the answer that ends the connection. Only the answer that was
-/// being written when the link failed, which a sound one never does, or when memory ran out, may be cut or missing. A
-/// fault of reading ends it only where all requests that were read whole are answered. Between two requests it may wait
-/// for ever.
+/// The bytes written are the responses to the requests in the link's input. A request that is refused as malformed
+/// gets a response that ends the connection. Only the last response may be cut or missing, if the link failed while
+/// it was written or memory ran out. After a fault of reading, all requests that were read whole have been answered.
 pub fn serve_link<R: Wait, K: Keeper, B: Bell, N: Link, C: Clock, L: Ledger>(
     rt: &R,
     alloc: Global,
@@ -67,12 +65,12 @@ pub fn serve_link<R: Wait, K: Keeper, B: Bell, N: Link, C: Clock, L: Ledger>(
         (over (desk_at K.seen) desk.old desk.new) result }
     ensures desk { DeskGoesOn (desk_seen K.seen B.seen desk.old) (desk_seen K.seen B.seen desk.new) }
     ensures clock { ClockGoesOn (C.seen clock.old) (C.seen clock.new) }
-    // A fault of the clock ends the connection as such, or by want of memory: however else it ends, the count stands
-    // still.
+    // A fault of the clock ends the connection with `ClockFault` or `OutOfMemory`. If it ends otherwise, the clock's
+    // count is unchanged.
     ensures still { result ≢ ended.ClockFault → result ≢ ended.OutOfMemory → IsStill (C.seen clock.old).health
         (C.seen clock.new).health }
     ensures link { LinkGoesOn (N.seen link.old) (N.seen link.new) }
-    // Neither ends it where it is sound.
+    // A sound clock doesn't end the connection, and neither does a sound link.
     ensures steady_clock { IsSound (C.seen clock.old).health → result ≢ ended.ClockFault }
     ensures steady_link { IsSound (N.seen link.old).health → (result ≢ ended.ReadFault) × (result ≢ ended.WriteFault) }
 {

@@ -24,7 +24,7 @@ use std::marker::{Model, PhantomData};
 use std::sync::ledger::Ledger;
 use turn_lock::Listed;
 
-/// A desk with its clock, and the misses so far.
+/// A desk that connections share, its clock, and the misses so far.
 #[derive(Drop)]
 pub struct Shared<K: Keeper, B: Bell, C: Clock, A: Opened> {
     desk: Desk<K, B>,
@@ -60,7 +60,7 @@ impl<K: Keeper, B: Bell, C: Clock, A: Opened> Listed for Shared<K, B, C, A> {
 }
 
 impl<K: Keeper, B: Bell, C: Clock, A: Opened> Shared<K, B, C, A> {
-    /// A desk that was just opened, with its clock. It takes no memory.
+    /// Starts with a desk that was just opened, and its clock. Allocates nothing.
     pub fn new(alloc: Global, desk: Desk<K, B>, clock: C) -> Shared<K, B, C, A>
         requires desk { desk_seen K.seen B.seen desk ≡ A.desk }
         requires clock { C.seen clock ≡ A.clock }
@@ -76,7 +76,7 @@ impl<K: Keeper, B: Bell, C: Clock, A: Opened> Shared<K, B, C, A> {
         }
     }
 
-    /// The desk and its clock, and what held of them at every turn.
+    /// Returns the desk and its clock.
     pub fn into_parts(self) -> (Desk<K, B>, C)
         ensures parts { result ≡ (self.desk, self.clock) }
         ensures since { IsSharedSince A.desk A.clock (seen_by K.seen B.seen C.seen self) }
@@ -85,7 +85,7 @@ impl<K: Keeper, B: Bell, C: Clock, A: Opened> Shared<K, B, C, A> {
         (desk, clock)
     }
 
-    /// A call of a lane at the clock's moment. What it adds stands at the end of the one list.
+    /// Answers a call of a lane at the clock's moment. The events that it adds come at the end of the list.
     pub fn answer<L: Ledger>(
         &mut self,
         alloc: Global,
@@ -103,7 +103,7 @@ impl<K: Keeper, B: Bell, C: Clock, A: Opened> Shared<K, B, C, A> {
         ensures shown { IfOk result (λ a. IsShown a.outcome) }
         ensures still { result ≢ Err ByClock
             → IsStill (C.seen self.old.clock).health (C.seen self.new.clock).health }
-        // A clock that is sound never leaves a call without an answer.
+        // A sound clock never leaves a call without an answer.
         ensures steady { IsSound A.clock.health → result ≢ Err ByClock }
     {
         if self.misses.len() >= MOST {
@@ -124,5 +124,5 @@ impl<K: Keeper, B: Bell, C: Clock, A: Opened> Shared<K, B, C, A> {
     }
 }
 
-// So many misses are never reached, and the number of all events stays one of 64 bits.
+// The limit on misses. No machine holds so many, and the number of all events stays within 64 bits.
 const MOST: usize = 1 << 62;

@@ -51,10 +51,10 @@ fn status_of_reply(reply: &Reply) -> u16
     }
 }
 
-/// The status that goes with what is said of a call (RFC 9110, section 15):
+/// The HTTP status for a reply, or for the fault of a text that is no call (RFC 9110, section 15):
 ///
-/// - 200: it was accepted, or shows what it asked to see;
-/// - 400: a text is no call;
+/// - 200: the call was accepted, or its view is shown;
+/// - 400: the text is no call;
 /// - 401: `UnknownActor`, `WrongKey`;
 /// - 403: `NotYourRole`, `NotYours`;
 /// - 404: `UnknownTail`, `NoSuchDeferral`, `NoSuchRelease`, `NoSuchAlert`, `NoSuchStation`, `UnknownItem`;

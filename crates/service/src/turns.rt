@@ -37,7 +37,7 @@ use std::sync::Wait;
 use std::sync::ledger::Ledger;
 use turn_lock::{Pass, TurnLock};
 
-// What a call is answered, in a turn of its own.
+// Answers a call in a turn of its own.
 fn respond_to_call_in_turn<R: Wait, K: Keeper, B: Bell, C: Clock, A: Opened, L: Ledger>(
     rt: &R,
     alloc: Global,
@@ -68,7 +68,7 @@ fn respond_to_call_in_turn<R: Wait, K: Keeper, B: Bell, C: Clock, A: Opened, L: 
     }
 }
 
-// What is answered to what a request asks. Only a call takes a turn.
+// The response to a request that was read. Only a call takes a turn.
 fn respond_in_turn<R: Wait, K: Keeper, B: Bell, C: Clock, A: Opened, L: Ledger>(
     rt: &R,
     alloc: Global,
@@ -101,7 +101,7 @@ fn respond_in_turn<R: Wait, K: Keeper, B: Bell, C: Clock, A: Opened, L: Ledger>(
     }
 }
 
-// The bytes that answer a request.
+// The bytes of the response to a request.
 fn exchange_in_turn<R: Wait, K: Keeper, B: Bell, C: Clock, A: Opened, L: Ledger>(
     rt: &R,
     alloc: Global,
@@ -133,7 +133,7 @@ fn exchange_in_turn<R: Wait, K: Keeper, B: Bell, C: Clock, A: Opened, L: Ledger>
     }
 }
 
-// The next request, or the end.
+// Serves the next request, or ends the connection.
 fn serve_next_in_turn<R: Wait, K: Keeper, B: Bell, N: Link, C: Clock, A: Opened, L: Ledger>(
     rt: &R,
     alloc: Global,
@@ -169,14 +169,16 @@ fn serve_next_in_turn<R: Wait, K: Keeper, B: Bell, N: Link, C: Clock, A: Opened,
     }
 }
 
-/// Serves a connection: its requests are answered in their turn, each call in a turn of the lock and at the moment that
-/// the clock gives for it, until it ends.
+/// Serves a connection over a shared desk: answers its requests in order until the connection ends. Each call takes a
+/// turn at the lock, and is made at the moment that the clock returns in that turn.
 ///
-/// What was written is the responses to the requests of the link's bytes. Each reply has a place in the list that the
-/// pass has seen then, in order and not before what it had seen; it is the answer there, and what it adds stands there.
-/// The lane has added nothing else, but after all of these the miss of a clock that failed, or at most a tick where
-/// memory ran out. Where what the pass had seen is the list of a shared desk, a legal history with its misses, so is
-/// what it has seen then.
+/// The bytes written are the responses to the requests in the link's input. Each reply has a place in the list that
+/// the pass has seen at the end. The places are in order, after the list that the pass had seen before. A reply is
+/// the answer in the state at its place, and the events that it adds follow there.
+///
+/// The lane has added nothing else, except at the end: a clock that failed leaves its miss there. If memory ran out,
+/// at most a tick is left. If the list before is that of a shared desk, a legal history with its misses, so is the
+/// list at the end.
 pub fn serve_turns<R: Wait, K: Keeper, B: Bell, N: Link, C: Clock, A: Opened, L: Ledger>(
     rt: &R,
     alloc: Global,
@@ -196,7 +198,7 @@ pub fn serve_turns<R: Wait, K: Keeper, B: Bell, N: Link, C: Clock, A: Opened, L:
         (GoesInTurns A.desk.opening A.clock.dial lane (pass_seen pass) (pass_seen result.1)) failed
         (unread (N.seen link.old).stream) (unread (N.seen link.new).stream) result.0) }
     ensures link { LinkGoesOn (N.seen link.old) (N.seen link.new) }
-    // Neither ends it where it is sound.
+    // A sound clock doesn't end the connection, and neither does a sound link.
     ensures steady_clock { IsSound A.clock.health → result.0 ≢ ended.ClockFault }
     ensures steady_link { IsSound (N.seen link.old).health
         → (result.0 ≢ ended.ReadFault) × (result.0 ≢ ended.WriteFault) }

@@ -1,5 +1,4 @@
-//! A small airline for tests: the texts of its thirteen tables, its scripts and reports, and whether plans and
-//! phases have the form in which they may be checked.
+//! A small airline for tests: its thirteen tables, a script and reports, and whether plans and phases can be checked.
 #![tactic(auto)]
 
 mod plans;
@@ -14,7 +13,7 @@ pub use scripts::{SIGNED, push_script, script_of};
 use std::alloc::Global;
 use table_files::{TableFault, read_tables};
 
-// A small airline: the name of each table and its lines, with a line of dashes between tables.
+// The name and the lines of each table. A line of dashes separates two tables.
 const SMALL: &str =
     "settings.csv\nname,value\nhold_minutes,60\nmarginal_ceiling,200\nsingle_ceiling,400\ndouble_ceiling,200\nmarginal_vis16,8\nsingle_vis16,16\ndouble_vis16,8\nlate_off,60\nlate_on,30\n--\n\
     airports.csv\nstation,conus,circle\nKBOS,1,0\nKJFK,1,0\nKPHL,1,0\nEGLL,0,0\nEINN,0,0\n--\n\
@@ -30,7 +29,7 @@ const SMALL: &str =
     actors.csv\nname,key,role\nD1,kD1,D\nD2,kD2,D\nC7,kC7,C\nC9,kC9,C\nF1,kF1,F\nM1,kM1,M\nS1,kS1,S\n--\n\
     hours.csv\ncaptain,kind,hours\nC7,A320,250\nC7,B763,400\n";
 
-/// Adds the files of the small airline. Of two sources with one name the first counts.
+/// Adds the files of the small airline. If two sources have the same name, the first counts.
 pub fn push_small(alloc: Global, sources: &mut Vec<(Text, Text)>) -> Result<(), OutOfMemory> {
     for table in SMALL.split("--\n") {
         if let Some((name, lines)) = table.split_once("\n") {
@@ -58,7 +57,7 @@ pub fn shelf_with(alloc: Global, other: &str, text: &[u8]) -> Result<MemoryShelf
     Ok(MemoryShelf::new(sources, Vec::new(alloc)))
 }
 
-/// The same with other records under the header of that table.
+/// The files of the small airline, with other records under the header of one table.
 pub fn shelf_of(alloc: Global, other: &str, records: &[u8]) -> Result<MemoryShelf, OutOfMemory> {
     let header = match lines_of(other).split_once("\n") {
         Some((header, _)) => header,
@@ -81,7 +80,7 @@ pub fn small_tables(alloc: Global) -> Result<Tables, TableFault> {
     tables_of(alloc, "routes.csv", b"")
 }
 
-/// Whether a test holds of the tables of the small airline, with other records in one of them.
+/// Whether a test holds for the tables of the small airline, with other records in one of them.
 pub fn holds_with(
     alloc: Global,
     other: &str,
@@ -94,7 +93,7 @@ pub fn holds_with(
     Ok(test(alloc, &tables)?)
 }
 
-/// Whether a test holds of the tables of the small airline.
+/// Whether a test holds for the tables of the small airline.
 pub fn holds(
     alloc: Global,
     test: fn(Global, &Tables) -> Result<bool, OutOfMemory>,

@@ -26,7 +26,7 @@ fn have_moments(legs: &[Leg]) -> bool
     true
 }
 
-/// Whether a plan has at most 1,000 legs, and its moments can be read and shown.
+/// Whether a plan has at most 1,000 legs, and the moments of each can be read and shown.
 pub fn may_be_checked(plan: &Plan) -> bool
     ensures { IsTrue result → IsPlan plan.now }
 {
@@ -34,7 +34,7 @@ pub fn may_be_checked(plan: &Plan) -> bool
     legs.len() <= 1_000 && have_moments(legs)
 }
 
-/// Whether the moment of a phase can be read and shown, where it has one.
+/// Whether the moment of a phase, if it has one, can be read and shown.
 pub fn has_moment(phase: Phase) -> bool
     ensures { IsTrue result → HasMoment phase }
 {

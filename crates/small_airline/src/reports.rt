@@ -6,7 +6,7 @@ use desk_time::Minute;
 use facts::{Received, Report, Reports, receive};
 use std::alloc::Global;
 
-/// 2025-03-12 00:00.
+/// 2025-03-12T00:00Z.
 pub const DAY: Minute = 29_028_960;
 
 fn report(alloc: Global, id: u64, text: &[u8]) -> Result<Report, ReportFault>
@@ -29,7 +29,7 @@ fn is_above(reports: &[Report], id: u64) -> bool
     reports.iter().all(|held| held.id < id)
 }
 
-/// Admits a report that came at 17:40 of that day, under a number above all.
+/// Admits a report received at 17:40 on `DAY`, if its id is above all others.
 pub fn admit(
     alloc: Global,
     reports: &mut Reports,
@@ -44,7 +44,7 @@ pub fn admit(
     Ok(())
 }
 
-/// Reports that came at 17:40 of that day, under numbers that rise.
+/// Reports received at 17:40 on `DAY`. A report is skipped if its id isn't above all before it.
 pub fn reports_of(alloc: Global, rows: &[(u64, &[u8])]) -> Result<Reports, ReportFault> {
     let mut reports = Reports::new(alloc);
     for (id, text) in rows {

@@ -1,7 +1,8 @@
 use desk_io::{OutOfMemory, push_all};
 use std::alloc::Global;
 
-/// Three forecasts, and a release that is drafted and signed by both, as `push_script` reads it.
+/// Three forecasts, and a release that is drafted and then signed by dispatcher and captain. `push_script` reads
+/// these lines.
 pub const SIGNED: &str =
     r#"F1 1 17:25 "do":"admit","text":"TAF KBOS 121720Z 1218/1324 24010KT P6SM SCT040"
 F1 2 17:25 "do":"admit","text":"TAF KJFK 121720Z 1218/1324 24010KT P6SM BKN030"
@@ -43,7 +44,8 @@ fn parts_of(line: &str) -> Option<(&str, &str, &str, &str)> {
     Some((actor, number, time, ask))
 }
 
-/// Adds the lines of a script that these lines say, each with who asks under which number, when on 2025-03-12 and what.
+/// Adds the lines of a script. Each given line has a person, a number, a time on 2025-03-12 and the members of an
+/// ask, with a blank between any two.
 pub fn push_script(script: &mut Vec<u8>, lines: &str) -> Result<(), OutOfMemory> {
     for line in lines.split("\n") {
         if let Some((actor, number, time, ask)) = parts_of(line) {
@@ -53,7 +55,7 @@ pub fn push_script(script: &mut Vec<u8>, lines: &str) -> Result<(), OutOfMemory>
     Ok(())
 }
 
-/// The script that such lines say, in two parts.
+/// The script of such lines, which are given in two parts.
 pub fn script_of(alloc: Global, lines: &str, more: &str) -> Result<Vec<u8>, OutOfMemory> {
     let mut script = Vec::new(alloc);
     push_script(&mut script, lines)?;

@@ -1,4 +1,4 @@
--- What a keeper leaves that lets its file go.
+-- What remains when a keeper closes its file.
 use Rattle.std.specs.Prelude.{◌≡◌, Option, None, Some}
 use Rattle.sqlite.specs.Closing.{IsCopied}
 use Rattle.sqlite.specs.Held.{Held}
@@ -7,8 +7,8 @@ use Rattle.sqlite_disk.specs.declared.Files.{Files}
 use Rattle.sqlite_store.specs.declared.store.FileStore.{FileStore}
 use Rattle.sqlite_wal.specs.Reads.{AreClean}
 
--- The file alone holds the last commit, without the log, and it does so after a crash too, while the disk returns what was written. Where
--- none was opened there is none.
+-- The file alone holds the last commit, without the log and even after a crash, as long as the disk returns what was
+-- written. If no file was opened, there are no files.
 abbrev pub LeavesAll : {D : Type 0} {g : Ghosts D} → Option (Held (FileStore D g)) → Option (Files D) → Type 0
 LeavesAll None files = files ≡ None
 LeavesAll (Some conn) None = ⊥

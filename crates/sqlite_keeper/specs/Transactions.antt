@@ -1,4 +1,4 @@
--- What the engine does for the desk, as its own contracts tell it, while its disk returns what was written.
+-- What the engine does for the keeper, by its own contracts, while its disk returns what was written.
 use Rattle.std.specs.Prelude.{◌≡◌, ◌⊎◌, ℕ, true, false, List, [], ◌∷◌, map, Result, Ok, Err, IsTrue, MatchBool, MatchResult}
 use Rattle.desk_io.specs.declared.rows.Row.{Row}
 use Rattle.desk_io.specs.declared.rows.Change.{Change}
@@ -15,7 +15,7 @@ use Rattle.sqlite_keeper.specs.declared.trouble.Trouble.TheVariants.{Refused, Lo
 use Rattle.sqlite_keeper.specs.Troubles.{trouble_of, answer_of}
 use Rattle.sqlite_keeper.specs.Statements.{table_text, schema_text, all_text, line_of, columns, statement_of, values_of, Fits}
 
--- nothing was committed and no transaction goes on, unless the connection is shut
+-- no transaction is open; unless the connection is closed, nothing was committed
 pub record IsUndone (old new : State) : Type 0 where
   pub ended : new.in_transaction ≡ false
   pub was_open : IsTrue new.is_open → IsTrue old.is_open
@@ -26,18 +26,18 @@ module _ {S : Type 0} (g : Ghosts S) where
   abbrev pub IsClean : Held S → Type 0
   IsClean conn = HasCleanDisk (state g conn)
 
-  -- the statement was executed inside a transaction, and this is what came of it
+  -- the statement was executed inside a transaction, with this result
   abbrev pub IsRun : List ℕ → Line → Held S → Held S → Result (Unit {0}) Trouble → Type 0
   IsRun text values old new r =
       (outcome : Result ℕ Error) × ExecutesInside 0 text values (state g old) (state g new) outcome × (r ≡ answer_of outcome)
 
-  -- a change was made by its statement, or it can't be made and nothing was executed
+  -- a change was executed by its statement, or it can't be stored and was refused
   abbrev pub Makes : Change → Held S → Held S → Result (Unit {0}) Trouble → Type 0
   Makes change old new r =
       (Fits change × IsRun (statement_of change) (values_of change) old new r)
       ⊎ ((¬ Fits change) × (r ≡ Err Refused) × (new ≡ old))
 
-  -- the changes were made, each in its turn, up to the first that wasn't
+  -- the changes were made in order, up to the first that failed
   abbrev pub MakesEach : List Change → Held S → Held S → Result (Unit {0}) Trouble → Type 0
   MakesEach [] old new r = (r ≡ Ok tt) × (new ≡ old)
   MakesEach (change ∷ changes) old new r =
@@ -53,27 +53,27 @@ module _ {S : Type 0} (g : Ghosts S) where
     pub made : MakesEach changes (begun old) last (Ok tt)
     pub committed : Commits (state g last) (state g new)
 
-  -- why a transaction wasn't committed: a change wasn't made, or the commit failed
+  -- why a transaction wasn't committed: a change failed, or the commit failed
   abbrev pub Stops : List Change → Held S → Held S → Trouble → Type 0
   Stops changes old new why =
       ((last : Held S) × MakesEach changes (begun old) last (Err why))
       ⊎ ((last : Held S) × (e : Error) × MakesEach changes (begun old) last (Ok tt) × FailsToCommit (state g last) (state g new) e × (why ≡ trouble_of e))
 
-  -- All changes in one transaction, or none of them. Where another transaction goes on nothing is done.
+  -- All changes are made in one transaction, or none of them. If another transaction is open, nothing is done.
   abbrev pub Changes : List Change → Held S → Held S → Result (Unit {0}) Trouble → Type 0
   Changes changes old new r =
       MatchBool old.in_transaction ((r ≡ Err Lost) × (new ≡ old))
       (MatchResult r (λ _. CommitsAll changes old new) (λ why. IsUndone (state g old) (state g new) × Stops changes old new why))
 
-  -- the tables are as after all changes
+  -- the contents of the database after all changes
   abbrev pub IsAfter : List Change → Held S → Trees → Type 0
   IsAfter changes old db = (last : Held S) × MakesEach changes (begun old) last (Ok tt) × (db ≡ (state g last).now.trees)
 
-  -- the rows are those that the engine shows
+  -- the rows are those that the engine returned
   abbrev pub ShowsAll : Held S → Held S → List Row → Type 0
   ShowsAll old new rows = (lines : List Line) × Shown all_text [] (state g old) (state g new) lines × (map columns lines ≡ map line_of rows)
 
-  -- the table was there with the desk's text, or nothing of that name was and it was made
+  -- the desk's table was there, or nothing of that name was and the table was created
   abbrev pub HasTable : Held S → Held S → Type 0
   HasTable old new =
       (mid : Held S) × (lines : List Line) × Shown schema_text [] (state g old) (state g mid) lines

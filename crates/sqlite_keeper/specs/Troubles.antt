@@ -1,4 +1,4 @@
--- Which trouble an answer of the engine is.
+-- How errors of the engine become troubles and faults of the keeper.
 use Rattle.std.specs.Prelude.{ℕ, Bool, true, false, if◌then◌else◌, Result, Ok, Err}
 use Rattle.sqlite.specs.declared.error.Error.{Error}
 use Rattle.sqlite.specs.declared.error.Error.TheVariants.{SqliteFailure, SqlInputError}
@@ -10,23 +10,23 @@ use Rattle.sqlite_keeper.specs.declared.trouble.Trouble.TheVariants.{OutOfMemory
 use Rattle.keeper.specs.declared.keeping.KeepFault.{KeepFault}
 use Rattle.keeper.specs.declared.keeping.KeepFault.TheVariants as keep
 
--- the three ways in which the engine says that memory ran out
+-- the three errors by which the engine reports that memory ran out
 abbrev pub is_memory : Error → Bool
 is_memory (SqliteFailure code.OutOfMemory) = true
 is_memory (SqlInputError compile.OutOfMemory) = true
 is_memory (SqlInputError (compile.Parse parse.OutOfMemory)) = true
 is_memory _ = false
 
--- after any other error the file is lost
+-- any error except out of memory loses the file
 abbrev pub trouble_of : Error → Trouble
 trouble_of e = if is_memory e then OutOfMemory else Lost
 
--- what a statement came to
+-- the result of a statement
 abbrev pub answer_of : Result ℕ Error → Result (Unit {0}) Trouble
 answer_of (Ok count) = Ok tt
 answer_of (Err e) = Err (trouble_of e)
 
--- what a keeper answers: want of memory, or that it failed
+-- the fault that a keeper returns: out of memory, or failed
 abbrev pub told : {T : Type 0} → Result T Trouble → Result T KeepFault
 told (Ok x) = Ok x
 told (Err OutOfMemory) = Err keep.OutOfMemory

@@ -19,21 +19,21 @@ use sqlite_pager::Options;
 use std::alloc::Global;
 use std::hash::{BuildHasher, RandomState};
 
-// The log is brought into the file once it has this many pages, four or five for a commit. Only when the file is let
-// go it is cut to nothing, so that this, a megabyte with what is written ahead, is what it takes of a small disk.
+// The write-ahead log is checkpointed into the file once it has this many pages. A commit adds four or five. The log
+// is truncated only when the file is closed, so that it takes about a megabyte of the disk.
 const PAGES_OF_LOG: usize = 200;
 
-/// Keeps rows in the table `kept` of a file of SQLite. It tells no rows, and each failure but want of
-/// memory is a counted fault. The first load opens the file, and from then on it holds the file's lock,
-/// so that no other program opens or changes it. A commit is one transaction, and on the disk once it
-/// is answered.
+/// Keeps rows in the table `kept` of an SQLite database file. Contracts don't know the rows. Every failure is a
+/// counted fault, except out of memory.
 ///
-/// Before a load that succeeds it takes no commit. Where the file fails it is let go, since what became
-/// of the latest commit isn't known: no commit is taken until a load has opened it and found that out.
+/// The first load opens the file. From then on the keeper holds the file's lock, so that no other program opens or
+/// changes it. A commit is one transaction, and is on the disk once `commit` returns `Ok`.
 ///
-/// Its clauses say which statements the engine executed, committed and showed, as the engine's own
-/// contracts tell it, while its disk returns what was written (`IsClean`). What stands in the file is the
-/// engine's.
+/// The keeper accepts no commit before a successful load. If the file fails, the keeper closes it, because it can't
+/// know whether the latest commit was made. It then accepts no commit until a load has reopened the file.
+///
+/// Its contracts state which statements the engine executed, committed and returned, by the engine's own contracts.
+/// They hold while the disk returns what was written (`IsClean`). The contents of the file are left to the engine.
 #[derive(Drop)]
 pub struct KeeperOver<C: Drop> {
     rt: HostRuntime,
@@ -43,10 +43,10 @@ pub struct KeeperOver<C: Drop> {
     faults: u64,
 }
 
-/// A keeper over a file.
+/// A keeper over a database file.
 pub type SqliteKeeper = KeeperOver<Connection<FileStore<File>>>;
 
-// The seed makes the salts of the log.
+// The seed makes the salts of the write-ahead log.
 fn options(rt: &HostRuntime) -> Result<Options, Trouble> {
     let Ok(state) = RandomState::new(rt) else {
         return Err(Trouble::Lost);
@@ -89,7 +89,7 @@ impl<C: Drop> KeeperOver<C> {
         KeepFault::Failed
     }
 
-    // Lets the file go, and counts a fault.
+    // Closes the file, and counts a fault.
     fn lose(&mut self) -> KeepFault
         ensures failed { result ≡ KeepFault.Failed }
         ensures let_go { self.new.conn ≡ None }
@@ -103,7 +103,7 @@ impl<C: Drop> KeeperOver<C> {
 }
 
 impl KeeperOver<Connection<FileStore<File>>> {
-    /// A keeper of the rows in the file at that path. It opens nothing yet.
+    /// Creates a keeper of the rows in the file at `path`. Opens nothing yet.
     pub fn new(rt: HostRuntime, path: String) -> SqliteKeeper
         ensures faults { result.faults ≡ 0 }
         ensures commits { result.commits ≡ 0 }
@@ -117,7 +117,7 @@ impl KeeperOver<Connection<FileStore<File>>> {
         }
     }
 
-    // Opens the file, and holds it on where its rows can be read.
+    // Opens the file, and keeps it open if its rows can be read.
     fn open_rows(&mut self, alloc: Global) -> Result<Vec<Row>, Trouble>
         ensures rising { IfOk result (λ rows. IsTrue (rising rows.items)) }
         ensures rows { self.old.conn ≡ None → IfOk result (λ rows. IsSomeAnd self.new.conn
@@ -145,9 +145,8 @@ impl KeeperOver<Connection<FileStore<File>>> {
         Ok(rows)
     }
 
-    /// Lets the file go at the end of a run: what was committed is brought from the log beside it into the file itself,
-    /// and the file and the log are given back. There are none where none were opened. Where this fails nothing is
-    /// lost, since the log has it still.
+    /// Closes the file at the end of a run. Checkpoints the log into the file and returns both, or None if no file
+    /// was opened. If this fails, nothing is lost, because the log still holds what was committed.
     pub fn leave(self) -> Result<Option<Files<File>>, KeepFault>
         ensures { IfOk result (λ files. LeavesAll self.conn files) }
     {
@@ -184,10 +183,10 @@ impl Keeper for KeeperOver<Connection<FileStore<File>>> {
         ensures none { self.new.commits ≡ self.old.commits }
         ensures on { GoesOn (unsound self.old.faults) (unsound self.new.faults) }
         ensures cause { HasCause KeepFailed (unsound self.old.faults) (unsound self.new.faults) result }
-        // The file is held, and the rows are those that the engine shows.
+        // The file is open, and the rows are those that the engine returned.
         ensures loaded { IfOk result (λ rows. IsSomeAnd self.new.conn
             (λ conn. IsClean over_files conn → LoadsOver over_files self.old.conn conn rows.items)) }
-        // A file that failed is let go.
+        // A file that failed is closed.
         ensures let_go { IsErrOf result KeepFailed → self.new.conn ≡ None }
     {
         match self.load_rows(alloc) {
@@ -201,7 +200,7 @@ impl Keeper for KeeperOver<Connection<FileStore<File>>> {
         ensures one { self.new.commits ≡ after self.old.commits }
         ensures on { GoesOn (unsound self.old.faults) (unsound self.new.faults) }
         ensures cause { HasCause KeepFailed (unsound self.old.faults) (unsound self.new.faults) result }
-        // All changes in one transaction, or none; before a load none.
+        // All changes are made in one transaction, or none of them. Before a load, none is made.
         ensures made { CommitsOver over_files changes.now self.old.conn self.new.conn result }
     {
         self.commits = self.commits.saturating_add(1);

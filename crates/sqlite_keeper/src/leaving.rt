@@ -14,7 +14,8 @@ fn fault_of(error: Error) -> KeepFault {
     }
 }
 
-/// Copies the log into the file, and gives both back. The file alone then holds the last commit, over a crash too.
+/// Checkpoints the log into the file, and returns both. The file alone then holds the last commit, even after a
+/// crash.
 pub(crate) fn copied<D: Disk + Drop>(conn: Connection<FileStore<D>>) -> Result<Files<D>, KeepFault>
     ensures { IfOk result (λ files. AreClean D.Disk files.log files.db → IsCopied conn files) }
 {

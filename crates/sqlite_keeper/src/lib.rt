@@ -1,4 +1,4 @@
-//! The desk's rows in one table of a file that sqlite3 reads.
+//! Keeps the desk's rows in one table of a database file that sqlite3 can read.
 #![tactic(auto)]
 
 mod file;

@@ -17,7 +17,7 @@ use sqlite::{Alter, Connection, Row as Line, Transaction, params};
 use std::alloc::Global;
 use std::str;
 
-// The text is kept in the file as it stands here, and a table with another text is refused.
+// The file stores this text exactly as it is here. A table with another text is refused.
 const TABLE: &str =
     "CREATE TABLE kept (kind INTEGER NOT NULL, key INTEGER NOT NULL, body TEXT NOT NULL, PRIMARY KEY (kind, key)) STRICT";
 
@@ -39,7 +39,7 @@ fn is_text(line: &Line, text: &str) -> bool
     }
 }
 
-/// Makes the table where nothing has its name. Whatever else has it isn't the desk's.
+/// Creates the table, if nothing has its name yet. Returns `Lost` if anything but the desk's table has that name.
 pub fn make_table<S: Alter>(conn: &mut Connection<S>) -> Result<(), Trouble>
     ensures has { IsClean S.Store conn.new → OnOk result (HasTable S.Store conn.old conn.new) }
     ensures clean { IsClean S.Store conn.new → IsClean S.Store conn.old }
@@ -81,7 +81,7 @@ fn rows_of(alloc: Global, lines: &[Line]) -> Result<Vec<Row>, Trouble>
     Ok(rows)
 }
 
-/// All rows of the table, in order of kind and then of key.
+/// Returns all rows of the table in order of kind, then key.
 pub fn all_rows<S: Alter>(alloc: Global, conn: &mut Connection<S>) -> Result<Vec<Row>, Trouble>
     ensures rising { IfOk result (λ rows. IsTrue (rising rows.items)) }
     ensures shown { IfOk result (λ rows. IsClean S.Store conn.new → ShowsAll S.Store conn.old conn.new rows.items) }
@@ -161,8 +161,8 @@ fn make_each<S: Alter>(changing: &mut Transaction<'_, S>, changes: &[Change]) ->
     Ok(())
 }
 
-/// Makes all changes in one transaction, each in its turn. Where one can't be made the transaction is
-/// dropped, which takes back those before it.
+/// Applies all changes in order, in one transaction. If one can't be made, the transaction is dropped, which rolls
+/// back those before it. If another transaction is open, this returns `Lost` and does nothing.
 pub fn make_all<S: Alter>(conn: &mut Connection<S>, changes: &[Change]) -> Result<(), Trouble>
     ensures made { IsClean S.Store conn.new → Changes S.Store changes.now conn.old conn.new result }
     ensures crash { Survives (state S.Store conn.old) (state S.Store conn.new) (IsAfter S.Store changes.now conn.old) }

@@ -10,18 +10,18 @@ use sqlite_syntax::error::ParseError;
 use std::alloc::AllocFailed;
 use std::io::ErrorKind;
 
-/// Why the table wasn't read or written.
+/// Why the table couldn't be read or written.
 #[derive(Clone, Copy, Debug, PartialEq, Eq)]
 pub enum Trouble {
     /// Memory ran out. Nothing was written.
     OutOfMemory,
-    /// A change can't be made. Nothing was written.
+    /// A change can't be stored. Nothing was written.
     Refused,
-    /// The file failed, or what it holds isn't the desk's. It has to be opened and read anew.
+    /// The file failed, or its contents aren't the desk's. It must be opened and read again.
     Lost,
 }
 
-// The three ways in which the engine says that memory ran out.
+// The three errors by which the engine reports that memory ran out.
 fn is_memory(error: Error) -> bool
     ensures { result ≡ spec.is_memory error }
 {

@@ -1,4 +1,4 @@
--- The fields of the records of a table: numbers, names and marks.
+-- Reading the fields of a record: numbers, flags, categories, roles and lists of capabilities.
 use Rattle.std.specs.Prelude.{ℕ, ◌==◌, nat_le, Bool, true, false, List, [], ◌∷◌, if◌then◌else◌, Option, None, Some, codes}
 use Rattle.std.specs.List.{list_all}
 use Rattle.std.specs.Str.{bytes_eq}
@@ -13,22 +13,22 @@ use Rattle.ops_tables.specs.declared.rows.Category.TheVariants as category
 use Rattle.ops_tables.specs.declared.rows.Role.{Role}
 use Rattle.ops_tables.specs.declared.rows.Role.TheVariants as role
 
--- the characters of a class
+-- the character is one of the class
 abbrev pub is_of : Class → ℕ → Bool
 is_of class.Name b = in_name b
 is_of class.Mark b = in_mark b
 is_of class.Person b = in_person b
 is_of class.Key b = in_key b
 
--- the names of a field, where all between the blanks are names
+-- the capabilities of a field, if every part between single spaces is a name
 unfoldable pub capabilities_of : List ℕ → Option (List (List ℕ))
 capabilities_of field = if list_all is_name (names_of field) then Some (names_of field) else None
 
--- a number from a least to a greatest one
+-- a number from `least` to `most`
 abbrev pub number_within : ℕ → ℕ → List ℕ → Option ℕ
 number_within least most field = number_in most field >>= λ number. if nat_le least number then Some number else None
 
--- 1 for yes, 0 for no
+-- the flag of a field: 1 is true, 0 is false
 abbrev pub mark_of : List ℕ → Option Bool
 mark_of field = if bytes_eq field (codes "1") then Some true else (if bytes_eq field (codes "0") then Some false else None)
 

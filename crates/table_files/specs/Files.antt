@@ -1,4 +1,4 @@
--- The thirteen tables: their files, columns, links and limits.
+-- The thirteen tables: file names, columns, references to other tables, and limits.
 use Rattle.std.specs.Prelude.{ℕ, true, ◌&&◌, List, [], ◌∷◌, Result, codes}
 use Rattle.ops_tables.specs.Tables.{TableRows, has_airport, has_type, has_item, has_captain}
 use Rattle.ops_tables.specs.Keys.{is_same_airport, is_same_approach, is_same_alternate, is_same_type, is_same_tail, is_same_use, is_same_distance, is_same_route, is_same_item, is_same_pair, is_same_actor, is_same_hours}
@@ -19,7 +19,7 @@ use Rattle.table_files.specs.declared.faults.BadRecord.{BadRecord}
 use Rattle.table_files.specs.declared.files.File.{File}
 use Rattle.table_files.specs.declared.files.File.TheVariants as file
 
--- the files, in the order of reading
+-- the files, in the order in which they are read
 abbrev pub files : List File
 files = file.Settings ∷ file.Airports ∷ file.Approaches ∷ file.Alternates ∷ file.Types ∷ file.Tails ∷ file.Uses ∷ file.Distances ∷ file.Routes ∷ file.Mel ∷ file.Pairs ∷ file.Actors ∷ file.Hours ∷ []
 
@@ -134,7 +134,7 @@ hours = record {
   with_rows = λ t rows. record t { hours = rows };
 }
 
--- the tables with one more read, whose records are these, or its first bad record
+-- the tables after one more file with these records is read, or its first bad record
 abbrev pub with_file : File → TableRows → List (List (List ℕ)) → Result TableRows BadRecord
 with_file file.Settings t = λ records. placed (λ settings. record t { settings = settings }) (settings_of records)
 with_file file.Airports t = with_table is_same_airport 5000 airports t
@@ -150,7 +150,7 @@ with_file file.Pairs t = with_table is_same_pair 50000 pairs t
 with_file file.Actors t = with_table is_same_actor 5000 actors t
 with_file file.Hours t = with_table is_same_hours 20000 hours t
 
--- tables of which none is read
+-- tables without rows; every setting is 0
 abbrev pub no_rows : TableRows
 no_rows = record {
   settings = record { hold_minutes = 0; marginal_ceiling = 0; single_ceiling = 0; double_ceiling = 0; marginal_vis16 = 0; single_vis16 = 0; double_vis16 = 0; late_off = 0; late_on = 0 };

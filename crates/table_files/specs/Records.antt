@@ -1,4 +1,4 @@
--- The rows that records give: each column tested and read, in the order of the columns.
+-- The rows of the tables, each read from the fields of a record in the order of the columns.
 use Rattle.std.specs.Prelude.{ℕ, ◌&&◌, List, [], ◌∷◌, if◌then◌else◌, Option, None, Some}
 use Rattle.desk_time.specs.Digits.{◌>>=◌}
 use Rattle.desk_io.specs.Station.{station_of}

@@ -1,4 +1,4 @@
--- No row has more fields than its table has columns, so that one field more tells all that others could.
+-- Proofs that a row depends only on its record's first fields, one more than the columns.
 use Rattle.std.specs.Prelude.{[], ◌∷◌, refl}
 use Rattle.table_files.specs.Files.{airports, approaches, alternates, types, tails, uses, distances, routes, mel, pairs, actors, hours}
 use Rattle.table_files.specs.Reading.{IsToldByFirst}

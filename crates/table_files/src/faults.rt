@@ -1,48 +1,47 @@
 use desk_io::Text;
 
-/// Why a record of a table is bad. They are tested in this order: over the limit, a bad field, a
-/// doubled key, a missing link.
+/// Why a record of a table is bad. The tests are made in this order: `OverLimit`, `BadField`, `Doubled`, `Unlinked`.
 #[derive(Clone, Copy, Debug, PartialEq, Eq)]
 pub enum TableWhy {
-    /// The header isn't that of the table, the record has another number of fields, or a field isn't
-    /// of the column's form or range.
+    /// The header isn't that of the table, the record has a wrong number of fields, or a field is malformed or out of
+    /// range. In `settings.csv` also: a record is missing or out of order.
     BadField,
     /// An earlier record has the same key.
     Doubled,
-    /// It names something that no earlier table has.
+    /// The record names an airport, type, item or captain that the tables don't have.
     Unlinked,
-    /// The table has as many records already as it may have.
+    /// The table already has as many records as it may have.
     OverLimit,
 }
 
-/// A record that is bad.
+/// A bad record of a table.
 #[derive(Clone, Copy, Debug, PartialEq, Eq)]
 pub(crate) struct BadRecord {
-    /// The number of the record: the header is 1, and a line with no byte is no record.
+    /// The number of the record. The header is record 1, and an empty line isn't a record.
     pub line: u32,
     pub why: TableWhy,
 }
 
-/// A table with a bad record.
+/// A table that has a bad record.
 #[derive(Debug, Drop)]
 pub struct BadTable {
-    /// The name of its source.
+    /// The name of its file.
     pub name: Text,
-    /// The number of the first bad record: the header is 1, and a line with no byte is no record. A
-    /// record that is missing at the end has the number after the last.
+    /// The number of the first bad record. The header is record 1, and an empty line isn't a record. If a record is
+    /// missing at the end, this is the number after the last record.
     pub line: u32,
     pub why: TableWhy,
 }
 
-/// Why the tables weren't read.
+/// Why the tables can't be read.
 #[derive(Debug, Drop)]
 pub enum TableFault {
-    /// The first bad record of the first table that has one, in the order of reading.
+    /// The first bad record of the first bad table, in the order of reading.
     Bad(BadTable),
-    /// The shelf failed at the source with that name, and counted it. A count that is full (2^64 - 1)
-    /// stays so, and counts as risen.
+    /// The shelf failed to read the file of this name and counted the fault. If the count is already full (2^64 - 1),
+    /// it doesn't change.
     ReadFault(Text),
-    /// The source with that name has more bytes than one may have.
+    /// The file of this name has more than 64 MiB.
     TooLong(Text),
     /// Memory ran out.
     OutOfMemory,

@@ -9,7 +9,7 @@ use desk_time::{is_digit, read_number};
 use ops_tables::{Capabilities, Category, Role};
 use std::alloc::Global;
 
-/// The characters of which a name is made.
+/// The characters that may be in a field of names.
 #[derive(Clone, Copy, Debug)]
 enum Class {
     /// Capital letters and digits.
@@ -18,7 +18,7 @@ enum Class {
     Mark,
     /// Letters and digits.
     Person,
-    /// Printable characters that aren't the blank.
+    /// Printable ASCII characters other than the space.
     Key,
 }
 
@@ -51,7 +51,7 @@ fn has_length(field: &[u8], most: usize) -> bool
     1 <= field.len() && field.len() <= most
 }
 
-// Whether the field is one to so many characters of a class.
+// Returns true if the field has one to `most` characters, all of the class.
 fn is_word(class: Class, most: usize, field: &[u8]) -> bool
     ensures value { result ≡ form.is_word (spec.is_of class) most field.now }
     ensures short { IsTrue result → length field.now ≤ most }
@@ -59,7 +59,7 @@ fn is_word(class: Class, most: usize, field: &[u8]) -> bool
     has_length(field, most) && all_of(class, field)
 }
 
-/// Whether the field names a type, an approach, a runway or a capability.
+/// Returns true if the field is the name of a type, an approach, a runway or a capability.
 #[tactic(auto, unfolding(ops_tables::specs::Forms::is_name))]
 pub(crate) fn is_name(field: &[u8]) -> bool
     ensures value { result ≡ form.is_name field.now }
@@ -68,7 +68,7 @@ pub(crate) fn is_name(field: &[u8]) -> bool
     is_word(Class::Name, 8, field)
 }
 
-/// Whether it is a capability, or empty for none.
+/// Returns true if the field is the name of a capability, or empty.
 pub(crate) fn is_name_or_none(field: &[u8]) -> bool
     ensures value { result ≡ form.is_name_or_none field.now }
     ensures short { IsTrue result → length field.now ≤ 8 }
@@ -76,7 +76,7 @@ pub(crate) fn is_name_or_none(field: &[u8]) -> bool
     field.is_empty() || is_name(field)
 }
 
-/// Whether it is a registration.
+/// Returns true if the field is a registration.
 #[tactic(auto, unfolding(ops_tables::specs::Forms::is_tail))]
 pub(crate) fn is_tail(field: &[u8]) -> bool
     ensures value { result ≡ form.is_tail field.now }
@@ -85,7 +85,7 @@ pub(crate) fn is_tail(field: &[u8]) -> bool
     is_word(Class::Mark, 8, field)
 }
 
-/// Whether it is an item of a minimum equipment list.
+/// Returns true if the field is the name of an item of a minimum equipment list.
 #[tactic(auto, unfolding(ops_tables::specs::Forms::is_item))]
 pub(crate) fn is_item(field: &[u8]) -> bool
     ensures value { result ≡ form.is_item field.now }
@@ -94,7 +94,7 @@ pub(crate) fn is_item(field: &[u8]) -> bool
     is_word(Class::Mark, 16, field)
 }
 
-/// Whether it is the name of a person.
+/// Returns true if the field is the name of a person.
 #[tactic(auto, unfolding(ops_tables::specs::Forms::is_person))]
 pub(crate) fn is_person(field: &[u8]) -> bool
     ensures value { result ≡ form.is_person field.now }
@@ -103,7 +103,7 @@ pub(crate) fn is_person(field: &[u8]) -> bool
     is_word(Class::Person, 16, field)
 }
 
-/// Whether it is the key of a person.
+/// Returns true if the field is the key of a person.
 #[tactic(auto, unfolding(ops_tables::specs::Forms::is_key))]
 pub(crate) fn is_key(field: &[u8]) -> bool
     ensures value { result ≡ form.is_key field.now }
@@ -112,7 +112,7 @@ pub(crate) fn is_key(field: &[u8]) -> bool
     is_word(Class::Key, 64, field)
 }
 
-// Whether each part between single blanks is a name.
+// Returns true if each part between single spaces is a name.
 fn are_parts_names(field: &[u8]) -> bool
     ensures { result ≡ list_all form.is_name (slice_split names.is_blank field.now) }
 {
@@ -125,7 +125,7 @@ fn are_listed_names(field: &[u8]) -> bool
     field.is_empty() || are_parts_names(field)
 }
 
-/// The names of a field, with one blank between any two; none where it is empty.
+/// Reads a list of capabilities, in which a single space separates names. The list may be empty.
 #[tactic(auto, unfolding(crate::specs::Fields::capabilities_of))]
 pub(crate) fn capabilities(alloc: Global, field: &[u8]) -> Result<Option<Capabilities>, OutOfMemory>
     ensures value { IfOk result (λ names. names ≡ spec.capabilities_of field.now) }
@@ -137,8 +137,7 @@ pub(crate) fn capabilities(alloc: Global, field: &[u8]) -> Result<Option<Capabil
     Ok(Some(Capabilities::of(Text::of(alloc, field)?)))
 }
 
-/// The number of a field, from a least to a greatest one. It has no sign and begins with no zero but
-/// its own.
+/// Reads a number from `least` to `most` in plain decimal digits, without sign or leading zero.
 pub(crate) fn number_within(least: u32, most: u32, field: &[u8]) -> Option<u32>
     ensures value { result ≡ spec.number_within least most field.now }
     ensures bound { IfSome result (λ n. (least ≤ n) × (n ≤ most)) }
@@ -147,7 +146,7 @@ pub(crate) fn number_within(least: u32, most: u32, field: &[u8]) -> Option<u32>
     if least <= number { Some(number) } else { None }
 }
 
-/// Yes for 1, and no for 0.
+/// Reads `1` as true and `0` as false.
 pub(crate) fn mark_of(field: &[u8]) -> Option<bool>
     ensures { result ≡ spec.mark_of field.now }
 {
@@ -158,7 +157,7 @@ pub(crate) fn mark_of(field: &[u8]) -> Option<bool>
     }
 }
 
-/// The category of a letter from A to D.
+/// Reads a repair category, a letter from A to D.
 pub(crate) fn category_of(field: &[u8]) -> Option<Category>
     ensures { result ≡ spec.category_of field.now }
 {
@@ -171,7 +170,7 @@ pub(crate) fn category_of(field: &[u8]) -> Option<Category>
     }
 }
 
-/// The role of a letter.
+/// Reads a role: D, C, F, M or S.
 pub(crate) fn role_of(field: &[u8]) -> Option<Role>
     ensures { result ≡ spec.role_of field.now }
 {

@@ -1,7 +1,7 @@
 ghost use Rattle.std.specs.Prelude.{◌≡◌, ◌≤◌};
 ghost use Rattle.table_files.specs.Files as spec;
 
-/// A file of the tables.
+/// A file of the operations tables.
 #[derive(Clone, Copy, Debug, PartialEq, Eq)]
 pub(crate) enum File {
     Settings,
@@ -19,7 +19,7 @@ pub(crate) enum File {
     Hours,
 }
 
-/// The files, in the order of reading.
+/// The files, in the order in which they are read.
 pub(crate) const FILES: [File; 13] = [
     File::Settings,
     File::Airports,
@@ -37,7 +37,7 @@ pub(crate) const FILES: [File; 13] = [
 ];
 
 impl File {
-    /// The name of its source.
+    /// Returns the file's name.
     pub(crate) fn name(self) -> &'static str
         ensures { result.now ≡ spec.name_of self }
     {

@@ -13,7 +13,7 @@ use desk_io::{OutOfMemory, Text};
 use ops_tables::{Grouped, Loading, Row, Settings};
 use std::alloc::Global;
 
-/// Tables of which none is read.
+/// Returns tables without rows; every setting is 0.
 pub(crate) fn unread(alloc: Global) -> Loading
     ensures value { shown result ≡ no_rows }
     ensures settings { FitsSettings result.settings }
@@ -45,7 +45,7 @@ pub(crate) fn unread(alloc: Global) -> Loading
     }
 }
 
-// Puts the rows of a table in place, where no record is bad.
+// Stores the rows of a table, unless a record is bad.
 fn place_rows<R: Row<N>, const N: usize>(
     rows: &mut Grouped<R, N>,
     read: Result<Grouped<R, N>, BadRecord>,
@@ -79,7 +79,7 @@ fn fill_settings(
     }
 }
 
-/// Reads the table of a file, which has this text, after those that stand before it.
+/// Reads one table from its text, after the tables before it in the order of files.
 pub(crate) fn fill(
     alloc: Global,
     file: File,

@@ -1,4 +1,4 @@
-//! The operations tables read from their files, each record tested before the next is read.
+//! Reads the thirteen operations tables from their CSV files and reports the first bad record.
 #![tactic(auto)]
 
 mod faults;

@@ -14,42 +14,42 @@ use ops_tables::{Grouped, Loading, Row};
 use std::alloc::Global;
 use std::marker::Model;
 
-/// The names of a table's columns, and how many rows it may have.
+/// The names of a table's columns, and the largest number of its rows.
 #[derive(Drop)]
 pub(crate) struct Layout {
     pub columns: &'static [&'static str],
     pub limit: usize,
 }
 
-/// A row that is read from a record of its table.
+/// A row that is read from a record of a table's file.
 pub(crate) trait FileRow<const N: usize>: Row<N> {
     ghost table: { Table Self };
 
-    /// The form of its table.
+    /// Returns the table's columns and limit.
     fn layout() -> Layout
         ensures columns { map (λ c. c.now) result.columns.now ≡ table.columns }
         ensures limit { result.limit ≡ Self.limit };
 
-    /// The row of a record, where its fields are of the columns' forms and ranges.
+    /// Reads a row from the fields of a record. Returns None if a field is malformed or out of range.
     fn of_fields(alloc: Global, fields: &[Text]) -> Result<Option<Self>, OutOfMemory>
         ensures value { IfOk result (λ row. row ≡ table.row_of fields.now) }
         ensures fits { IfOk result (λ row. IfSome row Self.Fits) };
 
-    /// Whether what the row names stands in the tables.
+    /// Returns true if the tables have every airport, type, item and captain that the row names.
     fn is_linked(&self, loaded: &Loading) -> bool
         ensures { result ≡ table.is_linked (shown loaded.now) self.now };
 
     ghost told: { IsToldByFirst table };
 }
 
-// How many fields of a record are asked for: one more than there are columns, which no row has.
+// The number of fields to read of a record: one more than there are columns, which shows that a record is too long.
 fn most_fields<R: FileRow<N>, const N: usize>() -> usize
     ensures { result ≡ length R.table.columns + 1 }
 {
     R::layout().columns.len() + 1
 }
 
-/// Whether the fields are these names of columns, in this order.
+/// Returns true if the fields are these column names in this order.
 pub(crate) fn is_header(fields: &[Text], columns: &[&str]) -> bool
     ensures { result ≡ spec.are_same fields.now (map (λ c. c.now) columns.now) }
 {
@@ -64,7 +64,7 @@ pub(crate) fn is_header(fields: &[Text], columns: &[&str]) -> bool
     true
 }
 
-// The row of a record that comes after so many others.
+// Reads the row of a record that comes after `count` others.
 fn row_at<R: FileRow<N>, const N: usize>(
     alloc: Global,
     count: usize,
@@ -83,7 +83,7 @@ fn row_at<R: FileRow<N>, const N: usize>(
     }
 }
 
-// What the next record gives, which comes after so many rows.
+// Reads the next record as a row, after `count` rows.
 fn next_row<R: FileRow<N>, const N: usize>(
     alloc: Global,
     reader: &mut Records,
@@ -100,8 +100,8 @@ fn next_row<R: FileRow<N>, const N: usize>(
     }
 }
 
-/// The rows of records, and the record at which reading stopped, where it wasn't the end. A row that names
-/// something that isn't there is the last one.
+/// The rows that were read, and the bad record at which reading stopped, if any. If that record names something
+/// missing, its row is the last of the rows.
 #[derive(Drop)]
 struct ReadRows<R: Drop> {
     rows: Vec<R>,
@@ -120,13 +120,13 @@ fn line_ends(text: &[u8]) -> usize {
     text.iter().filter(|b| **b == b'\n' || **b == b'\r').count()
 }
 
-// How many rows a table with this text may have, by its lines. Its room is taken at once, since a list that
-// grows takes twice what it holds.
+// Returns the number of rows for which to reserve room, from the lines of the text. Reserving it at once saves
+// memory, because a growing vector takes up to twice what it holds.
 fn most_rows<R: FileRow<N>, const N: usize>(text: &[u8]) -> usize {
     R::layout().limit.min(line_ends(text).saturating_add(1))
 }
 
-// Rows at the end of which reading stopped, at the record after so many others.
+// Returns the rows, with a stop at the record after `count` others.
 fn stopped<R: Drop>(rows: Vec<R>, count: usize, why: TableWhy) -> ReadRows<R>
     requires { count ≤ 200_000 }
     ensures { result ≡ passes.stopped rows.items count why }
@@ -136,7 +136,7 @@ fn stopped<R: Drop>(rows: Vec<R>, count: usize, why: TableWhy) -> ReadRows<R>
     ReadRows { rows, stop }
 }
 
-// The rows of the records that are left, in a list with so much room.
+// Reads the records that are left, with room for `room` rows reserved at once.
 fn rows_under<R: FileRow<N>, const N: usize>(
     alloc: Global,
     reader: &mut Records,
@@ -166,7 +166,7 @@ fn rows_under<R: FileRow<N>, const N: usize>(
     }
 }
 
-// The rows of a table with this text, the header first. The text is let go at the end.
+// Reads the header and the rows of a table. The text is dropped on return, before the keys are compared.
 fn rows_in<R: FileRow<N>, const N: usize>(
     alloc: Global,
     text: Text,
@@ -189,7 +189,7 @@ fn rows_in<R: FileRow<N>, const N: usize>(
     }
 }
 
-// The rows as a table, or the first bad record.
+// Makes a table of the rows, or returns the first bad record.
 fn tested<R: FileRow<N>, const N: usize>(
     alloc: Global,
     read: ReadRows<R>,
@@ -213,7 +213,7 @@ fn tested<R: FileRow<N>, const N: usize>(
     }
 }
 
-/// The rows of a table with this text, the header first, or the first bad record.
+/// Reads a table, header first, or returns the first bad record.
 pub(crate) fn read_rows<R: FileRow<N>, const N: usize>(
     alloc: Global,
     text: Text,
@@ -227,7 +227,7 @@ pub(crate) fn read_rows<R: FileRow<N>, const N: usize>(
     }
 }
 
-/// Reads the first record of a text, and answers whether it is a header with these columns.
+/// Reads the first record. Returns true if it is a header with these columns.
 pub(crate) fn has_header(
     alloc: Global,
     reader: &mut Records,

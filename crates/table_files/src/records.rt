@@ -15,7 +15,7 @@ use ops_tables::{
 };
 use std::alloc::Global;
 
-/// The airport of a record.
+/// Reads a row of `airports.csv`.
 pub(crate) fn airport_row(fields: &[Text]) -> Option<Airport>
     ensures value { result ≡ spec.airport_row fields.now }
     ensures fits { IfSome result FitsAirport }
@@ -30,7 +30,7 @@ pub(crate) fn airport_row(fields: &[Text]) -> Option<Airport>
     })
 }
 
-/// The columns of an approach that aren't names.
+/// The columns of an approach other than names.
 #[derive(Clone, Copy, Debug)]
 struct ApproachTerms {
     station: Station,
@@ -88,7 +88,7 @@ fn named_approach(terms: ApproachTerms, name: &Text, runway: &Text, capability: 
     }
 }
 
-/// The approach of a record.
+/// Reads a row of `approaches.csv`.
 pub(crate) fn approach_row(fields: &[Text]) -> Option<Approach>
     ensures value { result ≡ spec.approach_row fields.now }
     ensures fits { IfSome result FitsApproach }
@@ -103,7 +103,7 @@ pub(crate) fn approach_row(fields: &[Text]) -> Option<Approach>
     Some(named_approach(terms, name, runway, capability))
 }
 
-/// The alternate minimum of a record.
+/// Reads a row of `alternates.csv`.
 pub(crate) fn alternate_row(fields: &[Text]) -> Option<AlternateRow>
     ensures value { result ≡ spec.alternate_row fields.now }
     ensures fits { IfSome result FitsAlternate }
@@ -126,7 +126,7 @@ fn engines_of(field: &[u8]) -> Option<u8>
     Some(count as u8)
 }
 
-/// The columns of a type that are numbers.
+/// The numbers of a type's row.
 #[derive(Clone, Copy, Debug)]
 struct TypeTerms {
     engines: u8,
@@ -155,7 +155,7 @@ fn type_terms(
     })
 }
 
-/// The type of a record.
+/// Reads a row of `types.csv`.
 pub(crate) fn type_row(alloc: Global, fields: &[Text]) -> Result<Option<TypeRow>, OutOfMemory>
     ensures value { IfOk result (λ row. row ≡ spec.type_row fields.now) }
     ensures fits { IfOk result (λ row. IfSome row FitsType) }
@@ -188,7 +188,7 @@ pub(crate) fn type_row(alloc: Global, fields: &[Text]) -> Result<Option<TypeRow>
     }))
 }
 
-/// The aircraft of a record.
+/// Reads a row of `tails.csv`.
 pub(crate) fn tail_row(fields: &[Text]) -> Option<Tail>
     ensures value { result ≡ spec.tail_row fields.now }
     ensures fits { IfSome result FitsTail }
@@ -205,7 +205,7 @@ pub(crate) fn tail_row(fields: &[Text]) -> Option<Tail>
     })
 }
 
-/// The use of a record.
+/// Reads a row of `uses.csv`.
 pub(crate) fn use_row(fields: &[Text]) -> Option<Use>
     ensures value { result ≡ spec.use_row fields.now }
     ensures fits { IfSome result FitsUse }
@@ -223,7 +223,7 @@ pub(crate) fn use_row(fields: &[Text]) -> Option<Use>
     })
 }
 
-/// The distance of a record.
+/// Reads a row of `distances.csv`.
 pub(crate) fn distance_row(fields: &[Text]) -> Option<Distance>
     ensures value { result ≡ spec.distance_row fields.now }
     ensures fits { IfSome result FitsDistance }
@@ -238,7 +238,7 @@ pub(crate) fn distance_row(fields: &[Text]) -> Option<Distance>
     })
 }
 
-/// The route of a record.
+/// Reads a row of `routes.csv`.
 pub(crate) fn route_row(fields: &[Text]) -> Option<Route>
     ensures { result ≡ spec.route_row fields.now }
 {
@@ -259,7 +259,7 @@ fn are_item_names(kind: &[u8], item: &[u8], capability: &[u8]) -> bool
     is_name(kind) && is_item(item) && is_name_or_none(capability)
 }
 
-/// The columns of an item that aren't names.
+/// The columns of an item other than names.
 #[derive(Clone, Copy, Debug)]
 struct ItemTerms {
     category: Category,
@@ -289,7 +289,7 @@ fn item_terms(
     })
 }
 
-/// The item of a record.
+/// Reads a row of `mel.csv`.
 pub(crate) fn item_row(fields: &[Text]) -> Option<MelRow>
     ensures value { result ≡ spec.item_row fields.now }
     ensures fits { IfSome result FitsItem }
@@ -337,7 +337,7 @@ fn are_two_items(kind: &[u8], item: &[u8], other: &[u8]) -> bool
     is_name(kind) && is_item(item) && is_item(other) && item != other
 }
 
-/// The two items of a record.
+/// Reads a row of `pairs.csv`.
 pub(crate) fn pair_row(alloc: Global, fields: &[Text]) -> Result<Option<ItemPair>, OutOfMemory>
     ensures value { IfOk result (λ row. row ≡ spec.pair_row fields.now) }
     ensures fits { IfOk result (λ row. IfSome row FitsPair) }
@@ -352,7 +352,7 @@ pub(crate) fn pair_row(alloc: Global, fields: &[Text]) -> Result<Option<ItemPair
     Ok(Some(pair))
 }
 
-/// The person of a record.
+/// Reads a row of `actors.csv`.
 pub(crate) fn actor_row(alloc: Global, fields: &[Text]) -> Result<Option<Actor>, OutOfMemory>
     ensures value { IfOk result (λ row. row ≡ spec.actor_row fields.now) }
     ensures fits { IfOk result (λ row. IfSome row FitsActor) }
@@ -369,7 +369,7 @@ pub(crate) fn actor_row(alloc: Global, fields: &[Text]) -> Result<Option<Actor>,
     }
 }
 
-/// The hours of a record.
+/// Reads a row of `hours.csv`.
 pub(crate) fn hours_row(alloc: Global, fields: &[Text]) -> Result<Option<CaptainHours>, OutOfMemory>
     ensures value { IfOk result (λ row. row ≡ spec.hours_row fields.now) }
     ensures fits { IfOk result (λ row. IfSome row FitsHours) }

@@ -12,7 +12,7 @@ use desk_io::{Listed, OutOfMemory, Text};
 use ops_tables::Settings;
 use std::alloc::Global;
 
-/// A setting of the airline.
+/// A setting of the airline, one record of `settings.csv`.
 #[derive(Clone, Copy, Debug)]
 pub(crate) enum Setting {
     HoldMinutes,
@@ -56,7 +56,7 @@ impl Setting {
         }
     }
 
-    // Its greatest value: minutes, feet, or sixteenths of a statute mile.
+    // The largest value: minutes, feet, or sixteenths of a statute mile.
     fn most(self) -> u32
         ensures value { result ≡ spec.most_of self }
         ensures bound { result ≤ 1_000_000 }
@@ -81,7 +81,7 @@ fn value_of(setting: Setting, fields: &[Text]) -> Option<u32>
     }
 }
 
-// The value of the next record, none where it is bad or missing.
+// Reads the value of the next record. Returns None if the record is bad or missing.
 fn next_value(
     alloc: Global,
     reader: &mut Records,
@@ -97,7 +97,7 @@ fn next_value(
     }
 }
 
-// The record after these values is bad.
+// Reports the record after these values as bad.
 fn bad_after(values: &[u32], why: TableWhy) -> BadRecord
     requires { length values.now ≤ 9 }
     ensures { result ≡ record { line = length values.now + 2; why = why } }
@@ -108,7 +108,7 @@ fn bad_after(values: &[u32], why: TableWhy) -> BadRecord
     }
 }
 
-// The values of the records that are left, one for each setting.
+// Reads the records below the header, one for each setting.
 fn read_values(
     alloc: Global,
     reader: &mut Records,
@@ -163,7 +163,7 @@ fn settings_with(values: &[u32]) -> Result<Settings, BadRecord>
     }
 }
 
-/// The settings of a table with this text, the header first, or the first bad record.
+/// Reads `settings.csv`, header first, or returns the first bad record.
 pub(crate) fn read_settings(
     alloc: Global,
     text: &[u8],

@@ -39,7 +39,7 @@ fn bad_table(alloc: Global, file: File, bad: BadRecord) -> Result<BadTable, OutO
     })
 }
 
-// The whole text of a file.
+// Reads the whole text of a file.
 fn read_text<S: Shelf>(alloc: Global, shelf: &mut S, file: File) -> Result<Text, TableFault>
     ensures reads { ReadsText (S.seen shelf.old).sources file result }
     ensures on { ShelfGoesOn (HoldsFile (S.seen shelf.old) file) (S.seen shelf.old) (S.seen shelf.new) }
@@ -75,11 +75,10 @@ fn read_file<S: Shelf>(
     }
 }
 
-/// The thirteen tables of a shelf, each read whole and tested before the next. `Bad` names the first bad
-/// record in the order of the files; `TooLong` says that a source has more than 64 MiB, and comes only
-/// after the tables before it were good. `ReadFault` comes only where the shelf's count of faults rose
-/// or is full; a sound shelf gives it only at a file that it doesn't hold, after the tables before that
-/// were good. Both carry the file's name.
+/// Reads the thirteen tables of a shelf, file by file. `Bad` is the first bad record in the order of the files.
+/// `TooLong` means that a file has more than 64 MiB, after the tables before it were good. `ReadFault` means that the
+/// shelf's count of faults rose or is full. A sound shelf returns it only for a file that it doesn't hold, after the
+/// tables before it were good. `ReadFault` and `TooLong` carry the file's name.
 pub fn read_tables<S: Shelf>(alloc: Global, shelf: &mut S) -> Result<Tables, TableFault>
     ensures tables { ReadsTables (S.seen shelf.old).sources result }
     ensures on { ShelfGoesOn (HoldsFiles (S.seen shelf.old)) (S.seen shelf.old) (S.seen shelf.new) }

@@ -1,4 +1,4 @@
--- What clauses say of a lock, its passes and its turns.
+-- What contracts state about a lock, its passes and its turns.
 use Rattle.std.specs.Prelude.{◌≡◌, ℕ, List, [], ◌∷◌, ◌++◌}
 use Rattle.atomic_table.specs.Seated.{TableId}
 use Rattle.turn_lock.specs.Elements.{longer_of}
@@ -9,31 +9,31 @@ use Rattle.turn_lock.specs.declared.pass.Pass.{Pass}
 use Rattle.turn_lock.specs.declared.pass.Turn.{Turn}
 
 module _ {T E : Type 0} where
-  -- which lock it is
+  -- the identity of a lock
   abbrev pub lock_id : TurnLock T E → TableId
   lock_id lock = lock.table.shared.table_id
 
 module _ {T E : Type 0} {g : Ghosts T E} where
-  -- the lock that a pass is for
+  -- the lock of a pass
   abbrev pub pass_lock : Pass T E g → TableId
   pass_lock p = p.seat.table_id
 
   abbrev pub pass_number : Pass T E g → ℕ
   pass_number p = p.seat.me.0.number
 
-  -- its own number, and those of the passes that it took in
+  -- the pass's own number, and those of the passes that it has taken in
   abbrev pub pass_numbers : Pass T E g → List ℕ
   pass_numbers p = numbers_of p.seat.me.0
 
-  -- how often it was split
+  -- how often the pass was split
   abbrev pub pass_splits : Pass T E g → ℕ
   pass_splits p = p.splits
 
-  -- the beginning of the list that it has seen
+  -- the prefix of the list that the pass has seen
   abbrev pub pass_seen : Pass T E g → List E
   pass_seen p = p.seat.me.0.seen
 
-  -- the same of a turn, which has taken a list
+  -- the lock, number, numbers and splits of a turn
   abbrev pub turn_lock : Turn T E g → TableId
   turn_lock t = t.place.seat.table_id
 
@@ -46,17 +46,18 @@ module _ {T E : Type 0} {g : Ghosts T E} where
   abbrev pub turn_splits : Turn T E g → ℕ
   turn_splits t = t.place.splits
 
+  -- the list that the value represented when the turn began
   abbrev pub turn_taken : Turn T E g → List E
   turn_taken t = t.place.seat.me.0.seen
 
-  -- the lock's value
+  -- the lock's value during the turn
   abbrev pub turn_value : Turn T E g → T
   turn_value t = t.value
 
   abbrev pub with_value : Turn T E g → T → Turn T E g
   with_value t value = record t { value = value }
 
--- a pass of that lock and number, which took no other in, was never split, and has seen that list
+-- a pass of that lock and number, which has taken in no other, was never split, and has seen that list
 pub record IsNewPass {T E : Type 0} {g : Ghosts T E} (id : TableId) (n : ℕ) (list : List E) (p : Pass T E g) : Type 0 where
   pub lock : pass_lock p ≡ id
   pub number : pass_number p ≡ n
@@ -64,14 +65,14 @@ pub record IsNewPass {T E : Type 0} {g : Ghosts T E} (id : TableId) (n : ℕ) (l
   pub splits : pass_splits p ≡ 0
   pub seen : pass_seen p ≡ list
 
--- the same pass, which has seen the same
+-- the same pass, which has seen the same list
 pub record IsSamePass {T E : Type 0} {g : Ghosts T E} (old new : Pass T E g) : Type 0 where
   pub lock : pass_lock new ≡ pass_lock old
   pub number : pass_number new ≡ pass_number old
   pub numbers : pass_numbers new ≡ pass_numbers old
   pub seen : pass_seen new ≡ pass_seen old
 
--- the pass took the other in
+-- the pass has taken in the other
 pub record TakesIn {T E : Type 0} {g : Ghosts T E} (old other new : Pass T E g) : Type 0 where
   pub lock : pass_lock new ≡ pass_lock old
   pub number : pass_number new ≡ pass_number old
@@ -79,14 +80,14 @@ pub record TakesIn {T E : Type 0} {g : Ghosts T E} (old other new : Pass T E g) 
   pub splits : pass_splits new ≡ pass_splits old
   pub seen : pass_seen new ≡ longer_of (pass_seen old) (pass_seen other)
 
--- the turn of that pass
+-- the turn is that of the pass
 pub record IsTurnOf {T E : Type 0} {g : Ghosts T E} (p : Pass T E g) (t : Turn T E g) : Type 0 where
   pub lock : turn_lock t ≡ pass_lock p
   pub number : turn_number t ≡ pass_number p
   pub numbers : turn_numbers t ≡ pass_numbers p
   pub splits : turn_splits t ≡ pass_splits p
 
--- the pass of that turn
+-- the pass is that of the turn
 pub record IsPassOf {T E : Type 0} {g : Ghosts T E} (t : Turn T E g) (p : Pass T E g) : Type 0 where
   pub lock : pass_lock p ≡ turn_lock t
   pub number : pass_number p ≡ turn_number t

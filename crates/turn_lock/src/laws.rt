@@ -1,4 +1,4 @@
-//! What follows from the rule of the table, and what the words of the contracts come to.
+//! Laws that follow from the rule of the table, and from the definitions that contracts use.
 ghost use Rattle.std.specs.Prelude.{◌≡◌, ◌≢◌, ◌++◌, ◌∷◌, [], ℕ, List, Option};
 ghost use Rattle.atomic_table.specs.Table.{State};
 ghost use Rattle.turn_lock.specs.declared.view.View.{View};
@@ -8,8 +8,9 @@ ghost use Rattle.turn_lock.specs.Rule.{IsOrderly};
 
 use crate::listed::Listed;
 
-/// In every state that meets the rule: at most one turn is out; the tickets drawn less those served are the passes
-/// that wait or have a turn; one list goes on, of which each pass has seen a beginning; no two passes have a number.
+/// Holds in every state that meets the rule. At most one pass has a turn. The tickets drawn, less those served, are
+/// as many as the passes that wait or have a turn. There is one list, of which each pass has seen a prefix. No two
+/// passes share a number.
 pub fn turns_are_single<T: Listed>()
     ensures single { (s : State (Option T) (View T.Element)) → IsOrderly T.list T.bears s → AtMostOneIsOut s }
     ensures tickets { (s : State (Option T) (View T.Element)) → IsOrderly T.list T.bears s → CountsTickets s }
@@ -17,7 +18,7 @@ pub fn turns_are_single<T: Listed>()
     ensures apart { (s : State (Option T) (View T.Element)) → IsOrderly T.list T.bears s → AreDistinct s }
 {}
 
-/// The elements of a number are those that bear it, in their order.
+/// The elements of a number are exactly those that carry it, in order.
 pub fn elements_are_found<T: Listed>()
     ensures none { (n : ℕ) → elements_of T.bears n [] ≡ [] }
     ensures its { (n : ℕ) → (xs : List T.Element) → (x : T.Element) → T.bears x ≡ n

@@ -1,5 +1,5 @@
-//! A lock that is taken by turns, in the order of tickets. Its value stands for a list, and a pass knows a beginning of
-//! that list.
+//! A lock whose holders take turns in the order of their tickets. Its value represents a list, and each pass knows a
+//! prefix of that list.
 #![tactic(auto)]
 
 mod laws;

@@ -1,15 +1,15 @@
 ghost use Rattle.std.specs.Prelude.{◌≡◌, ℕ, List, length};
 
-/// A value that stands for a list, of which each element bears a number.
+/// A value that represents a list. Each element of the list carries a number.
 pub trait Listed {
-    /// What the list has. No value of it needs to be made.
+    /// The type of the list's elements. Values of this type need not exist at run time.
     type Element;
 
     ghost list: { Self → List Self.Element };
 
     ghost bears: { Self.Element → ℕ };
 
-    /// How long the list is.
+    /// Returns the length of the list.
     fn length(&self) -> u64
         ensures { result ≡ length (list self.now) };
 }

@@ -11,21 +11,21 @@ use desk_io::OutOfMemory;
 use std::alloc::Global;
 use std::sync::Wait;
 
-// The words of the table: the length of the list, and how many tickets were drawn and served.
+// Indexes of the table's words: the length of the list, and how many tickets were drawn and served.
 const LENGTH: usize = 0;
 
 const DRAWN: usize = 1;
 
 const SERVED: usize = 2;
 
-/// A lock round a value.
+/// A lock around a value.
 pub struct TurnLock<T: Listed> {
     table: Table<Option<T>, View<T::Element>, (), Turns<T>, Global>,
     sleepers: Sleepers,
     ghost sized: { (table.shared.table_id.words ≡ 3) × (table.shared.table_id.slots ≡ 1) },
 }
 
-/// There was no memory, and the value comes back.
+/// Memory ran out, and the value is handed back.
 #[derive(Drop)]
 pub struct OutOfMemoryWith<T> {
     pub value: T,
@@ -39,7 +39,8 @@ impl<T: Listed> TurnLock<T> {
     ghost use Rattle.turn_lock.specs.Passes.{pass_lock, pass_number, pass_numbers, pass_seen, pass_splits};
     ghost use Rattle.turn_lock.specs.Passes.{turn_lock, turn_number, turn_taken, turn_value};
 
-    /// A lock with the value, whose elements all bear the number 0, and its first pass, which has that number.
+    /// Creates a lock with this value, and its first pass, number 0. Every element of the value's list must carry the
+    /// number 0.
     pub fn new(alloc: Global, value: T) -> Result<(TurnLock<T>, Pass<T>), OutOfMemoryWith<T>>
         requires { EachBears T.bears 0 (T.list value) }
         ensures ok { IfOk result (λ r. IsNewPass (lock_id r.0) 0 (T.list value) r.1) }
@@ -58,8 +59,8 @@ impl<T: Listed> TurnLock<T> {
         Ok((lock, pass))
     }
 
-    /// A new pass with the next number, which has seen what this one has. Only the pass of number 0 is split, and it
-    /// can't be once all numbers of 64 bits were given. It takes no memory.
+    /// Creates a pass with the next number, which has seen what `pass` has seen. Only pass 0 can be split. The error
+    /// means that all 64-bit numbers are used up. Allocates nothing.
     pub fn split(&self, pass: &mut Pass<T>) -> Result<Pass<T>, OutOfMemory>
         requires lock { pass_lock pass.old ≡ lock_id self.now }
         requires first { pass_number pass.old ≡ 0 }
@@ -77,8 +78,8 @@ impl<T: Listed> TurnLock<T> {
         Ok(Pass { seat, splits: 0 })
     }
 
-    /// Takes the other pass in. One of the two lists that they have seen begins the other, and what is seen then has
-    /// no elements of their numbers that they hadn't seen.
+    /// Takes the pass `other` into `pass`. Of the two prefixes that they have seen, the longer one remains. It adds
+    /// no element of a pass's own numbers to what that pass had seen.
     pub fn join(&self, pass: &mut Pass<T>, other: Pass<T>)
         requires lock { pass_lock pass.old ≡ lock_id self.now }
         requires other { pass_lock other ≡ lock_id self.now }
@@ -97,8 +98,8 @@ impl<T: Listed> TurnLock<T> {
         shared.load::<Compare>(&mut pass.seat, SERVED);
     }
 
-    /// Waits for its turn. The list then goes on from what the pass had seen, with no elements of its numbers, and, for
-    /// the first pass, none of a number that it hasn't given.
+    /// Waits for the pass's turn. The list may have grown since the pass saw it, but by no element of the pass's
+    /// numbers. If this is pass 0, no element carries a number that it hasn't given out.
     pub fn take<R: Wait>(&self, rt: &R, pass: Pass<T>) -> Turn<T>
         requires { pass_lock pass ≡ lock_id self.now }
         ensures turn { IsTurnOf pass result }
@@ -125,7 +126,7 @@ impl<T: Listed> TurnLock<T> {
         unreachable!()
     }
 
-    /// Ends the turn. The list of the value may have gone on with elements that bear the pass's number.
+    /// Ends the turn. During the turn, the value's list may have grown only by elements that carry the pass's number.
     pub fn give(&self, turn: Turn<T>) -> Pass<T>
         requires lock { turn_lock turn ≡ lock_id self.now }
         requires list { Continues T.bears (turn_number turn) (turn_taken turn) (T.list (turn_value turn)) }
@@ -146,7 +147,7 @@ impl<T: Listed> TurnLock<T> {
         Pass { seat, splits }
     }
 
-    /// Ends the lock, and answers the value of the turn. It takes no memory, and waits for nobody.
+    /// Ends the lock, and returns the value of the turn. Allocates nothing, and waits for no other pass.
     pub fn finish(self, turn: Turn<T>) -> T
         requires { turn_lock turn ≡ lock_id self }
         ensures { result ≡ turn_value turn }

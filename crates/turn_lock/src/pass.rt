@@ -12,14 +12,14 @@ pub struct Pass<T: Listed> {
     ghost idle: { IsIdle seat.me splits },
 }
 
-// The seat of a turn. It stands apart from the value, so that what is lent of the value leaves it alone.
+// The seat of a turn. It is separate from the value, so that borrowing the value leaves it alone.
 pub(crate) struct Place<T: Listed> {
     pub(crate) seat: Seat<Option<T>, View<T::Element>>,
     pub(crate) splits: u64,
     ghost out: { HasSlot seat.me splits },
 }
 
-/// A turn that is out, with the lock's value.
+/// A turn in progress, with the lock's value.
 pub struct Turn<T: Listed> {
     pub(crate) place: Place<T>,
     pub(crate) value: T,
@@ -31,7 +31,7 @@ impl<T: Listed> Turn<T> {
     ghost use Rattle.turn_lock.specs.contracts.pass.Turn.{the_row};
     ghost use Rattle.turn_lock.specs.Passes.{turn_value, with_value};
 
-    /// The value, to be read and changed.
+    /// Returns the value for reading and changing.
     pub fn value(&mut self) -> &mut T
         ensures* writes_back { sem 𝓛 (Lends (the_row T.row T.Element.row T.Listed) T.row self.entry
             result (with_value self.old)) }

@@ -1,9 +1,9 @@
-//! What each kind of step tells the pass that makes it.
+//! What a pass learns from each kind of step.
 use crate::listed::Listed;
 use crate::view::View;
 use atomic_table::{Join, Play, Split};
 
-/// It draws a ticket.
+/// A step that draws a ticket.
 pub struct Draw;
 
 impl<T, E> Play<Option<T>, View<E>> for Draw {
@@ -12,7 +12,7 @@ impl<T, E> Play<Option<T>, View<E>> for Draw {
     ghost then = { Draws };
 }
 
-/// It looks whether its ticket is served, and takes the slot out with its value.
+/// A step that reads which ticket is served. If it is the pass's own, the pass takes out the slot with the value.
 pub struct Look;
 
 impl<T: Listed> Play<Option<T>, View<T::Element>> for Look {
@@ -21,7 +21,7 @@ impl<T: Listed> Play<Option<T>, View<T::Element>> for Look {
     ghost then = { Looks T.list T.bears };
 }
 
-/// It counts the list of the value in the slot.
+/// A step that counts the list of the value in the slot.
 pub struct Count;
 
 impl<T: Listed> Play<Option<T>, View<T::Element>> for Count {
@@ -30,7 +30,7 @@ impl<T: Listed> Play<Option<T>, View<T::Element>> for Count {
     ghost then = { Counts T.list };
 }
 
-/// It serves the next ticket, and the slot goes home.
+/// A step that serves the next ticket and puts the slot back.
 pub struct ServeNext;
 
 impl<T, E> Play<Option<T>, View<E>> for ServeNext {
@@ -39,7 +39,7 @@ impl<T, E> Play<Option<T>, View<E>> for ServeNext {
     ghost then = { Serves };
 }
 
-/// It looks what its join left.
+/// A step that reads what the pass's last join left.
 pub struct Compare;
 
 impl<T: Listed> Play<Option<T>, View<T::Element>> for Compare {
@@ -48,7 +48,7 @@ impl<T: Listed> Play<Option<T>, View<T::Element>> for Compare {
     ghost then = { Compares T.bears };
 }
 
-/// It looks, and the empty slot goes home.
+/// A step that puts the empty slot back.
 pub struct Lower;
 
 impl<T, E> Play<Option<T>, View<E>> for Lower {
@@ -57,7 +57,7 @@ impl<T, E> Play<Option<T>, View<E>> for Lower {
     ghost then = { Lowers };
 }
 
-/// It looks, and takes the empty slot out.
+/// A step that takes the empty slot out.
 pub struct Lift;
 
 impl<T, E> Play<Option<T>, View<E>> for Lift {
@@ -66,7 +66,7 @@ impl<T, E> Play<Option<T>, View<E>> for Lift {
     ghost then = { Lifts };
 }
 
-/// It gives a number to a new pass.
+/// A split that gives a number to a new pass.
 pub struct Part;
 
 impl<E> Split<View<E>> for Part {
@@ -77,7 +77,7 @@ impl<E> Split<View<E>> for Part {
     ghost right = { parted };
 }
 
-/// It takes another pass in.
+/// A join that takes another pass in.
 pub struct TakeIn;
 
 impl<E> Join<View<E>> for TakeIn {

@@ -1,21 +1,21 @@
-//! What the seats of passes know. No value of these types is made.
+//! What the seats of passes know. These types exist only in contracts.
 use std::collections::LinkedList;
 
-/// Where a pass stands.
+/// The stage of a pass.
 pub enum Stage {
-    /// In no turn.
+    /// It has no ticket and no turn.
     Idle,
-    /// It has drawn this ticket.
+    /// It has drawn this ticket, and waits.
     Waiting(u64),
-    /// Its turn is out, by this ticket, and the slot lies at home and is empty.
+    /// It has a turn by this ticket. The slot is in its place, and is empty.
     Entered(u64),
-    /// Its turn is out, by this ticket, and it has the slot.
+    /// It has a turn by this ticket, and holds the slot.
     Holding(u64),
-    /// It was taken in by another.
+    /// Another pass has taken it in.
     Spent,
 }
 
-/// What two passes had seen, and their numbers, when one took the other in.
+/// What two passes had seen, and their numbers, when one took in the other.
 pub struct Joint<E> {
     pub seen: LinkedList<E>,
     pub numbers: LinkedList<u64>,
@@ -26,7 +26,7 @@ pub struct Joint<E> {
 /// What the seat of a pass knows.
 pub struct View<E> {
     pub number: u64,
-    /// The numbers of the passes that it took in.
+    /// The numbers of the passes that it has taken in.
     pub others: LinkedList<u64>,
     /// How often it was split.
     pub splits: u64,

@@ -1,5 +1,4 @@
--- What a TAF says, as a relation: words in front, a station, a time, and then NIL, or a validity and CNL, or a
--- validity, a base and changes (WMO FM 51).
+-- The form of a TAF as a relation: which groups report which forecast (WMO FM 51).
 use Rattle.std.specs.Prelude.{◌≡◌, ℕ, ◌-◌, ◌/◌, true, List, [], ◌∷◌, ◌++◌, None, Some, Ok, codes, All, Contains, Decides}
 use Rattle.desk_io.specs.Station.{is_station}
 use Rattle.codes.specs.Moment.{time_of}
@@ -15,25 +14,25 @@ use Rattle.weather_reports.specs.declared.forecast.Taf.{Taf}
 use Rattle.weather_reports.specs.declared.forecast.TafState.TheVariants.{Normal, Nil, Cancelled}
 use Rattle.weather_reports.specs.Words.{change_of}
 
--- a word in front of the station
+-- a word between TAF and the station
 pub data IsModifier : List ℕ → Type 0 where
   amended : IsModifier (codes "AMD")
   corrected : IsModifier (codes "COR")
 
--- a group that ends a stretch: the remarks, or a change word
+-- a group that ends a part: RMK or a change word
 pub data EndsStretch : List ℕ → Type 0 where
   remarks : EndsStretch (codes "RMK")
   change : {word : List ℕ} {what : Change} → change_of word ≡ Some what → EndsStretch word
 
--- a part says what the groups of its stretch name, where each of them has its shape
+-- the part has the condition that its groups report; each group is well-formed, and none ends the part
 pub record SaysPart (its_kind : PartKind) (stretch : List (List ℕ)) (part : Part) : Type 0 where
   pub kind : part.kind ≡ its_kind
   pub goes_on : All (λ group. EndsStretch group → ⊥) stretch
   pub shaped : All (λ group. shape_fault Forecast group ≡ None) stretch
   pub names : part.cond ≡ named_cond stretch
 
--- Changes up to the remarks or to the end, each a change word, its moment or its period, and a stretch. The days lie
--- within five from the first, and a part that begins at a moment lasts `until` the end of the forecast.
+-- Changes up to RMK or the end: each is a change word, its moment or period, and the groups of the part. Days are
+-- among the five from `first_day`. A part that begins with FM lasts to `until`, the end of the forecast.
 pub data SaysChanges : ℕ → ℕ → List (List ℕ) → List Part → Type 0 where
   nothing : {first_day until : ℕ} → SaysChanges first_day until [] []
   remarks_follow : {first_day until : ℕ} (rest : List (List ℕ)) → SaysChanges first_day until (codes "RMK" ∷ rest) []
@@ -54,7 +53,7 @@ pub data SaysChanges : ℕ → ℕ → List (List ℕ) → List Part → Type 0 
       → SaysPart Prob stretch part → SaysChanges first_day until rest parts
       → SaysChanges first_day until (word ∷ codes "TEMPO" ∷ period ∷ (stretch ++ rest)) (part ∷ parts)
 
--- groups after the validity say the parts of a forecast: a base over the validity, and changes
+-- the groups after the validity: a base for the whole validity, and changes
 pub record SaysParts (groups : List (List ℕ)) (taf : Taf) : Type 0 where
   pub stretch : List (List ℕ)
   pub rest : List (List ℕ)
@@ -67,18 +66,18 @@ pub record SaysParts (groups : List (List ℕ)) (taf : Taf) : Type 0 where
   pub says_base : SaysPart Base stretch base
   pub says_changes : SaysChanges (taf.issued / 1440 - 1) taf.to rest changes
 
--- a forecast says that there is none
+-- the TAF reports that there is no forecast
 pub record SaysNone (taf : Taf) : Type 0 where
   pub state : taf.state ≡ Nil
   pub from : taf.from ≡ taf.issued
   pub to : taf.to ≡ taf.issued
   pub parts : taf.parts ≡ []
 
--- a validity, whose days lie within the five that begin one day before the day of issue
+-- a validity; its days are among the five that begin one day before the day of issue
 abbrev pub IsValidity : List ℕ → Taf → Type 0
 IsValidity group taf = period_of group (taf.issued / 1440 - 1) ≡ Ok (taf.from, taf.to)
 
--- what stands after the time
+-- the groups after the time: NIL; or a validity and CNL; or a validity, a base and changes
 pub data SaysAfterTime : List (List ℕ) → Taf → Type 0 where
   none : {rest : List (List ℕ)} {taf : Taf} → SaysNone taf → SaysAfterTime (codes "NIL" ∷ rest) taf
   cancelled : {validity : List ℕ} {rest : List (List ℕ)} {taf : Taf}
@@ -87,8 +86,8 @@ pub data SaysAfterTime : List (List ℕ) → Taf → Type 0 where
       → IsValidity validity taf → taf.state ≡ Normal → ((more : List (List ℕ)) → rest ≡ codes "CNL" ∷ more → ⊥)
       → SaysParts rest taf → SaysAfterTime (validity ∷ rest) taf
 
--- Groups say a forecast that was received at a moment. Its time lies within the five days that begin three
--- days before the day of receipt.
+-- The groups of a TAF received at a moment: TAF, modifiers, a station, a time, and what follows. The day of the time
+-- is one of the five that begin three days before the day of receipt.
 pub record ReadsTaf (groups : List (List ℕ)) (receipt : ℕ) (taf : Taf) : Type 0 where
   pub words : List (List ℕ)
   pub time : List ℕ

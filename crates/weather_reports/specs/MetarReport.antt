@@ -1,5 +1,4 @@
--- What a METAR or SPECI says, as a relation: optional words, a station, a time, and NIL or a body, which is
--- the groups before the first word that ends it (FMH-1, chapter 12; WMO FM 15).
+-- The form of a METAR or SPECI as a relation (FMH-1, chapter 12; WMO FM 15).
 use Rattle.std.specs.Prelude.{◌≡◌, ◌⊎◌, ℕ, ◌-◌, ◌/◌, Bool, true, false, List, [], ◌∷◌, ◌++◌, None, Ok, codes, All, Contains, Decides}
 use Rattle.desk_io.specs.Station.{is_station}
 use Rattle.codes.specs.Moment.{time_of}
@@ -8,37 +7,37 @@ use Rattle.codes.specs.Cond.{named_cond, shape_fault}
 use Rattle.codes.specs.declared.fault.Form.TheVariants.{Report}
 use Rattle.weather_reports.specs.declared.metar.Metar.{Metar}
 
--- the optional word in front, and whether it is that of a special report
+-- the optional first word, and whether it is SPECI
 pub data IsReportWord : List (List ℕ) → Bool → Type 0 where
   unnamed : IsReportWord [] false
   metar : IsReportWord (codes "METAR" ∷ []) false
   speci : IsReportWord (codes "SPECI" ∷ []) true
 
--- the optional word of a correction
+-- the optional COR before the station
 pub data IsCorrection : List (List ℕ) → Bool → Type 0 where
   uncorrected : IsCorrection [] false
   corrected : IsCorrection (codes "COR" ∷ []) true
 
--- a word that ends the body: remarks and trends aren't read
+-- a word that ends the body; remarks and trends aren't read
 pub data EndsBody : List ℕ → Type 0 where
   remarks : EndsBody (codes "RMK")
   no_change : EndsBody (codes "NOSIG")
   temporary : EndsBody (codes "TEMPO")
   becoming : EndsBody (codes "BECMG")
 
--- what follows the body: nothing, or a word that ends it
+-- the groups after the body: none, or a word that ends the body and the rest
 pub data FollowsBody : List (List ℕ) → Type 0 where
   nothing : FollowsBody []
   end : {word : List ℕ} → EndsBody word → (rest : List (List ℕ)) → FollowsBody (word ∷ rest)
 
--- the body of some groups: those before the first word that ends it
+-- the body of some groups: those before the first word that ends a body
 pub record IsBodyOf (groups body : List (List ℕ)) : Type 0 where
   pub rest : List (List ℕ)
   pub split : groups ≡ body ++ rest
   pub goes_on : All (λ group. EndsBody group → ⊥) body
   pub ends : FollowsBody rest
 
--- a report says what its body names, where each group of it has its shape
+-- the report states what its body reports, and each group of the body is well-formed
 pub record SaysBody (body : List (List ℕ)) (in_front : Bool) (report : Metar) : Type 0 where
   pub is_there : report.nil ≡ false
   pub shaped : All (λ group. shape_fault Report group ≡ None) body
@@ -47,7 +46,7 @@ pub record SaysBody (body : List (List ℕ)) (in_front : Bool) (report : Metar) 
   pub is_automatic : Decides report.auto (Contains body (codes "AUTO"))
   pub counts : report.unread ≡ unread_count body
 
--- a report says that there is none
+-- the report is NIL, and reports nothing
 pub record SaysNone (in_front : Bool) (report : Metar) : Type 0 where
   pub is_not_there : report.nil ≡ true
   pub names_no_ceiling : report.cond.ceiling ≡ None
@@ -56,14 +55,14 @@ pub record SaysNone (in_front : Bool) (report : Metar) : Type 0 where
   pub is_not_automatic : report.auto ≡ false
   pub counts_none : report.unread ≡ 0
 
--- what stands after the time: NIL, or the body
+-- the groups after the time: NIL or the body
 pub data SaysAfterTime : List (List ℕ) → Bool → Metar → Type 0 where
   none : {rest : List (List ℕ)} {in_front : Bool} {report : Metar} → SaysNone in_front report → SaysAfterTime (codes "NIL" ∷ rest) in_front report
   some : {rest body : List (List ℕ)} {in_front : Bool} {report : Metar}
       → ((more : List (List ℕ)) → rest ≡ codes "NIL" ∷ more → ⊥) → IsBodyOf rest body → SaysBody body in_front report → SaysAfterTime rest in_front report
 
--- Groups say a report that was received at a moment. Its time lies within the five days that begin three
--- days before the day of receipt.
+-- The groups of a report received at a moment: optional words, a station, a time, and NIL or a body. The day of the
+-- time is one of the five that begin three days before the day of receipt.
 pub record ReadsMetar (groups : List (List ℕ)) (receipt : ℕ) (report : Metar) : Type 0 where
   pub word : List (List ℕ)
   pub correction : List (List ℕ)

@@ -1,4 +1,4 @@
--- The words of forecasts (WMO FM 51).
+-- The words of a TAF (WMO FM 51).
 use Rattle.std.specs.Prelude.{ℕ, Bool, true, false, ◌&&◌, ◌||◌, ◌==◌, if◌then◌else◌, List, [], ◌∷◌, Option, None, Some, is_some, codes}
 use Rattle.std.specs.Str.{bytes_eq}
 use Rattle.desk_time.specs.Digits.{digit}
@@ -6,11 +6,11 @@ use Rattle.weather_reports.specs.declared.forecast.PartKind.TheVariants.{Becomin
 use Rattle.weather_reports.specs.declared.change.Change.{Change}
 use Rattle.weather_reports.specs.declared.change.Change.TheVariants.{At, During, Chance, Misshaped}
 
--- AMD: the forecast replaces an earlier one
+-- AMD: the forecast amends an earlier one
 abbrev pub is_amended : List ℕ → Bool
 is_amended g = bytes_eq g (codes "AMD")
 
--- COR: it corrects an earlier one
+-- COR: the forecast corrects an earlier one
 abbrev pub is_corrected : List ℕ → Bool
 is_corrected g = bytes_eq g (codes "COR")
 
@@ -32,12 +32,12 @@ is_remarks g = bytes_eq g (codes "RMK")
 abbrev pub is_tempo : List ℕ → Bool
 is_tempo g = bytes_eq g (codes "TEMPO")
 
--- what follows FM: two digits each of a day, an hour and a minute
+-- the text after FM: six characters, for day, hour and minute
 abbrev pub moment_word : List ℕ → Change
 moment_word (a ∷ b ∷ c ∷ d ∷ e ∷ f ∷ []) = At (a ∷ b ∷ c ∷ d ∷ e ∷ f ∷ [])
 moment_word _ = Misshaped
 
--- what follows PROB: a chance of thirty or of forty in a hundred
+-- the text after PROB: a chance of 30 or 40 percent
 abbrev pub chance_word : List ℕ → Change
 chance_word percent = if bytes_eq percent (codes "30") || bytes_eq percent (codes "40") then Chance else Misshaped
 
@@ -45,13 +45,13 @@ abbrev pub period_word : List ℕ → Option Change
 period_word g =
     if bytes_eq g (codes "BECMG") then Some (During Becoming) else (if is_tempo g then Some (During Tempo) else None)
 
--- a group that begins with PROB, or a word
+-- a group that begins with PROB, or one of the words BECMG and TEMPO
 abbrev pub other_word : List ℕ → Option Change
 other_word (a ∷ b ∷ c ∷ d ∷ rest) =
     if bytes_eq (a ∷ b ∷ c ∷ d ∷ []) (codes "PROB") then Some (chance_word rest) else period_word (a ∷ b ∷ c ∷ d ∷ rest)
 other_word _ = None
 
--- The change that a group announces. FM and a digit announce one, and so does each group that begins with PROB.
+-- The kind of change word that a group is: BECMG, TEMPO, or a group that begins with FM and a digit, or with PROB.
 unfoldable pub change_of : List ℕ → Option Change
 change_of (a ∷ b ∷ c ∷ rest) =
     if (a == 70) && (b == 77) && is_some (digit c) then Some (moment_word (c ∷ rest)) else other_word (a ∷ b ∷ c ∷ rest)
@@ -64,6 +64,6 @@ is_chance (Some (During kind)) = false
 is_chance (Some Misshaped) = false
 is_chance None = false
 
--- The change that a group announces after the one before it. TEMPO after PROB30 or PROB40 is a word of theirs.
+-- The kind of change word, given the group before it. TEMPO after PROB30 or PROB40 belongs to that word.
 abbrev pub change_after : List ℕ → List ℕ → Option Change
 change_after before g = if is_tempo g && is_chance (change_of before) then None else change_of g

@@ -5,16 +5,16 @@ ghost use Rattle.weather_reports.specs.Words.{change_of};
 use crate::forecast::PartKind;
 use desk_time::digit;
 
-// What a change word announces.
+// The kinds of change words.
 #[derive(Clone, Copy)]
 pub(crate) enum Change {
-    // `FM` and what follows it: a part from that moment on.
+    // `FM` and six characters, of which the first is a digit: a part from that moment on.
     At([u8; 6]),
     // `BECMG` or `TEMPO`: a part of that kind, whose period follows.
     During(PartKind),
-    // `PROB30` or `PROB40`: a chance, whose period follows, perhaps after `TEMPO`.
+    // `PROB30` or `PROB40`: a part that may hold. Its period follows, possibly after `TEMPO`.
     Chance,
-    // `FM` and a digit but not six digits, or `PROB` without 30 or 40: it begins as a change word and is none.
+    // Malformed: `FM`, a digit, and not six characters in all after `FM`; or `PROB` without 30 or 40.
     Misshaped,
 }
 
@@ -101,7 +101,7 @@ fn other_word(group: &[u8]) -> Option<Change>
     }
 }
 
-// The change that a group announces, where it does.
+// The kind of change word that a group is, if it is one.
 #[tactic(auto, unfolding(crate::specs::Words::change_of))]
 pub(crate) fn change_of(group: &[u8]) -> Option<Change>
     ensures { result ≡ change_of group.now }
@@ -121,7 +121,7 @@ fn is_chance(change: Option<Change>) -> bool
     }
 }
 
-// The same after the group before it: `TEMPO` after a chance is a word of the chance.
+// The same, given the group before it. `TEMPO` after `PROB30` or `PROB40` belongs to that word.
 pub(crate) fn change_after(before: &[u8], group: &[u8]) -> Option<Change>
     ensures { result ≡ spec.change_after before.now group.now }
 {

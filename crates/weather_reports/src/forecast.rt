@@ -3,66 +3,66 @@ use desk_io::{Copied, Listed, OutOfMemory, Station};
 use desk_time::Minute;
 use std::alloc::Global;
 
-/// Whether a forecast says anything.
+/// Whether a TAF contains a forecast.
 #[derive(Clone, Copy, Debug, PartialEq, Eq)]
 pub enum TafState {
-    /// It forecasts.
+    /// It contains a forecast.
     Normal,
-    /// It says that there is no forecast.
+    /// It reports that there is no forecast (`NIL`).
     Nil,
-    /// It cancels the forecast.
+    /// It cancels the forecast (`CNL`).
     Cancelled,
 }
 
-/// How a part of a forecast changes what stands before it.
+/// How a part changes the parts before it.
 #[derive(Clone, Copy, Debug, PartialEq, Eq)]
 pub enum PartKind {
-    /// What holds from the start.
+    /// The conditions from the start of the validity on.
     Base,
-    /// It replaces all that stands before it from a moment on.
+    /// It replaces all earlier parts from its first moment on (`FM`).
     From,
-    /// The change to it takes place during its period.
+    /// The conditions change to those of the part during its period (`BECMG`).
     Becoming,
-    /// It holds from time to time in its period.
+    /// The conditions hold temporarily in its period (`TEMPO`).
     Tempo,
-    /// It may hold in its period.
+    /// The conditions may hold in its period (`PROB30` or `PROB40`).
     Prob,
 }
 
 /// One part of a forecast.
 #[derive(Clone, Copy, Debug, PartialEq, Eq)]
 pub struct Part {
-    /// How it changes what stands before it.
+    /// How it changes the parts before it.
     pub kind: PartKind,
-    /// Its first moment.
+    /// The first moment of its period.
     pub from: Minute,
-    /// Its last moment.
+    /// The last moment of its period.
     pub to: Minute,
-    /// What its groups name.
+    /// The condition that its groups report.
     pub cond: Cond,
 }
 
 /// The parts of a forecast in order, the base first.
 pub type Parts = Listed<Part>;
 
-/// What a TAF says.
+/// The reading of a TAF.
 #[derive(Debug, Drop)]
 pub struct Taf {
-    /// The airport that it is for.
+    /// The airport of the forecast.
     pub station: Station,
-    /// When it was issued.
+    /// The moment of issue.
     pub issued: Minute,
-    /// The first moment that it is valid for, and the moment of issue where there is no forecast.
+    /// The first moment of validity. In a `Nil` TAF, the moment of issue.
     pub from: Minute,
-    /// The last moment that it is valid for, and the moment of issue where there is no forecast.
+    /// The last moment of validity. In a `Nil` TAF, the moment of issue.
     pub to: Minute,
-    /// Whether it replaces an earlier one that had gone wrong.
+    /// Whether it amends an earlier forecast (`AMD`).
     pub amended: bool,
-    /// Whether it corrects an earlier one.
+    /// Whether it corrects an earlier forecast (`COR`).
     pub corrected: bool,
-    /// Whether it says anything.
+    /// Whether it contains a forecast.
     pub state: TafState,
-    /// What it says, and nothing where it isn't `Normal`.
+    /// The parts of the forecast. Empty unless the state is `Normal`.
     pub parts: Parts,
 }
 

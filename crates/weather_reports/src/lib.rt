@@ -1,4 +1,4 @@
-//! Observations (METAR and SPECI: FMH-1, chapter 12; WMO FM 15) and forecasts of airports (TAF: WMO FM 51).
+//! Reads weather reports: METAR and SPECI (FMH-1, chapter 12; WMO FM 15) and TAF (WMO FM 51).
 #![tactic(auto)]
 
 mod change;

@@ -14,28 +14,28 @@ use desk_io::Station;
 use desk_time::{FIRST, LAST, Minute};
 use std::alloc::Global;
 
-/// What a METAR or SPECI says.
+/// The reading of a METAR or SPECI.
 #[derive(Clone, Copy, Debug, PartialEq, Eq)]
 pub struct Metar {
-    /// Whether it is a SPECI.
+    /// Whether the report is a SPECI.
     pub special: bool,
-    /// Where it was observed.
+    /// The airport that was observed.
     pub station: Station,
-    /// When it was observed.
+    /// The moment of observation.
     pub observed: Minute,
-    /// Whether it corrects an earlier report.
+    /// Whether it corrects an earlier report (`COR`).
     pub corrected: bool,
-    /// Whether no person took part in it.
+    /// Whether it is fully automated (`AUTO`).
     pub auto: bool,
-    /// Whether it says that there is no report, and so names nothing.
+    /// Whether it reports nothing (`NIL`).
     pub nil: bool,
-    /// What its body names.
+    /// The condition that its body reports. Unknown in a `NIL` report.
     pub cond: Cond,
-    /// How many groups of its body are in no class that is read.
+    /// How many groups of its body have class `Unread`.
     pub unread: u32,
 }
 
-// What stands before the body.
+// The groups before the body.
 #[derive(Clone, Copy)]
 struct Head {
     special: bool,
@@ -233,8 +233,7 @@ fn reading_in(groups: &[Group<'_>], receipt: Minute) -> Result<Metar, BadReport>
     )
 }
 
-/// What the groups of a METAR or SPECI say that was received at that moment, as `read_metar` reads its
-/// text. It takes no memory.
+/// Reads the groups of a METAR or SPECI received at `receipt`, as `read_metar` reads its text. Allocates nothing.
 pub fn metar_in(groups: &[Group<'_>], receipt: Minute) -> Result<Metar, BadReport>
     requires count { length groups.now ≤ 2049 }
     requires low { FIRST ≤ receipt }
@@ -246,10 +245,9 @@ pub fn metar_in(groups: &[Group<'_>], receipt: Minute) -> Result<Metar, BadRepor
     reading_in(groups, receipt)
 }
 
-/// The reading of the text of a METAR or SPECI that was received at that moment. A day of the month
-/// is the one within the five days that begin three days before the day of receipt. `Bad` comes
-/// exactly where there is no reading, with the first group from the left that doesn't read; a text of
-/// more than 2,048 bytes is `TooLong` at group 0.
+/// Reads the text of a METAR or SPECI received at `receipt`. The day of observation is one of the five days that
+/// begin three days before the day of receipt. `Bad` names the first group that can't be read. A text of more than
+/// 2,048 bytes is `TooLong` at group 0.
 #[tactic(auto, unfolding(crate::specs::MetarReading::metar_of))]
 pub fn read_metar(alloc: Global, text: &[u8], receipt: Minute) -> Result<Metar, ReportFault>
     requires low { FIRST ≤ receipt }

@@ -17,7 +17,7 @@ fn ends_stretch(group: &[u8]) -> bool
     is_remarks(group) || change_of(group).is_some()
 }
 
-// The groups up to the next change word, to the remarks or to the end.
+// The groups before the next change word, the remarks or the end.
 fn stretch<'a, 'b>(groups: &'b [Group<'a>]) -> &'b [Group<'a>]
     ensures value { result.now ≡ spec.stretch groups.now }
     ensures within { length result.now ≤ length groups.now }
@@ -30,7 +30,7 @@ fn stretch<'a, 'b>(groups: &'b [Group<'a>]) -> &'b [Group<'a>]
     groups
 }
 
-// The part of a stretch that begins at that number.
+// Reads a part whose groups begin at number `number`.
 pub(crate) fn part_of(
     kind: PartKind,
     from: Minute,
@@ -53,7 +53,7 @@ pub(crate) fn part_of(
     })
 }
 
-// All but the first group, where there is one.
+// The groups after the first one.
 pub(crate) fn after_first<'a, 'b>(groups: &'b [Group<'a>]) -> &'b [Group<'a>]
     ensures value { result.now ≡ drop 1 groups.now }
     ensures within { length result.now ≤ length groups.now }
@@ -112,7 +112,7 @@ fn part_likely(number: u32, groups: &[Group<'_>], first_day: u64) -> Result<Part
     }
 }
 
-// The part that a change word at that number begins, by the groups after it.
+// Reads the part that a change word at group `number` begins. The groups `after` follow that word.
 fn part_at(
     change: Change,
     number: u32,
@@ -138,7 +138,7 @@ fn part_at(
     }
 }
 
-// The parts so far, and that of a change word at that number, where there is one.
+// Appends the part of a change word at group `number`, if there is one.
 fn and_change(
     mut parts: Parts,
     change: Option<Change>,
@@ -161,8 +161,7 @@ fn and_change(
     Ok(parts)
 }
 
-// The parts so far, and those of the change words up to the remarks, of groups the first of which has
-// that number.
+// Appends the parts of all change words before the remarks. The first group has number `number`.
 #[tactic(auto, using(crate::proofs::PartLaws::parts_step))]
 pub(crate) fn with_parts(
     mut parts: Parts,

@@ -19,7 +19,7 @@ use desk_io::Station;
 use desk_time::{FIRST, LAST, Minute};
 use std::alloc::Global;
 
-// What stands before the validity.
+// The groups before the validity.
 #[derive(Clone, Copy)]
 struct Head {
     station: Station,
@@ -76,7 +76,7 @@ fn forecast(head: &Head, state: TafState, from: Minute, to: Minute, parts: Parts
     }
 }
 
-// The forecast whose base begins at that number.
+// Reads a forecast whose base begins at group `number`.
 fn normal(
     alloc: Global,
     head: &Head,
@@ -172,7 +172,7 @@ fn head_of(modifiers: &[Group<'_>], station: Station, issued: Minute) -> Head
     }
 }
 
-// The forecast of what follows the station, from that number on.
+// Reads the groups after the station, numbered from `number`.
 fn taf_after_station(
     alloc: Global,
     modifiers: &[Group<'_>],
@@ -192,7 +192,7 @@ fn taf_after_station(
     taf_after_time(alloc, &head, number + 1, after_first(groups))
 }
 
-// The forecast of what follows the words in front, from that number on.
+// Reads the groups after `AMD` and `COR`, numbered from `number`.
 fn after_modifiers(
     alloc: Global,
     modifiers: &[Group<'_>],
@@ -217,7 +217,7 @@ fn after_modifiers(
     )
 }
 
-// How many of the words AMD and COR stand in front.
+// How many of the leading groups are `AMD` or `COR`.
 fn modifier_count(groups: &[Group<'_>]) -> usize
     ensures value { result ≡ spec.modifier_count groups.now }
     ensures within { result ≤ length groups.now }
@@ -249,7 +249,7 @@ fn taf_reading_in(alloc: Global, groups: &[Group<'_>], receipt: Minute) -> Resul
     )
 }
 
-/// What the groups of a TAF say that was received at that moment, as `read_taf` reads its text.
+/// Reads the groups of a TAF received at `receipt`, as `read_taf` reads its text.
 pub fn taf_in(alloc: Global, groups: &[Group<'_>], receipt: Minute) -> Result<Taf, ReportFault>
     requires count { length groups.now ≤ 2049 }
     requires low { FIRST ≤ receipt }
@@ -263,11 +263,10 @@ pub fn taf_in(alloc: Global, groups: &[Group<'_>], receipt: Minute) -> Result<Ta
     taf_reading_in(alloc, groups, receipt)
 }
 
-/// The reading of the text of a TAF that was received at that moment. Its first group is `TAF`. A day
-/// of the month is the one within five days: for the time of issue those that begin three days before
-/// the day of receipt, for all others those that begin one day before the day of issue. `Bad` comes
-/// exactly where there is no reading, with the first group from the left that doesn't read; a text of
-/// more than 2,048 bytes is `TooLong` at group 0.
+/// Reads the text of a TAF received at `receipt`. Its first group must be `TAF`. The day of issue is one of the five
+/// days that begin three days before the day of receipt. Every other day is one of the five that begin one day before
+/// the day of issue. `Bad` names the first group that can't be read. A text of more than 2,048 bytes is `TooLong` at
+/// group 0.
 #[tactic(auto, unfolding(crate::specs::TafReading::taf_of))]
 pub fn read_taf(alloc: Global, text: &[u8], receipt: Minute) -> Result<Taf, ReportFault>
     requires forecast { first_group (groups_of text.now) ≡ codes "TAF" }

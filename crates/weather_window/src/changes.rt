@@ -6,7 +6,7 @@ ghost use Rattle.weather_window.specs.Running.{sooner, soonest};
 use desk_time::{Minute, SHOWN_LAST};
 use weather_reports::{Metar, Part, Taf};
 
-// The moments after one moment, up to another.
+// The moments after `after`, up to and including `to`.
 #[derive(Clone, Copy)]
 struct Stretch {
     after: Minute,
@@ -72,7 +72,7 @@ fn report_change(metar: Option<&Metar>, hold: u32, stretch: Stretch) -> Option<M
     )
 }
 
-/// The first moment after one moment, up to another, at which the weather that controls can change.
+/// Finds the first moment after `after`, up to and including `to`, at which the controlling weather can change.
 #[tactic(auto, using(crate::proofs::ChangeLaws::next_change_law))]
 pub(crate) fn next_change(
     taf: Option<&Taf>,

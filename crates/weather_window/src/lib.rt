@@ -1,5 +1,5 @@
-//! The weather that controls an airport: what a forecast and a report name at a moment, and the worst
-//! over a stretch of time.
+//! The controlling weather of an airport: the least ceiling and visibility of forecast and report at a moment, and
+//! the worst over a time window.
 #![tactic(auto)]
 
 mod changes;

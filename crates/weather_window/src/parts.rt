@@ -7,25 +7,25 @@ use codes::{Cond, lesser};
 use desk_time::Minute;
 use weather_reports::{Part, PartKind};
 
-// What a part of a forecast does at a moment.
+// How a part of a forecast counts at a moment.
 #[derive(Clone, Copy)]
 enum Role {
-    // It has replaced all before it.
+    // It has replaced all earlier parts.
     Replaces,
-    // What it names holds for good.
+    // It is a finished change, whose values last.
     Lasts,
-    // What it names may hold.
+    // It is a change in progress, or a temporary part within its period.
     Passes,
-    // It does nothing then.
+    // It doesn't count.
     Silent,
 }
 
-// What the parts so far name of one element.
+// The values of one element in the parts so far.
 #[derive(Clone, Copy)]
 struct Holding {
-    // The value that holds for good.
+    // The value that lasts until another part replaces it.
     lasting: Option<u32>,
-    // The least of those that may hold.
+    // The least value of changes in progress and temporary parts.
     passing: Option<u32>,
 }
 
@@ -94,7 +94,7 @@ fn after_first(first: &Part, after: &[Part], minute: Minute) -> Cond
     }
 }
 
-/// What the parts of a forecast name at a moment.
+/// The least values of the parts of a forecast at a moment.
 #[tactic(auto, unfolding(crate::specs::Running::least_at))]
 pub(crate) fn parts_at(parts: &[Part], minute: Minute) -> Cond
     ensures ceiling { result.ceiling ≡ spec.least_at ceiling_element minute parts.now }

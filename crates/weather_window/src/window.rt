@@ -68,12 +68,12 @@ fn both_at(taf: Option<&Taf>, metar: Option<&Metar>, hold: u32, minute: Minute) 
     }
 }
 
-/// The condition that controls at a moment: the least ceiling and the least visibility that the
-/// forecast and the report name then, each unknown where neither names it.
+/// Returns the controlling weather at a moment: the least ceiling and the least visibility of the forecast and the
+/// report. An element is unknown if neither gives it. Allocates nothing.
 ///
-/// Of a forecast the last part that has replaced those before it counts, and the parts after it: what a
-/// change names from its end on, what one names while it takes place, and what may hold for a time. A
-/// report counts from its observation on for `hold` minutes. It takes no memory.
+/// Within the forecast's validity, the last part that has replaced all earlier ones counts, and so do the parts after
+/// it. A finished change replaces the values that it gives. Changes in progress and temporary parts count in
+/// addition. A report counts from its observation on for `hold` minutes.
 #[tactic(auto, unfolding(crate::specs::Window::cond_at))]
 pub fn at(taf: Option<&Taf>, metar: Option<&Metar>, hold: u32, minute: Minute) -> Cond
     ensures { result ≡ cond_at (option_copied taf.entry) (option_copied metar.entry) hold minute }
@@ -90,7 +90,7 @@ fn worse(a: Option<u32>, b: Option<u32>) -> Option<u32>
     }
 }
 
-// One step: what controls at a moment.
+// Calls `at`, and counts one step.
 #[tactic(auto, unfolding(crate::specs::Window::cond_at))]
 fn counted_at<L: Ledger>(
     taf: Option<&Taf>,
@@ -138,11 +138,11 @@ fn worst_over<L: Ledger>(
     worst
 }
 
-/// The worst of `at` over every minute from the first to the last, for each element: unknown where one
-/// minute is unknown, and the least otherwise. It takes no memory.
+/// Returns the worst of `at` over every minute from `from` to `to`, for each element separately. An element is
+/// unknown if any minute is unknown, and otherwise has its least value. Allocates nothing.
 ///
-/// It calls `at` for the first minute and for each later one at which what is named can change. Each
-/// such call is one step, and there are at most three for each part of the forecast, and five more.
+/// This calls `at` for the first minute and for each later one at which the result can change. Each call is one step.
+/// There are at most three steps for each part of the forecast, and five more.
 #[tactic(auto, unfolding(crate::specs::Window::worst_cond))]
 pub fn worst_counted<L: Ledger>(
     taf: Option<&Taf>,
@@ -184,8 +184,7 @@ fn worst_uncounted<L: Ledger>(
     worst_counted(taf, metar, hold, from, to, &mut steps)
 }
 
-/// The worst of `at` over every minute from the first to the last, as `worst_counted` answers it, with
-/// its steps counted nowhere. It takes no memory.
+/// Returns what `worst_counted` returns, without counting steps. Allocates nothing.
 pub fn worst(taf: Option<&Taf>, metar: Option<&Metar>, hold: u32, from: Minute, to: Minute) -> Cond
     requires hold { hold ≤ 1440 }
     requires moments { to ≤ SHOWN_LAST }

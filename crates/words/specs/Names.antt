@@ -1,4 +1,4 @@
--- What the reader of words is told: the names of commands, and any words after each.
+-- The configuration of the argument parser: the names of commands, and any arguments after each.
 use Rattle.std.specs.Prelude.{ℕ, List, Option, None, Some, true, codes}
 use Rattle.clap.specs.Lexer.{usize_max}
 use Rattle.clap.specs.Simple.{App, new_app, new_rule, with_rule, with_subcommand}
@@ -7,14 +7,14 @@ use Rattle.desk_time.specs.Digits.{◌>>=◌}
 use Rattle.words.specs.Words.{task_of}
 use Rattle.words.specs.declared.task.Task.{Task}
 
--- the words after a name, as many as there are
+-- any number of arguments after a name
 abbrev pub rest_rule : Rule
 rest_rule = record (new_rule (codes "words")) { range = Some (record { start_inclusive = 0; end_inclusive = usize_max }) }
 
 abbrev pub leaf : List ℕ → App
 leaf name = with_rule (new_app name) rest_rule
 
--- no name of the program, no help and no version
+-- the top level, without a name of the program, help or version
 abbrev pub top : App
 top = let a = new_app (codes "desk") in record a {
   top = record a.top {
@@ -26,7 +26,7 @@ top = let a = new_app (codes "desk") in record a {
   };
 }
 
--- one name more
+-- one more command
 abbrev pub with_name : List ℕ → App → App
 with_name name app = with_subcommand app (leaf name).top
 
@@ -35,7 +35,7 @@ desk_app =
     with_name (codes "make") (with_name (codes "import") (with_name (codes "weather")
     (with_name (codes "serve") (with_name (codes "race") (with_name (codes "run") top)))))
 
--- what the name that the reader found asks for, with the words after it
+-- the task of the name that the parser found, with the arguments after it
 abbrev pub asked_in : Option (Text × List Row) → Option Task
 asked_in None = None
 asked_in (Some found) = all_of (codes "words") found.1 >>= λ rest. task_of found.0 rest

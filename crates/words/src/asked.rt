@@ -20,7 +20,7 @@ fn with_source(name: &str) -> Option<Task>
     }
 }
 
-// A number from 1 to a greatest one, in decimal.
+// A decimal number from 1 to `most`.
 fn count_of(most: u64, word: &str) -> Option<u64>
     requires { most ≤ 1_000_000_000_000_000 }
     ensures value { result ≡ spec.count_of most word.now }
@@ -50,7 +50,7 @@ fn make_of(number: &str, count: &str) -> Option<Task>
     Some(Task::Desk(DeskTask::Make { number, count }))
 }
 
-// What a name asks for with two words after it.
+// The task of a name with two arguments after it.
 fn with_numbers(name: &str, one: &str, two: &str) -> Option<Task>
     ensures value { result ≡ spec.with_numbers name.now one.now two.now }
     ensures within { IfSome result IsWithin }
@@ -86,7 +86,7 @@ fn with_words(name: &str, rest: &[&str]) -> Option<Task>
     }
 }
 
-/// What a name asks for with the words after it.
+/// The task of a name with the arguments after it.
 #[tactic(auto, using(crate::proofs::Found::race_of_words))]
 pub(crate) fn task_of(name: &str, rest: &[&str]) -> Option<Task>
     ensures value { result ≡ spec.task_of name.now (map (λ w. w.now) rest.entry.now) }

@@ -1,4 +1,4 @@
-//! Which words form a command.
+//! The program's arguments, and which of them form a command.
 #![tactic(auto)]
 
 mod asked;

@@ -45,7 +45,7 @@ fn are_words(words: &[String]) -> bool
     true
 }
 
-// A name, and words after it.
+// Whether the first argument is the name of a command, and no other is empty or begins with a dash.
 fn are_named(words: &[String]) -> bool
     ensures { result ≡ spec.are_named (map string_bytes words.now) }
 {
@@ -55,7 +55,7 @@ fn are_named(words: &[String]) -> bool
     }
 }
 
-// A name, and any words after it.
+// The command of this name, with any arguments.
 fn leaf<'a>(alloc: Global, name: &'a str) -> Result<Command<'a>, AllocError>
     ensures app { IfOk result (λ c. app_of c ≡ names.leaf name.entry.now) }
     ensures local { IfOk result (λ c. (out-Command c).has_globals ≡ false) }
@@ -63,7 +63,7 @@ fn leaf<'a>(alloc: Global, name: &'a str) -> Result<Command<'a>, AllocError>
     Command::new(alloc, name).arg(Arg::new(alloc, "words").num_args(..))
 }
 
-// The names of commands, with help turned off.
+// All commands, with the options for help and version turned off.
 fn desk<'a>(alloc: Global) -> Result<Command<'a>, AllocError>
     ensures { IfOk result (λ c. app_of c ≡ names.desk_app) }
 {
@@ -81,18 +81,18 @@ fn desk<'a>(alloc: Global) -> Result<Command<'a>, AllocError>
         .subcommand(leaf(alloc, "make")?)
 }
 
-// A name and words after it are read, unless memory runs out.
+// Reads a name and the arguments after it. Fails only if memory runs out.
 fn read<'a>(alloc: Global, words: &'a [String]) -> Result<ArgMatches<'a>, Error>
     requires { spec.are_named (map string_bytes words.now) ≡ true }
     ensures asked { IfOk result (λ m. names.asked_in (subcommand_rows_of m) ≡ task_in (map string_bytes words.now)) }
     ensures fails { IfErr result (λ e. kind_of e ≡ ErrorKind.OutOfMemory) }
 {
-    // As many values as clap can count.
+    // clap counts the values in a `usize`.
     prove!(words.len() <= usize::MAX);
     desk(alloc)?.try_get_matches_from(words)
 }
 
-// What was found: what a name asks for, with the words after it.
+// The task of the name that clap found, with the arguments after it.
 fn asked_in(matches: &ArgMatches<'_>) -> Option<Task>
     ensures value { result ≡ names.asked_in (subcommand_rows_of matches.now) }
     ensures within { IfSome result IsWithin }
@@ -101,7 +101,7 @@ fn asked_in(matches: &ArgMatches<'_>) -> Option<Task>
     task_of(name, found.get_strs("words")?)
 }
 
-// What the words ask for.
+// The task in the arguments, if they form a command.
 fn task_in(alloc: Global, words: &[String]) -> Result<Option<Task>, OutOfMemory>
     ensures value { IfOk result (λ task. task ≡ spec.task_in (map string_bytes words.now)) }
     ensures within { IfOk result (λ task. IfSome task IsWithin) }
@@ -111,12 +111,12 @@ fn task_in(alloc: Global, words: &[String]) -> Result<Option<Task>, OutOfMemory>
     }
     match read(alloc, words) {
         Ok(matches) => Ok(asked_in(&matches)),
-        // It is want of memory.
+        // Memory ran out.
         Err(_) => Err(OutOfMemory),
     }
 }
 
-// The words but the first.
+// The arguments after the first.
 fn rest_of(words: &[String]) -> &[String]
     ensures { map string_bytes result.now ≡ drop 1 (map string_bytes words.now) }
 {
@@ -126,7 +126,7 @@ fn rest_of(words: &[String]) -> &[String]
     }
 }
 
-// The names of the sources that are read for a task.
+// The names of the sources that the task reads.
 fn named(task: Task, words: &[String]) -> &[String]
     ensures { map string_bytes result.now ≡ spec.named task (drop 1 (map string_bytes words.now)) }
 {
@@ -136,11 +136,11 @@ fn named(task: Task, words: &[String]) -> &[String]
     }
 }
 
-/// The command that the words form: what is to be done, and the names of the sources that are read for it.
+/// The command in the arguments: its task, and the names of the sources that it reads.
 pub fn command(alloc: Global, words: &[String]) -> Result<Option<(Task, &[String])>, OutOfMemory>
     ensures value { IfOk result (λ c. option_map (λ c. (c.0, map string_bytes c.1.now)) c
         ≡ command_of (map string_bytes words.now)) }
-    // So many flights as it makes can be made.
+    // `make` never has a count above 20,000 flights.
     ensures within { IfOk result (λ c. IfSome c (λ c. IsWithin c.0)) }
 {
     match task_in(alloc, words)? {

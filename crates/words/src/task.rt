@@ -1,23 +1,23 @@
-/// What is to be done.
+/// What a command does.
 #[derive(Clone, Copy, Debug, PartialEq, Eq)]
 pub enum Task {
-    /// The reports of the file are read.
+    /// Reads the reports of a file.
     Weather,
-    /// A desk is opened over the tables and the kept rows, and this is done on it.
+    /// Opens a desk over the tables and the stored rows, and works on it.
     Desk(DeskTask),
 }
 
-/// What is to be done on an open desk.
+/// The work on an open desk.
 #[derive(Clone, Copy, Debug, PartialEq, Eq)]
 pub enum DeskTask {
-    /// The script is run.
+    /// Runs a script.
     Run,
-    /// The lanes run at once.
+    /// Runs 2 to 16 scripts at once, each as a lane.
     Race,
-    /// So many connections are served at a port.
+    /// Serves 1 to 1,000 connections at a port.
     Serve { port: u16, connections: u32 },
-    /// The reports of a file are imported.
+    /// Imports the reports of a file.
     Import,
-    /// So many flights are made of a number.
+    /// Makes calls for 1 to 20,000 flights from the seed `number`.
     Make { number: u32, count: u32 },
 }
