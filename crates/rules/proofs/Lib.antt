@@ -1,5 +1,6 @@
 pub mod FreshLaws
 pub mod OpenLaws
+pub mod RequiredLaws
 pub mod Needs
 pub mod DueLaws
 pub mod SightLaws

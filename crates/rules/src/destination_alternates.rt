@@ -131,7 +131,8 @@ impl<'a> Circumstances<'a> {
         }
     }
 
-    fn need(&self, leg: &Leg, reported: &Reported<'_>) -> Need
+    /// Whether a leg needs an alternate, by the reports of its destination.
+    pub(crate) fn need(&self, leg: &Leg, reported: &Reported<'_>) -> Need
         requires reported { IsReported (case_by self.now).grounds leg.now.to reported.now }
         requires moments { HasMoments leg.now }
         ensures { result ≡ need_of (case_by self.now) leg.now }

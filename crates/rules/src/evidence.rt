@@ -1,13 +1,13 @@
-ghost use Rattle.std.specs.Prelude.{◌≡◌, ◌++◌, map, IfOk, OnOk, option_to_list};
+ghost use Rattle.std.specs.Prelude.{◌≡◌, ◌≤◌, ◌++◌, length, map, IfOk, OnOk, option_to_list};
 ghost use Rattle.std.specs.Option.{option_copied};
 ghost use Rattle.facts.specs.Latest as latest;
 ghost use Rattle.facts.specs.Latest.{metar_latest, taf_latest};
-ghost use Rattle.deferrals.specs.Held.{without};
+ghost use Rattle.deferrals.specs.Held.{AreRising, without};
 ghost use Rattle.deferrals.specs.Limits.{is_of, open_on as opened};
-ghost use Rattle.rules.specs.Grounds.{reports_of, once_cleared, deferrals_of};
+ghost use Rattle.rules.specs.Grounds.{reports_of, once_cleared, deferrals_of, grounds_of, grounds_held};
 ghost use Rattle.rules.specs.Evidence as spec;
 
-use deferrals::{Deferral, Deferrals};
+use deferrals::{DEFERRAL_LIMIT, Deferral, Deferrals};
 use desk_io::{OutOfMemory, Station};
 use desk_time::Minute;
 use facts::{Read, Report, Reports};
@@ -187,6 +187,31 @@ fn push_deferred<'a>(
 }
 
 impl<'a> Evidence<'a> {
+    /// The evidence that the desk holds, without a change.
+    #[tactic(auto, using(crate::proofs::OpenLaws::and_none))]
+    pub(crate) fn held(
+        facts: &'a Reports,
+        deferrals: &'a Deferrals,
+        tables: &'a Tables,
+        moment: Minute,
+    ) -> Evidence<'a>
+        ensures grounds { grounds_of result ≡ grounds_held tables.now facts.now.reports deferrals.now.list moment }
+        ensures few { length (deferrals_of result) ≤ DEFERRAL_LIMIT }
+        ensures rising { AreRising (deferrals_of result) }
+    {
+        // This call proves that the ids increase and that the list is within its limit.
+        let _ = deferrals.as_slice();
+        Evidence {
+            held: facts,
+            fresh: None,
+            deferrals,
+            deferred: None,
+            cleared: None,
+            tables,
+            moment,
+        }
+    }
+
     /// Returns the reading of the latest METAR or SPECI of a station.
     pub(crate) fn metar_of(&self, station: Station) -> Option<&'a Metar>
         ensures { option_copied result ≡ metar_latest (reports_of self.now) station }

@@ -159,7 +159,6 @@ fn times_of(plan: &Plan, phase: Phase, evidence: &Evidence<'_>) -> Times
 }
 
 // Returns the rules that the plan fails in this phase.
-
 fn findings(
     alloc: Global,
     plan: &Plan,
@@ -203,7 +202,6 @@ pub fn judge_by<L: Ledger>(
 /// rules judge the legs that aren't flown (14 CFR 121.613 to 121.652). Some of these judge only legs that haven't
 /// departed. A plan that fails its tests under the tables has one finding for that, besides those of the rules of
 /// time. It counts one step.
-#[tactic(auto, using(crate::proofs::OpenLaws::and_none))]
 pub fn judge<'a, L: Ledger>(
     alloc: Global,
     plan: &Plan,
@@ -226,16 +224,6 @@ pub fn judge<'a, L: Ledger>(
         deferrals.now.list moment)) }
     ensures steps { steps.new ≡ steps.old + 1 }
 {
-    // This call proves that the ids increase and that the list is within its limit.
-    let _ = deferrals.as_slice();
-    let evidence = Evidence {
-        held: facts,
-        fresh: None,
-        deferrals,
-        deferred: None,
-        cleared: None,
-        tables,
-        moment,
-    };
+    let evidence = Evidence::held(facts, deferrals, tables, moment);
     judge_by(alloc, plan, phase, evidence, steps)
 }

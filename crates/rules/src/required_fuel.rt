@@ -1,10 +1,12 @@
 ghost use Rattle.std.specs.Prelude.{◌≡◌};
 ghost use Rattle.ops_tables.specs.Tables.{airport_of};
+ghost use Rattle.plan.specs.Check.{HasMoments};
 ghost use Rattle.rules.specs.Fuel as spec;
 ghost use Rattle.rules.specs.Sights.{case_by, need_of, fuel_of, IsWithin};
 
 use crate::circumstances::Circumstances;
 use crate::destination_alternates::{Need, is_domestic, lists_none};
+use crate::weather::Reported;
 use desk_io::Station;
 use ops_tables::Tables;
 use plan::{Basis, Leg, required};
@@ -71,6 +73,16 @@ impl<'a> Circumstances<'a> {
             self.aircraft.hold_pph,
             self.limits.extra_fuel,
         )
+    }
+
+    /// Returns the fuel that a leg requires, in pounds (14 CFR 121.639, 121.645).
+    pub(crate) fn required_fuel(&self, leg: &Leg) -> u64
+        requires within { IsWithin self.now }
+        requires moments { HasMoments leg.now }
+        ensures { result ≡ spec.required_fuel (case_by self.now) leg.now }
+    {
+        let reported = Reported::of(&self.evidence, leg.to);
+        self.required(leg, self.need(leg, &reported))
     }
 
     /// Judges a leg by the rules on fuel.
