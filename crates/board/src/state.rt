@@ -1,4 +1,4 @@
-ghost use Rattle.std.specs.Prelude.{◌≡◌, ◌≤◌, ◌<◌, ◌+◌, ◌==◌, ◌||◌, false, length, map, slice_get, None, Some, IsTrue, IfOk, IfSome, OnOk, OnErr};
+ghost use Rattle.std.specs.Prelude.{◌≡◌, ◌≤◌, ◌<◌, ◌+◌, ◌==◌, ◌||◌, false, length, map, slice_get, None, Some, is_some, IsTrue, IfOk, IfSome, OnOk, OnErr};
 ghost use Rattle.std.specs.Option.{option_copied};
 ghost use Rattle.desk_state.specs.State.{start, release_at, alert_at};
 ghost use Rattle.desk_state.specs.Step.{answer_call, tick_to};
@@ -8,6 +8,7 @@ ghost use Rattle.desk_state.specs.Causes.{RefusesFor};
 ghost use Rattle.desk_state.specs.Counting.{most_judged, most_ticked};
 ghost use Rattle.desk_state.specs.Told.{takes_alert, AreDifferences, takes_none};
 ghost use Rattle.desk_state.specs.Once.{KeepsUsed};
+ghost use Rattle.desk_state.specs.Requests.{kept_at};
 ghost use Rattle.desk_state.specs.Repeats.{AcceptedOnce};
 ghost use Rattle.desk_state.specs.Sound.{IsBoard, IsEntered};
 ghost use Rattle.desk_state.specs.Sweeps.{SweepsWell};
@@ -31,9 +32,11 @@ use crate::steps::{install, prepare_answer, prepare_tick};
 use alerts::Alert;
 use asks::Call;
 use decisions::closing;
+use deferrals::Deferrals;
 use desk_io::{Change, OutOfMemory, Text};
 use desk_state::{Alerted, Content, Entry};
 use desk_time::{LAST, Minute};
+use facts::Reports;
 use ops_tables::Tables;
 use plan::Release;
 use records::Record;
@@ -303,6 +306,38 @@ impl Board {
     {
         self.room = None;
         self.held.hold_entries(alloc);
+    }
+
+    /// Returns true if a reply to the request of this person and number is kept, by binary search. Allocates no
+    /// memory.
+    pub fn kept(&self, actor: &[u8], number: u64) -> bool
+        ensures { result ≡ is_some (kept_at actor.now number self.now.state.kept) }
+    {
+        match self.held.content().replies().kept_at(actor, number) {
+            Some(_) => true,
+            None => false,
+        }
+    }
+
+    /// Returns the airline's operations tables.
+    pub fn tables(&self) -> &Tables
+        ensures { result.now ≡ self.now.state.tables }
+    {
+        self.held.content().tables()
+    }
+
+    /// Returns the reports in order of admission.
+    pub fn reports(&self) -> &Reports
+        ensures { result.now.reports ≡ self.now.state.reports }
+    {
+        self.held.content().reports()
+    }
+
+    /// Returns the open deferrals in order of their ids.
+    pub fn deferrals(&self) -> &Deferrals
+        ensures { result.now.list ≡ self.now.state.deferrals }
+    {
+        self.held.content().deferrals()
     }
 
     /// Looks up the release with this id.
