@@ -1,5 +1,5 @@
 -- The fuel that a leg requires: at any moment the same, and what the rules on fuel compare.
-use Rattle.std.proofs.Common.{◌≡◌, ℕ, ◌+◌, ◌==◌, Bool, true, false, cond, zero, suc, List, [], ◌∷◌, Option, None, Some, refl, sym, ap, ◌∙◌, ◌&&◌}
+use Rattle.std.proofs.Common.{◌≡◌, ℕ, ◌+◌, ◌==◌, Bool, true, false, cond, List, [], ◌∷◌, Option, None, Some, refl, sym, ap, ◌∙◌, ◌&&◌, arith, le-ltb}
 use Rattle.std.specs.Prelude.{IfSome, nat_lt}
 use Rattle.std.specs.List.{AllByRecursion}
 use Rattle.std.specs.Option.{option_map}
@@ -25,14 +25,14 @@ use Rattle.rules.specs.DestinationAlternates.{is_domestic, is_flag, place_if}
 use Rattle.rules.specs.Judgement.{leg_numbered, places_for, places_in_case, case_unless, case_for}
 use Rattle.rules.specs.Required.{required_by, required_at, required_in, required_of, IsCompared}
 
--- what holds of each leg holds of the leg of a number
-pub found_has : {P : Leg → Type 0} (number first : ℕ) (legs : List Leg) → AllByRecursion P legs → IfSome (leg_numbered number first legs) P
+-- the moments of the leg of a number can be written, as those of each leg
+by_number : (b : Bool) (leg : Leg) (rest : Option Leg) → HasMoments leg → IfSome rest HasMoments → IfSome (cond b (Some leg) rest) HasMoments
+by_number true leg rest here later = here
+by_number false leg rest here later = later
+
+pub found_has : (number first : ℕ) (legs : List Leg) → AllByRecursion HasMoments legs → IfSome (leg_numbered number first legs) HasMoments
 found_has number first [] all = tt
-found_has number first (leg ∷ legs) all = by (number == first)
-  where
-    by : (b : Bool) → IfSome (cond b (Some leg) (leg_numbered number (first + 1) legs)) P
-    by true = all.0
-    by false = found_has number (first + 1) legs all.1
+found_has number first (leg ∷ legs) all = by_number (number == first) leg (leg_numbered number (first + 1) legs) all.0 (found_has number (first + 1) legs all.1)
 
 -- the moment doesn't count
 module _ (tables : TableRows) (reports : List Report) (deferrals : List Deferral) (plan : Plan) (a b : ℕ) where
@@ -47,11 +47,11 @@ module _ (tables : TableRows) (reports : List Report) (deferrals : List Deferral
   by_state Flown (Some leg) = refl
 
   pub any_moment : (phase : Phase) (number : ℕ) → required_of plan phase number (grounds_held tables reports deferrals a) ≡ required_of plan phase number (grounds_held tables reports deferrals b)
+  unfolding required_of
   any_moment phase number = by_state (standing phase number) (leg_numbered number 1 plan.legs)
 
 none_below : (b : Bool) (m : ℕ) → [] ≡ place_if (b && nat_lt m 0) 0
-none_below true zero = refl
-none_below true (suc m) = refl
+none_below true m = ap (λ b. place_if b 0) (sym (le-ltb m 0 (omega arith)))
 none_below false m = refl
 
 -- what the rules on fuel compare
@@ -73,6 +73,7 @@ module _ (plan : Plan) (phase : Phase) (number : ℕ) (g : Grounds) (amount : �
   flag_at (Some aircraft) Flown leg = none_below (is_flag plan.kind) leg.minimum
 
   at_leg : (leg : Leg) → leg_numbered number 1 plan.legs ≡ Some leg → required_at (type_of g.tables plan.tail) plan g (standing phase number) leg ≡ amount
+  unfolding required_of
   at_leg leg found = sym (is ∙ ap (λ o. required_in plan g (standing phase number) o) found)
 
   domestic : (leg : Leg) → leg_numbered number 1 plan.legs ≡ Some leg → plan_fault g.tables plan ≡ None

@@ -1,5 +1,4 @@
 ghost use Rattle.std.specs.Prelude.{◌≡◌, ◌≤◌, ℕ, length, IfOk, IfSome};
-ghost use Rattle.std.specs.List.{AllByRecursion};
 ghost use Rattle.std.specs.Option.{option_copied};
 ghost use Rattle.ops_tables.specs.Tables.{type_of};
 ghost use Rattle.plan.specs.Check.{HasMoments, IsPlan};
@@ -18,19 +17,25 @@ use plan::{Leg, Phase, Plan, Standing, standing_of};
 use std::alloc::Global;
 
 // Returns the leg of a number, counted from 1.
-#[tactic(auto, using(crate::proofs::RequiredLaws::found_has))]
 fn leg_numbered(legs: &[Leg], number: u32) -> Option<&Leg>
-    requires few { length legs.now ≤ 1000 }
-    requires moments { AllByRecursion HasMoments legs.now }
-    ensures value { option_copied result ≡ leg_numbered number 1 legs.now }
-    ensures moments { IfSome (option_copied result) HasMoments }
+    requires { length legs.now ≤ 1000 }
+    ensures { option_copied result ≡ leg_numbered number 1 legs.now }
 {
     for (i, leg) in legs.iter().enumerate() {
-        if i as u32 + 1 == number {
+        if number == i as u32 + 1 {
             return Some(leg);
         }
     }
     None
+}
+
+// Returns the leg of a number, counted from 1, of a plan whose moments can be written.
+fn leg_of(plan: &Plan, number: u32) -> Option<&Leg>
+    requires { IsPlan plan.now }
+    ensures value { option_copied result ≡ leg_numbered number 1 plan.now.legs }
+    ensures moments { IfSome (option_copied result) HasMoments }
+{
+    leg_numbered(plan.legs.as_slice(), number)
 }
 
 // Returns the fuel that a leg which isn't flown requires.
@@ -72,6 +77,7 @@ fn required_at(
     }
 }
 
+#[tactic(auto, unfolding(crate::specs::Required::required_of))]
 fn required_now(
     alloc: Global,
     plan: &Plan,
@@ -83,7 +89,7 @@ fn required_now(
     requires few { length (deferrals_of evidence) ≤ DEFERRAL_LIMIT }
     ensures { IfOk result (λ n. n ≡ spec.required_of plan.now phase number (grounds_of evidence.entry)) }
 {
-    match leg_numbered(plan.legs.as_slice(), number) {
+    match leg_of(plan, number) {
         None => Ok(0),
         Some(leg) => required_at(alloc, plan, evidence, standing_of(phase, number), leg),
     }

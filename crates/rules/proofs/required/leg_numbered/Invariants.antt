@@ -1,6 +1,4 @@
-use Rattle.std.proofs.Common.{◌≡◌, ◌×◌, ◌+◌, drop}
-use Rattle.std.specs.List.{AllByRecursion}
-use Rattle.plan.specs.Check.{HasMoments}
+use Rattle.std.proofs.Common.{◌≡◌, ◌+◌, drop}
 use Rattle.rules.specs.Judgement.{leg_numbered}
 use Rattle.rules.proofs.required.leg_numbered.Given as goal
 
