@@ -4,7 +4,9 @@ import * as texts from './texts.js';
 
 const OLD_RELEASE = 30000;
 const AT_ONCE = 8;
-export const picture = { moment: '', releases: [], alerts: [], at: 0, trouble: null };
+// `trouble` is when the page first failed to get the board, and `reply` the desk's refusal of it, if it answered.
+const EMPTY = { moment: '', releases: [], alerts: [], at: 0, trouble: null, reply: null };
+export const picture = { ...EMPTY };
 const seen = { board: '', alerts: '' };
 const known = new Map();
 export const age = () => (picture.at ? Math.round((Date.now() - picture.at) / 1000) : 0);
@@ -18,12 +20,13 @@ export async function look() {
     if (alerts !== seen.alerts) picture.alerts = texts.alerts(await view('/alerts'));
     const isNew = text !== seen.board || picture.trouble !== null;
     Object.assign(seen, { board: text, alerts });
-    Object.assign(picture, board, { at: Date.now(), trouble: null });
+    Object.assign(picture, board, { at: Date.now(), trouble: null, reply: null });
     return isNew;
   } catch (fault) {
-    if (fault instanceof Refused) throw fault;
-    if (!(fault instanceof Unreached)) console.error(fault);
+    if (fault.endsSession) throw fault;
+    if (!(fault instanceof Unreached || fault instanceof Refused)) console.error(fault);
     picture.trouble ??= Date.now();
+    picture.reply = fault.reply ?? null;
     return false;
   }
 }
@@ -59,5 +62,5 @@ export async function lookCloser() {
 export function forget() {
   known.clear();
   Object.assign(seen, { board: '', alerts: '' });
-  Object.assign(picture, { moment: '', releases: [], alerts: [], at: 0, trouble: null });
+  Object.assign(picture, EMPTY);
 }

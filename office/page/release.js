@@ -8,7 +8,7 @@ import { picture, releaseOf, rowOf } from './picture.js';
 import { planPage } from './plan_form.js';
 import { emptyPlan } from './plans.js';
 import * as texts from './texts.js';
-import { amount, clock, hoursText, near, phaseText, reading, refusal } from './words.js';
+import { amount, clock, hoursText, near, phaseText, reading, viewRefusal } from './words.js';
 
 // Compares the digest of a text, computed here, with the one that the desk names.
 async function check({ text, digest }) {
@@ -97,9 +97,13 @@ export function releasePage(place, id, isAmending) {
           deferred && h('section', {}, h('h2', {}, `Deferred equipment of ${plan.tail}`), deferredList(deferred)))));
   };
   const failed = (fault) => {
-    if (fault instanceof Refused) show(place, title(`Release ${id}`), h('p', {}, refusal(fault.reply)));
-    else if (fault instanceof Unreached) notice('No connection to the desk.', 'bad');
-    else throw fault;
+    if (fault instanceof Unreached) notice('No connection to the desk.', 'bad');
+    else if (!(fault instanceof Refused)) throw fault;
+    else if (!shown || fault.reply.refused === 10) {
+      shown = '';
+      text = '';
+      show(place, title(`Release ${id}`), h('p', {}, viewRefusal(fault.reply)));
+    }
   };
   // Gets the view of the release. If it or the board is new, gets the other views too, and redraws what changed.
   async function refresh(isAnew = false, isNew = true) {
