@@ -47,7 +47,7 @@ function showAge() {
   at('picture').className = age() > OLD_SECONDS || isAway ? 'old' : '';
   at('trouble').hidden = !isAway;
   const since = isAway && `${new Date(picture.trouble).toISOString().slice(11, 19)}Z`;
-  const what = picture.reply ? `The desk refuses to show the board since ${since}. ${viewRefusal(picture.reply)}` : `No connection to the desk since ${since}.`;
+  const what = picture.reply ? `The desk has refused to show the board since ${since}. ${viewRefusal(picture.reply)}` : `No connection to the desk since ${since}.`;
   const text = isAway ? `${what} This page ${picture.moment ? `shows ${clock(picture.moment)}` : 'is empty'} and retries every second.` : '';
   if (at('trouble').textContent !== text) at('trouble').textContent = text;
 }
