@@ -16,7 +16,9 @@ const LEGEND = [
   ['Acknowledged', 'the holder has seen this version of the alert'],
   ['No rule fails now', 'the alert remains until a captain concurs, the release is cancelled, or the last leg arrives'],
 ];
-const filter = { text: '', mine: false, ended: false };
+const EVERYTHING = { text: '', mine: false, ended: false };
+const filter = { ...EVERYTHING };
+export const forgetFilter = () => Object.assign(filter, EVERYTHING);
 export const alertKind = (alert) => (!alert ? 'none' : alert.findings.length === 0 ? 'over' : alert.seen ? 'seen' : 'open');
 export const badge = (alert) => h('strong', { class: `badge ${alertKind(alert)}` }, BADGES[alertKind(alert)]);
 

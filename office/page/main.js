@@ -1,9 +1,9 @@
 // The page: signing in, which part is shown, and the view of the board every three seconds.
-import { at, h, hint, notice, show } from './dom.js';
+import { at, h, hint, notice, show, withdraw } from './dom.js';
 import { resumed, session, signIn, Unreached } from './desk.js';
-import { DONE } from './actions.js';
+import { doneText } from './actions.js';
 import { onWait } from './asking.js';
-import { boardPage } from './board.js';
+import { boardPage, forgetFilter } from './board.js';
 import { quiet, showSound, turnSound, watch } from './alarm.js';
 import { age, forget, look, lookCloser, picture } from './picture.js';
 import { planPage } from './plan_form.js';
@@ -79,14 +79,17 @@ function start() {
   round += 1;
   rounds(round);
   route();
-  resumed(onWait).then((it) => it && notice(it.reply.done ? `After the reload: ${DONE[it.ask.do]}` : refusal(it.reply), it.reply.done ? 'good' : 'bad'));
+  resumed(onWait).then((it) => it && notice(it.reply.done ? `After the reload: ${doneText(it.ask.do, it.reply.done)}` : refusal(it.reply), it.reply.done ? 'good' : 'bad'));
 }
 
 function leave(why = '') {
   round += 1;
   session.clear();
   forget();
+  forgetFilter();
   quiet();
+  notice('');
+  withdraw();
   for (const id of ['top', 'trouble']) at(id).hidden = true;
   history.replaceState(null, '', '#/board');
   fill = () => {};

@@ -4,7 +4,7 @@ import { kept, seen } from './asking.js';
 import { Refused, Unreached } from './desk.js';
 import { actions, digestLine, refused } from './actions.js';
 import { alertKind, badge, findingsList } from './board.js';
-import { picture, releaseOf, rowOf } from './picture.js';
+import { look, picture, releaseOf, rowOf } from './picture.js';
 import { planPage } from './plan_form.js';
 import { emptyPlan } from './plans.js';
 import * as texts from './texts.js';
@@ -52,11 +52,11 @@ function paper(id, revision, isPending) {
     h('p', { class: 'printed' }, `Release ${id} at ${picture.moment}, the desk’s time. The digest is the SHA-256 of the text.`));
 }
 
-function legs(plan) {
+function legs({ number, plan }, isPending) {
   const other = (it) => `${it.station} ${it.minutes} min${it.fuel === undefined ? '' : ` ${amount(it.fuel)} lb`}`;
   const fuel = (leg) => `burn ${amount(leg.burn)}, extra ${amount(leg.extra)}, minimum ${amount(leg.minimum)}, on board ${amount(leg.onboard)} lb`;
-  return h('section', {}, h('h2', {}, 'Legs'), plan.legs.map((leg, number) => h('p', {},
-    h('b', {}, `${number + 1} ${leg.from}–${leg.to}`), ` ${near(leg.etd, picture.moment)} to ${clock(leg.eta)}, ${leg.minutes} min. `,
+  return h('section', {}, h('h2', {}, `Legs of revision ${number}, ${isPending ? 'pending' : 'in force'}`), plan.legs.map((leg, place) => h('p', {},
+    h('b', {}, `${place + 1} ${leg.from}–${leg.to}`), ` ${near(leg.etd, picture.moment)} to ${clock(leg.eta)}, ${leg.minutes} min. `,
     `Alternates: ${leg.alternates.map(other).join(', ') || 'none'}. `, leg.takeoff_alternate && `Takeoff alternate: ${other(leg.takeoff_alternate)}. `,
     `Fuel: ${fuel(leg)}.`)));
 }
@@ -93,7 +93,7 @@ export function releasePage(place, id, isAmending) {
       h('div', { class: 'columns' },
         h('div', {}, paper(id, pending, true), paper(id, active, false),
           row?.pending > 0 && !pending && h('p', { class: 'note' }, `Revision ${row.pending} is filed. Prepare it to make the text that is signed.`)),
-        h('div', { class: 'aside' }, plan && legs(plan), weather(stations, [...(pending?.reports ?? []), ...(active?.reports ?? [])]),
+        h('div', { class: 'aside' }, plan && legs(pending ?? active, Boolean(pending)), weather(stations, [...(pending?.reports ?? []), ...(active?.reports ?? [])]),
           deferred && h('section', {}, h('h2', {}, `Deferred equipment of ${plan.tail}`), deferredList(deferred)))));
   };
   const failed = (fault) => {
@@ -107,10 +107,13 @@ export function releasePage(place, id, isAmending) {
   };
   // Gets the view of the release. If it or the board is new, gets the other views too, and redraws what changed.
   async function refresh(isAnew = false, isNew = true) {
-    const row = rowOf(id);
     const release = await releaseOf(id);
-    if (!isAnew && !isNew && release.text === text) return;
+    const isChanged = release.text !== text;
+    if (!isAnew && !isNew && !isChanged) return;
     text = release.text;
+    // The board may be older than this view, and only the board names a pending revision that isn't prepared.
+    if (isChanged) await look();
+    const row = rowOf(id);
     for (const it of [release.pending, release.active]) if (it) it.check = await check(it);
     const plan = (release.pending ?? release.active)?.plan;
     const more = plan && !release.phase.ended ? await around(plan, release.phase) : { stations: [], deferred: null };
@@ -118,13 +121,17 @@ export function releasePage(place, id, isAmending) {
     if (isAnew || all !== shown) draw(row, release, plan, more);
     shown = all;
   }
-  // The form of an amendment, filled with the newest plan that this tab knows.
+  // The form of an amendment, filled with the newest plan that this tab knows. It waits for the board, which names the pending revision.
   const amend = async () => {
-    const row = rowOf(id);
+    if (place.querySelector('form')) return;
     const release = await releaseOf(id);
+    await look();
+    const row = rowOf(id);
     const filed = kept('filed', id);
-    planPage(place, row, filed?.revision === row?.pending ? filed.plan : (release.pending ?? release.active)?.plan ?? emptyPlan());
+    if (!row || place.querySelector('form')) return;
+    planPage(place, row, filed?.revision === row.pending ? filed.plan : (release.pending ?? release.active)?.plan ?? emptyPlan());
   };
-  (isAmending ? amend() : refresh()).catch(failed);
-  return isAmending ? () => {} : (isNew) => refresh(false, isNew).catch(failed);
+  const draws = isAmending ? amend : refresh;
+  draws().catch(failed);
+  return (isNew) => draws(false, isNew).catch(failed);
 }
