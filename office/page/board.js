@@ -2,7 +2,7 @@
 import { h, show, title } from './dom.js';
 import { kept } from './asking.js';
 import { session } from './desk.js';
-import { knownOf, picture } from './picture.js';
+import { hasNewerWeather, knownOf, picture } from './picture.js';
 import { clock, finding, near, phaseText } from './words.js';
 
 const HEADS = ['Flight', 'Aircraft', 'Route', 'Phase', 'Revision', 'Next step', 'Holder', 'Alert'];
@@ -11,7 +11,7 @@ const BADGES = { open: 'Alert', seen: 'Acknowledged', over: 'No rule fails now' 
 const LEGEND = [
   ['Route', 'the stations, and ETD → ETA of the leg in bold. All times are UTC'],
   ['Revision', 'the revision in force, which dispatcher and captain have signed'],
-  ['Next step', 'what the pending revision or the alert needs. “Sign” means the dispatcher first, then the captain'],
+  ['Next step', 'what the pending revision or the alert needs. “Sign” means the dispatcher first, then the captain. “Newer weather”: a report has arrived that isn’t attached, so the desk refuses both signatures'],
   ['Alert', 'the active release fails a rule. v2 is the second version of the alert'],
   ['Acknowledged', 'the holder has seen this version of the alert'],
   ['No rule fails now', 'the alert remains until a captain concurs, the release is cancelled, or the last leg arrives'],
@@ -51,6 +51,7 @@ function nextStep(row) {
   const known = knownOf(row);
   if (!known) return `Rev ${row.pending}`;
   const { pending } = known;
+  if (hasNewerWeather({ pending, phase: row.phase })) return `Prepare rev ${row.pending} again: newer weather`;
   const isSigned = pending && kept('signed', row.id)?.digest === pending.digest;
   return isSigned ? `Captain: concur, rev ${row.pending}` : `${pending ? 'Sign' : 'Prepare'} rev ${row.pending}`;
 }

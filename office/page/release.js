@@ -4,7 +4,7 @@ import { kept, seen } from './asking.js';
 import { Refused, Unreached } from './desk.js';
 import { actions, digestLine, refused } from './actions.js';
 import { alertKind, badge, findingsList } from './board.js';
-import { look, picture, releaseOf, rowOf } from './picture.js';
+import { hasNewerWeather, look, noteReports, picture, releaseOf, rowOf } from './picture.js';
 import { planPage } from './plan_form.js';
 import { emptyPlan } from './plans.js';
 import * as texts from './texts.js';
@@ -23,7 +23,9 @@ async function around(plan, phase) {
   const stations = [];
   for (const station of texts.stationsOf(plan, phase)) {
     const { text, why } = await seen(`/weather/${station}`);
-    stations.push({ station, why, said: why ? [] : texts.weather(text) });
+    const said = why ? [] : texts.weather(text);
+    if (!why) noteReports(station, said);
+    stations.push({ station, why, said });
   }
   const { text, why } = await seen(`/deferred/${plan.tail}`);
   return { stations, deferred: why ? null : texts.deferred(text) };
@@ -85,7 +87,7 @@ export function releasePage(place, id, isAmending) {
   const draw = (row, release, plan, { stations, deferred }) => {
     const { phase, pending, active } = release;
     const names = plan ? `${plan.flight} ${plan.tail}` : row && `${row.flight} ${row.tail}`;
-    const isStale = pending && stations.some(({ said }) => said.some((it) => !pending.reports.some((report) => report.id === it.id)));
+    const isStale = hasNewerWeather(release);
     show(place,
       title(`Release ${id}${names ? ` · ${names}` : ''}`, h('span', { class: `phase ${phase.name.toLowerCase()}` }, phaseText(phase, picture.moment)),
         row && h('span', { class: 'hint' }, `held by ${row.holder}`)),
