@@ -101,7 +101,7 @@ export function actions(page, row, release, isStale) {
   return h('section', { class: 'actions', 'aria-label': 'Actions' }, made.length > 0 && h('p', { class: 'buttons' }, made),
     isStale && hint('A newer report has arrived for one of its stations. The dispatcher prepares the revision again before it can be signed.'),
     isSigned && hint(`You signed revision ${pending.number} at ${signed.at}. Captain ${pending.plan.captain} concurs next.`),
-    me.role === 'D' && row && !holds && !phase.ended && hint(`Only ${row.holder} can change this release.`));
+    'DC'.includes(me.role) && row && !holds && !phase.ended && hint(`Only ${row.holder} can amend, prepare, sign or cancel this release.`));
 }
 
 // The latest refusal in words, shown until another action succeeds.

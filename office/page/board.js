@@ -47,7 +47,8 @@ function route(row) {
 
 // What to do next. No view says whether the dispatcher has signed: only the tab in which he did knows.
 function nextStep(row) {
-  if (!row.pending) return row.alert && !row.alert.seen ? 'Acknowledge alert' : '';
+  if (!row.pending && row.alert) return !row.alert.seen ? 'Acknowledge alert' : row.alert.findings.length ? 'Amend' : '';
+  if (!row.pending) return '';
   const known = knownOf(row);
   if (!known) return `Rev ${row.pending}`;
   const { pending } = known;

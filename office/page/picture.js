@@ -47,10 +47,10 @@ export async function releaseOf(id) {
 
 export const noteReports = (station, said) => latest.set(station, { at: Date.now(), ids: said.map((it) => it.id) });
 
-// Whether a station of the pending revision has a report that isn't attached to it, as far as this page has viewed them.
+// Whether a station of the pending revision has a report that came after those that are attached, as far as this page has viewed them: ids rise.
 export function hasNewerWeather({ pending, phase }) {
-  const attached = pending?.reports.map((it) => it.id);
-  return Boolean(pending) && texts.stationsOf(pending.plan, phase).some((station) => latest.get(station)?.ids.some((id) => !attached.includes(id)));
+  const last = Math.max(0, ...(pending?.reports ?? []).map((it) => it.id));
+  return Boolean(pending) && texts.stationsOf(pending.plan, phase).some((station) => latest.get(station)?.ids.some((id) => id > last));
 }
 
 // Gets the releases that changed on the board, some at once, so that rows can name stations and times. Answers whether there are any.
