@@ -4,11 +4,14 @@ import { session } from './desk.js';
 import { ask, drop, keep, kept } from './asking.js';
 import { findingsList } from './board.js';
 import { look, picture, releaseOf } from './picture.js';
-import { amount, clock, refusal } from './words.js';
+import { amount, clock, phaseText, refusal } from './words.js';
 
-export const DONE = { prepare: 'Prepared. Read the text, then sign it.', sign: 'Signed. The captain concurs next.', concur: 'Concurred. This revision is now in force.',
-  depart: 'Departure recorded.', arrive: 'Arrival recorded.', cancel: 'Release cancelled.', acknowledge: 'Alert acknowledged.', purge: 'Release purged.',
-  draft: 'Draft filed.', amend: 'Amendment filed.', admit: 'Report accepted.', defer: 'Deferral entered.', clear: 'Deferral cleared.', sweep: 'Swept.' };
+const DONE = { prepare: 'Revision N is prepared. Read the text, then sign it.', sign: 'You signed revision N. The captain concurs next.',
+  concur: 'You concurred. Revision N is now in force.', depart: 'Departure recorded.', arrive: 'Arrival recorded.', cancel: 'Release cancelled.',
+  acknowledge: 'Alert acknowledged.', purge: 'Release purged.', draft: 'Draft filed.', amend: 'Amendment filed as revision N.', admit: 'Report accepted.',
+  defer: 'Deferral entered.', clear: 'Deferral cleared.', sweep: 'Swept.' };
+// What the desk has done, with the revision that its reply names.
+export const doneText = (name, { revision }) => DONE[name].replace('revision N', `revision ${revision}`).replace('Revision N', `Revision ${revision}`);
 const CHECKS = {
   same: 'This browser computed the same digest from the text shown.',
   other: 'STOP: this browser computed ANOTHER DIGEST from the text shown. The page doesn’t sign it. Call your administrator.',
@@ -26,7 +29,7 @@ async function act(page, it, question, buttons, ...body) {
   await look();
   if (reply.done) {
     drop('refused', page.id);
-    notice(DONE[it.do]);
+    notice(doneText(it.do, reply.done));
   } else {
     const release = await releaseOf(page.id);
     keep('refused', page.id, { name: question, at: clock(picture.moment), reply, plan: (it.do === 'depart' ? release.active : release.pending)?.plan });
@@ -54,8 +57,8 @@ function move(page, name, row, { active, phase: { leg } }) {
   const what = name === 'depart' ? 'departure' : 'arrival';
   const fuel = name === 'depart' ? ` Fuel on board ${amount(it.onboard)} lb.` : '';
   return act(page, { do: name, leg, release: page.id }, `Report ${what} of leg ${leg}`, { yes: `Confirm ${what}` },
-    h('p', {}, `${active.plan.flight}, leg ${leg} ${it.from}–${it.to}.${fuel} The desk records its current minute.`),
-    row?.pending > 0 && h('p', {}, `The desk discards the pending revision ${row.pending}.`));
+    h('p', {}, `${active.plan.flight}, leg ${leg} ${it.from}–${it.to}, by revision ${active.number}, which is in force.${fuel} The desk records its current minute.`),
+    row?.pending > active.number && h('p', {}, `The desk discards revision ${row.pending}, which isn’t signed by both.`));
 }
 
 const prepare = (page, row) => act(page, { do: 'prepare', release: page.id }, `Prepare revision ${row.pending}`, { yes: `Prepare revision ${row.pending}` },
@@ -64,8 +67,9 @@ const acknowledge = (page, { alert }, plan) => act(page, { do: 'acknowledge', re
   { yes: `Acknowledge alert v${alert.version}` },
   h('p', {}, 'This records that you have seen it. The alert stays until a captain concurs with a revision, the release is cancelled, or the last leg arrives.'),
   alert.findings.length ? findingsList(alert.findings, plan) : h('p', {}, 'No rule fails now.'));
-const cancel = (page, row) => act(page, { do: 'cancel', release: page.id }, `Cancel release ${page.id}`,
-  { yes: `Cancel release ${page.id}`, no: 'Keep it' }, h('p', {}, `${row.flight} ${row.tail}. A cancelled release can’t be restored.`));
+const cancel = (page, row, phase) => act(page, { do: 'cancel', release: page.id }, `Cancel release ${page.id}`,
+  { yes: `Cancel release ${page.id}`, no: 'Keep it' }, h('p', {}, `${row.flight} ${row.tail}: ${phaseText(phase, picture.moment)}. A cancelled release can’t be restored.`),
+  phase.name === 'FLYING' && h('p', { class: 'refusal' }, `${row.flight} is in the air. The desk then watches it no longer, and raises no more alerts for it. To change its release, go back and amend.`));
 const purge = (page) => act(page, { do: 'purge', release: page.id }, `Purge release ${page.id}`,
   { yes: `Purge release ${page.id}`, no: 'Keep it' }, h('p', {}, 'It disappears from every view and can’t be restored.'));
 
@@ -91,13 +95,13 @@ export function actions(page, row, release, isStale) {
   add(moves && ['READY', 'STOPPED'].includes(phase.name), 'depart', `Report departure of leg ${phase.leg}`, () => move(page, 'depart', row, release), isNext);
   add(moves && phase.name === 'FLYING', 'arrive', `Report arrival of leg ${phase.leg}`, () => move(page, 'arrive', row, release), isNext);
   add(holds && pending && !isStale, 'prepare', `Prepare revision ${pending?.number} again`, () => prepare(page, row), false);
-  add(holds && !phase.ended, 'cancel', `Cancel release ${page.id}`, () => cancel(page, row), false);
+  add(holds && !phase.ended, 'cancel', `Cancel release ${page.id}`, () => cancel(page, row, phase), false);
   add(me.role === 'S' && phase.ended, 'purge', `Purge release ${page.id}`, () => purge(page));
   add(pending || active, 'print', 'Print', () => print(), false);
   return h('section', { class: 'actions', 'aria-label': 'Actions' }, made.length > 0 && h('p', { class: 'buttons' }, made),
     isStale && hint('A newer report has arrived for one of its stations. The dispatcher prepares the revision again before it can be signed.'),
     isSigned && hint(`You signed revision ${pending.number} at ${signed.at}. Captain ${pending.plan.captain} concurs next.`),
-    me.role === 'D' && row && !holds && !phase.ended && hint(`Only ${row.holder} can change this release.`));
+    'DC'.includes(me.role) && row && !holds && !phase.ended && hint(`Only ${row.holder} can amend, prepare, sign or cancel this release.`));
 }
 
 // The latest refusal in words, shown until another action succeeds.

@@ -1,5 +1,5 @@
 // The alarm: a new alert sounds, shows in the title of the tab, and is read out by screen readers.
-import { at } from './dom.js';
+import { at, h } from './dom.js';
 import { knownOf, picture } from './picture.js';
 import { finding } from './words.js';
 
@@ -42,12 +42,17 @@ export function watch() {
   const key = (row) => `${row.id} ${row.alert.version}`;
   const fresh = bad.filter((row) => !heard.has(key(row)));
   heard = new Set(loud.map(key));
+  for (const told of [...at('alarm').children]) if (!heard.has(told.dataset.key)) told.remove();
   if (!fresh.length) return;
-  at('alarm').textContent = fresh.map((row) => `Alert, ${row.flight}: ${row.alert.findings.map((code) => {
+  at('alarm').replaceChildren(...fresh.map((row) => h('span', { 'data-key': key(row) }, `Alert, ${row.flight}: ${row.alert.findings.map((code) => {
     const said = finding(code, knownOf(row)?.active?.plan);
     return `${said.leg}, ${said.text}, ${said.section}`;
-  }).join('; ')}.`).join(' ');
+  }).join('; ')}. `)));
   ring();
 }
 
-export const quiet = () => { heard = new Set(); document.title = TITLE; };
+export function quiet() {
+  heard = new Set();
+  document.title = TITLE;
+  at('alarm').replaceChildren();
+}

@@ -1,7 +1,7 @@
 // Calls and views of this tab, with what the page shows if no answer comes or the desk refuses.
 import { notice } from './dom.js';
 import { call, Refused, Unreached, view } from './desk.js';
-import { refusal } from './words.js';
+import { refusal, viewRefusal } from './words.js';
 
 export const onWait = () => notice('No answer yet. The page retries with the same number, so the desk can’t do it twice.', 'bad');
 export async function ask(it) {
@@ -23,7 +23,7 @@ export async function seen(path) {
   try {
     return { text: await view(path) };
   } catch (fault) {
-    if (fault instanceof Refused) return { why: refusal(fault.reply) };
+    if (fault instanceof Refused) return { why: viewRefusal(fault.reply) };
     if (fault instanceof Unreached) return { why: 'No connection to the desk.' };
     throw fault;
   }

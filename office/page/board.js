@@ -2,7 +2,7 @@
 import { h, show, title } from './dom.js';
 import { kept } from './asking.js';
 import { session } from './desk.js';
-import { knownOf, picture } from './picture.js';
+import { hasNewerWeather, knownOf, picture } from './picture.js';
 import { clock, finding, near, phaseText } from './words.js';
 
 const HEADS = ['Flight', 'Aircraft', 'Route', 'Phase', 'Revision', 'Next step', 'Holder', 'Alert'];
@@ -11,12 +11,14 @@ const BADGES = { open: 'Alert', seen: 'Acknowledged', over: 'No rule fails now' 
 const LEGEND = [
   ['Route', 'the stations, and ETD → ETA of the leg in bold. All times are UTC'],
   ['Revision', 'the revision in force, which dispatcher and captain have signed'],
-  ['Next step', 'what the pending revision or the alert needs. “Sign” means the dispatcher first, then the captain'],
+  ['Next step', 'what the pending revision or the alert needs. “Sign” means the dispatcher first, then the captain. “Newer weather”: a report has arrived that isn’t attached, so the desk refuses both signatures'],
   ['Alert', 'the active release fails a rule. v2 is the second version of the alert'],
   ['Acknowledged', 'the holder has seen this version of the alert'],
   ['No rule fails now', 'the alert remains until a captain concurs, the release is cancelled, or the last leg arrives'],
 ];
-const filter = { text: '', mine: false, ended: false };
+const EVERYTHING = { text: '', mine: false, ended: false };
+const filter = { ...EVERYTHING };
+export const forgetFilter = () => Object.assign(filter, EVERYTHING);
 export const alertKind = (alert) => (!alert ? 'none' : alert.findings.length === 0 ? 'over' : alert.seen ? 'seen' : 'open');
 export const badge = (alert) => h('strong', { class: `badge ${alertKind(alert)}` }, BADGES[alertKind(alert)]);
 
@@ -45,10 +47,12 @@ function route(row) {
 
 // What to do next. No view says whether the dispatcher has signed: only the tab in which he did knows.
 function nextStep(row) {
-  if (!row.pending) return row.alert && !row.alert.seen ? 'Acknowledge alert' : '';
+  if (!row.pending && row.alert) return !row.alert.seen ? 'Acknowledge alert' : row.alert.findings.length ? 'Amend' : '';
+  if (!row.pending) return '';
   const known = knownOf(row);
   if (!known) return `Rev ${row.pending}`;
   const { pending } = known;
+  if (hasNewerWeather({ pending, phase: row.phase })) return `Prepare rev ${row.pending} again: newer weather`;
   const isSigned = pending && kept('signed', row.id)?.digest === pending.digest;
   return isSigned ? `Captain: concur, rev ${row.pending}` : `${pending ? 'Sign' : 'Prepare'} rev ${row.pending}`;
 }

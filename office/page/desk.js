@@ -5,11 +5,12 @@ const WAITS = [1000, 2000, 4000, 8000];
 const TIMEOUT = 20000;
 // The desk didn't answer.
 export class Unreached extends Error {}
-// The desk's refusal of a view.
+// The desk's refusal of a view. An unknown name (1) and a wrong key (2) end the session; after any other refusal the page asks again.
 export class Refused extends Error {
   constructor(reply) {
     super(reply.why ?? reply.error);
     this.reply = reply;
+    this.endsSession = reply.refused === 1 || reply.refused === 2;
   }
 }
 
@@ -101,11 +102,12 @@ const ASKS_OF_ROLES = {
   S: { do: 'purge', release: 0 },
 };
 
-// Signs in. The role is the one whose call the desk doesn't refuse for the role (3). Answers the refusal of a wrong name or key.
+// Signs in. The role is the one whose call the desk doesn't refuse for the role (3). Answers the refusal of a wrong name or key (1, 2),
+// and that of a desk which can't move its time (24, 26): it comes before the role is tested.
 export async function signIn(name, key) {
   for (const [role, ask] of Object.entries(ASKS_OF_ROLES)) {
     const reply = await post({ name, key }, nextNumber(name), ask);
-    if (reply.refused === 1 || reply.refused === 2 || reply.bad) return reply;
+    if ([1, 2, 24, 26].includes(reply.refused) || reply.bad) return reply;
     if (reply.refused !== 3) {
       session.set({ name, key, role });
       return null;

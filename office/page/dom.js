@@ -49,3 +49,5 @@ export function confirmed(question, { yes, no = 'Go back' }, ...body) {
   at('confirm-no').focus();
   return new Promise((answer) => { dialog.onclose = () => answer(dialog.returnValue === 'yes'); });
 }
+// Takes back an open question, as if the answer were no.
+export const withdraw = () => at('confirm').open && at('confirm').close('no');

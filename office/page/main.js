@@ -1,15 +1,15 @@
 // The page: signing in, which part is shown, and the view of the board every three seconds.
-import { at, h, hint, notice, show } from './dom.js';
-import { Refused, resumed, session, signIn, Unreached } from './desk.js';
-import { DONE } from './actions.js';
+import { at, h, hint, notice, show, withdraw } from './dom.js';
+import { resumed, session, signIn, Unreached } from './desk.js';
+import { doneText } from './actions.js';
 import { onWait } from './asking.js';
-import { boardPage } from './board.js';
+import { boardPage, forgetFilter } from './board.js';
 import { quiet, showSound, turnSound, watch } from './alarm.js';
 import { age, forget, look, lookCloser, picture } from './picture.js';
 import { planPage } from './plan_form.js';
 import { releasePage } from './release.js';
 import { equipmentPage, recordsPage, weatherPage } from './other_pages.js';
-import { clock, refusal } from './words.js';
+import { clock, refusal, viewRefusal } from './words.js';
 
 // Milliseconds from one view of the board to the next, to a retry, and to the banner: a restarting desk is away for a moment.
 const [EVERY, AGAIN, SHORT] = [3000, 1000, 4000];
@@ -41,13 +41,14 @@ function route() {
 
 // Shows how old the page's data is, and whether the desk can be reached.
 function showAge() {
-  const isAway = picture.trouble && Date.now() - picture.trouble > SHORT;
+  const isAway = picture.trouble && (picture.reply || Date.now() - picture.trouble > SHORT);
   at('moment').textContent = picture.moment ? `${clock(picture.moment)} ${picture.moment.slice(0, 10)}` : '';
   at('age').textContent = picture.at ? `updated ${age()} s ago` : 'loading';
   at('picture').className = age() > OLD_SECONDS || isAway ? 'old' : '';
   at('trouble').hidden = !isAway;
   const since = isAway && `${new Date(picture.trouble).toISOString().slice(11, 19)}Z`;
-  const text = isAway ? `No connection to the desk since ${since}. This page ${picture.moment ? `shows ${clock(picture.moment)}` : 'is empty'} and retries every second.` : '';
+  const what = picture.reply ? `The desk has refused to show the board since ${since}. ${viewRefusal(picture.reply)}` : `No connection to the desk since ${since}.`;
+  const text = isAway ? `${what} This page ${picture.moment ? `shows ${clock(picture.moment)}` : 'is empty'} and retries every second.` : '';
   if (at('trouble').textContent !== text) at('trouble').textContent = text;
 }
 
@@ -60,7 +61,7 @@ async function rounds(mine) {
       watch();
       fill(isNew || isCloser);
     } catch (fault) {
-      if (!(fault instanceof Refused)) throw fault;
+      if (!fault.endsSession) throw fault;
       return leave(refusal(fault.reply));
     }
     showAge();
@@ -78,14 +79,17 @@ function start() {
   round += 1;
   rounds(round);
   route();
-  resumed(onWait).then((it) => it && notice(it.reply.done ? `After the reload: ${DONE[it.ask.do]}` : refusal(it.reply), it.reply.done ? 'good' : 'bad'));
+  resumed(onWait).then((it) => it && notice(it.reply.done ? `After the reload: ${doneText(it.ask.do, it.reply.done)}` : refusal(it.reply), it.reply.done ? 'good' : 'bad'));
 }
 
 function leave(why = '') {
   round += 1;
   session.clear();
   forget();
+  forgetFilter();
   quiet();
+  notice('');
+  withdraw();
   for (const id of ['top', 'trouble']) at(id).hidden = true;
   history.replaceState(null, '', '#/board');
   fill = () => {};

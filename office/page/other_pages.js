@@ -1,5 +1,5 @@
 // The pages Weather, Equipment and Records.
-import { confirmed, h, hint, plainButton, show, title } from './dom.js';
+import { confirmed, h, hint, notice, plainButton, show, title } from './dom.js';
 import { session } from './desk.js';
 import { asked, seen } from './asking.js';
 import { MOMENT } from './plans.js';
@@ -31,9 +31,17 @@ export function weatherPage(place, station) {
     const one = (it) => h('p', {}, h('b', {}, it.kind), ` ${reading(it, picture.moment)}`, h('small', {}, ` (report ${it.id})`));
     show(said, h('h2', {}, station), why && h('p', {}, why), found.map(one), !why && !found.length && hint('No reports for this station.'));
   };
+  // Hands in a report, and shows the latest ones of its station: a report that the desk held before keeps its place.
   const admit = async ({ report }, made) => {
-    if (await asked({ do: 'admit', text: report }, (done) => `Accepted as report ${done.report}.`)) made.reset();
-    await fill();
+    const done = await asked({ do: 'admit', text: report }, (it) => `Accepted as report ${it.report}.`);
+    if (!done) return;
+    made.reset();
+    const [, of = station] = /\b([A-Z][A-Z0-9]{3}) \d{6}Z/.exec(report) ?? [];
+    const { text } = await seen(`/weather/${of}`);
+    const isLatest = text === undefined || texts.weather(text).some((it) => it.id === done.report);
+    if (!isLatest) notice(`Report ${done.report} isn’t the latest of ${of}: the desk has a newer one, or held this one before. Handing it in again doesn’t make it the latest.`, 'bad');
+    location.hash = `#/weather/${of}`;
+    if (of === station) await fill();
   };
   show(place, title('Weather'), form('Latest reports of a station', 'Show weather', [field('station', 'Station', { ...CODE, size: 6, value: station, pattern: '[A-Za-z][A-Za-z0-9]{3}' })],
     (values) => { location.hash = `#/weather/${values.station.toUpperCase()}`; }), said,

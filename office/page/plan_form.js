@@ -1,7 +1,7 @@
 // The form of a plan, for a draft and for an amendment. The page checks it while it is typed, and the desk when it is filed.
 import { at, confirmed, h, hint, notice, plainButton, show, title } from './dom.js';
 import { ask, drop, keep, kept } from './asking.js';
-import { emptyLeg, emptyPlan, faults, FUELS, moment, pasted } from './plans.js';
+import { emptyLeg, emptyPlan, faults, FUELS, moment, pasted, wholeNumber } from './plans.js';
 import { amount, refusal } from './words.js';
 
 const LABELS = { burn: 'Burn', extra: 'Extra', minimum: 'Minimum', onboard: 'On board' };
@@ -37,9 +37,9 @@ class Form {
       let value = event.target.value.trim();
       if (name !== 'captain') value = value.toUpperCase();
       if (from && isDone) value = moment(value, from());
-      if (isDone) event.target.value = value;
+      owner[name] = isNumber ? wholeNumber(value) : value;
+      if (isDone) event.target.value = String(owner[name]);
       if (isDone) this.touched.add(place);
-      owner[name] = isNumber && /^\d{1,9}$/.test(value) ? Number(value) : value;
       this.check();
     };
     return h('p', { class: 'field' }, h('label', { for: id }, label),

@@ -20,6 +20,12 @@ export function moment(typed, from, now = Date.now()) {
   return `${day.toISOString().slice(0, 16)}Z`;
 }
 
+// Reads a typed number: `14000`, `14,000` and `14 000` are the same. Other texts stay, also `13,5`, which might mean 13.5.
+export function wholeNumber(typed) {
+  const digits = /^\d{1,3}([,\s]\d{3})+$/.test(typed) ? typed.replace(/[,\s]/g, '') : typed;
+  return /^\d{1,9}$/.test(digits) ? Number(digits) : typed;
+}
+
 const isWhole = (value, least, most) => Number.isInteger(value) && value >= least && value <= most;
 const isStation = (text) => /^[A-Z][A-Z0-9]{3}$/.test(text);
 

@@ -4,11 +4,11 @@ import { kept, seen } from './asking.js';
 import { Refused, Unreached } from './desk.js';
 import { actions, digestLine, refused } from './actions.js';
 import { alertKind, badge, findingsList } from './board.js';
-import { picture, releaseOf, rowOf } from './picture.js';
+import { hasNewerWeather, look, noteReports, picture, releaseOf, rowOf } from './picture.js';
 import { planPage } from './plan_form.js';
 import { emptyPlan } from './plans.js';
 import * as texts from './texts.js';
-import { amount, clock, hoursText, near, phaseText, reading, refusal } from './words.js';
+import { amount, clock, hoursText, near, phaseText, reading, viewRefusal } from './words.js';
 
 // Compares the digest of a text, computed here, with the one that the desk names.
 async function check({ text, digest }) {
@@ -23,7 +23,9 @@ async function around(plan, phase) {
   const stations = [];
   for (const station of texts.stationsOf(plan, phase)) {
     const { text, why } = await seen(`/weather/${station}`);
-    stations.push({ station, why, said: why ? [] : texts.weather(text) });
+    const said = why ? [] : texts.weather(text);
+    if (!why) noteReports(station, said);
+    stations.push({ station, why, said });
   }
   const { text, why } = await seen(`/deferred/${plan.tail}`);
   return { stations, deferred: why ? null : texts.deferred(text) };
@@ -52,11 +54,11 @@ function paper(id, revision, isPending) {
     h('p', { class: 'printed' }, `Release ${id} at ${picture.moment}, the desk’s time. The digest is the SHA-256 of the text.`));
 }
 
-function legs(plan) {
+function legs({ number, plan }, isPending) {
   const other = (it) => `${it.station} ${it.minutes} min${it.fuel === undefined ? '' : ` ${amount(it.fuel)} lb`}`;
   const fuel = (leg) => `burn ${amount(leg.burn)}, extra ${amount(leg.extra)}, minimum ${amount(leg.minimum)}, on board ${amount(leg.onboard)} lb`;
-  return h('section', {}, h('h2', {}, 'Legs'), plan.legs.map((leg, number) => h('p', {},
-    h('b', {}, `${number + 1} ${leg.from}–${leg.to}`), ` ${near(leg.etd, picture.moment)} to ${clock(leg.eta)}, ${leg.minutes} min. `,
+  return h('section', {}, h('h2', {}, `Legs of revision ${number}, ${isPending ? 'pending' : 'in force'}`), plan.legs.map((leg, place) => h('p', {},
+    h('b', {}, `${place + 1} ${leg.from}–${leg.to}`), ` ${near(leg.etd, picture.moment)} to ${clock(leg.eta)}, ${leg.minutes} min. `,
     `Alternates: ${leg.alternates.map(other).join(', ') || 'none'}. `, leg.takeoff_alternate && `Takeoff alternate: ${other(leg.takeoff_alternate)}. `,
     `Fuel: ${fuel(leg)}.`)));
 }
@@ -85,7 +87,7 @@ export function releasePage(place, id, isAmending) {
   const draw = (row, release, plan, { stations, deferred }) => {
     const { phase, pending, active } = release;
     const names = plan ? `${plan.flight} ${plan.tail}` : row && `${row.flight} ${row.tail}`;
-    const isStale = pending && stations.some(({ said }) => said.some((it) => !pending.reports.some((report) => report.id === it.id)));
+    const isStale = hasNewerWeather(release);
     show(place,
       title(`Release ${id}${names ? ` · ${names}` : ''}`, h('span', { class: `phase ${phase.name.toLowerCase()}` }, phaseText(phase, picture.moment)),
         row && h('span', { class: 'hint' }, `held by ${row.holder}`)),
@@ -93,20 +95,27 @@ export function releasePage(place, id, isAmending) {
       h('div', { class: 'columns' },
         h('div', {}, paper(id, pending, true), paper(id, active, false),
           row?.pending > 0 && !pending && h('p', { class: 'note' }, `Revision ${row.pending} is filed. Prepare it to make the text that is signed.`)),
-        h('div', { class: 'aside' }, plan && legs(plan), weather(stations, [...(pending?.reports ?? []), ...(active?.reports ?? [])]),
+        h('div', { class: 'aside' }, plan && legs(pending ?? active, Boolean(pending)), weather(stations, [...(pending?.reports ?? []), ...(active?.reports ?? [])]),
           deferred && h('section', {}, h('h2', {}, `Deferred equipment of ${plan.tail}`), deferredList(deferred)))));
   };
   const failed = (fault) => {
-    if (fault instanceof Refused) show(place, title(`Release ${id}`), h('p', {}, refusal(fault.reply)));
-    else if (fault instanceof Unreached) notice('No connection to the desk.', 'bad');
-    else throw fault;
+    if (fault instanceof Unreached) notice('No connection to the desk.', 'bad');
+    else if (!(fault instanceof Refused)) throw fault;
+    else if (!shown || fault.reply.refused === 10) {
+      shown = '';
+      text = '';
+      show(place, title(`Release ${id}`), h('p', {}, viewRefusal(fault.reply)));
+    }
   };
   // Gets the view of the release. If it or the board is new, gets the other views too, and redraws what changed.
   async function refresh(isAnew = false, isNew = true) {
-    const row = rowOf(id);
     const release = await releaseOf(id);
-    if (!isAnew && !isNew && release.text === text) return;
+    const isChanged = release.text !== text;
+    if (!isAnew && !isNew && !isChanged) return;
     text = release.text;
+    // The board may be older than this view, and only the board names a pending revision that isn't prepared.
+    if (isChanged) await look();
+    const row = rowOf(id);
     for (const it of [release.pending, release.active]) if (it) it.check = await check(it);
     const plan = (release.pending ?? release.active)?.plan;
     const more = plan && !release.phase.ended ? await around(plan, release.phase) : { stations: [], deferred: null };
@@ -114,13 +123,17 @@ export function releasePage(place, id, isAmending) {
     if (isAnew || all !== shown) draw(row, release, plan, more);
     shown = all;
   }
-  // The form of an amendment, filled with the newest plan that this tab knows.
+  // The form of an amendment, filled with the newest plan that this tab knows. It waits for the board, which names the pending revision.
   const amend = async () => {
-    const row = rowOf(id);
+    if (place.querySelector('form')) return;
     const release = await releaseOf(id);
+    await look();
+    const row = rowOf(id);
     const filed = kept('filed', id);
-    planPage(place, row, filed?.revision === row?.pending ? filed.plan : (release.pending ?? release.active)?.plan ?? emptyPlan());
+    if (!row || place.querySelector('form')) return;
+    planPage(place, row, filed?.revision === row.pending ? filed.plan : (release.pending ?? release.active)?.plan ?? emptyPlan());
   };
-  (isAmending ? amend() : refresh()).catch(failed);
-  return isAmending ? () => {} : (isNew) => refresh(false, isNew).catch(failed);
+  const draws = isAmending ? amend : refresh;
+  draws().catch(failed);
+  return (isNew) => draws(false, isNew).catch(failed);
 }

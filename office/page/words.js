@@ -120,6 +120,8 @@ export function refusal(reply) {
   if (reply.bad) return `The desk can’t read what this page sent (${reply.bad}${reply.key ? ` at ${reply.key}` : ''}). Call your administrator.`;
   return REFUSALS[reply.refused]?.(reply) ?? `The desk refused: ${reply.error ?? `${reply.refused} ${reply.why}`}.`;
 }
+// A view changes nothing but the desk's time.
+export const viewRefusal = (reply) => (reply.refused === 26 ? 'It can’t store its time: its disk or file has failed. Call your administrator.' : refusal(reply));
 
 // A sixteenth of a statute mile and ten kilometres, in the desk's millimetres.
 const [SIXTEENTH, TEN_KILOMETRES] = [100584, 10000000];

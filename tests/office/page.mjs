@@ -96,6 +96,9 @@ const ofLegs = (count) => JSON.stringify({ ...filed[0], legs: Array(count).fill(
 assert.equal(plans.pasted(ofLegs(8)).plan.legs.length, 8);
 assert.equal(plans.pasted(ofLegs(9)).fault, 'A plan has 1 to 8 legs.');
 assert.ok(plans.pasted('{}').fault && plans.pasted('x').fault && plans.pasted(JSON.stringify({ ...filed[0], legs: [{}] })).fault);
+for (const typed of ['14000', '14,000', '14 000', '14\u00a0000']) assert.equal(plans.wholeNumber(typed), 14000, typed);
+assert.equal(plans.wholeNumber('1,000,000'), 1000000);
+for (const typed of ['', '13,5', '1,4000', ',100', '14,', '1.5', '-1', '1e3']) assert.equal(plans.wholeNumber(typed), typed);
 const now = Date.parse('2026-11-12T14:00Z');
 assert.equal(plans.moment('1530', '', now), '2026-11-12T15:30Z');
 assert.equal(plans.moment('02:10', '', now), '2026-11-13T02:10Z');

@@ -11,6 +11,7 @@ import shutil
 import signal
 import socket
 import subprocess
+import tempfile
 import time
 from datetime import datetime, timedelta, timezone
 from pathlib import Path
@@ -22,6 +23,7 @@ TABLES = HERE / "examples" / "one_flight"
 PROGRAM = shlex.split(os.environ.get("DESK_PROGRAM", str(HERE / "crates/release_desk/out/release_desk")))
 # Seconds for what takes a moment where the machine has nothing else to do.
 PATIENCE = 60
+NOBODY = 65534
 PR_SET_PDEATHSIG = 1
 
 
@@ -132,10 +134,12 @@ class Office:
             shutil.copy(table, self.state)
         self.desk_port, self.http_port, self.port = free_port(), free_port(), free_port()
         self.url = "https://127.0.0.1:%d/" % self.port
-        self.services = {}
+        self.services, self.practice = {}, None
 
-    def start_desk(self):
-        self.services["desk"] = Service([*PROGRAM, "serve", str(self.desk_port), "1000"], self.state, self.folder / "desk.log")
+    def start_desk(self, again=False):
+        """Serves the desk, and where `again` is true anew each time that its 1,000 connections are used up."""
+        loop = ["bash", "-c", 'trap : TERM; while "$@"; do :; done', "desk"] if again else []
+        self.services["desk"] = Service([*loop, *PROGRAM, "serve", str(self.desk_port), "1000"], self.state, self.folder / "desk.log")
         until("the desk listens", lambda: self.services["desk"].listens(self.desk_port))
 
     def start_nginx(self):
@@ -161,6 +165,36 @@ class Office:
         self.services["nginx"] = Service(words, self.folder, self.folder / "nginx.out")
         until("nginx listens", lambda: self.services["nginx"].listens(self.port))
 
+    def start_practice(self):
+        """Starts nginx by the command of docs/OPERATIONS.md for a practice desk, as a user without rights if this one is root, and returns its URL."""
+        # (beside the scratch folder, which no other user may enter)
+        folder, port = Path(tempfile.mkdtemp(prefix="practice-", dir="/tmp")), free_port()
+        shutil.copytree(OFFICE, folder / "office", ignore=shutil.ignore_patterns("__pycache__"))
+        site = folder / "office" / "nginx" / "practice.conf"
+        made = site.read_text()
+        paths = [line.strip() for line in made.splitlines() if "location ~" in line]
+        expect("both configurations pass the same paths on", paths and paths[0] in (OFFICE / "nginx" / "vomidegu-desk.conf").read_text(), paths)
+        for old, new in (("127.0.0.1:8085", "127.0.0.1:%d" % port), ("127.0.0.1:8082", "127.0.0.1:%d" % self.desk_port), ("/tmp/vomidegu-practice", str(folder))):
+            expect("the practice configuration has %s" % old, old in made)
+            made = made.replace(old, new)
+        site.write_text(made)
+        documented = [line for line in (HERE / "docs" / "OPERATIONS.md").read_text().splitlines() if line.startswith("/usr/sbin/nginx -p office ")]
+        user = ["setpriv", "--reuid", str(NOBODY), "--regid", str(NOBODY), "--clear-groups"] if os.geteuid() == 0 else []
+        start, stop = ([*user, *shlex.split(line.replace("/tmp/vomidegu-practice", str(folder)), comments=True)] for line in documented)
+        if user:
+            os.chown(folder, NOBODY, NOBODY)
+        self.practice = folder, stop
+        started = ended(*start, cwd=folder)
+        expect("the practice nginx starts", started.returncode == 0, started.stderr)
+        return "http://127.0.0.1:%d/" % port
+
+    def stop_practice(self):
+        (folder, stop), self.practice = self.practice, None
+        stopped = ended(*stop, cwd=folder)
+        expect("the practice nginx stops", stopped.returncode == 0, stopped.stderr)
+        until("it has ended", lambda: not (folder / "nginx.pid").exists())
+        shutil.rmtree(folder)
+
     def feed_words(self, *words):
         key = self.folder / "feed.key"
         key.write_text("wxfeed feed-9051\n")
@@ -180,5 +214,7 @@ class Office:
     def stop_all(self):
         """Stops all, whatever comes of one, and then says so."""
         with contextlib.ExitStack() as each:
+            if self.practice:
+                each.callback(self.stop_practice)
             for name in list(self.services):
                 each.callback(self.stop, name)
