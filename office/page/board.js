@@ -11,7 +11,7 @@ const BADGES = { open: 'Alert', seen: 'Acknowledged', over: 'No rule fails now' 
 const LEGEND = [
   ['Route', 'the stations, and ETD → ETA of the leg in bold. All times are UTC'],
   ['Revision', 'the revision in force, which dispatcher and captain have signed'],
-  ['Next step', 'what the pending revision or the alert needs. “Sign” means the dispatcher first, then the captain. “Newer weather”: a report has arrived that isn’t attached, so the desk refuses both signatures'],
+  ['Next step', 'what the pending revision or the alert needs. “Sign” means the dispatcher first, then the captain. “Newer weather”: a report has arrived that isn’t attached, so the desk accepts no signature until it is'],
   ['Alert', 'the active release fails a rule. v2 is the second version of the alert'],
   ['Acknowledged', 'the holder has seen this version of the alert'],
   ['No rule fails now', 'the alert remains until a captain concurs, the release is cancelled, or the last leg arrives'],
@@ -52,7 +52,7 @@ function nextStep(row) {
   const known = knownOf(row);
   if (!known) return `Rev ${row.pending}`;
   const { pending } = known;
-  if (hasNewerWeather({ pending, phase: row.phase })) return `Prepare rev ${row.pending} again: newer weather`;
+  if (hasNewerWeather({ pending, phase: row.phase })) return `Newer weather: prepare rev ${row.pending}`;
   const isSigned = pending && kept('signed', row.id)?.digest === pending.digest;
   return isSigned ? `Captain: concur, rev ${row.pending}` : `${pending ? 'Sign' : 'Prepare'} rev ${row.pending}`;
 }
