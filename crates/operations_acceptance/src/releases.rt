@@ -10,8 +10,8 @@ use small_airline::{admit, may_be_checked, reports_of};
 use std::alloc::Global;
 use std::test::Fail;
 
-// A flight from Boston to Kennedy, with Philadelphia as its alternate.
-fn plan(alloc: Global) -> Result<Plan, OutOfMemory> {
+/// A flight from Boston to Kennedy, with Philadelphia as its alternate.
+pub fn plan(alloc: Global) -> Result<Plan, OutOfMemory> {
     let mut legs = Listed::new(alloc);
     if let Some(leg) = leg_of(alloc, b"KBOS KJFK ---- KPHL", ETD)? {
         legs.push(leg)?;
@@ -19,12 +19,15 @@ fn plan(alloc: Global) -> Result<Plan, OutOfMemory> {
     plan_of(alloc, b"N801DK", b"C7", legs)
 }
 
-// The forecasts of the three airports, in an order of their own.
-const HELD: &[(u64, &[u8])] = &[
+/// The forecasts of the three airports, in an order of their own.
+pub const HELD: &[(u64, &[u8])] = &[
     (1, b"TAF KBOS 121720Z 1218/1324 24010KT P6SM SCT040"),
     (2, b"TAF KJFK 121720Z 1218/1324 24010KT P6SM BKN030"),
     (3, b"TAF KPHL 121720Z 1218/1324 24010KT P6SM BKN030"),
 ];
+
+/// A special report of Kennedy, after which the flight needs an alternate.
+pub const SPECIAL: &[u8] = b"SPECI KJFK 121738Z 24012KT 4SM BR BKN015 11/09 A3008";
 
 fn are(attached: &AttachedList, numbers: &[u64]) -> bool {
     let attached = attached.as_slice();
@@ -76,8 +79,7 @@ fn has_newer(alloc: Global, reports: &Reports, others: &Reports) -> Result<bool,
 // The same, and then a special report of Kennedy.
 fn is_found_newer(alloc: Global) -> Result<bool, ReportFault> {
     let mut others = reports_of(alloc, HELD)?;
-    let special = b"SPECI KJFK 121738Z 24012KT 4SM BR BKN015 11/09 A3008";
-    admit(alloc, &mut others, 4, special)?;
+    admit(alloc, &mut others, 4, SPECIAL)?;
     let reports = reports_of(alloc, HELD)?;
     Ok(has_newer(alloc, &reports, &others)?)
 }
