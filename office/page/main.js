@@ -61,8 +61,9 @@ async function rounds(mine) {
       watch();
       fill(isNew || isCloser);
     } catch (fault) {
-      if (!fault.endsSession) throw fault;
-      return leave(refusal(fault.reply));
+      if (fault.endsSession) return leave(refusal(fault.reply));
+      // a fault of this page, after which the next round still sounds new alerts
+      console.error(fault);
     }
     showAge();
     await new Promise((done) => { setTimeout(done, picture.trouble ? AGAIN : EVERY); });

@@ -121,7 +121,7 @@ export function refusal(reply) {
   return REFUSALS[reply.refused]?.(reply) ?? `The desk refused: ${reply.error ?? `${reply.refused} ${reply.why}`}.`;
 }
 // A view changes nothing but the desk's time.
-export const viewRefusal = (reply) => (reply.refused === 26 ? 'It can’t store its time: its disk or file has failed. Call your administrator.' : refusal(reply));
+export const viewRefusal = (reply) => (reply.refused === 26 ? 'The desk can’t store its time: its disk or file has failed. Call your administrator.' : refusal(reply));
 
 // A sixteenth of a statute mile and ten kilometres, in the desk's millimetres.
 const [SIXTEENTH, TEN_KILOMETRES] = [100584, 10000000];

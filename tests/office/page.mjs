@@ -80,6 +80,8 @@ for (const [, number, why] of refusals) {
   // the page answers these two itself, with another number
   if (why !== 'NumberReused' && why !== 'NumberSwept') assert.doesNotMatch(words.refusal({ ...reply, refused: Number(number), why }), /The desk refused|undefined/, why);
 }
+assert.match(words.viewRefusal({ refused: 26, faults: 1 }), /^The desk can’t store its time/);
+assert.equal(words.viewRefusal({ refused: 2 }), words.refusal({ refused: 2 }));
 assert.match(words.refusal({ refused: 18, phase: 'STOPPED 2 2026-11-12T16:31Z AGAIN' }), /phase “Stopped before leg 2 since 16:31Z”/);
 assert.match(words.refusal({ refused: 18, phase: 'COMPLETED 2026-11-12T18:09Z' }), /phase “Completed 18:09Z”/);
 assert.match(words.refusal({ refused: 18, phase: 'DRAFTED' }), /phase “Draft”/);
