@@ -1,4 +1,5 @@
 """The arguments of a script, and its `--help`."""
+import os
 import sys
 
 
@@ -7,7 +8,11 @@ def arguments(document, most=0):
     prints it to standard error and exits with 2."""
     given = sys.argv[1:]
     if given == ["--help"]:
-        print(document.strip())
+        try:
+            print(document.strip(), flush=True)
+        except BrokenPipeError:
+            # the reader, such as `head`, has enough
+            os.dup2(os.open(os.devnull, os.O_WRONLY), 1)
         sys.exit(0)
     if len(given) > most or any(it.startswith("-") for it in given):
         print(document.strip(), file=sys.stderr)
