@@ -1,19 +1,17 @@
 -- Where all sources of a command are held, none is missing; and what is read later is read over the shelf as it was before.
-use Rattle.std.proofs.Common.{◌≡◌, ℕ, ◌+◌, ◌<◌, ◌≤◌, ◌∙◌, length, List, [], ◌∷◌, ◌++◌, map, take, drop, get_or, ap, arith, subst, sym, inl, inr}
+use Rattle.std.proofs.Common.{◌≡◌, ℕ, ◌+◌, ◌<◌, ◌≤◌, ◌∙◌, length, List, [], ◌∷◌, ◌++◌, map, take, drop, get_or, ap, arith, subst, sym}
 use Rattle.std.proofs.lemmas.List.{drop_more, map-append, take_more, take-append-drop}
-use Rattle.std.specs.Prelude.{All, None, Some, MatchResult, Result, Ok, Err}
+use Rattle.std.specs.Prelude.{All, Result, Ok, Err}
 use Rattle.std.proofs.lemmas.List.Elements.{All-head, All-tail}
 use Rattle.desk_io.specs.Told.{HoldsName, OnSource}
 use Rattle.desk_io.specs.Health.{IsSound}
 use Rattle.desk_io.specs.Over.{Over}
 use Rattle.desk_io.specs.Seen.{ShelfSeen}
-use Rattle.imports.specs.Lines.{IsImport}
-use Rattle.imports.specs.Records.{Line}
 use Rattle.table_files.specs.Files.{files, name_of}
 use Rattle.table_files.specs.Whole.{ReadsTables, Told, StopsAtMissing}
 use Rattle.table_files.specs.declared.faults.TableFault.TheVariants as fault
-use Rattle.commands.specs.Complete.{IsHeaderless, IsTooLong}
-use Rattle.commands.specs.Sources.{AreWhole, FailsAt, IsWhole, LacksHeader, ReadsImport, ReadsSource, ReadsSources, SaysLines, SourceFails, SourcesFail}
+use Rattle.commands.specs.Complete.{IsTooLong}
+use Rattle.commands.specs.Sources.{AreWhole, FailsAt, IsWhole, ReadsSources, SourceFails, SourcesFail}
 use Rattle.commands.specs.declared.fault.Fault.{Fault}
 use Rattle.commands.specs.declared.fault.Fault.TheVariants.{ReadFault, OutOfMemory, InputTooLong}
 
@@ -22,10 +20,6 @@ held_among : {F : Type 0} (name : F → List ℕ) (P : List ℕ → Type 0) (ear
 held_among name P [] file later rest all = All-head P (name file) (map name later ++ rest) all
 held_among name P (first ∷ earlier) file later rest all =
     held_among name P earlier file later rest (All-tail P (name first) (map name (earlier ++ file ∷ later) ++ rest) all)
-
-pub held_last : (P : List ℕ → Type 0) (names : List (List ℕ)) (last : List ℕ) → All P (names ++ last ∷ []) → P last
-held_last P [] last all = All-head P last [] all
-held_last P (name ∷ names) last all = held_last P names last (All-tail P name (names ++ last ∷ []) all)
 
 pub none_missing : (told : Told) (name : List ℕ) (rest : List (List ℕ)) → All (HoldsName told) (map name_of files ++ rest)
     → StopsAtMissing told (fault.ReadFault name) → ⊥
@@ -38,24 +32,6 @@ none_long told name rest all stop =
     held_among name_of (λ name. IsTooLong told name → ⊥) stop.earlier stop.file stop.later rest
     (subst (λ fs. All (λ name. IsTooLong told name → ⊥) (map name_of fs ++ rest)) stop.order all) stop.fails.1
 
--- what a file says whose whole source was read
-pub reads_lines : (shelf : Over ShelfSeen) (name file : List ℕ) (read : Result (List Line) Fault) → ReadsSource shelf name (Ok file) → SaysLines name file read → ReadsImport shelf name read
-reads_lines shelf name file (Ok lines) source says = record { file = file; read = source; are = says }
-reads_lines shelf name file (Err OutOfMemory) source says = inl tt
-reads_lines shelf name file (Err fault) source says = inr (record { file = file; read = source; none = says.0; is = says.1 })
-
--- the same of lines in a vector
-pub reads_items : {V : Type 0} (items : V → List Line) (shelf : Over ShelfSeen) (name file : List ℕ) (read : Result V Fault) → ReadsSource shelf name (Ok file)
-    → MatchResult read (λ v. SaysLines name file (Ok (items v))) (λ fault. SaysLines name file (Err fault))
-    → MatchResult read (λ v. ReadsImport shelf name (Ok (items v))) (λ fault. ReadsImport shelf name (Err fault))
-reads_items items shelf name file (Ok v) source says = reads_lines shelf name file (Ok (items v)) source says
-reads_items items shelf name file (Err fault) source says = reads_lines shelf name file (Err fault) source says
-
--- a file that was read and has no header, as the shelf tells it
-pub is_headerless : (told : Told) (name file : List ℕ) → OnSource told name (λ bytes. bytes ≡ file) → IsImport file None → IsHeaderless told name
-is_headerless None name file on none = tt
-is_headerless (Some sources) name file on none = (on.0, on.1, subst (λ bytes. IsImport bytes None) (sym on.2) none)
-
 abbrev pub between : ShelfSeen → ShelfSeen → Over ShelfSeen
 between old new = record { before = old; after = new }
 
@@ -66,27 +42,6 @@ module _ (old middle new : ShelfSeen) (same : middle.sources ≡ old.sources) (l
   fails_earlier name (InputTooLong file) says = (says.0, subst (λ told. OnSource told name (λ bytes. 67_108_864 < length bytes)) same says.1)
   fails_earlier name OutOfMemory says = tt
   fails_earlier name other says = absurd says
-
-  lacks_earlier : (name : List ℕ) (fault : Fault) → LacksHeader (between middle new) name fault → LacksHeader (between old new) name fault
-  lacks_earlier name fault says = record {
-    file = says.file;
-    read = (says.read.0, subst (λ told. OnSource told name (λ bytes. bytes ≡ says.file)) same says.read.1);
-    none = says.none;
-    is = says.is;
-  }
-
-  pub lines_earlier : (name : List ℕ) (read : Result (List Line) Fault) → ReadsImport (between middle new) name read → ReadsImport (between old new) name read
-  lines_earlier name (Ok lines) says = record {
-    file = says.file;
-    read = (says.read.0, subst (λ told. OnSource told name (λ bytes. bytes ≡ says.file)) same says.read.1);
-    are = says.are;
-  }
-  lines_earlier name (Err fault) (inl fails) = inl (fails_earlier name fault fails)
-  lines_earlier name (Err fault) (inr lacks) = inr (lacks_earlier name fault lacks)
-
-  pub reads_earlier : (name : List ℕ) (read : Result (List ℕ) Fault) → ReadsSource (between middle new) name read → ReadsSource (between old new) name read
-  reads_earlier name (Ok text) says = (says.0, subst (λ told. OnSource told name (λ bytes. bytes ≡ text)) same says.1)
-  reads_earlier name (Err fault) says = fails_earlier name fault says
 
 -- ---- several sources
 

@@ -1,7 +1,7 @@
 -- Bells that were rung over a desk that was opened.
 use Rattle.std.proofs.Common.{◌≡◌, ℕ, ◌+◌, List, [], ◌∷◌, Option, Some, refl, ap, sym, ◌∙◌, subst}
 use Rattle.alerts.proofs.RungLaws.{are_rung_none}
-use Rattle.alerts.specs.Ringing.{AreRung, DroppedSeen, Hung, dropped, fresh_from, hung_all, staying}
+use Rattle.alerts.specs.Ringing.{AreRung, Hung, dropped, fresh_from, hung_all, staying}
 use Rattle.alerts.specs.Seen.{BellSeen}
 use Rattle.desk.specs.Below.{Shown}
 use Rattle.commands.specs.Bells.{AreRungOver}

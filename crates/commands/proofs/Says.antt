@@ -1,8 +1,7 @@
 -- What follows of all that is said, whatever it is.
-use Rattle.std.proofs.Common.{◌≡◌, ◌≢◌, ℕ, ◌≤◌, List, [], ◌∷◌, ◌++◌, map, Option, None, Some, ap, arith, refl, sym, subst, inl, inr}
+use Rattle.std.proofs.Common.{◌≡◌, ℕ, ◌≤◌, List, [], ◌∷◌, ◌++◌, map, Option, None, Some, ap, arith, refl, sym, subst, inl, inr, false}
 use Rattle.std.specs.Prelude.{◌==◌, All, IfErr, IfOk, IfSome, IsSome, MatchBool, MatchResult, Result, Ok, Err}
 use Rattle.std.specs.List.{Contains}
-use Rattle.std.proofs.lemmas.List.Elements.{All-head}
 use Rattle.desk.specs.Below.{Shown}
 use Rattle.desk.specs.Opening.{IsLeft, IsOfKeeper, IsWhy, TellsRowsOf}
 use Rattle.desk.specs.declared.opening.OpenWhy.{OpenWhy}
@@ -23,7 +22,6 @@ use Rattle.desk.specs.Below.RowsFaultVariants as fault
 use Rattle.connections.specs.Doors.{EndsServing, Visit}
 use Rattle.connections.specs.declared.doors.ServeEnd.{ServeEnd}
 use Rattle.connections.specs.declared.doors.ServeEnd.TheVariants as ends
-use Rattle.imports.specs.Records.{Line}
 use Rattle.ops_tables.specs.Tables.{TableRows}
 use Rattle.table_files.specs.Files.{files, name_of}
 use Rattle.table_files.specs.Whole.{ReadsTables, RoseAt, StopsAtMissing, Told}
@@ -32,16 +30,17 @@ use Rattle.table_files.specs.declared.faults.TableFault.TheVariants as table
 use Rattle.words.specs.declared.task.DeskTask.TheVariants.{Run, Race, Serve, Import, Make}
 use Rattle.words.specs.declared.task.Task.{Task}
 use Rattle.words.specs.declared.task.Task.TheVariants.{Weather, Desk}
-use Rattle.commands.proofs.Reading.{after_files, among_here, held_last, is_headerless, none_long, none_missing}
-use Rattle.commands.specs.Answers.{AreKeptOver, HasDoor, HasSources, ImportsUnder, IsDone, IsUntouched, RacesUnder, RunsUnder, Says, Writes}
+use Rattle.commands.proofs.Reading.{after_files, among_here, none_long, none_missing}
+use Rattle.commands.specs.Answers.{AreKeptOver, HasDoor, IsDone, IsUntouched, Says, Writes, IsRefusal, ReadsUnder, WorksUnder}
 use Rattle.commands.specs.Complete.{AreFaultless, AreGood, AreHeaded, AreShort, IsTooLong}
 use Rattle.commands.specs.Faults.{Gives, Outcome, of_opening, of_tables, status_of_fault}
 use Rattle.commands.specs.Seen.{Lent, Service, lent as lent_over, service}
-use Rattle.commands.specs.Sources.{ReadsFiles, ReadsImport, ReadsSource, ReadsSources, SourceFails, SourcesFail, TablesFail, first_of, sources_of}
+use Rattle.commands.specs.Sources.{ReadsFiles, ReadsSources, SourceFails, SourcesFail, TablesFail, first_of, sources_of, AreWhole}
 use Rattle.commands.specs.Weather.{weather_text}
-use Rattle.commands.specs.Working.{EndSays, Imports, Makes, Opens, Races, Runs, Serves, desk_over}
+use Rattle.commands.specs.Working.{EndSays, Opens, desk_over, AsksNothing, Does, Ends, serves}
 use Rattle.commands.specs.declared.fault.Fault.{Fault}
 use Rattle.commands.specs.declared.fault.Fault.TheVariants.{Usage, ReadFault, WriteFault, KeeperFault, BadTable, BadRow, BadPair, OutOfMemory, DoorFault, InputTooLong, ClockFault}
+use Rattle.words.specs.declared.task.DeskTask.{DeskTask}
 
 -- ---- what a fault tells
 
@@ -114,25 +113,10 @@ module _ (of : Charges) where
   gives_tells P (Err OutOfMemory) gives = tt
   gives_tells P (Err other) gives = absurd gives
 
-  runs_tell : (script : List ℕ) (desk : Over DeskAt) (answer : Outcome) → Runs script desk answer → TellsBy of answer
-  runs_tell script desk (Ok text) runs = tt
-  runs_tell script desk (Err OutOfMemory) runs = tt
-  runs_tell script desk (Err other) runs = absurd runs
-
-  races_tell : (scripts : List (List ℕ)) (desk : Over DeskAt) (answer : Outcome) → Races scripts desk answer → TellsBy of answer
-  races_tell scripts desk (Ok text) races = tt
-  races_tell scripts desk (Err OutOfMemory) races = tt
-  races_tell scripts desk (Err other) races = absurd races
-
-  imports_tell : (lines : List Line) (desk : Over DeskAt) (answer : Outcome) → Imports lines desk answer → TellsBy of answer
-  imports_tell lines desk (Ok text) runs = tt
-  imports_tell lines desk (Err OutOfMemory) runs = tt
-  imports_tell lines desk (Err other) runs = absurd runs
-
-  makes_tell : (number count : ℕ) (desk : Over DeskAt) (answer : Outcome) → Makes number count desk answer → TellsBy of answer
-  makes_tell number count desk (Ok text) makes = tt
-  makes_tell number count desk (Err OutOfMemory) makes = tt
-  makes_tell number count desk (Err other) makes = absurd makes
+  ends_tell : (P : List ℕ → Type 0) (A : Type 0) (answer : Outcome) → Ends P A answer → TellsBy of answer
+  ends_tell P A (Ok text) ends = tt
+  ends_tell P A (Err OutOfMemory) ends = tt
+  ends_tell P A (Err other) ends = absurd ends
 
   why_tells : (told : Option Rows) (failed : Type 0) (why : OpenWhy) → (failed → of.keeper) → ((AreFaultless told → ⊥) × (AreLeft told → ⊥) → of.rows) → IsWhy told failed why
       → (AreLeft told → IsOfKeeper failed why) → TellsBy of (Err (of_opening why))
@@ -236,105 +220,64 @@ module _ {K C D L : Type 0} (k : K → KeeperSeen) (c : C → ClockSeen) (d : D 
   opens_follow command tables Works (Some b) answer goes opens idle served =
       record { keeper = goes; are_kept = (tables, opens.0); holds = opens.0.holds; served = served (desk_over rows_over b) opens.1 }
 
-  reports_follow : (names : List (List ℕ)) (board : Option Shown) (answer : Outcome) (read : Result (List ℕ) Fault) → ReadsSource shelf (first_of names) read
-      → MatchResult read (λ file. Gives (λ text. text ≡ weather_text file) answer × IsUntouched rows_over board) (λ fault. (answer ≡ Err fault) × IsUntouched rows_over board) → serving.idle
-      → Follows (Some (Weather, names)) board answer
-  reports_follow names board answer (Ok file) reads does idle = untouched_follows (Some (Weather, names)) board answer does.1 idle (gives_tells (charges (Some (Weather, names))) _ answer does.0)
+  -- the answer is a fault, and nothing was touched
+  abbrev IsFault : Option Shown → Outcome → Fault → Type 0
+  IsFault board answer fault = (answer ≡ Err fault) × IsUntouched rows_over board
+
+  reports_follow : (names : List (List ℕ)) (board : Option Shown) (answer : Outcome) (read : Result (List (List ℕ)) Fault) → ReadsSources shelf names read
+      → MatchResult read (λ texts. Gives (λ text. text ≡ weather_text (first_of texts)) answer × IsUntouched rows_over board) (IsFault board answer) → serving.idle → Follows (Some (Weather, names)) board answer
+  reports_follow names board answer (Ok texts) reads does idle = untouched_follows (Some (Weather, names)) board answer does.1 idle (gives_tells (charges (Some (Weather, names))) _ answer does.0)
   reports_follow names board answer (Err fault) reads does idle =
       told_follows (Some (Weather, names)) board answer fault does idle
-      (source_tells (charges (Some (Weather, names))) shelf (first_of names ∷ []) (λ misses. misses) (λ long. long) (first_of names) (λ P all. All-head P (first_of names) [] all) fault reads)
+      (sources_tell (charges (Some (Weather, names))) shelf names (λ misses. misses) (λ long. long) names (λ P all. all) fault reads)
 
-  script_follows : (names : List (List ℕ)) (tables : TableRows) (board : Option Shown) (answer : Outcome) (read : Result (List ℕ) Fault) → ReadsSource shelf (first_of names) read
-      → MatchResult read (λ script. KeeperGoesOn (k lent) (k kept) × Opens tables (Runs script) rows_over board answer) (λ fault. (answer ≡ Err fault) × IsUntouched rows_over board) → serving.idle
-      → Follows (Some (Desk Run, names)) board answer
-  script_follows names tables board answer (Ok script) reads does idle =
-      opens_follow (Some (Desk Run, names)) tables (Runs script) board answer does.0 does.1 (λ none. idle)
-      (λ desk ran. idle_served (Some (Desk Run, names)) answer idle (runs_tell (charges (Some (Desk Run, names))) script desk answer ran))
-  script_follows names tables board answer (Err fault) reads does idle =
-      told_follows (Some (Desk Run, names)) board answer fault does idle
-      (source_tells (charges (Some (Desk Run, names))) shelf (sources_of (Some (Desk Run, names))) (λ misses. misses) (λ long. long) (first_of names) (λ P all. held_last P (map name_of files) (first_of names) all) fault reads)
+  -- what the work of each command tells
+  does_served : (task : DeskTask) (names texts : List (List ℕ)) (desk : Over DeskAt) (answer : Outcome) → (serves task ≡ false → serving.idle) → Does task texts serving desk answer → Served (Some (Desk task, names)) answer
+  does_served Run names texts desk answer idle does = idle_served (Some (Desk Run, names)) answer (idle refl) (ends_tell (charges (Some (Desk Run, names))) _ _ answer does)
+  does_served Race names texts desk answer idle does = idle_served (Some (Desk Race, names)) answer (idle refl) (ends_tell (charges (Some (Desk Race, names))) _ _ answer does)
+  does_served (Serve port most) names texts desk answer idle does = record {
+    clock = does.clock;
+    door = does.door;
+    still = end_still does.end desk.after.state answer does.says does.still;
+    tells = end_tells (charges (Some (Desk (Serve port most), names))) does.end desk.after.state answer does.says
+        (λ is. (does.served.by_clock is).0)
+        (λ is. (door_failed _ most does.served.served.visits does.end does.served.served.ends is, λ has. does.steady_door has.0 has.1 is));
+  }
+  does_served Import names texts desk answer idle does = idle_served (Some (Desk Import, names)) answer (idle refl) (ends_tell (charges (Some (Desk Import, names))) _ _ answer does.2)
+  does_served (Make number count) names texts desk answer idle does = idle_served (Some (Desk (Make number count), names)) answer (idle refl) (ends_tell (charges (Some (Desk (Make number count), names))) _ _ answer does)
 
-  run_follows : (names : List (List ℕ)) (board : Option Shown) (answer : Outcome) (read : Result TableRows Fault) → ReadsFiles shelf read
-      → MatchResult read (λ tables. RunsUnder tables shelf rows_over (first_of names) board answer) (λ fault. (answer ≡ Err fault) × IsUntouched rows_over board) → serving.idle
-      → Follows (Some (Desk Run, names)) board answer
-  run_follows names board answer (Ok tables) reads does idle = script_follows names tables board answer does.0 does.1 does.2 idle
-  run_follows names board answer (Err fault) reads does idle =
-      told_follows (Some (Desk Run, names)) board answer fault does idle
-      (files_tell (charges (Some (Desk Run, names))) shelf (sources_of (Some (Desk Run, names))) (λ misses. misses) (λ long. long) (first_of names ∷ []) refl (λ bad good. bad good.0) fault reads)
+  -- no desk was opened for a bad record in the sources
+  refusal_tells : (task : DeskTask) (names texts : List (List ℕ)) (answer : Outcome) → AreWhole shelf.before.sources names texts → IsRefusal task names texts answer
+      → TellsBy (charges (Some (Desk task, names))) answer
+  refusal_tells task names texts (Err (BadTable bad)) whole is = λ good. good.1 texts bad whole is
+  refusal_tells task names texts (Err OutOfMemory) whole is = tt
+  refusal_tells task names texts (Err other) whole is = absurd is
+  refusal_tells task names texts (Ok text) whole is = absurd is
 
-  lanes_follow : (names : List (List ℕ)) (tables : TableRows) (board : Option Shown) (answer : Outcome) (read : Result (List (List ℕ)) Fault) → ReadsSources shelf names read
-      → MatchResult read (λ scripts. KeeperGoesOn (k lent) (k kept) × Opens tables (Races scripts) rows_over board answer) (λ fault. (answer ≡ Err fault) × IsUntouched rows_over board) → serving.idle
-      → Follows (Some (Desk Race, names)) board answer
-  lanes_follow names tables board answer (Ok scripts) reads does idle =
-      opens_follow (Some (Desk Race, names)) tables (Races scripts) board answer does.0 does.1 (λ none. idle)
-      (λ desk raced. idle_served (Some (Desk Race, names)) answer idle (races_tell (charges (Some (Desk Race, names))) scripts desk answer raced))
-  lanes_follow names tables board answer (Err fault) reads does idle =
-      told_follows (Some (Desk Race, names)) board answer fault does idle
-      (sources_tell (charges (Some (Desk Race, names))) shelf (sources_of (Some (Desk Race, names))) (λ misses. misses) (λ long. long) names (λ P all. after_files P name_of files names all) fault reads)
+  work_follows : (task : DeskTask) (names : List (List ℕ)) (tables : TableRows) (texts : List (List ℕ)) (board : Option Shown) (answer : Outcome) → AreWhole shelf.before.sources names texts
+      → WorksUnder tables (Does task texts serving) rows_over task names texts board answer → AsksNothing task board serving.idle → Follows (Some (Desk task, names)) board answer
+  work_follows task names tables texts board answer whole (inl works) asks =
+      opens_follow (Some (Desk task, names)) tables (Does task texts serving) board answer works.0 works.1 asks.1 (λ desk does. does_served task names texts desk answer asks.0 does)
+  work_follows task names tables texts board answer whole (inr refused) asks =
+      untouched_follows (Some (Desk task, names)) board answer refused.1 (asks.1 refused.1.none) (refusal_tells task names texts answer whole refused.0)
 
-  race_follows : (names : List (List ℕ)) (board : Option Shown) (answer : Outcome) (read : Result TableRows Fault) → ReadsFiles shelf read
-      → MatchResult read (λ tables. RacesUnder tables shelf rows_over names board answer) (λ fault. (answer ≡ Err fault) × IsUntouched rows_over board) → serving.idle
-      → Follows (Some (Desk Race, names)) board answer
-  race_follows names board answer (Ok tables) reads does idle = lanes_follow names tables board answer does.0 does.1 does.2 idle
-  race_follows names board answer (Err fault) reads does idle =
-      told_follows (Some (Desk Race, names)) board answer fault does idle
-      (files_tell (charges (Some (Desk Race, names))) shelf (sources_of (Some (Desk Race, names))) (λ misses. misses) (λ long. long) names refl (λ bad good. bad good.0) fault reads)
+  under_follows : (task : DeskTask) (names : List (List ℕ)) (tables : TableRows) (board : Option Shown) (answer : Outcome) (read : Result (List (List ℕ)) Fault) → ReadsSources shelf names read
+      → MatchResult read (λ texts. WorksUnder tables (Does task texts serving) rows_over task names texts board answer) (IsFault board answer) → AsksNothing task board serving.idle → Follows (Some (Desk task, names)) board answer
+  under_follows task names tables board answer (Ok texts) reads does asks = work_follows task names tables texts board answer reads does asks
+  under_follows task names tables board answer (Err fault) reads does asks =
+      told_follows (Some (Desk task, names)) board answer fault does (asks.1 does.1.none)
+      (sources_tell (charges (Some (Desk task, names))) shelf (map name_of files ++ names) (λ misses. misses) (λ long. long) names (λ P all. after_files P name_of files names all) fault reads)
 
-  serve_follows : (port most : ℕ) (names : List (List ℕ)) (board : Option Shown) (answer : Outcome) (read : Result TableRows Fault) → ReadsFiles shelf read
-      → MatchResult read (λ tables. KeeperGoesOn (k lent) (k kept) × Opens tables (Serves serving port most) rows_over board answer) (λ fault. (answer ≡ Err fault) × IsUntouched rows_over board)
-      → (board ≡ None → serving.idle) → Follows (Some (Desk (Serve port most), names)) board answer
-  serve_follows port most names board answer (Ok tables) reads does idle =
-      opens_follow (Some (Desk (Serve port most), names)) tables (Serves serving port most) board answer does.0 does.1 idle (λ desk serves.
-      record {
-        clock = serves.clock;
-        door = serves.door;
-        still = end_still serves.end desk.after.state answer serves.says serves.still;
-        tells = end_tells (charges (Some (Desk (Serve port most), names))) serves.end desk.after.state answer serves.says
-            (λ is. (serves.served.by_clock is).0)
-            (λ is. (door_failed _ most serves.served.served.visits serves.end serves.served.served.ends is, λ has. serves.steady_door has.0 has.1 is));
-      })
-  serve_follows port most names board answer (Err fault) reads does idle =
-      told_follows (Some (Desk (Serve port most), names)) board answer fault does (idle does.1.none)
-      (files_tell (charges (Some (Desk (Serve port most), names))) shelf (sources_of (Some (Desk (Serve port most), names))) (λ misses. misses) (λ long. long) [] refl (λ bad good. bad good.0) fault reads)
-
-  lines_follow : (names : List (List ℕ)) (tables : TableRows) (board : Option Shown) (answer : Outcome) (read : Result (List Line) Fault) → ReadsImport shelf (first_of names) read
-      → MatchResult read (λ lines. KeeperGoesOn (k lent) (k kept) × Opens tables (Imports lines) rows_over board answer) (λ fault. (answer ≡ Err fault) × IsUntouched rows_over board) → serving.idle
-      → Follows (Some (Desk Import, names)) board answer
-  lines_follow names tables board answer (Ok lines) reads does idle =
-      opens_follow (Some (Desk Import, names)) tables (Imports lines) board answer does.0 does.1 (λ none. idle)
-      (λ desk ran. idle_served (Some (Desk Import, names)) answer idle (imports_tell (charges (Some (Desk Import, names))) lines desk answer ran))
-  lines_follow names tables board answer (Err fault) (inl fails) does idle =
-      told_follows (Some (Desk Import, names)) board answer fault does idle
-      (source_tells (charges (Some (Desk Import, names))) shelf (sources_of (Some (Desk Import, names))) (λ misses. misses) (λ long. long) (first_of names) (λ P all. held_last P (map name_of files) (first_of names) all) fault fails)
-  lines_follow names tables board answer (Err fault) (inr lacks) does idle =
-      told_follows (Some (Desk Import, names)) board answer fault does idle
-      (subst (Tells (charges (Some (Desk Import, names)))) (sym lacks.is) (λ good. good.1 (is_headerless shelf.before.sources (first_of names) lacks.file lacks.read.1 lacks.none)))
-
-  import_follows : (names : List (List ℕ)) (board : Option Shown) (answer : Outcome) (read : Result TableRows Fault) → ReadsFiles shelf read
-      → MatchResult read (λ tables. ImportsUnder tables shelf rows_over (first_of names) board answer) (λ fault. (answer ≡ Err fault) × IsUntouched rows_over board) → serving.idle
-      → Follows (Some (Desk Import, names)) board answer
-  import_follows names board answer (Ok tables) reads does idle = lines_follow names tables board answer does.0 does.1 does.2 idle
-  import_follows names board answer (Err fault) reads does idle =
-      told_follows (Some (Desk Import, names)) board answer fault does idle
-      (files_tell (charges (Some (Desk Import, names))) shelf (sources_of (Some (Desk Import, names))) (λ misses. misses) (λ long. long) (first_of names ∷ []) refl (λ bad good. bad good.0) fault reads)
-
-  make_follows : (number count : ℕ) (names : List (List ℕ)) (board : Option Shown) (answer : Outcome) (read : Result TableRows Fault) → ReadsFiles shelf read
-      → MatchResult read (λ tables. KeeperGoesOn (k lent) (k kept) × Opens tables (Makes number count) rows_over board answer) (λ fault. (answer ≡ Err fault) × IsUntouched rows_over board) → serving.idle
-      → Follows (Some (Desk (Make number count), names)) board answer
-  make_follows number count names board answer (Ok tables) reads does idle =
-      opens_follow (Some (Desk (Make number count), names)) tables (Makes number count) board answer does.0 does.1 (λ none. idle)
-      (λ desk made. idle_served (Some (Desk (Make number count), names)) answer idle (makes_tell (charges (Some (Desk (Make number count), names))) number count desk answer made))
-  make_follows number count names board answer (Err fault) reads does idle =
-      told_follows (Some (Desk (Make number count), names)) board answer fault does idle
-      (files_tell (charges (Some (Desk (Make number count), names))) shelf (sources_of (Some (Desk (Make number count), names))) (λ misses. misses) (λ long. long) [] refl (λ bad good. bad good.0) fault reads)
+  desk_follows : (task : DeskTask) (names : List (List ℕ)) (board : Option Shown) (answer : Outcome) (read : Result TableRows Fault) → ReadsFiles shelf read
+      → MatchResult read (λ tables. ReadsUnder tables shelf serving rows_over task names board answer) (IsFault board answer) → AsksNothing task board serving.idle → Follows (Some (Desk task, names)) board answer
+  desk_follows task names board answer (Ok tables) reads does asks = under_follows task names tables board answer does.0 does.1 does.2 asks
+  desk_follows task names board answer (Err fault) reads does asks =
+      told_follows (Some (Desk task, names)) board answer fault does (asks.1 does.1.none)
+      (files_tell (charges (Some (Desk task, names))) shelf (map name_of files ++ names) (λ misses. misses) (λ long. long) names refl (λ bad good. bad good.0) fault reads)
 
   done_follows : (task : Task) (names : List (List ℕ)) (board : Option Shown) (answer : Outcome) → IsDone shelf serving rows_over task names board answer → Follows (Some (task, names)) board answer
   done_follows Weather names board answer does = reports_follow names board answer does.0.0 does.0.1 does.0.2 does.1
-  done_follows (Desk Run) names board answer does = run_follows names board answer does.0.0 does.0.1 does.0.2 does.1
-  done_follows (Desk Race) names board answer does = race_follows names board answer does.0.0 does.0.1 does.0.2 does.1
-  done_follows (Desk (Serve port most)) names board answer does = serve_follows port most names board answer does.0.0 does.0.1 does.0.2 does.1
-  done_follows (Desk Import) names board answer does = import_follows names board answer does.0.0 does.0.1 does.0.2 does.1
-  done_follows (Desk (Make number count)) names board answer does = make_follows number count names board answer does.0.0 does.0.1 does.0.2 does.1
+  done_follows (Desk task) names board answer does = desk_follows task names board answer does.0.0 does.0.1 does.0.2 does.1
 
   pub follows : (command : Option (Task × List (List ℕ))) (board : Option Shown) (answer : Outcome) → Says shelf serving rows_over command board answer → Follows command board answer
   follows command board answer (inr says) = untouched_follows command board answer says.1 says.2 (subst (TellsBy (charges command)) (sym says.0) tt)

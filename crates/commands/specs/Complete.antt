@@ -1,5 +1,5 @@
 -- When only out of memory can stop a command.
-use Rattle.std.specs.Prelude.{◌≡◌, ◌≢◌, ◌<◌, ℕ, List, Option, None, Some, Err, All, IsSome, length}
+use Rattle.std.specs.Prelude.{◌≢◌, ◌<◌, ℕ, List, Option, None, Some, Err, All, IsSome, length}
 use Rattle.desk.specs.Opening.{OnLoaded}
 use Rattle.desk_io.specs.Health.{Health, RoseOrFull}
 use Rattle.desk_io.specs.Over.{Over}
@@ -8,15 +8,14 @@ use Rattle.desk_io.specs.Seen.{ShelfSeen, SinkSeen}
 use Rattle.desk_io.specs.Told.{OnSource}
 use Rattle.desk.specs.Below.{IsFaultOf, RowsFault}
 use Rattle.desk.specs.Below.RowsFaultVariants as fault
-use Rattle.imports.specs.Lines.{IsImport}
 use Rattle.table_files.specs.Whole.{ReadsTables, Told}
 use Rattle.table_files.specs.declared.faults.BadTable.{BadTable}
 use Rattle.table_files.specs.declared.faults.TableFault.TheVariants as table
-use Rattle.words.specs.declared.task.DeskTask.TheVariants.{Import}
 use Rattle.words.specs.declared.task.Task.{Task}
-use Rattle.words.specs.declared.task.Task.TheVariants.{Desk}
+use Rattle.words.specs.declared.task.Task.TheVariants.{Weather, Desk}
 use Rattle.commands.specs.Seen.{Lent, Service}
-use Rattle.commands.specs.Sources.{first_of, sources_of}
+use Rattle.commands.specs.Sources.{AreWhole, sources_of}
+use Rattle.commands.specs.Working.{HasBadRecord}
 
 -- no table has a bad record
 abbrev pub AreGood : Told → Type 0
@@ -30,14 +29,10 @@ IsTooLong sources name = OnSource sources name (λ bytes. 67_108_864 < length by
 abbrev pub AreShort : Told → List (List ℕ) → Type 0
 AreShort sources names = All (λ name. IsTooLong sources name → ⊥) names
 
--- the first record of the source isn't the header of an import
-abbrev pub IsHeaderless : Told → List ℕ → Type 0
-IsHeaderless sources name = OnSource sources name (λ bytes. IsImport bytes None)
-
--- a file to import has its header
+-- the sources of a command have no bad record: a file to import has its header
 abbrev pub IsHeaded : Told → Task → List (List ℕ) → Type 0
-IsHeaded sources (Desk Import) names = IsHeaderless sources (first_of names) → ⊥
-IsHeaded sources _ names = Unit {0}
+IsHeaded sources Weather names = Unit {0}
+IsHeaded sources (Desk task) names = (texts : List (List ℕ)) (bad : BadTable) → AreWhole sources names texts → HasBadRecord task names texts bad → ⊥
 
 abbrev pub AreHeaded : Told → Option (Task × List (List ℕ)) → Type 0
 AreHeaded sources None = Unit {0}

@@ -1,57 +1,34 @@
--- What a command reads: the tables, and then the sources that its task names.
-use Rattle.std.specs.Prelude.{◌≡◌, ◌⊎◌, ℕ, ◌<◌, ◌≤◌, List, [], ◌∷◌, ◌++◌, length, map, Option, None, Some, Result, Ok, Err}
+-- What a command reads: the tables, and then the sources that it names.
+use Rattle.std.specs.Prelude.{◌≡◌, ℕ, ◌<◌, ◌≤◌, List, [], ◌∷◌, ◌++◌, length, map, Option, None, Some, Result, Ok, Err}
 use Rattle.desk_io.specs.Health.{HasFailedWhere, IsSound}
 use Rattle.desk_io.specs.Over.{Over}
 use Rattle.desk_io.specs.Seen.{Holds, ShelfSeen}
 use Rattle.desk_io.specs.Told.{OnSource}
-use Rattle.imports.specs.Lines.{IsImport}
-use Rattle.imports.specs.Records.{Line}
 use Rattle.ops_tables.specs.Tables.{TableRows}
 use Rattle.table_files.specs.Files.{files, name_of}
 use Rattle.table_files.specs.Whole.{ReadsTables, RoseAt, StopsAtMissing, Told}
 use Rattle.table_files.specs.declared.faults.TableFault.{TableFault}
-use Rattle.table_files.specs.declared.faults.TableWhy.TheVariants.{BadField}
-use Rattle.words.specs.declared.task.DeskTask.{DeskTask}
-use Rattle.words.specs.declared.task.DeskTask.TheVariants.{Run, Race, Serve, Import, Make}
 use Rattle.words.specs.declared.task.Task.{Task}
 use Rattle.words.specs.declared.task.Task.TheVariants.{Weather, Desk}
 use Rattle.commands.specs.Faults.{of_tables}
 use Rattle.commands.specs.declared.fault.Fault.{Fault}
-use Rattle.commands.specs.declared.fault.Fault.TheVariants.{ReadFault, BadTable, OutOfMemory, InputTooLong}
+use Rattle.commands.specs.declared.fault.Fault.TheVariants.{ReadFault, OutOfMemory, InputTooLong}
 
 -- ---- the sources
 
--- the name of the source, for a task that reads one
+-- the first of the names or texts, for a command that reads one source
 abbrev pub first_of : List (List ℕ) → List ℕ
 first_of [] = []
 first_of (name ∷ rest) = name
 
--- the sources that a task on a desk reads after the tables
-abbrev pub sources_on_desk : DeskTask → List (List ℕ) → List (List ℕ)
-sources_on_desk Run names = first_of names ∷ []
-sources_on_desk Race names = names
-sources_on_desk (Serve port connections) names = []
-sources_on_desk Import names = first_of names ∷ []
-sources_on_desk (Make number count) names = []
-
--- the sources that a task reads, in the order of reading
+-- the sources that a command reads, in the order of reading
 abbrev pub sources_for : Task → List (List ℕ) → List (List ℕ)
-sources_for Weather names = first_of names ∷ []
-sources_for (Desk task) names = map name_of files ++ sources_on_desk task names
+sources_for Weather names = names
+sources_for (Desk task) names = map name_of files ++ names
 
--- the sources that a command reads
 abbrev pub sources_of : Option (Task × List (List ℕ)) → List (List ℕ)
 sources_of None = []
 sources_of (Some command) = sources_for command.0 command.1
-
--- how many connections a task serves
-abbrev pub links_for : Task → ℕ
-links_for (Desk (Serve port connections)) = connections
-links_for _ = 0
-
-abbrev pub links_of : Option (Task × List (List ℕ)) → ℕ
-links_of None = 0
-links_of (Some command) = links_for command.0
 
 -- ---- what was read
 
@@ -98,34 +75,6 @@ SourcesFail shelf names fault = FailsAt shelf names fault
 abbrev pub ReadsSources : Over ShelfSeen → List (List ℕ) → Result (List (List ℕ)) Fault → Type 0
 ReadsSources shelf names (Ok texts) = AreWhole shelf.before.sources names texts
 ReadsSources shelf names (Err fault) = SourcesFail shelf names fault
-
--- the fault of a file whose first record isn't the header of an import
-abbrev pub headerless : List ℕ → Fault
-headerless name = BadTable (record { name = name; line = 1; why = BadField })
-
--- the lines of a file that was read, the fault of a file without a header, or out of memory
-abbrev pub SaysLines : List ℕ → List ℕ → Result (List Line) Fault → Type 0
-SaysLines name file (Ok lines) = IsImport file (Some lines)
-SaysLines name file (Err OutOfMemory) = Unit {0}
-SaysLines name file (Err fault) = IsImport file None × (fault ≡ headerless name)
-
--- the file was read, and has no header
-pub record LacksHeader (shelf : Over ShelfSeen) (name : List ℕ) (fault : Fault) : Type 0 where
-  pub file : List ℕ
-  pub read : ReadsSource shelf name (Ok file)
-  pub none : IsImport file None
-  pub is : fault ≡ headerless name
-
--- the lines of an import file that was read whole
-pub record HasLines (shelf : Over ShelfSeen) (name : List ℕ) (lines : List Line) : Type 0 where
-  pub file : List ℕ
-  pub read : ReadsSource shelf name (Ok file)
-  pub are : IsImport file (Some lines)
-
--- the lines of an import file, or why there are none: it wasn't read, or it has no header
-abbrev pub ReadsImport : Over ShelfSeen → List ℕ → Result (List Line) Fault → Type 0
-ReadsImport shelf name (Ok lines) = HasLines shelf name lines
-ReadsImport shelf name (Err fault) = SourceFails shelf name fault ⊎ LacksHeader shelf name fault
 
 -- why the tables weren't read: their first fault
 pub record TablesFail (shelf : Over ShelfSeen) (fault : Fault) : Type 0 where

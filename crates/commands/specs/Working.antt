@@ -1,5 +1,5 @@
--- The desk that a command opens, and the work on it.
-use Rattle.std.specs.Prelude.{◌≡◌, ◌≢◌, ℕ, ◌≤◌, Bool, List, Option, None, Some, Result, Ok, Err}
+-- The desk that a command opens, and the work of each command on it.
+use Rattle.std.specs.Prelude.{◌≡◌, ◌≢◌, ℕ, ◌≤◌, Bool, true, false, List, Option, None, Some, Result, Ok, Err}
 use Rattle.desk.specs.Below.{Shown, Record, state_in, reopened}
 use Rattle.desk.specs.Keeping.{KeepsState}
 use Rattle.desk.specs.InPart.{AreGivenInPart, IsRunInPart}
@@ -16,15 +16,24 @@ use Rattle.desk_net.specs.Seen.{ClockGoesOn}
 use Rattle.desk_state.specs.Sound.{IsBoard}
 use Rattle.desk_state.specs.State.{State}
 use Rattle.desk_state.specs.Texts.{closing}
+use Rattle.imports.specs.Lines.{IsImport}
 use Rattle.imports.specs.Records.{Line}
 use Rattle.ops_tables.specs.Tables.{TableRows}
 use Rattle.connections.specs.Doors.{HasLinks}
 use Rattle.connections.specs.declared.doors.ServeEnd.{ServeEnd}
 use Rattle.connections.specs.declared.doors.ServeEnd.TheVariants as ends
 use Rattle.service.specs.Doors.{IsServing}
+use Rattle.table_files.specs.declared.faults.BadTable.{BadTable as ABadTable}
+use Rattle.table_files.specs.declared.faults.TableWhy.TheVariants.{BadField}
+use Rattle.words.specs.declared.task.DeskTask.{DeskTask}
+use Rattle.words.specs.declared.task.DeskTask.TheVariants.{Run, Race, Serve, Import, Make}
+use Rattle.words.specs.declared.task.Task.{Task}
+use Rattle.words.specs.declared.task.Task.TheVariants.{Desk}
 use Rattle.commands.specs.Faults.{Gives, Outcome, of_opening}
 use Rattle.commands.specs.Seen.{Lent, Service}
-use Rattle.commands.specs.declared.fault.Fault.TheVariants.{DoorFault, ClockFault, OutOfMemory}
+use Rattle.commands.specs.Sources.{first_of}
+use Rattle.commands.specs.declared.fault.Fault.{Fault}
+use Rattle.commands.specs.declared.fault.Fault.TheVariants.{BadTable, DoorFault, ClockFault, OutOfMemory}
 
 -- ---- the work on an open desk
 
@@ -47,35 +56,88 @@ pub record Serves {L : Type 0} (service : Service L) (port most : ℕ) (desk : O
   pub steady_clock : IsSound service.clock.before.health → end ≢ ends.ClockFault
   pub steady_door : IsSound service.door.before.health → HasLinks service.door.before.links most → end ≢ ends.DoorFault
 
--- A script was run on a desk: to its end, with its text, or until memory ran out.
+-- The work gives its text. Or memory ran out when it was done in part.
+abbrev pub Ends : (List ℕ → Type 0) → Type 0 → Outcome → Type 0
+Ends Whole Part (Ok text) = Whole text
+Ends Whole Part (Err OutOfMemory) = Part
+Ends Whole Part (Err other) = ⊥
+
+-- A script was run on a desk.
 abbrev pub Runs : List ℕ → Over DeskAt → Outcome → Type 0
-Runs script desk (Ok text) = IsRun desk.before.faults desk.after.faults desk.before.state script desk.after.state text
-Runs script desk (Err OutOfMemory) = IsRunInPart desk.before.faults desk.after.faults desk.before.state script desk.after.state
-Runs script desk (Err other) = ⊥
+Runs script desk =
+    Ends (IsRun desk.before.faults desk.after.faults desk.before.state script desk.after.state)
+    (IsRunInPart desk.before.faults desk.after.faults desk.before.state script desk.after.state)
 
 -- a text, or out of memory
 abbrev pub told_of : {E : Type 0} → Result (List ℕ) E → Outcome
 told_of (Ok text) = Ok text
 told_of (Err e) = Err OutOfMemory
 
--- Scripts were raced on a desk: to their ends, with the text of the race, or until memory ran out.
+-- Scripts were raced on a desk.
 abbrev pub Races : List (List ℕ) → Over DeskAt → Outcome → Type 0
-Races scripts desk (Ok text) = IsRace desk.before.faults desk.after.faults desk.before.state scripts desk.after.state text
-Races scripts desk (Err OutOfMemory) = IsRaceInPart desk.before.faults desk.after.faults desk.before.state scripts desk.after.state
-Races scripts desk (Err other) = ⊥
+Races scripts desk =
+    Ends (IsRace desk.before.faults desk.after.faults desk.before.state scripts desk.after.state)
+    (IsRaceInPart desk.before.faults desk.after.faults desk.before.state scripts desk.after.state)
 
 -- The lines of an import were answered on a desk, as the lines of a script are.
 abbrev pub Imports : List Line → Over DeskAt → Outcome → Type 0
-Imports lines desk (Ok text) = IsRunOf desk.before.faults desk.after.faults desk.before.state (items_of_lines lines) desk.after.state text
-Imports lines desk (Err OutOfMemory) = AreGivenInPart 1 desk.before.faults desk.after.faults desk.before.state (items_of_lines lines) desk.after.state
-Imports lines desk (Err other) = ⊥
+Imports lines desk =
+    Ends (IsRunOf desk.before.faults desk.after.faults desk.before.state (items_of_lines lines) desk.after.state)
+    (AreGivenInPart 1 desk.before.faults desk.after.faults desk.before.state (items_of_lines lines) desk.after.state)
 
--- The calls of a seed for `count` flights were made on a desk. Either they were made to their end, with three lines
--- of counts, or until memory ran out.
+-- The calls of a seed for `count` flights were made on a desk. The text has three lines of counts.
 abbrev pub Makes : ℕ → ℕ → Over DeskAt → Outcome → Type 0
-Makes number count desk (Ok text) = IsMade desk.before.faults desk.after.faults desk.before.state number count desk.after.state text
-Makes number count desk (Err OutOfMemory) = IsMadeInPart desk.before.faults desk.after.faults desk.before.state number count desk.after.state
-Makes number count desk (Err other) = ⊥
+Makes number count desk =
+    Ends (IsMade desk.before.faults desk.after.faults desk.before.state number count desk.after.state)
+    (IsMadeInPart desk.before.faults desk.after.faults desk.before.state number count desk.after.state)
+
+-- ---- the commands
+
+-- the same for the lines of an import file
+abbrev pub ImportsFile : List ℕ → Over DeskAt → Outcome → Type 0
+ImportsFile file desk answer = (lines : List Line) × IsImport file (Some lines) × Imports lines desk answer
+
+-- the work of a command on a desk, over the texts of its sources
+abbrev pub Does : {L : Type 0} → DeskTask → List (List ℕ) → Service L → Over DeskAt → Outcome → Type 0
+Does Run texts service = Runs (first_of texts)
+Does Race texts service = Races texts
+Does (Serve port most) texts service = Serves service port most
+Does Import texts service = ImportsFile (first_of texts)
+Does (Make number count) texts service = Makes number count
+
+-- only `serve` uses the clock and the door
+abbrev pub serves : DeskTask → Bool
+serves (Serve port most) = true
+serves _ = false
+
+-- If nothing is served, or no desk is opened, the clock and the door are unchanged.
+abbrev pub AsksNothing : DeskTask → Option Shown → Type 0 → Type 0
+AsksNothing task board idle = (serves task ≡ false → idle) × (board ≡ None → idle)
+
+-- how many connections a command serves
+abbrev pub links_for : Task → ℕ
+links_for (Desk (Serve port connections)) = connections
+links_for _ = 0
+
+abbrev pub links_of : Option (Task × List (List ℕ)) → ℕ
+links_of None = 0
+links_of (Some command) = links_for command.0
+
+-- the bad record of a file whose first record isn't the header of an import
+abbrev pub headerless : List ℕ → ABadTable
+headerless name = record { name = name; line = 1; why = BadField }
+
+-- a bad record in the texts of the sources, for which no desk is opened
+abbrev pub HasBadRecord : DeskTask → (names texts : List (List ℕ)) → ABadTable → Type 0
+HasBadRecord Import names texts bad = IsImport (first_of texts) None × (bad ≡ headerless (first_of names))
+HasBadRecord _ names texts bad = ⊥
+
+-- the lines of an import file that was read, or the bad record of a file without a header, or out of memory
+abbrev pub SaysLines : List ℕ → List ℕ → Result (List Line) Fault → Type 0
+SaysLines name file (Ok lines) = IsImport file (Some lines)
+SaysLines name file (Err (BadTable bad)) = IsImport file None × (bad ≡ headerless name)
+SaysLines name file (Err OutOfMemory) = Unit {0}
+SaysLines name file (Err other) = ⊥
 
 -- ---- the desk
 
@@ -104,6 +166,10 @@ desk_over keeper board = record {
   before = record { state = board.opening; faults = keeper.before.health.faults };
   after = record { state = board.state; faults = keeper.after.health.faults };
 }
+
+-- the same desk, with the keeper's faults counted from an earlier count
+abbrev pub since : ℕ → Over DeskAt → Over DeskAt
+since less desk = record desk { before = record desk.before { faults = less } }
 
 -- A desk is opened over the rows, and the work is done on it; or no desk is opened.
 abbrev pub Opens : TableRows → (Over DeskAt → Outcome → Type 0) → Lent → Option Shown → Outcome → Type 0

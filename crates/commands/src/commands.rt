@@ -1,26 +1,28 @@
-ghost use Rattle.std.specs.Prelude.{◌≡◌, ◌<◌, ◌≤◌, None, map, string_bytes};
+ghost use Rattle.std.specs.Prelude.{◌≡◌, ◌<◌, ◌≤◌, None, Err, map, string_bytes};
 ghost use Rattle.alerts.specs.Ringing.{hung_all};
 ghost use Rattle.commands.specs.Bells.{AreRungOver};
-ghost use Rattle.commands.specs.Answers.{ImportsFile, ImportsUnder, MakesCalls, RacesScripts, RacesUnder};
-ghost use Rattle.commands.specs.Answers.{IsDone, RunsScript, RunsUnder, Says, SaysReports, ServesLinks};
+ghost use Rattle.commands.specs.Answers.{IsDoneOnDesk, ReadsUnder, Says, SaysReports, WorksUnder};
+ghost use Rattle.commands.specs.Faults.{Gives};
 ghost use Rattle.commands.specs.Seen.{lent, service};
-ghost use Rattle.commands.specs.Sources.{first_of};
+ghost use Rattle.commands.specs.Sources as spec;
+ghost use Rattle.commands.specs.Weather.{weather_text};
+ghost use Rattle.commands.specs.Working.{AsksNothing, Does, ImportsFile};
 ghost use Rattle.desk_io.specs.Over.{over};
 ghost use Rattle.words.specs.Words.{IsWithin, command_of};
+ghost use Rattle.words.specs.declared.task.DeskTask.TheVariants.{Import};
 ghost use Rattle.words.specs.declared.task.Task.TheVariants.{Desk};
 
 use crate::fault::Fault;
-use crate::sources::{read_files, read_lines, read_source, read_sources};
-use crate::working::{
-    Answered, Ended, boardless, import_over, make_over, race_over, read_reports, run_over,
-    serve_over,
-};
+use crate::sources::{first_of, read_files, read_sources};
+use crate::threads::{race_over, serve_over};
+use crate::weather::text_of_weather;
+use crate::working::{Answered, Ended, Provided, boardless, open_over};
+use crate::works::{Importing, Making, Running, lines_in};
 use alerts::{Bell, Ringer};
 use desk::{Gate, leave};
-use desk_io::{OutOfMemory, Shelf};
+use desk_io::{Listed, OutOfMemory, Shelf, Text};
 use desk_net::{Clock, Door};
 use keeper::Keeper;
-use ops_tables::Tables;
 use rules::Steps;
 use std::alloc::Global;
 use std::marker::Brand;
@@ -29,130 +31,146 @@ use std::sync::ledger::{Blank, Ledger};
 use std::thread::Threads;
 use words::{DeskTask, Task, command};
 
+// The text for a file of reports.
+fn read_reports(alloc: Global, file: &[u8]) -> Result<Text, Fault>
+    ensures { Gives (λ text. text ≡ weather_text file.now) result }
+{
+    Ok(Text::from_vec(text_of_weather(alloc, file)?))
+}
+
 // Reads a file of reports.
 fn weather<S: Shelf, K: Keeper, B: Bell>(
     alloc: Global,
-    name: &str,
-    shelf: &mut S,
-    keeper: K,
-    ringer: Ringer<B>,
-) -> Ended<K, B>
-    ensures says { SaysReports (over S.seen shelf.old shelf.new) (lent K.seen keeper result.keeper) name.now
-        result.board result.answer }
-    ensures rung { AreRungOver result.board (hung_all B.seen ringer) (hung_all B.seen result.ringer) }
-{
-    match read_source(alloc, shelf, name) {
-        Ok(file) => boardless(read_reports(alloc, file.bytes()), keeper, ringer),
-        Err(fault) => boardless(Err(fault), keeper, ringer),
-    }
-}
-
-// Runs a script, after the tables are read.
-fn run_under<S: Shelf, K: Keeper, B: Bell, G: Gate, L: Ledger>(
-    alloc: Global,
-    tables: Tables,
-    name: &str,
-    shelf: &mut S,
-    keeper: K,
-    ringer: Ringer<B>,
-    gate: &G,
-    steps: &mut Steps<L>,
-) -> Ended<K, B>
-    ensures says { RunsUnder tables (over S.seen shelf.old shelf.new) (lent K.seen keeper result.keeper) name.now
-        result.board result.answer }
-    ensures rung { AreRungOver result.board (hung_all B.seen ringer) (hung_all B.seen result.ringer) }
-{
-    match read_source(alloc, shelf, name) {
-        Ok(script) => run_over(alloc, tables, script.bytes(), keeper, ringer, gate, steps),
-        Err(fault) => {
-            leave(tables);
-            boardless(Err(fault), keeper, ringer)
-        }
-    }
-}
-
-// Reads the tables, then runs a script on the desk of the rows.
-fn run<S: Shelf, K: Keeper, B: Bell, G: Gate, L: Ledger>(
-    alloc: Global,
-    name: &str,
-    shelf: &mut S,
-    keeper: K,
-    ringer: Ringer<B>,
-    gate: &G,
-    steps: &mut Steps<L>,
-) -> Ended<K, B>
-    ensures says { RunsScript (over S.seen shelf.old shelf.new) (lent K.seen keeper result.keeper) name.now
-        result.board result.answer }
-    ensures rung { AreRungOver result.board (hung_all B.seen ringer) (hung_all B.seen result.ringer) }
-{
-    match read_files(alloc, shelf) {
-        Ok(tables) => run_under(alloc, tables, name, shelf, keeper, ringer, gate, steps),
-        Err(fault) => boardless(Err(fault), keeper, ringer),
-    }
-}
-
-// Races scripts, after the tables are read.
-fn race_under<
-    R: Threads + Wait + Sync,
-    S: Shelf,
-    K: Keeper + Send,
-    B: Bell + Send,
-    G: Gate + Sync,
-    L: Ledger,
->(
-    rt: &R,
-    alloc: Global,
-    tables: Tables,
     names: &[String],
     shelf: &mut S,
     keeper: K,
     ringer: Ringer<B>,
-    gate: &G,
-    steps: &mut Steps<L>,
 ) -> Ended<K, B>
-    ensures says { RacesUnder tables (over S.seen shelf.old shelf.new) (lent K.seen keeper result.keeper)
+    ensures says { SaysReports (over S.seen shelf.old shelf.new) (lent K.seen keeper result.keeper)
         (map string_bytes names.now) result.board result.answer }
     ensures rung { AreRungOver result.board (hung_all B.seen ringer) (hung_all B.seen result.ringer) }
 {
     match read_sources(alloc, shelf, names) {
-        Ok(scripts) => race_over(rt, alloc, tables, &scripts, keeper, ringer, gate, steps),
-        Err(fault) => {
-            leave(tables);
-            boardless(Err(fault), keeper, ringer)
-        }
+        Ok(texts) => boardless(
+            read_reports(alloc, first_of(texts.as_slice())),
+            keeper,
+            ringer,
+        ),
+        Err(fault) => boardless(Err(fault), keeper, ringer),
     }
 }
 
-// Reads the tables, then races scripts on the desk of the rows.
-fn race<
+// The name of the source, for a command that reads one.
+fn first_name(names: &[String]) -> &str
+    ensures { result.now ≡ spec.first_of (map string_bytes names.now) }
+{
+    match names {
+        [] => "",
+        [name, ..] => name.as_str(),
+    }
+}
+
+// Answers with a fault for which no desk was opened.
+fn unopened<K: Keeper, B: Bell>(fault: Fault, provided: Provided<K, B>) -> Ended<K, B>
+    ensures answer { result.answer ≡ Err fault }
+    ensures none { result.board ≡ None }
+    ensures keeper { result.keeper ≡ provided.keeper }
+    ensures ringer { result.ringer ≡ provided.ringer }
+{
+    let Provided {
+        tables,
+        keeper,
+        ringer,
+    } = provided;
+    leave(tables);
+    boardless(Err(fault), keeper, ringer)
+}
+
+// Imports a file, unless it lacks its header.
+fn import<K: Keeper, B: Bell, G: Gate, L: Ledger>(
+    alloc: Global,
+    names: &[String],
+    texts: &Listed<Text>,
+    provided: Provided<K, B>,
+    gate: &G,
+    steps: &mut Steps<L>,
+) -> Ended<K, B>
+    ensures works { WorksUnder provided.tables (ImportsFile (spec.first_of texts.now))
+        (lent K.seen provided.keeper result.keeper) Import (map string_bytes names.now) texts.now
+        result.board result.answer }
+    ensures rung { AreRungOver result.board (hung_all B.seen provided.ringer) (hung_all B.seen result.ringer) }
+{
+    match lines_in(alloc, first_name(names), first_of(texts.as_slice())) {
+        Ok(lines) => open_over(alloc, provided, Importing { lines }, gate, steps),
+        Err(fault) => unopened(fault, provided),
+    }
+}
+
+// Does the work of a command on the desk of the rows, over the texts of its sources.
+fn work_on<
     R: Threads + Wait + Sync,
-    S: Shelf,
     K: Keeper + Send,
     B: Bell + Send,
+    C: Clock + Send,
+    D: Door + Drop,
     G: Gate + Sync,
     L: Ledger,
 >(
     rt: &R,
     alloc: Global,
+    task: DeskTask,
     names: &[String],
-    shelf: &mut S,
-    keeper: K,
-    ringer: Ringer<B>,
+    texts: Listed<Text>,
+    provided: Provided<K, B>,
+    clock: C,
+    door: D,
     gate: &G,
     steps: &mut Steps<L>,
-) -> Ended<K, B>
-    ensures says { RacesScripts (over S.seen shelf.old shelf.new) (lent K.seen keeper result.keeper)
-        (map string_bytes names.now) result.board result.answer }
-    ensures rung { AreRungOver result.board (hung_all B.seen ringer) (hung_all B.seen result.ringer) }
+) -> Answered<K, B, C, D>
+where
+    D::Link: Send,
+    requires { IsWithin (Desk task) }
+    ensures works { WorksUnder provided.tables
+        (Does task texts (service C.seen D.seen D.Link.seen clock result.clock door result.door))
+        (lent K.seen provided.keeper result.ended.keeper) task (map string_bytes names.now) texts
+        result.ended.board result.ended.answer }
+    ensures idle { AsksNothing task result.ended.board ((result.clock ≡ clock) × (result.door ≡ door)) }
+    ensures rung { AreRungOver result.ended.board (hung_all B.seen provided.ringer)
+        (hung_all B.seen result.ended.ringer) }
 {
-    match read_files(alloc, shelf) {
-        Ok(tables) => race_under(rt, alloc, tables, names, shelf, keeper, ringer, gate, steps),
-        Err(fault) => boardless(Err(fault), keeper, ringer),
+    match task {
+        DeskTask::Run => {
+            let ended = open_over(alloc, provided, Running { texts }, gate, steps);
+            Answered { ended, clock, door }
+        }
+        DeskTask::Race => {
+            let ended = race_over(rt, alloc, provided, &texts, gate, steps);
+            Answered { ended, clock, door }
+        }
+        DeskTask::Serve { port, connections } => serve_over(
+            rt,
+            alloc,
+            provided,
+            port,
+            connections,
+            clock,
+            door,
+            gate,
+            steps,
+        ),
+        DeskTask::Import => {
+            let ended = import(alloc, names, &texts, provided, gate, steps);
+            Answered { ended, clock, door }
+        }
+        DeskTask::Make { number, count } => {
+            let ended = open_over(alloc, provided, Making { number, count }, gate, steps);
+            Answered { ended, clock, door }
+        }
     }
 }
 
-// Reads the tables, then serves connections over the desk of the rows.
-fn serve<
+// Reads the sources after the tables, and does the work of a command.
+fn read_under<
     R: Threads + Wait + Sync,
     S: Shelf,
     K: Keeper + Send,
@@ -164,122 +182,38 @@ fn serve<
 >(
     rt: &R,
     alloc: Global,
-    port: u16,
-    connections: u32,
+    task: DeskTask,
+    names: &[String],
     shelf: &mut S,
+    provided: Provided<K, B>,
     clock: C,
     door: D,
-    keeper: K,
-    ringer: Ringer<B>,
     gate: &G,
     steps: &mut Steps<L>,
 ) -> Answered<K, B, C, D>
 where
     D::Link: Send,
-    ensures serves { ServesLinks (over S.seen shelf.old shelf.new)
+    requires { IsWithin (Desk task) }
+    ensures works { ReadsUnder provided.tables (over S.seen shelf.old shelf.new)
         (service C.seen D.seen D.Link.seen clock result.clock door result.door)
-        (lent K.seen keeper result.ended.keeper) port connections result.ended.board result.ended.answer }
-    ensures idle { result.ended.board ≡ None → (result.clock ≡ clock) × (result.door ≡ door) }
-    ensures rung { AreRungOver result.ended.board (hung_all B.seen ringer) (hung_all B.seen result.ended.ringer) }
+        (lent K.seen provided.keeper result.ended.keeper) task (map string_bytes names.now)
+        result.ended.board result.ended.answer }
+    ensures idle { AsksNothing task result.ended.board ((result.clock ≡ clock) × (result.door ≡ door)) }
+    ensures rung { AreRungOver result.ended.board (hung_all B.seen provided.ringer)
+        (hung_all B.seen result.ended.ringer) }
 {
-    match read_files(alloc, shelf) {
-        Ok(tables) => serve_over(
-            rt,
-            alloc,
-            tables,
-            port,
-            connections,
-            clock,
-            door,
-            keeper,
-            ringer,
-            gate,
-            steps,
+    match read_sources(alloc, shelf, names) {
+        Ok(texts) => work_on(
+            rt, alloc, task, names, texts, provided, clock, door, gate, steps,
         ),
         Err(fault) => {
-            let ended = boardless(Err(fault), keeper, ringer);
+            let ended = unopened(fault, provided);
             Answered { ended, clock, door }
         }
     }
 }
 
-// Imports a file, after the tables are read.
-fn import_under<S: Shelf, K: Keeper, B: Bell, G: Gate, L: Ledger>(
-    alloc: Global,
-    tables: Tables,
-    name: &str,
-    shelf: &mut S,
-    keeper: K,
-    ringer: Ringer<B>,
-    gate: &G,
-    steps: &mut Steps<L>,
-) -> Ended<K, B>
-    ensures says { ImportsUnder tables (over S.seen shelf.old shelf.new) (lent K.seen keeper result.keeper) name.now
-        result.board result.answer }
-    ensures rung { AreRungOver result.board (hung_all B.seen ringer) (hung_all B.seen result.ringer) }
-{
-    match read_lines(alloc, shelf, name) {
-        Ok(lines) => import_over(alloc, tables, lines, keeper, ringer, gate, steps),
-        Err(fault) => {
-            leave(tables);
-            boardless(Err(fault), keeper, ringer)
-        }
-    }
-}
-
-// Reads the tables, then imports a file to the desk of the rows.
-fn import_reports<S: Shelf, K: Keeper, B: Bell, G: Gate, L: Ledger>(
-    alloc: Global,
-    name: &str,
-    shelf: &mut S,
-    keeper: K,
-    ringer: Ringer<B>,
-    gate: &G,
-    steps: &mut Steps<L>,
-) -> Ended<K, B>
-    ensures says { ImportsFile (over S.seen shelf.old shelf.new) (lent K.seen keeper result.keeper) name.now
-        result.board result.answer }
-    ensures rung { AreRungOver result.board (hung_all B.seen ringer) (hung_all B.seen result.ringer) }
-{
-    match read_files(alloc, shelf) {
-        Ok(tables) => import_under(alloc, tables, name, shelf, keeper, ringer, gate, steps),
-        Err(fault) => boardless(Err(fault), keeper, ringer),
-    }
-}
-
-// Reads the tables, then answers the calls of a seed on the desk of the rows.
-fn make<S: Shelf, K: Keeper, B: Bell, G: Gate, L: Ledger>(
-    alloc: Global,
-    number: u32,
-    count: u32,
-    shelf: &mut S,
-    keeper: K,
-    ringer: Ringer<B>,
-    gate: &G,
-    steps: &mut Steps<L>,
-) -> Ended<K, B>
-    requires { count ≤ 20_000 }
-    ensures says { MakesCalls (over S.seen shelf.old shelf.new) (lent K.seen keeper result.keeper) number count
-        result.board result.answer }
-    ensures rung { AreRungOver result.board (hung_all B.seen ringer) (hung_all B.seen result.ringer) }
-{
-    match read_files(alloc, shelf) {
-        Ok(tables) => make_over(alloc, tables, number, count, keeper, ringer, gate, steps),
-        Err(fault) => boardless(Err(fault), keeper, ringer),
-    }
-}
-
-// The name of the source, for a task that reads one.
-fn first_of(names: &[String]) -> &str
-    ensures { result.now ≡ first_of (map string_bytes names.now) }
-{
-    match names {
-        [] => "",
-        [name, ..] => name.as_str(),
-    }
-}
-
-// Does a task on a desk.
+// Reads the tables, then the sources, and does the work of a command.
 fn on_desk<
     R: Threads + Wait + Sync,
     S: Shelf,
@@ -305,40 +239,26 @@ fn on_desk<
 where
     D::Link: Send,
     requires { IsWithin (Desk task) }
-    ensures done { IsDone (over S.seen shelf.old shelf.new)
+    ensures done { IsDoneOnDesk (over S.seen shelf.old shelf.new)
         (service C.seen D.seen D.Link.seen clock result.clock door result.door)
-        (lent K.seen keeper result.ended.keeper) (Desk task) (map string_bytes names.now)
+        (lent K.seen keeper result.ended.keeper) task (map string_bytes names.now)
         result.ended.board result.ended.answer }
+    ensures idle { AsksNothing task result.ended.board ((result.clock ≡ clock) × (result.door ≡ door)) }
     ensures rung { AreRungOver result.ended.board (hung_all B.seen ringer) (hung_all B.seen result.ended.ringer) }
 {
-    match task {
-        DeskTask::Run => {
-            let ended = run(alloc, first_of(names), shelf, keeper, ringer, gate, steps);
-            Answered { ended, clock, door }
+    match read_files(alloc, shelf) {
+        Ok(tables) => {
+            let provided = Provided {
+                tables,
+                keeper,
+                ringer,
+            };
+            read_under(
+                rt, alloc, task, names, shelf, provided, clock, door, gate, steps,
+            )
         }
-        DeskTask::Race => {
-            let ended = race(rt, alloc, names, shelf, keeper, ringer, gate, steps);
-            Answered { ended, clock, door }
-        }
-        DeskTask::Serve { port, connections } => serve(
-            rt,
-            alloc,
-            port,
-            connections,
-            shelf,
-            clock,
-            door,
-            keeper,
-            ringer,
-            gate,
-            steps,
-        ),
-        DeskTask::Import => {
-            let ended = import_reports(alloc, first_of(names), shelf, keeper, ringer, gate, steps);
-            Answered { ended, clock, door }
-        }
-        DeskTask::Make { number, count } => {
-            let ended = make(alloc, number, count, shelf, keeper, ringer, gate, steps);
+        Err(fault) => {
+            let ended = boardless(Err(fault), keeper, ringer);
             Answered { ended, clock, door }
         }
     }
@@ -387,7 +307,7 @@ where
             Answered { ended, clock, door }
         }
         Ok(Some((Task::Weather, names))) => {
-            let ended = weather(alloc, first_of(names), shelf, keeper, ringer);
+            let ended = weather(alloc, names, shelf, keeper, ringer);
             Answered { ended, clock, door }
         }
         Ok(Some((Task::Desk(task), names))) => on_desk(

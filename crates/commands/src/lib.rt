@@ -5,9 +5,11 @@ mod commands;
 mod fault;
 mod rung;
 mod sources;
+mod threads;
 mod top;
 mod weather;
 mod working;
+mod works;
 
 pub use desk::Gate;
 pub use top::{Ending, desk_main};

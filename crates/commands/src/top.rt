@@ -52,23 +52,16 @@ fn write<O: Sink>(alloc: Global, answer: Result<Text, Fault>, out: &mut O) -> u8
     }
 }
 
-/// Runs the command in the arguments, writes its result, and returns the program's exit status.
+/// Runs the command in the arguments, writes its result, and returns the program's exit status. `words::Task` lists the
+/// commands, and what each prints.
 ///
-/// - `run SCRIPT` reads the thirteen tables and the script, loads the keeper's rows, and runs the script on the desk
-///   of these rows.
-/// - `race SCRIPT..` does so with 2 to 16 scripts at once, each in a thread of its own if the machine provides one.
-/// - `import FILE` does so with the records of a file.
-/// - `make NUMBER COUNT` reads only the tables, and answers calls made from the seed NUMBER for COUNT flights.
-/// - `serve PORT CONNECTIONS` reads only the tables, and serves connections at the port, up to 16 at once, each in a
-///   thread of its own if the machine provides one.
-/// - `weather FILE` reads only the file, and doesn't use the keeper.
+/// `weather` reads only its file, and doesn't use the keeper. Any other command reads the thirteen tables, then the
+/// sources that it names, each whole and in order. It loads the keeper's rows, and works on the desk of these rows.
 ///
 /// The first fault in this order is reported. When a step is installed it rings the bells, and meanwhile nothing else
 /// is done on the desk. The exit status is:
 ///
-/// - 0: the command was completed, and its result was written. `run` and `import` write a line for each line or
-///   record and the closing text. `race` writes the history, the outcomes of each lane and the closing text. `serve`
-///   writes the closing text, `weather` a line for each report, and `make` three lines of counts.
+/// - 0: the command was completed, and its result was written.
 /// - 2: exactly if the arguments form no command; `error 2 Usage` is written.
 /// - 3: only if the shelf's count of faults rose or is saturated; `error 3 ReadFault NAME`.
 /// - 4: only if the sink's count of faults rose or is saturated. A prefix of the text was written.

@@ -1,5 +1,5 @@
 -- A name of a command and words after it are read, and nothing in them fails.
-use Rattle.std.proofs.Common.{◌≡◌, ℕ, ◌≤◌, ◌++◌, ◌==◌, ◌||◌, length, Option, Some, None, List, [], ◌∷◌, codes, true, false, not, Bool, refl, sym, ap, ◌∙◌, subst, fold, true≢false, append_assoc, append-nil, arith, nat_lt, is_some, cond}
+use Rattle.std.proofs.Common.{◌≡◌, ℕ, ◌≤◌, ◌++◌, ◌==◌, length, map, Option, Some, None, List, [], ◌∷◌, codes, true, false, not, Bool, refl, sym, ap, ◌∙◌, subst, fold, true≢false, append_assoc, append-nil, arith, nat_lt, is_some, cond}
 use Rattle.std.specs.List.{list_all}
 use Rattle.std.specs.Str.{bytes_eq}
 use Rattle.std.proofs.lemmas.Bool.{and_parts, le-ltb}
@@ -12,9 +12,9 @@ use Rattle.clap.specs.Walk.{Text, Rule, Held, Walk, Waiting, idle, positional, w
 use Rattle.clap.specs.declared.builder.action.ArgAction.TheVariants.{Append}
 use Rattle.clap.specs.declared.builder.value_parser.ValueParser.TheVariants as vp
 use Rattle.clap.proofs.OnLiterals.{clap_on_literals}
-use Rattle.words.specs.Names.{desk_app, rest_rule, asked_in}
-use Rattle.words.specs.declared.task.Task.{Task}
-use Rattle.words.specs.Words.{is_word, is_name, are_named, task_of, task_in}
+use Rattle.words.specs.Names.{desk_app, rest_rule, asked_in as asked_by_rows}
+use Rattle.words.specs.declared.task.Name.{Name}
+use Rattle.words.specs.Words.{is_word, is_name, are_named, asked_of, asked_in, row_of, command_among, commands}
 
 pub simple : is_simple_and_free desk_app ≡ true
 unfolding clap_on_literals
@@ -125,8 +125,7 @@ leaf_level name us plain h =
 -- ---- the words from the name on
 
 abbrev names : Names
-names =
-    (codes "run", []) ∷ (codes "race", []) ∷ (codes "serve", []) ∷ (codes "weather", []) ∷ (codes "import", []) ∷ (codes "make", []) ∷ []
+names = map (λ command. ((row_of command).name, [])) commands
 
 abbrev at_stop : Option (Text × List Text) → Walk
 at_stop stop = record { held = nothing_held; waiting = idle; position = 1; is_trailing = false; stopped = stop }
@@ -147,136 +146,78 @@ rest_of_top w =
     or_else (entered_fault a w.stopped) (or_else (settle_fault a.top.rules a.top.args_override_self w.held)
     (or_else (defaults_fault (settled a.top.rules w.held).rows a.top.rules) (check_fault a.top (finished a.top.rules w.held) (is_some (entered a w.stopped)))))
 
-run_fine : (us : List Text) → list_all is_word us ≡ true → length us ≤ usize_max → fault_of desk_app (codes "run" ∷ us) ≡ []
-unfolding clap_on_literals walked walk_fault defaults_fault
-run_fine us plain h =
-    let walk_is : Walk = fold (walked [] names) (at_stop (Some (codes "run", []))) us in
-    ap (λ k. or_else k (rest_of_top walk_is)) (stop_fine (built desk_app).top us (codes "run") [])
-    ∙ ap rest_of_top (stop_walk us (codes "run") [])
-    ∙ ap (λ (k : Kinds). or_else k []) (leaf_level (codes "run") us plain h)
-
-race_fine : (us : List Text) → list_all is_word us ≡ true → length us ≤ usize_max → fault_of desk_app (codes "race" ∷ us) ≡ []
-unfolding clap_on_literals walked walk_fault defaults_fault
-race_fine us plain h =
-    let walk_is : Walk = fold (walked [] names) (at_stop (Some (codes "race", []))) us in
-    ap (λ k. or_else k (rest_of_top walk_is)) (stop_fine (built desk_app).top us (codes "race") [])
-    ∙ ap rest_of_top (stop_walk us (codes "race") [])
-    ∙ ap (λ (k : Kinds). or_else k []) (leaf_level (codes "race") us plain h)
-
-serve_fine : (us : List Text) → list_all is_word us ≡ true → length us ≤ usize_max → fault_of desk_app (codes "serve" ∷ us) ≡ []
-unfolding clap_on_literals walked walk_fault defaults_fault
-serve_fine us plain h =
-    let walk_is : Walk = fold (walked [] names) (at_stop (Some (codes "serve", []))) us in
-    ap (λ k. or_else k (rest_of_top walk_is)) (stop_fine (built desk_app).top us (codes "serve") [])
-    ∙ ap rest_of_top (stop_walk us (codes "serve") [])
-    ∙ ap (λ (k : Kinds). or_else k []) (leaf_level (codes "serve") us plain h)
-
-weather_fine : (us : List Text) → list_all is_word us ≡ true → length us ≤ usize_max → fault_of desk_app (codes "weather" ∷ us) ≡ []
-unfolding clap_on_literals walked walk_fault defaults_fault
-weather_fine us plain h =
-    let walk_is : Walk = fold (walked [] names) (at_stop (Some (codes "weather", []))) us in
-    ap (λ k. or_else k (rest_of_top walk_is)) (stop_fine (built desk_app).top us (codes "weather") [])
-    ∙ ap rest_of_top (stop_walk us (codes "weather") [])
-    ∙ ap (λ (k : Kinds). or_else k []) (leaf_level (codes "weather") us plain h)
-
-import_fine : (us : List Text) → list_all is_word us ≡ true → length us ≤ usize_max → fault_of desk_app (codes "import" ∷ us) ≡ []
-unfolding clap_on_literals walked walk_fault defaults_fault
-import_fine us plain h =
-    let walk_is : Walk = fold (walked [] names) (at_stop (Some (codes "import", []))) us in
-    ap (λ k. or_else k (rest_of_top walk_is)) (stop_fine (built desk_app).top us (codes "import") [])
-    ∙ ap rest_of_top (stop_walk us (codes "import") [])
-    ∙ ap (λ (k : Kinds). or_else k []) (leaf_level (codes "import") us plain h)
-
-make_fine : (us : List Text) → list_all is_word us ≡ true → length us ≤ usize_max → fault_of desk_app (codes "make" ∷ us) ≡ []
-unfolding clap_on_literals walked walk_fault defaults_fault
-make_fine us plain h =
-    let walk_is : Walk = fold (walked [] names) (at_stop (Some (codes "make", []))) us in
-    ap (λ k. or_else k (rest_of_top walk_is)) (stop_fine (built desk_app).top us (codes "make") [])
-    ∙ ap rest_of_top (stop_walk us (codes "make") [])
-    ∙ ap (λ (k : Kinds). or_else k []) (leaf_level (codes "make") us plain h)
-
--- ---- what is found
-
-none_either : (b : Bool) → None ≡ cond {A = Option Task} b None None
-none_either true = refl
-none_either false = refl
-
-leaf_asked : (name : Text) (us : List Text) → list_all is_word us ≡ true → asked_in (Some (name, rows_after (rule ∷ []) [] us)) ≡ task_of name us
-leaf_asked name us plain = ap (λ (w : Walk). asked_in (Some (name, finished (rule ∷ []) w.held))) (leaf_walk us [] plain) ∙ last us
-  where
-    last : (us : List Text) → asked_in (Some (name, finished (rule ∷ []) (at_words us).held)) ≡ task_of name us
-    last [] = none_either (bytes_eq name (codes "race"))
-    last (u ∷ us) = refl
-
-run_found : (us : List Text) → list_all is_word us ≡ true → asked_in (subcommand_of desk_app (codes "run" ∷ us)) ≡ task_of (codes "run") us
-unfolding clap_on_literals walked
-run_found us plain = ap (λ (w : Walk). asked_in (entered (built desk_app) w.stopped)) (stop_walk us (codes "run") []) ∙ leaf_asked (codes "run") us plain
-
-race_found : (us : List Text) → list_all is_word us ≡ true → asked_in (subcommand_of desk_app (codes "race" ∷ us)) ≡ task_of (codes "race") us
-unfolding clap_on_literals walked
-race_found us plain = ap (λ (w : Walk). asked_in (entered (built desk_app) w.stopped)) (stop_walk us (codes "race") []) ∙ leaf_asked (codes "race") us plain
-
-serve_found : (us : List Text) → list_all is_word us ≡ true → asked_in (subcommand_of desk_app (codes "serve" ∷ us)) ≡ task_of (codes "serve") us
-unfolding clap_on_literals walked
-serve_found us plain = ap (λ (w : Walk). asked_in (entered (built desk_app) w.stopped)) (stop_walk us (codes "serve") []) ∙ leaf_asked (codes "serve") us plain
-
-weather_found : (us : List Text) → list_all is_word us ≡ true → asked_in (subcommand_of desk_app (codes "weather" ∷ us)) ≡ task_of (codes "weather") us
-unfolding clap_on_literals walked
-weather_found us plain = ap (λ (w : Walk). asked_in (entered (built desk_app) w.stopped)) (stop_walk us (codes "weather") []) ∙ leaf_asked (codes "weather") us plain
-
-import_found : (us : List Text) → list_all is_word us ≡ true → asked_in (subcommand_of desk_app (codes "import" ∷ us)) ≡ task_of (codes "import") us
-unfolding clap_on_literals walked
-import_found us plain = ap (λ (w : Walk). asked_in (entered (built desk_app) w.stopped)) (stop_walk us (codes "import") []) ∙ leaf_asked (codes "import") us plain
-
-make_found : (us : List Text) → list_all is_word us ≡ true → asked_in (subcommand_of desk_app (codes "make" ∷ us)) ≡ task_of (codes "make") us
-unfolding clap_on_literals walked
-make_found us plain = ap (λ (w : Walk). asked_in (entered (built desk_app) w.stopped)) (stop_walk us (codes "make") []) ∙ leaf_asked (codes "make") us plain
-
 -- ---- whichever name it is
 
-by_name : (P : Text → Type 0) (name : Text) → is_name name ≡ true
-    → P (codes "run") → P (codes "race") → P (codes "serve") → P (codes "weather") → P (codes "import") → P (codes "make") → P name
-by_name P name is run race serve weather imports make = one (bytes_eq name (codes "run")) refl is
-  where
-    five : (b : Bool) → bytes_eq name (codes "import") ≡ b
-        → (b || bytes_eq name (codes "make")) ≡ true → P name
-    five true same is = subst P (sym ((bytes_eq-Decides name (codes "import")).0 same)) imports
-    five false same is = subst P (sym ((bytes_eq-Decides name (codes "make")).0 is)) make
+abbrev first_or : {X : Type 0} → X → List X → X
+first_or x [] = x
+first_or x (y ∷ ys) = y
 
-    four : (b : Bool) → bytes_eq name (codes "weather") ≡ b
-        → (b || (bytes_eq name (codes "import") || bytes_eq name (codes "make"))) ≡ true → P name
-    four true same is = subst P (sym ((bytes_eq-Decides name (codes "weather")).0 same)) weather
-    four false same is = five (bytes_eq name (codes "import")) refl is
+abbrev rest : {X : Type 0} → List X → List X
+rest [] = []
+rest (x ∷ xs) = xs
 
-    three : (b : Bool) → bytes_eq name (codes "serve") ≡ b
-        → (b || (bytes_eq name (codes "weather") || (bytes_eq name (codes "import") || bytes_eq name (codes "make")))) ≡ true → P name
-    three true same is = subst P (sym ((bytes_eq-Decides name (codes "serve")).0 same)) serve
-    three false same is = four (bytes_eq name (codes "weather")) refl is
+named_here : {X : Type 0} (f g : Text → X) (own name : Text) (command : Name) (others : Option Name) → f own ≡ g own → (is_some others ≡ true → f name ≡ g name)
+    → (b : Bool) → bytes_eq own name ≡ b → is_some (cond b (Some command) others) ≡ true → f name ≡ g name
+named_here f g own name command others same more true hit is = subst (λ n. f n ≡ g n) ((bytes_eq-Decides own name).0 hit) same
+named_here f g own name command others same more false miss is = more is
 
-    two : (b : Bool) → bytes_eq name (codes "race") ≡ b
-        → (b || (bytes_eq name (codes "serve") || (bytes_eq name (codes "weather") || (bytes_eq name (codes "import") || bytes_eq name (codes "make"))))) ≡ true → P name
-    two true same is = subst P (sym ((bytes_eq-Decides name (codes "race")).0 same)) race
-    two false same is = three (bytes_eq name (codes "serve")) refl is
+-- what is the same at each name of the table is the same at a name of a command
+named_among : {X : Type 0} (f g : Text → X) (all : List Name) (name : Text) → map (λ command. f (row_of command).name) all ≡ map (λ command. g (row_of command).name) all
+    → is_some (command_among all name) ≡ true → f name ≡ g name
+named_among f g [] name same is = absurd (true≢false (sym is))
+named_among f g (command ∷ all) name same is =
+    named_here f g (row_of command).name name command (command_among all name) (ap (first_or (f (row_of command).name)) same)
+    (named_among f g all name (ap rest same)) (bytes_eq (row_of command).name name) refl is
 
-    one : (b : Bool) → bytes_eq name (codes "run") ≡ b
-        → (b || (bytes_eq name (codes "race") || (bytes_eq name (codes "serve") || (bytes_eq name (codes "weather") || (bytes_eq name (codes "import") || bytes_eq name (codes "make")))))) ≡ true → P name
-    one true same is = subst P (sym ((bytes_eq-Decides name (codes "run")).0 same)) run
-    one false same is = two (bytes_eq name (codes "race")) refl is
+-- ---- what fails
+
+turns_fine : (us : List Text) (name : Text) → is_name name ≡ true
+    → fault_of desk_app (name ∷ us) ≡ or_else (walk_fault (built desk_app).top names (at_stop (Some (name, []))) us) (rest_of_top (fold (walked [] names) (at_stop (Some (name, []))) us))
+unfolding clap_on_literals walked walk_fault defaults_fault
+turns_fine us name is = named_among (λ n. fault_of desk_app (n ∷ us))
+    (λ n. or_else (walk_fault (built desk_app).top names (at_stop (Some (n, []))) us) (rest_of_top (fold (walked [] names) (at_stop (Some (n, []))) us))) commands name refl is
+
+ends_fine : (us : List Text) (name : Text) → is_name name ≡ true → rest_of_top (at_stop (Some (name, us))) ≡ or_else (level_fault (sub name) [] nothing_held us false []) []
+unfolding clap_on_literals walked walk_fault defaults_fault
+ends_fine us name is = named_among (λ n. rest_of_top (at_stop (Some (n, us)))) (λ n. or_else (level_fault (sub n) [] nothing_held us false []) []) commands name refl is
+
+name_fine : (us : List Text) (name : Text) → is_name name ≡ true → list_all is_word us ≡ true → length us ≤ usize_max → fault_of desk_app (name ∷ us) ≡ []
+name_fine us name is plain h =
+    turns_fine us name is
+    ∙ ap (λ k. or_else k (rest_of_top (fold (walked [] names) (at_stop (Some (name, []))) us))) (stop_fine (built desk_app).top us name [])
+    ∙ ap rest_of_top (stop_walk us name [])
+    ∙ ends_fine us name is
+    ∙ ap (λ (k : Kinds). or_else k []) (leaf_level name us plain h)
 
 -- a name and words give no fault, so a parse of them fails for memory alone
 pub none_fail : (words : List Text) → length words ≤ usize_max → are_named words ≡ true → fault_of desk_app words ≡ []
 none_fail [] few named = absurd (true≢false (sym named))
 none_fail (name ∷ us) few named =
     let parts = and_parts (is_name name) (list_all is_word us) named in
-    let fits : length us ≤ usize_max = omega (arith, few) in
-    by_name (λ n. fault_of desk_app (n ∷ us) ≡ []) name parts.0
-    (run_fine us parts.1 fits) (race_fine us parts.1 fits) (serve_fine us parts.1 fits) (weather_fine us parts.1 fits) (import_fine us parts.1 fits) (make_fine us parts.1 fits)
+    name_fine us name parts.0 parts.1 (omega (arith, few))
+
+-- ---- what is found
+
+leaf_asked : (name : Text) (us : List Text) → list_all is_word us ≡ true → asked_by_rows (Some (name, rows_after (rule ∷ []) [] us)) ≡ asked_of name us
+leaf_asked name us plain = ap (λ (w : Walk). asked_by_rows (Some (name, finished (rule ∷ []) w.held))) (leaf_walk us [] plain) ∙ last us
+  where
+    last : (us : List Text) → asked_by_rows (Some (name, finished (rule ∷ []) (at_words us).held)) ≡ asked_of name us
+    last [] = refl
+    last (u ∷ us) = refl
+
+turns_found : (us : List Text) (name : Text) → is_name name ≡ true → subcommand_of desk_app (name ∷ us) ≡ entered (built desk_app) (fold (walked [] names) (at_stop (Some (name, []))) us).stopped
+unfolding clap_on_literals walked
+turns_found us name is = named_among (λ n. subcommand_of desk_app (n ∷ us)) (λ n. entered (built desk_app) (fold (walked [] names) (at_stop (Some (n, []))) us).stopped) commands name refl is
+
+ends_found : (us : List Text) (name : Text) → is_name name ≡ true → entered (built desk_app) (Some (name, us)) ≡ Some (name, rows_after (rule ∷ []) [] us)
+unfolding clap_on_literals walked
+ends_found us name is = named_among (λ n. entered (built desk_app) (Some (n, us))) (λ n. Some (n, rows_after (rule ∷ []) [] us)) commands name refl is
 
 -- what is found of them is the command that they form
-pub asked_found : (words : List Text) → are_named words ≡ true → asked_in (subcommand_of desk_app words) ≡ task_in words
+pub asked_found : (words : List Text) → are_named words ≡ true → asked_by_rows (subcommand_of desk_app words) ≡ asked_in words
 asked_found [] named = absurd (true≢false (sym named))
 asked_found (name ∷ us) named =
     let parts = and_parts (is_name name) (list_all is_word us) named in
     rw named (
-    by_name (λ n. asked_in (subcommand_of desk_app (n ∷ us)) ≡ task_of n us) name parts.0
-    (run_found us parts.1) (race_found us parts.1) (serve_found us parts.1) (weather_found us parts.1) (import_found us parts.1) (make_found us parts.1))
+    ap asked_by_rows (turns_found us name parts.0 ∙ ap (λ (w : Walk). entered (built desk_app) w.stopped) (stop_walk us name []) ∙ ends_found us name parts.0)
+    ∙ leaf_asked name us parts.1)

@@ -1,10 +1,11 @@
 -- The configuration of the argument parser: the names of commands, and any arguments after each.
-use Rattle.std.specs.Prelude.{ℕ, List, Option, None, Some, true, codes}
+use Rattle.std.specs.Prelude.{ℕ, List, [], ◌∷◌, Option, None, Some, true, codes}
 use Rattle.clap.specs.Lexer.{usize_max}
 use Rattle.clap.specs.Simple.{App, new_app, new_rule, with_rule, with_subcommand}
 use Rattle.clap.specs.Walk.{Row, Rule, Text, all_of}
-use Rattle.desk_time.specs.Digits.{◌>>=◌}
-use Rattle.words.specs.Words.{task_of}
+use Rattle.words.specs.Words.{asked_of, commands, row_of}
+use Rattle.words.specs.declared.task.Form.{Form}
+use Rattle.words.specs.declared.task.Name.{Name}
 use Rattle.words.specs.declared.task.Task.{Task}
 
 -- any number of arguments after a name
@@ -30,12 +31,20 @@ top = let a = new_app (codes "desk") in record a {
 abbrev pub with_name : List ℕ → App → App
 with_name name app = with_subcommand app (leaf name).top
 
+-- more commands
+abbrev pub with_commands : List Name → App → App
+with_commands [] app = app
+with_commands (command ∷ more) app = with_commands more (with_name (row_of command).name app)
+
 abbrev pub desk_app : App
-desk_app =
-    with_name (codes "make") (with_name (codes "import") (with_name (codes "weather")
-    (with_name (codes "serve") (with_name (codes "race") (with_name (codes "run") top)))))
+desk_app = with_commands commands top
+
+-- the arguments that the parser found after a name
+abbrev pub words_of : Option (List Text) → List Text
+words_of None = []
+words_of (Some words) = words
 
 -- the task of the name that the parser found, with the arguments after it
-abbrev pub asked_in : Option (Text × List Row) → Option Task
+abbrev pub asked_in : Option (Text × List Row) → Option (Task × Form)
 asked_in None = None
-asked_in (Some found) = all_of (codes "words") found.1 >>= λ rest. task_of found.0 rest
+asked_in (Some found) = asked_of found.0 (words_of (all_of (codes "words") found.1))

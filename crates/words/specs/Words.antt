@@ -1,13 +1,99 @@
 -- Which arguments form a command.
-use Rattle.std.specs.Prelude.{ℕ, Bool, false, not, ◌==◌, ◌&&◌, ◌||◌, ◌≤◌, nat_le, if◌then◌else◌, List, [], ◌∷◌, length, drop, Option, None, Some, codes}
+use Rattle.std.specs.Prelude.{ℕ, Bool, false, not, ◌==◌, ◌&&◌, ◌≤◌, nat_le, if◌then◌else◌, List, [], ◌∷◌, length, drop, find, is_some, Option, None, Some, codes}
 use Rattle.std.specs.List.{list_all}
 use Rattle.std.specs.Option.{option_map}
 use Rattle.std.specs.Str.{bytes_eq}
 use Rattle.desk_time.specs.Digits.{◌>>=◌}
 use Rattle.desk_time.specs.Numbers.{number_in}
+use Rattle.words.specs.declared.task.DeskTask.TheVariants.{Run, Race, Serve, Import, Make}
+use Rattle.words.specs.declared.task.Form.{Form}
+use Rattle.words.specs.declared.task.Form.TheVariants.{Names, Numbers}
+use Rattle.words.specs.declared.task.Limits.{Limits}
+use Rattle.words.specs.declared.task.Name.{Name}
+use Rattle.words.specs.declared.task.Name.TheVariants as name
 use Rattle.words.specs.declared.task.Task.{Task}
 use Rattle.words.specs.declared.task.Task.TheVariants.{Weather, Desk}
-use Rattle.words.specs.declared.task.DeskTask.TheVariants.{Run, Race, Serve, Import, Make}
+
+-- ---- the table of commands
+
+abbrev pub between : ℕ → ℕ → Limits
+between least most = record { least = least; most = most }
+
+-- a command's name, and the arguments after it
+pub record CommandRow : Type 0 where
+  pub name : List ℕ
+  pub form : Form
+
+abbrev pub row : List ℕ → Form → CommandRow
+row name form = record { name = name; form = form }
+
+-- the arguments are one source, 2 to 16 scripts, a port and a number of connections, or a seed of 32 bits and a number
+-- of flights
+abbrev pub row_of : Name → CommandRow
+row_of name.Run = row (codes "run") (Names (between 1 1))
+row_of name.Race = row (codes "race") (Names (between 2 16))
+row_of name.Serve = row (codes "serve") (Numbers (between 1 65_535) (between 1 1_000))
+row_of name.Weather = row (codes "weather") (Names (between 1 1))
+row_of name.Import = row (codes "import") (Names (between 1 1))
+row_of name.Make = row (codes "make") (Numbers (between 0 4_294_967_295) (between 1 20_000))
+
+-- all commands
+abbrev pub commands : List Name
+commands = name.Run ∷ name.Race ∷ name.Serve ∷ name.Weather ∷ name.Import ∷ name.Make ∷ []
+
+-- the task of a command with these numbers
+abbrev pub task_of : Name → ℕ × ℕ → Task
+task_of name.Run numbers = Desk Run
+task_of name.Race numbers = Desk Race
+task_of name.Serve numbers = Desk (Serve numbers.0 numbers.1)
+task_of name.Weather numbers = Weather
+task_of name.Import numbers = Desk Import
+task_of name.Make numbers = Desk (Make numbers.0 numbers.1)
+
+abbrev pub command_among : List Name → List ℕ → Option Name
+command_among all name = find (λ command. bytes_eq (row_of command).name name) all
+
+-- the command of this name
+abbrev pub command_named : List ℕ → Option Name
+command_named name = command_among commands name
+
+-- ---- the arguments after the name
+
+abbrev pub from_least : ℕ → ℕ → Option ℕ
+from_least least n = if nat_le least n then Some n else None
+
+-- a decimal number within the limits
+abbrev pub number_within : Limits → List ℕ → Option ℕ
+number_within within word = number_in within.most word >>= λ n. from_least within.least n
+
+abbrev pub both_within : Limits → Limits → List ℕ → List ℕ → Option (ℕ × ℕ)
+both_within one two first second = number_within one first >>= λ a. number_within two second >>= λ b. Some (a, b)
+
+-- two numbers, each within its limits
+abbrev pub two_numbers : Limits → Limits → List (List ℕ) → Option (ℕ × ℕ)
+two_numbers one two (first ∷ second ∷ []) = both_within one two first second
+two_numbers one two _ = None
+
+-- zeros in place of numbers, if there are as many names as the limits allow
+abbrev pub no_numbers : Limits → ℕ → Option (ℕ × ℕ)
+no_numbers within count = if nat_le within.least count && nat_le count within.most then Some (0, 0) else None
+
+-- the numbers in the arguments, if they have this form
+abbrev pub numbers_of : Form → List (List ℕ) → Option (ℕ × ℕ)
+numbers_of (Names within) rest = no_numbers within (length rest)
+numbers_of (Numbers one two) rest = two_numbers one two rest
+
+-- the names of sources in the arguments
+abbrev pub names_of : Form → List (List ℕ) → List (List ℕ)
+names_of (Names within) rest = rest
+names_of (Numbers one two) rest = []
+
+-- ---- the command
+
+-- the task of a name with the arguments after it, and the form of these
+abbrev pub asked_of : List ℕ → List (List ℕ) → Option (Task × Form)
+asked_of name rest =
+    command_named name >>= λ command. numbers_of (row_of command).form rest >>= λ numbers. Some (task_of command numbers, (row_of command).form)
 
 -- the argument isn't empty and doesn't begin with a dash
 abbrev pub is_word : List ℕ → Bool
@@ -16,71 +102,30 @@ is_word (c ∷ cs) = not (c == 45)
 
 -- the name of a command
 abbrev pub is_name : List ℕ → Bool
-is_name word =
-    bytes_eq word (codes "run") || (bytes_eq word (codes "race") || (bytes_eq word (codes "serve")
-    || (bytes_eq word (codes "weather") || (bytes_eq word (codes "import") || bytes_eq word (codes "make")))))
+is_name word = is_some (command_named word)
 
 -- the name of a command, and arguments after it
 abbrev pub are_named : List (List ℕ) → Bool
 are_named [] = false
 are_named (name ∷ rest) = is_name name && list_all is_word rest
 
-abbrev pub with_source : List ℕ → Option Task
-with_source name =
-    if bytes_eq name (codes "run") then Some (Desk Run)
-    else (if bytes_eq name (codes "weather") then Some Weather
-    else (if bytes_eq name (codes "import") then Some (Desk Import) else None))
+abbrev pub asked_by : List (List ℕ) → Option (Task × Form)
+asked_by [] = None
+asked_by (name ∷ rest) = asked_of name rest
 
-abbrev pub from_one : ℕ → Option ℕ
-from_one n = if nat_le 1 n then Some n else None
-
--- a decimal number from 1 to `most`
-abbrev pub count_of : ℕ → List ℕ → Option ℕ
-count_of most word = number_in most word >>= λ n. from_one n
-
-abbrev pub serve_of : List ℕ → List ℕ → Option Task
-serve_of port connections = count_of 65_535 port >>= λ p. count_of 1_000 connections >>= λ c. Some (Desk (Serve p c))
-
--- from 2 to 16 scripts
-abbrev pub race_of : ℕ → Option Task
-race_of lanes = if nat_le 2 lanes && nat_le lanes 16 then Some (Desk Race) else None
-
--- a seed of 32 bits, and 1 to 20,000 flights
-abbrev pub make_of : List ℕ → List ℕ → Option Task
-make_of number count = number_in 4_294_967_295 number >>= λ n. count_of 20_000 count >>= λ c. Some (Desk (Make n c))
-
-abbrev pub with_numbers : List ℕ → List ℕ → List ℕ → Option Task
-with_numbers name one two =
-    if bytes_eq name (codes "serve") then serve_of one two else (if bytes_eq name (codes "make") then make_of one two else None)
-
--- one source or two numbers after the name
-abbrev pub with_words : List ℕ → List (List ℕ) → Option Task
-with_words name (source ∷ []) = with_source name
-with_words name (one ∷ two ∷ []) = with_numbers name one two
-with_words name _ = None
-
--- the task of a name with the arguments after it
-abbrev pub task_of : List ℕ → List (List ℕ) → Option Task
-task_of name rest = if bytes_eq name (codes "race") then race_of (length rest) else with_words name rest
-
-abbrev pub task_asked : List (List ℕ) → Option Task
-task_asked [] = None
-task_asked (name ∷ rest) = task_of name rest
-
--- The task in the arguments. They form a command exactly if the first is the name of one, and the others suit that
--- name. No argument is empty or begins with a dash.
-abbrev pub task_in : List (List ℕ) → Option Task
-task_in words = if are_named words then task_asked words else None
-
--- the names of the sources that a task reads: all arguments after its name, or none if they are numbers
-abbrev pub named : Task → List (List ℕ) → List (List ℕ)
-named (Desk (Serve port connections)) rest = []
-named (Desk (Make number count)) rest = []
-named _ rest = rest
+-- The task in the arguments. They form a command exactly if the first is the name of one, and the others have the form
+-- of its row. No argument is empty or begins with a dash.
+abbrev pub asked_in : List (List ℕ) → Option (Task × Form)
+asked_in words = if are_named words then asked_by words else None
 
 -- the task, and the names of the sources that it reads
 abbrev pub command_of : List (List ℕ) → Option (Task × List (List ℕ))
-command_of words = option_map (λ task. (task, named task (drop 1 words))) (task_in words)
+command_of words = option_map (λ asked. (asked.0, names_of asked.1 (drop 1 words))) (asked_in words)
+
+-- the numbers don't exceed their limits
+abbrev pub Fits : Form → ℕ × ℕ → Type 0
+Fits (Names within) numbers = Unit {0}
+Fits (Numbers one two) numbers = (numbers.0 ≤ one.most) × (numbers.1 ≤ two.most)
 
 -- at most 20,000 flights are made
 abbrev pub IsWithin : Task → Type 0

@@ -1,100 +1,90 @@
 ghost use Rattle.std.specs.Prelude.{◌≡◌, ◌≤◌, map, IfSome};
 ghost use Rattle.words.specs.Words as spec;
-ghost use Rattle.words.specs.Words.{IsWithin};
+ghost use Rattle.words.specs.Words.{Fits, IsWithin};
 
-use crate::{DeskTask, Task};
+use crate::Task;
+use crate::task::{COMMANDS, Form, Limits, Name};
 use desk_time::read_number;
 
-fn with_source(name: &str) -> Option<Task>
-    ensures value { result ≡ spec.with_source name.now }
-    ensures within { IfSome result IsWithin }
+fn command_among(commands: &[Name], name: &str) -> Option<Name>
+    ensures { result ≡ spec.command_among commands.now name.now }
 {
-    if name == "run" {
-        Some(Task::Desk(DeskTask::Run))
-    } else if name == "weather" {
-        Some(Task::Weather)
-    } else if name == "import" {
-        Some(Task::Desk(DeskTask::Import))
-    } else {
-        None
+    for command in commands {
+        if command.row().name == name {
+            return Some(*command);
+        }
     }
+    None
 }
 
-// A decimal number from 1 to `most`.
-fn count_of(most: u64, word: &str) -> Option<u64>
-    requires { most ≤ 1_000_000_000_000_000 }
-    ensures value { result ≡ spec.count_of most word.now }
-    ensures bound { IfSome result (λ n. n ≤ most) }
+/// The command of this name.
+pub(crate) fn command_named(name: &str) -> Option<Name>
+    ensures { result ≡ spec.command_named name.now }
 {
-    match read_number(most, word.as_bytes()) {
-        Some(number) if number >= 1 => Some(number),
+    command_among(&COMMANDS, name)
+}
+
+// A decimal number within the limits.
+fn number_within(limits: Limits, word: &str) -> Option<u32>
+    ensures value { result ≡ spec.number_within limits word.now }
+    ensures bound { IfSome result (λ n. n ≤ limits.most) }
+{
+    match read_number(limits.most as u64, word.as_bytes()) {
+        Some(number) if number >= limits.least as u64 => Some(number as u32),
         _ => None,
     }
 }
 
-fn serve_of(port: &str, connections: &str) -> Option<Task>
-    ensures value { result ≡ spec.serve_of port.now connections.now }
-    ensures within { IfSome result IsWithin }
+fn both_within(one: Limits, two: Limits, first: &str, second: &str) -> Option<(u32, u32)>
+    ensures value { result ≡ spec.both_within one two first.now second.now }
+    ensures bound { IfSome result (λ n. (n.0 ≤ one.most) × (n.1 ≤ two.most)) }
 {
-    let port = count_of(65_535, port)? as u16;
-    let connections = count_of(1_000, connections)? as u32;
-    Some(Task::Desk(DeskTask::Serve { port, connections }))
+    let first = number_within(one, first)?;
+    let second = number_within(two, second)?;
+    Some((first, second))
 }
 
-fn make_of(number: &str, count: &str) -> Option<Task>
-    ensures value { result ≡ spec.make_of number.now count.now }
-    ensures within { IfSome result IsWithin }
-{
-    let number = read_number(4_294_967_295, number.as_bytes())? as u32;
-    let count = count_of(20_000, count)? as u32;
-    Some(Task::Desk(DeskTask::Make { number, count }))
-}
-
-// The task of a name with two arguments after it.
-fn with_numbers(name: &str, one: &str, two: &str) -> Option<Task>
-    ensures value { result ≡ spec.with_numbers name.now one.now two.now }
-    ensures within { IfSome result IsWithin }
-{
-    if name == "serve" {
-        serve_of(one, two)
-    } else if name == "make" {
-        make_of(one, two)
-    } else {
-        None
-    }
-}
-
-fn race_of(lanes: usize) -> Option<Task>
-    ensures value { result ≡ spec.race_of lanes }
-    ensures within { IfSome result IsWithin }
-{
-    if 2 <= lanes && lanes <= 16 {
-        Some(Task::Desk(DeskTask::Race))
-    } else {
-        None
-    }
-}
-
-fn with_words(name: &str, rest: &[&str]) -> Option<Task>
-    ensures value { result ≡ spec.with_words name.now (map (λ w. w.now) rest.entry.now) }
-    ensures within { IfSome result IsWithin }
+fn two_numbers(one: Limits, two: Limits, rest: &[&str]) -> Option<(u32, u32)>
+    ensures value { result ≡ spec.two_numbers one two (map (λ w. w.now) rest.entry.now) }
+    ensures bound { IfSome result (λ n. (n.0 ≤ one.most) × (n.1 ≤ two.most)) }
 {
     match rest {
-        [_] => with_source(name),
-        [one, two] => with_numbers(name, one, two),
+        [first, second] => both_within(one, two, first, second),
         _ => None,
     }
 }
 
-/// The task of a name with the arguments after it.
-#[tactic(auto, using(crate::proofs::Found::race_of_words))]
-pub(crate) fn task_of(name: &str, rest: &[&str]) -> Option<Task>
-    ensures value { result ≡ spec.task_of name.now (map (λ w. w.now) rest.entry.now) }
-    ensures within { IfSome result IsWithin }
+// Zeros in place of numbers, if there are as many names as the limits allow.
+fn no_numbers(limits: Limits, names: usize) -> Option<(u32, u32)>
+    ensures { result ≡ spec.no_numbers limits names }
 {
-    if name == "race" {
-        race_of(rest.len())
+    let names = names as u64;
+    if limits.least as u64 <= names && names <= limits.most as u64 {
+        Some((0, 0))
     } else {
-        with_words(name, rest)
+        None
     }
+}
+
+// The numbers in the arguments, if they have this form.
+#[tactic(auto, using(crate::proofs::Found::no_numbers_of_words))]
+fn numbers_of(form: Form, rest: &[&str]) -> Option<(u32, u32)>
+    ensures value { result ≡ spec.numbers_of form (map (λ w. w.now) rest.entry.now) }
+    ensures within { IfSome result (Fits form) }
+{
+    match form {
+        Form::Names(limits) => no_numbers(limits, rest.len()),
+        Form::Numbers(one, two) => two_numbers(one, two, rest),
+    }
+}
+
+/// The task of a name with the arguments after it, and the form of these.
+pub(crate) fn asked_of(name: &str, rest: &[&str]) -> Option<(Task, Form)>
+    ensures value { result ≡ spec.asked_of name.now (map (λ w. w.now) rest.entry.now) }
+    ensures within { IfSome result (λ asked. IsWithin asked.0) }
+{
+    let command = command_named(name)?;
+    let form = command.row().form;
+    let numbers = numbers_of(form, rest)?;
+    Some((command.task(numbers), form))
 }

@@ -5,10 +5,11 @@ ghost use Rattle.clap.specs.Words.{app_of, kind_of, subcommand_rows_of};
 ghost use Rattle.clap.specs.declared.builder.command.Command.TheViews.{out-Command};
 ghost use Rattle.words.specs.Names as names;
 ghost use Rattle.words.specs.Words as spec;
-ghost use Rattle.words.specs.Words.{command_of, task_in, IsWithin};
+ghost use Rattle.words.specs.Words.{command_of, IsWithin};
 
-use crate::asked::task_of;
-use crate::{DeskTask, Task};
+use crate::Task;
+use crate::asked::{asked_of, command_named};
+use crate::task::{COMMANDS, Form, Name};
 use clap::error::ErrorKind;
 use clap::{Arg, ArgMatches, Command, Error};
 use desk_io::OutOfMemory;
@@ -21,17 +22,6 @@ fn is_word(word: &str) -> bool
         [] => false,
         [first, ..] => *first != b'-',
     }
-}
-
-fn is_name(word: &str) -> bool
-    ensures { result ≡ spec.is_name word.now }
-{
-    word == "run"
-        || word == "race"
-        || word == "serve"
-        || word == "weather"
-        || word == "import"
-        || word == "make"
 }
 
 fn are_words(words: &[String]) -> bool
@@ -51,7 +41,7 @@ fn are_named(words: &[String]) -> bool
 {
     match words {
         [] => false,
-        [name, rest @ ..] => is_name(name.as_str()) && are_words(rest),
+        [name, rest @ ..] => command_named(name.as_str()).is_some() && are_words(rest),
     }
 }
 
@@ -63,9 +53,31 @@ fn leaf<'a>(alloc: Global, name: &'a str) -> Result<Command<'a>, AllocError>
     Command::new(alloc, name).arg(Arg::new(alloc, "words").num_args(..))
 }
 
-// All commands, with the options for help and version turned off.
-fn desk<'a>(alloc: Global) -> Result<Command<'a>, AllocError>
-    ensures { IfOk result (λ c. app_of c ≡ names.desk_app) }
+// Adds a command.
+fn with_name<'a>(alloc: Global, desk: Command<'a>, name: &'a str) -> Result<Command<'a>, AllocError>
+    ensures { IfOk result (λ c. app_of c ≡ names.with_name name.entry.now (app_of desk.entry)) }
+{
+    desk.subcommand(leaf(alloc, name)?)
+}
+
+// Adds commands.
+fn with_commands<'a>(
+    alloc: Global,
+    desk: Command<'a>,
+    commands: &[Name],
+) -> Result<Command<'a>, AllocError>
+    ensures { IfOk result (λ c. app_of c ≡ names.with_commands commands.now (app_of desk.entry)) }
+{
+    let mut desk = desk;
+    for command in commands {
+        desk = with_name(alloc, desk, command.row().name)?;
+    }
+    Ok(desk)
+}
+
+// The top level, with the options for help and version turned off.
+fn top<'a>(alloc: Global) -> Command<'a>
+    ensures { app_of result ≡ names.top }
 {
     Command::new(alloc, "desk")
         .no_binary_name(true)
@@ -73,18 +85,19 @@ fn desk<'a>(alloc: Global) -> Result<Command<'a>, AllocError>
         .disable_help_subcommand(true)
         .disable_version_flag(true)
         .subcommand_required(true)
-        .subcommand(leaf(alloc, "run")?)?
-        .subcommand(leaf(alloc, "race")?)?
-        .subcommand(leaf(alloc, "serve")?)?
-        .subcommand(leaf(alloc, "weather")?)?
-        .subcommand(leaf(alloc, "import")?)?
-        .subcommand(leaf(alloc, "make")?)
+}
+
+// All commands.
+fn desk<'a>(alloc: Global) -> Result<Command<'a>, AllocError>
+    ensures { IfOk result (λ c. app_of c ≡ names.desk_app) }
+{
+    with_commands(alloc, top(alloc), &COMMANDS)
 }
 
 // Reads a name and the arguments after it. Fails only if memory runs out.
 fn read<'a>(alloc: Global, words: &'a [String]) -> Result<ArgMatches<'a>, Error>
     requires { spec.are_named (map string_bytes words.now) ≡ true }
-    ensures asked { IfOk result (λ m. names.asked_in (subcommand_rows_of m) ≡ task_in (map string_bytes words.now)) }
+    ensures asked { IfOk result (λ m. names.asked_in (subcommand_rows_of m) ≡ spec.asked_in (map string_bytes words.now)) }
     ensures fails { IfErr result (λ e. kind_of e ≡ ErrorKind.OutOfMemory) }
 {
     // clap counts the values in a `usize`.
@@ -93,24 +106,27 @@ fn read<'a>(alloc: Global, words: &'a [String]) -> Result<ArgMatches<'a>, Error>
 }
 
 // The task of the name that clap found, with the arguments after it.
-fn asked_in(matches: &ArgMatches<'_>) -> Option<Task>
+fn asked_by(matches: &ArgMatches<'_>) -> Option<(Task, Form)>
     ensures value { result ≡ names.asked_in (subcommand_rows_of matches.now) }
-    ensures within { IfSome result IsWithin }
+    ensures within { IfSome result (λ asked. IsWithin asked.0) }
 {
     let (name, found) = matches.subcommand()?;
-    task_of(name, found.get_strs("words")?)
+    match found.get_strs("words") {
+        Some(rest) => asked_of(name, rest),
+        None => asked_of(name, &[]),
+    }
 }
 
-// The task in the arguments, if they form a command.
-fn task_in(alloc: Global, words: &[String]) -> Result<Option<Task>, OutOfMemory>
-    ensures value { IfOk result (λ task. task ≡ spec.task_in (map string_bytes words.now)) }
-    ensures within { IfOk result (λ task. IfSome task IsWithin) }
+// The task in the arguments, if they form a command, and the form of those after the name.
+fn asked_in(alloc: Global, words: &[String]) -> Result<Option<(Task, Form)>, OutOfMemory>
+    ensures value { IfOk result (λ asked. asked ≡ spec.asked_in (map string_bytes words.now)) }
+    ensures within { IfOk result (λ asked. IfSome asked (λ asked. IsWithin asked.0)) }
 {
     if !are_named(words) {
         return Ok(None);
     }
     match read(alloc, words) {
-        Ok(matches) => Ok(asked_in(&matches)),
+        Ok(matches) => Ok(asked_by(&matches)),
         // Memory ran out.
         Err(_) => Err(OutOfMemory),
     }
@@ -126,13 +142,13 @@ fn rest_of(words: &[String]) -> &[String]
     }
 }
 
-// The names of the sources that the task reads.
-fn named(task: Task, words: &[String]) -> &[String]
-    ensures { map string_bytes result.now ≡ spec.named task (drop 1 (map string_bytes words.now)) }
+// The names of the sources that a command of this form reads.
+fn names_of(form: Form, words: &[String]) -> &[String]
+    ensures { map string_bytes result.now ≡ spec.names_of form (drop 1 (map string_bytes words.now)) }
 {
-    match task {
-        Task::Desk(DeskTask::Serve { .. } | DeskTask::Make { .. }) => &[],
-        _ => rest_of(words),
+    match form {
+        Form::Names(_) => rest_of(words),
+        Form::Numbers(_, _) => &[],
     }
 }
 
@@ -140,11 +156,11 @@ fn named(task: Task, words: &[String]) -> &[String]
 pub fn command(alloc: Global, words: &[String]) -> Result<Option<(Task, &[String])>, OutOfMemory>
     ensures value { IfOk result (λ c. option_map (λ c. (c.0, map string_bytes c.1.now)) c
         ≡ command_of (map string_bytes words.now)) }
-    // `make` never has a count above 20,000 flights.
+    // At most 20,000 flights are made.
     ensures within { IfOk result (λ c. IfSome c (λ c. IsWithin c.0)) }
 {
-    match task_in(alloc, words)? {
-        Some(task) => Ok(Some((task, named(task, words)))),
+    match asked_in(alloc, words)? {
+        Some((task, form)) => Ok(Some((task, names_of(form, words)))),
         None => Ok(None),
     }
 }

@@ -1,13 +1,13 @@
-use Rattle.std.proofs.Common.{◌∙◌, arith, string_bytes, sym}
+use Rattle.std.proofs.Common.{◌∙◌, arith, string_bytes}
 use Rattle.commands.proofs.Reading.{fails_next, whole_next}
 use Rattle.commands.proofs.sources.read_sources.Goals as goal
 
-pub returns-in-Err-clause-fails : goal.returns-in-Err-clause-fails
-returns-in-Err-clause-fails g c =
+pub returns-in-Err : goal.returns-in-Err
+returns-in-Err g c =
     let seen = g.S.Shelf.seen in
     let inv = c.loop-name.invariant in
     let within = c.loop-name-test.true in
-    fails_next string_bytes (seen c.args.shelf.now) (seen c.loop-name.shelf) (seen c.read_source.new.shelf) c.args.names.now c.loop-name.name-index c.name-item.result c.as_str.result.now c.loop-name.texts.items c.in-Err.fault
+    fails_next string_bytes (seen c.args.shelf.now) (seen c.loop-name.shelf) (seen c.read_source.new.shelf) c.args.names.now c.loop-name.name-index c.name-item.result c.as_str.result.now c.loop-name.texts c.in-Err.fault
     inv.sources inv.later inv.sound (omega (arith, within)) c.name-item.is c.as_str.ensures.value inv.read c.in-Err.ensures.read
 
 pub loop-name-preserved : goal.loop-name-preserved
@@ -17,8 +17,8 @@ loop-name-preserved g c =
     let within = c.loop-name-test.true in
     let on = c.read_source.ensures.on in
     record {
-      read = whole_next string_bytes (seen c.args.shelf.now).sources (seen c.loop-name.shelf).sources c.args.names.now c.loop-name.name-index c.name-item.result c.as_str.result.now c.in-Ok.text c.loop-name.texts.items c.push.new.self.items
-          (omega (arith, within)) c.name-item.is c.as_str.ensures.value inv.sources inv.read c.in-Ok.ensures.read c.in_ok-push-in-Ok.ensures.items;
+      read = whole_next string_bytes (seen c.args.shelf.now).sources (seen c.loop-name.shelf).sources c.args.names.now c.loop-name.name-index c.name-item.result c.as_str.result.now c.in-Ok.text c.loop-name.texts c.push.new.self
+          (omega (arith, within)) c.name-item.is c.as_str.ensures.value inv.sources inv.read c.in-Ok.ensures.read c.in_ok-push-in-Ok.ensures.ok;
       sources = on.sources ∙ inv.sources;
       later = (let one = inv.later in let two = on.health.later in omega (arith, one, two));
       sound = λ sound. (on.health.sound (inv.sound sound)).0;

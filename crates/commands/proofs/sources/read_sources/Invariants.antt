@@ -5,7 +5,7 @@ use Rattle.commands.proofs.sources.read_sources.Given as goal
 
 abbrev pub invariant-loop-name : goal.invariant-loop-name
 invariant-loop-name g l = let seen = g.S.Shelf.seen in record {
-  read : AreWhole (seen l.fn.shelf).sources (map string_bytes (take l.name-index l.names)) l.texts.items;
+  read : AreWhole (seen l.fn.shelf).sources (map string_bytes (take l.name-index l.names)) l.texts;
   sources : (seen l.shelf).sources ≡ (seen l.fn.shelf).sources;
   later : (seen l.fn.shelf).health.faults ≤ (seen l.shelf).health.faults;
   sound : IsSound (seen l.fn.shelf).health → IsSound (seen l.shelf).health;

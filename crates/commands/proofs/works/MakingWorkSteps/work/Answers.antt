@@ -1,0 +1,33 @@
+use Rattle.std.proofs.Common.{ℕ, ◌≤◌, map}
+use Rattle.std.specs.List.{concat}
+use Rattle.desk.proofs.Choices.{rise_lower}
+use Rattle.desk.specs.Keeping.{numbers_of}
+use Rattle.desk.specs.Made.{made_items}
+use Rattle.desk.specs.Seen.{DeskAt, desk_at}
+use Rattle.desk_io.specs.Over.{Over, over}
+use Rattle.commands.proofs.Opened.{ends_map, items_lower}
+use Rattle.commands.specs.Faults.{Outcome}
+use Rattle.commands.specs.Working.{Makes, since}
+use Rattle.commands.proofs.works.MakingWorkSteps.work.Goals as goal
+
+makes_since : (number count : ℕ) (desk : Over DeskAt) (answer : Outcome) → Makes number count desk answer → (less : ℕ) → less ≤ desk.before.faults → Makes number count (since less desk) answer
+makes_since number count desk answer makes less under = ends_map answer makes
+    (λ text made. record {
+      outcomes = made.outcomes;
+      given = record {
+        choices = made.given.choices;
+        counted = rise_lower less desk.before.faults (concat (map numbers_of made.given.choices)) desk.after.faults under made.given.counted;
+        outcomes = made.given.outcomes;
+        state = made.given.state;
+      };
+      says = made.says;
+    })
+    (λ part. record {
+      came = part.came;
+      given = items_lower less desk.before.faults desk.after.faults desk.before.state (made_items number count part.came) desk.after.state under part.given;
+    })
+
+pub returns-clause-does : goal.returns-clause-does
+returns-clause-does g c = λ less under.
+    let made = c.make in
+    makes_since c.args.self.number c.args.self.count (over (desk_at g.K.Keeper.seen) c.args.desk.now made.new.desk) made.result made.ensures.makes less under

@@ -1,0 +1,191 @@
+ghost use Rattle.std.specs.Prelude.{◌≡◌, ◌≤◌, ℕ, Some, Ok, Err, IfOk, MatchResult};
+ghost use Rattle.std.specs.List.{AllByRecursion};
+ghost use Rattle.commands.specs.Sources.{first_of};
+ghost use Rattle.commands.specs.Working as spec;
+ghost use Rattle.commands.specs.Working.{Imports, Makes, Runs, SaysLines, since};
+ghost use Rattle.desk.specs.Seen.{desk_at, desk_seen, DeskGoesOn};
+ghost use Rattle.desk_io.specs.Over.{over};
+ghost use Rattle.imports.specs.Records.{HasForms};
+
+use crate::fault::Fault;
+use crate::sources::first_of;
+use crate::working::Work;
+use alerts::Bell;
+use desk::{Desk, Gate, make_from, text_from, text_of_import};
+use desk_io::{Listed, OutOfMemory, Text};
+use imports::{Line, read_import};
+use keeper::Keeper;
+use rules::Steps;
+use std::alloc::Global;
+use std::sync::ledger::Ledger;
+use table_files::{BadTable, TableWhy};
+
+/// Runs a script.
+#[derive(Drop)]
+pub(crate) struct Running {
+    pub texts: Listed<Text>,
+}
+
+fn run<K: Keeper, B: Bell, G: Gate, L: Ledger>(
+    alloc: Global,
+    desk: &mut Desk<K, B>,
+    script: &[u8],
+    gate: &G,
+    steps: &mut Steps<L>,
+) -> Result<Text, Fault>
+    ensures run { Runs script.now (over (desk_at K.seen) desk.old desk.new) result }
+    ensures desk { DeskGoesOn (desk_seen K.seen B.seen desk.old) (desk_seen K.seen B.seen desk.new) }
+{
+    Ok(Text::from_vec(text_from(alloc, desk, script, gate, steps)?))
+}
+
+impl<K: Keeper, B: Bell, G: Gate, L: Ledger> Work<K, B, G, Steps<L>> for Running {
+    ghost use Rattle.commands.specs.Sources.{first_of};
+    ghost use Rattle.commands.specs.Working.{Runs};
+
+    ghost seen = { K.seen };
+
+    ghost heard = { B.seen };
+
+    ghost ready = { λ work. Unit {0} };
+
+    ghost does = { λ work. Runs (first_of work.texts) };
+
+    fn work(
+        self,
+        alloc: Global,
+        desk: &mut Desk<K, B>,
+        gate: &G,
+        steps: &mut Steps<L>,
+    ) -> Result<Text, Fault>
+        requires { Unit {0} }
+        ensures does { (less : ℕ) → less ≤ (K.seen desk.old.keeper).health.faults
+            → Runs (first_of self.texts) (since less (over (desk_at K.seen) desk.old desk.new)) result }
+        ensures on { DeskGoesOn (desk_seen K.seen B.seen desk.old) (desk_seen K.seen B.seen desk.new) }
+    {
+        run(alloc, desk, first_of(self.texts.as_slice()), gate, steps)
+    }
+}
+
+// The bad record of a file whose first record isn't the header of an import.
+fn headerless(alloc: Global, name: &str) -> Result<BadTable, OutOfMemory>
+    ensures { IfOk result (λ bad. bad ≡ spec.headerless name.now) }
+{
+    Ok(BadTable {
+        name: Text::of(alloc, name.as_bytes())?,
+        line: 1,
+        why: TableWhy::BadField,
+    })
+}
+
+/// The lines of an import file that was read.
+pub(crate) fn lines_in(alloc: Global, name: &str, file: &[u8]) -> Result<Vec<Line>, Fault>
+    ensures lines { MatchResult result (λ v. SaysLines name.now file.now (Ok v.items))
+        (λ fault. SaysLines name.now file.now (Err fault)) }
+    ensures forms { IfOk result (λ v. AllByRecursion HasForms v.items) }
+{
+    match read_import(alloc, file) {
+        Ok(Some(lines)) => Ok(lines),
+        Ok(None) => Err(Fault::BadTable(headerless(alloc, name)?)),
+        Err(OutOfMemory) => Err(Fault::OutOfMemory),
+    }
+}
+
+/// Answers the lines of an import.
+#[derive(Drop)]
+pub(crate) struct Importing {
+    pub lines: Vec<Line>,
+}
+
+fn import_lines<K: Keeper, B: Bell, G: Gate, L: Ledger>(
+    alloc: Global,
+    desk: &mut Desk<K, B>,
+    lines: Vec<Line>,
+    gate: &G,
+    steps: &mut Steps<L>,
+) -> Result<Text, Fault>
+    requires { AllByRecursion HasForms lines.items }
+    ensures imports { Imports lines.items (over (desk_at K.seen) desk.old desk.new) result }
+    ensures desk { DeskGoesOn (desk_seen K.seen B.seen desk.old) (desk_seen K.seen B.seen desk.new) }
+{
+    Ok(Text::from_vec(text_of_import(alloc, desk, lines, gate, steps)?))
+}
+
+impl<K: Keeper, B: Bell, G: Gate, L: Ledger> Work<K, B, G, Steps<L>> for Importing {
+    ghost use Rattle.std.specs.List.{AllByRecursion};
+    ghost use Rattle.commands.specs.Working.{Imports};
+    ghost use Rattle.imports.specs.Records.{HasForms};
+
+    ghost seen = { K.seen };
+
+    ghost heard = { B.seen };
+
+    ghost ready = { λ work. AllByRecursion HasForms work.lines.items };
+
+    ghost does = { λ work. Imports work.lines.items };
+
+    fn work(
+        self,
+        alloc: Global,
+        desk: &mut Desk<K, B>,
+        gate: &G,
+        steps: &mut Steps<L>,
+    ) -> Result<Text, Fault>
+        requires { AllByRecursion HasForms self.lines.items }
+        ensures does { (less : ℕ) → less ≤ (K.seen desk.old.keeper).health.faults
+            → Imports self.lines.items (since less (over (desk_at K.seen) desk.old desk.new)) result }
+        ensures on { DeskGoesOn (desk_seen K.seen B.seen desk.old) (desk_seen K.seen B.seen desk.new) }
+    {
+        import_lines(alloc, desk, self.lines, gate, steps)
+    }
+}
+
+/// Answers calls made from the seed `number` for `count` flights.
+#[derive(Drop)]
+pub(crate) struct Making {
+    pub number: u32,
+    pub count: u32,
+}
+
+fn make<K: Keeper, B: Bell, G: Gate, L: Ledger>(
+    alloc: Global,
+    desk: &mut Desk<K, B>,
+    number: u32,
+    count: u32,
+    gate: &G,
+    steps: &mut Steps<L>,
+) -> Result<Text, Fault>
+    requires { count ≤ 20_000 }
+    ensures makes { Makes number count (over (desk_at K.seen) desk.old desk.new) result }
+    ensures desk { DeskGoesOn (desk_seen K.seen B.seen desk.old) (desk_seen K.seen B.seen desk.new) }
+{
+    Ok(Text::from_vec(make_from(alloc, desk, number, count, gate, steps)?))
+}
+
+impl<K: Keeper, B: Bell, G: Gate, L: Ledger> Work<K, B, G, Steps<L>> for Making {
+    ghost use Rattle.std.specs.Prelude.{◌≤◌};
+    ghost use Rattle.commands.specs.Working.{Makes};
+
+    ghost seen = { K.seen };
+
+    ghost heard = { B.seen };
+
+    ghost ready = { λ work. work.count ≤ 20_000 };
+
+    ghost does = { λ work. Makes work.number work.count };
+
+    fn work(
+        self,
+        alloc: Global,
+        desk: &mut Desk<K, B>,
+        gate: &G,
+        steps: &mut Steps<L>,
+    ) -> Result<Text, Fault>
+        requires { self.count ≤ 20_000 }
+        ensures does { (less : ℕ) → less ≤ (K.seen desk.old.keeper).health.faults
+            → Makes self.number self.count (since less (over (desk_at K.seen) desk.old desk.new)) result }
+        ensures on { DeskGoesOn (desk_seen K.seen B.seen desk.old) (desk_seen K.seen B.seen desk.new) }
+    {
+        make(alloc, desk, self.number, self.count, gate, steps)
+    }
+}
