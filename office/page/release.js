@@ -8,7 +8,7 @@ import { hasNewerWeather, look, noteReports, picture, releaseOf, rowOf } from '.
 import { planPage } from './plan_form.js';
 import { emptyPlan } from './plans.js';
 import * as texts from './texts.js';
-import { amount, clock, hoursText, near, phaseText, reading, viewRefusal } from './words.js';
+import { amount, clock, hoursText, near, phaseText, reading, stamp, standing, viewRefusal } from './words.js';
 
 // Compares the digest of a text, computed here, with the one that the desk names.
 async function check({ text, digest }) {
@@ -42,22 +42,32 @@ function alertPart(row, release) {
     whole?.ever.length > findings.length && h('details', {}, h('summary', {}, 'Every rule that failed since the alert opened'), findingsList(whole.ever, plan)));
 }
 
+// What a sheet shows first, in large letters. On the screen only an ended release has it: the rest is told in a sentence.
+function stamped(phase, isSigned) {
+  const words = stamp(phase, picture.moment, isSigned);
+  return words.length > 0 && h('p', { class: `stamp ${phase.ended ? '' : 'printed'}` }, words.map((it) => h('strong', {}, `${it} `)));
+}
+
 // A revision as the sheet that is signed and printed.
-function paper(id, revision, isPending) {
+function paper(id, revision, phase, isPending) {
   if (!revision) return null;
   const { number, dispatcher, signed, captain, concurred, hours } = revision;
   const signs = isPending ? 'Not signed by both. Not valid for dispatch.'
     : `Dispatcher ${dispatcher} signed at ${signed}. Captain ${captain} (${hoursText(hours)}) concurred at ${concurred}.`;
-  return h('article', { class: `paper ${isPending ? 'pending' : 'signed'}` },
-    h('h2', {}, `Revision ${number}, ${isPending ? 'pending' : 'in force'}`), h('p', { class: 'signs' }, signs),
+  return h('article', { class: `paper ${isPending ? 'pending' : 'signed'}` }, stamped(phase, !isPending),
+    h('h2', {}, `Revision ${number}, ${standing(phase, isPending)}`), h('p', { class: 'signs' }, signs),
     h('pre', { class: 'text', tabindex: '0' }, revision.text), digestLine(revision),
     h('p', { class: 'printed' }, `Release ${id} at ${picture.moment}, the desk’s time. The digest is the SHA-256 of the text.`));
 }
 
-function legs({ number, plan }, isPending) {
+// The sheet of a release without a text: a draft that isn't prepared, or was cancelled.
+const blank = (id, phase) => h('article', { class: `paper ${phase.ended ? '' : 'printed'}` }, stamped(phase, false),
+  h('p', { class: 'printed' }, `Release ${id} at ${picture.moment}, the desk’s time.`));
+
+function legs({ number, plan }, stands) {
   const other = (it) => `${it.station} ${it.minutes} min${it.fuel === undefined ? '' : ` ${amount(it.fuel)} lb`}`;
   const fuel = (leg) => `burn ${amount(leg.burn)}, extra ${amount(leg.extra)}, minimum ${amount(leg.minimum)}, on board ${amount(leg.onboard)} lb`;
-  return h('section', {}, h('h2', {}, `Legs of revision ${number}, ${isPending ? 'pending' : 'in force'}`), plan.legs.map((leg, place) => h('p', {},
+  return h('section', {}, h('h2', {}, `Legs of revision ${number}, ${stands}`), plan.legs.map((leg, place) => h('p', {},
     h('b', {}, `${place + 1} ${leg.from}–${leg.to}`), ` ${near(leg.etd, picture.moment)} to ${clock(leg.eta)}, ${leg.minutes} min. `,
     `Alternates: ${leg.alternates.map(other).join(', ') || 'none'}. `, leg.takeoff_alternate && `Takeoff alternate: ${other(leg.takeoff_alternate)}. `,
     `Fuel: ${fuel(leg)}.`)));
@@ -93,9 +103,9 @@ export function releasePage(place, id, isAmending) {
         row && h('span', { class: 'hint' }, `held by ${row.holder}`)),
       alertPart(row, release), actions(page, row, release, isStale), refused(page, plan),
       h('div', { class: 'columns' },
-        h('div', {}, paper(id, pending, true), paper(id, active, false),
-          row?.pending > 0 && !pending && h('p', { class: 'note' }, `Revision ${row.pending} is filed. Prepare it to make the text that is signed.`)),
-        h('div', { class: 'aside' }, plan && legs(pending ?? active, Boolean(pending)), weather(stations, [...(pending?.reports ?? []), ...(active?.reports ?? [])]),
+        h('div', {}, paper(id, pending, phase, true), paper(id, active, phase, false), !pending && !active && blank(id, phase),
+          row?.pending > 0 && !pending && h('p', { class: 'note' }, `Revision ${row.pending} is filed. It isn’t valid for dispatch. Prepare it to make the text that is signed.`)),
+        h('div', { class: 'aside' }, plan && legs(pending ?? active, standing(phase, Boolean(pending))), weather(stations, [...(pending?.reports ?? []), ...(active?.reports ?? [])]),
           deferred && h('section', {}, h('h2', {}, `Deferred equipment of ${plan.tail}`), deferredList(deferred)))));
   };
   const failed = (fault) => {

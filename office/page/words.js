@@ -66,6 +66,15 @@ export function phaseText({ name, leg, since, again }, today) {
   return { DRAFTED: 'Draft', READY: 'Ready' }[name] ?? `${name === 'COMPLETED' ? 'Completed' : 'Cancelled'} ${near(since, today)}`;
 }
 
+// What a sheet of a release is stamped with. A revision in force has no stamp.
+export function stamp({ name, since }, today, isSigned) {
+  const moment = since ? ` ${near(since, today)}` : '';
+  if (name === 'COMPLETED') return [`COMPLETED${moment}`];
+  return [name === 'CANCELLED' && `CANCELLED${moment}`, (name === 'CANCELLED' || !isSigned) && 'NOT VALID FOR DISPATCH'].filter(Boolean);
+}
+// The standing of a revision with a text. No revision of an ended release is in force.
+export const standing = ({ name, ended }, isPending) => (ended ? name.toLowerCase() : isPending ? 'pending' : 'in force');
+
 // The phase in a refusal, such as `STOPPED 2 2026-11-12T16:31Z`, in words.
 const phaseIn = ([name, leg, since = leg]) => phaseText({ name, leg, since }, since ?? '');
 

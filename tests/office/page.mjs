@@ -86,6 +86,16 @@ assert.match(words.refusal({ refused: 18, phase: 'STOPPED 2 2026-11-12T16:31Z AG
 assert.match(words.refusal({ refused: 18, phase: 'COMPLETED 2026-11-12T18:09Z' }), /phase “Completed 18:09Z”/);
 assert.match(words.refusal({ refused: 18, phase: 'DRAFTED' }), /phase “Draft”/);
 
+// What a sheet is stamped with, and how its revision stands: none of an ended release is in force.
+const sheet = (phase, isSigned, today = '2026-11-12T18:40Z') => [...words.stamp(texts.phase(phase), today, isSigned), words.standing(texts.phase(phase), !isSigned)].join('; ');
+assert.equal(sheet('CANCELLED 2026-11-12T18:36Z', true), 'CANCELLED 18:36Z; NOT VALID FOR DISPATCH; cancelled');
+assert.equal(sheet('CANCELLED 2026-11-12T18:36Z', false), 'CANCELLED 18:36Z; NOT VALID FOR DISPATCH; cancelled');
+assert.equal(sheet('CANCELLED 2026-11-12T18:36Z', true, '2026-11-13T07:00Z'), 'CANCELLED 11-12 18:36Z; NOT VALID FOR DISPATCH; cancelled');
+assert.equal(sheet('CANCELLED', true), 'CANCELLED; NOT VALID FOR DISPATCH; cancelled');
+assert.equal(sheet('COMPLETED 2026-11-12T18:09Z', true), 'COMPLETED 18:09Z; completed');
+for (const phase of ['DRAFTED', 'READY 1', 'FLYING 1', 'STOPPED 2 2026-11-12T16:31Z']) assert.equal(sheet(phase, false), 'NOT VALID FOR DISPATCH; pending');
+for (const phase of ['READY 1', 'FLYING 1', 'STOPPED 2 2026-11-12T16:31Z']) assert.equal(sheet(phase, true), 'in force');
+
 // Plans: a sound plan has no fault, and each fault is found at its field.
 for (const plan of filed) assert.equal(plans.faults(plan).size, 0);
 const broken = structuredClone(filed[0]);
