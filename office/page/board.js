@@ -32,7 +32,12 @@ export function findingsList(codes, plan, withAdvice = false) {
 }
 
 const rank = (row) => ['open', 'over', 'seen', 'none'].indexOf(alertKind(row.alert)) * 10 + ORDER.indexOf(row.phase.name);
-const planOf = (row) => (knownOf(row)?.active ?? knownOf(row)?.pending)?.plan;
+// The plan that this tab filed as the pending revision: no view shows it until that is prepared.
+export function filedOf(row) {
+  const filed = kept('filed', row.id);
+  return filed?.revision === row.pending ? filed.plan : undefined;
+}
+const planOf = (row) => (knownOf(row)?.active ?? knownOf(row)?.pending)?.plan ?? filedOf(row);
 
 // The stations of the flight. The leg that is next or in flight is bold, with its times.
 function route(row) {

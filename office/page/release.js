@@ -3,7 +3,7 @@ import { h, hint, notice, show, title } from './dom.js';
 import { kept, seen } from './asking.js';
 import { Refused, Unreached } from './desk.js';
 import { actions, digestLine, refused } from './actions.js';
-import { alertKind, badge, findingsList } from './board.js';
+import { alertKind, badge, filedOf, findingsList } from './board.js';
 import { hasNewerWeather, look, noteReports, picture, releaseOf, rowOf } from './picture.js';
 import { planPage } from './plan_form.js';
 import { emptyPlan } from './plans.js';
@@ -73,12 +73,12 @@ function legs({ number, plan }, stands) {
     `Fuel: ${fuel(leg)}.`)));
 }
 
-// The latest reports of each station in words, and the report itself if it is attached.
-function weather(stations, reports) {
+// The latest reports of each station in words, and the report itself if it is attached. `attaches`: the newest revision is prepared, so that it attaches reports.
+function weather(stations, reports, attaches) {
   const one = (it) => {
     const raw = reports.find((report) => report.id === it.id);
     return h('div', {}, h('p', {}, h('b', {}, it.kind), ` ${reading(it, picture.moment)}`),
-      raw ? h('p', { class: 'raw' }, raw.text) : h('p', { class: 'newer' }, `Report ${it.id} is newer and isn’t attached.`));
+      raw ? h('p', { class: 'raw' }, raw.text) : attaches && h('p', { class: 'newer' }, `Report ${it.id} is newer and isn’t attached.`));
   };
   return stations.length > 0 && h('section', {}, h('h2', {}, 'Weather at its stations'), stations.map(({ station, why, said }) => h('div', { class: 'station' },
     h('h3', {}, station), why && h('p', {}, why), !why && said.length === 0 && hint('No reports.'), said.map(one))));
@@ -94,8 +94,9 @@ export function releasePage(place, id, isAmending) {
   const page = { id, refresh };
   let shown = '';
   let text = '';
-  const draw = (row, release, plan, { stations, deferred }) => {
+  const draw = (row, release, newest, { stations, deferred }) => {
     const { phase, pending, active } = release;
+    const plan = newest?.plan;
     const names = plan ? `${plan.flight} ${plan.tail}` : row && `${row.flight} ${row.tail}`;
     const isStale = hasNewerWeather(release);
     show(place,
@@ -105,7 +106,8 @@ export function releasePage(place, id, isAmending) {
       h('div', { class: 'columns' },
         h('div', {}, paper(id, pending, phase, true), paper(id, active, phase, false), !pending && !active && blank(id, phase),
           row?.pending > 0 && !pending && h('p', { class: 'note' }, `Revision ${row.pending} is filed. It isn’t valid for dispatch. Prepare it to make the text that is signed.`)),
-        h('div', { class: 'aside' }, plan && legs(pending ?? active, standing(phase, Boolean(pending))), weather(stations, [...(pending?.reports ?? []), ...(active?.reports ?? [])]),
+        h('div', { class: 'aside' }, newest && legs(newest, newest.text ? standing(phase, newest === pending) : 'not prepared'),
+          weather(stations, [...(pending?.reports ?? []), ...(active?.reports ?? [])], newest?.text),
           deferred && h('section', {}, h('h2', {}, `Deferred equipment of ${plan.tail}`), deferredList(deferred)))));
   };
   const failed = (fault) => {
@@ -127,10 +129,11 @@ export function releasePage(place, id, isAmending) {
     if (isChanged) await look();
     const row = rowOf(id);
     for (const it of [release.pending, release.active]) if (it) it.check = await check(it);
-    const plan = (release.pending ?? release.active)?.plan;
-    const more = plan && !release.phase.ended ? await around(plan, release.phase) : { stations: [], deferred: null };
+    const filed = row && filedOf(row);
+    const newest = release.pending ?? (filed ? { number: row.pending, plan: filed } : release.active);
+    const more = newest && !release.phase.ended ? await around(newest.plan, release.phase) : { stations: [], deferred: null };
     const all = JSON.stringify([row, release, more, kept('refused', id), kept('signed', id)]);
-    if (isAnew || all !== shown) draw(row, release, plan, more);
+    if (isAnew || all !== shown) draw(row, release, newest, more);
     shown = all;
   }
   // The form of an amendment, filled with the newest plan that this tab knows. It waits for the board, which names the pending revision.
@@ -139,9 +142,8 @@ export function releasePage(place, id, isAmending) {
     const release = await releaseOf(id);
     await look();
     const row = rowOf(id);
-    const filed = kept('filed', id);
     if (!row || place.querySelector('form')) return;
-    planPage(place, row, filed?.revision === row.pending ? filed.plan : (release.pending ?? release.active)?.plan ?? emptyPlan());
+    planPage(place, row, filedOf(row) ?? (release.pending ?? release.active)?.plan ?? emptyPlan());
   };
   const draws = isAmending ? amend : refresh;
   draws().catch(failed);
