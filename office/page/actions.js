@@ -2,7 +2,7 @@
 import { button, confirmed, h, hint, notice } from './dom.js';
 import { session } from './desk.js';
 import { ask, drop, keep, kept } from './asking.js';
-import { findingsList } from './board.js';
+import { findingsList, unsaid } from './board.js';
 import { look, picture, releaseOf } from './picture.js';
 import { amount, clock, phaseText, refusal } from './words.js';
 
@@ -83,6 +83,7 @@ export function actions(page, row, release, isStale) {
   const moves = holds || (me.role === 'C' && active?.plan.captain === me.name);
   const signed = kept('signed', page.id);
   const isSigned = pending && signed?.digest === pending.digest;
+  const concurs = me.role === 'C' && pending?.plan.captain === me.name;
   const isOpen = row?.alert && !row.alert.seen;
   const isNext = !row?.pending && !row?.alert?.findings.length;
   const made = new Map();
@@ -95,7 +96,7 @@ export function actions(page, row, release, isStale) {
   };
   add(holds && row.pending && (!pending || isStale), 'prepare', `Prepare revision ${row?.pending}${pending ? ' again' : ''}`, () => prepare(page, row));
   add(holds && pending && !isSigned, 'sign', `Sign revision ${pending?.number}`, () => sign(page, 'sign', pending));
-  add(me.role === 'C' && pending?.plan.captain === me.name, 'concur', `Concur with revision ${pending?.number}`, () => sign(page, 'concur', pending));
+  add(concurs, 'concur', `Concur with revision ${pending?.number}`, () => sign(page, 'concur', pending));
   add(holds && isOpen, 'acknowledge', `Acknowledge alert v${row?.alert?.version}`, () => acknowledge(page, row, active?.plan));
   add(holds && !phase.ended, 'amend', 'Amend', () => { location.hash = `#/release/${page.id}/amend`; }, row?.alert && !row.pending);
   add(moves && ['READY', 'STOPPED'].includes(phase.name), 'depart', `Report departure of leg ${phase.leg}`, () => move(page, 'depart', row, release), isNext);
@@ -106,6 +107,7 @@ export function actions(page, row, release, isStale) {
   add(pending || active, 'print', 'Print', () => print(), false);
   return h('section', { class: 'actions', 'aria-label': 'Actions' }, group(PLACES, 'buttons'), group(APART, 'buttons apart'),
     isStale && hint('A newer report has arrived for one of its stations. The dispatcher prepares the revision again before it can be signed.'),
+    concurs && row && hint(`${unsaid(row)} If not, it refuses your concurrence, which changes nothing.`),
     isSigned && hint(`You signed revision ${pending.number}${signed.at ? ` at ${signed.at}` : ''}. Captain ${pending.plan.captain} concurs next.`),
     'DC'.includes(me.role) && row && !holds && !phase.ended && hint(`Only ${row.holder} can amend, prepare, sign or cancel this release.`));
 }

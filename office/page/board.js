@@ -50,7 +50,9 @@ function route(row) {
   return [h('span', { class: 'route' }, named), h('span', { class: 'times' }, ` ${near(etd, picture.moment)} → ${clock(eta)}`)];
 }
 
-// What to do next. No view says whether the dispatcher has signed: only the tab in which he did knows.
+export const unsaid = (row) => `The desk doesn’t show whether ${row.holder} has signed.`;
+
+// What to do next. No view shows whether the holder has signed: only the tab in which the holder did knows. For anybody else it comes with the reason.
 function nextStep(row) {
   if (!row.pending && row.alert) return !row.alert.seen ? 'Acknowledge alert' : row.alert.findings.length ? 'Amend' : '';
   if (!row.pending) return '';
@@ -58,8 +60,11 @@ function nextStep(row) {
   if (!known) return `Rev ${row.pending}`;
   const { pending } = known;
   if (hasNewerWeather({ pending, phase: row.phase })) return `Newer weather: prepare rev ${row.pending}`;
-  const isSigned = pending && kept('signed', row.id)?.digest === pending.digest;
-  return isSigned ? `Captain: concur, rev ${row.pending}` : `${pending ? 'Sign' : 'Prepare'} rev ${row.pending}`;
+  if (!pending) return `Prepare rev ${row.pending}`;
+  if (kept('signed', row.id)?.digest === pending.digest) return `Captain: concur, rev ${row.pending}`;
+  const { name } = session.get();
+  if (row.holder === name) return `Sign rev ${row.pending}`;
+  return h('span', { title: unsaid(row) }, `Sign or concur, rev ${row.pending}`, pending.plan.captain === name && h('small', {}, ` ${unsaid(row)}`));
 }
 
 function rowOf(row) {
