@@ -10,8 +10,10 @@ const ORDER = ['FLYING', 'STOPPED', 'READY', 'DRAFTED', 'COMPLETED', 'CANCELLED'
 const BADGES = { open: 'Alert', seen: 'Acknowledged', over: 'No rule fails now' };
 const LEGEND = [
   ['Route', 'the stations, and ETD → ETA of the leg in bold. All times are UTC'],
-  ['Revision', 'the revision in force, which dispatcher and captain have signed'],
-  ['Next step', 'what the pending revision or the alert needs. “Sign” means the dispatcher first, then the captain. “Newer weather”: a report has arrived that isn’t attached, so the desk accepts no signature until it is'],
+  ['Phase', '“Draft”: no captain has concurred. “Ready”: both have signed, and leg 1 is next. “Flying leg 1”. “Stopped before leg 2”, with the time of the last arrival. “Completed”: the last leg has arrived. “Cancelled”'],
+  ['Revision', 'the revision in force, which dispatcher and captain have signed. A dash: none yet'],
+  ['Next step', 'what the pending revision or the alert needs. “Sign”: the holder signs, then the captain concurs. “Sign or concur”: the desk doesn’t show whether the holder has signed, and only the tab in which the holder signed knows. “Newer weather”: a report has arrived that isn’t attached, so the desk accepts no signature until it is'],
+  ['Holder', 'the dispatcher who drafted the release. Only this dispatcher can amend, prepare, sign, cancel or acknowledge'],
   ['Alert', 'the active release fails a rule. v2 is the second version of the alert'],
   ['Acknowledged', 'the holder has seen this version of the alert'],
   ['No rule fails now', 'the alert remains until a captain concurs, the release is cancelled, or the last leg arrives'],
