@@ -2,7 +2,7 @@
 import { button, confirmed, h, hint, notice } from './dom.js';
 import { session } from './desk.js';
 import { ask, drop, keep, kept } from './asking.js';
-import { findingsList } from './board.js';
+import { findingsList, unsaid } from './board.js';
 import { look, picture, releaseOf } from './picture.js';
 import { amount, clock, phaseText, refusal } from './words.js';
 
@@ -27,6 +27,8 @@ async function act(page, it, question, buttons, ...body) {
   if (!await confirmed(question, buttons, ...body)) return null;
   const reply = await ask(it);
   await look();
+  // (19: the dispatcher has signed this text before, in another tab)
+  if (it.do === 'sign' && (reply.done || reply.refused === 19)) keep('signed', page.id, { digest: it.digest, at: reply.done && clock(picture.moment) });
   if (reply.done) {
     drop('refused', page.id);
     notice(doneText(it.do, reply.done));
@@ -39,17 +41,12 @@ async function act(page, it, question, buttons, ...body) {
   return reply.done;
 }
 
-async function sign(page, name, revision) {
+function sign(page, name, revision) {
   const question = `${name === 'sign' ? 'Sign' : 'Concur with'} revision ${revision.number}`;
   if (revision.check === 'other') return notice(CHECKS.other, 'bad');
-  const done = await act(page, { digest: revision.digest, do: name, release: page.id, revision: revision.number }, question, { yes: question },
+  return act(page, { digest: revision.digest, do: name, release: page.id, revision: revision.number }, question, { yes: question },
     h('p', {}, `${session.get().name} signs this text of ${revision.plan.flight}, release ${page.id}, revision ${revision.number}:`), digestLine(revision),
     h('pre', { class: 'text', tabindex: '0' }, revision.text));
-  if (done && name === 'sign') {
-    keep('signed', page.id, { digest: revision.digest, at: clock(picture.moment) });
-    await page.refresh(true);
-  }
-  return done;
 }
 
 function move(page, name, row, { active, phase: { leg } }) {
@@ -73,7 +70,12 @@ const cancel = (page, row, phase) => act(page, { do: 'cancel', release: page.id 
 const purge = (page) => act(page, { do: 'purge', release: page.id }, `Purge release ${page.id}`,
   { yes: `Purge release ${page.id}`, no: 'Keep it' }, h('p', {}, 'It disappears from every view and can’t be restored.'));
 
-// The buttons; the first one is the next step. `isStale`: a newer report isn't attached to the pending revision.
+// Where the buttons are: those that come and go are on the right of those that stay, so that none moves to where another one was.
+const PLACES = ['amend', 'print', 'depart', 'arrive', 'prepare', 'sign', 'concur', 'acknowledge'];
+// What can't be restored is apart, at the other end.
+const APART = ['cancel', 'purge'];
+
+// The buttons; the one of the next step is filled. `isStale`: a newer report isn't attached to the pending revision.
 export function actions(page, row, release, isStale) {
   const me = session.get();
   const { phase, pending, active } = release;
@@ -81,26 +83,32 @@ export function actions(page, row, release, isStale) {
   const moves = holds || (me.role === 'C' && active?.plan.captain === me.name);
   const signed = kept('signed', page.id);
   const isSigned = pending && signed?.digest === pending.digest;
+  const concurs = me.role === 'C' && pending?.plan.captain === me.name;
   const isOpen = row?.alert && !row.alert.seen;
   const isNext = !row?.pending && !row?.alert?.findings.length;
-  const made = [];
+  const made = new Map();
   const add = (test, name, text, make, first = true) => {
-    if (test) made.push(button(text, make, { id: `do-${name}`, class: made.length || !first ? null : 'first' }));
+    if (test) made.set(name, button(text, make, { id: `do-${name}`, class: made.size || !first ? null : 'first' }));
+  };
+  const group = (names, kind) => {
+    const found = names.flatMap((name) => made.get(name) ?? []);
+    return found.length > 0 && h('p', { class: kind }, found);
   };
   add(holds && row.pending && (!pending || isStale), 'prepare', `Prepare revision ${row?.pending}${pending ? ' again' : ''}`, () => prepare(page, row));
   add(holds && pending && !isSigned, 'sign', `Sign revision ${pending?.number}`, () => sign(page, 'sign', pending));
-  add(me.role === 'C' && pending?.plan.captain === me.name, 'concur', `Concur with revision ${pending?.number}`, () => sign(page, 'concur', pending));
+  add(concurs, 'concur', `Concur with revision ${pending?.number}`, () => sign(page, 'concur', pending));
   add(holds && isOpen, 'acknowledge', `Acknowledge alert v${row?.alert?.version}`, () => acknowledge(page, row, active?.plan));
   add(holds && !phase.ended, 'amend', 'Amend', () => { location.hash = `#/release/${page.id}/amend`; }, row?.alert && !row.pending);
   add(moves && ['READY', 'STOPPED'].includes(phase.name), 'depart', `Report departure of leg ${phase.leg}`, () => move(page, 'depart', row, release), isNext);
   add(moves && phase.name === 'FLYING', 'arrive', `Report arrival of leg ${phase.leg}`, () => move(page, 'arrive', row, release), isNext);
   add(holds && pending && !isStale, 'prepare', `Prepare revision ${pending?.number} again`, () => prepare(page, row), false);
   add(holds && !phase.ended, 'cancel', `Cancel release ${page.id}`, () => cancel(page, row, phase), false);
-  add(me.role === 'S' && phase.ended, 'purge', `Purge release ${page.id}`, () => purge(page));
+  add(me.role === 'S' && phase.ended, 'purge', `Purge release ${page.id}`, () => purge(page), false);
   add(pending || active, 'print', 'Print', () => print(), false);
-  return h('section', { class: 'actions', 'aria-label': 'Actions' }, made.length > 0 && h('p', { class: 'buttons' }, made),
+  return h('section', { class: 'actions', 'aria-label': 'Actions' }, group(PLACES, 'buttons'), group(APART, 'buttons apart'),
     isStale && hint('A newer report has arrived for one of its stations. The dispatcher prepares the revision again before it can be signed.'),
-    isSigned && hint(`You signed revision ${pending.number} at ${signed.at}. Captain ${pending.plan.captain} concurs next.`),
+    concurs && row && hint(`${unsaid(row)} If not, it refuses your concurrence, which changes nothing.`),
+    isSigned && hint(`You signed revision ${pending.number}${signed.at ? ` at ${signed.at}` : ''}. Captain ${pending.plan.captain} concurs next.`),
     'DC'.includes(me.role) && row && !holds && !phase.ended && hint(`Only ${row.holder} can amend, prepare, sign or cancel this release.`));
 }
 

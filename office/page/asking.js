@@ -14,7 +14,7 @@ export async function ask(it) {
 export async function asked(it, done) {
   const reply = await ask(it);
   if (reply.done) notice(done(reply.done));
-  else notice(refusal(reply), 'bad');
+  else notice(refusal(reply, it), 'bad');
   return reply.done;
 }
 

@@ -10,8 +10,10 @@ const ORDER = ['FLYING', 'STOPPED', 'READY', 'DRAFTED', 'COMPLETED', 'CANCELLED'
 const BADGES = { open: 'Alert', seen: 'Acknowledged', over: 'No rule fails now' };
 const LEGEND = [
   ['Route', 'the stations, and ETD → ETA of the leg in bold. All times are UTC'],
-  ['Revision', 'the revision in force, which dispatcher and captain have signed'],
-  ['Next step', 'what the pending revision or the alert needs. “Sign” means the dispatcher first, then the captain. “Newer weather”: a report has arrived that isn’t attached, so the desk accepts no signature until it is'],
+  ['Phase', '“Draft”: no captain has concurred. “Ready”: both have signed, and leg 1 is next. “Flying leg 1”. “Stopped before leg 2”, with the time of the last arrival. “Completed”: the last leg has arrived. “Cancelled”'],
+  ['Revision', 'the revision in force, which dispatcher and captain have signed. A dash: none yet'],
+  ['Next step', 'what the pending revision or the alert needs. “Sign”: the holder signs, then the captain concurs. “Sign or concur”: the desk doesn’t show whether the holder has signed, and only the tab in which the holder signed knows. “Newer weather”: a report has arrived that isn’t attached, so the desk accepts no signature until it is'],
+  ['Holder', 'the dispatcher who drafted the release. Only this dispatcher can amend, prepare, sign, cancel or acknowledge'],
   ['Alert', 'the active release fails a rule. v2 is the second version of the alert'],
   ['Acknowledged', 'the holder has seen this version of the alert'],
   ['No rule fails now', 'the alert remains until a captain concurs, the release is cancelled, or the last leg arrives'],
@@ -32,7 +34,12 @@ export function findingsList(codes, plan, withAdvice = false) {
 }
 
 const rank = (row) => ['open', 'over', 'seen', 'none'].indexOf(alertKind(row.alert)) * 10 + ORDER.indexOf(row.phase.name);
-const planOf = (row) => (knownOf(row)?.active ?? knownOf(row)?.pending)?.plan;
+// The plan that this tab filed as the pending revision: no view shows it until that is prepared.
+export function filedOf(row) {
+  const filed = kept('filed', row.id);
+  return filed?.revision === row.pending ? filed.plan : undefined;
+}
+const planOf = (row) => (knownOf(row)?.active ?? knownOf(row)?.pending)?.plan ?? filedOf(row);
 
 // The stations of the flight. The leg that is next or in flight is bold, with its times.
 function route(row) {
@@ -45,7 +52,9 @@ function route(row) {
   return [h('span', { class: 'route' }, named), h('span', { class: 'times' }, ` ${near(etd, picture.moment)} → ${clock(eta)}`)];
 }
 
-// What to do next. No view says whether the dispatcher has signed: only the tab in which he did knows.
+export const unsaid = (row) => `The desk doesn’t show whether ${row.holder} has signed.`;
+
+// What to do next. No view shows whether the holder has signed: only the tab in which the holder did knows. For anybody else it comes with the reason.
 function nextStep(row) {
   if (!row.pending && row.alert) return !row.alert.seen ? 'Acknowledge alert' : row.alert.findings.length ? 'Amend' : '';
   if (!row.pending) return '';
@@ -53,8 +62,11 @@ function nextStep(row) {
   if (!known) return `Rev ${row.pending}`;
   const { pending } = known;
   if (hasNewerWeather({ pending, phase: row.phase })) return `Newer weather: prepare rev ${row.pending}`;
-  const isSigned = pending && kept('signed', row.id)?.digest === pending.digest;
-  return isSigned ? `Captain: concur, rev ${row.pending}` : `${pending ? 'Sign' : 'Prepare'} rev ${row.pending}`;
+  if (!pending) return `Prepare rev ${row.pending}`;
+  if (kept('signed', row.id)?.digest === pending.digest) return `Captain: concur, rev ${row.pending}`;
+  const { name } = session.get();
+  if (row.holder === name) return `Sign rev ${row.pending}`;
+  return h('span', { title: unsaid(row) }, `Sign or concur, rev ${row.pending}`, pending.plan.captain === name && h('small', {}, ` ${unsaid(row)}`));
 }
 
 function rowOf(row) {

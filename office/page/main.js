@@ -80,7 +80,7 @@ function start() {
   round += 1;
   rounds(round);
   route();
-  resumed(onWait).then((it) => it && notice(it.reply.done ? `After the reload: ${doneText(it.ask.do, it.reply.done)}` : refusal(it.reply), it.reply.done ? 'good' : 'bad'));
+  resumed(onWait).then((it) => it && notice(it.reply.done ? `After the reload: ${doneText(it.ask.do, it.reply.done)}` : refusal(it.reply, it.ask), it.reply.done ? 'good' : 'bad'));
 }
 
 function leave(why = '') {

@@ -118,9 +118,9 @@ class Form {
     this.check();
   }
 
-  // The plan as JSON, to copy or to replace by a pasted one.
+  // The plan as JSON, to copy or to replace by a pasted one: the whole text is selected as soon as a press or Tab has given the box the focus.
   json() {
-    const text = h('textarea', { id: 'plan-json', rows: 8, spellcheck: 'false', 'aria-label': 'The plan as JSON' });
+    const text = h('textarea', { id: 'plan-json', rows: 8, spellcheck: 'false', 'aria-label': 'The plan as JSON', onfocus: () => setTimeout(() => text.select()) });
     const write = () => { text.value = JSON.stringify(this.plan, null, 2); };
     const copy = () => { write(); text.select(); navigator.clipboard?.writeText(text.value).then(() => notice('Plan copied.'), () => {}); };
     const take = () => {

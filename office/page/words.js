@@ -66,6 +66,15 @@ export function phaseText({ name, leg, since, again }, today) {
   return { DRAFTED: 'Draft', READY: 'Ready' }[name] ?? `${name === 'COMPLETED' ? 'Completed' : 'Cancelled'} ${near(since, today)}`;
 }
 
+// What a sheet of a release is stamped with. A revision in force has no stamp.
+export function stamp({ name, since }, today, isSigned) {
+  const moment = since ? ` ${near(since, today)}` : '';
+  if (name === 'COMPLETED') return [`COMPLETED${moment}`];
+  return [name === 'CANCELLED' && `CANCELLED${moment}`, (name === 'CANCELLED' || !isSigned) && 'NOT VALID FOR DISPATCH'].filter(Boolean);
+}
+// The standing of a revision with a text. No revision of an ended release is in force.
+export const standing = ({ name, ended }, isPending) => (ended ? name.toLowerCase() : isPending ? 'pending' : 'in force');
+
 // The phase in a refusal, such as `STOPPED 2 2026-11-12T16:31Z`, in words.
 const phaseIn = ([name, leg, since = leg]) => phaseText({ name, leg, since }, since ?? '');
 
@@ -83,15 +92,21 @@ const PLAN_FAULTS = {
 };
 const STAGES = ['No revision is pending. Amend the release first.', 'The revision isn’t prepared. The dispatcher prepares it first.',
   'The dispatcher hasn’t signed this text. Concur after the dispatcher has signed.'];
+// A group of a report, in quotes. The desk counts the first word as group 1, and a final = isn't part of the last group.
+function groupOf({ group }, ask) {
+  const groups = (ask?.text ?? '').replace(/=[ \t\r\n]*$/, '').split(/[ \t\r\n]+/).filter(Boolean);
+  const it = [...groups[group - 1] ?? ''];
+  return `group ${group}${it.length ? `, “${it.length > 20 ? `${it.slice(0, 20).join('')}…` : it.join('')}”,` : ''} of the report`;
+}
 const full = (what, remedy) => (r) => `The desk holds ${amount(r.held)} ${what} and accepts no more. ${remedy}`;
 
-// Of each refusal by number: the cause, and what to do.
+// Of each refusal by number: the cause, and what to do. They are given the reply, and the call if the caller has it.
 const REFUSALS = {
   1: () => 'Unknown name. Check its spelling: capitals matter.',
   2: () => 'Wrong key. Type it again, or ask your administrator.',
   3: () => 'Your role may not do this. Ask a colleague whose role it is.',
-  5: (r) => `The desk can’t read ${r.group ? `group ${r.group} of ` : ''}the report. ${REPORT_FAULTS[r.what] ?? r.what} Correct the report and hand it in again.`,
-  6: (r) => `The day in group ${r.group} of the report is too far from today. Check its date: old reports can’t be handed in.`,
+  5: (r, ask) => `The desk can’t read ${r.group ? groupOf(r, ask) : 'the report'}. ${REPORT_FAULTS[r.what] ?? r.what} Correct the report and hand it in again.`,
+  6: (r, ask) => `The day in ${groupOf(r, ask)} is too far from today. Check its date: old reports can’t be handed in.`,
   7: full('reports', 'Ask the records keeper to sweep old ones.'),
   8: () => 'The airline has no such aircraft. Check its registration.',
   9: () => 'No open deferral has this number. It may have been cleared already.',
@@ -116,9 +131,9 @@ const REFUSALS = {
   29: (r) => `This is later than the desk’s time, ${r.now}. Correct the time.`,
   30: full('open deferrals', 'Ask maintenance to clear repaired ones.'),
 };
-export function refusal(reply) {
+export function refusal(reply, ask) {
   if (reply.bad) return `The desk can’t read what this page sent (${reply.bad}${reply.key ? ` at ${reply.key}` : ''}). Call your administrator.`;
-  return REFUSALS[reply.refused]?.(reply) ?? `The desk refused: ${reply.error ?? `${reply.refused} ${reply.why}`}.`;
+  return REFUSALS[reply.refused]?.(reply, ask) ?? `The desk refused: ${reply.error ?? `${reply.refused} ${reply.why}`}.`;
 }
 // A view changes nothing but the desk's time.
 export const viewRefusal = (reply) => (reply.refused === 26 ? 'The desk can’t store its time: its disk or file has failed. Call your administrator.' : refusal(reply));

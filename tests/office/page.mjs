@@ -80,11 +80,30 @@ for (const [, number, why] of refusals) {
   // the page answers these two itself, with another number
   if (why !== 'NumberReused' && why !== 'NumberSwept') assert.doesNotMatch(words.refusal({ ...reply, refused: Number(number), why }), /The desk refused|undefined/, why);
 }
+// A refused report: the group is quoted as it was typed, if the report goes so far.
+const unread = (text, group, what, refused = 5) => words.refusal({ refused, group, what }, { do: 'admit', text });
+assert.match(unread('METAR KSEA 301651Z OVC0O4', 4, 'BadSky'), /^The desk can’t read group 4, “OVC0O4”, of the report\. This isn’t a layer of cloud/);
+assert.match(unread('METAR KSEA\n 301651Z\t16008KT  10SM OVC0O4=\n', 6, 'BadSky'), /read group 6, “OVC0O4”, of the report\./);
+assert.match(unread('METAR KSEA', 3, 'Missing'), /read group 3 of the report\. It ends too early/);
+assert.match(unread('METAR KSEA =', 3, 'Missing'), /read group 3 of the report\. It ends too early/);
+assert.match(unread('x'.repeat(2049), 0, 'TooLong'), /^The desk can’t read the report\. It is longer/);
+assert.match(unread(`${'x'.repeat(900)} KSEA`, 1, 'NotStation'), /group 1, “x{20}…”, of the report/);
+assert.match(unread('METAR KSEA 201651Z 10SM', 3, undefined, 6), /^The day in group 3, “201651Z”, of the report is too far/);
 assert.match(words.viewRefusal({ refused: 26, faults: 1 }), /^The desk can’t store its time/);
 assert.equal(words.viewRefusal({ refused: 2 }), words.refusal({ refused: 2 }));
 assert.match(words.refusal({ refused: 18, phase: 'STOPPED 2 2026-11-12T16:31Z AGAIN' }), /phase “Stopped before leg 2 since 16:31Z”/);
 assert.match(words.refusal({ refused: 18, phase: 'COMPLETED 2026-11-12T18:09Z' }), /phase “Completed 18:09Z”/);
 assert.match(words.refusal({ refused: 18, phase: 'DRAFTED' }), /phase “Draft”/);
+
+// What a sheet is stamped with, and how its revision stands: none of an ended release is in force.
+const sheet = (phase, isSigned, today = '2026-11-12T18:40Z') => [...words.stamp(texts.phase(phase), today, isSigned), words.standing(texts.phase(phase), !isSigned)].join('; ');
+assert.equal(sheet('CANCELLED 2026-11-12T18:36Z', true), 'CANCELLED 18:36Z; NOT VALID FOR DISPATCH; cancelled');
+assert.equal(sheet('CANCELLED 2026-11-12T18:36Z', false), 'CANCELLED 18:36Z; NOT VALID FOR DISPATCH; cancelled');
+assert.equal(sheet('CANCELLED 2026-11-12T18:36Z', true, '2026-11-13T07:00Z'), 'CANCELLED 11-12 18:36Z; NOT VALID FOR DISPATCH; cancelled');
+assert.equal(sheet('CANCELLED', true), 'CANCELLED; NOT VALID FOR DISPATCH; cancelled');
+assert.equal(sheet('COMPLETED 2026-11-12T18:09Z', true), 'COMPLETED 18:09Z; completed');
+for (const phase of ['DRAFTED', 'READY 1', 'FLYING 1', 'STOPPED 2 2026-11-12T16:31Z']) assert.equal(sheet(phase, false), 'NOT VALID FOR DISPATCH; pending');
+for (const phase of ['READY 1', 'FLYING 1', 'STOPPED 2 2026-11-12T16:31Z']) assert.equal(sheet(phase, true), 'in force');
 
 // Plans: a sound plan has no fault, and each fault is found at its field.
 for (const plan of filed) assert.equal(plans.faults(plan).size, 0);
