@@ -39,6 +39,7 @@ WRITTEN = {
     9: "error 9 DoorFault\n",
     10: r"(?s:error 10 InputTooLong .+\n)",
     11: "error 11 ClockFault\n",
+    12: r"(?s:error 12 BadInput .+ [0-9]+ (NotPlan|BadPlan|BadField|Doubled|OverLimit)\n)",
 }
 CLOSED = "END\n"
 
@@ -242,7 +243,7 @@ class Desk:
         db.close()
 
 
-def expect_told(run, statuses=range(12)):
+def expect_told(run, statuses=range(13)):
     """The status is one of these, and what is written is what goes with it."""
     hold(run.status in statuses, "status", run.status, "with", run.said[:300])
     text = run.said.decode(errors="replace")

@@ -1,4 +1,4 @@
--- The notices that a dispatcher receives about the alerts of his releases.
+-- The notices about alerts, each to whoever sits at the desk of its release.
 use Rattle.std.specs.Prelude.{nat_lt, if◌then◌else◌, Option, None, Some}
 use Rattle.alerts.specs.declared.alert.Alert.{Alert}
 use Rattle.alerts.specs.declared.notices.Notice.{Notice}

@@ -1,5 +1,5 @@
 -- Which notices each bell receives, and which bells are dropped because they failed.
-use Rattle.std.specs.Prelude.{◌≡◌, ℕ, Bool, ◌||◌, ◌+◌, true, false, List, [], ◌∷◌, ◌++◌, filter, map, codes}
+use Rattle.std.specs.Prelude.{◌≡◌, ℕ, Bool, ◌||◌, ◌+◌, ◌-◌, ◌^◌, ◌<◌, min, true, false, List, [], ◌∷◌, ◌++◌, filter, length, map, codes, Option, None, Some}
 use Rattle.std.specs.List.{AllZip}
 use Rattle.std.specs.Option.{option_map}
 use Rattle.std.specs.Str.{bytes_eq}
@@ -8,17 +8,26 @@ use Rattle.alerts.specs.Seen.{BellSeen}
 use Rattle.alerts.specs.declared.seat.Dropped.{Dropped}
 use Rattle.alerts.specs.declared.seat.Seat.{Seat}
 use Rattle.desk_io.specs.Health.{GoesOn, HasFailed}
-use Rattle.desk_io.specs.Planned.{after}
 
 -- ---- the notices for a bell
 
--- a bell of this dispatcher receives the notice: the notice is for him, or the bell receives all
-abbrev pub concerns : List ℕ → Notice → Bool
-concerns desk notice = bytes_eq desk (codes "*") || bytes_eq desk notice.desk
+-- somebody sits there, and it is this person
+abbrev pub is_sitter : List ℕ → Option (List ℕ) → Bool
+is_sitter person None = false
+is_sitter person (Some sitter) = bytes_eq person sitter
 
--- the notices that a bell of this dispatcher receives
-abbrev pub due : List ℕ → List Notice → List Notice
-due desk notices = filter (concerns desk) notices
+-- A bell of this person receives the notice: he sits at the notice's desk, or the bell receives all. `sitter_of` gives
+-- the person who sits at a desk.
+abbrev pub concerns : (List ℕ → Option (List ℕ)) → List ℕ → Notice → Bool
+concerns sitter_of person notice = bytes_eq person (codes "*") || is_sitter person (sitter_of notice.desk)
+
+-- the notices that a bell of this person receives
+abbrev pub due : (List ℕ → Option (List ℕ)) → List Notice → List ℕ → List Notice
+due sitter_of notices person = filter (concerns sitter_of person) notices
+
+-- each dispatcher sits at his own desk
+abbrev pub namesake : List ℕ → Option (List ℕ)
+namesake desk = Some desk
 
 -- ---- the bells of a ringer
 
@@ -34,17 +43,12 @@ hung seen seat = record { place = seat.place; bell = seen seat.bell; heard = sea
 
 -- ---- delivery
 
--- the count after this many more notices, up to its limit
-abbrev pub counted : ℕ → List Notice → ℕ
-counted count [] = count
-counted count (notice ∷ more) = counted (after count) more
-
--- the bell has received these notices more
+-- the bell has received these notices more, and its count stops at 2^64 - 1
 pub record Hears (more : List Notice) (old new : Hung) : Type 0 where
   pub place : new.place ≡ old.place
   pub desk : new.bell.desk ≡ old.bell.desk
   pub told : new.bell.heard ≡ option_map (λ all. all ++ more) old.bell.heard
-  pub count : new.heard ≡ counted old.heard more
+  pub count : old.heard < 2 ^ 64 → new.heard ≡ min (old.heard + length more) (2 ^ 64 - 1)
   pub health : GoesOn old.bell.health new.bell.health
 
 -- the bell failed at one of the notices for it and has received those before it
@@ -56,16 +60,21 @@ pub record FailsAmong (wanted : List Notice) (old new : Hung) : Type 0 where
   pub hears : Hears front old new
   pub failed : HasFailed old.bell.health new.bell.health
 
--- Notices are delivered to a bell. A bell that was dropped before receives none. A bell that stays has received all
--- that are for it. A bell that is dropped now has failed at one of these.
-pub record IsRung (notices : List Notice) (old new : Hung) : Type 0 where
+-- Notices are delivered to a bell: to that of a person those that `wanted` gives for him. A bell that was dropped
+-- before receives none. A bell that stays has received all that are for it. A bell that is dropped now has failed at
+-- one of these.
+pub record IsRungFor (wanted : List ℕ → List Notice) (old new : Hung) : Type 0 where
   pub gone : old.stays ≡ false → new ≡ old
-  pub stays : old.stays ≡ true → new.stays ≡ true → Hears (due old.bell.desk notices) old new
-  pub fails : old.stays ≡ true → new.stays ≡ false → FailsAmong (due old.bell.desk notices) old new
+  pub stays : old.stays ≡ true → new.stays ≡ true → Hears (wanted old.bell.desk) old new
+  pub fails : old.stays ≡ true → new.stays ≡ false → FailsAmong (wanted old.bell.desk) old new
 
 -- the same for each bell
+abbrev pub AreRungFor : (List ℕ → List Notice) → List Hung → List Hung → Type 0
+AreRungFor wanted = AllZip (IsRungFor wanted)
+
+-- notices are delivered to each bell while each dispatcher sits at his own desk
 abbrev pub AreRung : List Notice → List Hung → List Hung → Type 0
-AreRung notices = AllZip (IsRung notices)
+AreRung notices = AreRungFor (due namesake notices)
 
 -- ---- bells that are handed in and handed back
 

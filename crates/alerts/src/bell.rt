@@ -6,13 +6,13 @@ ghost use Rattle.desk_io.specs.Health.{GoesOn, HasFailed};
 use crate::notices::Notice;
 use desk_io::{Failed, Text};
 
-/// A receiver of notices about the alerts of a dispatcher's releases.
+/// A receiver of notices about alerts, for a person or for all.
 pub trait Bell {
-    /// The dispatcher, the notices received so far, if contracts know them, and the bell's health. Contracts don't
-    /// know what a bell for people has received.
+    /// The person for whom the bell rings, the notices received so far, if contracts know them, and the bell's health.
+    /// Contracts don't know what a bell outside memory has received.
     ghost seen: { Self → BellSeen };
 
-    /// Returns the dispatcher whose notices the bell receives, or `*` for those of all.
+    /// Returns the person for whom the bell rings, or `*` if it rings for all.
     fn desk(&self) -> &Text
         ensures { result.now ≡ (seen self.now).desk };
 

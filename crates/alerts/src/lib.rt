@@ -7,6 +7,7 @@ mod memory_bell;
 mod notices;
 mod ringer;
 mod seat;
+mod seating;
 
 pub use alert::{Alert, after};
 pub use bell::Bell;
@@ -14,3 +15,4 @@ pub use memory_bell::MemoryBell;
 pub use notices::{Notice, NoticeKind, Notices, notice_of};
 pub use ringer::{Ringer, Unhung};
 pub use seat::Dropped;
+pub use seating::{Namesakes, Seating};

@@ -32,7 +32,7 @@ fn copied(alloc: Global, notice: &Notice) -> Result<Notice, OutOfMemory>
 }
 
 impl MemoryBell {
-    /// Makes a bell for a dispatcher, or for all if `desk` is `*`. It has received nothing yet. It allocates nothing.
+    /// Makes a bell for a person, or for all if `desk` is `*`. It has received nothing yet. It allocates nothing.
     pub fn new(alloc: Global, desk: Text, fail: Vec<u64>) -> Self
         ensures desk { result.desk ≡ desk }
         ensures heard { result.heard ≡ [] }

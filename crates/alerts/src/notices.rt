@@ -17,10 +17,10 @@ pub enum NoticeKind {
     Closed,
 }
 
-/// A notice to a dispatcher about an alert.
+/// A notice about an alert, to whoever sits at the desk of its release.
 #[derive(Debug, Drop)]
 pub struct Notice {
-    /// The dispatcher who receives the notice.
+    /// The desk, which has the name of the release's holder.
     pub desk: Text,
     /// The number of the release.
     pub release: u64,

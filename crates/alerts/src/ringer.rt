@@ -1,9 +1,9 @@
 ghost use Rattle.std.specs.Prelude.{◌≡◌, ◌<◌, ◌≤◌, ◌+◌, ◌++◌, ◌∷◌, [], map, vec_len, vec_capacity, IfOk, IfErr};
-ghost use Rattle.alerts.specs.Ringing.{AreRung, hung, hung_all, fresh_from, staying, dropped, dropped_seen};
+ghost use Rattle.alerts.specs.Ringing.{AreRung, AreRungFor, due, hung, hung_all, fresh_from, staying, dropped, dropped_seen};
 
-use crate::Bell;
 use crate::notices::Notice;
 use crate::seat::{Dropped, Seat, ring_seats};
+use crate::{Bell, Namesakes, Seating};
 use desk_io::OutOfMemory;
 use std::alloc::Global;
 use std::collections::VecDeque;
@@ -127,7 +127,16 @@ impl<B: Bell> Ringer<B> {
     pub fn ring_all(&mut self, notices: &[Notice])
         ensures { AreRung notices.now (hung_all B.seen self.old) (hung_all B.seen self.new) }
     {
-        ring_seats(self.seats.as_mut_slice(), notices);
+        self.ring_seated(&Namesakes, notices);
+    }
+
+    /// Delivers the notices in order, each to the bells of the person who sits at its desk and to those of `*`. A bell
+    /// that fails is dropped, and the others receive everything. It allocates nothing.
+    pub fn ring_seated<S: Seating>(&mut self, seating: &S, notices: &[Notice])
+        ensures { AreRungFor (due (S.sitter_of seating.now) notices.now) (hung_all B.seen self.old)
+            (hung_all B.seen self.new) }
+    {
+        ring_seats(self.seats.as_mut_slice(), seating, notices);
     }
 }
 

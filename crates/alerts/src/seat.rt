@@ -1,9 +1,10 @@
 ghost use Rattle.std.specs.Prelude.{◌≡◌, ◌∷◌, []};
 ghost use Rattle.alerts.specs.Ringing as spec;
-ghost use Rattle.alerts.specs.Ringing.{AreRung, IsRung, hung, hung_all};
+ghost use Rattle.alerts.specs.Ringing.{AreRungFor, IsRungFor, due, hung, hung_all};
 
-use crate::Bell;
 use crate::notices::Notice;
+use crate::seating::is_sitter;
+use crate::{Bell, Seating};
 use desk_io::Failed;
 
 /// A bell of a ringer: its place, from 0, how many notices it has received, and whether it stays.
@@ -25,21 +26,22 @@ pub struct Dropped<B> {
     pub heard: u64,
 }
 
-// Returns true if a bell of this dispatcher, or of `*`, receives the notice.
-fn concerns(desk: &[u8], notice: &Notice) -> bool
-    ensures { result ≡ spec.concerns desk.now notice.now }
+// Returns true if a bell of this person, or of `*`, receives the notice.
+fn concerns<S: Seating>(seating: &S, person: &[u8], notice: &Notice) -> bool
+    ensures { result ≡ spec.concerns (S.sitter_of seating.now) person.now notice.now }
 {
-    desk == b"*".as_slice() || desk == notice.desk.bytes()
+    person == b"*".as_slice() || is_sitter(person, seating.sitter_of(notice.desk.bytes()))
 }
 
 #[tactic(auto, using(crate::proofs::RungLaws::passed, crate::proofs::RungLaws::unheard, crate::proofs::RungLaws::rings, crate::proofs::RungLaws::fails))]
-fn ring_one<B: Bell>(seat: &mut Seat<B>, notice: &Notice)
-    ensures { IsRung (notice.now ∷ []) (hung B.seen seat.old) (hung B.seen seat.new) }
+fn ring_one<B: Bell, S: Seating>(seat: &mut Seat<B>, seating: &S, notice: &Notice)
+    ensures { IsRungFor (due (S.sitter_of seating.now) (notice.now ∷ [])) (hung B.seen seat.old)
+        (hung B.seen seat.new) }
 {
     if !seat.stays {
         return;
     }
-    if !concerns(seat.bell.desk().bytes(), notice) {
+    if !concerns(seating, seat.bell.desk().bytes(), notice) {
         return;
     }
     match seat.bell.ring(notice) {
@@ -49,19 +51,24 @@ fn ring_one<B: Bell>(seat: &mut Seat<B>, notice: &Notice)
 }
 
 // Delivers the notices that concern the bell, in order, until it fails. It is then dropped and receives nothing more.
-fn ring_seat<B: Bell>(seat: &mut Seat<B>, notices: &[Notice])
-    ensures { IsRung notices.now (hung B.seen seat.old) (hung B.seen seat.new) }
+fn ring_seat<B: Bell, S: Seating>(seat: &mut Seat<B>, seating: &S, notices: &[Notice])
+    ensures { IsRungFor (due (S.sitter_of seating.now) notices.now) (hung B.seen seat.old) (hung B.seen seat.new) }
 {
     for notice in notices {
-        ring_one(seat, notice);
+        ring_one(seat, seating, notice);
     }
 }
 
 /// Delivers to each bell the notices that concern it.
-pub(crate) fn ring_seats<B: Bell>(seats: &mut [Seat<B>], notices: &[Notice])
-    ensures { AreRung notices.now (hung_all B.seen seats.old) (hung_all B.seen seats.new) }
+pub(crate) fn ring_seats<B: Bell, S: Seating>(
+    seats: &mut [Seat<B>],
+    seating: &S,
+    notices: &[Notice],
+)
+    ensures { AreRungFor (due (S.sitter_of seating.now) notices.now) (hung_all B.seen seats.old)
+        (hung_all B.seen seats.new) }
 {
     for seat in seats.iter_mut() {
-        ring_seat(seat, notices);
+        ring_seat(seat, seating, notices);
     }
 }

@@ -265,8 +265,9 @@ impl Board {
 
     /// Returns the board's moment, which is the latest that it has reached. The second clause states what always
     /// holds of a board. Its history is legal from the opening state, and each person's accepted calls appear in it
-    /// once. Each active release has no alert and fails no rule, or has one alert that names exactly the rules that
-    /// it fails. Each active revision has both signatures, and each part of the state has its forms.
+    /// once. Active plans change only at concurrences. Each active release has no alert and fails no rule, or has one
+    /// alert that names exactly the rules that it fails. Each active revision has both signatures, and each part of the
+    /// state has its forms.
     pub fn now(&self) -> Minute
         ensures moment { result ≡ self.now.state.moment }
         ensures board { IsBoard self.now.opening self.now.state }

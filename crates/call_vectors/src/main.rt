@@ -8,6 +8,7 @@
 //! 8 if the arguments didn't fit into memory.
 #![tactic(auto)]
 
+mod advice;
 mod fields;
 mod operations;
 mod reports;
@@ -30,6 +31,8 @@ fn passes(alloc: Global, case: &Value, small: &Files) -> Result<bool, OutOfMemor
         reports::controls(alloc, case)
     } else if has_key(case, "data_hex") {
         tables::faults(alloc, case, small)
+    } else if has_key(case, "advice") {
+        advice::advises(alloc, case, small)
     } else if has_key(case, "tables") {
         operations::minima(alloc, case, small)
     } else if has_key(case, "raised") {

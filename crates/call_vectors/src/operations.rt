@@ -22,8 +22,8 @@ fn header_of(text: &[u8]) -> &[u8] {
     }
 }
 
-// Adds the tables that a case gives.
-fn push_given(alloc: Global, files: &mut Files, tables: &Value) -> Result<(), OutOfMemory> {
+/// Adds the tables that a case gives.
+pub fn push_given(alloc: Global, files: &mut Files, tables: &Value) -> Result<(), OutOfMemory> {
     for name in &NAMES {
         if let Some(text) = text_at(tables, name) {
             push_file(alloc, files, name, text.as_bytes())?;
@@ -227,7 +227,8 @@ fn alternate_of(value: &Value) -> Option<Alternate> {
     })
 }
 
-fn alternates_in(alloc: Global, case: &Value) -> Result<Alternates, OutOfMemory> {
+/// The alternates at the key `alternates`.
+pub fn alternates_in(alloc: Global, case: &Value) -> Result<Alternates, OutOfMemory> {
     let mut alternates = Listed::new(alloc);
     for value in items_at(case, "alternates") {
         if let Some(alternate) = alternate_of(value) {

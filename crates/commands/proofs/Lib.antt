@@ -1,4 +1,5 @@
 pub mod Reading
 pub mod Opened
+pub mod InputLaws
 pub mod Says
 pub mod RungLaws

@@ -1,12 +1,12 @@
 -- The work on a desk that was opened, over the rows before it was.
-use Rattle.std.proofs.Common.{◌≡◌, ℕ, ◌≤◌, Bool, true, List, [], map, Option, None, Some, ap, ◌∙◌, subst, sym, arith}
+use Rattle.std.proofs.Common.{◌≡◌, ℕ, ◌≤◌, Bool, true, List, [], map, Option, None, Some, ap, ◌∙◌, refl, inr, subst, sym, arith}
 use Rattle.std.specs.Prelude.{Ok, Err}
 use Rattle.std.specs.List.{concat}
 use Rattle.alerts.specs.Seen.{BellSeen}
-use Rattle.desk.specs.Below.{Shown, shown}
+use Rattle.desk.specs.Below.{Record, Shown, shown}
 use Rattle.desk.proofs.Choices.{rise_lower, rise_within}
 use Rattle.desk.specs.Keeping.{KeepsState, numbers_of}
-use Rattle.desk.specs.Opening.{IsLeft, IsOfKeeper, IsOpened, IsWhy, MayHaveAsked, TellsRowsOf, board_of}
+use Rattle.desk.specs.Opening.{AreAsked, IsLeft, IsOfKeeper, IsOpened, IsWhy, MayHaveAsked, TellsRowsOf, board_of}
 use Rattle.desk.specs.declared.opening.OpenWhy.{OpenWhy}
 use Rattle.desk.specs.InPart.{AreGivenInPart}
 use Rattle.desk.specs.Run.{IsRun}
@@ -21,9 +21,11 @@ use Rattle.desk_state.specs.Sound.{IsBoard}
 use Rattle.desk_state.specs.State.{State}
 use Rattle.desk_state.specs.declared.lanes.Item.{Item}
 use Rattle.ops_tables.specs.Tables.{TableRows}
+use Rattle.row_changes.specs.Held.{meta_in, state_by, state_in}
+use Rattle.row_changes.specs.Opening.{reopened}
 use Rattle.commands.specs.Faults.{Outcome, of_opening}
 use Rattle.commands.specs.Seen.{lent as lent_over, Lent}
-use Rattle.commands.specs.Working.{Opens, Ends, desk_over, since}
+use Rattle.commands.specs.Working.{AsksAfter, AsksToOpen, Opens, Ends, desk_over, since}
 use Rattle.commands.specs.declared.fault.Fault.TheVariants.{OutOfMemory}
 use Rattle.commands.specs.declared.working.Ended.{Ended}
 
@@ -75,6 +77,15 @@ not_opened seen tables Works lent kept why said answer_is board_is keeper_is is 
 pub opened_fresh : (told : Option Rows) (tables : TableRows) (b : Shown) → IsOpened told tables b → IsBoard b.opening b.state → b.state.entries ≡ []
 opened_fresh told tables b opened holds =
     ap (λ (x : Shown). x.state.entries) opened.shows ∙ sym (ap (λ (x : Shown). x.opening.entries) opened.shows) ∙ holds.history.empty
+
+state_tables : (tables : TableRows) (records : List Record) (o : _) → (state_by tables o records).tables ≡ tables
+state_tables tables records None = refl
+state_tables tables records (Some m) = refl
+
+-- it is opened under the tables
+pub opened_tables : (told : Option Rows) (tables : TableRows) (b : Shown) → IsOpened told tables b → b.state.tables ≡ tables
+unfolding reopened state_in
+opened_tables told tables b opened = ap (λ (x : Shown). x.state.tables) opened.shows ∙ state_tables tables opened.records (meta_in opened.records)
 
 -- it is one that was opened, when its board holds its entries too
 pub held_opened : (told : Option Rows) (tables : TableRows) (b c : Shown) → IsOpened told tables b → c ≡ shown b.opening b.state None true → IsOpened told tables c
@@ -135,3 +146,22 @@ pub opens_with : (tables : TableRows) (P Q : Over DeskAt → Outcome → Type 0)
     → Opens tables P keeper board answer → Opens tables Q keeper board answer
 opens_with tables P Q keeper None answer more opens = opens
 opens_with tables P Q keeper (Some board) answer more opens = (opens.0, more (desk_over keeper board) opens.1)
+
+-- ---- what was asked of the keeper
+
+pub asked_after : {K B : Type 0} (seen : K → KeeperSeen) (tables : TableRows) (Asks : KeeperSeen → KeeperSeen → Type 0) (lent opened done : K) (board : Shown) (said : Ended K B)
+    → said.board ≡ Some board → said.keeper ≡ done → AreAsked (seen lent).rows tables (seen lent).commits (seen opened).commits → Asks (seen opened) (seen done)
+    → AsksAfter Asks tables (lent_over seen lent said.keeper) said.board
+asked_after seen tables Asks lent opened done board said board_is keeper_is asked asks =
+    subst (λ k. AsksAfter Asks tables (lent_over seen lent k) said.board) (sym keeper_is)
+    (subst (λ b. AsksAfter Asks tables (lent_over seen lent done) b) (sym board_is) (seen opened, asked, asks))
+
+pub asked_nothing : {K B : Type 0} (tables : TableRows) (Asks : KeeperSeen → KeeperSeen → Type 0) (keeper : Lent) (said : Ended K B) → said.board ≡ None → AsksAfter Asks tables keeper said.board
+asked_nothing tables Asks keeper said none = subst (AsksAfter Asks tables keeper) (sym none) tt
+
+-- work that asks for no commit: at most that of opening is requested
+pub asked_to_open : (tables : TableRows) (Works : Over DeskAt → Outcome → Type 0) (keeper : Lent) (board : Option Shown) (answer : Outcome) → Opens tables Works keeper board answer
+    → AsksAfter (λ opened after. after.commits ≡ opened.commits) tables keeper board → AsksToOpen tables keeper
+asked_to_open tables Works keeper None answer opens asks = opens.asked
+asked_to_open tables Works keeper (Some board) answer opens asks =
+    inr (subst (λ n. AreAsked keeper.before.rows tables keeper.before.commits n) (sym asks.2) asks.1)

@@ -27,19 +27,19 @@ use Rattle.table_files.specs.Files.{files, name_of}
 use Rattle.table_files.specs.Whole.{ReadsTables, RoseAt, StopsAtMissing, Told}
 use Rattle.table_files.specs.declared.faults.TableFault.{TableFault}
 use Rattle.table_files.specs.declared.faults.TableFault.TheVariants as table
-use Rattle.words.specs.declared.task.DeskTask.TheVariants.{Run, Race, Serve, Import, Make}
+use Rattle.words.specs.declared.task.DeskTask.TheVariants.{Run, Race, Serve, Import, Make, Advise}
 use Rattle.words.specs.declared.task.Task.{Task}
 use Rattle.words.specs.declared.task.Task.TheVariants.{Weather, Desk}
 use Rattle.commands.proofs.Reading.{after_files, among_here, none_long, none_missing}
 use Rattle.commands.specs.Answers.{AreKeptOver, HasDoor, IsDone, IsUntouched, Says, Writes, IsRefusal, ReadsUnder, WorksUnder}
-use Rattle.commands.specs.Complete.{AreFaultless, AreGood, AreHeaded, AreShort, IsTooLong}
+use Rattle.commands.specs.Complete.{AreFaultless, AreGood, AllPass, AreShort, IsTooLong}
 use Rattle.commands.specs.Faults.{Gives, Outcome, of_opening, of_tables, status_of_fault}
 use Rattle.commands.specs.Seen.{Lent, Service, lent as lent_over, service}
 use Rattle.commands.specs.Sources.{ReadsFiles, ReadsSources, SourceFails, SourcesFail, TablesFail, first_of, sources_of, AreWhole}
 use Rattle.commands.specs.Weather.{weather_text}
 use Rattle.commands.specs.Working.{EndSays, Opens, desk_over, AsksNothing, Does, Ends, serves}
 use Rattle.commands.specs.declared.fault.Fault.{Fault}
-use Rattle.commands.specs.declared.fault.Fault.TheVariants.{Usage, ReadFault, WriteFault, KeeperFault, BadTable, BadRow, BadPair, OutOfMemory, DoorFault, InputTooLong, ClockFault}
+use Rattle.commands.specs.declared.fault.Fault.TheVariants.{Usage, ReadFault, WriteFault, KeeperFault, BadTable, BadRow, BadPair, OutOfMemory, DoorFault, InputTooLong, ClockFault, BadInput}
 use Rattle.words.specs.declared.task.DeskTask.{DeskTask}
 
 -- ---- what a fault tells
@@ -54,6 +54,7 @@ pub record Charges : Type 1 where
   keeper : Type 0
   door : Type 0
   clock : Type 0
+  input : Type 0
 
 abbrev pub Tells : Charges → Fault → Type 0
 Tells of Usage = of.words
@@ -67,6 +68,7 @@ Tells of OutOfMemory = Unit {0}
 Tells of DoorFault = of.door
 Tells of (InputTooLong name) = of.long
 Tells of ClockFault = of.clock
+Tells of (BadInput bad) = of.input
 
 abbrev TellsBy : Charges → Outcome → Type 0
 TellsBy of answer = IfErr answer (Tells of)
@@ -156,13 +158,14 @@ module _ {K C D L : Type 0} (k : K → KeeperSeen) (c : C → ClockSeen) (d : D 
   abbrev pub charges : Option (Task × List (List ℕ)) → Charges
   charges command = record {
     words = command ≡ None;
-    tables = AreGood shelf.before.sources × AreHeaded shelf.before.sources command → ⊥;
+    tables = AreGood shelf.before.sources × AllPass shelf.before.sources command → ⊥;
     long = HasLong shelf.before.sources (sources_of command);
     rows = (AreFaultless (k lent).rows → ⊥) × (AreLeft (k lent).rows → ⊥);
     shelf = Misses shelf (sources_of command);
     keeper = HasFailed (k lent).health (k kept).health;
     door = RoseOrFull (d door_old).health.faults (d door_new).health.faults × (HasDoor (d door_old) command → ⊥);
     clock = HasFailed (c clock_old).health (c clock_new).health;
+    input = AllPass shelf.before.sources command → ⊥;
   }
 
   abbrev IsStill : Type 0
@@ -232,10 +235,11 @@ module _ {K C D L : Type 0} (k : K → KeeperSeen) (c : C → ClockSeen) (d : D 
       (sources_tell (charges (Some (Weather, names))) shelf names (λ misses. misses) (λ long. long) names (λ P all. all) fault reads)
 
   -- what the work of each command tells
-  does_served : (task : DeskTask) (names texts : List (List ℕ)) (desk : Over DeskAt) (answer : Outcome) → (serves task ≡ false → serving.idle) → Does task texts serving desk answer → Served (Some (Desk task, names)) answer
-  does_served Run names texts desk answer idle does = idle_served (Some (Desk Run, names)) answer (idle refl) (ends_tell (charges (Some (Desk Run, names))) _ _ answer does)
-  does_served Race names texts desk answer idle does = idle_served (Some (Desk Race, names)) answer (idle refl) (ends_tell (charges (Some (Desk Race, names))) _ _ answer does)
-  does_served (Serve port most) names texts desk answer idle does = record {
+  does_served : (task : DeskTask) (names : List (List ℕ)) (tables : TableRows) (texts : List (List ℕ)) (desk : Over DeskAt) (answer : Outcome) → (serves task ≡ false → serving.idle) → Does task tables texts serving desk answer
+      → Served (Some (Desk task, names)) answer
+  does_served Run names tables texts desk answer idle does = idle_served (Some (Desk Run, names)) answer (idle refl) (ends_tell (charges (Some (Desk Run, names))) _ _ answer does)
+  does_served Race names tables texts desk answer idle does = idle_served (Some (Desk Race, names)) answer (idle refl) (ends_tell (charges (Some (Desk Race, names))) _ _ answer does)
+  does_served (Serve port most) names tables texts desk answer idle does = record {
     clock = does.clock;
     door = does.door;
     still = end_still does.end desk.after.state answer does.says does.still;
@@ -243,34 +247,37 @@ module _ {K C D L : Type 0} (k : K → KeeperSeen) (c : C → ClockSeen) (d : D 
         (λ is. (does.served.by_clock is).0)
         (λ is. (door_failed _ most does.served.served.visits does.end does.served.served.ends is, λ has. does.steady_door has.0 has.1 is));
   }
-  does_served Import names texts desk answer idle does = idle_served (Some (Desk Import, names)) answer (idle refl) (ends_tell (charges (Some (Desk Import, names))) _ _ answer does.2)
-  does_served (Make number count) names texts desk answer idle does = idle_served (Some (Desk (Make number count), names)) answer (idle refl) (ends_tell (charges (Some (Desk (Make number count), names))) _ _ answer does)
+  does_served Import names tables texts desk answer idle does = idle_served (Some (Desk Import, names)) answer (idle refl) (ends_tell (charges (Some (Desk Import, names))) _ _ answer does.2)
+  does_served (Make number count) names tables texts desk answer idle does = idle_served (Some (Desk (Make number count), names)) answer (idle refl) (ends_tell (charges (Some (Desk (Make number count), names))) _ _ answer does)
+  does_served Advise names tables texts desk answer idle does = idle_served (Some (Desk Advise, names)) answer (idle refl) (gives_tells (charges (Some (Desk Advise, names))) _ answer does.3.0)
 
-  -- no desk was opened for a bad record in the sources
-  refusal_tells : (task : DeskTask) (names texts : List (List ℕ)) (answer : Outcome) → AreWhole shelf.before.sources names texts → IsRefusal task names texts answer
-      → TellsBy (charges (Some (Desk task, names))) answer
-  refusal_tells task names texts (Err (BadTable bad)) whole is = λ good. good.1 texts bad whole is
-  refusal_tells task names texts (Err OutOfMemory) whole is = tt
-  refusal_tells task names texts (Err other) whole is = absurd is
-  refusal_tells task names texts (Ok text) whole is = absurd is
+  -- no desk was opened for a fault in the sources
+  refusal_tells : (task : DeskTask) (names : List (List ℕ)) (tables : TableRows) (texts : List (List ℕ)) (answer : Outcome) → ReadsTables shelf.before.sources (Ok tables) → AreWhole shelf.before.sources names texts
+      → IsRefusal task tables names texts answer → TellsBy (charges (Some (Desk task, names))) answer
+  refusal_tells task names tables texts (Err (BadTable bad)) under whole is = λ good. good.1 tables texts (BadTable bad) under whole is
+  refusal_tells task names tables texts (Err (BadInput bad)) under whole is = λ good. good tables texts (BadInput bad) under whole is
+  refusal_tells task names tables texts (Err OutOfMemory) under whole is = tt
+  refusal_tells task names tables texts (Err other) under whole is = absurd is
+  refusal_tells task names tables texts (Ok text) under whole is = absurd is
 
-  work_follows : (task : DeskTask) (names : List (List ℕ)) (tables : TableRows) (texts : List (List ℕ)) (board : Option Shown) (answer : Outcome) → AreWhole shelf.before.sources names texts
-      → WorksUnder tables (Does task texts serving) rows_over task names texts board answer → AsksNothing task board serving.idle → Follows (Some (Desk task, names)) board answer
-  work_follows task names tables texts board answer whole (inl works) asks =
-      opens_follow (Some (Desk task, names)) tables (Does task texts serving) board answer works.0 works.1 asks.1 (λ desk does. does_served task names texts desk answer asks.0 does)
-  work_follows task names tables texts board answer whole (inr refused) asks =
-      untouched_follows (Some (Desk task, names)) board answer refused.1 (asks.1 refused.1.none) (refusal_tells task names texts answer whole refused.0)
+  work_follows : (task : DeskTask) (names : List (List ℕ)) (tables : TableRows) (texts : List (List ℕ)) (board : Option Shown) (answer : Outcome) → ReadsTables shelf.before.sources (Ok tables)
+      → AreWhole shelf.before.sources names texts → WorksUnder tables (Does task tables texts serving) rows_over task names texts board answer → AsksNothing task board serving.idle → Follows (Some (Desk task, names)) board answer
+  work_follows task names tables texts board answer under whole (inl works) asks =
+      opens_follow (Some (Desk task, names)) tables (Does task tables texts serving) board answer works.1 works.3 asks.1 (λ desk does. does_served task names tables texts desk answer asks.0 does)
+  work_follows task names tables texts board answer under whole (inr refused) asks =
+      untouched_follows (Some (Desk task, names)) board answer refused.1 (asks.1 refused.1.none) (refusal_tells task names tables texts answer under whole refused.0)
 
-  under_follows : (task : DeskTask) (names : List (List ℕ)) (tables : TableRows) (board : Option Shown) (answer : Outcome) (read : Result (List (List ℕ)) Fault) → ReadsSources shelf names read
-      → MatchResult read (λ texts. WorksUnder tables (Does task texts serving) rows_over task names texts board answer) (IsFault board answer) → AsksNothing task board serving.idle → Follows (Some (Desk task, names)) board answer
-  under_follows task names tables board answer (Ok texts) reads does asks = work_follows task names tables texts board answer reads does asks
-  under_follows task names tables board answer (Err fault) reads does asks =
+  under_follows : (task : DeskTask) (names : List (List ℕ)) (tables : TableRows) (board : Option Shown) (answer : Outcome) (read : Result (List (List ℕ)) Fault) → ReadsTables shelf.before.sources (Ok tables)
+      → ReadsSources shelf names read → MatchResult read (λ texts. WorksUnder tables (Does task tables texts serving) rows_over task names texts board answer) (IsFault board answer) → AsksNothing task board serving.idle
+      → Follows (Some (Desk task, names)) board answer
+  under_follows task names tables board answer (Ok texts) under reads does asks = work_follows task names tables texts board answer under reads does asks
+  under_follows task names tables board answer (Err fault) under reads does asks =
       told_follows (Some (Desk task, names)) board answer fault does (asks.1 does.1.none)
       (sources_tell (charges (Some (Desk task, names))) shelf (map name_of files ++ names) (λ misses. misses) (λ long. long) names (λ P all. after_files P name_of files names all) fault reads)
 
   desk_follows : (task : DeskTask) (names : List (List ℕ)) (board : Option Shown) (answer : Outcome) (read : Result TableRows Fault) → ReadsFiles shelf read
       → MatchResult read (λ tables. ReadsUnder tables shelf serving rows_over task names board answer) (IsFault board answer) → AsksNothing task board serving.idle → Follows (Some (Desk task, names)) board answer
-  desk_follows task names board answer (Ok tables) reads does asks = under_follows task names tables board answer does.0 does.1 does.2 asks
+  desk_follows task names board answer (Ok tables) reads does asks = under_follows task names tables board answer does.0 reads does.1 does.2 asks
   desk_follows task names board answer (Err fault) reads does asks =
       told_follows (Some (Desk task, names)) board answer fault does (asks.1 does.1.none)
       (files_tell (charges (Some (Desk task, names))) shelf (map name_of files ++ names) (λ misses. misses) (λ long. long) names refl (λ bad good. bad good.0) fault reads)
@@ -290,14 +297,14 @@ module _ {K C D L : Type 0} (k : K → KeeperSeen) (c : C → ClockSeen) (d : D 
 abbrev pub Cause : (still sink : Type 0) → Charges → ℕ → Type 0
 Cause still sink of n =
     MatchBool (n == 0) still (MatchBool (n == 2) of.words (MatchBool (n == 3) of.shelf (MatchBool (n == 4) sink (MatchBool (n == 5) of.keeper (MatchBool (n == 6) of.tables
-    (MatchBool (n == 7) of.rows (MatchBool (n == 9) of.door (MatchBool (n == 10) of.long (MatchBool (n == 11) of.clock (Unit {0}))))))))))
+    (MatchBool (n == 7) of.rows (MatchBool (n == 9) of.door (MatchBool (n == 10) of.long (MatchBool (n == 11) of.clock (MatchBool (n == 12) of.input (Unit {0})))))))))))
 
 module _ (of : Charges) (sink : Over SinkSeen) where
   abbrev Failed : Type 0
   Failed = HasFailed sink.before.health sink.after.health
 
   module _ (P : ℕ → Type 0) (two : of.words → P 2) (three : of.shelf → P 3) (four : Failed → P 4) (five : of.keeper → P 5) (six : of.tables → P 6) (seven : of.rows → P 7) (eight : P 8) (nine : of.door → P 9)
-      (ten : of.long → P 10) (eleven : of.clock → P 11) where
+      (ten : of.long → P 10) (eleven : of.clock → P 11) (twelve : of.input → P 12) where
     by_fault : (fault : Fault) → Tells of fault → P (status_of_fault fault)
     by_fault Usage says = two says
     by_fault (ReadFault name) says = three says
@@ -310,6 +317,7 @@ module _ (of : Charges) (sink : Over SinkSeen) where
     by_fault DoorFault says = nine says
     by_fault (InputTooLong name) says = ten says
     by_fault ClockFault says = eleven says
+    by_fault (BadInput bad) says = twelve says
 
     by_status : (answer : Outcome) (status : ℕ) → IfOk answer (λ text. P 0) → TellsBy of answer → Writes sink answer status → P status
     by_status (Ok text) status is says (inl (said, has, same, wrote)) = subst P (sym same) is
@@ -318,18 +326,18 @@ module _ (of : Charges) (sink : Over SinkSeen) where
     by_status answer status is says (inr (inr wrote)) = subst P (sym wrote.0) eight
 
   pub status_cause : (still : Type 0) (answer : Outcome) (status : ℕ) → IfOk answer (λ text. still) → TellsBy of answer → Writes sink answer status → Cause still Failed of status
-  status_cause still = by_status (Cause still Failed of) (λ is. is) (λ is. is) (λ is. is) (λ is. is) (λ is. is) (λ is. is) tt (λ is. is) (λ is. is) (λ is. is)
+  status_cause still = by_status (Cause still Failed of) (λ is. is) (λ is. is) (λ is. is) (λ is. is) (λ is. is) (λ is. is) tt (λ is. is) (λ is. is) (λ is. is) (λ is. is)
 
   -- over an outside that is sound
   pub status_remains : (of.shelf → ⊥) → (Failed → ⊥) → (of.keeper → ⊥) → (of.door → ⊥) → (of.clock → ⊥) → (answer : Outcome) (status : ℕ) → TellsBy of answer → Writes sink answer status
-      → Contains (0 ∷ 2 ∷ 6 ∷ 7 ∷ 8 ∷ 10 ∷ []) status
+      → Contains (0 ∷ 2 ∷ 6 ∷ 7 ∷ 8 ∷ 10 ∷ 12 ∷ []) status
   status_remains s o k d c answer status says wrote =
-      by_status (Contains (0 ∷ 2 ∷ 6 ∷ 7 ∷ 8 ∷ 10 ∷ [])) (λ is. (1, omega arith, refl)) (λ is. absurd (s is)) (λ is. absurd (o is)) (λ is. absurd (k is)) (λ is. (2, omega arith, refl))
-      (λ is. (3, omega arith, refl)) (4, omega arith, refl) (λ is. absurd (d is)) (λ is. (5, omega arith, refl)) (λ is. absurd (c is)) answer status (ok_any answer (0, omega arith, refl)) says wrote
+      by_status (Contains (0 ∷ 2 ∷ 6 ∷ 7 ∷ 8 ∷ 10 ∷ 12 ∷ [])) (λ is. (1, omega arith, refl)) (λ is. absurd (s is)) (λ is. absurd (o is)) (λ is. absurd (k is)) (λ is. (2, omega arith, refl))
+      (λ is. (3, omega arith, refl)) (4, omega arith, refl) (λ is. absurd (d is)) (λ is. (5, omega arith, refl)) (λ is. absurd (c is)) (λ is. (6, omega arith, refl)) answer status (ok_any answer (0, omega arith, refl)) says wrote
 
   -- where all that is read is valid, and no fault was counted
-  pub status_done : (of.words → ⊥) → (of.shelf → ⊥) → (Failed → ⊥) → (of.keeper → ⊥) → (of.tables → ⊥) → (of.rows → ⊥) → (of.door → ⊥) → (of.long → ⊥) → (of.clock → ⊥)
+  pub status_done : (of.words → ⊥) → (of.shelf → ⊥) → (Failed → ⊥) → (of.keeper → ⊥) → (of.tables → ⊥) → (of.rows → ⊥) → (of.door → ⊥) → (of.long → ⊥) → (of.clock → ⊥) → (of.input → ⊥)
       → (answer : Outcome) (status : ℕ) → TellsBy of answer → Writes sink answer status → Contains (0 ∷ 8 ∷ []) status
-  status_done w s o k t r d l c answer status says wrote =
+  status_done w s o k t r d l c i answer status says wrote =
       by_status (Contains (0 ∷ 8 ∷ [])) (λ is. absurd (w is)) (λ is. absurd (s is)) (λ is. absurd (o is)) (λ is. absurd (k is)) (λ is. absurd (t is)) (λ is. absurd (r is)) (1, omega arith, refl)
-      (λ is. absurd (d is)) (λ is. absurd (l is)) (λ is. absurd (c is)) answer status (ok_any answer (0, omega arith, refl)) says wrote
+      (λ is. absurd (d is)) (λ is. absurd (l is)) (λ is. absurd (c is)) (λ is. absurd (i is)) answer status (ok_any answer (0, omega arith, refl)) says wrote

@@ -1,5 +1,5 @@
 -- When only out of memory can stop a command.
-use Rattle.std.specs.Prelude.{◌≢◌, ◌<◌, ℕ, List, Option, None, Some, Err, All, IsSome, length}
+use Rattle.std.specs.Prelude.{◌≢◌, ◌<◌, ℕ, List, Option, None, Some, Ok, Err, All, IsSome, length}
 use Rattle.desk.specs.Opening.{OnLoaded}
 use Rattle.desk_io.specs.Health.{Health, RoseOrFull}
 use Rattle.desk_io.specs.Over.{Over}
@@ -8,6 +8,7 @@ use Rattle.desk_io.specs.Seen.{ShelfSeen, SinkSeen}
 use Rattle.desk_io.specs.Told.{OnSource}
 use Rattle.desk.specs.Below.{IsFaultOf, RowsFault}
 use Rattle.desk.specs.Below.RowsFaultVariants as fault
+use Rattle.ops_tables.specs.Tables.{TableRows}
 use Rattle.table_files.specs.Whole.{ReadsTables, Told}
 use Rattle.table_files.specs.declared.faults.BadTable.{BadTable}
 use Rattle.table_files.specs.declared.faults.TableFault.TheVariants as table
@@ -15,7 +16,8 @@ use Rattle.words.specs.declared.task.Task.{Task}
 use Rattle.words.specs.declared.task.Task.TheVariants.{Weather, Desk}
 use Rattle.commands.specs.Seen.{Lent, Service}
 use Rattle.commands.specs.Sources.{AreWhole, sources_of}
-use Rattle.commands.specs.Working.{HasBadRecord}
+use Rattle.commands.specs.Working.{HasFault}
+use Rattle.commands.specs.declared.fault.Fault.{Fault}
 
 -- no table has a bad record
 abbrev pub AreGood : Told → Type 0
@@ -29,14 +31,16 @@ IsTooLong sources name = OnSource sources name (λ bytes. 67_108_864 < length by
 abbrev pub AreShort : Told → List (List ℕ) → Type 0
 AreShort sources names = All (λ name. IsTooLong sources name → ⊥) names
 
--- the sources of a command have no bad record: a file to import has its header
-abbrev pub IsHeaded : Told → Task → List (List ℕ) → Type 0
-IsHeaded sources Weather names = Unit {0}
-IsHeaded sources (Desk task) names = (texts : List (List ℕ)) (bad : BadTable) → AreWhole sources names texts → HasBadRecord task names texts bad → ⊥
+-- The sources of a command have no fault under the tables: a file to import has its header, and a plan and its
+-- candidates pass their tests.
+abbrev pub ArePassing : Told → Task → List (List ℕ) → Type 0
+ArePassing sources Weather names = Unit {0}
+ArePassing sources (Desk task) names =
+    (tables : TableRows) (texts : List (List ℕ)) (stop : Fault) → ReadsTables sources (Ok tables) → AreWhole sources names texts → HasFault task tables names texts stop → ⊥
 
-abbrev pub AreHeaded : Told → Option (Task × List (List ℕ)) → Type 0
-AreHeaded sources None = Unit {0}
-AreHeaded sources (Some command) = IsHeaded sources command.0 command.1
+abbrev pub AllPass : Told → Option (Task × List (List ℕ)) → Type 0
+AllPass sources None = Unit {0}
+AllPass sources (Some command) = ArePassing sources command.0 command.1
 
 -- the keeper's rows, if they are known, have no fault
 abbrev pub AreFaultless : Option Rows → Type 0
@@ -46,7 +50,7 @@ AreFaultless told = (why : RowsFault) → why ≢ fault.OutOfMemory → OnLoaded
 pub record IsValid (shelf : ShelfSeen) (rows : Option Rows) (command : Option (Task × List (List ℕ))) : Type 0 where
   pub formed : IsSome command
   pub tables : AreGood shelf.sources
-  pub headed : AreHeaded shelf.sources command
+  pub passing : AllPass shelf.sources command
   pub short : AreShort shelf.sources (sources_of command)
   pub faultless : AreFaultless rows
 

@@ -10,8 +10,13 @@ use Rattle.table_files.specs.declared.faults.TableFault.{TableFault}
 use Rattle.table_files.specs.declared.faults.TableFault.TheVariants as table
 use Rattle.table_files.specs.declared.faults.TableWhy.{TableWhy}
 use Rattle.table_files.specs.declared.faults.TableWhy.TheVariants.{BadField, Doubled, Unlinked, OverLimit}
+use Rattle.candidate_files.specs.declared.fields.CandidateWhy.{CandidateWhy}
+use Rattle.candidate_files.specs.declared.fields.CandidateWhy.TheVariants as candidate_why
+use Rattle.commands.specs.declared.fault.BadInput.{BadInput as ABadInput}
+use Rattle.commands.specs.declared.fault.InputWhy.{InputWhy}
+use Rattle.commands.specs.declared.fault.InputWhy.TheVariants as input_why
 use Rattle.commands.specs.declared.fault.Fault.{Fault}
-use Rattle.commands.specs.declared.fault.Fault.TheVariants.{Usage, ReadFault, WriteFault, KeeperFault, BadTable, BadRow, BadPair, OutOfMemory, DoorFault, InputTooLong, ClockFault}
+use Rattle.commands.specs.declared.fault.Fault.TheVariants.{Usage, ReadFault, WriteFault, KeeperFault, BadTable, BadRow, BadPair, OutOfMemory, DoorFault, InputTooLong, ClockFault, BadInput}
 
 abbrev pub Outcome : Type 0
 Outcome = Result (List ℕ) Fault
@@ -28,6 +33,7 @@ status_of_fault OutOfMemory = 8
 status_of_fault DoorFault = 9
 status_of_fault (InputTooLong name) = 10
 status_of_fault ClockFault = 11
+status_of_fault (BadInput bad) = 12
 
 abbrev pub status_of : Outcome → ℕ
 status_of (Ok text) = 0
@@ -41,9 +47,27 @@ why_name Doubled = codes "Doubled"
 why_name Unlinked = codes "Unlinked"
 why_name OverLimit = codes "OverLimit"
 
--- a table's name, the number of its first bad record, and why that record is bad
+abbrev pub candidate_why_name : CandidateWhy → List ℕ
+candidate_why_name candidate_why.OverLimit = codes "OverLimit"
+candidate_why_name candidate_why.BadField = codes "BadField"
+candidate_why_name candidate_why.Doubled = codes "Doubled"
+
+abbrev pub input_why_name : InputWhy → List ℕ
+input_why_name input_why.NotPlan = codes "NotPlan"
+input_why_name input_why.BadPlan = codes "BadPlan"
+input_why_name (input_why.Candidate why) = candidate_why_name why
+
+-- a line that ends with a file's name, the number of its first bad record, and why that record is bad
+abbrev pub at_record : (front name : List ℕ) → ℕ → List ℕ → List ℕ
+at_record front name number why = front ++ name ++ codes " " ++ decimal number ++ codes " " ++ why ++ codes "\n"
+
+-- the first bad record of a table
 abbrev pub bad_table : ABadTable → List ℕ
-bad_table bad = codes "error 6 BadTable " ++ bad.name ++ codes " " ++ decimal bad.line ++ codes " " ++ why_name bad.why ++ codes "\n"
+bad_table bad = at_record (codes "error 6 BadTable ") bad.name bad.line (why_name bad.why)
+
+-- a bad plan, or the first bad record of its candidates
+abbrev pub bad_input : ABadInput → List ℕ
+bad_input bad = at_record (codes "error 12 BadInput ") bad.name bad.line (input_why_name bad.why)
 
 abbrev pub row_why_name : RowWhy → List ℕ
 row_why_name row_why.NotCanonical = codes "NotCanonical"
@@ -76,6 +100,7 @@ line_of OutOfMemory = None
 line_of DoorFault = Some (codes "error 9 DoorFault\n")
 line_of (InputTooLong name) = Some (codes "error 10 InputTooLong " ++ name ++ codes "\n")
 line_of ClockFault = Some (codes "error 11 ClockFault\n")
+line_of (BadInput bad) = Some (bad_input bad)
 
 abbrev pub text_of : Outcome → Option (List ℕ)
 text_of (Ok text) = Some text
@@ -100,3 +125,9 @@ abbrev pub Gives : (List ℕ → Type 0) → Outcome → Type 0
 Gives P (Ok text) = P text
 Gives P (Err OutOfMemory) = Unit {0}
 Gives P (Err other) = ⊥
+
+-- the fault is a bad input of which this holds; out of memory is always allowed
+abbrev pub OnInput : (ABadInput → Type 0) → Fault → Type 0
+OnInput P (BadInput bad) = P bad
+OnInput P OutOfMemory = Unit {0}
+OnInput P other = ⊥

@@ -2,6 +2,7 @@ pub mod Seen
 pub mod Faults
 pub mod Weather
 pub mod Sources
+pub mod Inputs
 pub mod Working
 pub mod Answers
 pub mod Complete

@@ -21,6 +21,12 @@ abbrev pub first_of : List (List ℕ) → List ℕ
 first_of [] = []
 first_of (name ∷ rest) = name
 
+-- the second of the names or texts, for a command that reads two
+abbrev pub second_of : List (List ℕ) → List ℕ
+second_of [] = []
+second_of (name ∷ []) = []
+second_of (name ∷ other ∷ rest) = other
+
 -- the sources that a command reads, in the order of reading
 abbrev pub sources_for : Task → List (List ℕ) → List (List ℕ)
 sources_for Weather names = names

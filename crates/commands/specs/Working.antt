@@ -5,7 +5,7 @@ use Rattle.desk.specs.Keeping.{KeepsState}
 use Rattle.desk.specs.InPart.{AreGivenInPart, IsRunInPart}
 use Rattle.desk.specs.Items.{items_of_lines}
 use Rattle.desk.specs.Made.{IsMade, IsMadeInPart}
-use Rattle.desk.specs.Opening.{AreLoaded, IsLeft, IsOfKeeper, IsWhy, MayHaveAsked, TellsRowsOf}
+use Rattle.desk.specs.Opening.{AreAsked, AreLoaded, IsLeft, IsOfKeeper, IsWhy, MayHaveAsked, TellsRowsOf}
 use Rattle.desk.specs.Race.{IsRace, IsRaceInPart}
 use Rattle.desk.specs.Run.{IsRun, IsRunOf}
 use Rattle.desk.specs.Seen.{DeskAt}
@@ -14,11 +14,15 @@ use Rattle.desk_io.specs.Health.{HasFailed, IsSound, IsStill}
 use Rattle.desk_io.specs.Over.{Over}
 use Rattle.desk_net.specs.Seen.{ClockGoesOn}
 use Rattle.desk_state.specs.Sound.{IsBoard}
-use Rattle.desk_state.specs.State.{State}
+use Rattle.desk_state.specs.State.{State, grounds_of}
 use Rattle.desk_state.specs.Texts.{closing}
 use Rattle.imports.specs.Lines.{IsImport}
 use Rattle.imports.specs.Records.{Line}
+use Rattle.keeper.specs.Seen.{KeeperSeen}
 use Rattle.ops_tables.specs.Tables.{TableRows}
+use Rattle.plan.specs.declared.flights.Plan.{Plan}
+use Rattle.advise.specs.Text.{IsAdviceText}
+use Rattle.advise.specs.declared.candidates.Candidate.{Candidate}
 use Rattle.connections.specs.Doors.{HasLinks}
 use Rattle.connections.specs.declared.doors.ServeEnd.{ServeEnd}
 use Rattle.connections.specs.declared.doors.ServeEnd.TheVariants as ends
@@ -26,14 +30,16 @@ use Rattle.service.specs.Doors.{IsServing}
 use Rattle.table_files.specs.declared.faults.BadTable.{BadTable as ABadTable}
 use Rattle.table_files.specs.declared.faults.TableWhy.TheVariants.{BadField}
 use Rattle.words.specs.declared.task.DeskTask.{DeskTask}
-use Rattle.words.specs.declared.task.DeskTask.TheVariants.{Run, Race, Serve, Import, Make}
+use Rattle.words.specs.declared.task.DeskTask.TheVariants.{Run, Race, Serve, Import, Make, Advise}
 use Rattle.words.specs.declared.task.Task.{Task}
 use Rattle.words.specs.declared.task.Task.TheVariants.{Desk}
 use Rattle.commands.specs.Faults.{Gives, Outcome, of_opening}
 use Rattle.commands.specs.Seen.{Lent, Service}
+use Rattle.commands.specs.Inputs.{AreStated, IsFirstBad}
 use Rattle.commands.specs.Sources.{first_of}
+use Rattle.commands.specs.declared.fault.BadInput.{BadInput as ABadInput}
 use Rattle.commands.specs.declared.fault.Fault.{Fault}
-use Rattle.commands.specs.declared.fault.Fault.TheVariants.{BadTable, DoorFault, ClockFault, OutOfMemory}
+use Rattle.commands.specs.declared.fault.Fault.TheVariants.{BadTable, DoorFault, ClockFault, OutOfMemory, BadInput}
 
 -- ---- the work on an open desk
 
@@ -91,19 +97,28 @@ Makes number count desk =
     Ends (IsMade desk.before.faults desk.after.faults desk.before.state number count desk.after.state)
     (IsMadeInPart desk.before.faults desk.after.faults desk.before.state number count desk.after.state)
 
+-- The text is the advice on each leg of a plan, by what the desk holds at its moment. Nothing on the desk changes.
+abbrev pub Advises : Plan → List Candidate → Over DeskAt → Outcome → Type 0
+Advises plan candidates desk answer = Gives (IsAdviceText plan candidates (grounds_of desk.before.state)) answer × (desk.after.state ≡ desk.before.state)
+
 -- ---- the commands
 
 -- the same for the lines of an import file
 abbrev pub ImportsFile : List ℕ → Over DeskAt → Outcome → Type 0
 ImportsFile file desk answer = (lines : List Line) × IsImport file (Some lines) × Imports lines desk answer
 
--- the work of a command on a desk, over the texts of its sources
-abbrev pub Does : {L : Type 0} → DeskTask → List (List ℕ) → Service L → Over DeskAt → Outcome → Type 0
-Does Run texts service = Runs (first_of texts)
-Does Race texts service = Races texts
-Does (Serve port most) texts service = Serves service port most
-Does Import texts service = ImportsFile (first_of texts)
-Does (Make number count) texts service = Makes number count
+-- the same for the plan and the candidates in two files
+abbrev pub AdvisesFiles : TableRows → List (List ℕ) → Over DeskAt → Outcome → Type 0
+AdvisesFiles tables texts desk answer = (plan : Plan) × (candidates : List Candidate) × AreStated tables texts plan candidates × Advises plan candidates desk answer
+
+-- the work of a command on a desk, under these tables and over the texts of its sources
+abbrev pub Does : {L : Type 0} → DeskTask → TableRows → List (List ℕ) → Service L → Over DeskAt → Outcome → Type 0
+Does Run tables texts service = Runs (first_of texts)
+Does Race tables texts service = Races texts
+Does (Serve port most) tables texts service = Serves service port most
+Does Import tables texts service = ImportsFile (first_of texts)
+Does (Make number count) tables texts service = Makes number count
+Does Advise tables texts service = AdvisesFiles tables texts
 
 -- only `serve` uses the clock and the door
 abbrev pub serves : DeskTask → Bool
@@ -127,10 +142,28 @@ links_of (Some command) = links_for command.0
 abbrev pub headerless : List ℕ → ABadTable
 headerless name = record { name = name; line = 1; why = BadField }
 
--- a bad record in the texts of the sources, for which no desk is opened
-abbrev pub HasBadRecord : DeskTask → (names texts : List (List ℕ)) → ABadTable → Type 0
-HasBadRecord Import names texts bad = IsImport (first_of texts) None × (bad ≡ headerless (first_of names))
-HasBadRecord _ names texts bad = ⊥
+-- the file to import lacks its header
+abbrev pub LacksHeader : DeskTask → (names texts : List (List ℕ)) → ABadTable → Type 0
+LacksHeader Import names texts bad = IsImport (first_of texts) None × (bad ≡ headerless (first_of names))
+LacksHeader _ names texts bad = ⊥
+
+-- the first bad record of a plan and its candidates
+abbrev pub HasBadInput : DeskTask → TableRows → (names texts : List (List ℕ)) → ABadInput → Type 0
+HasBadInput Advise tables names texts bad = IsFirstBad tables names texts bad
+HasBadInput _ tables names texts bad = ⊥
+
+-- The first fault in the texts of a command's sources, under these tables. No desk is opened for it.
+abbrev pub HasFault : DeskTask → TableRows → (names texts : List (List ℕ)) → Fault → Type 0
+HasFault task tables names texts (BadTable bad) = LacksHeader task names texts bad
+HasFault task tables names texts (BadInput bad) = HasBadInput task tables names texts bad
+HasFault task tables names texts other = ⊥
+
+-- The texts of a command's sources have no fault: a file to import has its header, and a plan and its candidates are
+-- good.
+abbrev pub ArePassed : DeskTask → TableRows → List (List ℕ) → Type 0
+ArePassed Import tables texts = (lines : List Line) × IsImport (first_of texts) (Some lines)
+ArePassed Advise tables texts = (plan : Plan) × (candidates : List Candidate) × AreStated tables texts plan candidates
+ArePassed _ tables texts = Unit {0}
 
 -- the lines of an import file that was read, or the bad record of a file without a header, or out of memory
 abbrev pub SaysLines : List ℕ → List ℕ → Result (List Line) Fault → Type 0
@@ -175,3 +208,20 @@ since less desk = record desk { before = record desk.before { faults = less } }
 abbrev pub Opens : TableRows → (Over DeskAt → Outcome → Type 0) → Lent → Option Shown → Outcome → Type 0
 Opens tables Works keeper None answer = IsUnopened tables keeper answer
 Opens tables Works keeper (Some board) answer = IsOpenOver tables keeper board × Works (desk_over keeper board) answer
+
+-- ---- what is asked of the keeper
+
+-- If a desk was opened, the work on it asked this of the keeper, as it was after opening and is now.
+abbrev pub AsksAfter : (KeeperSeen → KeeperSeen → Type 0) → TableRows → Lent → Option Shown → Type 0
+AsksAfter Asks tables keeper None = Unit {0}
+AsksAfter Asks tables keeper (Some board) =
+    (opened : KeeperSeen) × AreAsked keeper.before.rows tables keeper.before.commits opened.commits × Asks opened keeper.after
+
+-- only the commit of opening is requested, if any
+abbrev pub AsksToOpen : TableRows → Lent → Type 0
+AsksToOpen tables keeper = MayHaveAsked keeper.before.rows tables keeper.before.commits keeper.after.commits
+
+-- `advise` stores nothing on the desk that it opens
+abbrev pub AsksNoMore : DeskTask → TableRows → Lent → Type 0
+AsksNoMore Advise tables keeper = AsksToOpen tables keeper
+AsksNoMore _ tables keeper = Unit {0}

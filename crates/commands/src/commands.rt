@@ -4,16 +4,17 @@ ghost use Rattle.commands.specs.Bells.{AreRungOver};
 ghost use Rattle.commands.specs.Answers.{IsDoneOnDesk, ReadsUnder, Says, SaysReports, WorksUnder};
 ghost use Rattle.commands.specs.Faults.{Gives};
 ghost use Rattle.commands.specs.Seen.{lent, service};
-ghost use Rattle.commands.specs.Sources as spec;
+ghost use Rattle.commands.specs.Sources.{first_of};
 ghost use Rattle.commands.specs.Weather.{weather_text};
-ghost use Rattle.commands.specs.Working.{AsksNothing, Does, ImportsFile};
+ghost use Rattle.commands.specs.Working.{AdvisesFiles, AsksNothing, Does, ImportsFile};
 ghost use Rattle.desk_io.specs.Over.{over};
 ghost use Rattle.words.specs.Words.{IsWithin, command_of};
-ghost use Rattle.words.specs.declared.task.DeskTask.TheVariants.{Import};
+ghost use Rattle.words.specs.declared.task.DeskTask.TheVariants.{Advise, Import};
 ghost use Rattle.words.specs.declared.task.Task.TheVariants.{Desk};
 
 use crate::fault::Fault;
-use crate::sources::{first_of, read_files, read_sources};
+use crate::inputs::inquiry_in;
+use crate::sources::{first_name, first_of, read_files, read_sources};
 use crate::threads::{race_over, serve_over};
 use crate::weather::text_of_weather;
 use crate::working::{Answered, Ended, Provided, boardless, open_over};
@@ -60,16 +61,6 @@ fn weather<S: Shelf, K: Keeper, B: Bell>(
     }
 }
 
-// The name of the source, for a command that reads one.
-fn first_name(names: &[String]) -> &str
-    ensures { result.now ≡ spec.first_of (map string_bytes names.now) }
-{
-    match names {
-        [] => "",
-        [name, ..] => name.as_str(),
-    }
-}
-
 // Answers with a fault for which no desk was opened.
 fn unopened<K: Keeper, B: Bell>(fault: Fault, provided: Provided<K, B>) -> Ended<K, B>
     ensures answer { result.answer ≡ Err fault }
@@ -95,13 +86,33 @@ fn import<K: Keeper, B: Bell, G: Gate, L: Ledger>(
     gate: &G,
     steps: &mut Steps<L>,
 ) -> Ended<K, B>
-    ensures works { WorksUnder provided.tables (ImportsFile (spec.first_of texts.now))
+    ensures works { WorksUnder provided.tables (ImportsFile (first_of texts.now))
         (lent K.seen provided.keeper result.keeper) Import (map string_bytes names.now) texts.now
         result.board result.answer }
     ensures rung { AreRungOver result.board (hung_all B.seen provided.ringer) (hung_all B.seen result.ringer) }
 {
     match lines_in(alloc, first_name(names), first_of(texts.as_slice())) {
         Ok(lines) => open_over(alloc, provided, Importing { lines }, gate, steps),
+        Err(fault) => unopened(fault, provided),
+    }
+}
+
+// Advises on the plan and the candidates in two files, unless one is bad.
+fn advise<K: Keeper, B: Bell, G: Gate, L: Ledger>(
+    alloc: Global,
+    names: &[String],
+    texts: &Listed<Text>,
+    provided: Provided<K, B>,
+    gate: &G,
+    steps: &mut Steps<L>,
+) -> Ended<K, B>
+    ensures works { WorksUnder provided.tables (AdvisesFiles provided.tables texts.now)
+        (lent K.seen provided.keeper result.keeper) Advise (map string_bytes names.now) texts.now
+        result.board result.answer }
+    ensures rung { AreRungOver result.board (hung_all B.seen provided.ringer) (hung_all B.seen result.ringer) }
+{
+    match inquiry_in(alloc, names, texts.as_slice(), &provided.tables) {
+        Ok(advising) => open_over(alloc, provided, advising, gate, steps),
         Err(fault) => unopened(fault, provided),
     }
 }
@@ -131,7 +142,7 @@ where
     D::Link: Send,
     requires { IsWithin (Desk task) }
     ensures works { WorksUnder provided.tables
-        (Does task texts (service C.seen D.seen D.Link.seen clock result.clock door result.door))
+        (Does task provided.tables texts (service C.seen D.seen D.Link.seen clock result.clock door result.door))
         (lent K.seen provided.keeper result.ended.keeper) task (map string_bytes names.now) texts
         result.ended.board result.ended.answer }
     ensures idle { AsksNothing task result.ended.board ((result.clock ≡ clock) × (result.door ≡ door)) }
@@ -164,6 +175,10 @@ where
         }
         DeskTask::Make { number, count } => {
             let ended = open_over(alloc, provided, Making { number, count }, gate, steps);
+            Answered { ended, clock, door }
+        }
+        DeskTask::Advise => {
+            let ended = advise(alloc, names, &texts, provided, gate, steps);
             Answered { ended, clock, door }
         }
     }

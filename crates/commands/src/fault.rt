@@ -1,10 +1,32 @@
 ghost use Rattle.std.specs.Prelude.{◌≡◌, ◌++◌, Some, codes, IfOk, OnOk};
 ghost use Rattle.commands.specs.Faults as spec;
 
+use candidate_files::CandidateWhy;
 use desk::{OpenWhy, RowWhy};
 use desk_io::{OutOfMemory, Row, Text, push_all};
 use std::alloc::{AllocFailed, Global};
 use table_files::{BadTable, TableFault, TableWhy};
+
+/// Why an input of a command is bad.
+#[derive(Clone, Copy, Debug, PartialEq, Eq)]
+pub(crate) enum InputWhy {
+    /// The file isn't the JSON of a plan.
+    NotPlan,
+    /// The plan fails a test that a draft must pass.
+    BadPlan,
+    /// A record of candidates is bad.
+    Candidate(CandidateWhy),
+}
+
+/// A bad input of a command.
+#[derive(Drop)]
+pub(crate) struct BadInput {
+    /// The name of the file.
+    pub name: Text,
+    /// The number of the record. A plan is record 1, and so is a header.
+    pub line: u32,
+    pub why: InputWhy,
+}
 
 /// Why a command fails.
 #[derive(Drop)]
@@ -31,6 +53,8 @@ pub(crate) enum Fault {
     InputTooLong(Text),
     /// The clock failed.
     ClockFault,
+    /// A plan or a record of candidates is bad.
+    BadInput(BadInput),
 }
 
 impl From<OutOfMemory> for Fault {
@@ -103,6 +127,26 @@ fn why_name(why: TableWhy) -> &'static [u8]
     }
 }
 
+fn candidate_why_name(why: CandidateWhy) -> &'static [u8]
+    ensures { result.now ≡ spec.candidate_why_name why }
+{
+    match why {
+        CandidateWhy::OverLimit => b"OverLimit",
+        CandidateWhy::BadField => b"BadField",
+        CandidateWhy::Doubled => b"Doubled",
+    }
+}
+
+fn input_why_name(why: InputWhy) -> &'static [u8]
+    ensures { result.now ≡ spec.input_why_name why }
+{
+    match why {
+        InputWhy::NotPlan => b"NotPlan",
+        InputWhy::BadPlan => b"BadPlan",
+        InputWhy::Candidate(why) => candidate_why_name(why),
+    }
+}
+
 fn row_why_name(why: RowWhy) -> &'static [u8]
     ensures { result.now ≡ spec.row_why_name why }
 {
@@ -143,17 +187,41 @@ fn bad_pair_line(alloc: Global, one: &Row, two: &Row) -> Result<Text, OutOfMemor
     Ok(Text::from_vec(line))
 }
 
+// A line that ends with the name of a file, the number of its bad record, and why that is bad.
+fn at_record(
+    alloc: Global,
+    front: &[u8],
+    name: &[u8],
+    number: u32,
+    why: &[u8],
+) -> Result<Text, OutOfMemory>
+    ensures { IfOk result (λ line. line ≡ spec.at_record front.now name.now number why.now) }
+{
+    let number = number.to_string(alloc)?;
+    let mut line = Vec::new(alloc);
+    push_all(&mut line, &[front, name, b" "])?;
+    push_all(&mut line, &[number.as_bytes(), b" ", why, b"\n"])?;
+    Ok(Text::from_vec(line))
+}
+
 fn bad_table_line(alloc: Global, bad: &BadTable) -> Result<Text, OutOfMemory>
     ensures { IfOk result (λ line. line ≡ spec.bad_table bad.now) }
 {
-    let number = bad.line.to_string(alloc)?;
-    let mut line = Vec::new(alloc);
-    push_all(&mut line, &[b"error 6 BadTable ", bad.name.bytes(), b" "])?;
-    push_all(
-        &mut line,
-        &[number.as_bytes(), b" ", why_name(bad.why), b"\n"],
-    )?;
-    Ok(Text::from_vec(line))
+    let why = why_name(bad.why);
+    at_record(alloc, b"error 6 BadTable ", bad.name.bytes(), bad.line, why)
+}
+
+fn bad_input_line(alloc: Global, bad: &BadInput) -> Result<Text, OutOfMemory>
+    ensures { IfOk result (λ line. line ≡ spec.bad_input bad.now) }
+{
+    let why = input_why_name(bad.why);
+    at_record(
+        alloc,
+        b"error 12 BadInput ",
+        bad.name.bytes(),
+        bad.line,
+        why,
+    )
 }
 
 impl Fault {
@@ -173,6 +241,7 @@ impl Fault {
             Fault::DoorFault => 9,
             Fault::InputTooLong(_) => 10,
             Fault::ClockFault => 11,
+            Fault::BadInput(_) => 12,
         }
     }
 
@@ -190,6 +259,7 @@ impl Fault {
             Fault::DoorFault => Text::of(alloc, b"error 9 DoorFault\n"),
             Fault::InputTooLong(name) => named(alloc, b"error 10 InputTooLong ", name.bytes()),
             Fault::ClockFault => Text::of(alloc, b"error 11 ClockFault\n"),
+            Fault::BadInput(bad) => bad_input_line(alloc, bad),
             Fault::WriteFault | Fault::OutOfMemory => Err(OutOfMemory),
         }
     }

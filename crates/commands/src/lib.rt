@@ -3,6 +3,7 @@
 
 mod commands;
 mod fault;
+mod inputs;
 mod rung;
 mod sources;
 mod threads;

@@ -52,6 +52,38 @@ pub(crate) fn first_of(texts: &[Text]) -> &[u8]
     }
 }
 
+/// The second text, for a command that reads two sources.
+pub(crate) fn second_of(texts: &[Text]) -> &[u8]
+    ensures { result.now ≡ spec.second_of texts.now }
+{
+    match texts {
+        [] => &[],
+        [_] => &[],
+        [_, text, ..] => text.bytes(),
+    }
+}
+
+/// The name of the source, for a command that reads one.
+pub(crate) fn first_name(names: &[String]) -> &str
+    ensures { result.now ≡ spec.first_of (map string_bytes names.now) }
+{
+    match names {
+        [] => "",
+        [name, ..] => name.as_str(),
+    }
+}
+
+/// The name of the second source, for a command that reads two.
+pub(crate) fn second_name(names: &[String]) -> &str
+    ensures { result.now ≡ spec.second_of (map string_bytes names.now) }
+{
+    match names {
+        [] => "",
+        [_] => "",
+        [_, name, ..] => name.as_str(),
+    }
+}
+
 /// Reads the thirteen tables.
 pub(crate) fn read_files<S: Shelf>(alloc: Global, shelf: &mut S) -> Result<Tables, Fault>
     ensures read { ReadsFiles (over S.seen shelf.old shelf.new) result }

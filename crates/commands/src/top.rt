@@ -75,6 +75,8 @@ fn write<O: Sink>(alloc: Global, answer: Result<Text, Fault>, out: &mut O) -> u8
 /// - 9: only if the door's count of faults rose or is saturated; `error 9 DoorFault`.
 /// - 10: exactly if the source NAME has more than 64 MiB; `error 10 InputTooLong NAME`.
 /// - 11: only if the clock's count of faults rose or is saturated; `error 11 ClockFault`.
+/// - 12: exactly if the plan NAME of `advise` can't be read or fails a test, or NUMBER is the first bad record of its
+///   candidates NAME; `error 12 BadInput NAME NUMBER WHY`. This is tested before the rows are loaded.
 ///
 /// A sound shelf, sink, keeper, door or clock doesn't cause 3, 4, 5, 9 or 11. There are two exceptions: the shelf
 /// lacks a source, or the door has fewer links than connections. If nothing is served, or no desk is opened, the
@@ -102,12 +104,12 @@ pub fn desk_main<
 ) -> Ending<K, C, D, B>
 where
     D::Link: Send,
-    // If every external object is sound, with all sources and enough links, the status is 0, 2, 6, 7, 8 or 10. So
+    // If every external object is sound, with all sources and enough links, the status is 0, 2, 6, 7, 8, 10 or 12. So
     // either the command was completed, or memory ran out, or the arguments or the input are at fault.
     ensures complete { HasSources (S.seen shelf.old) (command_of (map string_bytes words.now))
         → HasDoor (D.seen door) (command_of (map string_bytes words.now))
         → IsSound (O.seen out.old).health → IsSound (K.seen keeper).health → IsSound (C.seen clock).health → Contains
-        (0 ∷ 2 ∷ 6 ∷ 7 ∷ 8 ∷ 10 ∷ []) result.status }
+        (0 ∷ 2 ∷ 6 ∷ 7 ∷ 8 ∷ 10 ∷ 12 ∷ []) result.status }
     // If the arguments form a command, everything it reads is valid, and no fault was counted, the status is 0 or 8.
     ensures done { IsValid (S.seen shelf.old) (K.seen keeper).rows (command_of (map string_bytes words.now))
         → HaveServed (over S.seen shelf.old shelf.new) (over O.seen out.old out.new) (lent K.seen keeper result.keeper)

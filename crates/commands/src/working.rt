@@ -4,11 +4,12 @@ ghost use Rattle.alerts.specs.Seen.{BellSeen};
 ghost use Rattle.commands.specs.Bells.{AreRungOver};
 ghost use Rattle.commands.specs.Faults.{Outcome};
 ghost use Rattle.commands.specs.Seen.{lent};
-ghost use Rattle.commands.specs.Working.{Opens, since};
+ghost use Rattle.commands.specs.Working.{AsksAfter, Opens, since};
 ghost use Rattle.desk.specs.Seen.{DeskAt, desk_at, desk_seen, DeskGoesOn};
 ghost use Rattle.desk_io.specs.Over.{Over, over};
 ghost use Rattle.desk_state.specs.Sound.{IsBoard};
 ghost use Rattle.keeper.specs.Seen.{KeeperSeen, KeeperGoesOn};
+ghost use Rattle.ops_tables.specs.Tables.{TableRows};
 
 use crate::fault::Fault;
 use alerts::{Bell, Ringer};
@@ -92,11 +93,14 @@ pub(crate) trait Work<K, B, G, T>: Sized + Drop {
 
     ghost heard: { B → BellSeen };
 
-    /// What must hold of the work before it begins.
-    ghost ready: { Self → Type 0 };
+    /// What must hold of the desk's tables and the work before it begins.
+    ghost ready: { TableRows → Self → Type 0 };
 
     /// What the work comes to: the desk before and after, and the answer.
     ghost does: { Self → Over DeskAt → Outcome → Type 0 };
+
+    /// What the work asks of the keeper, as it is seen before and after.
+    ghost asks: { Self → KeeperSeen → KeeperSeen → Type 0 };
 
     /// Does the work. The keeper's faults may be counted from any earlier count.
     fn work(
@@ -106,9 +110,10 @@ pub(crate) trait Work<K, B, G, T>: Sized + Drop {
         gate: &G,
         steps: &mut T,
     ) -> Result<Text, Fault>
-        requires { ready self }
+        requires { ready desk.old.board.state.tables self }
         ensures does { (less : ℕ) → less ≤ (seen desk.old.keeper).health.faults
             → does self (since less (over (desk_at seen) desk.old desk.new)) result }
+        ensures asks { asks self (seen desk.old.keeper) (seen desk.new.keeper) }
         ensures on { DeskGoesOn (desk_seen seen heard desk.old) (desk_seen seen heard desk.new) };
 }
 
@@ -122,9 +127,11 @@ pub(crate) fn open_over<K: Keeper, B: Bell, G, L: Ledger, W: Work<K, B, G, Steps
 ) -> Ended<K, B>
     requires seen { W.seen ≡ K.seen }
     requires heard { W.heard ≡ B.seen }
-    requires ready { W.ready work }
+    requires ready { W.ready provided.tables work }
     ensures opens { Opens provided.tables (W.does work) (lent K.seen provided.keeper result.keeper)
         result.board result.answer }
+    ensures asked { AsksAfter (W.asks work) provided.tables (lent K.seen provided.keeper result.keeper)
+        result.board }
     ensures keeper { KeeperGoesOn (K.seen provided.keeper) (K.seen result.keeper) }
     ensures rung { AreRungOver result.board (hung_all B.seen provided.ringer) (hung_all B.seen result.ringer) }
 {

@@ -1,20 +1,27 @@
-ghost use Rattle.std.specs.Prelude.{◌≡◌, ◌≤◌, ℕ, Some, Ok, Err, IfOk, MatchResult};
+ghost use Rattle.std.specs.Prelude.{◌≡◌, ◌≤◌, ℕ, None, Some, Ok, Err, IfOk, MatchResult};
 ghost use Rattle.std.specs.List.{AllByRecursion};
+ghost use Rattle.advise.specs.Candidates.{AreCandidates};
+ghost use Rattle.advise.specs.Text.{IsAdviceText};
+ghost use Rattle.commands.specs.Faults.{Gives};
 ghost use Rattle.commands.specs.Sources.{first_of};
 ghost use Rattle.commands.specs.Working as spec;
-ghost use Rattle.commands.specs.Working.{Imports, Makes, Runs, SaysLines, since};
+ghost use Rattle.commands.specs.Working.{Advises, Imports, Makes, Runs, SaysLines, since};
 ghost use Rattle.desk.specs.Seen.{desk_at, desk_seen, DeskGoesOn};
 ghost use Rattle.desk_io.specs.Over.{over};
+ghost use Rattle.desk_state.specs.State.{grounds_of};
 ghost use Rattle.imports.specs.Records.{HasForms};
+ghost use Rattle.plan.specs.Check.{IsPlan, plan_fault};
 
 use crate::fault::Fault;
 use crate::sources::first_of;
 use crate::working::Work;
+use advise::{Candidate, advice_text};
 use alerts::Bell;
-use desk::{Desk, Gate, make_from, text_from, text_of_import};
+use desk::{Board, Desk, Gate, make_from, text_from, text_of_import};
 use desk_io::{Listed, OutOfMemory, Text};
 use imports::{Line, read_import};
 use keeper::Keeper;
+use plan::Plan;
 use rules::Steps;
 use std::alloc::Global;
 use std::sync::ledger::Ledger;
@@ -47,9 +54,11 @@ impl<K: Keeper, B: Bell, G: Gate, L: Ledger> Work<K, B, G, Steps<L>> for Running
 
     ghost heard = { B.seen };
 
-    ghost ready = { λ work. Unit {0} };
+    ghost ready = { λ tables work. Unit {0} };
 
     ghost does = { λ work. Runs (first_of work.texts) };
+
+    ghost asks = { λ work before after. Unit {0} };
 
     fn work(
         self,
@@ -61,6 +70,7 @@ impl<K: Keeper, B: Bell, G: Gate, L: Ledger> Work<K, B, G, Steps<L>> for Running
         requires { Unit {0} }
         ensures does { (less : ℕ) → less ≤ (K.seen desk.old.keeper).health.faults
             → Runs (first_of self.texts) (since less (over (desk_at K.seen) desk.old desk.new)) result }
+        ensures asks { Unit {0} }
         ensures on { DeskGoesOn (desk_seen K.seen B.seen desk.old) (desk_seen K.seen B.seen desk.new) }
     {
         run(alloc, desk, first_of(self.texts.as_slice()), gate, steps)
@@ -120,9 +130,11 @@ impl<K: Keeper, B: Bell, G: Gate, L: Ledger> Work<K, B, G, Steps<L>> for Importi
 
     ghost heard = { B.seen };
 
-    ghost ready = { λ work. AllByRecursion HasForms work.lines.items };
+    ghost ready = { λ tables work. AllByRecursion HasForms work.lines.items };
 
     ghost does = { λ work. Imports work.lines.items };
+
+    ghost asks = { λ work before after. Unit {0} };
 
     fn work(
         self,
@@ -134,6 +146,7 @@ impl<K: Keeper, B: Bell, G: Gate, L: Ledger> Work<K, B, G, Steps<L>> for Importi
         requires { AllByRecursion HasForms self.lines.items }
         ensures does { (less : ℕ) → less ≤ (K.seen desk.old.keeper).health.faults
             → Imports self.lines.items (since less (over (desk_at K.seen) desk.old desk.new)) result }
+        ensures asks { Unit {0} }
         ensures on { DeskGoesOn (desk_seen K.seen B.seen desk.old) (desk_seen K.seen B.seen desk.new) }
     {
         import_lines(alloc, desk, self.lines, gate, steps)
@@ -170,9 +183,11 @@ impl<K: Keeper, B: Bell, G: Gate, L: Ledger> Work<K, B, G, Steps<L>> for Making 
 
     ghost heard = { B.seen };
 
-    ghost ready = { λ work. work.count ≤ 20_000 };
+    ghost ready = { λ tables work. work.count ≤ 20_000 };
 
     ghost does = { λ work. Makes work.number work.count };
+
+    ghost asks = { λ work before after. Unit {0} };
 
     fn work(
         self,
@@ -184,8 +199,90 @@ impl<K: Keeper, B: Bell, G: Gate, L: Ledger> Work<K, B, G, Steps<L>> for Making 
         requires { self.count ≤ 20_000 }
         ensures does { (less : ℕ) → less ≤ (K.seen desk.old.keeper).health.faults
             → Makes self.number self.count (since less (over (desk_at K.seen) desk.old desk.new)) result }
+        ensures asks { Unit {0} }
         ensures on { DeskGoesOn (desk_seen K.seen B.seen desk.old) (desk_seen K.seen B.seen desk.new) }
     {
         make(alloc, desk, self.number, self.count, gate, steps)
+    }
+}
+
+/// Advises alternates for each leg of a plan.
+#[derive(Drop)]
+pub(crate) struct Advising {
+    pub plan: Plan,
+    pub candidates: Listed<Candidate>,
+}
+
+// The advice by what a board holds.
+fn advice_on<L: Ledger>(
+    alloc: Global,
+    board: &Board,
+    plan: &Plan,
+    candidates: &[Candidate],
+    steps: &mut Steps<L>,
+) -> Result<Text, OutOfMemory>
+    requires plan { IsPlan plan.now }
+    requires valid { plan_fault board.now.state.tables plan.now ≡ None }
+    requires candidates { AreCandidates board.now.state.tables plan.now candidates.now }
+    ensures { IfOk result (IsAdviceText plan.now candidates.now (grounds_of board.now.state)) }
+{
+    advice_text(
+        alloc,
+        plan,
+        candidates,
+        board.reports(),
+        board.deferrals(),
+        board.tables(),
+        board.now(),
+        steps,
+    )
+}
+
+fn advise<L: Ledger>(
+    alloc: Global,
+    board: &Board,
+    work: &Advising,
+    steps: &mut Steps<L>,
+) -> Result<Text, Fault>
+    requires plan { IsPlan work.now.plan }
+    requires valid { plan_fault board.now.state.tables work.now.plan ≡ None }
+    requires candidates { AreCandidates board.now.state.tables work.now.plan work.now.candidates }
+    ensures { Gives (IsAdviceText work.now.plan work.now.candidates (grounds_of board.now.state)) result }
+{
+    Ok(advice_on(alloc, board, &work.plan, work.candidates.as_slice(), steps)?)
+}
+
+impl<K: Keeper, B: Bell, G: Gate, L: Ledger> Work<K, B, G, Steps<L>> for Advising {
+    ghost use Rattle.std.specs.Prelude.{◌≡◌, None};
+    ghost use Rattle.plan.specs.Check.{IsPlan, plan_fault};
+    ghost use Rattle.advise.specs.Candidates.{AreCandidates};
+    ghost use Rattle.commands.specs.Working.{Advises};
+
+    ghost seen = { K.seen };
+
+    ghost heard = { B.seen };
+
+    ghost ready = { λ tables work. IsPlan work.plan × (plan_fault tables work.plan ≡ None)
+        × AreCandidates tables work.plan work.candidates };
+
+    ghost does = { λ work. Advises work.plan work.candidates };
+
+    ghost asks = { λ work before after. after.commits ≡ before.commits };
+
+    fn work(
+        self,
+        alloc: Global,
+        desk: &mut Desk<K, B>,
+        gate: &G,
+        steps: &mut Steps<L>,
+    ) -> Result<Text, Fault>
+        requires { IsPlan self.plan × (plan_fault desk.old.board.state.tables self.plan ≡ None)
+            × AreCandidates desk.old.board.state.tables self.plan self.candidates }
+        ensures does { (less : ℕ) → less ≤ (K.seen desk.old.keeper).health.faults
+            → Advises self.plan self.candidates (since less (over (desk_at K.seen) desk.old desk.new)) result }
+        ensures asks { (K.seen desk.new.keeper).commits ≡ (K.seen desk.old.keeper).commits }
+        ensures on { DeskGoesOn (desk_seen K.seen B.seen desk.old) (desk_seen K.seen B.seen desk.new) }
+    {
+        advise(alloc, &desk.board, &self, steps)
     }
 }

@@ -152,7 +152,7 @@ no_number : (o : Option ℕ) → option_to_list o ≡ [] → o ≡ None
 no_number None e = refl
 no_number (Some n) e = absurd (cc)
 
-quiet_first : (c : Choice) (cs : List Choice) → concat (map numbers_of (c ∷ cs)) ≡ [] → (c ≡ no_choice) × (concat (map numbers_of cs) ≡ [])
+pub quiet_first : (c : Choice) (cs : List Choice) → concat (map numbers_of (c ∷ cs)) ≡ [] → (c ≡ no_choice) × (concat (map numbers_of cs) ≡ [])
 quiet_first c cs quiet =
     let parts = both_empty (numbers_of c) (concat (map numbers_of cs)) quiet in
     let own = both_empty (option_to_list c.tick) (option_to_list c.call) parts.0 in

@@ -71,7 +71,7 @@ grows_on s m t one two = record {
 pub grows_long : (s t : State) → Grows s t → length s.entries ≤ length t.entries
 grows_long s t g = let long = ap length g.grown ∙ length-append s.entries g.entries in omega (arith, long)
 
-legal_after : (s : State) (es : List Entry) (t : State) → Legal s es t → after_entries s es ≡ t
+pub legal_after : (s : State) (es : List Entry) (t : State) → Legal s es t → after_entries s es ≡ t
 legal_after s [] t is = is
 legal_after s (e ∷ es) t legal = legal_after (next s e.lane e.what) es t legal.1
 
@@ -177,7 +177,7 @@ answer_calls : (s : State) (lane : ℕ) (call : Call) → Calls s lane call (ans
 unfolding answer_call
 answer_calls s lane call = do_calls (mistaken (actor_of s.tables call.actor) call.key) s lane call
 
-still_adds : (s : State) (t : Stepped) → t.state ≡ s → adds s t ≡ false
+pub still_adds : (s : State) (t : Stepped) → t.state ≡ s → adds s t ≡ false
 still_adds s t is = ap (λ (u : State). nat_lt (length s.entries) (length u.entries)) is ∙ le-ltb (length s.entries) (length s.entries) (omega arith)
 
 more_adds : (s : State) (t : Stepped) (e : Entry) → t.state.entries ≡ s.entries ++ e ∷ [] → adds s t ≡ true
@@ -188,21 +188,21 @@ more_adds s t e grown =
 -- ---- a tick
 
 -- a tick that is made: its entry comes next
-record Ticks (s : State) (lane to : ℕ) (t : Stepped) : Type 0 where
-  replies : t.reply ≡ None
-  room : is_full s ≡ false
-  moment : t.state.moment ≡ to
-  grown : t.state.entries ≡ s.entries ++ entry lane (what.Tick to) ∷ []
+pub record Ticks (s : State) (lane to : ℕ) (t : Stepped) : Type 0 where
+  pub replies : t.reply ≡ None
+  pub room : is_full s ≡ false
+  pub moment : t.state.moment ≡ to
+  pub grown : t.state.entries ≡ s.entries ++ entry lane (what.Tick to) ∷ []
 
-record Stays (s : State) (t : Stepped) : Type 0 where
-  replies : t.reply ≡ Some (full_reply s)
-  state : t.state ≡ s
+pub record Stays (s : State) (t : Stepped) : Type 0 where
+  pub replies : t.reply ≡ Some (full_reply s)
+  pub state : t.state ≡ s
 
 tick_by : (full : Bool) (s : State) (lane to : ℕ) → is_full s ≡ full → Stays s (tick_unless full s lane to) ⊎ Ticks s lane to (tick_unless full s lane to)
 tick_by true s lane to full = inl (record { replies = refl; state = refl })
 tick_by false s lane to room = inr (record { replies = refl; room = room; moment = refl; grown = refl })
 
-tick_steps : (s : State) (lane to : ℕ) → Stays s (tick_to s lane to) ⊎ Ticks s lane to (tick_to s lane to)
+pub tick_steps : (s : State) (lane to : ℕ) → Stays s (tick_to s lane to) ⊎ Ticks s lane to (tick_to s lane to)
 unfolding tick_to
 tick_steps s lane to = tick_by (is_full s) s lane to refl
 
@@ -239,11 +239,11 @@ abbrev pub CarriesWithin : ℕ → ℕ → Item → Said → State → Type 0
 CarriesWithin low high i says s = (opening : State) → IsBoard opening s → IsAskable i → (n : ℕ) → IsUnkept n says → IsWithin low high n
 
 -- an item is judged in a state
-record Judged (low high lane : ℕ) (i : Item) (u : State) (t : Stepped) : Type 0 where
-  says : IsSaidIn low high lane u i (said_of t.reply)
-  made : IsMade lane i (said_of t.reply) u t.state
-  keeps : KeepsBoard i u t.state
-  carries : CarriesWithin low high i (said_of t.reply) u
+pub record Judged (low high lane : ℕ) (i : Item) (u : State) (t : Stepped) : Type 0 where
+  pub says : IsSaidIn low high lane u i (said_of t.reply)
+  pub made : IsMade lane i (said_of t.reply) u t.state
+  pub keeps : KeepsBoard i u t.state
+  pub carries : CarriesWithin low high i (said_of t.reply) u
 
 pub record Did (low high lane : ℕ) (s : State) (i : Item) (g : Given) : Type 0 where
   pub mid : State
@@ -265,25 +265,25 @@ never_unkept opening u lane n call board is =
     let cause : RefusesFor u call (answer_call u lane call).reply = refused_for u lane call (answer_call u lane call).reply board.sound board.kept refl in
     (cause (Unkept n) (unkept_reply (answer_call u lane call).reply n is)).0
 
-is_come : (a b : ℕ) → a ≤ b → nat_le a b ≡ true
+pub is_come : (a b : ℕ) → a ≤ b → nat_le a b ≡ true
 is_come a b le = grind (arith, nat_tests, le)
 
-is_to_come : (a b : ℕ) → b < a → nat_le a b ≡ false
+pub is_to_come : (a b : ℕ) → b < a → nat_le a b ≡ false
 is_to_come a b less = grind (arith, nat_tests, less)
 
-is_later : (a b : ℕ) → nat_lt a b ≡ true → a < b
+pub is_later : (a b : ℕ) → nat_lt a b ≡ true → a < b
 is_later a b test = grind (arith, nat_tests, test)
 
-is_now : (a b : ℕ) → nat_lt a b ≡ false → b ≤ a
+pub is_now : (a b : ℕ) → nat_lt a b ≡ false → b ≤ a
 is_now a b test = grind (arith, nat_tests, test)
 
-true_false : (b : Bool) → b ≡ true → b ≡ false → ⊥
+pub true_false : (b : Bool) → b ≡ true → b ≡ false → ⊥
 true_false b one two = absurd (cc)
 
 unkept_done : (n : ℕ) (made : DoneType) → said.Reply (Refused (Unkept n)) ≡ said.Reply (Done made) → ⊥
 unkept_done n made is = absurd (cc)
 
-unkept_full : (n : ℕ) (s : State) → IsUnkept n (said.Reply (full_reply s)) → ⊥
+pub unkept_full : (n : ℕ) (s : State) → IsUnkept n (said.Reply (full_reply s)) → ⊥
 unkept_full n s is = absurd (cc)
 
 pub same_count : (n m : ℕ) → said.Reply (Refused (Unkept n)) ≡ said.Reply (Refused (Unkept m)) → n ≡ m
@@ -292,11 +292,11 @@ same_count n m is = cc
 same_reply : (r : Reply) (s : State) → Some r ≡ Some (full_reply s) → full_reply s ≡ r
 same_reply r s is = cc
 
-full_is : (s : State) (low high : ℕ) (reply : Option Reply) → reply ≡ Some (full_reply s) → IsRefusedBy low high reply (said.Reply (full_reply s))
+pub full_is : (s : State) (low high : ℕ) (reply : Option Reply) → reply ≡ Some (full_reply s) → IsRefusedBy low high reply (said.Reply (full_reply s))
 full_is s low high None is = absurd (cc)
 full_is s low high (Some r) is = ap said.Reply (same_reply r s is)
 
-none_is : (low high : ℕ) (reply : Option Reply) (n : ℕ) → reply ≡ None → IsWithin low high n → IsRefusedBy low high reply (said.Reply (Refused (Unkept n)))
+pub none_is : (low high : ℕ) (reply : Option Reply) (n : ℕ) → reply ≡ None → IsWithin low high n → IsRefusedBy low high reply (said.Reply (Refused (Unkept n)))
 none_is low high None n is within = (n, refl, within.0, within.1)
 none_is low high (Some r) n is within = absurd (cc)
 
@@ -344,7 +344,7 @@ module _ (low high lane : ℕ) (u : State) (at : ℕ) (call : Call) (here : at �
   }
   judged_unless n false still within = answered
 
-  judged : (fault : Option ℕ) → IfSome fault (IsWithin low high) → Judged low high lane (item.Call at call) u (made_with fault lane u call)
+  pub judged : (fault : Option ℕ) → IfSome fault (IsWithin low high) → Judged low high lane (item.Call at call) u (made_with fault lane u call)
   judged None within = answered
   judged (Some n) within = judged_unless n (adds u answer_now) refl within
 
@@ -404,7 +404,7 @@ module _ (low high lane : ℕ) (s : State) (at : ℕ) (call : Call) (later : s.m
   late_by t None fault is how one two = ticked_on t fault is how two
   late_by t (Some n) fault is how one two = late_unless t n (adds s t) fault refl is how one two
 
-numbers_within : (low high : ℕ) (tick call : Option ℕ) → Rise low ((option_to_list tick ++ option_to_list call) ++ []) high → IfSome tick (IsWithin low high) × IfSome call (IsWithin low high)
+pub numbers_within : (low high : ℕ) (tick call : Option ℕ) → Rise low ((option_to_list tick ++ option_to_list call) ++ []) high → IfSome tick (IsWithin low high) × IfSome call (IsWithin low high)
 numbers_within low high None None rise = (tt, tt)
 numbers_within low high None (Some n) rise = (tt, (rise.0, rise.1))
 numbers_within low high (Some m) None rise = ((rise.0, rise.1), tt)

@@ -33,11 +33,11 @@ use Rattle.desk.specs.Run.{LaneShown}
 wider : (low high less more : ℕ) (says : Said) → less ≤ low → high ≤ more → IsUnkeptWithin low high says → IsUnkeptWithin less more says
 wider low high less more says under over unkept = let above = unkept.2 in let within = unkept.3 in (unkept.0, unkept.1, omega (arith, under, above), omega (arith, over, within))
 
-wider_answer : (low high less more lane : ℕ) (u : State) (call : Call) (says : Said) → less ≤ low → high ≤ more → IsAnswered low high lane u call says → IsAnswered less more lane u call says
+pub wider_answer : (low high less more lane : ℕ) (u : State) (call : Call) (says : Said) → less ≤ low → high ≤ more → IsAnswered low high lane u call says → IsAnswered less more lane u call says
 wider_answer low high less more lane u call says under over (inl is) = inl is
 wider_answer low high less more lane u call says under over (inr is) = inr (is.0, wider low high less more says under over is.1)
 
-wider_refusal : (low high less more : ℕ) (reply : Option Reply) (says : Said) → less ≤ low → high ≤ more → IsRefusedBy low high reply says → IsRefusedBy less more reply says
+pub wider_refusal : (low high less more : ℕ) (reply : Option Reply) (says : Said) → less ≤ low → high ≤ more → IsRefusedBy low high reply says → IsRefusedBy less more reply says
 wider_refusal low high less more None says under over is = wider low high less more says under over is
 wider_refusal low high less more (Some reply) says under over is = is
 
@@ -59,13 +59,13 @@ done_at (l ∷ lanes) zero lane all at =
 done_at (l ∷ lanes) (suc n) lane all at = done_at lanes n lane (and_parts (is_done l) (list_all is_done lanes) all).1 at
 
 -- an entry of a call isn't that of a tick
-tick_call : (k m to : ℕ) (call : Call) (reply : Reply) → entry k (what.Asked call reply) ≡ entry m (what.Tick to) → ⊥
+pub tick_call : (k m to : ℕ) (call : Call) (reply : Reply) → entry k (what.Asked call reply) ≡ entry m (what.Tick to) → ⊥
 tick_call k m to call reply is = let same = ap (λ (e : Entry). e.what) is in absurd (cc)
 
 same_lane : (k m : ℕ) (v w : What) → entry k v ≡ entry m w → k ≡ m
 same_lane k m v w is = ap (λ (e : Entry). e.lane) is
 
-same_tick : (k m a b : ℕ) → entry k (what.Tick a) ≡ entry m (what.Tick b) → a ≡ b
+pub same_tick : (k m a b : ℕ) → entry k (what.Tick a) ≡ entry m (what.Tick b) → a ≡ b
 same_tick k m a b is = let same = ap (λ (e : Entry). e.what) is in cc
 
 lane_of_entry : (x : Entry) (lane : ℕ) (i : Item) (says : Said) → IsEntryOf x lane i says → x.lane ≡ lane

@@ -45,7 +45,9 @@ pub(crate) struct AnsweredWith {
     pub call: Option<u64>,
 }
 
-fn make_call<K: Keeper, B: Bell, L: Ledger>(
+/// Makes a call in the desk's present state, whatever its moment. The keeper stores its changes before they are
+/// installed. If memory runs out, nothing changes.
+pub fn make_call<K: Keeper, B: Bell, L: Ledger>(
     alloc: Global,
     desk: &mut Desk<K, B>,
     lane: u32,
@@ -72,7 +74,9 @@ fn make_call<K: Keeper, B: Bell, L: Ledger>(
     settle(alloc, desk, prepared)
 }
 
-fn make_tick<K: Keeper, B: Bell, L: Ledger>(
+/// Ticks to a later moment. The step has a reply only if the tick is refused (24 `HistoryFull`) or the keeper fails
+/// (26 `Unkept`); then the state is as before. If memory runs out, nothing changes.
+pub fn make_tick<K: Keeper, B: Bell, L: Ledger>(
     alloc: Global,
     desk: &mut Desk<K, B>,
     lane: u32,

@@ -16,13 +16,14 @@ mod running;
 mod settling;
 mod turns;
 
-pub use answering::{Answered, answer};
+pub use alerts::{Bell, Dropped};
+pub use answering::{Answered, answer, make_call, make_tick};
 pub use board::{Board, RowWhy};
 pub use gates::Gate;
 pub use imported::text_of_import;
 pub use lanes::Lane;
 pub use made::make_from;
 pub use opening::{OpenFault, OpenWhy, leave, open};
-pub use run::{said_text, text_from};
+pub use run::{answer_item, said_text, text_from};
 pub use running::{Finished, Raced, race, run_lanes};
-pub use settling::Desk;
+pub use settling::{Desk, Settled};

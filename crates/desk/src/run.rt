@@ -44,7 +44,9 @@ fn bad_line(alloc: Global, board: &Board, fault: &BadCall) -> Result<Answered, O
     })
 }
 
-pub(crate) fn answer_item<K: Keeper, B: Bell, L: Ledger>(
+/// Answers an item of a lane: its call, or the fault of a malformed line, which changes nothing. If memory runs out, at
+/// most the tick that comes before the call was made.
+pub fn answer_item<K: Keeper, B: Bell, L: Ledger>(
     alloc: Global,
     desk: &mut Desk<K, B>,
     lane: u32,

@@ -23,11 +23,14 @@ pub struct Desk<K, B> {
     pub ringer: Ringer<B>,
 }
 
-/// The result of a step. If the keeper failed to store the step, `fault` is the keeper's count of faults.
+/// The result of a step.
 #[derive(Drop)]
-pub(crate) struct Settled {
+pub struct Settled {
+    /// The reply. A tick that was made has none.
     pub reply: Option<Reply>,
+    /// The notices about alerts that the step caused.
     pub notices: Notices,
+    /// The keeper's count of faults, if it failed to store the step.
     pub fault: Option<u64>,
 }
 

@@ -61,8 +61,8 @@ fn make<L: Ledger>(
     Ok(())
 }
 
-// The moment and the call of a line, if it is one.
-fn call_in(alloc: Global, line: &[u8]) -> Result<Option<(Minute, Call)>, OutOfMemory>
+/// The moment and the call of a line, if it is one.
+pub(crate) fn call_in(alloc: Global, line: &[u8]) -> Result<Option<(Minute, Call)>, OutOfMemory>
     ensures within { IfOk result (λ o. IfSome o (λ p. p.0 ≤ LAST)) }
     ensures form { IfOk result (λ o. IfSome o (λ p. CallHasForms p.1)) }
 {
@@ -73,8 +73,8 @@ fn call_in(alloc: Global, line: &[u8]) -> Result<Option<(Minute, Call)>, OutOfMe
     }
 }
 
-// Makes the call of each line of a script.
-fn make_all<L: Ledger>(
+/// Makes the call of each line of a script.
+pub(crate) fn make_all<L: Ledger>(
     alloc: Global,
     board: &mut Board,
     script: &[u8],

@@ -1,12 +1,54 @@
-//! Tests of what a board alone can tell: its history, what is told of alerts at each step, and how many plans a step
-//! judges at most; and of the text of a plan.
+//! Tests of what no command shows of a desk: its board's history and how many plans a step judges at most; the text of
+//! a plan; plans and lines as JSON; keepers of rows, in memory and over a file, and rows both ways; lanes that run at
+//! once; the statuses of a desk that holds as much as it may; and connections over a desk that is lent, which the
+//! program never lends.
 #![tactic(auto)]
 
 #[cfg(test)]
 mod boards;
 #[cfg(test)]
+mod copies;
+#[cfg(test)]
+mod counting;
+#[cfg(test)]
+mod desks;
+#[cfg(test)]
 mod few;
+#[cfg(test)]
+mod files;
+#[cfg(test)]
+mod gathering;
+#[cfg(test)]
+mod hostile;
+#[cfg(test)]
+mod line_replies;
+#[cfg(test)]
+mod lines;
+#[cfg(test)]
+mod links;
+#[cfg(test)]
+mod meeting;
+#[cfg(test)]
+mod memory;
+#[cfg(test)]
+mod orders;
+#[cfg(test)]
+mod planned_lines;
 #[cfg(test)]
 mod plans;
 #[cfg(test)]
+mod replies;
+#[cfg(test)]
+mod rows;
+#[cfg(test)]
+mod shift_lines;
+#[cfg(test)]
+mod sixteen;
+#[cfg(test)]
+mod statuses;
+#[cfg(test)]
 mod texts;
+#[cfg(test)]
+mod versions;
+#[cfg(test)]
+mod waiting;

@@ -1,9 +1,7 @@
-ghost use Rattle.std.specs.Prelude.{IfOk, IfSome};
-ghost use Rattle.plan.specs.Check.{IsPlan};
-
-use asks::{document_of, plan_text, read_plan};
+use crate::hostile::{between, lists, longest};
+use asks::plan_text;
 use desk_io::OutOfMemory;
-use plan::Plan;
+use desk_json::{PlanText, read_plan};
 use std::alloc::Global;
 use std::test::Fail;
 
@@ -19,6 +17,23 @@ const LEG: &str =
 
 const BACK: &str = r#"],"tail":"N9-45678"}"#;
 
+// Texts that are no plan: none, a value that isn't an object, one after which something else comes, one after a byte
+// order mark, one within another object, one with another key, and one without a key.
+const OTHERS: [&str; 8] = [
+    "",
+    "null",
+    r#"[{"captain":"C7","flight":"DK101","kind":"domestic","legs":[],"tail":"N801DK"}]"#,
+    r#"{"captain":"C7","flight":"DK101","kind":"domestic","legs":[],"tail":"N801DK"} {}"#,
+    "\u{feff}{\"captain\":\"C7\",\"flight\":\"DK101\",\"kind\":\"flag\",\"legs\":[],\"tail\":\"N801DK\"}",
+    r#"{"plan":{"captain":"C7","flight":"DK101","kind":"domestic","legs":[],"tail":"N801DK"}}"#,
+    r#"{"captain":"C7","crew":4,"flight":"DK101","kind":"domestic","legs":[],"tail":"N801DK"}"#,
+    r#"{"captain":"C7","flight":"DK101","kind":"domestic","legs":[]}"#,
+];
+
+// A plan without legs, which is read, although no release can be drafted for it.
+const NONE: &str =
+    r#"{"captain":"C7","flight":"DK101","kind":"domestic","legs":[],"tail":"N801DK"}"#;
+
 // A plan of so many legs.
 fn plan_of(alloc: Global, legs: usize) -> Result<Vec<u8>, OutOfMemory> {
     let mut text = Vec::from_slice(alloc, FRONT.as_bytes())?;
@@ -32,23 +47,22 @@ fn plan_of(alloc: Global, legs: usize) -> Result<Vec<u8>, OutOfMemory> {
     Ok(text)
 }
 
-// The plan of a text, if it is one.
-fn plan_in(alloc: Global, text: &[u8]) -> Result<Option<Plan>, OutOfMemory>
-    ensures { IfOk result (λ p. IfSome p IsPlan) }
-{
-    match document_of(alloc, text)? {
-        Some(document) => read_plan(alloc, document.root()),
-        None => Ok(None),
+// Whether a text is that of a plan of so many legs, which has this text.
+fn is_text_of(alloc: Global, text: &[u8], legs: usize) -> Result<bool, OutOfMemory> {
+    match read_plan(alloc, text) {
+        Ok(plan) => {
+            Ok(plan.legs.as_slice().len() == legs && plan_text(alloc, &plan)?.bytes() == text)
+        }
+        Err(PlanText::NotPlan) => Ok(false),
+        Err(PlanText::OutOfMemory) => Err(OutOfMemory),
     }
 }
 
-// Whether a text is that of a plan of so many legs, which has this text.
-fn is_text_of(alloc: Global, text: &[u8], legs: usize) -> Result<bool, OutOfMemory> {
-    match plan_in(alloc, text)? {
-        Some(plan) => {
-            Ok(plan.legs.as_slice().len() == legs && plan_text(alloc, &plan)?.bytes() == text)
-        }
-        None => Ok(false),
+fn is_plan(alloc: Global, text: &[u8]) -> Result<bool, OutOfMemory> {
+    match read_plan(alloc, text) {
+        Ok(_) => Ok(true),
+        Err(PlanText::NotPlan) => Ok(false),
+        Err(PlanText::OutOfMemory) => Err(OutOfMemory),
     }
 }
 
@@ -59,5 +73,28 @@ fn the_text_of_a_plan_is_read_and_written_again(rt: HostRuntime) -> Result<(), F
         let text = plan_of(rt.alloc(), legs)?;
         assert!(rt; is_text_of(rt.alloc(), &text, legs)?, "{legs}");
     }
+    assert!(rt; !is_plan(rt.alloc(), &plan_of(rt.alloc(), 1_001)?)?);
+    Ok(())
+}
+
+#[test]
+fn a_text_that_is_no_plan_is_refused(rt: HostRuntime) -> Result<(), Fail> {
+    let alloc = rt.alloc();
+    assert!(rt; is_plan(alloc, &between(alloc, " \r\n", NONE.as_bytes(), "\t\n")?)?);
+    for text in OTHERS {
+        assert!(rt; !is_plan(alloc, text.as_bytes())?, "{text}");
+    }
+    assert!(rt; !is_plan(alloc, &between(alloc, "\"", b"C\xff", "\"")?)?);
+    for depth in [127, 128] {
+        assert!(rt; !is_plan(alloc, &lists(alloc, depth)?)?, "{depth}");
+    }
+    Ok(())
+}
+
+#[test]
+fn a_text_of_64_mebibytes_may_be_a_plan(rt: HostRuntime) -> Result<(), Fail> {
+    let alloc = rt.alloc();
+    assert!(rt; is_plan(alloc, &longest(alloc, b' ', NONE)?)?);
+    assert!(rt; !is_plan(alloc, &longest(alloc, b'[', NONE)?)?);
     Ok(())
 }

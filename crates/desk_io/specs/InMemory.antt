@@ -7,7 +7,7 @@ use Rattle.desk_io.specs.declared.memory.MemoryShelf.{MemoryShelf}
 use Rattle.desk_io.specs.declared.memory.MemorySink.{MemorySink}
 
 abbrev pub shelf_seen : MemoryShelf → ShelfSeen
-shelf_seen s = record { sources = Some (source_named s.sources.items); health = planned_health s.fail.items s.faults }
+shelf_seen s = record { sources = Some (source_named s.sources.items); reads = s.reads.list; health = planned_health s.fail.items s.faults }
 
 abbrev pub sink_seen : MemorySink → SinkSeen
 sink_seen s = record { content = Some s.written.items; health = planned_health s.fail.items s.faults }

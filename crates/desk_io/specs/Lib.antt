@@ -3,6 +3,7 @@ pub mod Health
 pub mod Over
 pub mod Seen
 pub mod Whole
+pub mod Reads
 pub mod Runs
 pub mod Planned
 pub mod InMemory

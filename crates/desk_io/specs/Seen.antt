@@ -2,11 +2,14 @@
 use Rattle.std.specs.Prelude.{◌≡◌, ℕ, List, Option}
 use Rattle.desk_io.specs.Health.{Health, GoesOnWhere}
 use Rattle.desk_io.specs.Told.{HoldsName}
+use Rattle.desk_io.specs.declared.source_read.SourceRead.{SourceRead}
 
 -- the model of a shelf
 pub record ShelfSeen : Type 0 where
   -- the bytes under each name, if the sources are known
   pub sources : Option (List ℕ → Option (List ℕ))
+  -- all reads so far, in order
+  pub reads : List SourceRead
   pub health : Health
 
 -- the model of a sink

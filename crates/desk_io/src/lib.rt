@@ -1,5 +1,5 @@
 //! Interfaces to files and standard output, and the small types that all crates share: texts, stations, minima, rows
-//! and sorted containers.
+//! and sorted containers, and records of what crossed the edge.
 #![tactic(auto)]
 
 mod by_id;
@@ -10,9 +10,12 @@ mod memory;
 mod outside;
 mod pair;
 mod pieces;
+mod reads;
 mod real;
+mod record;
 mod rows;
 mod runs;
+mod source_read;
 mod station;
 mod text;
 mod vector;
@@ -27,8 +30,10 @@ pub use outside::{Shelf, Sink};
 pub use pair::{MILE, Pair, Pairs};
 pub use pieces::{or_undone, push_all};
 pub use real::{FileShelf, StdoutSink};
+pub use record::{Event, Record};
 pub use rows::{Change, Row};
 pub use runs::{Blanks, LineFeeds, Run, Separators, push_run, runs_between};
+pub use source_read::SourceRead;
 pub use station::Station;
 pub use text::Text;
 pub use vector::Sorted;

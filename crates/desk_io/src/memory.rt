@@ -1,13 +1,15 @@
-ghost use Rattle.std.specs.Prelude.{◌≡◌, ◌<◌, ◌≤◌, [], length, IfOk, OnErr, is_ok};
+ghost use Rattle.std.specs.Prelude.{◌≡◌, ◌<◌, ◌≤◌, ◌++◌, ◌∷◌, [], length, IfOk, OnErr, is_ok};
 ghost use Rattle.std.specs.Option.{option_copied};
 ghost use Rattle.desk_io.specs.Told.{source_named, NextOf, OnSource, Puts};
 ghost use Rattle.desk_io.specs.Health.{GoesOn, HasCause, HasFailedWhere};
 ghost use Rattle.desk_io.specs.InMemory.{shelf_seen, sink_seen};
 ghost use Rattle.desk_io.specs.Planned.{is_planned, after, gives, Fails};
+ghost use Rattle.desk_io.specs.Reads.{read_as};
 ghost use Rattle.desk_io.specs.Seen.{ShelfGoesOn, Holds};
 ghost use Rattle.desk_io.specs.declared.faults.PutFault.TheVariants.{Failed as PutFailed};
 
-use crate::{Failed, PutFault, Shelf, Sink, Text};
+use crate::reads::ReadResult;
+use crate::{Failed, PutFault, Record, Shelf, Sink, SourceRead, Text};
 use std::alloc::Global;
 
 /// Sources in memory. Calls of `next` are numbered from 0, and a call whose number is in `fail` fails. With an empty
@@ -17,6 +19,7 @@ pub struct MemoryShelf {
     sources: Vec<(Text, Text)>,
     fail: Vec<u64>,
     calls: u64,
+    reads: Record<SourceRead>,
     faults: u64,
 }
 
@@ -27,11 +30,13 @@ impl MemoryShelf {
         ensures fail { result.fail.items ≡ fail.items }
         ensures calls { result.calls ≡ 0 }
         ensures faults { result.faults ≡ 0 }
+        ensures reads { result.reads.list ≡ [] }
     {
         MemoryShelf {
             sources,
             fail,
             calls: 0,
+            reads: Record::new(),
             faults: 0,
         }
     }
@@ -49,6 +54,21 @@ fn source<'a>(sources: &'a [(Text, Text)], name: &[u8]) -> Option<&'a Text>
     None
 }
 
+// Copies the bytes from `place` on to the front of `into`, as many as fit, and returns their number.
+fn copy_from(bytes: &[u8], place: u64, into: &mut [u8]) -> usize
+    requires { 0 < length into.old }
+    ensures bound { result ≤ length into.old }
+    ensures next { NextOf bytes.now place result into.new }
+{
+    if place >= bytes.len() as u64 {
+        return 0;
+    }
+    let rest = &bytes[place as usize..];
+    let count = rest.len().min(into.len());
+    into[..count].copy_from_slice(&rest[..count]);
+    count
+}
+
 impl Shelf for MemoryShelf {
     ghost seen = { shelf_seen };
 
@@ -57,6 +77,7 @@ impl Shelf for MemoryShelf {
         ensures bound { IfOk result (λ n. n ≤ length into.old) }
         ensures given { IfOk result
             (λ n. OnSource (shelf_seen self.old).sources name.now (λ bytes. NextOf bytes place n into.new)) }
+        ensures reads { self.new.reads.list ≡ self.old.reads.list ++ read_as name.now place into.new result ∷ [] }
         ensures on { ShelfGoesOn (Holds (shelf_seen self.old) name.now) (shelf_seen self.old) (shelf_seen self.new) }
         ensures cause { OnErr result (HasFailedWhere (Holds (shelf_seen self.old) name.now)
             (shelf_seen self.old).health (shelf_seen self.new).health) }
@@ -72,19 +93,31 @@ impl Shelf for MemoryShelf {
         let failing = self.fail.contains(&call);
         let Some(bytes) = source(&self.sources, name.as_bytes()) else {
             self.faults = self.faults.saturating_add(1);
+            self.reads = self.reads.with(&ReadResult {
+                name,
+                place,
+                into,
+                answer: Err(Failed),
+            });
             return Err(Failed);
         };
         if failing {
             self.faults = self.faults.saturating_add(1);
+            self.reads = self.reads.with(&ReadResult {
+                name,
+                place,
+                into,
+                answer: Err(Failed),
+            });
             return Err(Failed);
         }
-        let bytes = bytes.bytes();
-        if place >= bytes.len() as u64 {
-            return Ok(0);
-        }
-        let rest = &bytes[place as usize..];
-        let count = rest.len().min(into.len());
-        into[..count].copy_from_slice(&rest[..count]);
+        let count = copy_from(bytes.bytes(), place, into);
+        self.reads = self.reads.with(&ReadResult {
+            name,
+            place,
+            into,
+            answer: Ok(count),
+        });
         Ok(count)
     }
 

@@ -1,6 +1,7 @@
-ghost use Rattle.std.specs.Prelude.{◌≡◌, ◌<◌, ◌≤◌, length, IfOk, OnErr};
+ghost use Rattle.std.specs.Prelude.{◌≡◌, ◌<◌, ◌≤◌, ◌++◌, ◌∷◌, [], length, IfOk, OnErr};
 ghost use Rattle.desk_io.specs.Told.{NextOf, OnSource, Puts, TellsAsBefore};
 ghost use Rattle.desk_io.specs.Health.{GoesOn, HasCause, HasFailedWhere};
+ghost use Rattle.desk_io.specs.Reads.{read_as};
 ghost use Rattle.desk_io.specs.Seen.{ShelfSeen, SinkSeen, ShelfGoesOn, Holds};
 ghost use Rattle.desk_io.specs.declared.faults.PutFault.TheVariants.{Failed as PutFailed};
 
@@ -8,8 +9,8 @@ use crate::{Failed, PutFault};
 
 /// Named sources of bytes. A sound shelf fails, and counts a fault, only if it doesn't hold the requested name.
 pub trait Shelf {
-    /// The sources, if contracts know them, and the shelf's health. The sources of a shelf over real files are
-    /// unknown.
+    /// The sources, if contracts know them. The sources of a shelf over real files are unknown. Then, for every shelf,
+    /// its reads so far, in order, each with the bytes that it returned, and the shelf's health.
     ghost seen: { Self → ShelfSeen };
 
     /// Copies bytes of a source, from `place` on, to the front of `into` and returns their number. The number is 0
@@ -19,6 +20,7 @@ pub trait Shelf {
         ensures bound { IfOk result (λ n. n ≤ length into.old) }
         ensures given { IfOk result
             (λ n. OnSource (seen self.old).sources name.now (λ bytes. NextOf bytes place n into.new)) }
+        ensures reads { (seen self.new).reads ≡ (seen self.old).reads ++ read_as name.now place into.new result ∷ [] }
         ensures on { ShelfGoesOn (Holds (seen self.old) name.now) (seen self.old) (seen self.new) }
         ensures cause { OnErr result
             (HasFailedWhere (Holds (seen self.old) name.now) (seen self.old).health (seen self.new).health) };

@@ -3,8 +3,8 @@ ghost use Rattle.std.specs.Io.KnownBytes.{Appends, ReadConsumes};
 ghost use Rattle.desk_io.specs.Health.{unsound};
 ghost use Rattle.desk_io.specs.Told.{AppendsFront};
 
-use crate::{Failed, PutFault, Shelf, Sink, counted};
-use edge_record::{Event, Record};
+use crate::reads::ReadResult;
+use crate::{Event, Failed, PutFault, Record, Shelf, Sink, SourceRead, counted};
 use std::fs::File;
 use std::io;
 use std::io::{Read, Seek, SeekFrom, Write};
@@ -72,24 +72,27 @@ fn opened<R: Files>(files: &R, name: &str, place: u64) -> io::Result<Reading<R::
     Ok(Reading { file, name, place })
 }
 
-/// The files of the working directory. Contracts don't know their contents. Every I/O error is a counted fault. The
-/// file read last stays open until its end, so that reading a source in sequence opens it once. A source with a name
-/// of more than 255 bytes is opened for each read. Allocates nothing.
+/// The files of the working directory. Contracts know exactly the bytes that each read returned, and nothing else of
+/// the files. Every I/O error is a counted fault. The file read last stays open until its end, so that reading a source
+/// in sequence opens it once. A source with a name of more than 255 bytes is opened for each read. Allocates nothing.
 #[derive(Drop)]
 pub struct FileShelf<R: Files + Drop> {
     files: R,
     reading: Option<Reading<R::File>>,
+    reads: Record<SourceRead>,
     faults: u64,
 }
 
 impl<R: Files + Drop> FileShelf<R> {
     /// Creates a shelf over the working directory of the process. Opens nothing yet.
     pub fn new(files: R) -> Self
-        ensures { result.faults ≡ 0 }
+        ensures faults { result.faults ≡ 0 }
+        ensures reads { result.reads.list ≡ [] }
     {
         FileShelf {
             files,
             reading: None,
+            reads: Record::new(),
             faults: 0,
         }
     }
@@ -97,6 +100,7 @@ impl<R: Files + Drop> FileShelf<R> {
     fn read_at(&mut self, name: &str, place: u64, into: &mut [u8]) -> io::Result<usize>
         ensures bound { IfOk result (λ n. n ≤ length into.old) }
         ensures faults { self.new.faults ≡ self.old.faults }
+        ensures reads { self.new.reads.list ≡ self.old.reads.list }
     {
         let mut reading = match self.reading.take() {
             Some(reading) if reading.stands_at(name, place) => reading,
@@ -111,11 +115,18 @@ impl<R: Files + Drop> FileShelf<R> {
 }
 
 impl<R: Files + Drop> Shelf for FileShelf<R> {
-    ghost seen = { λ s. record { sources = None; health = unsound s.faults } };
+    ghost seen = { λ s. record { sources = None; reads = s.reads.list; health = unsound s.faults } };
 
     fn next(&mut self, name: &str, place: u64, into: &mut [u8]) -> Result<usize, Failed> {
-        let answer = self.read_at(name, place, into);
-        counted(answer, &mut self.faults)
+        let count = self.read_at(name, place, into);
+        let answer = counted(count, &mut self.faults);
+        self.reads = self.reads.with(&ReadResult {
+            name,
+            place,
+            into,
+            answer,
+        });
+        answer
     }
 
     fn faults(&self) -> u64 {

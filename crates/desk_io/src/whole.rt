@@ -1,5 +1,6 @@
 ghost use Rattle.std.specs.Prelude.{◌<◌, length, IfOk};
 ghost use Rattle.desk_io.specs.Health.{HasCauseWhere};
+ghost use Rattle.desk_io.specs.Reads.{ReadsTo};
 ghost use Rattle.desk_io.specs.Seen.{ShelfGoesOn, Holds};
 ghost use Rattle.desk_io.specs.Whole.{ReadsWhole};
 
@@ -29,6 +30,7 @@ fn read_by<S: Shelf>(
 ) -> Result<Text, WholeFault>
     requires { 0 < length piece.old }
     ensures whole { ReadsWhole (S.seen shelf.old).sources name.now result }
+    ensures reads { ReadsTo name.now (S.seen shelf.old).reads (S.seen shelf.new).reads result }
     ensures on { ShelfGoesOn (Holds (S.seen shelf.old) name.now) (S.seen shelf.old) (S.seen shelf.new) }
     ensures cause { HasCauseWhere (Holds (S.seen shelf.old) name.now) WholeFault.ReadFault
         (S.seen shelf.old).health (S.seen shelf.new).health result }
@@ -47,9 +49,11 @@ fn read_by<S: Shelf>(
 }
 
 /// Reads the whole source of this name. `ReadFault` means that the shelf failed and counted the fault. `TooLong`
-/// means that the source has more than `SOURCE_LIMIT` bytes.
+/// means that the source has more than `SOURCE_LIMIT` bytes. The shelf makes no other reads, and the text is exactly
+/// what they returned.
 pub fn read_whole<S: Shelf>(alloc: Global, shelf: &mut S, name: &str) -> Result<Text, WholeFault>
     ensures whole { ReadsWhole (S.seen shelf.old).sources name.now result }
+    ensures reads { ReadsTo name.now (S.seen shelf.old).reads (S.seen shelf.new).reads result }
     ensures on { ShelfGoesOn (Holds (S.seen shelf.old) name.now) (S.seen shelf.old) (S.seen shelf.new) }
     ensures cause { HasCauseWhere (Holds (S.seen shelf.old) name.now) WholeFault.ReadFault
         (S.seen shelf.old).health (S.seen shelf.new).health result }

@@ -17,7 +17,7 @@ use Rattle.desk_json.specs.Faults.{ask_or_fault, call_in, line_in, read_as, call
 use Rattle.desk_json.proofs.Results.{gives}
 
 -- the ask that is written is read
-ask_again : (a : Ask) → AskHasForms a → ask_or_fault (ask_data a) ≡ Ok a
+pub ask_again : (a : Ask) → AskHasForms a → ask_or_fault (ask_data a) ≡ Ok a
 unfolding ask_data
 ask_again (Admit text) is = rw (utf8_lossy-IsUtf8 text is) refl
 ask_again (Defer tail item found) is = rw (short_again tail is.0, short_again item is.1, moment_again found is.2) refl
@@ -39,7 +39,7 @@ ask_again (ViewRelease release) is = rw (id_again release is) refl
 ask_again (ViewWeather station) is = rw (station_again station is) refl
 ask_again (ViewDeferred tail) is = rw (short_again tail is) refl
 
-ask_is_object : (a : Ask) → is_some (as_object (ask_data a)) ≡ true
+pub ask_is_object : (a : Ask) → is_some (as_object (ask_data a)) ≡ true
 unfolding ask_data
 ask_is_object a = refl
 

@@ -27,21 +27,21 @@ use Rattle.desk_json.specs.declared.keys.Object.TheVariants as object
 use Rattle.desk_json.specs.declared.bad_call.CallFault.{CallFault}
 use Rattle.desk_json.specs.Canonical.{LineHasForms}
 use Rattle.desk_json.specs.Keys.{and_then, found, only_keys}
-use Rattle.desk_json.specs.Faults.{plan_at, release_of, signed_of, flown_of, ask_of_kind, ask_by, kind_of, ask_or_fault, if_object, object_at, request_at, call_by, call_in, line_in, Answers}
+use Rattle.desk_json.specs.Faults.{plan_at, release_of, signed_of, flown_of, ask_of_kind, ask_by, kind_of, ask_or_fault, if_object, object_at, request_at, call_by, call_in, line_fields, line_in, Answers}
 use Rattle.desk_json.proofs.Results.{told, answered, formed, formed_after}
 
 -- ---- asks
 
-plan_at_formed : (d : Data) → IfSome (plan_at (codes "plan") d) HasForms
+pub plan_at_formed : (d : Data) → IfSome (plan_at (codes "plan") d) HasForms
 plan_at_formed d = then_if plan_of (get (codes "plan") d) HasForms plan_formed
 
-id_then : {B : Type 0} (key : List ℕ) (d : Data) (f : ℕ → Result B BadCall) (Q : B → Type 0) → ((n : ℕ) → IsId n → IfOk (told (f n)) Q) → IfOk (told (and_then (found key d (id_at key d)) f)) Q
+pub id_then : {B : Type 0} (key : List ℕ) (d : Data) (f : ℕ → Result B BadCall) (Q : B → Type 0) → ((n : ℕ) → IsId n → IfOk (told (f n)) Q) → IfOk (told (and_then (found key d (id_at key d)) f)) Q
 id_then key d f Q next = formed key d (id_at key d) f IsId Q (id_formed key d) next
 
-short_then : {B : Type 0} (key : List ℕ) (d : Data) (f : List ℕ → Result B BadCall) (Q : B → Type 0) → HasText d → ((t : List ℕ) → IsShort t → IfOk (told (f t)) Q) → IfOk (told (and_then (found key d (short_at key d)) f)) Q
+pub short_then : {B : Type 0} (key : List ℕ) (d : Data) (f : List ℕ → Result B BadCall) (Q : B → Type 0) → HasText d → ((t : List ℕ) → IsShort t → IfOk (told (f t)) Q) → IfOk (told (and_then (found key d (short_at key d)) f)) Q
 short_then key d f Q has next = formed key d (short_at key d) f IsShort Q (short_formed key d has) next
 
-moment_then : {B : Type 0} (key : List ℕ) (d : Data) (f : ℕ → Result B BadCall) (Q : B → Type 0) → ((m : ℕ) → IsMoment m → IfOk (told (f m)) Q) → IfOk (told (and_then (found key d (moment_at key d)) f)) Q
+pub moment_then : {B : Type 0} (key : List ℕ) (d : Data) (f : ℕ → Result B BadCall) (Q : B → Type 0) → ((m : ℕ) → IsMoment m → IfOk (told (f m)) Q) → IfOk (told (and_then (found key d (moment_at key d)) f)) Q
 moment_then key d f Q next = formed key d (moment_at key d) f IsMoment Q (moment_formed key d) next
 
 -- an ask that names a release alone
@@ -98,7 +98,7 @@ kind_formed kind.Deferred d has = short_then (codes "tail") d _ AskHasForms has 
 -- ---- calls
 
 -- after a step of which nothing is known
-then_any : {A B : Type 0} (r : Result A BadCall) (f : A → Result B BadCall) (Q : B → Type 0) → ((x : A) → IfOk (told (f x)) Q) → IfOk (told (and_then r f)) Q
+pub then_any : {A B : Type 0} (r : Result A BadCall) (f : A → Result B BadCall) (Q : B → Type 0) → ((x : A) → IfOk (told (f x)) Q) → IfOk (told (and_then r f)) Q
 then_any (Err b) f Q next = tt
 then_any (Ok x) f Q next = next x
 
@@ -109,11 +109,11 @@ by_formed (Some k) d has = then_any (only_keys (object.Asked k) d) _ AskHasForms
 ask_formed : (d : Data) → HasText d → IfOk (told (ask_or_fault d)) AskHasForms
 ask_formed d has = then_any (found (codes "do") d (text_at (codes "do") d)) _ AskHasForms (λ name. by_formed (kind_of name) d has)
 
-object_formed : (o : Option Data) → IfSome o HasText → IfSome (option_and_then if_object o) HasText
+pub object_formed : (o : Option Data) → IfSome o HasText → IfSome (option_and_then if_object o) HasText
 object_formed None has = tt
 object_formed (Some d) has = under (is_some (as_object d)) (Some d) HasText (λ is. has)
 
-by_call_formed : (actor : List ℕ) (ask d : Data) → HasText ask → HasText d → IsShort actor → IfOk (told (call_by actor ask d)) CallHasForms
+pub by_call_formed : (actor : List ℕ) (ask d : Data) → HasText ask → HasText d → IsShort actor → IfOk (told (call_by actor ask d)) CallHasForms
 by_call_formed actor ask d has_ask has is_actor =
     short_then (codes "key") d _ CallHasForms has (λ key is_key.
     formed (codes "number") d (request_at (codes "number") d) _ (λ n. n ≤ 1_000_000_000_000) CallHasForms (number_formed (codes "number") 1_000_000_000_000 d) (λ number is_number.
@@ -121,7 +121,7 @@ by_call_formed actor ask d has_ask has is_actor =
     record { actor = is_actor; key = is_key; number = is_number; ask = is_ask })))
 
 -- what stands before the key and the number
-front_formed : {A : Type 0} (d : Data) (f : List ℕ → Data → Result A BadCall) (Q : A → Type 0) → HasText d → ((actor : List ℕ) (ask : Data) → IsShort actor → HasText ask → IfOk (told (f actor ask)) Q)
+pub front_formed : {A : Type 0} (d : Data) (f : List ℕ → Data → Result A BadCall) (Q : A → Type 0) → HasText d → ((actor : List ℕ) (ask : Data) → IsShort actor → HasText ask → IfOk (told (f actor ask)) Q)
     → IfOk (told (and_then (found (codes "actor") d (short_at (codes "actor") d)) (λ actor. and_then (found (codes "ask") d (object_at (codes "ask") d)) (λ ask. f actor ask)))) Q
 front_formed d f Q has next =
     short_then (codes "actor") d _ Q has (λ actor is_actor.
@@ -132,12 +132,14 @@ call_formed d has =
     then_any (only_keys object.Call d) _ CallHasForms (λ only.
     front_formed d (λ actor ask. call_by actor ask d) CallHasForms has (λ actor ask is_actor has_ask. by_call_formed actor ask d has_ask has is_actor))
 
-line_formed : (d : Data) → HasText d → IfOk (told (line_in d)) LineHasForms
-line_formed d has =
-    then_any (only_keys object.Line d) _ LineHasForms (λ only.
+pub line_fields_formed : (d : Data) → HasText d → IfOk (told (line_fields d)) LineHasForms
+line_fields_formed d has =
     front_formed d _ LineHasForms has (λ actor ask is_actor has_ask.
     moment_then (codes "at") d _ LineHasForms (λ at is_at.
-    formed_after (call_by actor ask d) _ CallHasForms LineHasForms (by_call_formed actor ask d has_ask has is_actor) (λ call is. (is_at, is)))))
+    formed_after (call_by actor ask d) _ CallHasForms LineHasForms (by_call_formed actor ask d has_ask has is_actor) (λ call is. (is_at, is))))
+
+line_formed : (d : Data) → HasText d → IfOk (told (line_in d)) LineHasForms
+line_formed d has = then_any (only_keys object.Line d) _ LineHasForms (λ only. line_fields_formed d has)
 
 -- ---- what is answered of boxes
 

@@ -1,5 +1,6 @@
 -- A line or a call is read exactly where its fields are there and nothing else.
 use Rattle.std.proofs.Common.{◌≡◌, ℕ, Bool, true, false, if◌then◌else◌, List, Option, None, Some, IfOk, Result, Ok, Err, codes, refl, ap, ◌∙◌, subst}
+use Rattle.std.proofs.lemmas.Result.{IfOk-weaker}
 use Rattle.std.specs.Prelude.{is_some, option_and_then}
 use Rattle.serde_json.specs.Data.{Data}
 use Rattle.serde_json.specs.Find.{get, as_object}
@@ -11,7 +12,7 @@ use Rattle.desk_json.specs.declared.keys.AskKind.{AskKind}
 use Rattle.desk_json.specs.declared.keys.Object.TheVariants as object
 use Rattle.desk_json.specs.declared.bad_call.CallFault.{CallFault}
 use Rattle.desk_json.specs.Keys.{only_keys}
-use Rattle.desk_json.specs.Faults.{kind_of, ask_of_kind, ask_by, ask_or_fault, if_object, object_at, request_at, call_by, call_in, line_in, read_as, call_or_fault, line_or_fault, Answers}
+use Rattle.desk_json.specs.Faults.{kind_of, ask_of_kind, ask_by, ask_or_fault, if_object, object_at, request_at, call_by, call_in, line_fields, line_in, read_as, call_or_fault, line_or_fault, Answers}
 use Rattle.desk_json.specs.Calls.{HasAsk, HasCall, IsCallOf, IsLineOf, IsFound}
 use Rattle.desk_json.proofs.Results.{told, answered, gives, chain, after, passed, passed_after}
 use Rattle.desk_json.proofs.Members.{only_found, only_passed}
@@ -51,14 +52,14 @@ object_is true d q is = is
 object_is false d q is = absurd (cc is)
 
 -- an object that is found stands at its key
-object_there : (o : Option Data) (q : Data) → option_and_then if_object o ≡ Some q → o ≡ Some q
+pub object_there : (o : Option Data) (q : Data) → option_and_then if_object o ≡ Some q → o ≡ Some q
 object_there None q is = is
 object_there (Some d) q is = object_is (is_some (as_object d)) d q is
 
-object_passed : (o : Option Data) (q : Data) → o ≡ Some q → is_some (as_object q) ≡ true → option_and_then if_object o ≡ Some q
+pub object_passed : (o : Option Data) (q : Data) → o ≡ Some q → is_some (as_object q) ≡ true → option_and_then if_object o ≡ Some q
 object_passed o q there is = ap (option_and_then if_object) there ∙ ap (λ b. if b then Some q else None) is
 
-call_found : (d inner : Data) (actor : List ℕ) → short_at (codes "actor") d ≡ Some actor → object_at (codes "ask") d ≡ Some inner → IfOk (told (call_by actor inner d)) (HasCall d)
+pub call_found : (d inner : Data) (actor : List ℕ) → short_at (codes "actor") d ≡ Some actor → object_at (codes "ask") d ≡ Some inner → IfOk (told (call_by actor inner d)) (HasCall d)
 call_found d inner actor is_actor is_inner =
     let N : Result Call CallFault → Type 0 = λ r. IfOk r (HasCall d) in
     chain N (codes "key") d (short_at (codes "key") d) _ (λ none. tt) (λ key is_key.
@@ -72,7 +73,7 @@ call_found d inner actor is_actor is_inner =
       ask = subst (λ (r : Result Ask BadCall). IfOk (told r) (HasAsk inner)) is_ask (ask_found inner);
     })))
 
-call_passed : (d : Data) (c : Call) (is : HasCall d c) → call_by c.actor is.inner d ≡ Ok c
+pub call_passed : (d : Data) (c : Call) (is : HasCall d c) → call_by c.actor is.inner d ≡ Ok c
 call_passed d c is =
     passed (codes "key") d (short_at (codes "key") d) _ c.key (Ok c) is.key
     (passed (codes "number") d (request_at (codes "number") d) _ c.number (Ok c) is.number
@@ -90,24 +91,33 @@ data_call text d json =
     chain N (codes "ask") d (object_at (codes "ask") d) _ (λ none. tt) (λ inner is_inner.
     call_held text d only is_only json (call_by actor inner d) (call_found d inner actor is_actor is_inner))))
 
-data_line : (text : List ℕ) (d : Data) → data_of text ≡ Some d → IfOk (told (line_in d)) (IsLineOf text)
-data_line text d json =
-    let N : Result (ℕ × Call) CallFault → Type 0 = λ r. IfOk r (IsLineOf text) in
-    after N (only_keys object.Line d) _ (λ b is. tt) (λ only is_only.
+-- the moment and the fields of a call
+abbrev pub HasLine : Data → ℕ × Call → Type 0
+HasLine d line = (moment_at (codes "at") d ≡ Some line.0) × HasCall d line.1
+
+pub line_fields_found : (d : Data) → IfOk (told (line_fields d)) (HasLine d)
+line_fields_found d =
+    let N : Result (ℕ × Call) CallFault → Type 0 = λ r. IfOk r (HasLine d) in
     chain N (codes "actor") d (short_at (codes "actor") d) _ (λ none. tt) (λ actor is_actor.
     chain N (codes "ask") d (object_at (codes "ask") d) _ (λ none. tt) (λ inner is_inner.
     chain N (codes "at") d (moment_at (codes "at") d) _ (λ none. tt) (λ at is_at.
-    after N (call_by actor inner d) _ (λ b is. tt) (λ call is_call. record {
-      value = d;
-      json = json;
-      only = only_found object.Line d only is_only;
-      moment = is_at;
-      fields = subst (λ (r : Result Call BadCall). IfOk (told r) (HasCall d)) is_call (call_found d inner actor is_actor is_inner);
-    })))))
+    after N (call_by actor inner d) _ (λ b is. tt) (λ call is_call. (is_at, subst (λ (r : Result Call BadCall). IfOk (told r) (HasCall d)) is_call (call_found d inner actor is_actor is_inner))))))
+
+data_line : (text : List ℕ) (d : Data) → data_of text ≡ Some d → IfOk (told (line_in d)) (IsLineOf text)
+data_line text d json =
+    after (λ r. IfOk r (IsLineOf text)) (only_keys object.Line d) _ (λ b is. tt) (λ only is_only.
+    IfOk-weaker (told (line_fields d)) _ _ (λ line is. record { value = d; json = json; only = only_found object.Line d only is_only; moment = is.0; fields = is.1 }) (line_fields_found d))
+
+pub line_fields_passed : (d : Data) (line : ℕ × Call) → HasLine d line → line_fields d ≡ Ok line
+line_fields_passed d l is =
+    passed (codes "actor") d (short_at (codes "actor") d) _ l.1.actor (Ok l) is.1.actor
+    (passed (codes "ask") d (object_at (codes "ask") d) _ is.1.inner (Ok l) (object_passed (get (codes "ask") d) is.1.inner is.1.found is.1.ask.only.0)
+    (passed (codes "at") d (moment_at (codes "at") d) _ l.0 (Ok l) is.0
+    (passed_after (call_by l.1.actor is.1.inner d) _ l.1 (Ok l) (call_passed d l.1 is.1) refl)))
 
 -- ---- texts
 
-read_found : {A : Type 0} (f : Data → Result A BadCall) (Is : A → Type 0) (o : Option Data) → ((d : Data) → o ≡ Some d → IfOk (told (f d)) Is) → IfOk (told (read_as f o)) Is
+pub read_found : {A : Type 0} (f : Data → Result A BadCall) (Is : A → Type 0) (o : Option Data) → ((d : Data) → o ≡ Some d → IfOk (told (f d)) Is) → IfOk (told (read_as f o)) Is
 read_found f Is None each = tt
 read_found f Is (Some d) each = each d refl
 
@@ -124,11 +134,7 @@ line_read : (line : List ℕ) (l : ℕ × Call) → IsLineOf line l → line_or_
 unfolding line_or_fault
 line_read line l is =
     ap (read_as line_in) is.json
-    ∙ passed_after (only_keys object.Line is.value) _ tt (Ok l) (only_passed object.Line is.value is.only)
-    (passed (codes "actor") is.value (short_at (codes "actor") is.value) _ l.1.actor (Ok l) is.fields.actor
-    (passed (codes "ask") is.value (object_at (codes "ask") is.value) _ is.fields.inner (Ok l) (object_passed (get (codes "ask") is.value) is.fields.inner is.fields.found is.fields.ask.only.0)
-    (passed (codes "at") is.value (moment_at (codes "at") is.value) _ l.0 (Ok l) is.moment
-    (passed_after (call_by l.1.actor is.fields.inner is.value) _ l.1 (Ok l) (call_passed is.value l.1 is.fields) refl))))
+    ∙ passed_after (only_keys object.Line is.value) _ tt (Ok l) (only_passed object.Line is.value is.only) (line_fields_passed is.value l (is.moment, is.fields))
 
 pub call_finds : (text : List ℕ) (r : Result Call CallFault) → Answers (call_or_fault text) r → IsFound (IsCallOf text) r
 unfolding call_or_fault

@@ -10,7 +10,7 @@ use Rattle.desk_json.specs.declared.bad_call.CallFault.{CallFault}
 use Rattle.desk_json.specs.declared.keys.Object.{Object}
 use Rattle.desk_json.specs.declared.keys.Object.TheVariants as of
 use Rattle.desk_json.specs.Keys.{is_key, is_line_key, is_call_key, first_extra, no_extra, only_keys, and_then}
-use Rattle.desk_json.specs.Faults.{call_fields, line_fields, read_as, call_or_fault, line_or_fault, Answers, IsExtraNamed, NamesExtra}
+use Rattle.desk_json.specs.Faults.{call_fields, line_fields, read_as, call_or_fault, line_or_fault, Answers, IsExtraNamed, NamesExtra, NamesExtraOf}
 use Rattle.desk_json.proofs.Members.{IsUpTo, first_least}
 use Rattle.desk_json.proofs.Orders.{Ordered, data_ordered}
 use Rattle.desk_json.proofs.Results.{told, answered}
@@ -32,16 +32,16 @@ told_more o f (object ms) k is some extra = told_first k (first_extra o ms) f (f
 in_order : (text : List ℕ) (d : Data) → data_of text ≡ Some d → Ordered d
 in_order text d same = subst (λ o. IfSome o Ordered) same (data_ordered text)
 
-tells : {A : Type 0} (o : Object) (f : Data → Result A BadCall) (text : List ℕ) (r : Result A CallFault)
-    → Answers (read_as (λ d. and_then (only_keys o d) (λ only. f d)) (data_of text)) r → NamesExtra (is_key o) text r
+pub tells : {A : Type 0} (o : Data → Object) (f : Data → Result A BadCall) (text : List ℕ) (r : Result A CallFault)
+    → Answers (read_as (λ d. and_then (only_keys (o d) d) (λ only. f d)) (data_of text)) r → NamesExtraOf (λ d. is_key (o d)) text r
 tells o f text r is = λ d k same some extra.
-    answered (λ x. IsExtraNamed k x) (and_then (only_keys o d) (λ only. f d)) r tt (told_more o (λ only. f d) d k (in_order text d same) some extra)
-    (subst (λ p. Answers (read_as (λ q. and_then (only_keys o q) (λ only. f q)) p) r) same is)
+    answered (λ x. IsExtraNamed k x) (and_then (only_keys (o d) d) (λ only. f d)) r tt (told_more (o d) (λ only. f d) d k (in_order text d same) some extra)
+    (subst (λ p. Answers (read_as (λ q. and_then (only_keys (o q) q) (λ only. f q)) p) r) same is)
 
 pub call_tells : (text : List ℕ) (r : Result Call CallFault) → Answers (call_or_fault text) r → NamesExtra is_call_key text r
 unfolding call_or_fault
-call_tells text r is = tells of.Call call_fields text r is
+call_tells text r is = tells (λ d. of.Call) call_fields text r is
 
 pub line_tells : (line : List ℕ) (r : Result (ℕ × Call) CallFault) → Answers (line_or_fault line) r → NamesExtra is_line_key line r
 unfolding line_or_fault
-line_tells line r is = tells of.Line line_fields line r is
+line_tells line r is = tells (λ d. of.Line) line_fields line r is

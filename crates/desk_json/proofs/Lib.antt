@@ -9,3 +9,11 @@ pub mod Unread
 pub mod Written
 pub mod ReplyForms
 pub mod ReplyAgain
+pub mod PlanLaws
+pub mod SenderLaws
+pub mod ShiftLaws
+pub mod ShiftUnread
+pub mod PlannedLaws
+pub mod PlannedUnread
+pub mod LineReplyLaws
+pub mod AsLines

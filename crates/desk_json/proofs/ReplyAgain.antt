@@ -140,7 +140,7 @@ reply_again (Refused refusal) is = refusal_again refusal is
 wide_plain : (n : ℕ) → IsWide n → n < 2 ^ 64
 wide_plain n few = omega arith
 
-small_plain : (n : ℕ) → n ≤ 255 → n < 2 ^ 64
+pub small_plain : (n : ℕ) → n ≤ 255 → n < 2 ^ 64
 small_plain n few = omega arith
 
 refusal_plain : (r : Refusal) → RefusalHasForms r → IsPlain (refusal_data r)
@@ -256,7 +256,7 @@ reply_depth (Refused refusal) = refusal_depth refusal
 
 -- ---- texts
 
-data_again : (d : Data) → IsPlain d → HasText d → depth d ≤ max_depth → data_of (compact_text d) ≡ Some d
+pub data_again : (d : Data) → IsPlain d → HasText d → depth d ≤ max_depth → data_of (compact_text d) ≡ Some d
 data_again d plain has shallow =
     rw (utf8_valid_len-IsUtf8 (compact_text d) (utf8_compact d plain has), eq-eqb (length (compact_text d)) (length (compact_text d)) refl) (read_compact d plain shallow)
 

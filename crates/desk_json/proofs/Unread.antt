@@ -12,42 +12,42 @@ use Rattle.desk_json.specs.declared.bad_call.CallFault.{CallFault}
 use Rattle.desk_json.specs.declared.keys.Object.{Object}
 use Rattle.desk_json.specs.declared.keys.Object.TheVariants as of
 use Rattle.desk_json.specs.Keys.{and_then, first_extra, found, is_call_key, is_key, is_line_key, no_extra, only_keys}
-use Rattle.desk_json.specs.Faults.{object_at, request_at, call_fields, line_fields, read_as, call_or_fault, line_or_fault, Answers, IsUnreadOfCall, IsUnreadOfLine, IsUnreadNamed, NamesUnread}
+use Rattle.desk_json.specs.Faults.{object_at, request_at, call_fields, line_fields, read_as, call_or_fault, line_or_fault, Answers, IsUnreadOfCall, IsUnreadOfLine, IsUnreadNamed, NamesUnread, NamesUnreadOf}
 use Rattle.desk_json.proofs.Members.{first_more, same_place}
 use Rattle.desk_json.proofs.Results.{told, answered, chain}
 
 -- nothing is read at this key
-here : {A B : Type 0} (expected : List ℕ → Bool) (unread : Data → List ℕ → Type 0) (key k : List ℕ) (d : Data) (o : Option A) (f : A → Result B BadCall) → k ≡ key → o ≡ None → unread d key
+pub here : {A B : Type 0} (expected : List ℕ → Bool) (unread : Data → List ℕ → Type 0) (key k : List ℕ) (d : Data) (o : Option A) (f : A → Result B BadCall) → k ≡ key → o ≡ None → unread d key
     → IsUnreadNamed expected unread d k (told (and_then (found key d o) f))
 here expected unread key k d o f is none at =
     subst (λ q. IsUnreadNamed expected unread d q (told (and_then (found key d o) f))) (sym is)
     (subst (λ p. IsUnreadNamed expected unread d key (told (and_then (found key d p) f))) (sym none) (inr (refl, at, same_place key)))
 
 -- it comes after this one
-past : {A B : Type 0} (expected : List ℕ → Bool) (unread : Data → List ℕ → Type 0) (key k : List ℕ) (d : Data) (o : Option A) (f : A → Result B BadCall) → (o ≡ None → unread d key)
+pub past : {A B : Type 0} (expected : List ℕ → Bool) (unread : Data → List ℕ → Type 0) (key k : List ℕ) (d : Data) (o : Option A) (f : A → Result B BadCall) → (o ≡ None → unread d key)
     → is_gt (slice_cmp nat_cmp key k) ≡ false → ((x : A) → IsUnreadNamed expected unread d k (told (f x))) → IsUnreadNamed expected unread d k (told (and_then (found key d o) f))
 past expected unread key k d o f at before next = chain (λ r. IsUnreadNamed expected unread d k r) key d o f (λ none. inr (refl, at none, before)) (λ x is. next x)
 
 -- after a chain within a chain, as after one
-flat : {A B C : Type 0} (expected : List ℕ → Bool) (unread : Data → List ℕ → Type 0) (k : List ℕ) (d : Data) (r : Result A BadCall) (f : A → Result B BadCall) (g : B → Result C BadCall)
+pub flat : {A B C : Type 0} (expected : List ℕ → Bool) (unread : Data → List ℕ → Type 0) (k : List ℕ) (d : Data) (r : Result A BadCall) (f : A → Result B BadCall) (g : B → Result C BadCall)
     → IsUnreadNamed expected unread d k (told (and_then r (λ x. and_then (f x) g))) → IsUnreadNamed expected unread d k (told (and_then (and_then r f) g))
 flat expected unread k d (Ok x) f g is = is
 flat expected unread k d (Err b) f g is = is
 
 -- a key is after another, wherever it is named
-before : (key other k : List ℕ) → k ≡ other → is_gt (slice_cmp nat_cmp key other) ≡ false → is_gt (slice_cmp nat_cmp key k) ≡ false
+pub before : (key other k : List ℕ) → k ≡ other → is_gt (slice_cmp nat_cmp key other) ≡ false → is_gt (slice_cmp nat_cmp key k) ≡ false
 before key other k is lower = subst (λ q. is_gt (slice_cmp nat_cmp key q) ≡ false) (sym is) lower
 
-actor_of : (d : Data) → short_at (codes "actor") d ≡ None → IsUnreadOfCall d (codes "actor")
+pub actor_of : (d : Data) → short_at (codes "actor") d ≡ None → IsUnreadOfCall d (codes "actor")
 actor_of d none = inl (refl, none)
 
-ask_of : (d : Data) → object_at (codes "ask") d ≡ None → IsUnreadOfCall d (codes "ask")
+pub ask_of : (d : Data) → object_at (codes "ask") d ≡ None → IsUnreadOfCall d (codes "ask")
 ask_of d none = inr (inr (inr (refl, none)))
 
-key_of : (d : Data) → short_at (codes "key") d ≡ None → IsUnreadOfCall d (codes "key")
+pub key_of : (d : Data) → short_at (codes "key") d ≡ None → IsUnreadOfCall d (codes "key")
 key_of d none = inr (inl (refl, none))
 
-number_of : (d : Data) → request_at (codes "number") d ≡ None → IsUnreadOfCall d (codes "number")
+pub number_of : (d : Data) → request_at (codes "number") d ≡ None → IsUnreadOfCall d (codes "number")
 number_of d none = inr (inr (inl (refl, none)))
 
 call_first : (d : Data) (k : List ℕ) → IsUnreadOfCall d k → IsUnreadNamed is_call_key IsUnreadOfCall d k (told (call_fields d))
@@ -65,7 +65,7 @@ call_first d k (inr (inr (inl (is, none)))) =
     past is_call_key IsUnreadOfCall (codes "key") k d (short_at (codes "key") d) _ (key_of d) (before (codes "key") (codes "number") k is refl) (λ key.
     here is_call_key IsUnreadOfCall (codes "number") k d (request_at (codes "number") d) _ is none (number_of d none))))
 
-line_first : (d : Data) (k : List ℕ) → IsUnreadOfLine d k → IsUnreadNamed is_line_key IsUnreadOfLine d k (told (line_fields d))
+pub line_first : (d : Data) (k : List ℕ) → IsUnreadOfLine d k → IsUnreadNamed is_line_key IsUnreadOfLine d k (told (line_fields d))
 line_first d k (inr (inl (is, none))) = here is_line_key IsUnreadOfLine (codes "actor") k d (short_at (codes "actor") d) _ is none (inr (actor_of d none))
 line_first d k (inr (inr (inr (inr (is, none))))) =
     past is_line_key IsUnreadOfLine (codes "actor") k d (short_at (codes "actor") d) _ (λ e. inr (actor_of d e)) (before (codes "actor") (codes "ask") k is refl) (λ actor.
@@ -106,17 +106,17 @@ under_keys o unread (string t) k r some is = absurd (true≢false (sym some))
 under_keys o unread (array ds) k r some is = absurd (true≢false (sym some))
 under_keys o unread (object ms) k r some is = under_more o unread ms k (first_extra o ms) r refl is
 
-names : {A : Type 0} (o : Object) (unread : Data → List ℕ → Type 0) (f : Data → Result A BadCall) (text : List ℕ) (r : Result A CallFault)
-    → ((d : Data) (k : List ℕ) → unread d k → IsUnreadNamed (is_key o) unread d k (told (f d)))
-    → Answers (read_as (λ d. and_then (only_keys o d) (λ only. f d)) (data_of text)) r → NamesUnread (is_key o) unread text r
+pub names : {A : Type 0} (o : Data → Object) (unread : Data → List ℕ → Type 0) (f : Data → Result A BadCall) (text : List ℕ) (r : Result A CallFault)
+    → ((d : Data) (k : List ℕ) → unread d k → IsUnreadNamed (is_key (o d)) unread d k (told (f d)))
+    → Answers (read_as (λ d. and_then (only_keys (o d) d) (λ only. f d)) (data_of text)) r → NamesUnreadOf (λ d. is_key (o d)) unread text r
 names o unread f text r first is = λ d k same some none.
-    answered (λ x. IsUnreadNamed (is_key o) unread d k x) (and_then (only_keys o d) (λ only. f d)) r tt (under_keys o unread d k (f d) some (first d k none))
-    (subst (λ p. Answers (read_as (λ q. and_then (only_keys o q) (λ only. f q)) p) r) same is)
+    answered (λ x. IsUnreadNamed (is_key (o d)) unread d k x) (and_then (only_keys (o d) d) (λ only. f d)) r tt (under_keys (o d) unread d k (f d) some (first d k none))
+    (subst (λ p. Answers (read_as (λ q. and_then (only_keys (o q) q) (λ only. f q)) p) r) same is)
 
 pub call_unread : (text : List ℕ) (r : Result Call CallFault) → Answers (call_or_fault text) r → NamesUnread is_call_key IsUnreadOfCall text r
 unfolding call_or_fault
-call_unread text r is = names of.Call IsUnreadOfCall call_fields text r call_first is
+call_unread text r is = names (λ d. of.Call) IsUnreadOfCall call_fields text r call_first is
 
 pub line_unread : (line : List ℕ) (r : Result (ℕ × Call) CallFault) → Answers (line_or_fault line) r → NamesUnread is_line_key IsUnreadOfLine line r
 unfolding line_or_fault
-line_unread line r is = names of.Line IsUnreadOfLine line_fields line r line_first is
+line_unread line r is = names (λ d. of.Line) IsUnreadOfLine line_fields line r line_first is

@@ -14,7 +14,7 @@ use Rattle.desk_json.specs.Canonical.{call_data}
 use Rattle.desk_json.specs.Replies.{refusal_data, reply_data, bad_data}
 use Rattle.release_json.specs.Findings.{finding_data}
 
-finding_whole : (f : Finding) → has_float (finding_data f) ≡ false
+pub finding_whole : (f : Finding) → has_float (finding_data f) ≡ false
 finding_whole f = refl
 
 refusal_whole : (r : Refusal) → has_float (refusal_data r) ≡ false

@@ -7,6 +7,7 @@ use Rattle.asks.specs.declared.call.Ask.{Ask}
 use Rattle.asks.specs.Fields.{data_of, text_at, short_at, moment_at}
 use Rattle.desk_json.specs.declared.keys.AskKind.{AskKind}
 use Rattle.desk_json.specs.declared.keys.Object.TheVariants as object
+use Rattle.desk_json.specs.declared.senders.Sender.{Sender}
 use Rattle.desk_json.specs.declared.bad_call.CallFault.{CallFault}
 use Rattle.desk_json.specs.Keys.{is_key, is_call_key, is_line_key}
 use Rattle.desk_json.specs.Faults.{kind_of, ask_of_kind, request_at, Gives}
@@ -30,6 +31,17 @@ pub record HasCall (d : Data) (call : Call) : Type 0 where
   pub inner : Data
   pub found : get (codes "ask") d ≡ Some inner
   pub ask : HasAsk inner call.ask
+
+-- the fields that relief lines and planned lines share: the sender, the moment and the sender's key
+pub record HasSender (d : Data) (s : Sender) : Type 0 where
+  pub actor : short_at (codes "actor") d ≡ Some s.actor
+  pub moment : moment_at (codes "at") d ≡ Some s.at
+  pub key : short_at (codes "key") d ≡ Some s.key
+
+-- an object with this name, and no key but those expected
+pub record IsNamed (d : Data) (word : List ℕ) (expected : List ℕ → Bool) : Type 0 where
+  pub name : text_at (codes "do") d ≡ Some word
+  pub only : HasOnly expected d
 
 -- a text with the fields of a call and nothing else
 pub record IsCallOf (text : List ℕ) (call : Call) : Type 0 where

@@ -1,6 +1,6 @@
 -- Lines, request bodies and calls as JSON, with keys in byte order.
 use Rattle.std.specs.Prelude.{◌≡◌, ℕ, List, Some, codes, Result}
-use Rattle.serde_json.specs.Data.{Data, object, member, no_members}
+use Rattle.serde_json.specs.Data.{Data, object, Members, member, no_members}
 use Rattle.serde_json.specs.Written.{compact_text}
 use Rattle.desk_time.specs.Limits.{IsMoment}
 use Rattle.asks.specs.declared.call.Call.{Call}
@@ -10,14 +10,22 @@ use Rattle.desk_json.specs.Faults.{Gives}
 use Rattle.asks.specs.Canonical.{count, text_data, moment_data, ask_data}
 use Rattle.asks.specs.Forms.{CallHasForms}
 
--- the JSON of a moment and a call, as a line of a script
-unfoldable pub line_data : ℕ → Call → Data
-line_data at c = object
-    (member (codes "actor") (text_data c.actor)
+abbrev pub line_members : ℕ → Call → Members
+line_members at c =
+    member (codes "actor") (text_data c.actor)
     (member (codes "ask") (ask_data c.ask)
     (member (codes "at") (moment_data at)
     (member (codes "key") (text_data c.key)
-    (member (codes "number") (count c.number) no_members)))))
+    (member (codes "number") (count c.number) no_members))))
+
+-- the JSON of a moment and a call, as a line of a script
+unfoldable pub line_data : ℕ → Call → Data
+line_data at c = object (line_members at c)
+
+-- the members of a relief line or a planned line, besides what it asks
+abbrev pub sender_members : ℕ → List ℕ → List ℕ → Members
+sender_members at actor key =
+    member (codes "actor") (text_data actor) (member (codes "at") (moment_data at) (member (codes "key") (text_data key) no_members))
 
 -- the JSON of a call, as the body of a request
 unfoldable pub posted_data : Call → Data

@@ -16,7 +16,9 @@ use Rattle.asks.specs.declared.bad_call.BadCall.{BadCall}
 use Rattle.asks.specs.declared.bad_call.CallWhy.TheVariants.{NotJson, Extra, UnknownAsk}
 use Rattle.desk_json.specs.declared.keys.AskKind.{AskKind}
 use Rattle.desk_json.specs.declared.keys.AskKind.TheVariants as kind
+use Rattle.desk_json.specs.declared.keys.Object.{Object}
 use Rattle.desk_json.specs.declared.keys.Object.TheVariants as object
+use Rattle.desk_json.specs.declared.senders.Sender.{Sender}
 use Rattle.desk_json.specs.declared.asked.Signed.{Signed}
 use Rattle.desk_json.specs.declared.asked.Flown.{Flown}
 use Rattle.desk_json.specs.declared.bad_call.CallFault.{CallFault}
@@ -97,14 +99,21 @@ ask_of_kind kind.Release d = and_then (release_of d) (λ release. Ok (ViewReleas
 ask_of_kind kind.Weather d = and_then (need station_at (codes "station") d) (λ station. Ok (ViewWeather station))
 ask_of_kind kind.Deferred d = and_then (need short_at (codes "tail") d) (λ tail. Ok (ViewDeferred tail))
 
--- an ask of a kind: first no unexpected key, then each key
-abbrev pub ask_by : Option AskKind → Data → Result Ask BadCall
-ask_by None d = Err (bad UnknownAsk (codes "do"))
-ask_by (Some k) d = and_then (only_keys (object.Asked k) d) (λ only. ask_of_kind k d)
+-- what an object of a kind represents: first no unexpected key, then each key
+abbrev pub named_by : {K A : Type 0} → (K → Object) → (K → Data → Result A BadCall) → Option K → Data → Result A BadCall
+named_by keys fields None d = Err (bad UnknownAsk (codes "do"))
+named_by keys fields (Some k) d = and_then (only_keys (keys k) d) (λ only. fields k d)
 
--- an ask: first its name, then whether there is such an ask, then its keys
+-- what an object represents: first its name, then whether there is such a kind, then its keys
+abbrev pub named : {K A : Type 0} → (List ℕ → Option K) → (K → Object) → (K → Data → Result A BadCall) → Data → Result A BadCall
+named kind_of keys fields d = and_then (need text_at (codes "do") d) (λ name. named_by keys fields (kind_of name) d)
+
+abbrev pub ask_by : Option AskKind → Data → Result Ask BadCall
+ask_by k d = named_by (λ k. object.Asked k) ask_of_kind k d
+
+-- the ask of an object
 abbrev pub ask_or_fault : Data → Result Ask BadCall
-ask_or_fault d = and_then (need text_at (codes "do") d) (λ name. ask_by (kind_of name) d)
+ask_or_fault d = named kind_of (λ k. object.Asked k) ask_of_kind d
 
 -- ---- calls and lines
 
@@ -135,13 +144,26 @@ call_fields d =
     and_then (need short_at (codes "actor") d) (λ actor.
     and_then (need object_at (codes "ask") d) (λ ask. call_by actor ask d))
 
--- the keys of a line, and then its ask
-abbrev pub line_fields : Data → Result (ℕ × Call) BadCall
-line_fields d =
+-- the first keys of a line, and then the rest
+abbrev pub line_with : {A : Type 0} → Data → (List ℕ → Data → ℕ → Result A BadCall) → Result A BadCall
+line_with d rest =
     and_then (need short_at (codes "actor") d) (λ actor.
     and_then (need object_at (codes "ask") d) (λ ask.
+    and_then (need moment_at (codes "at") d) (λ at. rest actor ask at)))
+
+-- the keys of a line, and then its ask
+abbrev pub line_fields : Data → Result (ℕ × Call) BadCall
+line_fields d = line_with d (λ actor ask at. and_then (call_by actor ask d) (λ call. Ok (at, call)))
+
+abbrev pub sent_by : ℕ → List ℕ → List ℕ → Sender
+sent_by at actor key = record { at = at; actor = actor; key = key }
+
+-- who sends a relief line or a planned line, when, and with which key
+abbrev pub sender_of : Data → Result Sender BadCall
+sender_of d =
+    and_then (need short_at (codes "actor") d) (λ actor.
     and_then (need moment_at (codes "at") d) (λ at.
-    and_then (call_by actor ask d) (λ call. Ok (at, call)))))
+    and_then (need short_at (codes "key") d) (λ key. Ok (sent_by at actor key))))
 
 abbrev pub call_in : Data → Result Call BadCall
 call_in d = and_then (only_keys object.Call d) (λ only. call_fields d)
@@ -187,9 +209,13 @@ IsExtraNamed k (Ok x) = ⊥
 IsExtraNamed k (Err (fault.Bad b)) = (b.why ≡ Extra) × (is_gt (slice_cmp nat_cmp b.key k) ≡ false)
 IsExtraNamed k (Err fault.OutOfMemory) = Unit {0}
 
--- The reader names the smallest unexpected key of an object, unless memory runs out.
+-- The reader names the smallest unexpected key of an object, unless memory runs out. Which keys are expected may depend
+-- on the object.
+abbrev pub NamesExtraOf : {A : Type 0} → (Data → List ℕ → Bool) → List ℕ → Result A CallFault → Type 0
+NamesExtraOf expected text r = (d : Data) (k : List ℕ) → data_of text ≡ Some d → is_some (get k d) ≡ true → expected d k ≡ false → IsExtraNamed k r
+
 abbrev pub NamesExtra : {A : Type 0} → (List ℕ → Bool) → List ℕ → Result A CallFault → Type 0
-NamesExtra expected text r = (d : Data) (k : List ℕ) → data_of text ≡ Some d → is_some (get k d) ≡ true → expected k ≡ false → IsExtraNamed k r
+NamesExtra expected text r = NamesExtraOf (λ d. expected) text r
 
 -- this key can't be read: it is missing, or its value is malformed or out of range
 abbrev pub IsUnread : {A : Type 0} → (List ℕ → Data → Option A) → List ℕ → Data → List ℕ → Type 0
@@ -198,6 +224,10 @@ IsUnread read key d k = (k ≡ key) × (read key d ≡ None)
 -- one of the keys of a call
 abbrev pub IsUnreadOfCall : Data → List ℕ → Type 0
 IsUnreadOfCall d k = IsUnread short_at (codes "actor") d k ⊎ (IsUnread short_at (codes "key") d k ⊎ (IsUnread request_at (codes "number") d k ⊎ IsUnread object_at (codes "ask") d k))
+
+-- one of the keys of the sender of a line
+abbrev pub IsUnreadOfSender : Data → List ℕ → Type 0
+IsUnreadOfSender d k = IsUnread short_at (codes "actor") d k ⊎ (IsUnread moment_at (codes "at") d k ⊎ IsUnread short_at (codes "key") d k)
 
 -- one of the keys of a line
 abbrev pub IsUnreadOfLine : Data → List ℕ → Type 0
@@ -213,5 +243,9 @@ IsUnreadNamed expected unread d k (Err (fault.Bad b)) =
 IsUnreadNamed expected unread d k (Err fault.OutOfMemory) = Unit {0}
 
 -- The reader names the smallest key that can't be read, unless a key is unexpected or memory runs out.
+abbrev pub NamesUnreadOf : {A : Type 0} → (Data → List ℕ → Bool) → (Data → List ℕ → Type 0) → List ℕ → Result A CallFault → Type 0
+NamesUnreadOf expected unread text r =
+    (d : Data) (k : List ℕ) → data_of text ≡ Some d → is_some (as_object d) ≡ true → unread d k → IsUnreadNamed (expected d) unread d k r
+
 abbrev pub NamesUnread : {A : Type 0} → (List ℕ → Bool) → (Data → List ℕ → Type 0) → List ℕ → Result A CallFault → Type 0
-NamesUnread expected unread text r = (d : Data) (k : List ℕ) → data_of text ≡ Some d → is_some (as_object d) ≡ true → unread d k → IsUnreadNamed expected unread d k r
+NamesUnread expected unread text r = NamesUnreadOf (λ d. expected) unread text r

@@ -8,6 +8,10 @@ use Rattle.asks.specs.declared.bad_call.CallWhy.{CallWhy}
 use Rattle.asks.specs.declared.bad_call.CallWhy.TheVariants.{NotObject, Extra, Missing, BadValue}
 use Rattle.desk_json.specs.declared.keys.AskKind.{AskKind}
 use Rattle.desk_json.specs.declared.keys.AskKind.TheVariants as kind
+use Rattle.desk_json.specs.declared.keys.DealKind.{DealKind}
+use Rattle.desk_json.specs.declared.keys.DealKind.TheVariants as deal_kind
+use Rattle.desk_json.specs.declared.keys.PlannedKind.{PlannedKind}
+use Rattle.desk_json.specs.declared.keys.PlannedKind.TheVariants as planned_kind
 use Rattle.desk_json.specs.declared.keys.Object.{Object}
 use Rattle.desk_json.specs.declared.keys.Object.TheVariants as object
 
@@ -46,11 +50,48 @@ is_call_key k = bytes_eq k (codes "actor") || bytes_eq k (codes "ask") || bytes_
 abbrev pub is_line_key : List ℕ → Bool
 is_line_key k = bytes_eq k (codes "at") || is_call_key k
 
+-- the keys of a line of shifts that isn't a relief line; `desk` may be missing
+abbrev pub is_shift_key : List ℕ → Bool
+is_shift_key k = bytes_eq k (codes "desk") || is_line_key k
+
+-- the keys that relief lines and planned lines share: the sender, the moment and the sender's key
+abbrev pub is_signed_key : List ℕ → Bool
+is_signed_key k = bytes_eq k (codes "actor") || bytes_eq k (codes "at") || bytes_eq k (codes "key")
+
+-- the keys of a relief line
+abbrev pub is_relief_key : List ℕ → Bool
+is_relief_key k = bytes_eq k (codes "relief") || is_signed_key k
+
+-- the keys of a planned line, unless it is a turn
+abbrev pub is_planned_key : List ℕ → Bool
+is_planned_key k = bytes_eq k (codes "planned") || is_signed_key k
+
+-- the keys of a turn
+abbrev pub is_turn_key : List ℕ → Bool
+is_turn_key k = bytes_eq k (codes "number") || is_planned_key k
+
+-- the keys of the `relief` of a line, besides `do`
+abbrev pub is_dealt : DealKind → List ℕ → Bool
+is_dealt deal_kind.Offer k = bytes_eq k (codes "desk") || bytes_eq k (codes "to")
+is_dealt deal_kind.Accept k = bytes_eq k (codes "desk")
+
+-- the keys of the `planned` of a line, besides `do`
+abbrev pub is_filed : PlannedKind → List ℕ → Bool
+is_filed planned_kind.File k = bytes_eq k (codes "leg") || bytes_eq k (codes "plan") || bytes_eq k (codes "release")
+is_filed planned_kind.Check k = bytes_eq k (codes "release")
+
 -- the keys of an object
 abbrev pub is_key : Object → List ℕ → Bool
 is_key object.Call k = is_call_key k
 is_key object.Line k = is_line_key k
+is_key object.Shift k = is_shift_key k
+is_key object.Relief k = is_relief_key k
+is_key object.Planned k = is_planned_key k
+is_key object.Turn k = is_turn_key k
 is_key (object.Asked a) k = bytes_eq k (codes "do") || is_asked a k
+is_key (object.Deal a) k = bytes_eq k (codes "do") || is_dealt a k
+is_key (object.Filed a) k = bytes_eq k (codes "do") || is_filed a k
+is_key object.Turned k = bytes_eq k (codes "do") || bytes_eq k (codes "release")
 
 -- The first unexpected key. Members are in byte order of their keys, so it is the smallest.
 abbrev pub first_extra : Object → Members → Option (List ℕ)

@@ -4,3 +4,7 @@ pub mod Faults
 pub mod Calls
 pub mod Canonical
 pub mod ReadReplies
+pub mod Plans
+pub mod Shifts
+pub mod PlannedLines
+pub mod LineReplies

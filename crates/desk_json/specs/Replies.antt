@@ -150,8 +150,11 @@ with_fields (BadFound moment) ms = put (codes "now") (moment_data moment) ms
 with_fields (DeferralsFull held) ms = put (codes "held") (count held) ms
 
 -- the members that every refusal has: its number and its name
+abbrev pub numbered : ℕ → List ℕ → Members
+numbered number name = member (codes "refused") (count number) (member (codes "why") (string name) no_members)
+
 abbrev pub refusal_members : Refusal → Members
-refusal_members r = member (codes "refused") (count (refusal_number r)) (member (codes "why") (string (refusal_name r)) no_members)
+refusal_members r = numbered (refusal_number r) (refusal_name r)
 
 abbrev pub refusal_data : Refusal → Data
 refusal_data r = object (with_fields r (refusal_members r))

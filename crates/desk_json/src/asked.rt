@@ -25,7 +25,8 @@ struct Flown {
     leg: u32,
 }
 
-fn release_of(alloc: Global, value: Element<'_>) -> Result<u64, CallFault>
+/// Reads the release that an object names.
+pub(crate) fn release_of(alloc: Global, value: Element<'_>) -> Result<u64, CallFault>
     ensures { Answers (spec.release_of (data_at value.entry)) result }
 {
     id_of(alloc, "release", value)

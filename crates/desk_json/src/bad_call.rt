@@ -10,7 +10,7 @@ use compact_json::Element;
 use desk_io::{OutOfMemory, Text};
 use std::alloc::Global;
 
-/// Why a text can't be read as a call or a reply.
+/// Why a text can't be read as a call, a line or a reply.
 #[derive(Debug, Drop)]
 pub enum CallFault {
     /// It has this fault.

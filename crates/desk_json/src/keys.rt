@@ -33,12 +33,43 @@ pub(crate) enum AskKind {
     Deferred,
 }
 
-/// An object with its own set of keys: a call, a line, or an ask.
+/// The kinds of the `relief` of a line.
+#[derive(Clone, Copy)]
+pub(crate) enum DealKind {
+    Offer,
+    Accept,
+}
+
+/// The kinds of the `planned` of a line, besides a turn.
+#[derive(Clone, Copy)]
+pub(crate) enum PlannedKind {
+    File,
+    Check,
+}
+
+/// An object with its own set of keys.
 #[derive(Clone, Copy)]
 pub(crate) enum Object {
+    /// A call.
     Call,
+    /// A line of a script: a call at a moment.
     Line,
+    /// A line of a script of shifts, unless it is a relief line: a call at a moment, maybe for a desk.
+    Shift,
+    /// A relief line.
+    Relief,
+    /// A planned line, unless it is a turn.
+    Planned,
+    /// A planned line that is a turn.
+    Turn,
+    /// The `ask` of a call.
     Asked(AskKind),
+    /// The `relief` of a relief line.
+    Deal(DealKind),
+    /// The `planned` of a planned line, unless it is a turn.
+    Filed(PlannedKind),
+    /// The `planned` of a turn.
+    Turned,
 }
 
 fn is_asked(kind: AskKind, key: &str) -> bool
@@ -69,13 +100,44 @@ fn is_call_key(key: &str) -> bool
     key == "actor" || key == "ask" || key == "key" || key == "number"
 }
 
+fn is_signed_key(key: &str) -> bool
+    ensures { result ≡ spec.is_signed_key key.now }
+{
+    key == "actor" || key == "at" || key == "key"
+}
+
+fn is_dealt(kind: DealKind, key: &str) -> bool
+    ensures { result ≡ spec.is_dealt kind key.now }
+{
+    match kind {
+        DealKind::Offer => key == "desk" || key == "to",
+        DealKind::Accept => key == "desk",
+    }
+}
+
+fn is_filed(kind: PlannedKind, key: &str) -> bool
+    ensures { result ≡ spec.is_filed kind key.now }
+{
+    match kind {
+        PlannedKind::File => key == "leg" || key == "plan" || key == "release",
+        PlannedKind::Check => key == "release",
+    }
+}
+
 fn is_key(object: Object, key: &str) -> bool
     ensures { result ≡ spec.is_key object key.now }
 {
     match object {
         Object::Call => is_call_key(key),
         Object::Line => key == "at" || is_call_key(key),
+        Object::Shift => key == "desk" || (key == "at" || is_call_key(key)),
+        Object::Relief => key == "relief" || is_signed_key(key),
+        Object::Planned => key == "planned" || is_signed_key(key),
+        Object::Turn => key == "number" || (key == "planned" || is_signed_key(key)),
         Object::Asked(kind) => key == "do" || is_asked(kind, key),
+        Object::Deal(kind) => key == "do" || is_dealt(kind, key),
+        Object::Filed(kind) => key == "do" || is_filed(kind, key),
+        Object::Turned => key == "do" || key == "release",
     }
 }
 

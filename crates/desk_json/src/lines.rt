@@ -1,8 +1,8 @@
-ghost use Rattle.std.specs.Prelude.{◌≡◌, IfOk};
+ghost use Rattle.std.specs.Prelude.{◌≡◌, codes, IfOk};
 ghost use Rattle.compact_json.specs.Elements.{data_at};
 ghost use Rattle.desk_time.specs.Limits.{IsMoment};
 ghost use Rattle.asks.specs.Forms.{CallHasForms};
-ghost use Rattle.desk_json.specs.Keys.{is_call_key, is_line_key};
+ghost use Rattle.desk_json.specs.Keys.{is_call_key, is_line_key, need};
 ghost use Rattle.desk_json.specs.Faults as spec;
 ghost use Rattle.desk_json.specs.Faults.{call_or_fault, line_or_fault, Answers};
 ghost use Rattle.desk_json.specs.Faults.{IsUnreadOfCall, IsUnreadOfLine, NamesExtra, NamesUnread};
@@ -19,8 +19,16 @@ use desk_io::Text;
 use desk_time::Minute;
 use std::alloc::Global;
 
-// Reads the key, the number and the ask of a call whose other keys are read already.
-fn call_by(
+/// Reads the number of a request.
+pub(crate) fn number_of(alloc: Global, value: Element<'_>) -> Result<u64, CallFault>
+    ensures { Answers (need spec.request_at (codes "number") (data_at value.entry)) result }
+{
+    let number = number_at("number", 1_000_000_000_000, value);
+    found(alloc, "number", value, number)
+}
+
+/// Reads the key, the number and the ask of a call whose other keys are read already.
+pub(crate) fn call_by(
     alloc: Global,
     actor: Text,
     ask: Element<'_>,
@@ -29,8 +37,7 @@ fn call_by(
     ensures { Answers (spec.call_by actor (data_at ask.entry) (data_at value.entry)) result }
 {
     let key = short_of(alloc, "key", value)?;
-    let number = number_at("number", 1_000_000_000_000, value);
-    let number = found(alloc, "number", value, number)?;
+    let number = number_of(alloc, value)?;
     let ask = ask_or_fault(alloc, ask)?;
     Ok(Call {
         actor,
@@ -51,16 +58,23 @@ fn call_in(alloc: Global, value: Element<'_>) -> Result<Call, CallFault>
     }
 }
 
-fn line_in(alloc: Global, value: Element<'_>) -> Result<(Minute, Call), CallFault>
-    ensures { Answers (spec.line_in (data_at value.entry)) result }
+/// Reads the keys of a line, and then its ask.
+pub(crate) fn line_fields(alloc: Global, value: Element<'_>) -> Result<(Minute, Call), CallFault>
+    ensures { Answers (spec.line_fields (data_at value.entry)) result }
 {
-    only_keys(alloc, Object::Line, value)?;
     let actor = short_of(alloc, "actor", value)?;
     let Some(ask) = object_at("ask", value) else {
         return Err(lack(alloc, "ask", value));
     };
     let at = moment_of(alloc, "at", value)?;
     Ok((at, call_by(alloc, actor, ask, value)?))
+}
+
+fn line_in(alloc: Global, value: Element<'_>) -> Result<(Minute, Call), CallFault>
+    ensures { Answers (spec.line_in (data_at value.entry)) result }
+{
+    only_keys(alloc, Object::Line, value)?;
+    line_fields(alloc, value)
 }
 
 #[tactic(auto, unfolding(crate::specs::Faults::call_or_fault))]

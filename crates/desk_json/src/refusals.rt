@@ -140,7 +140,8 @@ fn with_reason(
     with_name(alloc, members, "what", what)
 }
 
-fn with_findings(
+/// Adds findings to an object.
+pub(crate) fn with_findings(
     alloc: Global,
     members: Members,
     findings: &[Finding],
@@ -225,18 +226,21 @@ fn with_fields(alloc: Global, refusal: &Refusal, members: Members) -> Result<Mem
     }
 }
 
-// Returns the members that every refusal has: its number and its name.
+/// Returns the members that every refusal has: its number and its name.
+pub(crate) fn numbered(alloc: Global, number: u64, name: &str) -> Result<Members, OutOfMemory>
+    ensures { IfOk result (λ all. members_view all.entries ≡ spec.numbered number name.now) }
+{
+    let name = name_value(alloc, name)?;
+    let mut members = Map::new(alloc);
+    members.insert(String::from_str(alloc, "refused")?, Value::from(number))?;
+    members.insert(String::from_str(alloc, "why")?, name)?;
+    Ok(members)
+}
+
 fn refusal_members(alloc: Global, refusal: &Refusal) -> Result<Members, OutOfMemory>
     ensures { IfOk result (λ all. members_view all.entries ≡ spec.refusal_members refusal.now) }
 {
-    let name = name_value(alloc, refusal_name(refusal))?;
-    let mut members = Map::new(alloc);
-    members.insert(
-        String::from_str(alloc, "refused")?,
-        Value::from(refusal_number(refusal)),
-    )?;
-    members.insert(String::from_str(alloc, "why")?, name)?;
-    Ok(members)
+    numbered(alloc, refusal_number(refusal), refusal_name(refusal))
 }
 
 /// Converts a refusal to a JSON object.

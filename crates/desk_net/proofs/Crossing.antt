@@ -2,6 +2,7 @@
 use denote.RattleType.{RattleType}
 use denote.Param.Send.{IsSend, sendable}
 use Rattle.std.proofs.Crossing.{crosses}
+use Rattle.desk_io.specs.contracts.record.Record as recorded
 use Rattle.desk_net.specs.contracts.memory_clock.MemoryClock as clock
 use Rattle.desk_net.specs.contracts.memory_link.MemoryLink as link
 use Rattle.desk_net.specs.contracts.memory_door.MemoryDoor as door
@@ -14,8 +15,14 @@ MemoryClock_send = search (sendable, crosses) depth 60 fits 5000
 pub MemoryLink_send : IsSend link.the_row
 MemoryLink_send = search (sendable, crosses) depth 60 fits 5000
 
+Record_send : (T : RattleType) → IsSend (recorded.the_row T)
+Record_send T = record { owned = λ d vs. ((λ vss. (tt, ((λ uss. (tt, tt)), tt))), tt); leaving = λ k f vs. tt }
+
+MemoryLink_field_send : IsSend (link.the_field).row
+MemoryLink_field_send = search (sendable, crosses) depth 60 fits 5000
+
 pub MemoryDoor_send : IsSend door.the_row
-MemoryDoor_send = search (sendable, crosses) depth 60 fits 5000
+MemoryDoor_send = search (sendable, crosses, Record_send, MemoryLink_field_send) depth 60 fits 9000
 
 -- So may those over the system, where what they stand on may.
 pub SystemClock_send : (R : RattleType) → IsSend R → IsSend (system.the_row R)

@@ -1,5 +1,5 @@
 -- What a clock returns, and how its dial of moments advances.
-use Rattle.std.specs.Prelude.{ℕ, ◌/◌, nat_le, ◌&&◌, if◌then◌else◌, List, Option, None, Some, ◌≡◌, ◌+◌, ◌-◌, ◌<◌, ◌≤◌, min, length, slice_index, Result, MatchResult}
+use Rattle.std.specs.Prelude.{ℕ, ◌/◌, nat_le, ◌&&◌, if◌then◌else◌, List, [], ◌∷◌, ◌++◌, Option, None, Some, ◌≡◌, ◌+◌, ◌-◌, ◌<◌, ◌≤◌, min, length, slice_index, Result, MatchResult}
 use Rattle.desk_time.specs.Limits.{first_moment, last_moment}
 
 -- The moments that a clock returns, in order, and the place of the next one. The last moment repeats forever.
@@ -23,6 +23,10 @@ turned (Some d) = Some (dial d.moments (min (d.place + 1) (length d.moments - 1)
 -- A clock returns the moment at its dial's place, and the dial advances. If the clock fails, the dial stays.
 abbrev pub Shows : {E : Type 0} → Option Dial → Option Dial → Result ℕ E → Type 0
 Shows old new r = MatchResult r (λ m. StandsAt old m × (new ≡ turned old)) (λ _. new ≡ old)
+
+-- A call adds its answer to the answers so far: the moment that it returned, or None if it failed.
+abbrev pub AddsAnswer : {E : Type 0} → List (Option ℕ) → List (Option ℕ) → Result ℕ E → Type 0
+AddsAnswer old new r = MatchResult r (λ m. new ≡ old ++ Some m ∷ []) (λ _. new ≡ old ++ None ∷ [])
 
 -- the moments stay the same, and the place never falls
 abbrev pub DialGoesOn : Option Dial → Option Dial → Type 0

@@ -31,6 +31,22 @@ TakesBack None None link r = Unit {0}
 TakesBack (Some old) (Some new) link r = MatchResult r (λ _. PutsLast old new link) (λ _. new ≡ old)
 TakesBack _ _ link r = ⊥
 
+-- the links that accepts returned, as they came, and those that were given back, as they went, each in order
+pub record Passed (L : Type 0) : Type 0 where
+  pub came : List L
+  pub went : List L
+
+abbrev pub passed : {L : Type 0} → List L → List L → Passed L
+passed came went = record { came = came; went = went }
+
+-- An accept adds the link that it returned. If it fails, nothing changes.
+abbrev pub LetsIn : {L E : Type 0} → Passed L → Passed L → Result L E → Type 0
+LetsIn old new r = MatchResult r (λ link. new ≡ passed (old.came ++ link ∷ []) old.went) (λ _. new ≡ old)
+
+-- A link that is given back is added. If that fails, nothing changes.
+abbrev pub LetsOut : {L T E : Type 0} → Passed L → Passed L → L → Result T E → Type 0
+LetsOut old new link r = MatchResult r (λ _. new ≡ passed old.came (old.went ++ link ∷ [])) (λ _. new ≡ old)
+
 -- a link is still to come, or the links are unknown
 abbrev pub HasNext : {L : Type 0} → Option (Links L) → Type 0
 HasNext None = Unit {0}

@@ -1,5 +1,6 @@
 pub mod Clocks
 pub mod Streams
+pub mod Crossing
 pub mod Doors
 pub mod Calls
 pub mod Seen

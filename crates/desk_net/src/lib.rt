@@ -2,6 +2,8 @@
 //! memory and over the system.
 #![tactic(auto)]
 
+mod answered;
+mod crossed;
 mod memory_clock;
 mod memory_door;
 mod memory_link;
@@ -10,6 +12,7 @@ mod planned;
 mod system_clock;
 mod tcp;
 
+pub use crossed::{Crossed, Passing};
 pub use memory_clock::MemoryClock;
 pub use memory_door::MemoryDoor;
 pub use memory_link::MemoryLink;

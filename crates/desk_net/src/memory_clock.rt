@@ -1,14 +1,15 @@
-ghost use Rattle.std.specs.Prelude.{◌≡◌, ◌<◌, not, length, IfOk, OnOk, OnErr, is_ok};
+ghost use Rattle.std.specs.Prelude.{◌≡◌, ◌<◌, not, [], length, IfOk, OnOk, OnErr, is_ok};
 ghost use Rattle.std.specs.List.{All};
 ghost use Rattle.desk_io.specs.Health.{HasFailed, IsStill};
 ghost use Rattle.desk_io.specs.Planned.{is_planned, after};
-ghost use Rattle.desk_net.specs.Clocks.{Shows};
+ghost use Rattle.desk_net.specs.Clocks.{AddsAnswer, Shows};
 ghost use Rattle.desk_time.specs.Limits.{IsMoment};
 ghost use Rattle.desk_net.specs.Seen.{ClockGoesOn};
 
 use crate::Clock;
+use crate::answered::Answered;
 use crate::planned::Calls;
-use desk_io::Failed;
+use desk_io::{Failed, Record};
 use desk_time::Minute;
 
 /// A clock in memory. It returns its moments in order, and then repeats the last one. Calls of `now` are numbered
@@ -18,6 +19,7 @@ pub struct MemoryClock {
     moments: Vec<Minute>,
     place: usize,
     calls: Calls,
+    answers: Record<Option<Minute>>,
     ghost within: { place < length moments.items },
     ghost in_range: { All IsMoment moments.items },
 }
@@ -32,11 +34,13 @@ impl MemoryClock {
         ensures fail { result.calls.fail.items ≡ fail.items }
         ensures calls { result.calls.made ≡ 0 }
         ensures faults { result.calls.faults ≡ 0 }
+        ensures answers { result.answers.list ≡ [] }
     {
         MemoryClock {
             moments,
             place: 0,
             calls: Calls::new(fail),
+            answers: Record::new(),
         }
     }
 }
@@ -49,6 +53,7 @@ impl Clock for MemoryClock {
     fn now(&mut self) -> Result<Minute, Failed>
         ensures range { IfOk result IsMoment }
         ensures told { Shows (clock_seen self.old).dial (clock_seen self.new).dial result }
+        ensures answers { AddsAnswer self.old.answers.list self.new.answers.list result }
         ensures on { ClockGoesOn (clock_seen self.old) (clock_seen self.new) }
         ensures cause { OnErr result (HasFailed (clock_seen self.old).health (clock_seen self.new).health) }
         ensures still { OnOk result (IsStill (clock_seen self.old).health (clock_seen self.new).health) }
@@ -58,12 +63,14 @@ impl Clock for MemoryClock {
         ensures calls { self.new.calls.made ≡ after self.old.calls.made }
     {
         if self.calls.next_fails() {
+            self.answers = self.answers.with(&Answered(None));
             return Err(Failed);
         }
         let moment = self.moments[self.place];
         if self.place + 1 < self.moments.len() {
             self.place += 1;
         }
+        self.answers = self.answers.with(&Answered(Some(moment)));
         Ok(moment)
     }
 

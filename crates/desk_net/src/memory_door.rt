@@ -1,11 +1,11 @@
 ghost use Rattle.std.specs.Prelude.{◌≡◌, not, [], None, Some, OnOk, OnErr, is_ok};
 ghost use Rattle.desk_io.specs.Health.{GoesOn, GoesOnWhere, HasFailed, HasFailedWhere};
 ghost use Rattle.desk_io.specs.Planned.{is_planned, after};
-ghost use Rattle.desk_net.specs.Doors.{Accepts, TakesBack, HasNext, accepts};
+ghost use Rattle.desk_net.specs.Doors.{Accepts, LetsIn, LetsOut, TakesBack, HasNext, accepts};
 
 use crate::planned::Calls;
-use crate::{Door, MemoryLink};
-use desk_io::{Failed, OutOfMemory};
+use crate::{Door, MemoryLink, Passing};
+use desk_io::{Failed, OutOfMemory, Record};
 use std::alloc::Global;
 use std::collections::VecDeque;
 
@@ -15,6 +15,7 @@ use std::collections::VecDeque;
 #[derive(Drop)]
 pub struct MemoryDoor {
     coming: VecDeque<MemoryLink>,
+    came: Record<MemoryLink>,
     ended: Vec<MemoryLink>,
     port: Option<u16>,
     calls: Calls,
@@ -24,6 +25,7 @@ impl MemoryDoor {
     /// Creates a door that accepts these links, in order. Allocates nothing.
     pub fn new(alloc: Global, links: Vec<MemoryLink>, fail: Vec<u64>) -> Self
         ensures coming { result.coming.items ≡ links.items }
+        ensures came { result.came.list ≡ [] }
         ensures ended { result.ended.items ≡ [] }
         ensures port { result.port ≡ None }
         ensures fail { result.calls.fail.items ≡ fail.items }
@@ -32,6 +34,7 @@ impl MemoryDoor {
     {
         MemoryDoor {
             coming: VecDeque::from(links),
+            came: Record::new(),
             ended: Vec::new(alloc),
             port: None,
             calls: Calls::new(fail),
@@ -62,6 +65,7 @@ impl Door for MemoryDoor {
 
     fn bind(&mut self, port: u16) -> Result<(), Failed>
         ensures same { (door_seen self.new).links ≡ (door_seen self.old).links }
+        ensures passed { (door_seen self.new).passed ≡ (door_seen self.old).passed }
         ensures opened { OnOk result (self.new.port ≡ Some port) }
         ensures unopened { OnErr result (self.new.port ≡ self.old.port) }
         ensures on { GoesOn (door_seen self.old).health (door_seen self.new).health }
@@ -80,6 +84,7 @@ impl Door for MemoryDoor {
 
     fn accept(&mut self) -> Result<MemoryLink, Failed>
         ensures told { Accepts (door_seen self.old).links (door_seen self.new).links result }
+        ensures passed { LetsIn (door_seen self.old).passed (door_seen self.new).passed result }
         ensures port { self.new.port ≡ self.old.port }
         ensures on { GoesOnWhere (HasNext (door_seen self.old).links)
             (door_seen self.old).health (door_seen self.new).health }
@@ -95,7 +100,10 @@ impl Door for MemoryDoor {
             return Err(Failed);
         }
         match self.coming.pop_front() {
-            Some(link) => Ok(link),
+            Some(link) => {
+                self.came = self.came.with(&Passing { link: &link });
+                Ok(link)
+            }
             None => {
                 self.calls.count_fault();
                 Err(Failed)
@@ -105,6 +113,7 @@ impl Door for MemoryDoor {
 
     fn done(&mut self, link: MemoryLink) -> Result<(), OutOfMemory>
         ensures told { TakesBack (door_seen self.old).links (door_seen self.new).links link result }
+        ensures passed { LetsOut (door_seen self.old).passed (door_seen self.new).passed link result }
         ensures port { self.new.port ≡ self.old.port }
         ensures health { (door_seen self.new).health ≡ (door_seen self.old).health }
         // This call isn't numbered among the door's calls.

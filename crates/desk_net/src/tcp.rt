@@ -1,11 +1,15 @@
-ghost use Rattle.std.specs.Prelude.{◌≡◌, ◌<◌, ◌≤◌, false, true, length, None, Some, IsSome, IsSomeAnd, IfOk, IsOk, IsErr, OnOk, OnErr};
+ghost use Rattle.std.specs.Prelude.{◌≡◌, ◌<◌, ◌≤◌, [], false, true, length, take, None, Some, IsSome, IsSomeAnd, IfOk, IsOk, IsErr, OnOk, OnErr};
 ghost use Rattle.std.specs.Io.KnownBytes.{Appends, ReadConsumes};
+ghost use Rattle.desk_io.specs.Told.{AppendsFront};
 ghost use Rattle.desk_io.specs.Health.{GoesOn, GoesOnWhere, HasCause, HasFailed, HasFailedWhere, unsound};
+ghost use Rattle.desk_net.specs.Crossing.{Receives, Sends};
+ghost use Rattle.desk_net.specs.Doors.{LetsIn, LetsOut, passed};
 ghost use Rattle.desk_net.specs.System.{IsLocal, port_at};
 ghost use Rattle.desk_io.specs.declared.faults.PutFault.TheVariants.{Failed as PutFailed};
 
-use crate::{Door, Link};
-use desk_io::{Failed, OutOfMemory, PutFault, counted};
+use crate::crossed::{Piece, Received, Sent};
+use crate::{Crossed, Door, Link, Passing};
+use desk_io::{Failed, OutOfMemory, PutFault, Record, counted};
 use std::io::{Read, Write};
 use std::net::{
     Ipv4Addr, Net, OpenListener, OpenStream, Shutdown, SocketAddr, SocketAddrV4, TcpListener,
@@ -21,6 +25,9 @@ pub const END_SECONDS: u64 = 2;
 
 /// How many bytes an ending link drops before it stops reading.
 pub const END_BYTES: usize = 4_194_304;
+
+// How often a write is tried while signals interrupt it.
+const MOST_TRIES: u32 = 1_000_000;
 
 // Sets the timeouts. A read or a write that waits longer is an error of the stream.
 fn limit_waits<S: OpenStream>(stream: &S) -> io::Result<()> {
@@ -65,64 +72,110 @@ fn read_some<S: Read>(stream: &mut S, into: &mut [u8]) -> io::Result<usize>
     stream.read(into)
 }
 
-// Writes all of the bytes, unless there is an error.
-fn write_out<S: Write>(stream: &mut S, bytes: &[u8]) -> io::Result<()>
-    ensures { OnOk result (Appends (S.contents stream.old) (S.contents stream.new) bytes.now) }
+// Writes some of the bytes, and tries again if a signal interrupts that.
+#[tactic(auto, using(crate::proofs::Sending::kept_none, crate::proofs::Sending::kept_more, crate::proofs::Sending::appends_kept))]
+fn write_some<S: Write>(stream: &mut S, bytes: &[u8]) -> Result<usize, Failed>
+    ensures bound { IfOk result (λ n. n ≤ length bytes.now) }
+    ensures told { IfOk result (λ n. Appends (S.contents stream.old) (S.contents stream.new) (take n bytes.now)) }
 {
-    stream.write_all(bytes)
+    for _ in 0..MOST_TRIES {
+        match stream.write(bytes) {
+            Ok(count) => return Ok(count),
+            Err(error) => {
+                if error.kind() != io::ErrorKind::Interrupted {
+                    return Err(Failed);
+                }
+            }
+        }
+    }
+    Err(Failed)
 }
 
-/// A connection over TCP (RFC 9293). Contracts don't know its bytes. Every error is a counted fault, and so is a read
-/// or a write that waits more than `WAIT_SECONDS` for the peer. Dropping the link closes the connection. Allocates
-/// nothing.
+// Writes all of the bytes, unless a write fails, and records the bytes that each write accepted.
+#[tactic(auto, using(crate::proofs::Sending::sent_none, crate::proofs::Sending::sent_more, crate::proofs::Sending::sent_front, crate::proofs::Sending::sent_all, crate::proofs::Sending::sent_told))]
+fn write_out<S: Write>(stream: &mut S, taken: &mut Record<u8>, bytes: &[u8]) -> Result<(), Failed>
+    ensures ok { OnOk result (Appends (Some taken.old.list) (Some taken.new.list) bytes.now) }
+    ensures err { OnErr result (AppendsFront (Some taken.old.list) (Some taken.new.list) bytes.now) }
+    ensures told { OnOk result (Appends (S.contents stream.old) (S.contents stream.new) bytes.now) }
+{
+    let mut rest = bytes;
+    while !rest.is_empty() {
+        match write_some(stream, rest) {
+            Ok(0) => return Err(Failed),
+            Ok(count) => {
+                let (bytes, left) = rest.split_at(count);
+                *taken = taken.with(&Piece { bytes });
+                rest = left;
+            }
+            Err(_) => return Err(Failed),
+        }
+    }
+    Ok(())
+}
+
+/// A connection over TCP (RFC 9293). Contracts know exactly what its reads returned and its writes accepted, and
+/// nothing of what is still to come. Every error is a counted fault, and so is a read or a write that waits more than
+/// `WAIT_SECONDS` for the peer. Dropping the link closes the connection. Allocates nothing.
 #[derive(Drop)]
 pub struct TcpLink<S: Read + Write + OpenStream + Drop, C: time::Clock + Drop> {
     stream: S,
     clock: C,
     ended: bool,
+    crossed: Record<Crossed>,
     faults: u64,
 }
 
 impl<S: Read + Write + OpenStream + Drop, C: time::Clock + Drop> TcpLink<S, C> {
     /// Creates a link over an open stream, and sets its timeouts. The error means that they can't be set.
     pub fn new(stream: S, clock: C) -> io::Result<Self>
-        ensures { IfOk result (λ link. (link.faults ≡ 0) × (link.ended ≡ false)) }
+        ensures { IfOk result (λ link. (link.faults ≡ 0) × (link.ended ≡ false) × (link.crossed.list ≡ [])) }
     {
         limit_waits(&stream)?;
         Ok(TcpLink {
             stream,
             clock,
             ended: false,
+            crossed: Record::new(),
             faults: 0,
         })
     }
 }
 
 impl<S: Read + Write + OpenStream + Drop, C: time::Clock + Drop> Link for TcpLink<S, C> {
-    ghost seen = { λ l. record { stream = None; health = unsound l.faults } };
+    ghost seen = { λ l. record { stream = None; crossed = l.crossed.list; health = unsound l.faults } };
 
     fn read(&mut self, into: &mut [u8]) -> Result<usize, Failed>
         requires { 0 < length into.old }
         ensures bound { IfOk result (λ n. n ≤ length into.old) }
+        ensures crossed { Receives self.old.crossed.list self.new.crossed.list into.new result }
         ensures on { GoesOn (unsound self.old.faults) (unsound self.new.faults) }
         ensures cause { OnErr result (HasFailed (unsound self.old.faults) (unsound self.new.faults)) }
         // The call returns what the stream returned.
         ensures bytes { ReadConsumes (S.remaining self.old.stream) (S.remaining self.new.stream) result into.new }
     {
         let answer = read_some(&mut self.stream, into);
-        counted(answer, &mut self.faults)
+        let count = counted(answer, &mut self.faults)?;
+        self.crossed = self.crossed.with(&Received { into, count });
+        Ok(count)
     }
 
+    #[tactic(auto, using(crate::proofs::CrossingLaws::sends_front))]
     fn write(&mut self, bytes: &[u8]) -> Result<(), PutFault>
+        ensures crossed { Sends self.old.crossed.list self.new.crossed.list bytes.now result }
         ensures on { GoesOn (unsound self.old.faults) (unsound self.new.faults) }
         ensures cause { HasCause PutFailed (unsound self.old.faults) (unsound self.new.faults) result }
         // The stream accepted all of the bytes.
         ensures bytes { OnOk result (Appends (S.contents self.old.stream) (S.contents self.new.stream) bytes.now) }
     {
-        let answer = write_out(&mut self.stream, bytes);
-        match counted(answer, &mut self.faults) {
+        let mut taken = Record::new();
+        let answer = write_out(&mut self.stream, &mut taken, bytes);
+        self.crossed = self.crossed.with(&Sent { taken: &taken });
+        match answer {
             Ok(()) => Ok(()),
-            Err(Failed) => Err(PutFault::Failed),
+            Err(Failed) => {
+                self.faults = self.faults.saturating_add(1);
+                Err(PutFault::Failed)
+            }
         }
     }
 
@@ -131,6 +184,7 @@ impl<S: Read + Write + OpenStream + Drop, C: time::Clock + Drop> Link for TcpLin
     // loses what was written. A second call does nothing, and an error isn't a fault.
     fn end(&mut self)
         ensures faults { self.new.faults ≡ self.old.faults }
+        ensures crossed { self.new.crossed.list ≡ self.old.crossed.list }
         ensures ended { self.new.ended ≡ true }
         ensures once { self.old.ended ≡ true → self.new.stream ≡ self.old.stream }
     {
@@ -165,14 +219,16 @@ fn listen<R: Net>(net: &R, at: SocketAddr) -> io::Result<(R::Listener, SocketAdd
     }
 }
 
-/// A door at 127.0.0.1, which only this machine can reach (RFC 1122, 3.2.1.3). Contracts don't know its links. Every
-/// error is a counted fault, and so is an accept at a door that isn't open. An accept may wait for a connection
-/// without limit. Allocates nothing.
+/// A door at 127.0.0.1, which only this machine can reach (RFC 1122, 3.2.1.3). Contracts know the links that it has
+/// let in and out, and nothing of those still to come. Every error is a counted fault, and so is an accept at a door
+/// that isn't open. An accept may wait for a connection without limit. Allocates nothing.
 #[derive(Drop)]
 pub struct TcpDoor<R: Net + time::Clock + Copy> {
     net: R,
     listener: Option<R::Listener>,
     at: Option<SocketAddr>,
+    came: Record<TcpLink<R::Stream, R>>,
+    went: Record<TcpLink<R::Stream, R>>,
     faults: u64,
 }
 
@@ -181,11 +237,15 @@ impl<R: Net + time::Clock + Copy> TcpDoor<R> {
     pub fn new(net: R) -> Self
         ensures faults { result.faults ≡ 0 }
         ensures at { result.at ≡ None }
+        ensures came { result.came.list ≡ [] }
+        ensures went { result.went.list ≡ [] }
     {
         TcpDoor {
             net,
             listener: None,
             at: None,
+            came: Record::new(),
+            went: Record::new(),
             faults: 0,
         }
     }
@@ -193,6 +253,8 @@ impl<R: Net + time::Clock + Copy> TcpDoor<R> {
     // Opens the door at this port. If this fails, a door that was open stays open.
     fn open(&mut self, port: u16) -> io::Result<()>
         ensures faults { self.new.faults ≡ self.old.faults }
+        ensures came { self.new.came.list ≡ self.old.came.list }
+        ensures went { self.new.went.list ≡ self.old.went.list }
         ensures opened { OnOk result (IsSome self.new.listener × IsSomeAnd self.new.at (IsLocal port)) }
         ensures unopened { OnErr result (self.new.at ≡ self.old.at) }
     {
@@ -205,6 +267,7 @@ impl<R: Net + time::Clock + Copy> TcpDoor<R> {
     fn next_link(&self) -> io::Result<TcpLink<R::Stream, R>>
         ensures shut { self.now.listener ≡ None → IsErr result }
         ensures fresh { IfOk result (λ link. link.faults ≡ 0) }
+        ensures empty { IfOk result (λ link. link.crossed.list ≡ []) }
     {
         match &self.listener {
             None => Err(io::Error::from(io::ErrorKind::NotConnected)),
@@ -216,9 +279,15 @@ impl<R: Net + time::Clock + Copy> TcpDoor<R> {
 impl<R: Net + time::Clock + Copy> Door for TcpDoor<R> {
     type Link = TcpLink<R::Stream, R>;
 
-    ghost seen = { λ d. record { links = None; opened_at = port_at d.at; health = unsound d.faults } };
+    ghost seen = { λ d. record {
+      links = None;
+      passed = passed d.came.list d.went.list;
+      opened_at = port_at d.at;
+      health = unsound d.faults;
+    } };
 
     fn bind(&mut self, port: u16) -> Result<(), Failed>
+        ensures passed { passed self.new.came.list self.new.went.list ≡ passed self.old.came.list self.old.went.list }
         ensures on { GoesOn (unsound self.old.faults) (unsound self.new.faults) }
         ensures cause { OnErr result (HasFailed (unsound self.old.faults) (unsound self.new.faults)) }
         ensures listens { OnOk result (IsSome self.new.listener) }
@@ -232,22 +301,31 @@ impl<R: Net + time::Clock + Copy> Door for TcpDoor<R> {
     }
 
     fn accept(&mut self) -> Result<TcpLink<R::Stream, R>, Failed>
+        ensures passed { LetsIn (passed self.old.came.list self.old.went.list)
+            (passed self.new.came.list self.new.went.list) result }
         ensures on { GoesOnWhere (Unit {0}) (unsound self.old.faults) (unsound self.new.faults) }
         ensures cause { OnErr result (HasFailedWhere (Unit {0}) (unsound self.old.faults) (unsound self.new.faults)) }
         ensures at { self.new.at ≡ self.old.at }
         ensures shut { self.old.listener ≡ None → IsErr result }
         ensures fresh { IfOk result (λ link. link.faults ≡ 0) }
+        // Nothing has crossed the link.
+        ensures empty { IfOk result (λ link. link.crossed.list ≡ []) }
     {
         let answer = self.next_link();
-        counted(answer, &mut self.faults)
+        let link = counted(answer, &mut self.faults)?;
+        self.came = self.came.with(&Passing { link: &link });
+        Ok(link)
     }
 
     // Ends the link unless that was done, and closes the connection. Allocates nothing.
     fn done(&mut self, mut link: TcpLink<R::Stream, R>) -> Result<(), OutOfMemory>
+        ensures passed { LetsOut (passed self.old.came.list self.old.went.list)
+            (passed self.new.came.list self.new.went.list) link result }
         ensures at { self.new.at ≡ self.old.at }
         ensures health { unsound self.new.faults ≡ unsound self.old.faults }
         ensures always { IsOk result }
     {
+        self.went = self.went.with(&Passing { link: &link });
         link.end();
         Ok(())
     }

@@ -1,5 +1,5 @@
 -- Every step keeps what holds of a board.
-use Rattle.std.proofs.Common.{◌≡◌, ℕ, ◌+◌, ◌<◌, ◌≤◌, Bool, true, false, not, ◌&&◌, List, [], ◌∷◌, ◌++◌, append-nil, option_to_list, length, length-append, Option, None, Some, IfSome, Result, Ok, Err, refl, ap, sym, ◌∙◌, subst, arith}
+use Rattle.std.proofs.Common.{◌≡◌, inl, ℕ, ◌+◌, ◌<◌, ◌≤◌, Bool, true, false, not, ◌&&◌, List, [], ◌∷◌, ◌++◌, append-nil, option_to_list, length, length-append, Option, None, Some, IfSome, Result, Ok, Err, refl, ap, sym, ◌∙◌, subst, arith}
 use Rattle.std.specs.Prelude.{nat_le, is_some}
 use Rattle.std.specs.List.{AllByRecursion, AllPairs}
 use Rattle.std.proofs.lemmas.Bool.{leb-false, or_parts}
@@ -48,9 +48,12 @@ use Rattle.desk_state.proofs.AllowedLaws.{decision_is}
 use Rattle.desk_state.specs.Allowed.{DecisionOf}
 use Rattle.desk_state.proofs.Parts.{tick_fits, judgeable, moment_shown, none_found, reports_unlike, reports_numbered, reports_rise, reports_few, swept_each, swept_unlike, swept_rise, swept_fewer, kept_each, kept_single, kept_rise, kept_fewer, still_unused, report_next, deferrals_open, deferral_next, releases_rise, releases_valid, releases_kept, releases_held, releases_told, release_next}
 use Rattle.desk_state.proofs.Deciding.{decision_fits}
+use Rattle.desk_state.proofs.AlertHistoryLaws.{asked_stays, none_open, still_open, ticked_stays}
+use Rattle.desk_state.proofs.PlanHistoryLaws.{ask_plan, none_replaced, still_in_turn}
 use Rattle.desk_state.proofs.OnceLaws.{accepted_once, none_once, ticked_once}
 use Rattle.desk_state.proofs.FormLaws.{start_formed, tick_formed, command_formed}
 use Rattle.desk_state.proofs.NameForms.{person_formed}
+use Rattle.desk_state.proofs.SignatureLaws.{all_known, asked_signed}
 use Rattle.desk_io.proofs.Each.{each_weaker, each_push}
 
 -- an entry more keeps a history legal
@@ -244,13 +247,19 @@ tick_by false opening s lane to full board later within =
     let effect = effect_is s (tick to) (tick_fits s to (moment, omega (arith, later))) board.sound board.kept full in
     let is : (tick_to s lane to).state ≡ (ticked s lane to).state = rw full refl in
     let kept = event_kept (effected (tick to) s) (entry lane (what.Tick to)) effect moment in
+    let history : IsHistory opening (ticked s lane to).state = history_more opening s (ticked s lane to).state lane (what.Tick to) board.history (later, full) is refl in
     record {
       tables = board.tables;
-      history = history_more opening s (ticked s lane to).state lane (what.Tick to) board.history (later, full) is refl;
+      history = history;
       once = ticked_once opening s lane to board.formed.rising board.sound.single board.once;
+      lasting = still_open opening s (ticked s lane to).state (entry lane (what.Tick to)) board.history history refl
+          (ticked_stays s to (what.Tick to) board.sound (tick_fits s to (moment, omega (arith, later)))) board.lasting;
+      plans = still_in_turn opening s (ticked s lane to).state (entry lane (what.Tick to)) board.history history refl (λ id. inl refl) board.plans;
       sound = event_sound (effected (tick to) s) (entry lane (what.Tick to)) effect tt;
       kept = kept;
       formed = tick_formed s lane to kept board.formed;
+      texts = board.texts;
+      signed = board.signed;
     }
 
 -- a tick keeps what holds of a board
@@ -299,13 +308,19 @@ enter_board false opening s lane call made effect full is fits person has board 
     let decided : DecisionOf s call (Ok (Do made effect)) = subst (DecisionOf s call) is (decision_is s call board.sound) in
     let entered_as : Entry = entry lane (what.Asked (without_key call) (Done made)) in
     let kept = event_kept (effected effect s) entered_as event (call_from_forms call.ask has.ask, tt) in
+    let history : IsHistory opening (accepted s lane call made effect).state = accepted_history opening s lane call made effect is full board.history in
+    let formed = command_formed s lane call made effect decided (record { formed = board.formed; sound = board.sound; bounds = board.kept }) person has kept in
     record {
       tables = board.tables;
-      history = accepted_history opening s lane call made effect is full board.history;
+      history = history;
       once = accepted_once opening s lane call made effect board.formed.rising board.sound.single decided.0 decided.1 board.once;
+      lasting = still_open opening s (accepted s lane call made effect).state entered_as board.history history refl (λ id. asked_stays s call.actor id board.sound fits decided.1) board.lasting;
+      plans = still_in_turn opening s (accepted s lane call made effect).state entered_as board.history history refl (λ id. ask_plan s call.actor id board.sound.ids decided.1) board.plans;
       sound = event_sound (effected effect s) entered_as event (still_unused call.actor call.number effect.sweep s.kept decided.0.none);
       kept = kept;
-      formed = command_formed s lane call made effect decided (record { formed = board.formed; sound = board.sound; bounds = board.kept }) person has kept;
+      formed = formed;
+      texts = all_known (accepted s lane call made effect).state.releases formed.releases;
+      signed = asked_signed opening s call.actor decided.1 board.signed;
     }
 
 finish_board : (opening s : State) (lane : ℕ) (call : Call) (decision : Result Decision Refusal) → decide s call ≡ decision → DecisionFits s decision → is_person call.actor ≡ true → CallHasForms call
@@ -331,6 +346,8 @@ start_board tables names = record {
   tables = refl;
   history = record { empty = refl; legal = refl };
   once = none_once (start tables) refl;
+  lasting = none_open (start tables) [] refl;
+  plans = none_replaced (start tables) [] refl;
   sound = record { alerted = tt; own = refl; alerts = tt; valid = tt; unlike = λ i j d before within. absurd (omega (arith, before, within)); single = λ i j d before within. absurd (omega (arith, before, within)); ids = omega arith };
   kept = record {
     moment = (omega arith, omega arith);
@@ -348,6 +365,8 @@ start_board tables names = record {
     entries = omega arith;
   };
   formed = start_formed tables names;
+  texts = tt;
+  signed = tt;
 }
 
 -- the same, of a state that a step leads to

@@ -94,7 +94,7 @@ held_at s id stands =
     (all_held s 0 s.releases s.counters.next_release (omega (arith, next, top)) stands.sound.ids stands.sound.valid stands.formed.releases)
 
 -- what follows for the release that is held
-of_held : (R : Release → Release → Type 0) (P : Release → Type 0) (Q : Type 0) (o : Option Release) (r : Release) → IfSome o P → ((q : Release) → P q → R q r → Q) → OfHeld R o r → Q
+pub of_held : (R : Release → Release → Type 0) (P : Release → Type 0) (Q : Type 0) (o : Option Release) (r : Release) → IfSome o P → ((q : Release) → P q → R q r → Q) → OfHeld R o r → Q
 of_held R P Q None r has gives is = absurd is
 of_held R P Q (Some q) r has gives is = gives q has is
 

@@ -116,7 +116,7 @@ before_option : (id high : ℕ) (o : Option Alert) (alerts : List Alert) → id 
 before_option id high None alerts less is = refl
 before_option id high (Some a) alerts less is = let ne : a.release ≡ id → ⊥ = λ e. absurd (omega (arith, is, e)) in rw (ne_eqb a.release id ne) refl
 
-none_before : (j : Release → Option Alert) (id low : ℕ) (rs : List Release) (next : ℕ) → Of j → id < low → Rise low rs next → alert_at id (filter_map j rs) ≡ None
+pub none_before : (j : Release → Option Alert) (id low : ℕ) (rs : List Release) (next : ℕ) → Of j → id < low → Rise low rs next → alert_at id (filter_map j rs) ≡ None
 none_before j id low [] next of within rise = refl
 none_before j id low (r ∷ rs) next of within rise =
     let above = rise.0 in

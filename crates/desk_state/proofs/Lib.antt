@@ -17,6 +17,11 @@ pub mod AllowedLaws
 pub mod LeadingLaws
 pub mod CauseLaws
 pub mod ToldLaws
+pub mod LegibleLaws
+pub mod SignatureLaws
+pub mod ForceLaws
+pub mod AlertHistoryLaws
+pub mod PlanHistoryLaws
 pub mod RepeatLaws
 pub mod SweepLaws
 pub mod FindingForms

@@ -132,7 +132,7 @@ found_by : (id : ℕ) (q r : Release) (b : Bool) (later : Option Release) → eq
 found_by id q r true later e is more = let same : q ≡ r = cc in subst (λ (x : Release). x.id ≡ id) same (eqb-true q.id id e)
 found_by id q r false later e is more = more is
 
-found_id : (id : ℕ) (rs : List Release) (r : Release) → release_at id rs ≡ Some r → r.id ≡ id
+pub found_id : (id : ℕ) (rs : List Release) (r : Release) → release_at id rs ≡ Some r → r.id ≡ id
 found_id id [] r e = absurd (cc)
 found_id id (q ∷ rs) r e = found_by id q r _ (release_at id rs) refl e (found_id id rs r)
 

@@ -16,6 +16,11 @@ abbrev pub next : State → ℕ → What → State
 next s lane (Tick to) = (tick_to s lane to).state
 next s lane (Asked call reply) = (do_call s lane call).state
 
+-- the state after entries
+abbrev pub after_entries : State → List Entry → State
+after_entries s [] = s
+after_entries s (e ∷ es) = after_entries (next s e.lane e.what) es
+
 -- the entries lead from s to t, and each may come where it stands
 abbrev pub Legal : State → List Entry → State → Type 0
 Legal s [] t = s ≡ t

@@ -11,6 +11,9 @@ pub mod Step
 pub mod Legal
 pub mod Formed
 pub mod Once
+pub mod AlertHistory
+pub mod PlanHistory
+pub mod Signatures
 pub mod Sweeps
 pub mod Sound
 pub mod Touched

@@ -30,8 +30,11 @@ pub use Rattle.release_index.specs.Bounds.{RevisionInBounds, ReleaseInBounds}
 use Rattle.desk_state.specs.Formed.{AreFormed}
 use Rattle.desk_state.specs.State.{State, grounds_of, failing_of, alert_at}
 use Rattle.desk_state.specs.Legal.{IsHistory}
+use Rattle.desk_state.specs.AlertHistory.{StayOpen}
+use Rattle.desk_state.specs.PlanHistory.{AreReplacedInTurn}
 use Rattle.desk_state.specs.Once.{AreOnce}
 use Rattle.desk_state.specs.Requests.{is_request}
+use Rattle.desk_state.specs.Signatures.{AreKnownByText, AreOwnSignatures}
 
 -- The alert matches the failing rules. Without an alert, the release is inactive or fails no rule. An alert names
 -- exactly the rules that fail.
@@ -210,12 +213,18 @@ DecisionFits s (Ok (Show reply)) = ReplyHasMoment reply
 DecisionFits s (Ok (Do made effect)) = EffectFits s effect
 
 -- What holds of a board at every moment. A history of legal steps leads to its state from the opening one, and each
--- person's accepted calls appear in it once. The state is sound and within its bounds. Each part has its forms, so
--- that its rows can be read again.
+-- person's accepted calls appear in it once. Along it each alert stays open until something settles it, and active plans
+-- change only at concurrences. The state is sound and within its bounds. Each part has its forms, so that its rows can
+-- be read again. The text of each revision determines its plan. Its signatures are those of the holder and of the plan's
+-- captain.
 pub record IsBoard (opening s : State) : Type 0 where
   pub tables : s.tables ≡ opening.tables
   pub history : IsHistory opening s
   pub once : AreOnce opening s
+  pub lasting : StayOpen opening s.entries
+  pub plans : AreReplacedInTurn opening s.entries
   pub sound : Sound s
   pub kept : InBounds s
   pub formed : AreFormed s
+  pub texts : AllByRecursion AreKnownByText s.releases
+  pub signed : AllByRecursion (AreOwnSignatures opening) s.releases

@@ -1,7 +1,8 @@
-ghost use Rattle.std.specs.Prelude.{◌≡◌, ◌≤◌, All, IfSome, IsSome, is_some};
+ghost use Rattle.std.specs.Prelude.{◌≡◌, ◌≤◌, [], All, IfSome, IsSome, is_some};
 ghost use Rattle.std.specs.Option.{option_copied};
 ghost use Rattle.ops_tables.specs.Limits.{FitsSettings, FitsAirport, FitsApproach, FitsAlternate, FitsType, FitsItem};
 ghost use Rattle.ops_tables.specs.Limits.{FitsActor};
+ghost use Rattle.ops_tables.specs.Keys.{AreNew, is_same_actor};
 ghost use Rattle.ops_tables.specs.Linked.{AreLinked};
 ghost use Rattle.ops_tables.specs.Named.{AreNamed};
 ghost use Rattle.ops_tables.specs.Shown.{shown};
@@ -131,10 +132,12 @@ impl Tables {
             || is_paired_in(&self.loaded.pairs, kind, two, one)
     }
 
-    /// Returns all people in the order of `actors.csv`. It allocates nothing.
+    /// Returns all people in the order of `actors.csv`. No two of them have the same name. It allocates nothing.
     pub fn actors(&self) -> &[Actor]
-        ensures { result.now ≡ self.now.actors }
+        ensures rows { result.now ≡ self.now.actors }
+        ensures distinct { AreNew is_same_actor [] self.now.actors }
     {
+        self.loaded.actors.are_distinct();
         self.loaded.actors.rows()
     }
 

@@ -5,4 +5,3 @@ pub mod KeptLaws
 pub mod ReleaseForms
 pub mod ReleaseLaws
 pub mod PlainLaws
-pub mod LegibleLaws

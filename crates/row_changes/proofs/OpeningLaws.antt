@@ -7,15 +7,21 @@ use Rattle.plan.specs.declared.release.Release.{Release}
 use Rattle.desk_state.specs.Effects.{nothing}
 use Rattle.desk_state.specs.Events.{alert_changes, put_changes}
 use Rattle.desk_state.specs.Legal.{IsHistory}
+use Rattle.desk_state.specs.AlertHistory.{StayOpen}
+use Rattle.desk_state.specs.PlanHistory.{AreReplacedInTurn}
 use Rattle.desk_state.specs.Once.{AreOnce}
+use Rattle.desk_state.specs.Signatures.{AreKnownByText, AreOwnSignatures}
 use Rattle.desk_state.specs.Sound.{AreCounters, AreJudgeable, InBounds, IsBoard, MayStand, Sound}
 use Rattle.desk_state.specs.State.{State, judged_all}
 use Rattle.desk_state.specs.declared.change.AlertChange.{AlertChange}
 use Rattle.desk_state.specs.declared.counters.Counters.{Counters}
+use Rattle.desk_state.proofs.AlertHistoryLaws.{none_open}
+use Rattle.desk_state.proofs.PlanHistoryLaws.{none_replaced}
 use Rattle.desk_state.proofs.Changes.{changes_lead_by}
 use Rattle.desk_state.proofs.Judging.{all_own, are_alerted, are_alerts}
 use Rattle.desk_state.proofs.OnceLaws.{none_once}
 use Rattle.desk_state.proofs.Parts.{more_valid}
+use Rattle.desk_state.proofs.SignatureLaws.{all_known, opened_signed}
 use Rattle.row_changes.specs.Opening.{MayReopen, counters_with, events_with, reopened}
 use Rattle.row_changes.proofs.ReopenedForms.{reopened_formed}
 use Rattle.desk_io.proofs.Each.{each_weaker}
@@ -83,6 +89,22 @@ once : (s : State) → MayReopen s → AreOnce (reopened s) (reopened s)
 unfolding reopened
 once s may = none_once (reopened s) may.fresh
 
+lasting : (s : State) → MayReopen s → StayOpen (reopened s) (reopened s).entries
+unfolding reopened
+lasting s may = none_open (reopened s) s.entries may.fresh
+
+plans : (s : State) → MayReopen s → AreReplacedInTurn (reopened s) (reopened s).entries
+unfolding reopened
+plans s may = none_replaced (reopened s) s.entries may.fresh
+
+texts : (s : State) → MayReopen s → AllByRecursion AreKnownByText (reopened s).releases
+unfolding reopened
+texts s may = all_known s.releases may.holds.formed.releases
+
+signed : (s : State) → MayReopen s → AllByRecursion (AreOwnSignatures (reopened s)) (reopened s).releases
+unfolding reopened
+signed s may = opened_signed (reopened s) may.holds.judgeable.ids
+
 -- once a state is judged on opening, all holds of it that holds of a board
 pub reopened_board : (s : State) → MayReopen s → IsBoard (reopened s) (reopened s)
-reopened_board s may = record { tables = refl; history = history s may; once = once s may; sound = sound s may; kept = bounds s may; formed = reopened_formed s may }
+reopened_board s may = record { tables = refl; history = history s may; once = once s may; lasting = lasting s may; plans = plans s may; sound = sound s may; kept = bounds s may; formed = reopened_formed s may; texts = texts s may; signed = signed s may }

@@ -19,5 +19,7 @@ pub mod Tells
 pub mod WeatherTells
 pub mod SectionTells
 pub mod FuelTells
+pub mod PlannedTells
+pub mod TablesLaws
 pub mod RegulationLaws
 pub mod HighestMet

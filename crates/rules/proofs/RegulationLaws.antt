@@ -1,5 +1,5 @@
 -- Findings are silent of a rule and a leg exactly where the leg does as the section asks.
-use Rattle.std.proofs.Common.{◌≡◌, ◌↔◌, inl, inr, ℕ, zero, suc, ◌+◌, ◌<◌, Bool, true, false, not, ◌&&◌, if◌then◌else◌, List, [], ◌∷◌, ◌++◌, length, get_or, Contains, Option, None, Some, append-nil, refl, ap, sym, subst, ◌∙◌, arith}
+use Rattle.std.proofs.Common.{◌≡◌, ◌↔◌, inl, inr, ℕ, zero, suc, ◌+◌, ◌<◌, ◌≤◌, Bool, true, false, not, ◌&&◌, if◌then◌else◌, List, [], ◌∷◌, ◌++◌, length, get_or, Contains, Option, None, Some, append-nil, refl, ap, sym, subst, ◌∙◌, arith}
 use Rattle.std.specs.Prelude.{map, filter}
 use Rattle.std.specs.List.{All, AllByRecursion}
 use Rattle.std.proofs.lemmas.List.Elements.{All-nil, All-cons, All-head, All-tail}
@@ -13,6 +13,7 @@ use Rattle.plan.specs.declared.flights.Plan.{Plan}
 use Rattle.plan.specs.declared.flights.Leg.{Leg}
 use Rattle.plan.specs.declared.flights.Alternate.{Alternate}
 use Rattle.plan.specs.declared.flights.TakeoffAlternate.{TakeoffAlternate}
+use Rattle.plan.specs.declared.findings.Finding.{Finding}
 use Rattle.plan.specs.declared.findings.Rule.{Rule}
 use Rattle.plan.specs.declared.findings.Rule.TheVariants.{No1, No2, No3, No4, No5, No6, No7, No8, No9, No10, No11, No12, No13, No14, No15, No16, No17, No18, No19}
 use Rattle.plan.specs.declared.release.Phase.{Phase}
@@ -28,11 +29,12 @@ use Rattle.rules.specs.Equipment.{is_limiting, is_overdue, is_barred, is_barred_
 use Rattle.rules.specs.Fuel.{is_short_domestic, is_short_flag, is_underfilled}
 use Rattle.rules.specs.Time.{is_late}
 use Rattle.rules.specs.Judgement.{is_of_departure, places_of, places_at, places_in_case, places_for, case_for, finding, findings_of, findings_of_tables, tables_finding, leg_numbered, FailsAt, Fails, IsTrueOf}
-use Rattle.rules.specs.Regulation.{IsSilent, AllowsAlternate, IsAllowed, ArrivesBeforeRepair, MayUseAirports, FollowsTime, FollowsSections, FollowsDeparture, IsJudged, FollowRegulation}
+use Rattle.rules.specs.Regulation.{IsSilent, AllowsLanding, AllowsAlternate, IsAllowed, ArrivesBeforeRepair, MayUseAirports, FollowsTime, FollowsSections, FollowsDeparture, IsJudged, FollowRegulation}
 use Rattle.rules.proofs.Laws.{findings_are_true, findings_name_all}
 use Rattle.rules.proofs.Order.{no_place}
 use Rattle.rules.proofs.Tells.{Tells, told_not, refuted, tells_not_less}
 use Rattle.rules.proofs.SectionTells as section
+use Rattle.rules.proofs.TablesLaws.{follow_tables}
 use Rattle.rules.proofs.FuelTells.{domestic_fuel_tells, flag_fuel_tells}
 
 at_each : {A : Type 0} (P : A → Type 0) (xs : List A) (x : A) (k : ℕ) → AllByRecursion P xs → k < length xs → get_or xs k x ≡ x → P x
@@ -266,9 +268,33 @@ follow_departure plan phase g number leg c stands is ahead = record {
       (each_allowed (is_overdue c leg) (ArrivesBeforeRepair c leg) (section.repair_tells c leg) c.deferred, allowed_each (is_overdue c leg) (ArrivesBeforeRepair c leg) (section.repair_tells c leg) c.deferred);
 }
 
+-- the rule of the tables
+tables_at : (plan : Plan) (phase : Phase) (g : Grounds) (number : ℕ) (o : Option Leg) (place : ℕ) → FailsAt (places_for plan phase g (case_for plan g)) No19 number o place → ⊥
+tables_at plan phase g number None place fails = fails
+tables_at plan phase g number (Some leg) place fails =
+    none_in (places_for plan phase g (case_for plan g) No19 number leg) (no_place No19 (case_for plan g) (standing phase number) leg (λ c ahead. refl) refl) place fails
+
+of_tables : (plan : Plan) (phase : Phase) (g : Grounds) (number place : ℕ) → Contains (findings_of plan phase g) (finding No19 number place) → Contains (findings_of_tables plan g) (finding No19 number place)
+of_tables plan phase g number place there =
+    let fails : Fails plan phase g No19 number place = at_each (IsTrueOf plan phase g) (findings_of plan phase g) (finding No19 number place) there.0 (findings_are_true plan phase g) there.1 there.2 in
+    elim fails [
+      | inl at ↦ absurd (tables_at plan phase g number (leg_numbered number 1 plan.legs) place at)
+      | inr there ↦ there
+    ]
+
+-- a captain with 100 hours has no raised minima
+by_landing : (number : ℕ) (leg : Leg) (c : Case) (fs : List Finding) (ahead : Type 0) → 100 ≤ c.hours → FollowsSections c fs number leg ahead
+    → IsSilent fs No3 number ↔ AllowsLanding c leg.to leg.eta
+by_landing number leg c fs ahead enough follows =
+    (λ silent. (follows.landing.0 silent).by_minima enough, λ allows. follows.landing.1 (record { by_minima = λ e. allows; by_raised = λ few. absurd (omega (arith, few, enough)) }))
+
 pub findings_follow_regulation : (plan : Plan) (phase : Phase) (g : Grounds) → FollowRegulation plan phase g (findings_of plan phase g)
 findings_follow_regulation plan phase g = record {
   time = follow_time plan phase g;
   not_flown = λ number leg aircraft is flies. follow_sections plan phase g number leg (case_of g plan aircraft) is.stands (case_is plan g number leg aircraft is) flies;
   ahead = λ number leg aircraft is ahead. follow_departure plan phase g number leg (case_of g plan aircraft) is.stands (case_is plan g number leg aircraft is) ahead;
+  experienced = λ number leg aircraft is flies enough.
+      by_landing number leg (case_of g plan aircraft) (findings_of plan phase g) (standing phase number ≡ Ahead) enough
+      (follow_sections plan phase g number leg (case_of g plan aircraft) is.stands (case_is plan g number leg aircraft is) flies);
+  tables = follow_tables plan g (findings_of plan phase g) (of_tables plan phase g) (λ number place there. findings_name_all plan phase g No19 number place (inr there));
 }

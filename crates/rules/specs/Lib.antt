@@ -8,6 +8,7 @@ pub mod Equipment
 pub mod Fuel
 pub mod Time
 pub mod Judgement
+pub mod Planned
 pub mod Required
 pub mod Due
 pub mod HighestMet

@@ -1,12 +1,12 @@
 -- What each section of 14 CFR 121 requires of a leg, and that the findings follow it exactly.
-use Rattle.std.specs.Prelude.{◌≡◌, ◌↔◌, ◌⊎◌, ℕ, ◌+◌, ◌*◌, ◌/◌, ◌<◌, ◌≤◌, Bool, true, false, List, [], ◌∷◌, length, None, Some, Any, Contains}
+use Rattle.std.specs.Prelude.{◌≡◌, ◌↔◌, ◌⊎◌, ℕ, ◌+◌, ◌*◌, ◌/◌, ◌-◌, ◌<◌, ◌≤◌, Bool, true, false, List, [], ◌∷◌, length, None, Some, IsSome, Any, Contains}
 use Rattle.std.specs.List.{All}
 use Rattle.desk_io.specs.Station.{Station}
 use Rattle.desk_io.specs.declared.pair.Pair.{Pair}
 use Rattle.ops_tables.specs.declared.rows.Settings.{Settings}
 use Rattle.ops_tables.specs.declared.rows.MelRow.{MelRow}
 use Rattle.ops_tables.specs.declared.rows.TypeRow.{TypeRow}
-use Rattle.ops_tables.specs.Tables.{type_of, miles_of, route_free, item_of, are_paired, may_use}
+use Rattle.ops_tables.specs.Tables.{hours_of, type_of, miles_of, route_free, item_of, are_paired, may_use}
 use Rattle.plan.specs.Check.{plan_fault}
 use Rattle.plan.specs.Phases.{standing}
 use Rattle.plan.specs.declared.flights.Kind.{Kind}
@@ -17,7 +17,7 @@ use Rattle.plan.specs.declared.flights.Alternate.{Alternate}
 use Rattle.plan.specs.declared.flights.TakeoffAlternate.{TakeoffAlternate}
 use Rattle.plan.specs.declared.findings.Finding.{Finding}
 use Rattle.plan.specs.declared.findings.Rule.{Rule}
-use Rattle.plan.specs.declared.findings.Rule.TheVariants.{No1, No2, No3, No4, No5, No6, No7, No8, No9, No10, No11, No12, No13, No14, No15, No16, No17, No18}
+use Rattle.plan.specs.declared.findings.Rule.TheVariants.{No1, No2, No3, No4, No5, No6, No7, No8, No9, No10, No11, No12, No13, No14, No15, No16, No17, No18, No19}
 use Rattle.plan.specs.declared.release.Phase.{Phase}
 use Rattle.plan.specs.declared.release.Phase.TheVariants.{Drafted, Ready, Flying, Stopped}
 use Rattle.plan.specs.declared.release.Standing.TheVariants.{Ahead, Flown}
@@ -32,6 +32,7 @@ use Rattle.rules.specs.Grounds.{Grounds}
 use Rattle.rules.specs.Circumstances.{Case, case_of, landing_at, alternate_at}
 use Rattle.rules.specs.Fuel.{is_within_states}
 use Rattle.rules.specs.Judgement.{finding, leg_numbered}
+use Rattle.rules.specs.Planned.{IsOfAirline, MayFollow}
 
 -- No named value is below the least. If the least isn't 0, a value is known.
 pub record IsAtLeast (named : List ℕ) (least : ℕ) : Type 0 where
@@ -214,6 +215,17 @@ pub record IsJudged (plan : Plan) (g : Grounds) (number : ℕ) (leg : Leg) (airc
   pub passes : plan_fault g.tables plan ≡ None
   pub has_type : type_of g.tables plan.tail ≡ Some aircraft
 
+-- the tables allow the leg of this number, after the leg before it
+abbrev pub IsLegAllowed : Plan → Grounds → ℕ → Type 0
+IsLegAllowed plan g number = (leg : Leg) → leg_numbered number 1 plan.legs ≡ Some leg → MayFollow g.tables (leg_numbered (number - 1) 1 plan.legs) leg
+
+-- The rule of the tables names only the first thing that they don't allow. Leg 0 is the plan as a whole: the aircraft,
+-- its type, the captain and the number of legs.
+pub record FollowsTables (plan : Plan) (g : Grounds) (fs : List Finding) : Type 0 where
+  pub whole : IsSilent fs No19 0 ↔ (IsOfAirline g.tables plan × (((number : ℕ) → IsLegAllowed plan g number) → IsSome (type_of g.tables plan.tail)))
+  pub legs : (number : ℕ) → 0 < number
+      → IsSilent fs No19 number ↔ (IsOfAirline g.tables plan → ((earlier : ℕ) → earlier < number → IsLegAllowed plan g earlier) → IsLegAllowed plan g number)
+
 -- The findings on a plan are silent on a rule and a leg exactly if the leg does what the section requires.
 pub record FollowRegulation (plan : Plan) (phase : Phase) (g : Grounds) (fs : List Finding) : Type 0 where
   pub time : (number : ℕ) (leg : Leg) → leg_numbered number 1 plan.legs ≡ Some leg → FollowsTime plan phase g fs number leg
@@ -221,3 +233,7 @@ pub record FollowRegulation (plan : Plan) (phase : Phase) (g : Grounds) (fs : Li
       → FollowsSections (case_of g plan aircraft) fs number leg (standing phase number ≡ Ahead)
   pub ahead : (number : ℕ) (leg : Leg) (aircraft : TypeRow) → IsJudged plan g number leg aircraft → standing phase number ≡ Ahead
       → FollowsDeparture (case_of g plan aircraft) fs number leg
+  -- for a captain with 100 hours in the type, the landing minima alone decide about the destination (14 CFR 121.613)
+  pub experienced : (number : ℕ) (leg : Leg) (aircraft : TypeRow) → IsJudged plan g number leg aircraft → (standing phase number ≡ Flown → ⊥)
+      → 100 ≤ hours_of g.tables plan.captain aircraft.kind → IsSilent fs No3 number ↔ AllowsLanding (case_of g plan aircraft) leg.to leg.eta
+  pub tables : FollowsTables plan g fs

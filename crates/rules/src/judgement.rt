@@ -175,7 +175,7 @@ fn findings(
 
 /// Returns the rules that a plan fails in a phase, as `judge` does, but with the change in the evidence already made.
 /// It counts one step.
-#[tactic(auto, using(crate::proofs::Laws::findings_in_order, crate::proofs::Laws::findings_are_true, crate::proofs::RegulationLaws::findings_follow_regulation))]
+#[tactic(auto, using(crate::proofs::Laws::findings_in_order, crate::proofs::Laws::findings_are_true))]
 pub fn judge_by<L: Ledger>(
     alloc: Global,
     plan: &Plan,

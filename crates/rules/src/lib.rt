@@ -1,4 +1,5 @@
-//! Judges a plan by the nineteen rules, and finds the next moment at which a rule of time begins to fail.
+//! Judges a plan by the nineteen rules, finds the next moment at which a rule of time begins to fail, and returns the
+//! fuel that a leg requires.
 #![tactic(auto)]
 
 mod circumstances;
@@ -19,6 +20,6 @@ mod weather;
 pub use due::{due_minutes, next_due, next_due_by};
 pub use evidence::Evidence;
 pub use judgement::{judge, judge_by};
-pub use required::required_of;
+pub use required::{leg_numbered, required_of};
 pub use touches::{is_of_tail, names_station};
 pub use weather_window::Steps;

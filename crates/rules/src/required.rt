@@ -16,8 +16,8 @@ use ops_tables::Tables;
 use plan::{Leg, Phase, Plan, Standing, standing_of};
 use std::alloc::Global;
 
-// Returns the leg of a number, counted from 1.
-fn leg_numbered(legs: &[Leg], number: u32) -> Option<&Leg>
+/// Returns the leg of a number, counted from 1, or None if there is no such leg.
+pub fn leg_numbered(legs: &[Leg], number: u32) -> Option<&Leg>
     requires { length legs.now ≤ 1000 }
     ensures { option_copied result ≡ leg_numbered number 1 legs.now }
 {

@@ -1,10 +1,11 @@
 ghost use Rattle.std.specs.Prelude.{None};
 ghost use Rattle.desk_io.specs.Health.{unsound};
 ghost use Rattle.desk_io.specs.InMemory.{shelf_seen};
-ghost use Rattle.desk_net.specs.InMemory.{door_seen};
+ghost use Rattle.desk_net.specs.Doors.{passed};
+ghost use Rattle.desk_net.specs.InMemory.{clock_seen, door_seen, link_seen};
 
-use desk_io::{Change, Failed, MemoryShelf, OutOfMemory, PutFault, Row, Shelf};
-use desk_net::{Clock, Door, Link, MemoryClock, MemoryDoor, MemoryLink};
+use desk_io::{Change, Failed, MemoryShelf, OutOfMemory, PutFault, Record, Row, Shelf};
+use desk_net::{Clock, Door, Link, MemoryClock, MemoryDoor, MemoryLink, Passing};
 use desk_time::Minute;
 use keeper::{KeepFault, Keeper, MemoryKeeper};
 use std::alloc::Global;
@@ -69,7 +70,7 @@ impl CaseClock {
 }
 
 impl Clock for CaseClock {
-    ghost seen = { λ c. record { dial = None; health = unsound c.faults } };
+    ghost seen = { λ c. record { dial = None; answers = (clock_seen c.clock).answers; health = unsound c.faults } };
 
     fn now(&mut self) -> Result<Minute, Failed> {
         match self.clock.now() {
@@ -122,7 +123,7 @@ impl CaseLink {
 }
 
 impl Link for CaseLink {
-    ghost seen = { λ l. record { stream = None; health = unsound l.faults } };
+    ghost seen = { λ l. record { stream = None; crossed = (link_seen l.link).crossed; health = unsound l.faults } };
 
     fn read(&mut self, into: &mut [u8]) -> Result<usize, Failed> {
         if self.may_come() {
@@ -160,6 +161,8 @@ pub struct CaseDoor {
     after: Vec<Option<usize>>,
     ended: Arc<Vec<AtomicBool>, Global>,
     came: usize,
+    let_in: Record<CaseLink>,
+    let_out: Record<CaseLink>,
     calls: u64,
     faults: u64,
 }
@@ -177,6 +180,8 @@ impl CaseDoor {
             after,
             ended,
             came: 0,
+            let_in: Record::new(),
+            let_out: Record::new(),
             calls: 0,
             faults: 0,
         }
@@ -201,7 +206,12 @@ impl CaseDoor {
 impl Door for CaseDoor {
     type Link = CaseLink;
 
-    ghost seen = { λ d. record { links = None; opened_at = (door_seen d.door).opened_at; health = unsound d.faults } };
+    ghost seen = { λ d. record {
+      links = None;
+      passed = passed d.let_in.list d.let_out.list;
+      opened_at = (door_seen d.door).opened_at;
+      health = unsound d.faults;
+    } };
 
     fn bind(&mut self, port: u16) -> Result<(), Failed> {
         self.calls = self.calls.saturating_add(1);
@@ -218,20 +228,25 @@ impl Door for CaseDoor {
             let place = self.came;
             self.came = place.saturating_add(1);
             let after = self.after.get(place).copied().flatten();
-            return Ok(CaseLink {
+            let link = CaseLink {
                 link,
                 place,
                 after,
                 ended,
                 faults: 0,
-            });
+            };
+            self.let_in = self.let_in.with(&Passing { link: &link });
+            return Ok(link);
         }
         self.faults = self.faults.saturating_add(1);
         Err(Failed)
     }
 
     fn done(&mut self, link: CaseLink) -> Result<(), OutOfMemory> {
-        self.door.done(link.link)
+        let let_out = self.let_out.with(&Passing { link: &link });
+        self.door.done(link.link)?;
+        self.let_out = let_out;
+        Ok(())
     }
 
     fn faults(&self) -> u64 {

@@ -37,4 +37,4 @@ abbrev pub no_desk : DeskSeen
 no_desk = record { opening = start no_tables; state = start no_tables; keeper = record { rows = None; commits = 0; health = unsound 0 }; bells = []; listed = false }
 
 abbrev pub no_clock : ClockSeen
-no_clock = record { dial = None; health = unsound 0 }
+no_clock = record { dial = None; answers = []; health = unsound 0 }

@@ -28,7 +28,7 @@ exactly {A} {E} IsGood IsBad (Err x) is if_good if_bad = record {
   bad = λ e. (if_bad e, λ h. subst IsBad (let same : x ≡ e = cc in same) is);
 }
 
-same_names : (fields names : List (List ℕ)) → are_same fields names ≡ true → fields ≡ names
+pub same_names : (fields names : List (List ℕ)) → are_same fields names ≡ true → fields ≡ names
 same_names [] [] e = refl
 same_names [] (name ∷ names) e = absurd cc
 same_names (field ∷ fields) [] e = absurd cc
@@ -36,7 +36,7 @@ same_names (field ∷ fields) (name ∷ names) e =
     let both = and_parts (bytes_eq field name) (are_same fields names) e in
     ap (λ f. f ∷ fields) ((bytes_eq-Decides field name).0 both.0) ∙ ap (λ fs. name ∷ fs) (same_names fields names both.1)
 
-names_same : (names : List (List ℕ)) → are_same names names ≡ true
+pub names_same : (names : List (List ℕ)) → are_same names names ≡ true
 names_same [] = refl
 names_same (name ∷ names) = rw ((bytes_eq-Decides name name).1 refl) (names_same names)
 

@@ -1,4 +1,5 @@
-//! Reads the thirteen operations tables from their CSV files and reports the first bad record.
+//! Reads the thirteen operations tables from their CSV files and reports the first bad record. Reads the header of any
+//! CSV file.
 #![tactic(auto)]
 
 mod faults;
@@ -12,4 +13,5 @@ mod settings;
 mod whole;
 
 pub use faults::{BadTable, TableFault, TableWhy};
+pub use reading::has_header;
 pub use whole::read_tables;

@@ -49,8 +49,8 @@ fn most_fields<R: FileRow<N>, const N: usize>() -> usize
     R::layout().columns.len() + 1
 }
 
-/// Returns true if the fields are these column names in this order.
-pub(crate) fn is_header(fields: &[Text], columns: &[&str]) -> bool
+// Returns true if the fields are these column names in this order.
+fn is_header(fields: &[Text], columns: &[&str]) -> bool
     ensures { result ≡ spec.are_same fields.now (map (λ c. c.now) columns.now) }
 {
     if fields.len() != columns.len() {
@@ -227,8 +227,8 @@ pub(crate) fn read_rows<R: FileRow<N>, const N: usize>(
     }
 }
 
-/// Reads the first record. Returns true if it is a header with these columns.
-pub(crate) fn has_header(
+/// Reads the first record of a file. Returns true if it is a header with these columns.
+pub fn has_header(
     alloc: Global,
     reader: &mut Records,
     columns: &[&str],

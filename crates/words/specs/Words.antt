@@ -5,7 +5,7 @@ use Rattle.std.specs.Option.{option_map}
 use Rattle.std.specs.Str.{bytes_eq}
 use Rattle.desk_time.specs.Digits.{◌>>=◌}
 use Rattle.desk_time.specs.Numbers.{number_in}
-use Rattle.words.specs.declared.task.DeskTask.TheVariants.{Run, Race, Serve, Import, Make}
+use Rattle.words.specs.declared.task.DeskTask.TheVariants.{Run, Race, Serve, Import, Make, Advise}
 use Rattle.words.specs.declared.task.Form.{Form}
 use Rattle.words.specs.declared.task.Form.TheVariants.{Names, Numbers}
 use Rattle.words.specs.declared.task.Limits.{Limits}
@@ -27,8 +27,8 @@ pub record CommandRow : Type 0 where
 abbrev pub row : List ℕ → Form → CommandRow
 row name form = record { name = name; form = form }
 
--- the arguments are one source, 2 to 16 scripts, a port and a number of connections, or a seed of 32 bits and a number
--- of flights
+-- the arguments are one source, 2 to 16 scripts, a port and a number of connections, a seed of 32 bits and a number of
+-- flights, or a plan and candidates
 abbrev pub row_of : Name → CommandRow
 row_of name.Run = row (codes "run") (Names (between 1 1))
 row_of name.Race = row (codes "race") (Names (between 2 16))
@@ -36,10 +36,11 @@ row_of name.Serve = row (codes "serve") (Numbers (between 1 65_535) (between 1 1
 row_of name.Weather = row (codes "weather") (Names (between 1 1))
 row_of name.Import = row (codes "import") (Names (between 1 1))
 row_of name.Make = row (codes "make") (Numbers (between 0 4_294_967_295) (between 1 20_000))
+row_of name.Advise = row (codes "advise") (Names (between 2 2))
 
 -- all commands
 abbrev pub commands : List Name
-commands = name.Run ∷ name.Race ∷ name.Serve ∷ name.Weather ∷ name.Import ∷ name.Make ∷ []
+commands = name.Run ∷ name.Race ∷ name.Serve ∷ name.Weather ∷ name.Import ∷ name.Make ∷ name.Advise ∷ []
 
 -- the task of a command with these numbers
 abbrev pub task_of : Name → ℕ × ℕ → Task
@@ -49,6 +50,7 @@ task_of name.Serve numbers = Desk (Serve numbers.0 numbers.1)
 task_of name.Weather numbers = Weather
 task_of name.Import numbers = Desk Import
 task_of name.Make numbers = Desk (Make numbers.0 numbers.1)
+task_of name.Advise numbers = Desk Advise
 
 abbrev pub command_among : List Name → List ℕ → Option Name
 command_among all name = find (λ command. bytes_eq (row_of command).name name) all

@@ -27,6 +27,9 @@ pub enum DeskTask {
     /// `make NUMBER COUNT` answers calls that are made from the seed `number` for 1 to 20,000 flights. Prints three
     /// lines of counts.
     Make { number: u32, count: u32 },
+    /// `advise PLAN CANDIDATES` advises alternates for each leg of a plan. Prints a line for each leg, and changes
+    /// nothing on the desk.
+    Advise,
 }
 
 /// The name of a command.
@@ -38,16 +41,18 @@ pub(crate) enum Name {
     Weather,
     Import,
     Make,
+    Advise,
 }
 
 /// All commands.
-pub(crate) const COMMANDS: [Name; 6] = [
+pub(crate) const COMMANDS: [Name; 7] = [
     Name::Run,
     Name::Race,
     Name::Serve,
     Name::Weather,
     Name::Import,
     Name::Make,
+    Name::Advise,
 ];
 
 /// The least and the most that a count or a number may be.
@@ -105,6 +110,7 @@ impl Name {
                 "make",
                 Form::Numbers(between(0, 4_294_967_295), between(1, 20_000)),
             ),
+            Name::Advise => row_with("advise", Form::Names(between(2, 2))),
         }
     }
 
@@ -128,6 +134,7 @@ impl Name {
                 number: one,
                 count: two,
             }),
+            Name::Advise => Task::Desk(DeskTask::Advise),
         }
     }
 }

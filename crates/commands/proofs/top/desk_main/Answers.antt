@@ -16,7 +16,7 @@ returns g c =
       complete = λ shelf door out keeper clock. status_remains _ sink (λ misses. misses.1 shelf) (λ failed. failed.1 out) (λ failed. failed.1 keeper) (λ failed. failed.1 door) (λ failed. failed.1 clock)
           answer status on.tells c.write-status.ensures;
       done = λ valid served. status_done _ sink (is_formed _ valid.formed) (λ misses. served.by_shelf misses.0) (λ failed. served.by_sink failed.0) (λ failed. served.by_keeper failed.0)
-          (λ bad. bad (valid.tables, valid.headed)) (λ bad. bad.0 valid.faultless) (λ failed. served.by_door failed.0) (λ long. long valid.short) (λ failed. served.by_clock failed.0)
+          (λ bad. bad (valid.tables, valid.passing)) (λ bad. bad.0 valid.faultless) (λ failed. served.by_door failed.0) (λ long. long valid.short) (λ failed. served.by_clock failed.0) (λ bad. bad valid.passing)
           answer status on.tells c.write-status.ensures;
       blames = record {
         three = λ shelf is. (subst (Cause _ _ _) is cause).1 shelf;

@@ -1,8 +1,25 @@
-use Rattle.std.proofs.Common.{ap, ◌∙◌, Err}
+use Rattle.std.proofs.Common.{ap, ◌∙◌, Err, subst, sym}
 use Rattle.alerts.specs.Ringing.{hung_all}
-use Rattle.commands.proofs.Opened.{does_by, goes_by, keeper_worked, not_opened, worked}
+use Rattle.commands.proofs.Opened.{asked_after, asked_nothing, does_by, goes_by, keeper_worked, not_opened, opened_tables, worked}
 use Rattle.commands.proofs.RungLaws.{rung_over}
+use Rattle.commands.specs.Seen.{lent}
 use Rattle.commands.proofs.working.open_over.Goals as goal
+
+pub work-answer-requires : goal.work-answer-requires
+work-answer-requires g c =
+    subst (λ tables. g.W.Work.ready tables c.args.work) (sym (opened_tables (g.K.Keeper.seen c.args.provided.keeper).rows c.args.provided.tables c.in-Ok.desk.board c.in-Ok.ensures.opened)) c.requires.ready
+
+pub returns-in-Ok-clause-asked : goal.returns-in-Ok-clause-asked
+returns-in-Ok-clause-asked g c =
+    let seen = g.K.Keeper.seen in
+    let work = c.work-answer in
+    let left = c.left in
+    asked_after seen c.args.provided.tables (g.W.Work.asks c.args.work) c.args.provided.keeper c.in-Ok.desk.keeper work.new.desk.keeper work.new.desk.board left.result left.ensures.board left.ensures.keeper c.in-Ok.ensures.asked
+    (subst (λ own. g.W.Work.asks c.args.work (own c.in-Ok.desk.keeper) (own work.new.desk.keeper)) c.requires.seen work.ensures.asks)
+
+pub returns-in-Err-clause-asked : goal.returns-in-Err-clause-asked
+returns-in-Err-clause-asked g c =
+    asked_nothing c.args.provided.tables (g.W.Work.asks c.args.work) (lent g.K.Keeper.seen c.args.provided.keeper c.boardless.result.keeper) c.boardless.result c.boardless.ensures.none
 
 pub returns-in-Ok-clause-opens : goal.returns-in-Ok-clause-opens
 returns-in-Ok-clause-opens g c =

@@ -1,4 +1,5 @@
-use Rattle.std.proofs.Common.{◌-◌, ◌≤◌, ◌<◌, length}
+use Rattle.std.proofs.Common.{◌-◌, ◌≤◌, ◌<◌, [], length}
+use Rattle.desk_io.specs.Reads.{HandsOver}
 use Rattle.desk_io.specs.Seen.{ShelfGoesOn, Holds}
 use Rattle.desk_io.proofs.Fronts.{Agrees}
 use Rattle.desk_io.proofs.whole.read_by.Given as goal
@@ -9,6 +10,7 @@ invariant-loop-text g l = record {
   room : 0 < length l.piece;
   short : length l.text.items ≤ 67_108_864;
   front : Agrees (g.S.Shelf.seen l.fn.shelf).sources l.name l.text.items;
+  handed : HandsOver l.name l.text.items [] (g.S.Shelf.seen l.fn.shelf).reads (g.S.Shelf.seen l.shelf).reads;
 }
 
 abbrev pub decreases-loop-text : goal.decreases-loop-text
