@@ -3,23 +3,13 @@ use Rattle.std.proofs.Common.{◌≡◌, ℕ, ◌≤◌, Bool, true, List, [], m
 use Rattle.std.specs.Prelude.{Ok, Err}
 use Rattle.std.specs.List.{concat}
 use Rattle.alerts.specs.Seen.{BellSeen}
-use Rattle.desk.specs.Below.{Record, Shown, shown}
-use Rattle.desk.proofs.Choices.{rise_lower, rise_within}
-use Rattle.desk.specs.Keeping.{KeepsState, numbers_of}
-use Rattle.desk.specs.Opening.{AreAsked, IsLeft, IsOfKeeper, IsOpened, IsWhy, MayHaveAsked, TellsRowsOf, board_of}
-use Rattle.desk.specs.declared.opening.OpenWhy.{OpenWhy}
-use Rattle.desk.specs.InPart.{AreGivenInPart}
-use Rattle.desk.specs.Run.{IsRun}
-use Rattle.desk.specs.declared.settling.Desk.{Desk}
-use Rattle.desk.specs.Seen.{DeskAt, DeskGoesOn, desk_at, desk_seen}
+use Rattle.scripts.specs.Below.{Record, Shown, shown, KeepsState, numbers_of, AreAsked, IsLeft, IsOfKeeper, IsOpened, IsWhy, MayHaveAsked, TellsRowsOf, board_of, OpenWhy, AreGivenInPart, IsRun, Desk, DeskAt, DeskGoesOn, desk_at, desk_seen, IsBoard, State, Item}
+use Rattle.scripts.proofs.Below.{rise_lower, rise_within}
 use Rattle.desk_io.specs.Health.{HasFailed}
 use Rattle.desk_io.specs.Over.{Over, over}
 use Rattle.desk_io.specs.Rows.{Rows}
 use Rattle.keeper.proofs.SeenLaws.{keeper_on}
 use Rattle.keeper.specs.Seen.{KeeperSeen, KeeperGoesOn}
-use Rattle.desk_state.specs.Sound.{IsBoard}
-use Rattle.desk_state.specs.State.{State}
-use Rattle.desk_state.specs.declared.lanes.Item.{Item}
 use Rattle.ops_tables.specs.Tables.{TableRows}
 use Rattle.row_changes.specs.Held.{meta_in, state_by, state_in}
 use Rattle.row_changes.specs.Opening.{reopened}

@@ -1,20 +1,28 @@
 -- Bells that were rung over a desk that was opened.
-use Rattle.std.proofs.Common.{◌≡◌, ℕ, ◌+◌, List, [], ◌∷◌, Option, Some, refl, ap, sym, ◌∙◌, subst}
+use Rattle.std.proofs.Common.{◌≡◌, ℕ, ◌+◌, ◌≤◌, List, [], ◌∷◌, Option, None, Some, refl, ap, sym, ◌∙◌, subst}
+use Rattle.std.specs.Prelude.{Ok, Err}
 use Rattle.alerts.proofs.RungLaws.{are_rung_none}
 use Rattle.alerts.specs.Ringing.{AreRung, Hung, dropped, fresh_from, hung_all, staying}
 use Rattle.alerts.specs.Seen.{BellSeen}
-use Rattle.desk.specs.Below.{Shown}
-use Rattle.commands.specs.Bells.{AreRungOver}
+use Rattle.scripts.specs.Below.{Shown, told_by_all, IsOpened, DeskGoesOn, desk_at, desk_seen, Desk, IsBoard, State}
+use Rattle.commands.specs.Bells.{AreRungAfter, AreRungBy, AreRungIn, AreRungOver, AreRungSeated, AreRungUnder, IsRungInShifts}
+use Rattle.commands.specs.Faults.{Outcome}
+use Rattle.commands.specs.Seen.{lent as lent_over, Lent}
+use Rattle.commands.specs.Sources.{AreWhole}
+use Rattle.commands.specs.Working.{RunsSeated}
 use Rattle.commands.specs.declared.working.Ended.{Ended}
-use Rattle.desk.specs.Heard.{told_by_all}
-use Rattle.desk.specs.Opening.{IsOpened}
-use Rattle.desk.specs.Seen.{DeskGoesOn, desk_seen}
-use Rattle.desk.specs.declared.settling.Desk.{Desk}
+use Rattle.desk_io.specs.Over.{over}
 use Rattle.desk_io.specs.Rows.{Rows}
-use Rattle.desk_state.specs.Sound.{IsBoard}
-use Rattle.desk_state.specs.State.{State}
-use Rattle.keeper.specs.Seen.{KeeperSeen}
+use Rattle.keeper.specs.Seen.{KeeperGoesOn, KeeperSeen}
 use Rattle.ops_tables.specs.Tables.{TableRows}
+use Rattle.scripts.proofs.RunLaws.{seated_run_lower}
+use Rattle.scripts.specs.ShiftLines.{HaveHeardSome}
+use Rattle.scripts.specs.ShiftRuns.{IsSeatedRun}
+use Rattle.table_files.specs.Whole.{Told}
+use Rattle.words.specs.declared.task.DeskTask.{DeskTask}
+use Rattle.words.specs.declared.task.DeskTask.TheVariants.{Shifts}
+use Rattle.words.specs.declared.task.Task.{Task}
+use Rattle.words.specs.declared.task.Task.TheVariants.{Desk as OnDesk, Weather}
 
 -- the desk that was opened has no history yet
 pub rung_over : {K B : Type 0} (seen : K → KeeperSeen) (heard : B → BellSeen) (told : Option Rows) (tables : TableRows) (desk done : Desk K B) (said : Ended K B) (bells : List Hung)
@@ -38,3 +46,68 @@ all_stay (b ∷ bells) place = ap (λ more. b ∷ more) (all_stay bells (place +
 pub none_leaves : (bells : List BellSeen) (place : ℕ) → [] ≡ dropped (fresh_from place bells)
 none_leaves [] place = refl
 none_leaves (b ∷ bells) place = none_leaves bells (place + 1)
+
+-- ---- a run of shifts
+
+-- a run that began in the opening state, where the keeper's faults are counted from before
+rung_shifts : (less before after : ℕ) (opening s t : State) (script text : List ℕ) (board : Shown) (old new : List Hung) → less ≤ before → IsSeatedRun opening before after s script t text old new → s ≡ opening
+    → board.opening ≡ opening → board.state ≡ t → IsSeatedRun board.opening less after board.opening script board.state text old new
+rung_shifts less before after opening s t script text board old new under run first begun ended =
+    let lower : IsSeatedRun opening less after s script t text old new = seated_run_lower less before after opening s script t text old new under run in
+    let at : IsSeatedRun opening less after opening script t text old new = subst (λ (u : State). IsSeatedRun opening less after u script t text old new) first lower in
+    let from : IsSeatedRun board.opening less after board.opening script t text old new = subst (λ (o : State). IsSeatedRun o less after o script t text old new) (sym begun) at in
+    subst (λ (u : State). IsSeatedRun board.opening less after board.opening script u text old new) (sym ended) from
+
+seated_by : {K : Type 0} {B : Type 0} (seen : K → KeeperSeen) (heard : B → BellSeen) (lent : K) (desk done : Desk K B) (script : List ℕ) (old new : List Hung) (answer : Outcome)
+    → RunsSeated desk.board.opening script (over (desk_at seen) desk done) old new answer → (seen lent).health.faults ≤ (seen desk.keeper).health.faults → desk.board.state ≡ desk.board.opening
+    → done.board.opening ≡ desk.board.opening → IsRungInShifts script (lent_over seen lent done.keeper) done.board answer old new
+seated_by seen heard lent desk done script old new (Ok text) runs under first begun =
+    rung_shifts (seen lent).health.faults (seen desk.keeper).health.faults (seen done.keeper).health.faults desk.board.opening desk.board.state done.board.state script text done.board old new under runs first begun refl
+seated_by seen heard lent desk done script old new (Err fault) runs under first begun = tt
+
+pub rung_seated : {K B : Type 0} (seen : K → KeeperSeen) (heard : B → BellSeen) (told : Option Rows) (tables : TableRows) (lent : K) (desk done : Desk K B) (said : Ended K B) (script texts_first : List ℕ) (answer : Outcome) (old new bells : List Hung)
+    → said.answer ≡ answer → said.board ≡ Some done.board → said.keeper ≡ done.keeper → bells ≡ new → script ≡ texts_first → IsOpened told tables desk.board → KeeperGoesOn (seen lent) (seen desk.keeper)
+    → DeskGoesOn (desk_seen seen heard desk) (desk_seen seen heard done) → HaveHeardSome old new → RunsSeated desk.board.opening script (over (desk_at seen) desk done) old new answer
+    → AreRungSeated texts_first (lent_over seen lent said.keeper) said.answer said.board old bells
+rung_seated {K} seen heard told tables lent desk done said script texts_first answer old new bells answer_is board_is keeper_is bells_are script_is opened lasts goes some runs =
+    let first : desk.board.state ≡ desk.board.opening = ap (λ (b : Shown). b.state) opened.shows ∙ sym (ap (λ (b : Shown). b.opening) opened.shows) in
+    let one = subst (λ text. IsRungInShifts text (lent_over seen lent done.keeper) done.board answer old new) script_is
+    (seated_by seen heard lent desk done script old new answer runs lasts.health.later first goes.opening) in
+    let two = subst (λ now. HaveHeardSome old now × IsRungInShifts texts_first (lent_over seen lent done.keeper) done.board answer old now) (sym bells_are) (some, one) in
+    let three = subst (λ (a : Outcome). HaveHeardSome old bells × IsRungInShifts texts_first (lent_over seen lent done.keeper) done.board a old bells) (sym answer_is) two in
+    let four = subst (λ (k : K). HaveHeardSome old bells × IsRungInShifts texts_first (lent_over seen lent k) done.board said.answer old bells) (sym keeper_is) three in
+    subst (λ (b : Option Shown). AreRungSeated texts_first (lent_over seen lent said.keeper) said.answer b old bells) (sym board_is) four
+
+-- ---- the bells of a command
+
+-- without a board no bell is rung
+pub none_rung : (sources : Told) (task : DeskTask) (names : List (List ℕ)) (keeper : Lent) (answer : Outcome) (board : Option Shown) (old new : List Hung) → board ≡ None → new ≡ old → AreRungUnder sources task names keeper answer board old new
+none_rung sources task names keeper answer board old new none same =
+    subst (λ (b : Option Shown). AreRungUnder sources task names keeper answer b old new) (sym none) same
+
+-- over sources that were read
+pub rung_under : (sources : Told) (task : DeskTask) (names texts : List (List ℕ)) (keeper : Lent) (answer : Outcome) (board : Option Shown) (old new : List Hung) → AreWhole sources names texts → AreRungBy task texts keeper answer board old new
+    → AreRungUnder sources task names keeper answer board old new
+rung_under sources Shifts names texts keeper answer None old new whole rung = rung
+rung_under sources Shifts names texts keeper answer (Some b) old new whole rung = (rung.0, (texts, whole, rung.1))
+rung_under sources other names texts keeper answer None old new whole rung = rung
+rung_under sources other names texts keeper answer (Some b) old new whole rung = rung
+
+-- over the same sources
+pub rung_from : (sources told : Told) (task : DeskTask) (names : List (List ℕ)) (keeper : Lent) (answer : Outcome) (board : Option Shown) (old new : List Hung) → told ≡ sources → AreRungUnder told task names keeper answer board old new
+    → AreRungUnder sources task names keeper answer board old new
+rung_from sources told task names keeper answer board old new same rung = subst (λ (x : Told). AreRungUnder x task names keeper answer board old new) same rung
+
+-- where no command was run
+nothing_in : (sources : Told) (task : Task) (names : List (List ℕ)) (keeper : Lent) (answer : Outcome) (bells : List Hung) → AreRungIn sources task names keeper answer None bells bells
+nothing_in sources Weather names keeper answer bells = refl
+nothing_in sources (OnDesk task) names keeper answer bells = refl
+
+pub nothing_rung : (sources : Told) (command : Option (Task × List (List ℕ))) (keeper : Lent) (answer : Outcome) (bells : List Hung) → AreRungAfter sources command keeper answer None bells bells
+nothing_rung sources None keeper answer bells = refl
+nothing_rung sources (Some command) keeper answer bells = nothing_in sources command.0 command.1 keeper answer bells
+
+pub unrung : (sources : Told) (command : Option (Task × List (List ℕ))) (keeper : Lent) (answer : Outcome) (board : Option Shown) (old new : List Hung) → board ≡ None → new ≡ old → AreRungAfter sources command keeper answer board old new
+unrung sources command keeper answer board old new none same =
+    subst (λ (b : Option Shown). AreRungAfter sources command keeper answer b old new) (sym none)
+    (subst (λ now. AreRungAfter sources command keeper answer None old now) (sym same) (nothing_rung sources command keeper answer old))

@@ -2,13 +2,10 @@
 use Rattle.std.proofs.Common.{◌≡◌, ℕ, ◌≤◌, List, [], ◌∷◌, ◌++◌, map, Option, None, Some, ap, arith, refl, sym, subst, inl, inr, false}
 use Rattle.std.specs.Prelude.{◌==◌, All, IfErr, IfOk, IfSome, IsSome, MatchBool, MatchResult, Result, Ok, Err}
 use Rattle.std.specs.List.{Contains}
-use Rattle.desk.specs.Below.{Shown}
-use Rattle.desk.specs.Opening.{IsLeft, IsOfKeeper, IsWhy, TellsRowsOf}
-use Rattle.desk.specs.declared.opening.OpenWhy.{OpenWhy}
-use Rattle.desk.specs.declared.opening.OpenWhy.TheVariants as why
+use Rattle.scripts.specs.Below.{Shown, IsLeft, IsOfKeeper, IsWhy, TellsRowsOf, OpenWhy, DeskAt, IsBoard, State}
+use Rattle.scripts.specs.Below.OpenWhyVariants as why
 use Rattle.desk_io.specs.Rows.{Rows}
 use Rattle.desk_io.specs.Told.{HoldsName}
-use Rattle.desk.specs.Seen.{DeskAt}
 use Rattle.desk_io.specs.Health.{HasFailed, IsSound, RoseOrFull}
 use Rattle.desk_io.specs.Over.{Over}
 use Rattle.desk_io.specs.Seen.{ShelfSeen, SinkSeen}
@@ -16,9 +13,7 @@ use Rattle.desk_net.specs.Seen.{ClockSeen, DoorSeen, LinkSeen, ClockGoesOn}
 use Rattle.desk_net.proofs.SeenLaws.{clock_stays}
 use Rattle.keeper.proofs.SeenLaws.{keeper_stays}
 use Rattle.keeper.specs.Seen.{KeeperSeen, KeeperGoesOn}
-use Rattle.desk_state.specs.Sound.{IsBoard}
-use Rattle.desk_state.specs.State.{State}
-use Rattle.desk.specs.Below.RowsFaultVariants as fault
+use Rattle.scripts.specs.Below.RowsFaultVariants as fault
 use Rattle.connections.specs.Doors.{EndsServing, Visit}
 use Rattle.connections.specs.declared.doors.ServeEnd.{ServeEnd}
 use Rattle.connections.specs.declared.doors.ServeEnd.TheVariants as ends
@@ -27,7 +22,7 @@ use Rattle.table_files.specs.Files.{files, name_of}
 use Rattle.table_files.specs.Whole.{ReadsTables, RoseAt, StopsAtMissing, Told}
 use Rattle.table_files.specs.declared.faults.TableFault.{TableFault}
 use Rattle.table_files.specs.declared.faults.TableFault.TheVariants as table
-use Rattle.words.specs.declared.task.DeskTask.TheVariants.{Run, Race, Serve, Import, Make, Advise}
+use Rattle.words.specs.declared.task.DeskTask.TheVariants.{Run, Race, Serve, Import, Make, Advise, Planned, Shifts}
 use Rattle.words.specs.declared.task.Task.{Task}
 use Rattle.words.specs.declared.task.Task.TheVariants.{Weather, Desk}
 use Rattle.commands.proofs.Reading.{after_files, among_here, none_long, none_missing}
@@ -250,6 +245,8 @@ module _ {K C D L : Type 0} (k : K → KeeperSeen) (c : C → ClockSeen) (d : D 
   does_served Import names tables texts desk answer idle does = idle_served (Some (Desk Import, names)) answer (idle refl) (ends_tell (charges (Some (Desk Import, names))) _ _ answer does.2)
   does_served (Make number count) names tables texts desk answer idle does = idle_served (Some (Desk (Make number count), names)) answer (idle refl) (ends_tell (charges (Some (Desk (Make number count), names))) _ _ answer does)
   does_served Advise names tables texts desk answer idle does = idle_served (Some (Desk Advise, names)) answer (idle refl) (gives_tells (charges (Some (Desk Advise, names))) _ answer does.3.0)
+  does_served Planned names tables texts desk answer idle does = idle_served (Some (Desk Planned, names)) answer (idle refl) (ends_tell (charges (Some (Desk Planned, names))) _ _ answer does)
+  does_served Shifts names tables texts desk answer idle does = idle_served (Some (Desk Shifts, names)) answer (idle refl) (ends_tell (charges (Some (Desk Shifts, names))) _ _ answer does)
 
   -- no desk was opened for a fault in the sources
   refusal_tells : (task : DeskTask) (names : List (List ℕ)) (tables : TableRows) (texts : List (List ℕ)) (answer : Outcome) → ReadsTables shelf.before.sources (Ok tables) → AreWhole shelf.before.sources names texts

@@ -1,13 +1,12 @@
 -- When only out of memory can stop a command.
 use Rattle.std.specs.Prelude.{◌≢◌, ◌<◌, ℕ, List, Option, None, Some, Ok, Err, All, IsSome, length}
-use Rattle.desk.specs.Opening.{OnLoaded}
+use Rattle.scripts.specs.Below.{OnLoaded, IsFaultOf, RowsFault}
 use Rattle.desk_io.specs.Health.{Health, RoseOrFull}
 use Rattle.desk_io.specs.Over.{Over}
 use Rattle.desk_io.specs.Rows.{Rows}
 use Rattle.desk_io.specs.Seen.{ShelfSeen, SinkSeen}
 use Rattle.desk_io.specs.Told.{OnSource}
-use Rattle.desk.specs.Below.{IsFaultOf, RowsFault}
-use Rattle.desk.specs.Below.RowsFaultVariants as fault
+use Rattle.scripts.specs.Below.RowsFaultVariants as fault
 use Rattle.ops_tables.specs.Tables.{TableRows}
 use Rattle.table_files.specs.Whole.{ReadsTables, Told}
 use Rattle.table_files.specs.declared.faults.BadTable.{BadTable}

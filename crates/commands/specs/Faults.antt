@@ -1,10 +1,9 @@
 -- The result of a command: a text or a fault, with its exit status and its line.
 use Rattle.std.specs.Prelude.{ℕ, List, ◌++◌, codes, decimal, Option, None, Some, Result, Ok, Err}
-use Rattle.desk.specs.declared.opening.OpenWhy.{OpenWhy}
-use Rattle.desk.specs.declared.opening.OpenWhy.TheVariants as why
+use Rattle.scripts.specs.Below.{OpenWhy, RowWhy}
+use Rattle.scripts.specs.Below.OpenWhyVariants as why
 use Rattle.desk_io.specs.declared.rows.Row.{Row}
-use Rattle.desk.specs.Below.{RowWhy}
-use Rattle.desk.specs.Below.RowWhyVariants as row_why
+use Rattle.scripts.specs.Below.RowWhyVariants as row_why
 use Rattle.table_files.specs.declared.faults.BadTable.{BadTable as ABadTable}
 use Rattle.table_files.specs.declared.faults.TableFault.{TableFault}
 use Rattle.table_files.specs.declared.faults.TableFault.TheVariants as table

@@ -8,7 +8,7 @@ use Rattle.facts.specs.Lines.{line_of}
 use Rattle.facts.specs.Reading.{read_of}
 use Rattle.facts.specs.declared.report.Read.{Read}
 use Rattle.desk_json.specs.Replies.{why_name}
-use Rattle.desk.specs.Run.{lines_of}
+use Rattle.scripts.specs.Below.{lines_of}
 
 -- the moment at the start of a line, and the text after the blank that follows the moment
 abbrev pub stamped : List ℕ → Option (ℕ × List ℕ)

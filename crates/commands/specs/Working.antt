@@ -1,21 +1,13 @@
 -- The desk that a command opens, and the work of each command on it.
 use Rattle.std.specs.Prelude.{◌≡◌, ◌≢◌, ℕ, ◌≤◌, Bool, true, false, List, Option, None, Some, Result, Ok, Err}
-use Rattle.desk.specs.Below.{Shown, Record, state_in, reopened}
-use Rattle.desk.specs.Keeping.{KeepsState}
-use Rattle.desk.specs.InPart.{AreGivenInPart, IsRunInPart}
-use Rattle.desk.specs.Items.{items_of_lines}
-use Rattle.desk.specs.Made.{IsMade, IsMadeInPart}
-use Rattle.desk.specs.Opening.{AreAsked, AreLoaded, IsLeft, IsOfKeeper, IsWhy, MayHaveAsked, TellsRowsOf}
-use Rattle.desk.specs.Race.{IsRace, IsRaceInPart}
-use Rattle.desk.specs.Run.{IsRun, IsRunOf}
-use Rattle.desk.specs.Seen.{DeskAt}
-use Rattle.desk.specs.declared.opening.OpenWhy.{OpenWhy}
+use Rattle.alerts.specs.Ringing.{Hung}
+use Rattle.scripts.specs.Below.{Shown, Record, state_in, reopened, KeepsState, AreGivenInPart, IsRunInPart, items_of_lines, IsMade, IsMadeInPart, AreAsked, AreLoaded, IsLeft, IsOfKeeper, IsWhy, MayHaveAsked, TellsRowsOf, IsRace, IsRaceInPart, IsRun, IsRunOf, DeskAt, OpenWhy, IsBoard, State, grounds_of, closing}
+use Rattle.scripts.specs.PlannedHistory.{IsPlanned}
+use Rattle.scripts.specs.PlannedRuns.{IsPlannedInPart}
+use Rattle.scripts.specs.ShiftRuns.{IsSeatedRun, IsShiftRun, IsShiftRunInPart}
 use Rattle.desk_io.specs.Health.{HasFailed, IsSound, IsStill}
 use Rattle.desk_io.specs.Over.{Over}
 use Rattle.desk_net.specs.Seen.{ClockGoesOn}
-use Rattle.desk_state.specs.Sound.{IsBoard}
-use Rattle.desk_state.specs.State.{State, grounds_of}
-use Rattle.desk_state.specs.Texts.{closing}
 use Rattle.imports.specs.Lines.{IsImport}
 use Rattle.imports.specs.Records.{Line}
 use Rattle.keeper.specs.Seen.{KeeperSeen}
@@ -30,7 +22,7 @@ use Rattle.service.specs.Doors.{IsServing}
 use Rattle.table_files.specs.declared.faults.BadTable.{BadTable as ABadTable}
 use Rattle.table_files.specs.declared.faults.TableWhy.TheVariants.{BadField}
 use Rattle.words.specs.declared.task.DeskTask.{DeskTask}
-use Rattle.words.specs.declared.task.DeskTask.TheVariants.{Run, Race, Serve, Import, Make, Advise}
+use Rattle.words.specs.declared.task.DeskTask.TheVariants.{Run, Race, Serve, Import, Make, Advise, Planned, Shifts}
 use Rattle.words.specs.declared.task.Task.{Task}
 use Rattle.words.specs.declared.task.Task.TheVariants.{Desk}
 use Rattle.commands.specs.Faults.{Gives, Outcome, of_opening}
@@ -101,6 +93,24 @@ Makes number count desk =
 abbrev pub Advises : Plan → List Candidate → Over DeskAt → Outcome → Type 0
 Advises plan candidates desk answer = Gives (IsAdviceText plan candidates (grounds_of desk.before.state)) answer × (desk.after.state ≡ desk.before.state)
 
+-- A script of planned redispatches was run on a desk.
+abbrev pub RunsPlanned : List ℕ → Over DeskAt → Outcome → Type 0
+RunsPlanned script desk =
+    Ends (IsPlanned desk.before.faults desk.after.faults desk.before.state script desk.after.state)
+    (IsPlannedInPart desk.before.faults desk.after.faults desk.before.state script desk.after.state)
+
+-- A script of shifts was run on a desk.
+abbrev pub RunsShifts : List ℕ → Over DeskAt → Outcome → Type 0
+RunsShifts script desk =
+    Ends (IsShiftRun desk.before.faults desk.after.faults desk.before.state script desk.after.state)
+    (IsShiftRunInPart desk.before.faults desk.after.faults desk.before.state script desk.after.state)
+
+-- the same on a desk with this opening state, and bells were rung at whoever sat at the desks
+abbrev pub RunsSeated : State → List ℕ → Over DeskAt → List Hung → List Hung → Outcome → Type 0
+RunsSeated opening script desk old new =
+    Ends (λ text. IsSeatedRun opening desk.before.faults desk.after.faults desk.before.state script desk.after.state text old new)
+    (IsShiftRunInPart desk.before.faults desk.after.faults desk.before.state script desk.after.state)
+
 -- ---- the commands
 
 -- the same for the lines of an import file
@@ -119,6 +129,8 @@ Does (Serve port most) tables texts service = Serves service port most
 Does Import tables texts service = ImportsFile (first_of texts)
 Does (Make number count) tables texts service = Makes number count
 Does Advise tables texts service = AdvisesFiles tables texts
+Does Planned tables texts service = RunsPlanned (first_of texts)
+Does Shifts tables texts service = RunsShifts (first_of texts)
 
 -- only `serve` uses the clock and the door
 abbrev pub serves : DeskTask → Bool

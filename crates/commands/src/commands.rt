@@ -1,6 +1,6 @@
 ghost use Rattle.std.specs.Prelude.{◌≡◌, ◌<◌, ◌≤◌, None, Err, map, string_bytes};
 ghost use Rattle.alerts.specs.Ringing.{hung_all};
-ghost use Rattle.commands.specs.Bells.{AreRungOver};
+ghost use Rattle.commands.specs.Bells.{AreRungAfter, AreRungBy, AreRungOver, AreRungUnder};
 ghost use Rattle.commands.specs.Answers.{IsDoneOnDesk, ReadsUnder, Says, SaysReports, WorksUnder};
 ghost use Rattle.commands.specs.Faults.{Gives};
 ghost use Rattle.commands.specs.Seen.{lent, service};
@@ -14,17 +14,17 @@ ghost use Rattle.words.specs.declared.task.Task.TheVariants.{Desk};
 
 use crate::fault::Fault;
 use crate::inputs::inquiry_in;
+use crate::shifts::shifts_over;
 use crate::sources::{first_name, first_of, read_files, read_sources};
 use crate::threads::{race_over, serve_over};
 use crate::weather::text_of_weather;
 use crate::working::{Answered, Ended, Provided, boardless, open_over};
-use crate::works::{Importing, Making, Running, lines_in};
+use crate::works::{Importing, Making, Planning, Running, lines_in};
 use alerts::{Bell, Ringer};
-use desk::{Gate, leave};
 use desk_io::{Listed, OutOfMemory, Shelf, Text};
 use desk_net::{Clock, Door};
 use keeper::Keeper;
-use rules::Steps;
+use scripts::{Gate, Steps, leave};
 use std::alloc::Global;
 use std::marker::Brand;
 use std::sync::Wait;
@@ -121,7 +121,7 @@ fn advise<K: Keeper, B: Bell, G: Gate, L: Ledger>(
 fn work_on<
     R: Threads + Wait + Sync,
     K: Keeper + Send,
-    B: Bell + Send,
+    B: Bell + Send + Drop,
     C: Clock + Send,
     D: Door + Drop,
     G: Gate + Sync,
@@ -146,8 +146,8 @@ where
         (lent K.seen provided.keeper result.ended.keeper) task (map string_bytes names.now) texts
         result.ended.board result.ended.answer }
     ensures idle { AsksNothing task result.ended.board ((result.clock ≡ clock) × (result.door ≡ door)) }
-    ensures rung { AreRungOver result.ended.board (hung_all B.seen provided.ringer)
-        (hung_all B.seen result.ended.ringer) }
+    ensures rung { AreRungBy task texts (lent K.seen provided.keeper result.ended.keeper) result.ended.answer
+        result.ended.board (hung_all B.seen provided.ringer) (hung_all B.seen result.ended.ringer) }
 {
     match task {
         DeskTask::Run => {
@@ -181,6 +181,14 @@ where
             let ended = advise(alloc, names, &texts, provided, gate, steps);
             Answered { ended, clock, door }
         }
+        DeskTask::Planned => {
+            let ended = open_over(alloc, provided, Planning { texts }, gate, steps);
+            Answered { ended, clock, door }
+        }
+        DeskTask::Shifts => {
+            let ended = shifts_over(alloc, provided, &texts, gate, steps);
+            Answered { ended, clock, door }
+        }
     }
 }
 
@@ -189,7 +197,7 @@ fn read_under<
     R: Threads + Wait + Sync,
     S: Shelf,
     K: Keeper + Send,
-    B: Bell + Send,
+    B: Bell + Send + Drop,
     C: Clock + Send,
     D: Door + Drop,
     G: Gate + Sync,
@@ -214,8 +222,9 @@ where
         (lent K.seen provided.keeper result.ended.keeper) task (map string_bytes names.now)
         result.ended.board result.ended.answer }
     ensures idle { AsksNothing task result.ended.board ((result.clock ≡ clock) × (result.door ≡ door)) }
-    ensures rung { AreRungOver result.ended.board (hung_all B.seen provided.ringer)
-        (hung_all B.seen result.ended.ringer) }
+    ensures rung { AreRungUnder (S.seen shelf.old).sources task (map string_bytes names.now)
+        (lent K.seen provided.keeper result.ended.keeper) result.ended.answer result.ended.board
+        (hung_all B.seen provided.ringer) (hung_all B.seen result.ended.ringer) }
 {
     match read_sources(alloc, shelf, names) {
         Ok(texts) => work_on(
@@ -233,7 +242,7 @@ fn on_desk<
     R: Threads + Wait + Sync,
     S: Shelf,
     K: Keeper + Send,
-    B: Bell + Send,
+    B: Bell + Send + Drop,
     C: Clock + Send,
     D: Door + Drop,
     G: Gate + Sync,
@@ -259,7 +268,9 @@ where
         (lent K.seen keeper result.ended.keeper) task (map string_bytes names.now)
         result.ended.board result.ended.answer }
     ensures idle { AsksNothing task result.ended.board ((result.clock ≡ clock) × (result.door ≡ door)) }
-    ensures rung { AreRungOver result.ended.board (hung_all B.seen ringer) (hung_all B.seen result.ended.ringer) }
+    ensures rung { AreRungUnder (S.seen shelf.old).sources task (map string_bytes names.now)
+        (lent K.seen keeper result.ended.keeper) result.ended.answer result.ended.board
+        (hung_all B.seen ringer) (hung_all B.seen result.ended.ringer) }
 {
     match read_files(alloc, shelf) {
         Ok(tables) => {
@@ -283,7 +294,7 @@ fn answer_with<
     R: Threads + Wait + Sync,
     S: Shelf,
     K: Keeper + Send,
-    B: Bell + Send,
+    B: Bell + Send + Drop,
     C: Clock + Send,
     D: Door + Drop,
     G: Gate + Sync,
@@ -309,7 +320,9 @@ where
         (service C.seen D.seen D.Link.seen clock result.clock door result.door)
         (lent K.seen keeper result.ended.keeper) (command_of (map string_bytes words.now))
         result.ended.board result.ended.answer }
-    ensures rung { AreRungOver result.ended.board (hung_all B.seen ringer) (hung_all B.seen result.ended.ringer) }
+    ensures rung { AreRungAfter (S.seen shelf.old).sources (command_of (map string_bytes words.now))
+        (lent K.seen keeper result.ended.keeper) result.ended.answer result.ended.board
+        (hung_all B.seen ringer) (hung_all B.seen result.ended.ringer) }
 {
     let mut steps = Steps::<L>::new(blank);
     match command(alloc, words) {
@@ -336,7 +349,7 @@ pub(crate) fn answer_to<
     R: Threads + Wait + Sync,
     S: Shelf,
     K: Keeper + Send,
-    B: Bell + Send,
+    B: Bell + Send + Drop,
     C: Clock + Send,
     D: Door + Drop,
     G: Gate + Sync,
@@ -357,7 +370,9 @@ where
         (service C.seen D.seen D.Link.seen clock result.clock door result.door)
         (lent K.seen keeper result.ended.keeper) (command_of (map string_bytes words.now))
         result.ended.board result.ended.answer }
-    ensures rung { AreRungOver result.ended.board (hung_all B.seen ringer) (hung_all B.seen result.ended.ringer) }
+    ensures rung { AreRungAfter (S.seen shelf.old).sources (command_of (map string_bytes words.now))
+        (lent K.seen keeper result.ended.keeper) result.ended.answer result.ended.board
+        (hung_all B.seen ringer) (hung_all B.seen result.ended.ringer) }
 {
     answer_with::<R, S, K, B, C, D, G, Brand>(
         rt,

@@ -2,8 +2,8 @@ ghost use Rattle.std.specs.Prelude.{◌≡◌, ◌++◌, Some, codes, IfOk, OnOk
 ghost use Rattle.commands.specs.Faults as spec;
 
 use candidate_files::CandidateWhy;
-use desk::{OpenWhy, RowWhy};
 use desk_io::{OutOfMemory, Row, Text, push_all};
+use scripts::{OpenWhy, RowWhy};
 use std::alloc::{AllocFailed, Global};
 use table_files::{BadTable, TableFault, TableWhy};
 

@@ -5,6 +5,7 @@ mod commands;
 mod fault;
 mod inputs;
 mod rung;
+mod shifts;
 mod sources;
 mod threads;
 mod top;
@@ -12,5 +13,5 @@ mod weather;
 mod working;
 mod works;
 
-pub use desk::Gate;
+pub use scripts::Gate;
 pub use top::{Ending, desk_main};

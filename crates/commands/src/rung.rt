@@ -10,10 +10,10 @@ use crate::commands::answer_to;
 use crate::fault::Fault;
 use crate::working::{Answered, Ended};
 use alerts::{Bell, Dropped, Ringer, Unhung};
-use desk::{Board, Gate};
 use desk_io::{Shelf, Text};
 use desk_net::{Clock, Door};
 use keeper::Keeper;
+use scripts::{Board, Gate};
 use std::alloc::Global;
 use std::sync::Wait;
 use std::thread::Threads;
@@ -31,7 +31,8 @@ pub(crate) struct Rung<K, B, C, D> {
     pub dropped: Vec<Dropped<B>>,
 }
 
-/// Runs the command in the arguments. The bells are rung for the notices of the history.
+/// Runs the command in the arguments. The bells are rung for the notices of the history, in a run of shifts at whoever
+/// sits at the desks.
 pub(crate) fn answer_rung<
     R: Threads + Wait + Sync,
     S: Shelf,
@@ -57,8 +58,9 @@ where
         (service C.seen D.seen D.Link.seen clock result.clock door result.door)
         (lent K.seen keeper result.keeper) (command_of (map string_bytes words.now))
         result.board result.answer }
-    ensures bells { AreHandedBack result.board (map B.seen bells.items) (map B.seen result.bells.items)
-        (map (dropped_seen B.seen) result.dropped.items) }
+    ensures bells { AreHandedBack (S.seen shelf.old).sources (command_of (map string_bytes words.now))
+        (lent K.seen keeper result.keeper) result.answer result.board (map B.seen bells.items)
+        (map B.seen result.bells.items) (map (dropped_seen B.seen) result.dropped.items) }
 {
     match Ringer::new(alloc, bells) {
         Ok(ringer) => {

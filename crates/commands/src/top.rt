@@ -8,19 +8,17 @@ ghost use Rattle.desk_io.specs.Health.{IsSound, IsStill};
 ghost use Rattle.desk_io.specs.Over.{over};
 ghost use Rattle.keeper.specs.Seen.{KeeperGoesOn};
 ghost use Rattle.commands.specs.Seen.{lent, service};
-ghost use Rattle.desk.specs.Opening.{IsLeft, TellsRowsOf};
-ghost use Rattle.desk_state.specs.Sound.{IsBoard};
-ghost use Rattle.desk_state.specs.State.{State};
+ghost use Rattle.scripts.specs.Below.{IsLeft, TellsRowsOf, IsBoard, State};
 ghost use Rattle.desk_net.specs.Seen.{ClockGoesOn};
 ghost use Rattle.words.specs.Words.{command_of};
 
 use crate::fault::{Fault, tell};
 use crate::rung::{Rung, answer_rung};
 use alerts::{Bell, Dropped};
-use desk::{Board, Gate};
 use desk_io::{PutFault, Shelf, Sink, Text};
 use desk_net::{Clock, Door};
 use keeper::Keeper;
+use scripts::{Board, Gate};
 use std::alloc::Global;
 use std::sync::Wait;
 use std::thread::Threads;
@@ -142,8 +140,13 @@ where
     // Whatever the status, each bell has heard the notices in the board's history for its desk, in order. A bell of
     // desk `*` has heard all notices. A bell that failed at a notice counted a fault. It is returned in `dropped`,
     // with its place and with how many notices it heard. Without a board no bell was rung.
-    ensures bells { AreHandedBack result.board (map B.seen bells.items) (map B.seen result.bells.items)
-        (map (dropped_seen B.seen) result.dropped.items) }
+    //
+    // `shifts`: if the run gave its text, each bell has heard the notices of the desks at which its person sat when they
+    // were made. The text and the notices are those of one run.
+    ensures bells { EndsProgram (λ answer. AreHandedBack (S.seen shelf.old).sources
+        (command_of (map string_bytes words.now)) (lent K.seen keeper result.keeper) answer result.board
+        (map B.seen bells.items) (map B.seen result.bells.items) (map (dropped_seen B.seen) result.dropped.items))
+        (over O.seen out.old out.new) result.status }
     // Rows that a desk left have no fault.
     ensures left { (s : State) → IsLeft s → TellsRowsOf (K.seen keeper).rows s → result.status ≢ 7 }
 {

@@ -5,19 +5,17 @@ ghost use Rattle.commands.specs.Bells.{AreRungOver};
 ghost use Rattle.commands.specs.Faults.{Outcome};
 ghost use Rattle.commands.specs.Seen.{lent};
 ghost use Rattle.commands.specs.Working.{AsksAfter, Opens, since};
-ghost use Rattle.desk.specs.Seen.{DeskAt, desk_at, desk_seen, DeskGoesOn};
+ghost use Rattle.scripts.specs.Below.{DeskAt, desk_at, desk_seen, DeskGoesOn, IsBoard};
 ghost use Rattle.desk_io.specs.Over.{Over, over};
-ghost use Rattle.desk_state.specs.Sound.{IsBoard};
 ghost use Rattle.keeper.specs.Seen.{KeeperSeen, KeeperGoesOn};
 ghost use Rattle.ops_tables.specs.Tables.{TableRows};
 
 use crate::fault::Fault;
 use alerts::{Bell, Ringer};
-use desk::{Board, Desk, OpenFault, open};
 use desk_io::Text;
 use keeper::Keeper;
 use ops_tables::Tables;
-use rules::Steps;
+use scripts::{Board, Desk, OpenFault, Steps, open};
 use std::alloc::Global;
 use std::sync::ledger::Ledger;
 

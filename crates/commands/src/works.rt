@@ -5,10 +5,9 @@ ghost use Rattle.advise.specs.Text.{IsAdviceText};
 ghost use Rattle.commands.specs.Faults.{Gives};
 ghost use Rattle.commands.specs.Sources.{first_of};
 ghost use Rattle.commands.specs.Working as spec;
-ghost use Rattle.commands.specs.Working.{Advises, Imports, Makes, Runs, SaysLines, since};
-ghost use Rattle.desk.specs.Seen.{desk_at, desk_seen, DeskGoesOn};
+ghost use Rattle.commands.specs.Working.{Advises, Imports, Makes, Runs, RunsPlanned, SaysLines, since};
+ghost use Rattle.scripts.specs.Below.{desk_at, desk_seen, DeskGoesOn, grounds_of};
 ghost use Rattle.desk_io.specs.Over.{over};
-ghost use Rattle.desk_state.specs.State.{grounds_of};
 ghost use Rattle.imports.specs.Records.{HasForms};
 ghost use Rattle.plan.specs.Check.{IsPlan, plan_fault};
 
@@ -17,12 +16,11 @@ use crate::sources::first_of;
 use crate::working::Work;
 use advise::{Candidate, advice_text};
 use alerts::Bell;
-use desk::{Board, Desk, Gate, make_from, text_from, text_of_import};
 use desk_io::{Listed, OutOfMemory, Text};
 use imports::{Line, read_import};
 use keeper::Keeper;
 use plan::Plan;
-use rules::Steps;
+use scripts::{Board, Desk, Gate, Steps, make_from, planned_text, text_from, text_of_import};
 use std::alloc::Global;
 use std::sync::ledger::Ledger;
 use table_files::{BadTable, TableWhy};
@@ -284,5 +282,55 @@ impl<K: Keeper, B: Bell, G: Gate, L: Ledger> Work<K, B, G, Steps<L>> for Advisin
         ensures on { DeskGoesOn (desk_seen K.seen B.seen desk.old) (desk_seen K.seen B.seen desk.new) }
     {
         advise(alloc, &desk.board, &self, steps)
+    }
+}
+
+/// Runs a script of planned redispatches.
+#[derive(Drop)]
+pub(crate) struct Planning {
+    pub texts: Listed<Text>,
+}
+
+fn plan<K: Keeper, B: Bell, G: Gate, L: Ledger>(
+    alloc: Global,
+    desk: &mut Desk<K, B>,
+    script: &[u8],
+    gate: &G,
+    steps: &mut Steps<L>,
+) -> Result<Text, Fault>
+    ensures run { RunsPlanned script.now (over (desk_at K.seen) desk.old desk.new) result }
+    ensures desk { DeskGoesOn (desk_seen K.seen B.seen desk.old) (desk_seen K.seen B.seen desk.new) }
+{
+    Ok(Text::from_vec(planned_text(alloc, desk, script, gate, steps)?))
+}
+
+impl<K: Keeper, B: Bell, G: Gate, L: Ledger> Work<K, B, G, Steps<L>> for Planning {
+    ghost use Rattle.commands.specs.Sources.{first_of};
+    ghost use Rattle.commands.specs.Working.{RunsPlanned};
+
+    ghost seen = { K.seen };
+
+    ghost heard = { B.seen };
+
+    ghost ready = { λ tables work. Unit {0} };
+
+    ghost does = { λ work. RunsPlanned (first_of work.texts) };
+
+    ghost asks = { λ work before after. Unit {0} };
+
+    fn work(
+        self,
+        alloc: Global,
+        desk: &mut Desk<K, B>,
+        gate: &G,
+        steps: &mut Steps<L>,
+    ) -> Result<Text, Fault>
+        requires { Unit {0} }
+        ensures does { (less : ℕ) → less ≤ (K.seen desk.old.keeper).health.faults
+            → RunsPlanned (first_of self.texts) (since less (over (desk_at K.seen) desk.old desk.new)) result }
+        ensures asks { Unit {0} }
+        ensures on { DeskGoesOn (desk_seen K.seen B.seen desk.old) (desk_seen K.seen B.seen desk.new) }
+    {
+        plan(alloc, desk, first_of(self.texts.as_slice()), gate, steps)
     }
 }

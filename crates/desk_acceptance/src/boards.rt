@@ -5,7 +5,7 @@ use crate::few::{applied, ticked};
 use crate::texts::{AFTERNOON, CANCELLED, STOPPED, WATCHED};
 use alerts::{Notice, NoticeKind, Notices};
 use asks::Call;
-use board::Board;
+use desk::Board;
 use desk_io::{LineFeeds, OutOfMemory, runs_between};
 use desk_json::{CallFault, read_line};
 use desk_state::{Entry, What};
@@ -50,11 +50,11 @@ fn make<L: Ledger>(
 {
     let before = told.len();
     if board.now() < at {
-        let step = ticked(alloc, board, at, steps)?;
-        push_letters(told, &step.notices)?;
+        let notices = ticked(alloc, board, at, steps)?;
+        push_letters(told, &notices)?;
     }
-    let installed = applied(alloc, board, call, steps)?;
-    push_letters(told, &installed.notices)?;
+    let notices = applied(alloc, board, call, steps)?;
+    push_letters(told, &notices)?;
     if told.len() == before {
         told.push(b'.')?;
     }

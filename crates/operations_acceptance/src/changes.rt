@@ -48,6 +48,11 @@ fn plan(alloc: Global, lines: &[u8], member: u8) -> Result<Plan, OutOfMemory> {
     plan_of(alloc, b"N801DK", b"C7", legs_of(alloc, lines, member)?)
 }
 
+/// A plan of one leg.
+pub(crate) fn one_leg(alloc: Global) -> Result<Plan, OutOfMemory> {
+    plan(alloc, ONE, 0)
+}
+
 // The test that fails for a plan that is to take the place of another. No plan fails a test of times, which stands for
 // a plan that may not be checked.
 fn fault_of(plan: &Plan, old: &Plan, phase: Phase) -> Option<(u32, PlanWhy)> {

@@ -13,6 +13,8 @@ mod failing;
 #[cfg(test)]
 mod faults;
 #[cfg(test)]
+mod filed;
+#[cfg(test)]
 mod flights;
 #[cfg(test)]
 mod held;
@@ -34,6 +36,8 @@ mod readings;
 mod releases;
 #[cfg(test)]
 mod required;
+#[cfg(test)]
+mod rosters;
 #[cfg(test)]
 mod swept;
 #[cfg(test)]

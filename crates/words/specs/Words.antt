@@ -5,7 +5,7 @@ use Rattle.std.specs.Option.{option_map}
 use Rattle.std.specs.Str.{bytes_eq}
 use Rattle.desk_time.specs.Digits.{◌>>=◌}
 use Rattle.desk_time.specs.Numbers.{number_in}
-use Rattle.words.specs.declared.task.DeskTask.TheVariants.{Run, Race, Serve, Import, Make, Advise}
+use Rattle.words.specs.declared.task.DeskTask.TheVariants.{Run, Race, Serve, Import, Make, Advise, Planned, Shifts}
 use Rattle.words.specs.declared.task.Form.{Form}
 use Rattle.words.specs.declared.task.Form.TheVariants.{Names, Numbers}
 use Rattle.words.specs.declared.task.Limits.{Limits}
@@ -37,10 +37,12 @@ row_of name.Weather = row (codes "weather") (Names (between 1 1))
 row_of name.Import = row (codes "import") (Names (between 1 1))
 row_of name.Make = row (codes "make") (Numbers (between 0 4_294_967_295) (between 1 20_000))
 row_of name.Advise = row (codes "advise") (Names (between 2 2))
+row_of name.Planned = row (codes "planned") (Names (between 1 1))
+row_of name.Shifts = row (codes "shifts") (Names (between 1 1))
 
 -- all commands
 abbrev pub commands : List Name
-commands = name.Run ∷ name.Race ∷ name.Serve ∷ name.Weather ∷ name.Import ∷ name.Make ∷ name.Advise ∷ []
+commands = name.Run ∷ name.Race ∷ name.Serve ∷ name.Weather ∷ name.Import ∷ name.Make ∷ name.Advise ∷ name.Planned ∷ name.Shifts ∷ []
 
 -- the task of a command with these numbers
 abbrev pub task_of : Name → ℕ × ℕ → Task
@@ -51,6 +53,8 @@ task_of name.Weather numbers = Weather
 task_of name.Import numbers = Desk Import
 task_of name.Make numbers = Desk (Make numbers.0 numbers.1)
 task_of name.Advise numbers = Desk Advise
+task_of name.Planned numbers = Desk Planned
+task_of name.Shifts numbers = Desk Shifts
 
 abbrev pub command_among : List Name → List ℕ → Option Name
 command_among all name = find (λ command. bytes_eq (row_of command).name name) all

@@ -30,6 +30,12 @@ pub enum DeskTask {
     /// `advise PLAN CANDIDATES` advises alternates for each leg of a plan. Prints a line for each leg, and changes
     /// nothing on the desk.
     Advise,
+    /// `planned SCRIPT` runs a script of planned redispatches, which may file final plans, check them and take them up
+    /// in flight. Prints the reply to each line, and the closing text.
+    Planned,
+    /// `shifts SCRIPT` runs a script of shifts, in which dispatchers hand over their desks. Prints the reply to each
+    /// line, the closing text and the roster. Each bell rings for the desks at which its person sits.
+    Shifts,
 }
 
 /// The name of a command.
@@ -42,10 +48,12 @@ pub(crate) enum Name {
     Import,
     Make,
     Advise,
+    Planned,
+    Shifts,
 }
 
 /// All commands.
-pub(crate) const COMMANDS: [Name; 7] = [
+pub(crate) const COMMANDS: [Name; 9] = [
     Name::Run,
     Name::Race,
     Name::Serve,
@@ -53,6 +61,8 @@ pub(crate) const COMMANDS: [Name; 7] = [
     Name::Import,
     Name::Make,
     Name::Advise,
+    Name::Planned,
+    Name::Shifts,
 ];
 
 /// The least and the most that a count or a number may be.
@@ -111,6 +121,8 @@ impl Name {
                 Form::Numbers(between(0, 4_294_967_295), between(1, 20_000)),
             ),
             Name::Advise => row_with("advise", Form::Names(between(2, 2))),
+            Name::Planned => row_with("planned", Form::Names(between(1, 1))),
+            Name::Shifts => row_with("shifts", Form::Names(between(1, 1))),
         }
     }
 
@@ -135,6 +147,8 @@ impl Name {
                 count: two,
             }),
             Name::Advise => Task::Desk(DeskTask::Advise),
+            Name::Planned => Task::Desk(DeskTask::Planned),
+            Name::Shifts => Task::Desk(DeskTask::Shifts),
         }
     }
 }

@@ -1,5 +1,9 @@
+use Rattle.std.proofs.Common.{ap, map, string_bytes}
 use Rattle.std.specs.Prelude.{Ok}
+use Rattle.alerts.specs.Ringing.{hung_all}
 use Rattle.commands.proofs.Reading.{sources_earlier}
+use Rattle.commands.proofs.RungLaws.{none_rung, rung_from}
+use Rattle.commands.specs.Seen.{lent}
 use Rattle.commands.proofs.commands.on_desk.Goals as goal
 
 pub returns-in-Ok-clause-done : goal.returns-in-Ok-clause-done
@@ -15,3 +19,13 @@ returns-in-Ok-clause-done g c =
         under.2,
       ),
     )
+
+pub returns-in-Ok-clause-rung : goal.returns-in-Ok-clause-rung
+returns-in-Ok-clause-rung g c =
+    let ended = c.read_under.result.ended in
+    rung_from _ _ c.args.task (map string_bytes c.args.names.now) (lent g.K.Keeper.seen c.args.keeper ended.keeper) ended.answer ended.board _ _ c.in-Ok.ensures.on.sources c.read_under.ensures.rung
+
+pub returns-in-Err-clause-rung : goal.returns-in-Err-clause-rung
+returns-in-Err-clause-rung g c =
+    let ended = c.boardless-ended in
+    none_rung _ c.args.task (map string_bytes c.args.names.now) (lent g.K.Keeper.seen c.args.keeper ended.result.keeper) ended.result.answer ended.result.board _ _ ended.ensures.none (ap (hung_all g.B.Bell.seen) ended.ensures.ringer)

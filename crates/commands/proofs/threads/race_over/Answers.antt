@@ -1,16 +1,12 @@
 use Rattle.std.proofs.Common.{◌∙◌, Err, ap, subst, sym, ◌≡◌, ◌≤◌, ℕ, List}
 use Rattle.alerts.specs.Ringing.{hung_all}
-use Rattle.desk.specs.Below.{Shown}
+use Rattle.scripts.specs.Below.{Shown, KeepsState, desk_at, DeskAt, IsRace, IsRaceInPart}
 use Rattle.commands.proofs.Opened.{held_opened, keeper_worked, not_opened, opened_fresh, worked}
 use Rattle.commands.proofs.RungLaws.{rung_over}
 use Rattle.commands.specs.Working.{Races, told_of, since}
-use Rattle.desk.specs.Keeping.{KeepsState}
-use Rattle.desk.specs.Seen.{desk_at, DeskAt}
 use Rattle.keeper.specs.Seen.{KeeperGoesOn}
 use Rattle.std.specs.Prelude.{IfOk, Result, Ok}
-use Rattle.desk.proofs.Merged.{merged_lower, part_lower}
-use Rattle.desk.proofs.Positions.{history_lower}
-use Rattle.desk.specs.Race.{IsRace, IsRaceInPart}
+use Rattle.scripts.proofs.Below.{merged_lower, part_lower, history_lower}
 use Rattle.commands.proofs.threads.race_over.Goals as goal
 
 races_told : {E : Type 0} (scripts : List (List ℕ)) (before after : DeskAt) (text : Result (List ℕ) E) → IfOk text (λ t. IsRace before.faults after.faults before.state scripts after.state t)

@@ -1,11 +1,10 @@
 use Rattle.std.proofs.Common.{ap, sym, ◌∙◌, Err, ◌≤◌, ℕ}
 use Rattle.alerts.specs.Ringing.{hung_all}
-use Rattle.desk.specs.Below.{Shown}
+use Rattle.scripts.specs.Below.{Shown, DeskAt, desk_at}
 use Rattle.commands.proofs.Opened.{keeper_worked, not_opened, opened_fresh, worked}
 use Rattle.commands.proofs.RungLaws.{rung_over}
 use Rattle.commands.specs.Seen.{service, Service}
 use Rattle.commands.specs.Working.{Serves, since}
-use Rattle.desk.specs.Seen.{DeskAt, desk_at}
 use Rattle.desk_io.specs.Over.{Over, over}
 use Rattle.service.proofs.ServingLaws.{serving_from}
 use Rattle.commands.specs.Faults.{Outcome}

@@ -33,6 +33,6 @@ returns g c =
       steady = λ keeper is. (subst (Cause _ _ _) is cause).1 keeper;
       kept = all.are_kept;
       board = all.holds;
-      bells = said.ensures.bells;
+      bells = record { answer = answer; says = said.ensures.bells; writes = c.write-status.ensures };
       left = λ s is tells seven. (subst (Cause _ _ _) seven cause).1 (s, is, tells);
     }

@@ -3,7 +3,7 @@ use Rattle.std.proofs.lemmas.Result.{IfOk-weaker}
 use Rattle.plan.specs.Check.{plan_fault}
 use Rattle.advise.specs.Candidates.{AreCandidates}
 use Rattle.advise.specs.Text.{IsAdviceText}
-use Rattle.rules.specs.Grounds.{grounds_held}
+use Rattle.scripts.specs.Below.{grounds_held}
 use Rattle.commands.proofs.works.advice_on.Goals as goal
 
 pub advice_text-requires-clause-valid : goal.advice_text-requires-clause-valid

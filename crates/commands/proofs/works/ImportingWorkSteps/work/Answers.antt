@@ -1,9 +1,7 @@
 use Rattle.std.proofs.Common.{ℕ, ◌≤◌, List, map, arith}
 use Rattle.std.specs.List.{concat}
-use Rattle.desk.proofs.Choices.{rise_lower, rise_within}
-use Rattle.desk.specs.Items.{items_of_lines}
-use Rattle.desk.specs.Keeping.{numbers_of}
-use Rattle.desk.specs.Seen.{DeskAt, desk_at}
+use Rattle.scripts.proofs.Below.{rise_lower, rise_within}
+use Rattle.scripts.specs.Below.{items_of_lines, numbers_of, DeskAt, desk_at}
 use Rattle.desk_io.specs.Over.{Over, over}
 use Rattle.imports.specs.Records.{Line}
 use Rattle.commands.proofs.Opened.{ends_map, items_lower}

@@ -1,9 +1,7 @@
 use Rattle.std.proofs.Common.{ℕ, ◌≤◌, map}
 use Rattle.std.specs.List.{concat}
-use Rattle.desk.proofs.Choices.{rise_lower}
-use Rattle.desk.specs.Keeping.{numbers_of}
-use Rattle.desk.specs.Made.{made_items}
-use Rattle.desk.specs.Seen.{DeskAt, desk_at}
+use Rattle.scripts.proofs.Below.{rise_lower}
+use Rattle.scripts.specs.Below.{numbers_of, made_items, DeskAt, desk_at}
 use Rattle.desk_io.specs.Over.{Over, over}
 use Rattle.commands.proofs.Opened.{ends_map, items_lower}
 use Rattle.commands.specs.Faults.{Outcome}

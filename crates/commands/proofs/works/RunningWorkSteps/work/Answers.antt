@@ -1,6 +1,5 @@
 use Rattle.std.proofs.Common.{ℕ, ◌≤◌, ◌∙◌, List, ap, subst}
-use Rattle.desk.specs.Run.{items_of, lines_of}
-use Rattle.desk.specs.Seen.{DeskAt, desk_at}
+use Rattle.scripts.specs.Below.{items_of, lines_of, DeskAt, desk_at}
 use Rattle.desk_io.specs.Over.{Over, over}
 use Rattle.commands.proofs.Opened.{ends_map, items_lower, run_lower}
 use Rattle.commands.specs.Faults.{Outcome}

@@ -1,0 +1,4 @@
+pub mod Filing
+pub mod Filed
+pub mod Judging
+pub mod Turns

@@ -1,0 +1,17 @@
+pub mod PlannedHeld
+pub mod PlannedTelling
+pub mod PlannedTicks
+pub mod PendingLaws
+pub mod PlannedCome
+pub mod PlannedDoing
+pub mod PlannedPlaces
+pub mod SenderLaws
+pub mod Answering
+pub mod SoFar
+pub mod Looping
+pub mod OneLane
+pub mod ToldLaws
+pub mod TellingLaws
+pub mod RosterLaws
+pub mod RunLaws
+pub mod Below

@@ -1,0 +1,12 @@
+pub mod PlannedTests
+pub mod PlannedRuns
+pub mod PlannedShown
+pub mod PlannedAnswers
+pub mod Proposals
+pub mod PlannedHistory
+pub mod Routes
+pub mod Forms
+pub mod RosterTexts
+pub mod ShiftRuns
+pub mod ShiftLines
+pub mod Below
